@@ -14,7 +14,9 @@ pub struct StdSource<R: Read + Drop> {
 
 impl<R: Read + Drop> StdSource<R> {
     /// A source over `reader`, of which nothing has been taken.
-    pub fn new(reader: R) -> Self {
+    pub fn new(reader: R) -> Self
+        ensures { ⟦<StdSource<R> as Source>⟧.state result ≡ record { left = None; calls = 0; taken = 0; faults = 0 } }
+    {
         StdSource {
             reader,
             calls: 0,
@@ -52,7 +54,9 @@ pub struct StdSink<W: Write + Drop> {
 
 impl<W: Write + Drop> StdSink<W> {
     /// A sink over `writer`.
-    pub fn new(writer: W) -> Self {
+    pub fn new(writer: W) -> Self
+        ensures { ⟦<StdSink<W> as Sink>⟧.state result ≡ record { held = None; faults = 0 } }
+    {
         StdSink { writer, faults: 0 }
     }
 }

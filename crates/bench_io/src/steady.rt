@@ -60,7 +60,9 @@ pub struct SteadySink;
 
 impl SteadySink {
     /// The sink.
-    pub fn new() -> Self {
+    pub fn new() -> Self
+        ensures { ⟦<SteadySink as Sink>⟧.state result ≡ record { held = None; faults = 0 } }
+    {
         SteadySink
     }
 }
