@@ -1,13 +1,11 @@
-// A library with one function.
+//! GPL in bytes: instructions and their spelling, and the image of a GROM.
 #![tactic(auto)]
 
-ghost use Rattle.std.specs.Prelude.{◌≡◌};
-ghost use Rattle.gpl_forms.specs.Echo.{echo_of};
+mod image;
+#[cfg(test)]
+mod tests;
+mod write;
 
-// The `ensures` clause is the contract: what `echo` returns is `echo_of` of its argument, a definition
-// in `specs/Echo.antt`, which a caller's clause can cite too.
-pub fn echo(x: usize) -> usize
-    ensures { result ≡ echo_of x }
-{
-    x
-}
+pub use gpl_defs::{GplInstr, PlainOp};
+pub use image::GromImage;
+pub use write::write_instr;
