@@ -2,7 +2,7 @@
 --
 -- Editor/Assembler manual, "Source statement format": a label starts in column 1. Then stand, apart by blanks, the
 -- operation, the operand field and a comment. A line with an asterisk in column 1 is a comment.
-use Rattle.std.specs.Prelude.{ℕ, ◌%◌, ◌==◌, Bool, not, ◌&&◌, ◌||◌, nat_lt, if◌then◌else◌, List, length, slice_index, slice_range, take, map, count_by, Option, Some, None, Result, Ok, Err}
+use Rattle.std.specs.Prelude.{◌≡◌, ℕ, ◌<◌, ◌≤◌, ◌%◌, ◌==◌, Bool, false, not, ◌&&◌, ◌||◌, nat_lt, if◌then◌else◌, List, length, slice_index, slice_range, take, map, count_by, Option, Some, None, Result, Ok, Err}
 use Rattle.source_defs.specs.declared.text.Span.{Span}
 use Rattle.source_defs.specs.declared.causes.TextError.{TextError}
 use Rattle.source_defs.specs.declared.causes.TextError.TheVariants.{LineTooLong, BadLabel}
@@ -71,3 +71,11 @@ fields line =
     else if is_blank (slice_index line 0) then Ok (fields_after line None 0)
     else if is_name (label_field line) then Ok (fields_after line (Some (map upper_case (label_field line))) (word_end line 0))
     else Err BadLabel
+
+-- column 1 holds neither a blank nor an asterisk, and the label field is no name
+pub record HasBadLabel (line : List ℕ) : Type 0 where
+  pub fits : length line ≤ longest_line
+  pub written : 0 < length line
+  pub no_blank : is_blank (slice_index line 0) ≡ false
+  pub no_asterisk : is_asterisk (slice_index line 0) ≡ false
+  pub no_name : is_name (label_field line) ≡ false

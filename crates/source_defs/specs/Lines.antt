@@ -2,15 +2,33 @@
 --
 -- Profile: a line ends at a line feed, and a carriage return before it is dropped. What follows the last line
 -- feed is a line where it is not empty; a carriage return at its end belongs to it. Lines count from 1.
-use Rattle.std.specs.Prelude.{ℕ, ◌+◌, ◌-◌, ◌&&◌, nat_lt, if◌then◌else◌, List, [], ◌∷◌, ◌++◌, length, slice_index, slice_range, map, filter}
-use Rattle.std.specs.List.{zip}
+use Rattle.std.specs.Prelude.{ℕ, ◌+◌, ◌-◌, ◌≤◌, ◌&&◌, nat_lt, if◌then◌else◌, List, [], ◌∷◌, ◌++◌, length, slice_index, slice_range, map, filter}
+use Rattle.std.specs.List.{AllByRecursion, zip}
 use Rattle.source_defs.specs.declared.text.Span.{Span}
 use Rattle.source_defs.specs.declared.text.Line.{Line}
 use Rattle.source_defs.specs.Characters.{is_line_feed, is_carriage_return}
+use Rattle.source_defs.specs.Least.{least_place}
+
+-- a part lies inside a text
+pub record IsInside (text : List ℕ) (span : Span) : Type 0 where
+  pub in_order : span.start ≤ span.end
+  pub in_text : span.end ≤ length text
+
+-- each of the lines lies inside the text
+abbrev pub LieInside : List ℕ → List Line → Type 0
+LieInside text lines = AllByRecursion (λ line. IsInside text line.span) lines
 
 -- the bytes of a part of a text
 abbrev pub part : List ℕ → Span → List ℕ
 part text span = slice_range text span.start span.end
+
+-- from a place on, the first line feed, or the text's end
+abbrev pub feed_place : List ℕ → ℕ → ℕ
+feed_place text from = least_place (λ k. is_line_feed (slice_index text k)) text from
+
+-- the place where the next line begins, after a line that goes up to a line feed or the text's end
+abbrev pub after : List ℕ → ℕ → ℕ
+after text feed = if nat_lt feed (length text) then feed + 1 else feed
 
 -- the places of the line feeds among bytes of which the first stands at a place
 abbrev pub line_feeds_from : ℕ → List ℕ → List ℕ
