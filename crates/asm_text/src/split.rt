@@ -1,0 +1,96 @@
+//! A line as fields.
+
+ghost use Rattle.std.specs.Prelude.{◌≡◌, ◌≤◌, ◌<◌, ◌↔◌, Some, None, Option, List, ℕ, length, take, map, IfOk, if◌then◌else◌};
+ghost use Rattle.source_defs.specs.Fields as spec;
+ghost use Rattle.source_defs.specs.Characters.{upper_case};
+ghost use Rattle.source_defs.specs.Names.{is_name};
+ghost use Rattle.asm_text.specs.Given.{defined_fields, defined_answer, LieInside};
+
+use crate::characters::{is_asterisk, is_blank, upper_case};
+use crate::line_fields::Fields;
+use crate::name::{LONGEST_NAME, Name};
+use crate::places::{operand_end, word_end, word_start};
+use crate::words::is_name;
+use source_defs::{Span, TextError};
+
+/// The most bytes that a line has.
+const LONGEST_LINE: usize = 256;
+
+/// The fields of a line. A blank line, and one with an asterisk in column 1, has none.
+#[tactic(auto, using(source_defs::proofs::FieldLaws::no_comment), unfolding(source_defs::specs::Fields::fields))]
+pub fn fields(line: &[u8]) -> Result<Fields, TextError>
+    ensures value { defined_answer result ≡ spec.fields line.now }
+    ensures too_long { (result ≡ Err TextError.LineTooLong) ↔ (spec.longest_line < length line.now) }
+    ensures bad_label { (result ≡ Err TextError.BadLabel) ↔ spec.HasBadLabel line.now }
+    ensures inside { IfOk result (LieInside line.now) }
+{
+    if line.len() > LONGEST_LINE {
+        return Err(TextError::LineTooLong);
+    }
+    if is_comment(line) {
+        return Ok(Fields {
+            label: None,
+            operation: None,
+            operands: Span { start: 0, end: 0 },
+        });
+    }
+    if is_blank(line[0]) {
+        return Ok(fields_after(line, None, 0));
+    }
+    let end = word_end(line, 0);
+    match label(&line[..end]) {
+        Some(name) => Ok(fields_after(line, Some(name), end)),
+        None => Err(TextError::BadLabel),
+    }
+}
+
+/// Whether a line is blank or has an asterisk in column 1.
+fn is_comment(line: &[u8]) -> bool
+    ensures { result ≡ spec.is_comment line.now }
+{
+    word_start(line, 0) == line.len() || is_asterisk(line[0])
+}
+
+/// The fields of a line whose label, if it has one, ends at a place.
+#[tactic(auto, using(source_defs::proofs::LeastLaws::least_bounds))]
+fn fields_after(line: &[u8], label: Option<Name>, from: usize) -> Fields
+    requires { from ≤ length line.now }
+    ensures value { defined_fields result ≡ spec.fields_after line.now label from }
+    ensures inside { LieInside line.now result }
+{
+    let start = word_start(line, from);
+    let end = word_end(line, start);
+    let operands = word_start(line, end);
+    Fields {
+        label,
+        operation: if start < line.len() { Some(Span { start, end }) } else { None },
+        operands: Span {
+            start: operands,
+            end: operand_end(line, operands),
+        },
+    }
+}
+
+/// The name that a label field spells, in upper case.
+#[tactic(auto, using(source_defs::proofs::FieldLaws::upper_case_kept))]
+fn label(field: &[u8]) -> Option<Name>
+    ensures { result ≡ (if is_name field.now then Some (map upper_case field.now) else None) }
+{
+    if !is_name(field) {
+        return None;
+    }
+    let letters = in_upper_case(field);
+    Name::read(&letters[..field.len()])
+}
+
+/// The letters of a label field in upper case, followed by other bytes.
+fn in_upper_case(field: &[u8]) -> [u8; LONGEST_NAME]
+    requires { length field.now ≤ 6 }
+    ensures { take (length field.now) result ≡ map upper_case field.now }
+{
+    let mut letters = [0; LONGEST_NAME];
+    for (at, &byte) in field.iter().enumerate() {
+        letters[at] = upper_case(byte);
+    }
+    letters
+}

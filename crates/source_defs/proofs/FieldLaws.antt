@@ -1,0 +1,48 @@
+-- Why a line has no fields, and what its label field gives.
+use Rattle.std.proofs.Common.{◌≡◌, ℕ, ◌+◌, ◌-◌, ◌<◌, ◌≤◌, Bool, true, false, cond, not, eqb, ◌&&◌, ◌||◌, List, [], ◌∷◌, length, get_or, take, drop, refl, ap, sym, ◌∙◌, arith, Ok, Err, Result}
+use Rattle.std.specs.Prelude.{map, nat_lt, nat_le}
+use Rattle.std.specs.List.{list_all}
+use Rattle.std.proofs.lemmas.Bool.{ltb-true}
+use Rattle.std.proofs.lemmas.Bool.Decides.{nat_tests}
+use Rattle.std.proofs.lemmas.Grind.{common_steps}
+use Rattle.source_defs.specs.Characters.{is_blank, is_letter, is_digit, upper_case}
+use Rattle.source_defs.specs.Fields.{HasBadLabel, is_comment, word_start}
+use Rattle.source_defs.proofs.LeastLaws.{least_place_step}
+use Rattle.source_defs.specs.Names.{is_letter_or_digit, all_letters_or_digits, is_name, is_printed, is_kept_name}
+
+upper_case_printed : (byte : ℕ) → is_letter_or_digit byte ≡ true → is_printed (upper_case byte) ≡ true
+upper_case_printed byte h = grind (arith, nat_tests)
+
+printed_each : (bytes : List ℕ) → all_letters_or_digits bytes ≡ true → list_all is_printed (map upper_case bytes) ≡ true
+printed_each [] h = refl
+printed_each (byte ∷ bytes) h = both (is_letter_or_digit byte) (list_all is_letter_or_digit bytes) h (upper_case_printed byte) (printed_each bytes)
+  where
+    both : (a b : Bool) → (a && b) ≡ true → (a ≡ true → is_printed (upper_case byte) ≡ true) → (b ≡ true → list_all is_printed (map upper_case bytes) ≡ true)
+        → (is_printed (upper_case byte) && list_all is_printed (map upper_case bytes)) ≡ true
+    both true true e f g = rw (f refl, g refl) refl
+    both true false e f g = cc
+    both false b e f g = cc
+
+-- a label's name in upper case is a name that may be kept
+pub upper_case_kept : (bytes : List ℕ) → is_name bytes ≡ true → is_kept_name (map upper_case bytes) ≡ true
+upper_case_kept bytes h =
+    let n : length (map upper_case bytes) ≡ length bytes = grind (arith, common_steps) in
+    rw n (kept (nat_lt 0 (length bytes)) (nat_le (length bytes) 6) (is_letter (get_or bytes 0 0)) (all_letters_or_digits bytes) h (printed_each bytes))
+  where
+    kept : (a b c d : Bool) → (((a && b) && c) && d) ≡ true → (d ≡ true → list_all is_printed (map upper_case bytes) ≡ true) → ((a && b) && list_all is_printed (map upper_case bytes)) ≡ true
+    kept true true true true e f = f refl
+    kept true true true false e f = cc
+    kept true true false d e f = cc
+    kept true false c d e f = cc
+    kept false b c d e f = cc
+
+no_comment_by : (b : Bool) (line : List ℕ) → is_blank (get_or line 0 0) ≡ b → b ≡ false → 0 < length line → eqb (word_start line 0) (length line) ≡ false
+no_comment_by b line e f lt =
+    let here : is_blank (get_or line 0 0) ≡ false = e ∙ f in
+    let start : word_start line 0 ≡ 0 = least_place_step (λ k. not (is_blank (get_or line k 0))) line 0 lt ∙ rw here refl in
+    let differs : eqb 0 (length line) ≡ false = grind (arith, nat_tests) in
+    rw start differs
+
+-- a line with a bad label is no comment
+pub no_comment : (line : List ℕ) → HasBadLabel line → is_comment line ≡ false
+no_comment line bad = rw (no_comment_by _ line refl bad.no_blank bad.written, bad.no_asterisk) refl

@@ -1,0 +1,5 @@
+pub mod LeastLaws
+pub mod Quotes
+pub mod LineSteps
+pub mod LineLaws
+pub mod FieldLaws

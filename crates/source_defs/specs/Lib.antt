@@ -1,0 +1,6 @@
+pub mod Characters
+pub mod Least
+pub mod Lines
+pub mod Names
+pub mod Fields
+pub mod LineLaw
