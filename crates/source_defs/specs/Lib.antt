@@ -3,4 +3,5 @@ pub mod Least
 pub mod Lines
 pub mod Names
 pub mod Fields
+pub mod Numbers
 pub mod LineLaw
