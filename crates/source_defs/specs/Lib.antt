@@ -4,3 +4,4 @@ pub mod Lines
 pub mod Names
 pub mod Fields
 pub mod LineLaw
+pub mod FieldLaw
