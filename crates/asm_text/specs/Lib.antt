@@ -4,5 +4,6 @@ pub use Rattle.source_defs.specs.Lines
 pub use Rattle.source_defs.specs.LineLaw
 pub use Rattle.source_defs.specs.Names
 pub use Rattle.source_defs.specs.Fields
-pub mod Given
+pub use Rattle.source_defs.specs.FieldLaw
+pub mod GivenFields
 pub mod Padding

@@ -8,14 +8,16 @@ mod line_iter;
 mod name;
 mod places;
 mod split;
+#[cfg(test)]
+mod tests;
 mod text;
 mod words;
 
-pub use crate::laws::{least_places, text_lines};
+pub use crate::laws::{fields_of_a_line, least_places, lines_of_a_text};
 pub use crate::line_fields::Fields;
 pub use crate::line_iter::Lines;
 pub use crate::name::Name;
 pub use crate::split::fields;
 pub use crate::text::lines;
-pub use crate::words::spells;
+pub use crate::words::is_word;
 pub use source_defs::{Line, Span, TextError};

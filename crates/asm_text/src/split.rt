@@ -4,7 +4,7 @@ ghost use Rattle.std.specs.Prelude.{◌≡◌, ◌≤◌, ◌<◌, ◌↔◌, So
 ghost use Rattle.source_defs.specs.Fields as spec;
 ghost use Rattle.source_defs.specs.Characters.{upper_case};
 ghost use Rattle.source_defs.specs.Names.{is_name};
-ghost use Rattle.asm_text.specs.Given.{defined_fields, defined_answer, LieInside};
+ghost use Rattle.asm_text.specs.GivenFields.{defined_fields, defined_answer, FieldsLieInside};
 
 use crate::characters::{is_asterisk, is_blank, upper_case};
 use crate::line_fields::Fields;
@@ -22,7 +22,7 @@ pub fn fields(line: &[u8]) -> Result<Fields, TextError>
     ensures value { defined_answer result ≡ spec.fields line.now }
     ensures too_long { (result ≡ Err TextError.LineTooLong) ↔ (spec.longest_line < length line.now) }
     ensures bad_label { (result ≡ Err TextError.BadLabel) ↔ spec.HasBadLabel line.now }
-    ensures inside { IfOk result (LieInside line.now) }
+    ensures inside { IfOk result (FieldsLieInside line.now) }
 {
     if line.len() > LONGEST_LINE {
         return Err(TextError::LineTooLong);
@@ -56,14 +56,18 @@ fn is_comment(line: &[u8]) -> bool
 fn fields_after(line: &[u8], label: Option<Name>, from: usize) -> Fields
     requires { from ≤ length line.now }
     ensures value { defined_fields result ≡ spec.fields_after line.now label from }
-    ensures inside { LieInside line.now result }
+    ensures inside { FieldsLieInside line.now result }
 {
     let start = word_start(line, from);
     let end = word_end(line, start);
     let operands = word_start(line, end);
     Fields {
         label,
-        operation: if start < line.len() { Some(Span { start, end }) } else { None },
+        operation: if start < line.len() {
+            Some(Span { start, end })
+        } else {
+            None
+        },
         operands: Span {
             start: operands,
             end: operand_end(line, operands),
@@ -71,7 +75,7 @@ fn fields_after(line: &[u8], label: Option<Name>, from: usize) -> Fields
     }
 }
 
-/// The name that a label field spells, in upper case.
+/// The name in a label field, in upper case.
 #[tactic(auto, using(source_defs::proofs::FieldLaws::upper_case_kept))]
 fn label(field: &[u8]) -> Option<Name>
     ensures { result ≡ (if is_name field.now then Some (map upper_case field.now) else None) }

@@ -11,7 +11,7 @@ use crate::line_iter::Lines;
 pub fn lines(bytes: &[u8]) -> Lines<'_>
     requires { length bytes.now < 2 ^ 32 }
     ensures all { result ≡ spec.lines bytes.now }
-    ensures inside { spec.LieInside bytes.now result }
+    ensures inside { spec.LinesLieInside bytes.now result }
 {
     Lines {
         text: bytes,

@@ -8,8 +8,8 @@ use crate::characters::{is_letter, is_letter_or_digit, upper_case};
 use crate::name::{LONGEST_NAME, Name};
 
 /// Whether a text is the word, but for the case of its letters. The word is given in upper case.
-pub fn spells(text: &[u8], word: &[u8]) -> bool
-    ensures { result ≡ spec.spells text.now word.now }
+pub fn is_word(text: &[u8], word: &[u8]) -> bool
+    ensures { result ≡ spec.is_word text.now word.now }
 {
     text.len() == word.len() && same_letters(text, word)
 }
@@ -17,14 +17,19 @@ pub fn spells(text: &[u8], word: &[u8]) -> bool
 fn same_letters(text: &[u8], word: &[u8]) -> bool
     ensures { result ≡ spec.same_letters text.now word.now }
 {
-    text.iter().zip(word).all(|(&byte, &letter)| upper_case(byte) == letter)
+    text.iter()
+        .zip(word)
+        .all(|(&byte, &letter)| upper_case(byte) == letter)
 }
 
 /// Whether a text is a letter and up to five letters or digits.
 pub(crate) fn is_name(text: &[u8]) -> bool
     ensures { result ≡ spec.is_name text.now }
 {
-    !text.is_empty() && text.len() <= LONGEST_NAME && is_letter(text[0]) && all_letters_or_digits(text)
+    !text.is_empty()
+        && text.len() <= LONGEST_NAME
+        && is_letter(text[0])
+        && all_letters_or_digits(text)
 }
 
 fn all_letters_or_digits(text: &[u8]) -> bool

@@ -6,8 +6,9 @@ use Rattle.std.proofs.lemmas.Bool.{ltb-true}
 use Rattle.std.proofs.lemmas.Bool.Decides.{nat_tests}
 use Rattle.std.proofs.lemmas.Grind.{common_steps}
 use Rattle.source_defs.specs.Characters.{is_blank, is_letter, is_digit, upper_case}
-use Rattle.source_defs.specs.Fields.{HasBadLabel, is_comment, word_start}
-use Rattle.source_defs.proofs.LeastLaws.{least_place_step}
+use Rattle.source_defs.specs.Fields.{HasBadLabel, is_comment, word_start, operand_end, ends_field, in_quotes}
+use Rattle.source_defs.specs.FieldLaw.{FieldsStandApart}
+use Rattle.source_defs.proofs.LeastLaws.{least_place_step, least_places_are_least}
 use Rattle.source_defs.specs.Names.{is_letter_or_digit, all_letters_or_digits, is_name, is_printed, is_kept_name}
 
 upper_case_printed : (byte : ℕ) → is_letter_or_digit byte ≡ true → is_printed (upper_case byte) ≡ true
@@ -46,3 +47,50 @@ no_comment_by b line e f lt =
 -- a line with a bad label is no comment
 pub no_comment : (line : List ℕ) → HasBadLabel line → is_comment line ≡ false
 no_comment line bad = rw (no_comment_by _ line refl bad.no_blank bad.written, bad.no_asterisk) refl
+
+not_false : (b : Bool) → not b ≡ false → b ≡ true
+not_false true h = refl
+not_false false h = cc
+
+not_true : (b : Bool) → not b ≡ true → b ≡ false
+not_true true h = cc
+not_true false h = refl
+
+quoted_blank : (b q : Bool) → (b && not q) ≡ false → b ≡ true → q ≡ true
+quoted_blank true q h e = not_false q h
+quoted_blank false q h e = cc
+
+ends_blank : (b q : Bool) → (b && not q) ≡ true → b ≡ true
+ends_blank true q h = refl
+ends_blank false q h = cc
+
+ends_outside : (b q : Bool) → (b && not q) ≡ true → q ≡ false
+ends_outside true q h = not_true q h
+ends_outside false q h = cc
+
+pub fields_stand_apart : FieldsStandApart
+fields_stand_apart line from le =
+    let start = least_places_are_least (λ k. not (is_blank (get_or line k 0))) line from le in
+    let end = least_places_are_least (λ k. is_blank (get_or line k 0)) line from le in
+    let operands = least_places_are_least (ends_field line from) line from le in
+    record {
+      word_starts = record {
+        after = start.not_before_start;
+        within = start.not_after_end;
+        blanks_before = λ k ge lt. not_false _ (start.none_before k ge lt);
+        no_blank = λ lt. not_true _ (start.passes lt);
+      };
+      word_ends = record {
+        after = end.not_before_start;
+        within = end.not_after_end;
+        no_blank_before = end.none_before;
+        blank = end.passes;
+      };
+      operands_end = record {
+        after = operands.not_before_start;
+        within = operands.not_after_end;
+        blanks_in_quotes = λ k ge lt. quoted_blank (is_blank (get_or line k 0)) (in_quotes line from k) (operands.none_before k ge lt);
+        blank = λ lt. ends_blank (is_blank (get_or line (operand_end line from) 0)) (in_quotes line from (operand_end line from)) (operands.passes lt);
+        outside_quotes = λ lt. ends_outside (is_blank (get_or line (operand_end line from) 0)) (in_quotes line from (operand_end line from)) (operands.passes lt);
+      };
+    }

@@ -10,7 +10,7 @@ use Rattle.source_defs.specs.declared.text.Span.{Span}
 use Rattle.source_defs.specs.declared.text.Line.{Line}
 use Rattle.source_defs.specs.Characters.{is_line_feed, is_carriage_return}
 use Rattle.source_defs.specs.Least.{IsLeastPlace}
-use Rattle.source_defs.specs.Lines.{IsInside, LieInside, part, lines_from, lines, feed_place, after, without_return}
+use Rattle.source_defs.specs.Lines.{IsInside, LinesLieInside, part, lines_from, lines, feed_place, after, without_return}
 use Rattle.source_defs.specs.LineLaw.{ending, IsLine, AreLinesOf, LinesAreLines}
 use Rattle.source_defs.proofs.LeastLaws.{least_places_are_least}
 use Rattle.source_defs.proofs.LineSteps.{lines_from_step, lines_from_end}
@@ -165,11 +165,11 @@ lines_are_lines text =
     let found = found_from (length text) text 1 0 (omega arith) (omega arith) in
     record { joined = found.joined; each = found.each; numbered = found.numbered }
 
-inside_each : (text : List ℕ) (found : List Line) → AllByRecursion (IsLine text) found → LieInside text found
+inside_each : (text : List ℕ) (found : List Line) → AllByRecursion (IsLine text) found → LinesLieInside text found
 inside_each text [] each = tt
 inside_each text (line ∷ found) each = (each.0.inside, inside_each text found each.1)
 
-pub lines_lie_inside : (text : List ℕ) → LieInside text (lines_from text 1 0 text)
+pub lines_lie_inside : (text : List ℕ) → LinesLieInside text (lines_from text 1 0 text)
 lines_lie_inside text = inside_each text (lines text) (lines_are_lines text).each
 
 pub ruleset line_places = (lines_lie_inside, lines_are_lines)

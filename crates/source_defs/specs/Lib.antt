@@ -5,3 +5,4 @@ pub mod Names
 pub mod Fields
 pub mod Numbers
 pub mod LineLaw
+pub mod FieldLaw

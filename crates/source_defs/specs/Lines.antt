@@ -15,8 +15,8 @@ pub record IsInside (text : List ℕ) (span : Span) : Type 0 where
   pub in_text : span.end ≤ length text
 
 -- each of the lines lies inside the text
-abbrev pub LieInside : List ℕ → List Line → Type 0
-LieInside text lines = AllByRecursion (λ line. IsInside text line.span) lines
+abbrev pub LinesLieInside : List ℕ → List Line → Type 0
+LinesLieInside text lines = AllByRecursion (λ line. IsInside text line.span) lines
 
 -- the bytes of a part of a text
 abbrev pub part : List ℕ → Span → List ℕ

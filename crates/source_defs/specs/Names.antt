@@ -30,5 +30,5 @@ abbrev pub same_letters : List ℕ → List ℕ → Bool
 same_letters text word = list_all (λ pair. upper_case pair.0 == pair.1) (zip text word)
 
 -- Profile: letters outside quotes are taken as upper case. Whether a text is the word, which is in upper case.
-abbrev pub spells : List ℕ → List ℕ → Bool
-spells text word = (length text == length word) && same_letters text word
+abbrev pub is_word : List ℕ → List ℕ → Bool
+is_word text word = (length text == length word) && same_letters text word

@@ -7,5 +7,5 @@ use Rattle.asm_text.proofs.places.operand_end.Given as goal
 abbrev pub invariant-loop-at : goal.invariant-loop-at
 invariant-loop-at l = record {
   quoted : l.quoted ≡ in_quotes l.line l.start l.at;
-  none_before : least_place (ends_field l.line l.start) l.line l.at ≡ operand_end l.line l.start
+  none_before : least_place (ends_field l.line l.start) l.line l.at ≡ operand_end l.line l.start;
 }

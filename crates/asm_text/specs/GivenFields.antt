@@ -15,6 +15,6 @@ defined_answer (Ok given) = Ok (defined_fields given)
 defined_answer (Err cause) = Err cause
 
 -- the operation and the operand field lie inside a line
-pub record LieInside (line : List ℕ) (given : Fields) : Type 0 where
+pub record FieldsLieInside (line : List ℕ) (given : Fields) : Type 0 where
   pub operation : IfSome given.operation (IsInside line)
   pub operands : IsInside line given.operands
