@@ -3,19 +3,19 @@
 
 mod failed;
 mod memory;
-mod whole;
 mod sink;
 mod source;
 mod std_io;
 mod steady;
+mod whole;
 
 pub use failed::Failed;
 pub use memory::{MemSink, MemSource};
-pub use whole::{ReadError, read_all};
 pub use sink::Sink;
 pub use source::Source;
 pub use std_io::{StdSink, StdSource};
 pub use steady::{SteadySink, SteadySource};
+pub use whole::{ReadError, read_all};
 
 #[cfg(test)]
 mod tests;

@@ -57,10 +57,7 @@ impl Write for Narrow {
 }
 
 fn source(alloc: Global, size: usize, fails: &[u64]) -> Result<MemSource, AllocError> {
-    Ok(MemSource::new(
-        vec![in alloc; 9; size]?,
-        Vec::from_slice(alloc, fails)?,
-    ))
+    Ok(MemSource::new(vec![in alloc; 9; size]?, Vec::from_slice(alloc, fails)?))
 }
 
 #[test]
@@ -87,8 +84,14 @@ fn a_source_is_read_up_to_its_end_or_its_limit(rt: HostRuntime) -> Result<(), Fa
         assert_eq!(rt; failing.faults(), 1);
     }
     let mut later = source(alloc, 9000, &[4])?;
-    assert_eq!(rt; read_all(alloc, &mut later, 10000).map(|bytes| bytes.len()), Ok(9000));
-    assert_eq!(rt; read_all(alloc, &mut later, 10000).map(|bytes| bytes.len()), Err(ReadError::Fault));
+    assert_eq!(rt;
+        read_all(alloc, &mut later, 10000).map(|bytes| bytes.len()),
+        Ok(9000)
+    );
+    assert_eq!(rt;
+        read_all(alloc, &mut later, 10000).map(|bytes| bytes.len()),
+        Err(ReadError::Fault)
+    );
 
     let mut endless = Endless { calls: 0, taken: 0 };
     let got = read_all(alloc, &mut endless, 10).map(|bytes| bytes.len());

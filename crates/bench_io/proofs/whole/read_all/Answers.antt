@@ -45,10 +45,11 @@ returns-then-limit-len-clause-err g c =
     let count = c.in_ok-count.count in
     let le : count ≤ length c.take.new.buffer = omega (arith, c.in_ok-count.ensures.within, c.take.auto.buffer) in
     let len : length (take count c.take.new.buffer) ≡ count = simp length-take (omega arith) in
-    let room : length c.loop-bytes.bytes.items + count ≡ c.args.limit + 1 = omega (arith, c.in_ok-count.ensures.within, length-take c.min-room.result c.loop-bytes.buffer, c.if-limit-len.true, c.len.ensures, c.len-in-loop-bytes.ensures, c.min-room.ensures, c.loop-bytes.bytes.ok.0) in
-    (c.loop-bytes.bytes.items ++ take count c.take.new.buffer,
-     length-append c.loop-bytes.bytes.items (take count c.take.new.buffer) ∙ (ap (λ n. length c.loop-bytes.bytes.items + n) len ∙ room),
-     took_from _ _ _ (took_more _ (state c.loop-bytes.source) _ _ _ count c.loop-bytes.invariant.took len (omega arith) c.in_ok-count.ensures.gave c.in_ok-count.ensures.taken c.take.ensures.calls c.take.ensures.faults))
+    let room : length c.loop-bytes.bytes.items + count ≡ c.args.limit + 1 = omega (arith, c.in_ok-count.ensures.within, length-take c.min-room.result c.loop-bytes.buffer, c.if-limit-len.true, c.len.ensures, c.len-in-loop-bytes.ensures, c.min-room.ensures, c.loop-bytes.bytes.ok.0) in (
+      c.loop-bytes.bytes.items ++ take count c.take.new.buffer,
+      length-append c.loop-bytes.bytes.items (take count c.take.new.buffer) ∙ (ap (λ n. length c.loop-bytes.bytes.items + n) len ∙ room),
+      took_from _ _ _ (took_more _ (state c.loop-bytes.source) _ _ _ count c.loop-bytes.invariant.took len (omega arith) c.in_ok-count.ensures.gave c.in_ok-count.ensures.taken c.take.ensures.calls c.take.ensures.faults),
+    )
 
 pub returns-in_err-extend_from_slice-clause-err : goal.returns-in_err-extend_from_slice-clause-err
 returns-in_err-extend_from_slice-clause-err g c =
@@ -57,10 +58,11 @@ returns-in_err-extend_from_slice-clause-err g c =
     let count = c.in_ok-count.count in
     let le : count ≤ length c.take.new.buffer = omega (arith, c.in_ok-count.ensures.within, c.take.auto.buffer) in
     let len : length (take count c.take.new.buffer) ≡ count = simp length-take (omega arith) in
-    rw (p.1, p.2)
-    (c.loop-bytes.bytes.items ++ take count c.take.new.buffer,
-     simp length-append (omega (arith, len, c.loop-bytes.bytes.ok.0)),
-     took_from _ _ _ (took_more _ (state c.loop-bytes.source) _ _ _ count c.loop-bytes.invariant.took len (omega arith) c.in_ok-count.ensures.gave c.in_ok-count.ensures.taken c.take.ensures.calls c.take.ensures.faults))
+    rw (p.1, p.2) (
+      c.loop-bytes.bytes.items ++ take count c.take.new.buffer,
+      simp length-append (omega (arith, len, c.loop-bytes.bytes.ok.0)),
+      took_from _ _ _ (took_more _ (state c.loop-bytes.source) _ _ _ count c.loop-bytes.invariant.took len (omega arith) c.in_ok-count.ensures.gave c.in_ok-count.ensures.taken c.take.ensures.calls c.take.ensures.faults),
+    )
 
 pub returns-in_err-count-clause-calls : goal.returns-in_err-count-clause-calls
 returns-in_err-count-clause-calls g c =

@@ -1,0 +1,95 @@
+//! The numbers of an operand field.
+
+ghost use Rattle.std.specs.Prelude.{◌≡◌, ◌≤◌, ◌<◌, ◌+◌, length, drop, IfSome};
+ghost use Rattle.std.specs.Option.{option_map};
+ghost use Rattle.std.specs.List.{position_or_len};
+ghost use Rattle.source_defs.specs.Numbers as spec;
+ghost use Rattle.source_defs.specs.Characters.{is_digit};
+
+use arrayvec::ArrayVec;
+
+/// The numbers of an operand field, with a comma between two of them, or `None` where one of its parts is no number.
+pub(crate) fn numbers(field: &[u8]) -> Option<ArrayVec<u16, 128>>
+    requires { length field.now ≤ 256 }
+    ensures { option_map (λ numbers. numbers.items) result ≡ spec.numbers field.now }
+{
+    let mut numbers = ArrayVec::new();
+    let mut rest = field;
+    loop {
+        let comma = comma_place(rest);
+        numbers.push(number(&rest[..comma])?);
+        if comma == rest.len() {
+            return Some(numbers);
+        }
+        rest = behind(rest, comma);
+    }
+}
+
+/// The place of the first comma, or the field's end.
+fn comma_place(field: &[u8]) -> usize
+    ensures { result ≡ position_or_len spec.is_comma field.now }
+{
+    field.iter().position(|&byte| byte == b',').unwrap_or(field.len())
+}
+
+/// What stands behind the comma at a place.
+fn behind(field: &[u8], comma: usize) -> &[u8]
+    requires { comma < length field.now }
+    ensures { result.now ≡ drop (comma + 1) field.now }
+{
+    &field[comma + 1..]
+}
+
+/// The number that a text spells: a decimal one, or `>` and a hexadecimal one.
+fn number(text: &[u8]) -> Option<u16>
+    ensures { result ≡ spec.number text.now }
+{
+    match text.split_first() {
+        Some((b'>', digits)) => hexadecimal_number(digits),
+        _ => decimal_number(text),
+    }
+}
+
+/// The number of decimal digits, up to 65,535.
+fn decimal_number(digits: &[u8]) -> Option<u16>
+    ensures { result ≡ spec.decimal_number digits.now }
+{
+    if digits.is_empty() {
+        return None;
+    }
+    let mut value = 0u32;
+    for &byte in digits {
+        if !byte.is_ascii_digit() {
+            return None;
+        }
+        value = value * 10 + u32::from(byte - b'0');
+        if value > 65535 {
+            return None;
+        }
+    }
+    Some(value as u16)
+}
+
+/// The number of one to four hexadecimal digits.
+fn hexadecimal_number(digits: &[u8]) -> Option<u16>
+    ensures { result ≡ spec.hexadecimal_number digits.now }
+{
+    if digits.is_empty() || digits.len() > 4 {
+        return None;
+    }
+    let mut value = 0u16;
+    for &byte in digits {
+        value = value * 16 + u16::from(hexadecimal_digit(byte)?);
+    }
+    Some(value)
+}
+
+/// What a hexadecimal digit of either case stands for.
+fn hexadecimal_digit(byte: u8) -> Option<u8> {
+    match byte {
+        b'0'..=b'9' => Some(byte - b'0'),
+        b'A'..=b'F' => Some(byte - b'A' + 10),
+        b'a'..=b'f' => Some(byte - b'a' + 10),
+        _ => None,
+    }
+}
