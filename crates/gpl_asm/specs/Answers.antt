@@ -1,5 +1,5 @@
 -- What the assembler's answers say, in the terms of the definitions.
-use Rattle.std.specs.Prelude.{◌≡◌, ⊤, Result, Ok, Err}
+use Rattle.std.specs.Prelude.{◌≡◌, ◌%◌, ⊤, Result, Ok, Err}
 use Rattle.gpl_defs.specs.declared.causes.GplCause.{GplCause}
 use Rattle.gpl_defs.specs.Image.{Image}
 use Rattle.gpl_defs.specs.Layout.{Refusal}
@@ -16,6 +16,13 @@ defined_statement Nothing = spec.Nothing
 defined_statement (Grom address) = spec.Grom address
 defined_statement (Bytes bytes) = spec.Bytes bytes.items
 defined_statement End = spec.End
+
+-- a first address is a multiple of >2000
+abbrev pub IsAligned : Statement → Type 0
+IsAligned (Grom address) = address % 0x2000 ≡ 0
+IsAligned Nothing = ⊤
+IsAligned (Bytes bytes) = ⊤
+IsAligned End = ⊤
 
 abbrev pub defined_answer : Result Statement GplCause → Result spec.Statement GplCause
 defined_answer (Ok statement) = Ok (defined_statement statement)

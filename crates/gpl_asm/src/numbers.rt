@@ -1,14 +1,14 @@
 //! The numbers of an operand field.
 
-ghost use Rattle.std.specs.Prelude.{◌≡◌, ◌≤◌, ◌<◌, ◌+◌, length, drop, IfSome};
+ghost use Rattle.std.specs.Prelude.{◌≡◌, ◌≤◌, ◌<◌, ◌+◌, if◌then◌else◌, length, drop, Some, None, IfSome};
 ghost use Rattle.std.specs.Option.{option_map};
 ghost use Rattle.std.specs.List.{position_or_len};
 ghost use Rattle.source_defs.specs.Numbers as spec;
-ghost use Rattle.source_defs.specs.Characters.{is_digit};
 
 use arrayvec::ArrayVec;
 
 /// The numbers of an operand field, with a comma between two of them, or `None` where one of its parts is no number.
+#[tactic(auto, using(source_defs::proofs::NumberLaws::numbers_none, source_defs::proofs::NumberLaws::numbers_last, source_defs::proofs::NumberLaws::numbers_more))]
 pub(crate) fn numbers(field: &[u8]) -> Option<ArrayVec<u16, 128>>
     requires { length field.now ≤ 256 }
     ensures { option_map (λ numbers. numbers.items) result ≡ spec.numbers field.now }
@@ -26,10 +26,14 @@ pub(crate) fn numbers(field: &[u8]) -> Option<ArrayVec<u16, 128>>
 }
 
 /// The place of the first comma, or the field's end.
+#[tactic(auto, using(source_defs::proofs::NumberLaws::no_comma))]
 fn comma_place(field: &[u8]) -> usize
     ensures { result ≡ position_or_len spec.is_comma field.now }
 {
-    field.iter().position(|&byte| byte == b',').unwrap_or(field.len())
+    match field.iter().position(|&byte| byte == b',') {
+        Some(place) => place,
+        None => field.len(),
+    }
 }
 
 /// What stands behind the comma at a place.
@@ -41,6 +45,7 @@ fn behind(field: &[u8], comma: usize) -> &[u8]
 }
 
 /// The number that a text spells: a decimal one, or `>` and a hexadecimal one.
+#[tactic(auto, unfolding(source_defs::specs::Numbers::number))]
 fn number(text: &[u8]) -> Option<u16>
     ensures { result ≡ spec.number text.now }
 {
@@ -85,7 +90,10 @@ fn hexadecimal_number(digits: &[u8]) -> Option<u16>
 }
 
 /// What a hexadecimal digit of either case stands for.
-fn hexadecimal_digit(byte: u8) -> Option<u8> {
+fn hexadecimal_digit(byte: u8) -> Option<u8>
+    ensures value { result ≡ (if spec.is_hexadecimal_digit byte then Some (spec.digit_value byte) else None) }
+    ensures below { IfSome result (λ value. value < 16) }
+{
     match byte {
         b'0'..=b'9' => Some(byte - b'0'),
         b'A'..=b'F' => Some(byte - b'A' + 10),

@@ -3,3 +3,4 @@ pub mod Quotes
 pub mod LineSteps
 pub mod LineLaws
 pub mod FieldLaws
+pub mod NumberLaws
