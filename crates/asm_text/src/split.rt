@@ -1,9 +1,9 @@
 //! A line as fields.
 
-ghost use Rattle.std.specs.Prelude.{◌≡◌, ◌≤◌, ◌<◌, ◌↔◌, Some, None, Option, List, ℕ, length, take, map, IfOk, if◌then◌else◌};
+ghost use Rattle.std.specs.Prelude.{◌≡◌, ◌≤◌, ◌<◌, ◌↔◌, Some, None, length, take, map, IfOk, IfSome, if◌then◌else◌};
 ghost use Rattle.source_defs.specs.Fields as spec;
 ghost use Rattle.source_defs.specs.Characters.{upper_case};
-ghost use Rattle.source_defs.specs.Names.{is_name};
+ghost use Rattle.source_defs.specs.Names.{is_name, IsUpperCaseName};
 ghost use Rattle.asm_text.specs.GivenFields.{defined_fields, defined_answer, FieldsLieInside};
 
 use crate::characters::{is_asterisk, is_blank, upper_case};
@@ -16,13 +16,19 @@ use source_defs::{Span, TextError};
 /// The most bytes that a line has.
 const LONGEST_LINE: usize = 256;
 
-/// The fields of a line. A blank line, and one with an asterisk in column 1, has none.
+/// The fields of a line: a label from column 1 on, the operation, and the operand field up to a blank
+/// outside quotes, apart by blanks (Editor/Assembler manual, "Source Statement Format"). A blank line,
+/// and one with an asterisk in column 1, has none.
+///
+/// `LineTooLong` comes for more than 256 bytes, and only then. `BadLabel` comes where column 1 holds
+/// neither a blank nor an asterisk and what stands there up to a blank is no name, and only then.
 #[tactic(auto, using(source_defs::proofs::FieldLaws::no_comment), unfolding(source_defs::specs::Fields::fields))]
 pub fn fields(line: &[u8]) -> Result<Fields, TextError>
     ensures value { defined_answer result ≡ spec.fields line.now }
     ensures too_long { (result ≡ Err TextError.LineTooLong) ↔ (spec.longest_line < length line.now) }
     ensures bad_label { (result ≡ Err TextError.BadLabel) ↔ spec.HasBadLabel line.now }
     ensures inside { IfOk result (FieldsLieInside line.now) }
+    ensures names { IfOk result (λ found. IfSome found.label IsUpperCaseName) }
 {
     if line.len() > LONGEST_LINE {
         return Err(TextError::LineTooLong);
@@ -76,9 +82,10 @@ fn fields_after(line: &[u8], label: Option<Name>, from: usize) -> Fields
 }
 
 /// The name in a label field, in upper case.
-#[tactic(auto, using(source_defs::proofs::FieldLaws::upper_case_kept))]
+#[tactic(auto, using(source_defs::proofs::FieldLaws::upper_case_kept, source_defs::proofs::FieldLaws::upper_case_name))]
 fn label(field: &[u8]) -> Option<Name>
-    ensures { result ≡ (if is_name field.now then Some (map upper_case field.now) else None) }
+    ensures value { result ≡ (if is_name field.now then Some (map upper_case field.now) else None) }
+    ensures names { IfSome result IsUpperCaseName }
 {
     if !is_name(field) {
         return None;

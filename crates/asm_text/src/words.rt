@@ -1,11 +1,10 @@
-//! Words of a text: labels, and words that are compared with no heed of case.
+//! Words of a text: names, and words that are compared with no heed of case.
 
-ghost use Rattle.std.specs.Prelude.{◌≡◌, Some, None, if◌then◌else◌, map};
-ghost use Rattle.source_defs.specs.Characters as characters;
+ghost use Rattle.std.specs.Prelude.{◌≡◌};
 ghost use Rattle.source_defs.specs.Names as spec;
 
 use crate::characters::{is_letter, is_letter_or_digit, upper_case};
-use crate::name::{LONGEST_NAME, Name};
+use crate::name::LONGEST_NAME;
 
 /// Whether a text is the word, but for the case of its letters. The word is given in upper case.
 pub fn is_word(text: &[u8], word: &[u8]) -> bool

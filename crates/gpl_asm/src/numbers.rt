@@ -2,7 +2,7 @@
 
 ghost use Rattle.std.specs.Prelude.{◌≡◌, ◌≤◌, ◌<◌, ◌+◌, if◌then◌else◌, length, drop, Some, None, IfSome};
 ghost use Rattle.std.specs.Option.{option_map};
-ghost use Rattle.std.specs.List.{position_or_len};
+ghost use Rattle.std.specs.List.{position, position_or_len};
 ghost use Rattle.source_defs.specs.Numbers as spec;
 
 use arrayvec::ArrayVec;
@@ -26,14 +26,20 @@ pub(crate) fn numbers(field: &[u8]) -> Option<ArrayVec<u16, 128>>
 }
 
 /// The place of the first comma, or the field's end.
-#[tactic(auto, using(source_defs::proofs::NumberLaws::no_comma))]
+#[tactic(auto, using(source_defs::proofs::NumberLaws::comma_found, source_defs::proofs::NumberLaws::no_comma))]
 fn comma_place(field: &[u8]) -> usize
     ensures { result ≡ position_or_len spec.is_comma field.now }
 {
-    match field.iter().position(|&byte| byte == b',') {
+    match first_comma(field) {
         Some(place) => place,
         None => field.len(),
     }
+}
+
+fn first_comma(field: &[u8]) -> Option<usize>
+    ensures { result ≡ position spec.is_comma field.now }
+{
+    field.iter().position(|&byte| byte == b',')
 }
 
 /// What stands behind the comma at a place.

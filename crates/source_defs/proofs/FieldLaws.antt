@@ -1,15 +1,14 @@
 -- Why a line has no fields, and what its label field gives.
-use Rattle.std.proofs.Common.{◌≡◌, ℕ, ◌+◌, ◌-◌, ◌<◌, ◌≤◌, Bool, true, false, cond, not, eqb, ◌&&◌, ◌||◌, List, [], ◌∷◌, length, get_or, take, drop, refl, ap, sym, ◌∙◌, arith, Ok, Err, Result}
+use Rattle.std.proofs.Common.{◌≡◌, ℕ, ◌<◌, Bool, true, false, not, eqb, ◌&&◌, List, [], ◌∷◌, length, get_or, refl, ◌∙◌, arith}
 use Rattle.std.specs.Prelude.{map, nat_lt, nat_le}
 use Rattle.std.specs.List.{list_all}
-use Rattle.std.proofs.lemmas.Bool.{ltb-true}
 use Rattle.std.proofs.lemmas.Bool.Decides.{nat_tests}
 use Rattle.std.proofs.lemmas.Grind.{common_steps}
-use Rattle.source_defs.specs.Characters.{is_blank, is_letter, is_digit, upper_case}
+use Rattle.source_defs.specs.Characters.{is_blank, is_letter, upper_case}
 use Rattle.source_defs.specs.Fields.{HasBadLabel, is_comment, word_start, operand_end, ends_field, in_quotes}
 use Rattle.source_defs.specs.FieldLaw.{FieldsStandApart}
 use Rattle.source_defs.proofs.LeastLaws.{least_place_step, least_places_are_least}
-use Rattle.source_defs.specs.Names.{is_letter_or_digit, all_letters_or_digits, is_name, is_printed, is_kept_name}
+use Rattle.source_defs.specs.Names.{is_letter_or_digit, all_letters_or_digits, is_name, IsUpperCaseName, is_printed, is_kept_name}
 
 upper_case_printed : (byte : ℕ) → is_letter_or_digit byte ≡ true → is_printed (upper_case byte) ≡ true
 upper_case_printed byte h = grind (arith, nat_tests)
@@ -94,3 +93,43 @@ fields_stand_apart line from le =
         outside_quotes = λ lt. ends_outside (is_blank (get_or line (operand_end line from) 0)) (in_quotes line from (operand_end line from)) (operands.passes lt);
       };
     }
+
+upper_case_twice : (byte : ℕ) → upper_case (upper_case byte) ≡ upper_case byte
+upper_case_twice byte = grind (arith, nat_tests)
+
+upper_case_letter : (byte : ℕ) → is_letter byte ≡ true → is_letter (upper_case byte) ≡ true
+upper_case_letter byte h = grind (arith, nat_tests)
+
+upper_case_letter_or_digit : (byte : ℕ) → is_letter_or_digit byte ≡ true → is_letter_or_digit (upper_case byte) ≡ true
+upper_case_letter_or_digit byte h = grind (arith, nat_tests)
+
+letters_twice : (bytes : List ℕ) → map upper_case (map upper_case bytes) ≡ map upper_case bytes
+letters_twice [] = refl
+letters_twice (byte ∷ bytes) = rw (upper_case_twice byte, letters_twice bytes) refl
+
+and_kept : (a b c d : Bool) → (a && b) ≡ true → (a ≡ true → c ≡ true) → (b ≡ true → d ≡ true) → (c && d) ≡ true
+and_kept true true c d e f g = rw (f refl, g refl) refl
+and_kept true false c d e f g = cc
+and_kept false b c d e f g = cc
+
+letters_kept : (bytes : List ℕ) → all_letters_or_digits bytes ≡ true → all_letters_or_digits (map upper_case bytes) ≡ true
+letters_kept [] h = refl
+letters_kept (byte ∷ bytes) h =
+    and_kept (is_letter_or_digit byte) (all_letters_or_digits bytes) _ _ h (upper_case_letter_or_digit byte) (letters_kept bytes)
+
+first_kept : (bytes : List ℕ) → is_letter (get_or bytes 0 0) ≡ true → is_letter (get_or (map upper_case bytes) 0 0) ≡ true
+first_kept [] h = h
+first_kept (byte ∷ bytes) h = upper_case_letter byte h
+
+-- a name in upper case is one
+pub upper_case_name : (bytes : List ℕ) → is_name bytes ≡ true → IsUpperCaseName (map upper_case bytes)
+upper_case_name bytes h = record { name = kept; upper = letters_twice bytes }
+  where
+    size : length (map upper_case bytes) ≡ length bytes
+    size = grind (arith, common_steps)
+
+    kept : is_name (map upper_case bytes) ≡ true
+    kept = rw size
+        (and_kept ((nat_lt 0 (length bytes) && nat_le (length bytes) 6) && is_letter (get_or bytes 0 0)) (all_letters_or_digits bytes) _ _ h
+        (λ front. and_kept (nat_lt 0 (length bytes) && nat_le (length bytes) 6) (is_letter (get_or bytes 0 0)) _ _ front (λ size. size) (first_kept bytes))
+        (letters_kept bytes))

@@ -1,7 +1,7 @@
 -- The least place: one step, the end, and that it is the least.
-use Rattle.std.proofs.Common.{◌≡◌, ℕ, zero, suc, ◌+◌, ◌-◌, ◌<◌, ◌≤◌, ◌⊎◌, inl, inr, Bool, true, false, cond, List, length, refl, ap, sym, ◌∙◌, arith, add-one}
+use Rattle.std.proofs.Common.{◌≡◌, ℕ, zero, suc, ◌+◌, ◌-◌, ◌<◌, ◌≤◌, ◌⊎◌, inl, inr, Bool, true, false, cond, List, length, refl, ap, sym, ◌∙◌, arith}
 use Rattle.std.proofs.lemmas.Bool.{cases_lt}
-use Rattle.source_defs.specs.Least.{least, least_place, IsLeastPlace, LeastPlacesAreLeast}
+use Rattle.source_defs.specs.Least.{least, least_place, LeastPlacesAreLeast}
 
 least_counted : (p : ℕ → Bool) (from n : ℕ) → n ≡ suc (n - 1) → least p from n ≡ cond (p from) from (least p (from + 1) (n - 1))
 least_counted p from zero e = cc
@@ -79,4 +79,5 @@ least_places_are_least p bytes from le = record {
 }
 
 pub ruleset leasts = (least_place_step, least_place_end)
+
 pub ruleset least_bounds = (least_place-ge, least_place-le)

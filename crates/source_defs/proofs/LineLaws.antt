@@ -10,8 +10,8 @@ use Rattle.source_defs.specs.declared.text.Span.{Span}
 use Rattle.source_defs.specs.declared.text.Line.{Line}
 use Rattle.source_defs.specs.Characters.{is_line_feed, is_carriage_return}
 use Rattle.source_defs.specs.Least.{IsLeastPlace}
-use Rattle.source_defs.specs.Lines.{IsInside, LinesLieInside, part, lines_from, lines, feed_place, after, without_return}
-use Rattle.source_defs.specs.LineLaw.{ending, IsLine, AreLinesOf, LinesAreLines}
+use Rattle.source_defs.specs.Lines.{LinesLieInside, part, lines_from, lines, feed_place, after, without_return}
+use Rattle.source_defs.specs.LineLaw.{ending, IsLine, LinesAreLines}
 use Rattle.source_defs.proofs.LeastLaws.{least_places_are_least}
 use Rattle.source_defs.proofs.LineSteps.{lines_from_step, lines_from_end}
 

@@ -1,17 +1,13 @@
 -- The lines of a text, one after the other: a step and the end.
-use Rattle.std.proofs.Common.{◌≡◌, ℕ, zero, suc, ◌+◌, ◌-◌, ◌<◌, ◌≤◌, Bool, true, false, cond, ◌&&◌, eqb, ltb, List, [], ◌∷◌, ◌++◌, length, get_or, take, drop, refl, ap, sym, ◌∙◌, arith}
-use Rattle.std.specs.Prelude.{filter, map, nat_lt}
-use Rattle.std.specs.List.{zip, AllByRecursion}
-use Rattle.std.proofs.lemmas.Bool.{false≢true, ltb-true}
+use Rattle.std.proofs.Common.{◌≡◌, ℕ, zero, suc, ◌+◌, ◌-◌, ◌<◌, ◌≤◌, Bool, true, false, cond, List, [], ◌∷◌, length, get_or, drop, refl, arith}
+use Rattle.std.specs.Prelude.{nat_lt}
 use Rattle.std.proofs.lemmas.List.{drop_more}
 use Rattle.std.proofs.lemmas.Bool.Decides.{nat_tests}
 use Rattle.std.proofs.lemmas.Grind.{common_steps}
-use Rattle.source_defs.specs.Least.{least, least_place}
-use Rattle.source_defs.proofs.LeastLaws.{least_place_step, least_place_end, least_place-le, least-ge}
-use Rattle.source_defs.specs.declared.text.Span.{Span}
-use Rattle.source_defs.specs.declared.text.Line.{Line}
+use Rattle.source_defs.specs.Least.{least_place}
+use Rattle.source_defs.proofs.LeastLaws.{least_place_step, least_place_end, least_place-le}
 use Rattle.source_defs.specs.Characters.{is_line_feed}
-use Rattle.source_defs.specs.Lines.{line_feeds_from, bounds_between, without_return, numbered_from, lines_from, feed_place, after}
+use Rattle.source_defs.specs.Lines.{line_feeds_from, without_return, lines_from, feed_place, after}
 
 past : (text : List ℕ) (at : ℕ) → length text ≤ at → drop at text ≡ []
 past text at h = grind (arith, common_steps)
@@ -63,4 +59,3 @@ lines_from_step text number at lt =
     step_by _ text number at (feed_place text at) refl lt (least_place-le _ text at (omega arith)) (feeds_at (length text - at) text at (omega arith))
 
 pub ruleset line_steps = (lines_from_step, lines_from_end)
-

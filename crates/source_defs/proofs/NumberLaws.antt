@@ -30,7 +30,7 @@ last_split field e = slice_split_none is_comma field (λ k d h. fails_before_fir
 more_split : (field : List ℕ) → comma_place field < length field → slice_split is_comma field ≡ take (comma_place field) field ∷ slice_split is_comma (drop (comma_place field + 1) field)
 more_split field h = slice_split_first is_comma field 0 h
 
-place_le : (field : List ℕ) → comma_place field ≤ length field
+pub place_le : (field : List ℕ) → comma_place field ≤ length field
 place_le field = prefix_len-le-length _ field
 
 place_end : (field : List ℕ) → nat_lt (comma_place field) (length field) ≡ false → comma_place field ≡ length field

@@ -1,5 +1,5 @@
 -- Names, and words that are compared with no heed of case.
-use Rattle.std.specs.Prelude.{ℕ, ◌==◌, Bool, ◌&&◌, ◌||◌, nat_lt, nat_le, List, length, slice_index}
+use Rattle.std.specs.Prelude.{◌≡◌, ℕ, ◌==◌, Bool, true, ◌&&◌, ◌||◌, nat_lt, nat_le, List, length, slice_index, map}
 use Rattle.std.specs.List.{list_all, zip}
 use Rattle.source_defs.specs.Characters.{is_digit, is_letter, upper_case}
 
@@ -12,6 +12,11 @@ all_letters_or_digits bytes = list_all is_letter_or_digit bytes
 -- Editor/Assembler manual, "Symbols": a letter, and up to five letters or digits.
 abbrev pub is_name : List ℕ → Bool
 is_name bytes = nat_lt 0 (length bytes) && nat_le (length bytes) 6 && is_letter (slice_index bytes 0) && all_letters_or_digits bytes
+
+-- a name whose letters are in upper case
+pub record IsUpperCaseName (bytes : List ℕ) : Type 0 where
+  pub name : is_name bytes ≡ true
+  pub upper : map upper_case bytes ≡ bytes
 
 -- a character that prints, other than the space
 abbrev pub is_printed : ℕ → Bool

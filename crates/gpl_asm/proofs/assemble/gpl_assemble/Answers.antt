@@ -1,13 +1,34 @@
+use Rattle.std.proofs.Common.{◌≡◌, List, [], ◌∷◌, Ok, Err, Some, sym, refl, ap, ◌∙◌, rules}
+use Rattle.gpl_defs.specs.Statements.{Statement}
+use Rattle.gpl_defs.specs.Layout.{statements_from, image_by, image_of_lines}
+use Rattle.gpl_asm.specs.Answers.{defined_statement}
+use Rattle.gpl_asm.proofs.Reading.{refused_itself, refused_there, ends_there, goes_on, none_left}
 use Rattle.gpl_asm.proofs.assemble.gpl_assemble.Goals as goal
+use Rattle.gpl_asm.proofs.assemble.gpl_assemble.Goals.{in-None, in-Some+in-Ok-End}
 
 pub returns-in-Err-add : goal.returns-in-Err-add
-returns-in-Err-add c = ?
+returns-in-Err-add c =
+    let i = c.loop-line.invariant in
+    let step = refused_there c.args.text.now i.0 c.in-Some.line c.next.new.self (defined_statement c.in-Ok.found) c.in-Err-add.cause (sym c.in-Ok.ensures.value) (c.in-Err-add.ensures.added i.0 i.1) in
+    rw c.refused.ensures (ap image_by (sym i.4 ∙ (ap (statements_from c.args.text.now i.0) c.in-Some.ensures.steps ∙ step)))
 
 pub loop-line-preserved : goal.loop-line-preserved
-loop-line-preserved c = ?
+loop-line-preserved c =
+    let i = c.loop-line.invariant in
+    let laid = c.in_default.ensures.added i.0 i.1 in
+    let step = goes_on c.args.text.now i.0 c.in-Some.line c.next.new.self (defined_statement c.in-Ok.found) ? (sym c.in-Ok.ensures.value) laid.0 in
+    (defined_statement c.in-Ok.found ∷ i.0, laid.1, c.in_default.ensures.within, ?, sym step ∙ (ap (statements_from c.args.text.now i.0) (sym c.in-Some.ensures.steps) ∙ i.4))
 
 pub returns-in-Err : goal.returns-in-Err
-returns-in-Err c = ?
+returns-in-Err c =
+    let i = c.loop-line.invariant in
+    let step = refused_itself c.args.text.now i.0 c.in-Some.line c.next.new.self c.in-Err.cause (sym c.in-Err.ensures.value) in
+    rw c.refused-in-Err.ensures (ap image_by (sym i.4 ∙ (ap (statements_from c.args.text.now i.0) c.in-Some.ensures.steps ∙ step)))
 
 pub returns : goal.returns
-returns c = ?
+returns c =
+    let i = c.loop-line.invariant in
+    elim c.match-next.branch [
+      | in-None w ↦ ?
+      | in-Some+in-Ok-End w ↦ ?
+    ]

@@ -1,7 +1,0 @@
-use Rattle.gpl_asm.proofs.numbers.comma_place.Goals as goal
-
-pub returns-in-Some : goal.returns-in-Some
-returns-in-Some c = ?
-
-pub returns-in-None : goal.returns-in-None
-returns-in-None c = ?
