@@ -6,7 +6,7 @@ ghost use Rattle.gpl_asm.specs.Answers.{Gives};
 
 use crate::error::GplError;
 use crate::layout::Layout;
-use crate::statement::{Statement, read_statement};
+use crate::statement::read_statement;
 use asm_text::{Line, lines};
 use gpl_defs::GplCause;
 use gpl_forms::GromImage;
@@ -30,14 +30,15 @@ pub fn gpl_assemble(alloc: Global, text: &[u8]) -> Result<GplProgram, GplError>
 {
     let mut layout = Layout::new(alloc)?;
     for line in lines(text) {
-        match read_statement(&text[line.span.start..line.span.end]) {
-            Ok(Statement::End) => break,
-            Ok(found) => {
-                if let Err(cause) = layout.add(&found) {
-                    return Err(refused(line, cause));
-                }
-            }
+        let found = match read_statement(&text[line.span.start..line.span.end]) {
+            Ok(found) => found,
             Err(cause) => return Err(refused(line, cause)),
+        };
+        if found.is_end() {
+            break;
+        }
+        if let Err(cause) = layout.add(&found) {
+            return Err(refused(line, cause));
         }
     }
     Ok(GplProgram {

@@ -31,6 +31,18 @@ pub(crate) enum Statement {
     End,
 }
 
+impl Statement {
+    ghost use Rattle.std.specs.Prelude.{◌≡◌, ◌↔◌, IsTrue};
+    ghost use Rattle.gpl_asm.specs.Answers.{defined_statement};
+
+    /// Whether the source ends here.
+    pub(crate) fn is_end(&self) -> bool
+        ensures { IsTrue result ↔ (defined_statement self.now ≡ spec.End) }
+    {
+        matches!(self, Statement::End)
+    }
+}
+
 /// What a line stands for, or why it is refused wherever it stands.
 #[tactic(auto, unfolding(gpl_defs::specs::Statements::statement))]
 pub(crate) fn read_statement(line: &[u8]) -> Result<Statement, GplCause>
