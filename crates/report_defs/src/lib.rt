@@ -1,0 +1,8 @@
+//! What the program reports: its commands and statuses, fault lines and reports. The definitions stand in `specs/`.
+#![tactic(auto)]
+
+mod command;
+mod status;
+
+pub use command::Command;
+pub use status::Status;

@@ -1,0 +1,18 @@
+//! How the program ends.
+
+/// How a command ended. Its number is the program's exit status.
+#[derive(Clone, Copy, Debug, PartialEq, Eq)]
+pub enum Status {
+    /// The report is whole.
+    Done = 0,
+    /// The input is refused.
+    Refused = 1,
+    /// The words of the command line are no command.
+    Usage = 2,
+    /// The input could not be read.
+    ReadFault = 3,
+    /// The report, or a fault line in its place, could not be written whole.
+    WriteFault = 4,
+    /// Memory was wanting.
+    Memory = 5,
+}

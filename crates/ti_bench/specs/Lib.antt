@@ -1,0 +1,5 @@
+pub use Rattle.report_defs.specs.FaultLine
+pub use Rattle.report_defs.specs.Commands
+pub use Rattle.report_defs.specs.Report
+pub mod Run
+pub mod Made

@@ -1,0 +1,57 @@
+//! A workbench for cartridges of the TI-99/4A that are written in GPL.
+#![tactic(auto)]
+
+mod bench;
+mod command;
+mod fault_line;
+mod put;
+mod report;
+mod words;
+
+use crate::bench::bench;
+use crate::words::Words;
+use bench_io::{StdSink, StdSource};
+use report_defs::Status;
+use std::alloc::AllocError;
+use std::env;
+use std::env::Env;
+use std::io::{BufWriter, ErrorKind, Write};
+use std::process::ExitCode;
+
+/// Runs the command that the words of the command line say, over the standard streams.
+fn main(rt: HostRuntime) -> ExitCode {
+    let alloc = rt.alloc();
+    let Ok(words) = command_words(&rt) else {
+        return ExitCode::from(Status::Memory as u8);
+    };
+    let Ok(mut output) = BufWriter::new(alloc, rt.stdout()) else {
+        return ExitCode::from(Status::Memory as u8);
+    };
+    let status = bench(
+        alloc,
+        &words,
+        &mut StdSource::new(rt.stdin()),
+        &mut StdSink::new(&mut output),
+        &mut StdSink::new(rt.stderr()),
+    );
+    match output.flush() {
+        Ok(()) => ExitCode::from(status as u8),
+        Err(_) => ExitCode::from(Status::WriteFault as u8),
+    }
+}
+
+/// The words behind the program's name; or the one word `?`, which is no command, where they cannot be had, as where one
+/// of them is no UTF-8.
+fn command_words<R: Env + AllocGlobal>(rt: &R) -> Result<Words, AllocError> {
+    let mut words = Words::new(rt.alloc());
+    match env::args(rt) {
+        Ok(args) => {
+            for arg in args.skip(1) {
+                words.push(arg.as_bytes())?;
+            }
+        }
+        Err(error) if error.kind() == ErrorKind::OutOfMemory => return Err(AllocError),
+        Err(_) => words.push(b"?")?,
+    }
+    Ok(words)
+}
