@@ -231,3 +231,7 @@ word_placed_in Unmapped m word = m
 
 abbrev pub word_placed : Memory → ℕ → ℕ → Memory
 word_placed m address word = word_placed_in (region address) m word
+
+-- One byte of the scratchpad is set.
+abbrev pub cell_set : Memory → ℕ → ℕ → Memory
+cell_set m number byte = record m { scratchpad = slice_set m.scratchpad number byte }

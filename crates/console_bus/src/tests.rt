@@ -1,0 +1,3 @@
+//! The memory map, worked out by hand.
+
+use crate::Bus;
