@@ -4,7 +4,7 @@ ghost use Rattle.std.specs.Prelude.{◌≡◌, ◌<◌, ◌≤◌, ℕ, ◌+◌,
 ghost use Rattle.console_defs.specs.Words.{high, low, join, even};
 ghost use Rattle.console_defs.specs.Bytes.{HoldsBytes, HoldsZeros, word_at, with_word_at};
 ghost use Rattle.console_defs.specs.Bus.{answer_of, left_by};
-ghost use Rattle.console_defs.specs.Memory.{IsMemory, IsNewMemory, IsLoadable, port_at, port_region, is_port_address, region, port_read, port_written, byte_read_in, byte_read, byte_written_in, byte_written, word_read_in, word_read, word_written_in, word_written, word_placed, cell_set};
+ghost use Rattle.console_defs.specs.Memory.{IsMemory, IsNewMemory, IsLoadable, port_at, port_region, is_port_address, region, port_read, port_written, byte_read_in, byte_read, byte_written_in, byte_written, word_read_in, word_read, word_written_in, word_written, two_bytes_read, two_bytes_written, word_placed, cell_set};
 
 use console_defs::PortStop;
 use grom_counter::Grom;
@@ -59,8 +59,10 @@ impl Bus {
     /// Reads the word that holds an address: the lowest address bit is ignored (TMS9900 data manual, "Registers and
     /// memory"). A port stops it, with the port's address; nothing ever changes.
     #[inline]
+    #[tactic(auto, using(console_defs::proofs::MemoryLaws::read_is_two_bytes))]
     pub fn read_word(&mut self, at: u16) -> Result<u16, PortStop>
         ensures word { answer_of result ≡ word_read self.old at }
+        ensures bytes { answer_of result ≡ two_bytes_read self.old at }
         ensures same { self.new ≡ self.old }
     {
         let at = at / 2 * 2;
@@ -83,8 +85,10 @@ impl Bus {
     /// memory"). A port stops it, with the port's address, and then nothing has changed. A write to the console ROM
     /// changes nothing.
     #[inline]
+    #[tactic(auto, using(console_defs::proofs::MemoryLaws::write_is_two_bytes))]
     pub fn write_word(&mut self, at: u16, word: u16) -> Result<(), PortStop>
         ensures word { left_by result self.new ≡ word_written self.old at word }
+        ensures bytes { left_by result self.new ≡ two_bytes_written self.old at word }
         ensures stopped { OnErr result (self.new ≡ self.old) }
     {
         let at = at / 2 * 2;

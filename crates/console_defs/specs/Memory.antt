@@ -1,6 +1,6 @@
 -- The memory map of the console.
-use Rattle.std.specs.Prelude.{◌≡◌, ◌≤◌, ℕ, ◌+◌, ◌-◌, ◌%◌, Bool, true, false, eqb, nat_lt, List, slice_index, slice_set, Option, Some, None, is_some}
-use Rattle.console_defs.specs.Words.{even}
+use Rattle.std.specs.Prelude.{◌≡◌, ◌≤◌, ℕ, ◌+◌, ◌-◌, ◌%◌, Bool, true, false, eqb, nat_lt, List, slice_index, slice_set, Option, Some, None}
+use Rattle.console_defs.specs.Words.{high, low, join, even}
 use Rattle.console_defs.specs.Bytes.{HoldsBytes, HoldsZeros, word_at, with_word_at}
 use Rattle.console_defs.specs.Vdp.{VdpState, IsVdp, vdp_address_written, vdp_data_written, vdp_data_read, vdp_status_read}
 use Rattle.console_defs.specs.Grom.{GromState, IsGrom, grom_address_written, grom_address_read, grom_data_read}
@@ -80,22 +80,18 @@ port_at address =
           ]
     ]
 
--- One of the eight ports stands at the address.
-abbrev pub is_port_address : ℕ → Bool
-is_port_address address = is_some (port_at address)
-
 -- Where an address leads, with the offset inside it.
 pub data Region : Type 0 where
   Rom : ℕ → Region
   LowExpansion : ℕ → Region
   HighExpansion : ℕ → Region
   Scratchpad : ℕ → Region
-  AtPortOf : Port → Region
+  PortOf : Port → Region
   Unmapped : Region
 
 -- Among the ports, an address that is none of theirs leads nowhere.
 abbrev pub port_region : Option Port → Region
-port_region (Some port) = AtPortOf port
+port_region (Some port) = PortOf port
 port_region None = Unmapped
 
 -- Console ROM at >0000, low expansion at >2000, the scratchpad at >8300, the ports from >8800 on, high expansion at
@@ -124,6 +120,18 @@ region address =
                 ]
           ]
     ]
+
+-- A port stands at the address.
+abbrev pub is_port_region : Region → Bool
+is_port_region (Rom at) = false
+is_port_region (LowExpansion at) = false
+is_port_region (HighExpansion at) = false
+is_port_region (Scratchpad at) = false
+is_port_region (PortOf port) = true
+is_port_region Unmapped = false
+
+abbrev pub is_port_address : ℕ → Bool
+is_port_address address = is_port_region (region address)
 
 -- A byte is read from a port: the byte, and the memory after it.
 -- Editor/Assembler manual, on VDP and GROM access.
@@ -159,7 +167,7 @@ byte_read_in (Rom at) m = (slice_index m.rom at, m)
 byte_read_in (LowExpansion at) m = (slice_index m.low_expansion at, m)
 byte_read_in (HighExpansion at) m = (slice_index m.high_expansion at, m)
 byte_read_in (Scratchpad at) m = (slice_index m.scratchpad at, m)
-byte_read_in (AtPortOf port) m = port_read port m
+byte_read_in (PortOf port) m = port_read port m
 byte_read_in Unmapped m = (0, m)
 
 abbrev pub byte_read : Memory → ℕ → ℕ × Memory
@@ -173,7 +181,7 @@ byte_written_in (Rom at) m byte = m
 byte_written_in (LowExpansion at) m byte = record m { low_expansion = slice_set m.low_expansion at byte }
 byte_written_in (HighExpansion at) m byte = record m { high_expansion = slice_set m.high_expansion at byte }
 byte_written_in (Scratchpad at) m byte = record m { scratchpad = slice_set m.scratchpad at byte }
-byte_written_in (AtPortOf port) m byte = port_written port m byte
+byte_written_in (PortOf port) m byte = port_written port m byte
 byte_written_in Unmapped m byte = m
 
 abbrev pub byte_written : Memory → ℕ → ℕ → Memory
@@ -187,7 +195,7 @@ word_read_in (Rom at) m address = Gives (word_at m.rom at)
 word_read_in (LowExpansion at) m address = Gives (word_at m.low_expansion at)
 word_read_in (HighExpansion at) m address = Gives (word_at m.high_expansion at)
 word_read_in (Scratchpad at) m address = Gives (word_at m.scratchpad at)
-word_read_in (AtPortOf port) m address = AtPort address
+word_read_in (PortOf port) m address = AtPort address
 word_read_in Unmapped m address = Gives 0
 
 abbrev pub word_read : Memory → ℕ → Answer ℕ
@@ -203,7 +211,7 @@ word_written_in (LowExpansion at) m address word =
 word_written_in (HighExpansion at) m address word =
     Gives (record m { high_expansion = with_word_at m.high_expansion at word })
 word_written_in (Scratchpad at) m address word = Gives (record m { scratchpad = with_word_at m.scratchpad at word })
-word_written_in (AtPortOf port) m address word = AtPort address
+word_written_in (PortOf port) m address word = AtPort address
 word_written_in Unmapped m address word = Gives m
 
 abbrev pub word_written : Memory → ℕ → ℕ → Answer Memory
@@ -226,7 +234,7 @@ word_placed_in (Rom at) m word = record m { rom = with_word_at m.rom at word }
 word_placed_in (LowExpansion at) m word = record m { low_expansion = with_word_at m.low_expansion at word }
 word_placed_in (HighExpansion at) m word = record m { high_expansion = with_word_at m.high_expansion at word }
 word_placed_in (Scratchpad at) m word = m
-word_placed_in (AtPortOf port) m word = m
+word_placed_in (PortOf port) m word = m
 word_placed_in Unmapped m word = m
 
 abbrev pub word_placed : Memory → ℕ → ℕ → Memory
@@ -235,3 +243,21 @@ word_placed m address word = word_placed_in (region address) m word
 -- One byte of the scratchpad is set.
 abbrev pub cell_set : Memory → ℕ → ℕ → Memory
 cell_set m number byte = record m { scratchpad = slice_set m.scratchpad number byte }
+
+-- A word access is two byte accesses, at the even address and at the next one, or it stops where the first of them
+-- is at a port. The equations of the regions above say the same.
+-- TMS9900 data manual, "Registers and memory".
+-- Profile: a word access to a port stops.
+abbrev pub two_bytes_read : Memory → ℕ → Answer ℕ
+two_bytes_read m address =
+    elim (is_port_address (even address)) [
+      | true ↦ AtPort (even address)
+      | false ↦ Gives (join (byte_read m (even address)).0 (byte_read m (even address + 1)).0)
+    ]
+
+abbrev pub two_bytes_written : Memory → ℕ → ℕ → Answer Memory
+two_bytes_written m address word =
+    elim (is_port_address (even address)) [
+      | true ↦ AtPort (even address)
+      | false ↦ Gives (byte_written (byte_written m (even address) (high word)) (even address + 1) (low word))
+    ]
