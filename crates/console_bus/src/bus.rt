@@ -75,7 +75,11 @@ impl Bus {
         } else if at < 0x8400 {
             Ok(word_in(&self.scratchpad, (at % 256) as usize))
         } else if at < 0xA000 {
-            if is_port(at) { Err(PortStop(at)) } else { Ok(0) }
+            if is_port(at) {
+                Err(PortStop(at))
+            } else {
+                Ok(0)
+            }
         } else {
             Ok(word_in(&self.high_expansion, (at - 0xA000) as usize))
         }
@@ -103,7 +107,11 @@ impl Bus {
             set_word(&mut self.scratchpad, (at % 256) as usize, word);
             Ok(())
         } else if at < 0xA000 {
-            if is_port(at) { Err(PortStop(at)) } else { Ok(()) }
+            if is_port(at) {
+                Err(PortStop(at))
+            } else {
+                Ok(())
+            }
         } else {
             set_word(&mut self.high_expansion, (at - 0xA000) as usize, word);
             Ok(())
@@ -137,11 +145,9 @@ impl Bus {
     pub fn write_byte(&mut self, at: u16, byte: u8)
         ensures { self.new ≡ byte_written self.old at byte }
     {
-        if at < 0x2000 {
-        } else if at < 0x4000 {
+        if at < 0x2000 {} else if at < 0x4000 {
             self.low_expansion[(at - 0x2000) as usize] = byte;
-        } else if at < 0x8000 {
-        } else if at < 0x8400 {
+        } else if at < 0x8000 {} else if at < 0x8400 {
             self.scratchpad[(at % 256) as usize] = byte;
         } else if at < 0xA000 {
             self.write_port(at, byte);

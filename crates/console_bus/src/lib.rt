@@ -2,7 +2,6 @@
 #![tactic(auto)]
 
 mod bus;
-
 #[cfg(test)]
 mod tests;
 

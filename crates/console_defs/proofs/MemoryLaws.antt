@@ -16,7 +16,6 @@ beside (Scratchpad at) = Scratchpad (at + 1)
 beside (PortOf port) = Unmapped
 beside Unmapped = Unmapped
 
-
 -- A number is below a limit or not.
 not_below : (limit address : ℕ) → limit ≤ address → nat_lt address limit ≡ false
 not_below limit address from = grind arith
@@ -83,28 +82,27 @@ region_beside address =
     below_or_not at 0x2000
     (λ below. rw (region_rom at below, region_rom (at + 1) (omega arith)) refl)
     (λ from_2000.
-      below_or_not at 0x4000
-      (λ below. rw (region_low at from_2000 below, region_low (at + 1) (omega arith) (omega arith)) (ap LowExpansion (omega arith)))
-      (λ from_4000.
-        below_or_not at 0x8000
-        (λ below. rw (region_gap at from_4000 below, region_gap (at + 1) (omega arith) (omega arith)) refl)
-        (λ from_8000.
-          below_or_not at 0x8400
-          (λ below. rw (region_scratchpad at from_8000 below, region_scratchpad (at + 1) (omega arith) (omega arith)) (ap Scratchpad (omega arith)))
-          (λ from_8400.
-            below_or_not at 0xA000
-            (λ below.
-              rw (region_ports at from_8400 below, region_ports (at + 1) (omega arith) (omega arith), odd_is_no_port address) (beside_port (port_at at)))
-            (λ from_A000.
-              rw (region_high at from_A000, region_high (at + 1) (omega arith)) (ap HighExpansion (omega arith)))))))
-
+    below_or_not at 0x4000
+    (λ below. rw (region_low at from_2000 below, region_low (at + 1) (omega arith) (omega arith)) (ap LowExpansion (omega arith)))
+    (λ from_4000.
+    below_or_not at 0x8000
+    (λ below. rw (region_gap at from_4000 below, region_gap (at + 1) (omega arith) (omega arith)) refl)
+    (λ from_8000.
+    below_or_not at 0x8400
+    (λ below. rw (region_scratchpad at from_8000 below, region_scratchpad (at + 1) (omega arith) (omega arith)) (ap Scratchpad (omega arith)))
+    (λ from_8400.
+    below_or_not at 0xA000
+    (λ below.
+    rw (region_ports at from_8400 below, region_ports (at + 1) (omega arith) (omega arith), odd_is_no_port address) (beside_port (port_at at)))
+    (λ from_A000.
+    rw (region_high at from_A000, region_high (at + 1) (omega arith)) (ap HighExpansion (omega arith)))))))
 
 read_by_region : (place : Region) (m : Memory) (address : ℕ) →
-  word_read_in place m address
-  ≡ elim (is_port_region place) [
-    | true ↦ AtPort address
-    | false ↦ Gives (join (byte_read_in place m).0 (byte_read_in (beside place) m).0)
-  ]
+    word_read_in place m address
+    ≡ elim (is_port_region place) [
+      | true ↦ AtPort address
+      | false ↦ Gives (join (byte_read_in place m).0 (byte_read_in (beside place) m).0)
+    ]
 read_by_region (Rom at) m address = refl
 read_by_region (LowExpansion at) m address = refl
 read_by_region (HighExpansion at) m address = refl
@@ -116,19 +114,19 @@ read_by_region Unmapped m address = refl
 pub read_is_two_bytes : (m : Memory) (address : ℕ) → word_read m address ≡ two_bytes_read m address
 read_is_two_bytes m address =
     let with_second : Region → Answer ℕ =
-      λ second.
-        elim (is_port_address (even address)) [
-          | true ↦ AtPort (even address)
-          | false ↦ Gives (join (byte_read m (even address)).0 (byte_read_in second m).0)
-        ] in
+    λ second.
+    elim (is_port_address (even address)) [
+      | true ↦ AtPort (even address)
+      | false ↦ Gives (join (byte_read m (even address)).0 (byte_read_in second m).0)
+    ] in
     read_by_region (region (even address)) m (even address) ∙ ap with_second (sym (region_beside address))
 
 write_by_region : (place : Region) (m : Memory) (address word : ℕ) →
-  word_written_in place m address word
-  ≡ elim (is_port_region place) [
-    | true ↦ AtPort address
-    | false ↦ Gives (byte_written_in (beside place) (byte_written_in place m (high word)) (low word))
-  ]
+    word_written_in place m address word
+    ≡ elim (is_port_region place) [
+      | true ↦ AtPort address
+      | false ↦ Gives (byte_written_in (beside place) (byte_written_in place m (high word)) (low word))
+    ]
 write_by_region (Rom at) m address word = refl
 write_by_region (LowExpansion at) m address word = refl
 write_by_region (HighExpansion at) m address word = refl
@@ -140,11 +138,11 @@ write_by_region Unmapped m address word = refl
 pub write_is_two_bytes : (m : Memory) (address word : ℕ) → word_written m address word ≡ two_bytes_written m address word
 write_is_two_bytes m address word =
     let with_second : Region → Answer Memory =
-      λ second.
-        elim (is_port_address (even address)) [
-          | true ↦ AtPort (even address)
-          | false ↦ Gives (byte_written_in second (byte_written m (even address) (high word)) (low word))
-        ] in
+    λ second.
+    elim (is_port_address (even address)) [
+      | true ↦ AtPort (even address)
+      | false ↦ Gives (byte_written_in second (byte_written m (even address) (high word)) (low word))
+    ] in
     write_by_region (region (even address)) m (even address) word ∙ ap with_second (sym (region_beside address))
 
 -- The same memory with other states of its ports.
@@ -152,7 +150,7 @@ abbrev pub with_ports : Memory → VdpState → GromState → Memory
 with_ports m vdp grom = record m { vdp = vdp; grom = grom }
 
 read_past_ports : (place : Region) (m : Memory) (vdp : VdpState) (grom : GromState) (address : ℕ) →
-  word_read_in place (with_ports m vdp grom) address ≡ word_read_in place m address
+    word_read_in place (with_ports m vdp grom) address ≡ word_read_in place m address
 read_past_ports (Rom at) m vdp grom address = refl
 read_past_ports (LowExpansion at) m vdp grom address = refl
 read_past_ports (HighExpansion at) m vdp grom address = refl
@@ -162,12 +160,12 @@ read_past_ports Unmapped m vdp grom address = refl
 
 -- What a word access does is independent of the ports: it gives the same and leaves them, whatever they are.
 pub word_read_past_ports : (m : Memory) (vdp : VdpState) (grom : GromState) (address : ℕ) →
-  word_read (with_ports m vdp grom) address ≡ word_read m address
+    word_read (with_ports m vdp grom) address ≡ word_read m address
 word_read_past_ports m vdp grom address = read_past_ports (region (even address)) m vdp grom (even address)
 
 write_past_ports : (place : Region) (m : Memory) (vdp : VdpState) (grom : GromState) (address word : ℕ) →
-  word_written_in place (with_ports m vdp grom) address word
-  ≡ (word_written_in place m address word >>= λ left. Gives (with_ports left vdp grom))
+    word_written_in place (with_ports m vdp grom) address word
+    ≡ (word_written_in place m address word >>= λ left. Gives (with_ports left vdp grom))
 write_past_ports (Rom at) m vdp grom address word = refl
 write_past_ports (LowExpansion at) m vdp grom address word = refl
 write_past_ports (HighExpansion at) m vdp grom address word = refl
@@ -176,7 +174,7 @@ write_past_ports (PortOf port) m vdp grom address word = refl
 write_past_ports Unmapped m vdp grom address word = refl
 
 pub word_written_past_ports : (m : Memory) (vdp : VdpState) (grom : GromState) (address word : ℕ) →
-  word_written (with_ports m vdp grom) address word
-  ≡ (word_written m address word >>= λ left. Gives (with_ports left vdp grom))
+    word_written (with_ports m vdp grom) address word
+    ≡ (word_written m address word >>= λ left. Gives (with_ports left vdp grom))
 word_written_past_ports m vdp grom address word =
     write_past_ports (region (even address)) m vdp grom (even address) word

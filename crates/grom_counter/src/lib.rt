@@ -2,7 +2,6 @@
 #![tactic(auto)]
 
 mod grom;
-
 #[cfg(test)]
 mod tests;
 

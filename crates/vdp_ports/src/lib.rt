@@ -1,9 +1,8 @@
 //! The video processor of the console, as far as the processor's four ports reach it.
 #![tactic(auto)]
 
-mod vdp;
-
 #[cfg(test)]
 mod tests;
+mod vdp;
 
 pub use vdp::Vdp;
