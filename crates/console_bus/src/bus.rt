@@ -66,22 +66,13 @@ impl Bus {
         ensures same { self.new ≡ self.old }
     {
         let at = at / 2 * 2;
-        if at < 0x2000 {
-            Ok(word_in(&self.rom, at as usize))
-        } else if at < 0x4000 {
-            Ok(word_in(&self.low_expansion, (at - 0x2000) as usize))
-        } else if at < 0x8000 {
-            Ok(0)
-        } else if at < 0x8400 {
-            Ok(word_in(&self.scratchpad, (at % 256) as usize))
-        } else if at < 0xA000 {
-            if is_port(at) {
-                Err(PortStop(at))
-            } else {
-                Ok(0)
-            }
-        } else {
-            Ok(word_in(&self.high_expansion, (at - 0xA000) as usize))
+        match at {
+            0x0000..=0x1FFF => Ok(word_in(&self.rom, at as usize)),
+            0x2000..=0x3FFF => Ok(word_in(&self.low_expansion, (at - 0x2000) as usize)),
+            0x8000..=0x83FF => Ok(word_in(&self.scratchpad, (at % 256) as usize)),
+            0xA000..=0xFFFF => Ok(word_in(&self.high_expansion, (at - 0xA000) as usize)),
+            _ if is_port(at) => Err(PortStop(at)),
+            _ => Ok(0),
         }
     }
 
@@ -96,26 +87,14 @@ impl Bus {
         ensures stopped { OnErr result (self.new ≡ self.old) }
     {
         let at = at / 2 * 2;
-        if at < 0x2000 {
-            Ok(())
-        } else if at < 0x4000 {
-            set_word(&mut self.low_expansion, (at - 0x2000) as usize, word);
-            Ok(())
-        } else if at < 0x8000 {
-            Ok(())
-        } else if at < 0x8400 {
-            set_word(&mut self.scratchpad, (at % 256) as usize, word);
-            Ok(())
-        } else if at < 0xA000 {
-            if is_port(at) {
-                Err(PortStop(at))
-            } else {
-                Ok(())
-            }
-        } else {
-            set_word(&mut self.high_expansion, (at - 0xA000) as usize, word);
-            Ok(())
+        match at {
+            0x2000..=0x3FFF => set_word(&mut self.low_expansion, (at - 0x2000) as usize, word),
+            0x8000..=0x83FF => set_word(&mut self.scratchpad, (at % 256) as usize, word),
+            0xA000..=0xFFFF => set_word(&mut self.high_expansion, (at - 0xA000) as usize, word),
+            _ if is_port(at) => return Err(PortStop(at)),
+            _ => {}
         }
+        Ok(())
     }
 
     /// Reads the byte at an address; a port may change by it. A port for writing, and an address that leads
@@ -124,18 +103,12 @@ impl Bus {
     pub fn read_byte(&mut self, at: u16) -> u8
         ensures { (result, self.new) ≡ byte_read self.old at }
     {
-        if at < 0x2000 {
-            self.rom[at as usize]
-        } else if at < 0x4000 {
-            self.low_expansion[(at - 0x2000) as usize]
-        } else if at < 0x8000 {
-            0
-        } else if at < 0x8400 {
-            self.scratchpad[(at % 256) as usize]
-        } else if at < 0xA000 {
-            self.read_port(at)
-        } else {
-            self.high_expansion[(at - 0xA000) as usize]
+        match at {
+            0x0000..=0x1FFF => self.rom[at as usize],
+            0x2000..=0x3FFF => self.low_expansion[(at - 0x2000) as usize],
+            0x8000..=0x83FF => self.scratchpad[(at % 256) as usize],
+            0xA000..=0xFFFF => self.high_expansion[(at - 0xA000) as usize],
+            _ => self.read_port(at),
         }
     }
 
@@ -145,14 +118,11 @@ impl Bus {
     pub fn write_byte(&mut self, at: u16, byte: u8)
         ensures { self.new ≡ byte_written self.old at byte }
     {
-        if at < 0x2000 {} else if at < 0x4000 {
-            self.low_expansion[(at - 0x2000) as usize] = byte;
-        } else if at < 0x8000 {} else if at < 0x8400 {
-            self.scratchpad[(at % 256) as usize] = byte;
-        } else if at < 0xA000 {
-            self.write_port(at, byte);
-        } else {
-            self.high_expansion[(at - 0xA000) as usize] = byte;
+        match at {
+            0x2000..=0x3FFF => self.low_expansion[(at - 0x2000) as usize] = byte,
+            0x8000..=0x83FF => self.scratchpad[(at % 256) as usize] = byte,
+            0xA000..=0xFFFF => self.high_expansion[(at - 0xA000) as usize] = byte,
+            _ => self.write_port(at, byte),
         }
     }
 
@@ -163,12 +133,10 @@ impl Bus {
         requires loadable { IsLoadable at }
         ensures { self.new ≡ word_placed self.old at word }
     {
-        if at < 0x2000 {
-            set_word(&mut self.rom, at as usize, word);
-        } else if at < 0x4000 {
-            set_word(&mut self.low_expansion, (at - 0x2000) as usize, word);
-        } else {
-            set_word(&mut self.high_expansion, (at - 0xA000) as usize, word);
+        match at {
+            0x0000..=0x1FFF => set_word(&mut self.rom, at as usize, word),
+            0x2000..=0x3FFF => set_word(&mut self.low_expansion, (at - 0x2000) as usize, word),
+            _ => set_word(&mut self.high_expansion, (at - 0xA000) as usize, word),
         }
     }
 

@@ -2,7 +2,7 @@
 
 ghost use Rattle.std.specs.Prelude.{◌≡◌, ◌<◌, ℕ, ◌+◌, ◌*◌, ◌/◌, ◌%◌, length, slice_index, slice_set, IfOk, IfSome};
 ghost use Rattle.console_defs.specs.Bytes.{HoldsZeros};
-ghost use Rattle.console_defs.specs.Vdp.{IsVdp, IsNewVdp, is_vdp_idle, vdp_fetched_ahead, pair_kind, pair_done, vdp_address_written, vdp_data_written, vdp_data_read, vdp_status_read};
+ghost use Rattle.console_defs.specs.Vdp.{IsVdp, IsNewVdp, is_vdp_idle, next_in_vdp, vdp_fetched_ahead, pair_kind, pair_address, pair_done, vdp_address_written, vdp_data_written, vdp_data_read, vdp_status_read};
 
 use std::alloc::{AllocError, Global};
 use std::marker::Model;
@@ -65,7 +65,7 @@ impl Vdp {
         ensures { self.new ≡ vdp_data_written self.old byte }
     {
         self.memory[self.address as usize] = byte;
-        self.address = (self.address + 1) % 16_384;
+        self.address = next_address(self.address);
         self.fetched = byte;
         self.held = None;
     }
@@ -148,14 +148,20 @@ impl Vdp {
     {
         self.held = None;
         match second / 64 {
-            0 => {
-                self.address = 256 * (second as u16 % 64) + first as u16;
-                self.fetch_ahead();
-            }
-            1 => self.address = 256 * (second as u16 % 64) + first as u16,
+            0 => self.set_read_address(pair_address(first, second)),
+            1 => self.address = pair_address(first, second),
             2 => self.registers[(second % 8) as usize] = first,
             _ => {}
         }
+    }
+
+    /// Sets an address to read from: the byte there is fetched ahead, and the address counts up.
+    fn set_read_address(&mut self, address: u16)
+        requires { address < 16384 }
+        ensures { self.new ≡ vdp_fetched_ahead (record self.old { address = address }) }
+    {
+        self.address = address;
+        self.fetch_ahead();
     }
 
     /// Fetches the byte at the address ahead; the address counts up.
@@ -164,8 +170,27 @@ impl Vdp {
         ensures { self.new ≡ vdp_fetched_ahead self.old }
     {
         self.fetched = self.memory[self.address as usize];
-        self.address = (self.address + 1) % 16_384;
+        self.address = next_address(self.address);
     }
+}
+
+/// The address of a pair: the first byte is its low half, and the low six bits of the second are its high half.
+#[inline]
+fn pair_address(first: u8, second: u8) -> u16
+    ensures address { result ≡ pair_address first second }
+    ensures limit { result < 16384 }
+{
+    256 * (second as u16 % 64) + first as u16
+}
+
+/// The address after an address; it wraps at 16,384.
+#[inline]
+fn next_address(address: u16) -> u16
+    requires { address < 16384 }
+    ensures next { result ≡ next_in_vdp address }
+    ensures limit { result < 16384 }
+{
+    (address + 1) % 16_384
 }
 
 /// A list of so many zeros.
