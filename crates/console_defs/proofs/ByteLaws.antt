@@ -1,5 +1,5 @@
 -- Laws about lists of bytes.
-use Rattle.std.proofs.Common.{◌≡◌, ℕ, replicate, get_or, length, refl, arith}
+use Rattle.std.proofs.Common.{ℕ, replicate, arith}
 use Rattle.std.proofs.lemmas.Grind.{common_steps}
 use Rattle.console_defs.specs.Bytes.{HoldsZeros}
 

@@ -1,5 +1,5 @@
 -- Laws about the address counter of the GROMs.
-use Rattle.std.proofs.Common.{◌≡◌, ◌<◌, ℕ, ◌+◌, ◌*◌, ◌/◌, ◌%◌, arith}
+use Rattle.std.proofs.Common.{◌≡◌, ◌<◌, ℕ, ◌/◌, arith}
 use Rattle.console_defs.specs.Grom.{next_in_grom, previous_in_grom}
 
 -- Each is the inverse of the other.

@@ -1,5 +1,5 @@
 -- Laws about words and their bytes.
-use Rattle.std.proofs.Common.{◌≡◌, ◌<◌, ℕ, ◌+◌, ◌*◌, ◌/◌, ◌%◌, arith}
+use Rattle.std.proofs.Common.{◌≡◌, ◌<◌, ℕ, arith}
 use Rattle.console_defs.specs.Words.{high, low, join, even, plus}
 
 -- The bytes of the word of two bytes.

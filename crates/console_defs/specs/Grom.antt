@@ -1,5 +1,5 @@
 -- The GROMs of the console: their bytes, their common address counter and their ports.
-use Rattle.std.specs.Prelude.{◌≡◌, ◌<◌, ℕ, ◌+◌, ◌*◌, ◌/◌, ◌%◌, Bool, true, false, not, List, slice_index}
+use Rattle.std.specs.Prelude.{◌<◌, ℕ, ◌+◌, ◌*◌, ◌/◌, ◌%◌, Bool, true, false, not, List, slice_index}
 use Rattle.console_defs.specs.Words.{high, low, join}
 use Rattle.console_defs.specs.Bytes.{HoldsBytes}
 
