@@ -1,0 +1,59 @@
+//! The characters of source text.
+
+ghost use Rattle.std.specs.Prelude.{◌≡◌};
+ghost use Rattle.source_defs.specs.Characters as spec;
+ghost use Rattle.source_defs.specs.Names as names;
+
+pub(crate) fn is_line_feed(byte: u8) -> bool
+    ensures { result ≡ spec.is_line_feed byte }
+{
+    byte == b'\n'
+}
+
+pub(crate) fn is_carriage_return(byte: u8) -> bool
+    ensures { result ≡ spec.is_carriage_return byte }
+{
+    byte == b'\r'
+}
+
+pub(crate) fn is_blank(byte: u8) -> bool
+    ensures { result ≡ spec.is_blank byte }
+{
+    byte == b' ' || byte == b'\t'
+}
+
+pub(crate) fn is_quote(byte: u8) -> bool
+    ensures { result ≡ spec.is_quote byte }
+{
+    byte == b'\''
+}
+
+pub(crate) fn is_asterisk(byte: u8) -> bool
+    ensures { result ≡ spec.is_asterisk byte }
+{
+    byte == b'*'
+}
+
+pub(crate) fn is_letter(byte: u8) -> bool
+    ensures { result ≡ spec.is_letter byte }
+{
+    byte.is_ascii_alphabetic()
+}
+
+pub(crate) fn is_letter_or_digit(byte: u8) -> bool
+    ensures { result ≡ names.is_letter_or_digit byte }
+{
+    byte.is_ascii_alphanumeric()
+}
+
+pub(crate) fn is_printed(byte: u8) -> bool
+    ensures { result ≡ names.is_printed byte }
+{
+    byte.is_ascii_graphic()
+}
+
+pub(crate) fn upper_case(byte: u8) -> u8
+    ensures { result ≡ spec.upper_case byte }
+{
+    byte.to_ascii_uppercase()
+}

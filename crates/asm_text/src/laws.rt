@@ -1,0 +1,20 @@
+//! Laws of the definitions that the contracts of this crate cite.
+
+ghost use Rattle.source_defs.specs.Least.{LeastPlacesAreLeast};
+ghost use Rattle.source_defs.specs.LineLaw.{LinesAreLines};
+ghost use Rattle.source_defs.specs.FieldLaw.{FieldsStandApart};
+
+/// A place that is defined as the least with a property is the least with it.
+pub fn least_places()
+    ensures { LeastPlacesAreLeast }
+{}
+
+/// The lines of a text, each with its ending, are the text, and no line holds an ending.
+pub fn lines_of_a_text()
+    ensures { LinesAreLines }
+{}
+
+/// Blanks stand between the fields of a line, and none in a field but in an operand field's quotes.
+pub fn fields_of_a_line()
+    ensures { FieldsStandApart }
+{}

@@ -1,0 +1,23 @@
+//! Source text: its lines, the fields of a line, and names.
+#![tactic(auto)]
+
+mod characters;
+mod laws;
+mod line_fields;
+mod line_iter;
+mod name;
+mod places;
+mod split;
+#[cfg(test)]
+mod tests;
+mod text;
+mod words;
+
+pub use crate::laws::{fields_of_a_line, least_places, lines_of_a_text};
+pub use crate::line_fields::Fields;
+pub use crate::line_iter::Lines;
+pub use crate::name::Name;
+pub use crate::split::fields;
+pub use crate::text::lines;
+pub use crate::words::is_word;
+pub use source_defs::{Line, Span, TextError};

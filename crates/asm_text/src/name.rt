@@ -1,0 +1,80 @@
+//! Names of places and values.
+
+ghost use Rattle.std.specs.Prelude.{◌≡◌, ◌≤◌, ◌-◌, ◌++◌, Some, None, true, if◌then◌else◌, length, replicate};
+ghost use Rattle.source_defs.specs.Names.{is_kept_name, all_printed};
+
+use crate::characters::is_printed;
+use std::marker::Model;
+
+/// The most bytes that a name has.
+pub(crate) const LONGEST_NAME: usize = 6;
+
+/// A name: one to six printed characters other than the space, from >21 to >7E.
+#[derive(Clone, Copy, PartialEq, Eq, PartialOrd, Ord, Hash, Debug)]
+pub struct Name {
+    bytes: [u8; LONGEST_NAME],
+    // The bytes after these are 0.
+    len: usize,
+}
+
+impl Model for Name {
+    ghost use Rattle.std.specs.Prelude.{ℕ, List, ◌++◌, ◌-◌, length, take, replicate};
+    ghost use Rattle.asm_text.specs.Padding.{IsPadded, padded_again};
+
+    ghost Value = { List ℕ };
+
+    ghost view = { λ name. take name.len name.bytes };
+
+    ghost invariant = { λ name. IsPadded name.bytes name.len };
+
+    ghost inverse = { λ name. record { bytes = name ++ replicate (6 - length name) 0; len = length name } };
+
+    ghost inverse_ok = { λ a h. padded_again (λ bytes len. record { bytes = bytes; len = len }) a.bytes a.len h };
+}
+
+impl Name {
+    /// The name with these bytes, or `None` where they are no name: too few, too many, a blank, a
+    /// control character or a byte above >7E.
+    pub fn read(bytes: &[u8]) -> Option<Name>
+        ensures { result ≡ (if is_kept_name bytes.now then Some bytes.now else None) }
+    {
+        if !is_kept_name(bytes) {
+            return None;
+        }
+        Some(Name {
+            bytes: padded(bytes),
+            len: bytes.len(),
+        })
+    }
+
+    /// The bytes of the name.
+    pub fn as_bytes(&self) -> &[u8]
+        ensures value { result.now ≡ self.now }
+        ensures kept { is_kept_name self.now ≡ true }
+    {
+        &self.bytes[..self.len]
+    }
+}
+
+/// Whether the bytes are one to six printed characters other than the space.
+fn is_kept_name(bytes: &[u8]) -> bool
+    ensures { result ≡ is_kept_name bytes.now }
+{
+    !bytes.is_empty() && bytes.len() <= LONGEST_NAME && all_printed(bytes)
+}
+
+fn all_printed(bytes: &[u8]) -> bool
+    ensures { result ≡ all_printed bytes.now }
+{
+    bytes.iter().all(|&byte| is_printed(byte))
+}
+
+/// The bytes, followed by as many 0 bytes as make six.
+fn padded(bytes: &[u8]) -> [u8; LONGEST_NAME]
+    requires { length bytes.now ≤ 6 }
+    ensures { result ≡ bytes.now ++ replicate (6 - length bytes.now) 0 }
+{
+    let mut padded = [0; LONGEST_NAME];
+    padded[..bytes.len()].copy_from_slice(bytes);
+    padded
+}

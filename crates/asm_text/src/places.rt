@@ -1,0 +1,69 @@
+//! The places in a text or a line where something begins or ends.
+
+ghost use Rattle.std.specs.Prelude.{◌≡◌, ◌≤◌, length};
+ghost use Rattle.source_defs.specs.Fields as spec;
+ghost use Rattle.source_defs.specs.Lines.{feed_place};
+
+use crate::characters::{is_blank, is_line_feed, is_quote};
+
+/// From a place on, the first line feed, or the text's end.
+#[tactic(auto, using(source_defs::proofs::LeastLaws::leasts))]
+pub(crate) fn feed_place(text: &[u8], from: usize) -> usize
+    requires { from ≤ length text.now }
+    ensures { result ≡ feed_place text.now from }
+{
+    for at in from..text.len() {
+        if is_line_feed(text[at]) {
+            return at;
+        }
+    }
+    text.len()
+}
+
+/// From a place on, the first byte that is no blank, or the line's end.
+#[tactic(auto, using(source_defs::proofs::LeastLaws::leasts))]
+pub(crate) fn word_start(line: &[u8], from: usize) -> usize
+    requires { from ≤ length line.now }
+    ensures { result ≡ spec.word_start line.now from }
+{
+    for at in from..line.len() {
+        if !is_blank(line[at]) {
+            return at;
+        }
+    }
+    line.len()
+}
+
+/// From a place on, the first blank, or the line's end.
+#[tactic(auto, using(source_defs::proofs::LeastLaws::leasts, source_defs::proofs::LeastLaws::least_bounds))]
+pub(crate) fn word_end(line: &[u8], from: usize) -> usize
+    requires { from ≤ length line.now }
+    ensures place { result ≡ spec.word_end line.now from }
+    ensures within { result ≤ length line.now }
+{
+    for at in from..line.len() {
+        if is_blank(line[at]) {
+            return at;
+        }
+    }
+    line.len()
+}
+
+/// The end of an operand field: the first blank outside quotes, or the line's end.
+#[tactic(auto, using(source_defs::proofs::LeastLaws::leasts, source_defs::proofs::Quotes::quoting))]
+pub(crate) fn operand_end(line: &[u8], start: usize) -> usize
+    requires { start ≤ length line.now }
+    ensures { result ≡ spec.operand_end line.now start }
+{
+    let mut quoted = false;
+    for at in start..line.len() {
+        let byte = line[at];
+        if is_blank(byte) && !quoted {
+            return at;
+        }
+        if is_quote(byte) {
+            quoted = !quoted;
+        }
+    }
+    line.len()
+}

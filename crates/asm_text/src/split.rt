@@ -1,0 +1,107 @@
+//! A line as fields.
+
+ghost use Rattle.std.specs.Prelude.{◌≡◌, ◌≤◌, ◌<◌, ◌↔◌, Some, None, length, take, map, IfOk, IfSome, if◌then◌else◌};
+ghost use Rattle.source_defs.specs.Fields as spec;
+ghost use Rattle.source_defs.specs.Characters.{upper_case};
+ghost use Rattle.source_defs.specs.Names.{is_name, IsUpperCaseName};
+ghost use Rattle.asm_text.specs.GivenFields.{defined_fields, defined_answer, FieldsLieInside};
+
+use crate::characters::{is_asterisk, is_blank, upper_case};
+use crate::line_fields::Fields;
+use crate::name::{LONGEST_NAME, Name};
+use crate::places::{operand_end, word_end, word_start};
+use crate::words::is_name;
+use source_defs::{Span, TextError};
+
+/// The most bytes that a line has.
+const LONGEST_LINE: usize = 256;
+
+/// The fields of a line: a label from column 1 on, the operation, and the operand field up to a blank
+/// outside quotes, apart by blanks (Editor/Assembler manual, "Source Statement Format"). A blank line,
+/// and one with an asterisk in column 1, has none.
+///
+/// `LineTooLong` comes for more than 256 bytes, and only then. `BadLabel` comes where column 1 holds
+/// neither a blank nor an asterisk and what stands there up to a blank is no name, and only then.
+#[tactic(auto, using(source_defs::proofs::FieldLaws::no_comment), unfolding(source_defs::specs::Fields::fields))]
+pub fn fields(line: &[u8]) -> Result<Fields, TextError>
+    ensures value { defined_answer result ≡ spec.fields line.now }
+    ensures too_long { (result ≡ Err TextError.LineTooLong) ↔ (spec.longest_line < length line.now) }
+    ensures bad_label { (result ≡ Err TextError.BadLabel) ↔ spec.HasBadLabel line.now }
+    ensures inside { IfOk result (FieldsLieInside line.now) }
+    ensures names { IfOk result (λ found. IfSome found.label IsUpperCaseName) }
+{
+    if line.len() > LONGEST_LINE {
+        return Err(TextError::LineTooLong);
+    }
+    if is_comment(line) {
+        return Ok(Fields {
+            label: None,
+            operation: None,
+            operands: Span { start: 0, end: 0 },
+        });
+    }
+    if is_blank(line[0]) {
+        return Ok(fields_after(line, None, 0));
+    }
+    let end = word_end(line, 0);
+    match label(&line[..end]) {
+        Some(name) => Ok(fields_after(line, Some(name), end)),
+        None => Err(TextError::BadLabel),
+    }
+}
+
+/// Whether a line is blank or has an asterisk in column 1.
+fn is_comment(line: &[u8]) -> bool
+    ensures { result ≡ spec.is_comment line.now }
+{
+    word_start(line, 0) == line.len() || is_asterisk(line[0])
+}
+
+/// The fields of a line whose label, if it has one, ends at a place.
+#[tactic(auto, using(source_defs::proofs::LeastLaws::least_bounds))]
+fn fields_after(line: &[u8], label: Option<Name>, from: usize) -> Fields
+    requires { from ≤ length line.now }
+    ensures value { defined_fields result ≡ spec.fields_after line.now label from }
+    ensures inside { FieldsLieInside line.now result }
+{
+    let start = word_start(line, from);
+    let end = word_end(line, start);
+    let operands = word_start(line, end);
+    Fields {
+        label,
+        operation: if start < line.len() {
+            Some(Span { start, end })
+        } else {
+            None
+        },
+        operands: Span {
+            start: operands,
+            end: operand_end(line, operands),
+        },
+    }
+}
+
+/// The name in a label field, in upper case.
+#[tactic(auto, using(source_defs::proofs::FieldLaws::upper_case_kept, source_defs::proofs::FieldLaws::upper_case_name))]
+fn label(field: &[u8]) -> Option<Name>
+    ensures value { result ≡ (if is_name field.now then Some (map upper_case field.now) else None) }
+    ensures names { IfSome result IsUpperCaseName }
+{
+    if !is_name(field) {
+        return None;
+    }
+    let letters = in_upper_case(field);
+    Name::read(&letters[..field.len()])
+}
+
+/// The letters of a label field in upper case, followed by other bytes.
+fn in_upper_case(field: &[u8]) -> [u8; LONGEST_NAME]
+    requires { length field.now ≤ 6 }
+    ensures { take (length field.now) result ≡ map upper_case field.now }
+{
+    let mut letters = [0; LONGEST_NAME];
+    for (at, &byte) in field.iter().enumerate() {
+        letters[at] = upper_case(byte);
+    }
+    letters
+}

@@ -1,0 +1,32 @@
+-- What a source has left, what a sink holds, and their counts.
+use Rattle.std.specs.Prelude.{◌≡◌, ℕ, List, [], ◌++◌, take, Option, IfSome}
+use Rattle.std.specs.Option.{option_map}
+
+-- a source: the bytes that are left, where it tells them; how many calls of `take` were made, how many bytes they gave,
+-- and how many of them failed
+pub record SourceState : Type 0 where
+  pub left : Option (List ℕ)
+  pub calls : ℕ
+  pub taken : ℕ
+  pub faults : ℕ
+
+-- a sink: the bytes that it holds, where it tells them, and how many calls of `put` failed
+pub record SinkState : Type 0 where
+  pub held : Option (List ℕ)
+  pub faults : ℕ
+
+-- what was left before: these bytes, and then what is left now; a source that tells its bytes goes on telling them
+abbrev pub Gave : Option (List ℕ) → Option (List ℕ) → List ℕ → Type 0
+Gave old new bytes = old ≡ option_map (λ rest. bytes ++ rest) new
+
+-- none is left, where the source tells its bytes
+abbrev pub IsAtEnd : Option (List ℕ) → Type 0
+IsAtEnd left = IfSome left (λ rest. rest ≡ [])
+
+-- what is held now: what was held before, and then these bytes
+abbrev pub Grew : Option (List ℕ) → Option (List ℕ) → List ℕ → Type 0
+Grew old new bytes = new ≡ option_map (λ held. held ++ bytes) old
+
+-- what is held now: what was held before, and then a front of these bytes
+abbrev pub GrewByPrefix : Option (List ℕ) → Option (List ℕ) → List ℕ → Type 0
+GrewByPrefix old new bytes = (count : ℕ) × Grew old new (take count bytes)

@@ -1,0 +1,21 @@
+//! The outside of the workbench: where bytes come from and where they go, with counted faults.
+#![tactic(auto)]
+
+mod failed;
+mod memory;
+mod sink;
+mod source;
+mod std_io;
+mod steady;
+mod whole;
+
+pub use failed::Failed;
+pub use memory::{MemSink, MemSource};
+pub use sink::Sink;
+pub use source::Source;
+pub use std_io::{StdSink, StdSource};
+pub use steady::{SteadySink, SteadySource};
+pub use whole::{ReadError, read_all};
+
+#[cfg(test)]
+mod tests;

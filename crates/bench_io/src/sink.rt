@@ -1,0 +1,23 @@
+ghost use Rattle.std.specs.Prelude.{◌≤◌, OnOk, OnErr};
+ghost use Rattle.bench_io.specs.Counts.{Rose};
+ghost use Rattle.bench_io.specs.Stream.{SinkState, Grew, GrewByPrefix};
+
+use crate::Failed;
+
+/// Where bytes go, one piece after the other.
+pub trait Sink {
+    /// The bytes that it holds, where the sink tells them, and the count of faults, which does not fall.
+    ghost state: { Self → SinkState };
+
+    /// Appends all of `bytes`.
+    ///
+    /// # Errors
+    /// `Failed` comes only where the count of faults rose in this call. A front of `bytes` was then appended, which may
+    /// be empty or all of it.
+    fn put(&mut self, bytes: &[u8]) -> Result<(), Failed>
+        ensures put { OnOk result (Grew (state self.old).held (state self.new).held bytes.now) }
+        ensures failed { OnErr result (GrewByPrefix (state self.old).held (state self.new).held bytes.now) }
+
+        ensures faults { (state self.old).faults ≤ (state self.new).faults }
+        ensures cause { OnErr result (Rose (state self.old).faults (state self.new).faults) };
+}

@@ -1,0 +1,33 @@
+ghost use Rattle.std.specs.Prelude.{◌≡◌, ◌<◌, ◌≤◌, length, take, IfOk, OnErr};
+ghost use Rattle.bench_io.specs.Counts.{raised, Rose};
+ghost use Rattle.bench_io.specs.Stream.{SourceState, Gave, IsAtEnd};
+
+use crate::Failed;
+
+/// Where bytes come from, one piece after the other.
+pub trait Source {
+    /// The bytes that are left, where the source tells them, and the counts of calls, of bytes given and of faults. No
+    /// count falls.
+    ghost state: { Self → SourceState };
+
+    /// Puts the next bytes into the front of `buffer` and says how many these are. 0 is the end. What stands in
+    /// `buffer` behind them, and after a failure in all of it, is left open.
+    ///
+    /// # Errors
+    /// `Failed` comes only where the count of faults rose in this call. It takes no bytes.
+    fn take(&mut self, buffer: &mut [u8]) -> Result<usize, Failed>
+        requires { 0 < length buffer.old }
+
+        ensures within { IfOk result (λ count. count ≤ length buffer.old) }
+        ensures gave { IfOk result (λ count. Gave (state self.old).left (state self.new).left (take count buffer.new)) }
+        // Where the bytes are told, 0 comes only at the end. At the end `gave` leaves no other count.
+        ensures end { IfOk result (λ count. count ≡ 0 → IsAtEnd (state self.new).left) }
+        ensures failed { OnErr result ((state self.new).left ≡ (state self.old).left) }
+
+        ensures calls { (state self.new).calls ≡ raised (state self.old).calls 1 }
+        ensures taken { IfOk result (λ count. (state self.new).taken ≡ raised (state self.old).taken count) }
+        ensures taken_failed { OnErr result ((state self.new).taken ≡ (state self.old).taken) }
+
+        ensures faults { (state self.old).faults ≤ (state self.new).faults }
+        ensures cause { OnErr result (Rose (state self.old).faults (state self.new).faults) };
+}

@@ -1,0 +1,78 @@
+ghost use Rattle.std.specs.Prelude.{◌≡◌, ◌<◌, ◌≤◌, ◌+◌, min, ℕ, List, [], ◌++◌, length, take, drop, vec_len, Option, Some, None, IsOk, IsOkAnd, IfOk};
+ghost use Rattle.bench_io.specs.Counts.{raised};
+
+use crate::memory::copy_front;
+use crate::{Failed, Sink, Source};
+use std::marker::Model;
+
+/// A source that gives the bytes of a list and never fails.
+#[derive(Debug, Drop)]
+pub struct SteadySource {
+    bytes: Vec<u8>,
+    position: usize,
+    calls: u64,
+}
+
+impl Model for SteadySource {
+    ghost use Rattle.std.specs.Prelude.{◌≤◌, [], drop, vec_len};
+    ghost use Rattle.bench_io.specs.Memory.{Supply};
+
+    ghost Value = { Supply };
+
+    ghost view = { λ s. record { left = drop s.position s.bytes.items; calls = s.calls; taken = s.position; fails = []; faults = 0 } };
+
+    ghost invariant = { λ s. s.position ≤ vec_len s.bytes };
+}
+
+impl SteadySource {
+    /// A source of `bytes`.
+    pub fn new(bytes: Vec<u8>) -> Self
+        ensures { result ≡ record { left = bytes.items; calls = 0; taken = 0; fails = []; faults = 0 } }
+    {
+        SteadySource {
+            bytes,
+            position: 0,
+            calls: 0,
+        }
+    }
+}
+
+impl Source for SteadySource {
+    ghost state = { λ s. record { left = Some s.left; calls = s.calls; taken = s.taken; faults = 0 } };
+
+    fn take(&mut self, buffer: &mut [u8]) -> Result<usize, Failed>
+        requires { 0 < length buffer.old }
+        ensures steady { IsOk result }
+        ensures count { IfOk result (λ count. count ≡ min (length buffer.old) (length self.old.left)) }
+        ensures bytes { IfOk result (λ count. buffer.new ≡ take count self.old.left ++ drop count buffer.old) }
+        ensures ok { IfOk result (λ count. self.new ≡ record self.old { left = drop count self.old.left; calls = raised self.old.calls 1; taken = raised self.old.taken count }) }
+    {
+        self.calls = self.calls.saturating_add(1);
+        let count = copy_front(&self.bytes[self.position..], buffer);
+        self.position += count;
+        Ok(count)
+    }
+}
+
+/// A sink that drops what it is given, tells nothing of it, and never fails.
+#[derive(Clone, Copy, Debug, PartialEq, Eq)]
+pub struct SteadySink;
+
+impl SteadySink {
+    /// The sink.
+    pub fn new() -> Self
+        ensures { ⟦<SteadySink as Sink>⟧.state result ≡ record { held = None; faults = 0 } }
+    {
+        SteadySink
+    }
+}
+
+impl Sink for SteadySink {
+    ghost state = { λ _. record { held = None; faults = 0 } };
+
+    fn put(&mut self, _bytes: &[u8]) -> Result<(), Failed>
+        ensures steady { IsOk result }
+    {
+        Ok(())
+    }
+}

@@ -1,0 +1,74 @@
+ghost use Rattle.std.specs.Prelude.{◌≡◌, ◌<◌, ◌≤◌, ◌+◌, ℕ, IfOk, IfErr};
+ghost use Rattle.bench_io.specs.Counts.{raised};
+ghost use Rattle.bench_io.specs.ReadAll.{ReadWhole, GaveUp};
+ghost use Rattle.bench_io.specs.declared.whole.ReadError.TheVariants.{Fault, Memory};
+
+use crate::{Failed, Source};
+use std::alloc::{AllocError, Global};
+use thiserror::Error;
+
+/// Why a source was not read whole.
+#[derive(Clone, Copy, Debug, PartialEq, Eq, Error)]
+pub enum ReadError {
+    /// The source failed.
+    #[error("read fault")]
+    Fault,
+    /// More bytes came than were asked for.
+    #[error("too large")]
+    TooLarge,
+    /// Memory was wanting.
+    #[error("out of memory")]
+    Memory,
+}
+
+impl From<Failed> for ReadError {
+    ghost from_gives = { λ _ error. error ≡ Fault };
+
+    fn from(_: Failed) -> Self {
+        ReadError::Fault
+    }
+}
+
+impl From<AllocError> for ReadError {
+    ghost from_gives = { λ _ error. error ≡ Memory };
+
+    fn from(_: AllocError) -> Self {
+        ReadError::Memory
+    }
+}
+
+/// How many bytes are asked for at a time.
+const PIECE: usize = 4096;
+
+/// Reads `source` up to its end, `limit` bytes at most. It takes no more than `limit + 1` bytes and makes no more than
+/// `limit + 1` calls of `take`, of which each but the last takes a byte or more.
+///
+/// # Errors
+/// `TooLarge` comes exactly where more than `limit` bytes were taken, `Fault` only where the source's count of faults rose,
+/// and `Memory` is want of memory. What was taken before an error stays taken.
+pub fn read_all<S: Source>(
+    alloc: Global,
+    source: &mut S,
+    limit: usize,
+) -> Result<Vec<u8>, ReadError>
+    requires { limit < usize.MAX }
+
+    ensures ok { IfOk result (λ bytes. ReadWhole limit (S.state source.old) (S.state source.new) bytes.items) }
+    // `TooLarge` comes exactly where more than `limit` bytes were taken, and then one more were.
+    ensures err { IfErr result (λ error. GaveUp error limit (S.state source.old) (S.state source.new)) }
+    ensures calls { (count : ℕ) × (count ≤ limit + 1) × ((S.state source.new).calls ≡ raised (S.state source.old).calls count) }
+{
+    let mut bytes = Vec::new(alloc);
+    let mut buffer = [0; PIECE];
+    loop {
+        let room = PIECE.min(limit + 1 - bytes.len());
+        let count = source.take(&mut buffer[..room])?;
+        if count == 0 {
+            return Ok(bytes);
+        }
+        if limit - bytes.len() < count {
+            return Err(ReadError::TooLarge);
+        }
+        bytes.extend_from_slice(&buffer[..count])?;
+    }
+}

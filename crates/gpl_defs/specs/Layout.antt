@@ -1,0 +1,83 @@
+-- Where the lines of a GPL source are placed, and the image that they make.
+--
+-- Each line is judged by the statements of the lines before it, of which the nearest stands first.
+use Rattle.std.specs.Prelude.{◌≡◌, ℕ, ◌+◌, ◌==◌, nat_lt, if◌then◌else◌, List, [], ◌∷◌, ◌++◌, length, Option, Some, None, Result, Ok, Err}
+use Rattle.std.specs.FinMap.{empty}
+use Rattle.source_defs.specs.declared.text.Line.{Line}
+use Rattle.source_defs.specs.Lines.{part, lines}
+use Rattle.gpl_defs.specs.declared.causes.GplCause.{GplCause}
+use Rattle.gpl_defs.specs.declared.causes.GplCause.TheVariants.{NotBuilt, GromFull}
+use Rattle.gpl_defs.specs.Image.{Image, placed}
+use Rattle.gpl_defs.specs.Statements.{Statement, Nothing, Grom, Bytes, End, statement}
+
+-- Profile: the first address is that of the last GROM line, or >6000 where there is none.
+abbrev pub origin : List Statement → ℕ
+origin [] = 0x6000
+origin (Grom address ∷ before) = address
+origin (Nothing ∷ before) = origin before
+origin (Bytes bytes ∷ before) = origin before
+origin (End ∷ before) = origin before
+
+-- the bytes of the lines, in the order of the source
+abbrev pub bytes_of_lines : List Statement → List ℕ
+bytes_of_lines [] = []
+bytes_of_lines (Bytes bytes ∷ before) = bytes_of_lines before ++ bytes
+bytes_of_lines (Nothing ∷ before) = bytes_of_lines before
+bytes_of_lines (Grom address ∷ before) = bytes_of_lines before
+bytes_of_lines (End ∷ before) = bytes_of_lines before
+
+-- The location of a line is the first address plus the sizes of the lines before it.
+abbrev pub location : List Statement → ℕ
+location before = origin before + length (bytes_of_lines before)
+
+-- the image of the lines
+abbrev pub image_of_lines : List Statement → Image
+image_of_lines before = placed empty (origin before) (bytes_of_lines before)
+
+-- how many bytes a GROM has
+abbrev pub grom_size : ℕ
+grom_size = 0x2000
+
+-- Why a statement is refused where it stands.
+-- Profile: a GROM line comes before each line that places a byte. No byte is placed behind the last of the GROM.
+abbrev pub refusal : List Statement → Statement → Option GplCause
+refusal before Nothing = None
+refusal before (Grom address) = if length (bytes_of_lines before) == 0 then None else Some NotBuilt
+refusal before (Bytes bytes) = if nat_lt (origin before + grom_size) (location before + length bytes) then Some GromFull else None
+refusal before End = None
+
+-- a refused line, by its number
+pub record Refusal : Type 0 where
+  pub line : ℕ
+  pub cause : GplCause
+
+-- what a line gives after the lines before it, where `rest` says what the lines after it give
+abbrev pub judged : List Statement → ℕ → Statement → Option GplCause → (List Statement → Result (List Statement) Refusal) → Result (List Statement) Refusal
+judged before number found (Some cause) rest = Err (record { line = number; cause = cause })
+judged before number End None rest = Ok before
+judged before number Nothing None rest = rest (Nothing ∷ before)
+judged before number (Grom address) None rest = rest (Grom address ∷ before)
+judged before number (Bytes bytes) None rest = rest (Bytes bytes ∷ before)
+
+abbrev pub line_gives : List Statement → ℕ → Result Statement GplCause → (List Statement → Result (List Statement) Refusal) → Result (List Statement) Refusal
+line_gives before number (Err cause) rest = Err (record { line = number; cause = cause })
+line_gives before number (Ok found) rest = judged before number found (refusal before found) rest
+
+-- The statements up to END, of which lines after it are not read; or the first refused line.
+unfoldable pub statements_from : List ℕ → List Statement → List Line → Result (List Statement) Refusal
+statements_from text before [] = Ok before
+statements_from text before (line ∷ lines) =
+    line_gives before line.number (statement (part text line.span)) (λ before. statements_from text before lines)
+
+abbrev pub image_by : Result (List Statement) Refusal → Result Image Refusal
+image_by (Ok statements) = Ok (image_of_lines statements)
+image_by (Err refused) = Err refused
+
+-- the image of a source, or its first refused line
+abbrev pub image_of_source : List ℕ → Result Image Refusal
+image_of_source text = image_by (statements_from text [] (lines text))
+
+-- the law, which is proved: the bytes of a line stand at its location, behind those of the lines before it
+abbrev pub LinesStandAtTheirLocations : Type 0
+LinesStandAtTheirLocations =
+    (before : List Statement) (bytes : List ℕ) → image_of_lines (Bytes bytes ∷ before) ≡ placed (image_of_lines before) (location before) bytes

@@ -1,0 +1,6 @@
+pub mod LeastLaws
+pub mod Quotes
+pub mod LineSteps
+pub mod LineLaws
+pub mod FieldLaws
+pub mod NumberLaws

@@ -1,0 +1,23 @@
+-- The least place with a property.
+use Rattle.std.specs.Prelude.{◌≡◌, ℕ, zero, suc, ◌+◌, ◌-◌, ◌<◌, ◌≤◌, Bool, true, false, if◌then◌else◌, List, length}
+
+-- the least of the `count` numbers from `from` on that passes, or the number after them
+abbrev pub least : (ℕ → Bool) → ℕ → ℕ → ℕ
+least p from zero = from
+least p from (suc count) = if p from then from else least p (from + 1) count
+
+-- the least place of a list from `from` on that passes, or the place after its end
+abbrev pub least_place : (ℕ → Bool) → List ℕ → ℕ → ℕ
+least_place p bytes from = least p from (length bytes - from)
+
+-- what that says: no place before it passes, and it passes itself where it stands in the list
+pub record IsLeastPlace (p : ℕ → Bool) (bytes : List ℕ) (from place : ℕ) : Type 0 where
+  pub not_before_start : from ≤ place
+  pub not_after_end : place ≤ length bytes
+  pub none_before : (k : ℕ) → from ≤ k → k < place → p k ≡ false
+  pub passes : place < length bytes → p place ≡ true
+
+-- the law, which is proved
+abbrev pub LeastPlacesAreLeast : Type 0
+LeastPlacesAreLeast =
+    (p : ℕ → Bool) (bytes : List ℕ) (from : ℕ) → from ≤ length bytes → IsLeastPlace p bytes from (least_place p bytes from)

@@ -1,0 +1,50 @@
+-- The numbers of source text.
+use Rattle.std.specs.Prelude.{ℕ, ◌+◌, ◌-◌, ◌*◌, ◌==◌, Bool, ◌&&◌, ◌||◌, nat_lt, nat_le, if◌then◌else◌, List, [], ◌∷◌, length, drop, fold, slice_index, Option, Some, None}
+use Rattle.std.specs.List.{list_all, slice_split}
+use Rattle.std.specs.Option.{option_map, option_and_then}
+use Rattle.source_defs.specs.Characters.{is_digit, upper_case}
+
+-- 0 to 9, A to F, or a to f
+abbrev pub is_hexadecimal_digit : ℕ → Bool
+is_hexadecimal_digit byte = is_digit byte || (nat_le 0x41 (upper_case byte) && nat_le (upper_case byte) 0x46)
+
+-- what a digit stands for
+abbrev pub digit_value : ℕ → ℕ
+digit_value byte = if is_digit byte then byte - 0x30 else upper_case byte - 0x37
+
+-- what digits behind a number stand for, in a base
+abbrev pub value_after : ℕ → ℕ → List ℕ → ℕ
+value_after base number digits = fold (λ number digit. number * base + digit_value digit) number digits
+
+abbrev pub all_digits : List ℕ → Bool
+all_digits digits = list_all is_digit digits
+
+abbrev pub all_hexadecimal_digits : List ℕ → Bool
+all_hexadecimal_digits digits = list_all is_hexadecimal_digit digits
+
+-- Editor/Assembler manual, "Constants": a decimal number is at most 65,535.
+-- Profile: it may have zeros in front.
+abbrev pub decimal_number : List ℕ → Option ℕ
+decimal_number digits =
+    if nat_lt 0 (length digits) && all_digits digits && nat_le (value_after 10 0 digits) 65535 then Some (value_after 10 0 digits) else None
+
+-- Editor/Assembler manual, "Constants": a hexadecimal number has one to four digits.
+abbrev pub hexadecimal_number : List ℕ → Option ℕ
+hexadecimal_number digits =
+    if nat_lt 0 (length digits) && nat_le (length digits) 4 && all_hexadecimal_digits digits then Some (value_after 16 0 digits) else None
+
+-- Editor/Assembler manual, "Constants": hexadecimal digits stand behind the sign >.
+unfoldable pub number : List ℕ → Option ℕ
+number text = if slice_index text 0 == 0x3E then hexadecimal_number (drop 1 text) else decimal_number text
+
+abbrev pub is_comma : ℕ → Bool
+is_comma byte = byte == 0x2C
+
+-- the numbers of texts that all are one
+abbrev pub numbers_of : List (List ℕ) → Option (List ℕ)
+numbers_of [] = Some []
+numbers_of (text ∷ texts) = option_and_then (λ first. option_map (λ others. first ∷ others) (numbers_of texts)) (number text)
+
+-- the numbers of a field, with a comma between two of them
+unfoldable pub numbers : List ℕ → Option (List ℕ)
+numbers field = numbers_of (slice_split is_comma field)

@@ -1,0 +1,14 @@
+//! Why a line is refused.
+
+use thiserror::Error;
+
+/// Why a line has no fields.
+#[derive(Error, Debug, Clone, Copy, PartialEq, Eq)]
+pub enum TextError {
+    /// The line has more than 256 bytes.
+    #[error("line too long")]
+    LineTooLong,
+    /// Column 1 holds neither a blank nor an asterisk, and no name begins there.
+    #[error("bad label")]
+    BadLabel,
+}
