@@ -1,0 +1,271 @@
+//! The console's memory map, as one memory that the processor reads and writes.
+
+ghost use Rattle.std.specs.Prelude.{◌≡◌, ◌<◌, ◌≤◌, ℕ, ◌+◌, ◌-◌, ◌*◌, ◌/◌, ◌%◌, length, slice_index, slice_set, IfOk, OnErr};
+ghost use Rattle.console_defs.specs.Words.{high, low, join, even};
+ghost use Rattle.console_defs.specs.Bytes.{HoldsBytes, HoldsZeros, word_at, with_word_at};
+ghost use Rattle.console_defs.specs.Bus.{answer_of, left_by};
+ghost use Rattle.console_defs.specs.Memory.{IsMemory, IsNewMemory, IsLoadable, port_at, port_region, is_port_address, region, port_read, port_written, byte_read_in, byte_read, byte_written_in, byte_written, word_read_in, word_read, word_written_in, word_written, two_bytes_read, two_bytes_written, word_placed, cell_set};
+
+use console_defs::PortStop;
+use grom_counter::Grom;
+use std::alloc::{AllocError, Global};
+use std::marker::Model;
+use vdp_ports::Vdp;
+
+/// The bytes of the low expansion memory, at >2000.
+const LOW_EXPANSION_SIZE: usize = 8_192;
+/// The bytes of the high expansion memory, at >A000.
+const HIGH_EXPANSION_SIZE: usize = 24_576;
+/// The bytes of the console ROM, at >0000.
+const ROM_SIZE: usize = 8_192;
+
+/// The memory of the console with its eight ports (Editor/Assembler manual, on the memory of the computer).
+#[derive(Drop)]
+pub struct Bus {
+    scratchpad: [u8; 256],
+    low_expansion: Vec<u8>,
+    high_expansion: Vec<u8>,
+    rom: Vec<u8>,
+    vdp: Vdp,
+    grom: Grom,
+}
+
+impl Model for Bus {
+    ghost use Rattle.std.specs.Prelude.{◌≡◌, length};
+    ghost use Rattle.console_defs.specs.Memory.{Memory};
+
+    ghost Value = { Memory };
+
+    ghost view = { λ b. record { scratchpad = b.scratchpad; low_expansion = b.low_expansion.items; high_expansion = b.high_expansion.items; rom = b.rom.items; vdp = b.vdp; grom = b.grom } };
+
+    ghost invariant = { λ b. (length b.low_expansion.items ≡ 8192) × (length b.high_expansion.items ≡ 24576) × (length b.rom.items ≡ 8192) };
+}
+
+impl Bus {
+    /// A memory of 0 everywhere over a video processor and GROMs.
+    pub fn new(alloc: Global, vdp: Vdp, grom: Grom) -> Result<Bus, AllocError>
+        ensures { IfOk result (λ bus. IsNewMemory bus vdp grom) }
+    {
+        Ok(Bus {
+            scratchpad: zero_page(),
+            low_expansion: zeros(alloc, LOW_EXPANSION_SIZE)?,
+            high_expansion: zeros(alloc, HIGH_EXPANSION_SIZE)?,
+            rom: zeros(alloc, ROM_SIZE)?,
+            vdp,
+            grom,
+        })
+    }
+
+    /// Reads the word that holds an address: the lowest address bit is ignored (TMS9900 data manual, "Registers and
+    /// memory"). A port stops it, with the port's address; nothing ever changes.
+    #[inline]
+    #[tactic(auto, using(console_defs::proofs::MemoryLaws::read_is_two_bytes))]
+    pub fn read_word(&mut self, at: u16) -> Result<u16, PortStop>
+        ensures word { answer_of result ≡ word_read self.old at }
+        ensures bytes { answer_of result ≡ two_bytes_read self.old at }
+        ensures same { self.new ≡ self.old }
+    {
+        let at = at / 2 * 2;
+        match at {
+            0x0000..=0x1FFF => Ok(word_in(&self.rom, at as usize)),
+            0x2000..=0x3FFF => Ok(word_in(&self.low_expansion, (at - 0x2000) as usize)),
+            0x8000..=0x83FF => Ok(word_in(&self.scratchpad, (at % 256) as usize)),
+            0xA000..=0xFFFF => Ok(word_in(&self.high_expansion, (at - 0xA000) as usize)),
+            _ if is_port(at) => Err(PortStop(at)),
+            _ => Ok(0),
+        }
+    }
+
+    /// Writes the word that holds an address: the lowest address bit is ignored (TMS9900 data manual, "Registers and
+    /// memory"). A port stops it, with the port's address, and then nothing has changed. A write to the console ROM
+    /// changes nothing.
+    #[inline]
+    #[tactic(auto, using(console_defs::proofs::MemoryLaws::write_is_two_bytes))]
+    pub fn write_word(&mut self, at: u16, word: u16) -> Result<(), PortStop>
+        ensures word { left_by result self.new ≡ word_written self.old at word }
+        ensures bytes { left_by result self.new ≡ two_bytes_written self.old at word }
+        ensures stopped { OnErr result (self.new ≡ self.old) }
+    {
+        let at = at / 2 * 2;
+        match at {
+            0x2000..=0x3FFF => set_word(&mut self.low_expansion, (at - 0x2000) as usize, word),
+            0x8000..=0x83FF => set_word(&mut self.scratchpad, (at % 256) as usize, word),
+            0xA000..=0xFFFF => set_word(&mut self.high_expansion, (at - 0xA000) as usize, word),
+            _ if is_port(at) => return Err(PortStop(at)),
+            _ => {}
+        }
+        Ok(())
+    }
+
+    /// Reads the byte at an address; a port may change by it. A port for writing, and an address that leads
+    /// nowhere, give 0 (Editor/Assembler manual, on the memory of the computer).
+    #[inline]
+    pub fn read_byte(&mut self, at: u16) -> u8
+        ensures { (result, self.new) ≡ byte_read self.old at }
+    {
+        match at {
+            0x0000..=0x1FFF => self.rom[at as usize],
+            0x2000..=0x3FFF => self.low_expansion[(at - 0x2000) as usize],
+            0x8000..=0x83FF => self.scratchpad[(at % 256) as usize],
+            0xA000..=0xFFFF => self.high_expansion[(at - 0xA000) as usize],
+            _ => self.read_port(at),
+        }
+    }
+
+    /// Writes the byte at an address, with no read before it. A write to the console ROM, to a port for reading and
+    /// to an address that leads nowhere changes nothing (Editor/Assembler manual, on the memory of the computer).
+    #[inline]
+    pub fn write_byte(&mut self, at: u16, byte: u8)
+        ensures { self.new ≡ byte_written self.old at byte }
+    {
+        match at {
+            0x2000..=0x3FFF => self.low_expansion[(at - 0x2000) as usize] = byte,
+            0x8000..=0x83FF => self.scratchpad[(at % 256) as usize] = byte,
+            0xA000..=0xFFFF => self.high_expansion[(at - 0xA000) as usize] = byte,
+            _ => self.write_port(at, byte),
+        }
+    }
+
+    /// Loads a word at an even address of the console ROM (below >2000) or of the expansion memory (>2000 to >3FFF,
+    /// >A000 to >FFFF).
+    pub fn place(&mut self, at: u16, word: u16)
+        requires even { even at ≡ at }
+        requires loadable { IsLoadable at }
+        ensures { self.new ≡ word_placed self.old at word }
+    {
+        match at {
+            0x0000..=0x1FFF => set_word(&mut self.rom, at as usize, word),
+            0x2000..=0x3FFF => set_word(&mut self.low_expansion, (at - 0x2000) as usize, word),
+            _ => set_word(&mut self.high_expansion, (at - 0xA000) as usize, word),
+        }
+    }
+
+    /// The byte of the scratchpad with a number, at >8300 plus the number.
+    pub fn cell(&self, number: u8) -> u8
+        ensures { result ≡ slice_index self.now.scratchpad number }
+    {
+        self.scratchpad[number as usize]
+    }
+
+    /// Sets the byte of the scratchpad with a number, at >8300 plus the number.
+    pub fn set_cell(&mut self, number: u8, byte: u8)
+        ensures { self.new ≡ cell_set self.old number byte }
+    {
+        self.scratchpad[number as usize] = byte;
+    }
+
+    /// The 256 bytes of the scratchpad, from >8300.
+    pub fn pad(&self) -> &[u8]
+        ensures pad { result.now ≡ self.now.scratchpad }
+        ensures size { length result.now ≡ 256 }
+    {
+        &self.scratchpad
+    }
+
+    /// The video processor.
+    pub fn vdp(&self) -> &Vdp
+        ensures { result.now ≡ self.now.vdp }
+    {
+        &self.vdp
+    }
+
+    /// The GROMs.
+    pub fn grom(&self) -> &Grom
+        ensures { result.now ≡ self.now.grom }
+    {
+        &self.grom
+    }
+
+    /// Does nothing. Its contract says what holds of every `Bus`, for the proof of a caller.
+    #[inline]
+    pub fn holds_bounds(&self)
+        ensures { IsMemory self.now }
+    {
+        holds_bytes(&self.scratchpad);
+        holds_bytes(&self.low_expansion);
+        holds_bytes(&self.high_expansion);
+        holds_bytes(&self.rom);
+        self.vdp.holds_bounds();
+        self.grom.holds_bounds();
+    }
+
+    /// Reads the byte at an address among the ports, or 0 where no port stands.
+    fn read_port(&mut self, at: u16) -> u8
+        ensures { (result, self.new) ≡ byte_read_in (port_region (port_at at)) self.old }
+    {
+        match at {
+            0x8800 => self.vdp.read_data(),
+            0x8802 => self.vdp.read_status(),
+            0x9800 => self.grom.read_data(),
+            0x9802 => self.grom.read_address(),
+            _ => 0,
+        }
+    }
+
+    /// Writes the byte at an address among the ports.
+    fn write_port(&mut self, at: u16, byte: u8)
+        ensures { self.new ≡ byte_written_in (port_region (port_at at)) self.old byte }
+    {
+        match at {
+            0x8C00 => self.vdp.write_data(byte),
+            0x8C02 => self.vdp.write_address(byte),
+            0x9C02 => self.grom.write_address(byte),
+            _ => {}
+        }
+    }
+}
+
+/// One of the eight ports stands at the address; none does at an odd one (Editor/Assembler manual, on VDP and GROM
+/// access).
+#[inline]
+pub fn is_port(at: u16) -> bool
+    ensures { result ≡ is_port_address at }
+{
+    matches!(
+        at,
+        0x8800 | 0x8802 | 0x8C00 | 0x8C02 | 0x9800 | 0x9802 | 0x9C00 | 0x9C02
+    )
+}
+
+/// The word at a place, its high byte first.
+#[inline]
+fn word_in(bytes: &[u8], at: usize) -> u16
+    requires { at + 1 < length bytes.now }
+    ensures { result ≡ word_at bytes.now at }
+{
+    256 * bytes[at] as u16 + bytes[at + 1] as u16
+}
+
+/// Writes a word to a place, its high byte first.
+#[inline]
+fn set_word(bytes: &mut [u8], at: usize, word: u16)
+    requires { at + 1 < length bytes.old }
+    ensures { bytes.new ≡ with_word_at bytes.old at word }
+{
+    bytes[at] = (word / 256) as u8;
+    bytes[at + 1] = (word % 256) as u8;
+}
+
+/// The 256 bytes of a new scratchpad.
+#[tactic(auto, using(console_defs::proofs::ByteLaws::replicated_zeros))]
+fn zero_page() -> [u8; 256]
+    ensures { HoldsZeros 256 result }
+{
+    [0; 256]
+}
+
+/// A list of so many zeros.
+#[tactic(auto, using(console_defs::proofs::ByteLaws::replicated_zeros))]
+fn zeros(alloc: Global, count: usize) -> Result<Vec<u8>, AllocError>
+    ensures { IfOk result (λ bytes. HoldsZeros count bytes.items) }
+{
+    vec![in alloc; 0; count]
+}
+
+/// Does nothing. A slice of `u8` holds bytes.
+#[inline]
+fn holds_bytes(bytes: &[u8])
+    ensures { (at : ℕ) → slice_index bytes.now at < 256 }
+{
+    let _count = bytes.len();
+}

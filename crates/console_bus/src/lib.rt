@@ -1,0 +1,9 @@
+//! The memory of the console: scratchpad, expansion memory, ROM, and the ports of the video processor and the GROMs.
+#![tactic(auto)]
+
+mod bus;
+#[cfg(test)]
+mod tests;
+
+pub use bus::{Bus, is_port};
+pub use console_defs::PortStop;

@@ -1,0 +1,4 @@
+pub mod ByteLaws
+pub mod WordLaws
+pub mod GromLaws
+pub mod MemoryLaws

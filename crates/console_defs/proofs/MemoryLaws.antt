@@ -1,0 +1,180 @@
+-- Laws about the memory map.
+use Rattle.std.proofs.Common.{◌≡◌, ◌<◌, ◌≤◌, ℕ, ◌+◌, ◌-◌, ◌%◌, Bool, true, false, nat_lt, arith, refl, ap, sym, ◌∙◌, Option, Some, None}
+use Rattle.std.proofs.lemmas.Bool.{ltb-true, ltb-false, lt-ltb}
+use Rattle.console_defs.specs.Words.{high, low, join, even}
+use Rattle.console_defs.specs.Bus.{Answer, Gives, AtPort, ◌>>=◌}
+use Rattle.console_defs.specs.Vdp.{VdpState}
+use Rattle.console_defs.specs.Grom.{GromState}
+use Rattle.console_defs.specs.Memory.{Memory, Port, Region, Rom, LowExpansion, HighExpansion, Scratchpad, PortOf, Unmapped, region, port_at, port_region, is_port_region, is_port_address, byte_read, byte_written, word_read_in, word_written_in, word_read, word_written, two_bytes_read, two_bytes_written, byte_read_in, byte_written_in}
+
+-- Where the odd address after an even one leads: no port stands there.
+abbrev beside : Region → Region
+beside (Rom at) = Rom (at + 1)
+beside (LowExpansion at) = LowExpansion (at + 1)
+beside (HighExpansion at) = HighExpansion (at + 1)
+beside (Scratchpad at) = Scratchpad (at + 1)
+beside (PortOf port) = Unmapped
+beside Unmapped = Unmapped
+
+-- A number is below a limit or not.
+not_below : (limit address : ℕ) → limit ≤ address → nat_lt address limit ≡ false
+not_below limit address from = grind arith
+
+by_test : {P : Type 0} (test : Bool) (a b : ℕ) → nat_lt a b ≡ test → (a < b → P) → (b ≤ a → P) → P
+by_test true a b is below past = below (ltb-true a b is)
+by_test false a b is below past = past (ltb-false a b is)
+
+below_or_not : {P : Type 0} (a b : ℕ) → (a < b → P) → (b ≤ a → P) → P
+below_or_not a b below past = by_test (nat_lt a b) a b refl below past
+
+beside_port : (port : Option Port) → Unmapped ≡ beside (port_region port)
+beside_port (Some port) = refl
+beside_port None = refl
+
+-- The region by its five tests.
+abbrev region_by_tests : Bool → Bool → Bool → Bool → Bool → ℕ → Region
+region_by_tests rom low gap scratchpad ports address =
+    elim rom [
+      | true ↦ Rom address
+      | false ↦
+          elim low [
+            | true ↦ LowExpansion (address - 0x2000)
+            | false ↦
+                elim gap [
+                  | true ↦ Unmapped
+                  | false ↦
+                      elim scratchpad [
+                        | true ↦ Scratchpad (address % 256)
+                        | false ↦ elim ports [ true ↦ port_region (port_at address) | false ↦ HighExpansion (address - 0xA000) ]
+                      ]
+                ]
+          ]
+    ]
+
+-- The regions by their ranges.
+pub region_rom : (address : ℕ) → address < 0x2000 → region address ≡ Rom address
+region_rom address below = grind arith
+
+pub region_low : (address : ℕ) → 0x2000 ≤ address → address < 0x4000 → region address ≡ LowExpansion (address - 0x2000)
+region_low address from below = grind arith
+
+pub region_gap : (address : ℕ) → 0x4000 ≤ address → address < 0x8000 → region address ≡ Unmapped
+region_gap address from below = grind arith
+
+pub region_scratchpad : (address : ℕ) → 0x8000 ≤ address → address < 0x8400 → region address ≡ Scratchpad (address % 256)
+region_scratchpad address from below = grind arith
+
+pub region_ports : (address : ℕ) → 0x8400 ≤ address → address < 0xA000 → region address ≡ port_region (port_at address)
+region_ports address from below =
+    let by_tests : region address ≡ region_by_tests (nat_lt address 0x2000) (nat_lt address 0x4000) (nat_lt address 0x8000) (nat_lt address 0x8400) (nat_lt address 0xA000) address = refl in
+    by_tests ∙ rw (not_below 0x2000 address (omega arith), not_below 0x4000 address (omega arith), not_below 0x8000 address (omega arith), not_below 0x8400 address from, lt-ltb address 0xA000 below) refl
+
+pub region_high : (address : ℕ) → 0xA000 ≤ address → region address ≡ HighExpansion (address - 0xA000)
+region_high address from = grind arith
+
+-- No port stands at an odd address.
+pub odd_is_no_port : (address : ℕ) → port_at (even address + 1) ≡ None
+odd_is_no_port address = grind arith
+
+region_beside : (address : ℕ) → region (even address + 1) ≡ beside (region (even address))
+region_beside address =
+    let at : ℕ = even address in
+    below_or_not at 0x2000
+    (λ below. rw (region_rom at below, region_rom (at + 1) (omega arith)) refl)
+    (λ from_2000.
+    below_or_not at 0x4000
+    (λ below. rw (region_low at from_2000 below, region_low (at + 1) (omega arith) (omega arith)) (ap LowExpansion (omega arith)))
+    (λ from_4000.
+    below_or_not at 0x8000
+    (λ below. rw (region_gap at from_4000 below, region_gap (at + 1) (omega arith) (omega arith)) refl)
+    (λ from_8000.
+    below_or_not at 0x8400
+    (λ below. rw (region_scratchpad at from_8000 below, region_scratchpad (at + 1) (omega arith) (omega arith)) (ap Scratchpad (omega arith)))
+    (λ from_8400.
+    below_or_not at 0xA000
+    (λ below.
+    rw (region_ports at from_8400 below, region_ports (at + 1) (omega arith) (omega arith), odd_is_no_port address) (beside_port (port_at at)))
+    (λ from_A000.
+    rw (region_high at from_A000, region_high (at + 1) (omega arith)) (ap HighExpansion (omega arith)))))))
+
+read_by_region : (place : Region) (m : Memory) (address : ℕ) →
+    word_read_in place m address
+    ≡ elim (is_port_region place) [
+      | true ↦ AtPort address
+      | false ↦ Gives (join (byte_read_in place m).0 (byte_read_in (beside place) m).0)
+    ]
+read_by_region (Rom at) m address = refl
+read_by_region (LowExpansion at) m address = refl
+read_by_region (HighExpansion at) m address = refl
+read_by_region (Scratchpad at) m address = refl
+read_by_region (PortOf port) m address = refl
+read_by_region Unmapped m address = refl
+
+-- A word that is read is the two bytes that are read.
+pub read_is_two_bytes : (m : Memory) (address : ℕ) → word_read m address ≡ two_bytes_read m address
+read_is_two_bytes m address =
+    let with_second : Region → Answer ℕ =
+    λ second.
+    elim (is_port_address (even address)) [
+      | true ↦ AtPort (even address)
+      | false ↦ Gives (join (byte_read m (even address)).0 (byte_read_in second m).0)
+    ] in
+    read_by_region (region (even address)) m (even address) ∙ ap with_second (sym (region_beside address))
+
+write_by_region : (place : Region) (m : Memory) (address word : ℕ) →
+    word_written_in place m address word
+    ≡ elim (is_port_region place) [
+      | true ↦ AtPort address
+      | false ↦ Gives (byte_written_in (beside place) (byte_written_in place m (high word)) (low word))
+    ]
+write_by_region (Rom at) m address word = refl
+write_by_region (LowExpansion at) m address word = refl
+write_by_region (HighExpansion at) m address word = refl
+write_by_region (Scratchpad at) m address word = refl
+write_by_region (PortOf port) m address word = refl
+write_by_region Unmapped m address word = refl
+
+-- A word that is written is two bytes that are written.
+pub write_is_two_bytes : (m : Memory) (address word : ℕ) → word_written m address word ≡ two_bytes_written m address word
+write_is_two_bytes m address word =
+    let with_second : Region → Answer Memory =
+    λ second.
+    elim (is_port_address (even address)) [
+      | true ↦ AtPort (even address)
+      | false ↦ Gives (byte_written_in second (byte_written m (even address) (high word)) (low word))
+    ] in
+    write_by_region (region (even address)) m (even address) word ∙ ap with_second (sym (region_beside address))
+
+-- The same memory with other states of its ports.
+abbrev pub with_ports : Memory → VdpState → GromState → Memory
+with_ports m vdp grom = record m { vdp = vdp; grom = grom }
+
+read_past_ports : (place : Region) (m : Memory) (vdp : VdpState) (grom : GromState) (address : ℕ) →
+    word_read_in place (with_ports m vdp grom) address ≡ word_read_in place m address
+read_past_ports (Rom at) m vdp grom address = refl
+read_past_ports (LowExpansion at) m vdp grom address = refl
+read_past_ports (HighExpansion at) m vdp grom address = refl
+read_past_ports (Scratchpad at) m vdp grom address = refl
+read_past_ports (PortOf port) m vdp grom address = refl
+read_past_ports Unmapped m vdp grom address = refl
+
+-- What a word access does is independent of the ports: it gives the same and leaves them, whatever they are.
+pub word_read_past_ports : (m : Memory) (vdp : VdpState) (grom : GromState) (address : ℕ) →
+    word_read (with_ports m vdp grom) address ≡ word_read m address
+word_read_past_ports m vdp grom address = read_past_ports (region (even address)) m vdp grom (even address)
+
+write_past_ports : (place : Region) (m : Memory) (vdp : VdpState) (grom : GromState) (address word : ℕ) →
+    word_written_in place (with_ports m vdp grom) address word
+    ≡ (word_written_in place m address word >>= λ left. Gives (with_ports left vdp grom))
+write_past_ports (Rom at) m vdp grom address word = refl
+write_past_ports (LowExpansion at) m vdp grom address word = refl
+write_past_ports (HighExpansion at) m vdp grom address word = refl
+write_past_ports (Scratchpad at) m vdp grom address word = refl
+write_past_ports (PortOf port) m vdp grom address word = refl
+write_past_ports Unmapped m vdp grom address word = refl
+
+pub word_written_past_ports : (m : Memory) (vdp : VdpState) (grom : GromState) (address word : ℕ) →
+    word_written (with_ports m vdp grom) address word
+    ≡ (word_written m address word >>= λ left. Gives (with_ports left vdp grom))
+word_written_past_ports m vdp grom address word =
+    write_past_ports (region (even address)) m vdp grom (even address) word

@@ -1,0 +1,26 @@
+-- Words of 16 bits, their bytes, and addresses.
+use Rattle.std.specs.Prelude.{ℕ, ◌+◌, ◌*◌, ◌/◌, ◌%◌}
+
+-- The more significant byte of a word; it stands at the word's even address.
+-- TMS9900 data manual, "Registers and memory".
+abbrev pub high : ℕ → ℕ
+high word = word / 256
+
+-- The less significant byte of a word; it stands at the odd address after it.
+-- TMS9900 data manual, "Registers and memory".
+abbrev pub low : ℕ → ℕ
+low word = word % 256
+
+-- The word of two bytes. TMS9900 data manual, "Registers and memory".
+abbrev pub join : ℕ → ℕ → ℕ
+join more less = 256 * more + less
+
+-- The address of the word that holds an address: the lowest bit is ignored.
+-- TMS9900 data manual, "Registers and memory".
+abbrev pub even : ℕ → ℕ
+even address = address / 2 * 2
+
+-- A sum of two words, kept to 16 bits, as of a base address and an index.
+-- TMS9900 data manual, "Addressing modes".
+abbrev pub plus : ℕ → ℕ → ℕ
+plus a b = (a + b) % 65536

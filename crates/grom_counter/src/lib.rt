@@ -1,0 +1,8 @@
+//! The GROMs of the console: their bytes and the address counter that they share.
+#![tactic(auto)]
+
+mod grom;
+#[cfg(test)]
+mod tests;
+
+pub use grom::{Grom, next_in_grom};

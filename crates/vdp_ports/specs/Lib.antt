@@ -1,0 +1,3 @@
+pub use Rattle.console_defs.specs.Words
+pub use Rattle.console_defs.specs.Bytes
+pub use Rattle.console_defs.specs.Vdp
