@@ -6,6 +6,8 @@ mod command;
 mod fault_line;
 mod put;
 mod report;
+#[cfg(test)]
+mod tests;
 mod words;
 
 use crate::bench::bench;

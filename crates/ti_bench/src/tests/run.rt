@@ -1,0 +1,44 @@
+//! One run, and what came of it.
+
+use crate::bench::bench;
+use crate::words::Words;
+use bench_io::{MemSink, MemSource};
+use report_defs::Status;
+use std::alloc::{AllocError, Global};
+
+/// The usage line.
+pub(crate) const USAGE: &[u8] =
+    b"usage: ti_bench asm|link|dis ADDR|exec N|gasm|gdis ADDR|interp|run N|trace N|demo K\n";
+
+/// How a run ended, and what the two sinks hold then.
+#[derive(Drop)]
+pub(crate) struct Ended {
+    pub(crate) status: Status,
+    pub(crate) out: MemSink,
+    pub(crate) err: MemSink,
+    pub(crate) input: MemSource,
+}
+
+/// Runs words over an input, with room for 16,384 bytes in each sink. The calls of each with these numbers fail.
+pub(crate) fn run(
+    alloc: Global,
+    words: &[&[u8]],
+    input: Vec<u8>,
+    take_fails: &[u64],
+    put_fails: &[u64],
+) -> Result<Ended, AllocError> {
+    let mut list = Words::new(alloc);
+    for word in words {
+        list.push(word)?;
+    }
+    let mut input = MemSource::new(input, Vec::from_slice(alloc, take_fails)?);
+    let mut out = MemSink::new(alloc, 16384, Vec::from_slice(alloc, put_fails)?)?;
+    let mut err = MemSink::new(alloc, 16384, Vec::from_slice(alloc, put_fails)?)?;
+    let status = bench(alloc, &list, &mut input, &mut out, &mut err);
+    Ok(Ended {
+        status,
+        out,
+        err,
+        input,
+    })
+}
