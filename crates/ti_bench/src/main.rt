@@ -8,6 +8,7 @@ mod put;
 mod report;
 #[cfg(test)]
 mod tests;
+mod text;
 mod words;
 
 use crate::bench::bench;

@@ -1,0 +1,17 @@
+-- How numbers are shown in reports.
+use Rattle.std.specs.Prelude.{ℕ, ◌+◌, ◌/◌, ◌%◌, nat_lt, if◌then◌else◌, List, [], ◌∷◌, ◌++◌}
+
+-- 0 to 9, and A to F
+abbrev pub hexadecimal_digit : ℕ → ℕ
+hexadecimal_digit digit = if nat_lt digit 10 then 0x30 + digit else 0x37 + digit
+
+-- Profile: bytes are shown by two digits, words by four, in upper case.
+abbrev pub byte_text : ℕ → List ℕ
+byte_text byte = hexadecimal_digit (byte / 16) ∷ hexadecimal_digit (byte % 16) ∷ []
+
+abbrev pub word_text : ℕ → List ℕ
+word_text word = byte_text (word / 256) ++ byte_text (word % 256)
+
+-- Profile: a word or an address by itself has the sign > in front.
+abbrev pub marked_word : ℕ → List ℕ
+marked_word word = 0x3E ∷ word_text word
