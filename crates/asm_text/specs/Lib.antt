@@ -3,6 +3,7 @@ pub use Rattle.source_defs.specs.Least
 pub use Rattle.source_defs.specs.Lines
 pub use Rattle.source_defs.specs.LineLaw
 pub use Rattle.source_defs.specs.Names
+pub use Rattle.source_defs.specs.Numbers
 pub use Rattle.source_defs.specs.Fields
 pub use Rattle.source_defs.specs.FieldLaw
 pub mod GivenFields

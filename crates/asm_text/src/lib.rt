@@ -6,6 +6,7 @@ mod laws;
 mod line_fields;
 mod line_iter;
 mod name;
+mod numbers;
 mod places;
 mod split;
 #[cfg(test)]
@@ -17,6 +18,7 @@ pub use crate::laws::{fields_of_a_line, least_places, lines_of_a_text};
 pub use crate::line_fields::Fields;
 pub use crate::line_iter::Lines;
 pub use crate::name::Name;
+pub use crate::numbers::{decimal_up_to, number};
 pub use crate::split::fields;
 pub use crate::text::lines;
 pub use crate::words::is_word;

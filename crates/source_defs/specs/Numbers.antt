@@ -22,11 +22,15 @@ all_digits digits = list_all is_digit digits
 abbrev pub all_hexadecimal_digits : List ℕ → Bool
 all_hexadecimal_digits digits = list_all is_hexadecimal_digit digits
 
--- Editor/Assembler manual, "Constants": a decimal number is at most 65,535.
+-- the number of decimal digits, where it is not above a limit
 -- Profile: it may have zeros in front.
+abbrev pub decimal_up_to : ℕ → List ℕ → Option ℕ
+decimal_up_to limit digits =
+    if nat_lt 0 (length digits) && all_digits digits && nat_le (value_after 10 0 digits) limit then Some (value_after 10 0 digits) else None
+
+-- Editor/Assembler manual, "Constants": a decimal number is at most 65,535.
 abbrev pub decimal_number : List ℕ → Option ℕ
-decimal_number digits =
-    if nat_lt 0 (length digits) && all_digits digits && nat_le (value_after 10 0 digits) 65535 then Some (value_after 10 0 digits) else None
+decimal_number digits = decimal_up_to 65535 digits
 
 -- Editor/Assembler manual, "Constants": a hexadecimal number has one to four digits.
 abbrev pub hexadecimal_number : List ℕ → Option ℕ

@@ -1,6 +1,6 @@
 use Rattle.std.proofs.Common.{◌≡◌, ◌≤◌, ◌<◌, drop}
 use Rattle.source_defs.specs.Numbers.{value_after, all_hexadecimal_digits}
-use Rattle.gpl_asm.proofs.numbers.hexadecimal_number.Given as goal
+use Rattle.asm_text.proofs.numbers.hexadecimal_number.Given as goal
 
 -- what the digits so far stand for
 abbrev pub invariant-loop-byte : goal.invariant-loop-byte

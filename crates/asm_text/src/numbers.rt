@@ -1,0 +1,64 @@
+//! The numbers of source text.
+
+ghost use Rattle.std.specs.Prelude.{◌≡◌, ◌≤◌, ◌<◌, if◌then◌else◌, Some, None, IfSome};
+ghost use Rattle.source_defs.specs.Numbers as spec;
+
+/// The number that a text spells: a decimal one, or `>` and a hexadecimal one.
+#[tactic(auto, unfolding(source_defs::specs::Numbers::number))]
+pub fn number(text: &[u8]) -> Option<u16>
+    ensures { result ≡ spec.number text.now }
+{
+    match text.split_first() {
+        Some((b'>', digits)) => hexadecimal_number(digits),
+        _ => Some(decimal_up_to(text, 65535)? as u16),
+    }
+}
+
+/// The number of decimal digits, where it is not above a limit. It may have zeros in front.
+pub fn decimal_up_to(digits: &[u8], limit: u32) -> Option<u32>
+    requires { limit ≤ 10000000 }
+    ensures value { result ≡ spec.decimal_up_to limit digits.now }
+    ensures within { IfSome result (λ value. value ≤ limit) }
+{
+    if digits.is_empty() {
+        return None;
+    }
+    let mut value = 0;
+    for &byte in digits {
+        if !byte.is_ascii_digit() {
+            return None;
+        }
+        value = value * 10 + u32::from(byte - b'0');
+        if value > limit {
+            return None;
+        }
+    }
+    Some(value)
+}
+
+/// The number of one to four hexadecimal digits.
+fn hexadecimal_number(digits: &[u8]) -> Option<u16>
+    ensures { result ≡ spec.hexadecimal_number digits.now }
+{
+    if digits.is_empty() || digits.len() > 4 {
+        return None;
+    }
+    let mut value = 0u16;
+    for &byte in digits {
+        value = value * 16 + u16::from(hexadecimal_digit(byte)?);
+    }
+    Some(value)
+}
+
+/// What a hexadecimal digit of either case stands for.
+fn hexadecimal_digit(byte: u8) -> Option<u8>
+    ensures value { result ≡ (if spec.is_hexadecimal_digit byte then Some (spec.digit_value byte) else None) }
+    ensures below { IfSome result (λ value. value < 16) }
+{
+    match byte {
+        b'0'..=b'9' => Some(byte - b'0'),
+        b'A'..=b'F' => Some(byte - b'A' + 10),
+        b'a'..=b'f' => Some(byte - b'a' + 10),
+        _ => None,
+    }
+}
