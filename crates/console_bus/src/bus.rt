@@ -59,11 +59,20 @@ impl Bus {
     /// Reads the word that holds an address: the lowest address bit is ignored (TMS9900 data manual, "Registers and
     /// memory"). A port stops it, with the port's address; nothing ever changes.
     #[inline]
-    #[tactic(auto, using(console_defs::proofs::MemoryLaws::read_is_two_bytes))]
     pub fn read_word(&mut self, at: u16) -> Result<u16, PortStop>
         ensures word { answer_of result ≡ word_read self.old at }
         ensures bytes { answer_of result ≡ two_bytes_read self.old at }
         ensures same { self.new ≡ self.old }
+    {
+        self.word_at(at)
+    }
+
+    /// The word that holds an address, as `read_word` gives it.
+    #[inline]
+    #[tactic(auto, using(console_defs::proofs::MemoryLaws::read_is_two_bytes))]
+    pub fn word_at(&self, at: u16) -> Result<u16, PortStop>
+        ensures word { answer_of result ≡ word_read self.now at }
+        ensures bytes { answer_of result ≡ two_bytes_read self.now at }
     {
         let at = at / 2 * 2;
         match at {

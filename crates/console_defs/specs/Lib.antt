@@ -1,6 +1,13 @@
 pub mod Words
+pub mod Flags
+pub mod Status
+pub mod Instructions
 pub mod Bytes
 pub mod Vdp
 pub mod Grom
 pub mod Bus
 pub mod Memory
+pub mod Operand
+pub mod Step
+pub mod Machine
+pub mod Runs

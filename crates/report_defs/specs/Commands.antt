@@ -1,14 +1,32 @@
 -- The words of the command line.
-use Rattle.std.specs.Prelude.{ℕ, Bool, nat_eq, if◌then◌else◌, List, [], ◌∷◌, codes, Option, Some, None}
+use Rattle.std.specs.Prelude.{ℕ, ◌==◌, Bool, not, ◌&&◌, ◌||◌, nat_eq, nat_lt, if◌then◌else◌, List, [], ◌∷◌, length, slice_index, codes, Option, Some, None}
+use Rattle.std.specs.Option.{option_map}
 use Rattle.std.specs.Cmp.Lexicographic.{pointwise}
+use Rattle.source_defs.specs.Numbers.{decimal_up_to}
 use Rattle.report_defs.specs.declared.command.Command.{Command}
-use Rattle.report_defs.specs.declared.command.Command.TheVariants.{Gasm}
+use Rattle.report_defs.specs.declared.command.Command.TheVariants.{Gasm, Exec}
 
 abbrev pub same_word : List ℕ → List ℕ → Bool
 same_word word name = pointwise nat_eq word name
 
--- Profile: a command is one word so far; words in any other shape are no command.
+-- a 0 with more behind it
+abbrev pub has_leading_zero : List ℕ → Bool
+has_leading_zero word = nat_lt 1 (length word) && (slice_index word 0 == 0x30)
+
+-- Profile: a number is decimal digits without a leading zero, up to a limit.
+abbrev pub number_word : ℕ → List ℕ → Option ℕ
+number_word limit word = if has_leading_zero word then None else decimal_up_to limit word
+
+-- Profile: exec makes at most 10,000,000 instructions.
+abbrev pub most_instructions : ℕ
+most_instructions = 10000000
+
+abbrev pub exec_command : List ℕ → Option Command
+exec_command word = option_map Exec (number_word most_instructions word)
+
+-- Profile: words in any other shape are no command.
 abbrev pub command_of : List (List ℕ) → Option Command
 command_of [] = None
-command_of (word ∷ []) = if same_word word (codes "gasm") then Some Gasm else None
-command_of (word ∷ next ∷ others) = None
+command_of (name ∷ []) = if same_word name (codes "gasm") then Some Gasm else None
+command_of (name ∷ word ∷ []) = if same_word name (codes "exec") then exec_command word else None
+command_of (name ∷ word ∷ next ∷ others) = None

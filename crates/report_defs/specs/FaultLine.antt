@@ -16,6 +16,9 @@ usage_line = codes "usage: ti_bench asm|link|dis ADDR|exec N|gasm|gdis ADDR|inte
 unfoldable pub too_large_line : List ℕ
 too_large_line = codes "too large\n"
 
+unfoldable pub past_end_line : List ℕ
+past_end_line = codes "past the end of memory\n"
+
 abbrev pub text_error_text : TextError → List ℕ
 text_error_text LineTooLong = codes "line too long"
 text_error_text BadLabel = codes "bad label"

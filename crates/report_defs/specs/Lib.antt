@@ -2,4 +2,6 @@ pub mod Numbers
 pub mod Rows
 pub mod FaultLine
 pub mod Commands
+pub mod Dump
+pub mod Exec
 pub mod Report

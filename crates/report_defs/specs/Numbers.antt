@@ -13,5 +13,5 @@ abbrev pub word_text : ℕ → List ℕ
 word_text word = byte_text (word / 256) ++ byte_text (word % 256)
 
 -- Profile: a word or an address by itself has the sign > in front.
-abbrev pub marked_word : ℕ → List ℕ
+unfoldable pub marked_word : ℕ → List ℕ
 marked_word word = 0x3E ∷ word_text word

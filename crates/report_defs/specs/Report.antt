@@ -1,12 +1,15 @@
 -- What a command reports on its input.
-use Rattle.std.specs.Prelude.{ℕ, nat_lt, if◌then◌else◌, List, length, Result, Ok, Err}
+use Rattle.std.specs.Prelude.{◌≡◌, ℕ, nat_lt, List, length, Result, Ok, Err, MatchBool}
+use Rattle.console_defs.specs.Machine.{MachineState}
+use Rattle.console_defs.specs.declared.ends.RunEnd.{RunEnd}
 use Rattle.gpl_defs.specs.Image.{Image, written_bytes}
 use Rattle.gpl_defs.specs.Layout.{Refusal, image_of_source}
 use Rattle.report_defs.specs.declared.command.Command.{Command}
-use Rattle.report_defs.specs.declared.command.Command.TheVariants.{Gasm}
+use Rattle.report_defs.specs.declared.command.Command.TheVariants.{Gasm, Exec}
 use Rattle.report_defs.specs.declared.status.Status.{Status}
 use Rattle.report_defs.specs.declared.status.Status.TheVariants.{Done, Refused, Usage}
-use Rattle.report_defs.specs.FaultLine.{usage_line, too_large_line, refusal_line}
+use Rattle.report_defs.specs.FaultLine.{usage_line, too_large_line, past_end_line, refusal_line}
+use Rattle.report_defs.specs.Exec.{Executes, exec_text, end_status}
 
 -- the bytes that standard output gets, or the line that standard error gets, and the status
 pub data Report : Type 0 where
@@ -29,9 +32,23 @@ abbrev pub gasm_report : Result Image Refusal → Report
 gasm_report (Ok image) = Whole Done (written_bytes image)
 gasm_report (Err refused) = Fault Refused (refusal_line refused)
 
-abbrev pub accepted_report : Command → List ℕ → Report
-accepted_report Gasm input = gasm_report (image_of_source input)
+-- the report of a run of the machine
+pub record ReportsRun (limit : ℕ) (input : List ℕ) (report : Report) : Type 0 where
+  pub ending : RunEnd
+  pub left : MachineState
+  pub executes : Executes limit input ending left
+  pub is : report ≡ Whole (end_status ending) (exec_text ending left)
 
--- whatever else holds, an input is refused that is too large
-abbrev pub report_on : Command → List ℕ → Report
-report_on command input = if nat_lt largest_input (length input) then Fault Refused too_large_line else accepted_report command input
+-- Profile: a program of raw bytes has room from >A000 to >FFFF.
+abbrev pub largest_program : ℕ
+largest_program = 24576
+
+abbrev pub AcceptedReport : Command → List ℕ → Report → Type 0
+AcceptedReport Gasm input report = report ≡ gasm_report (image_of_source input)
+AcceptedReport (Exec limit) input report =
+    MatchBool (nat_lt largest_program (length input)) (report ≡ Fault Refused past_end_line) (ReportsRun limit input report)
+
+-- Whatever else holds, an input is refused that is too large. There is one report on each command and input.
+abbrev pub ReportOn : Command → List ℕ → Report → Type 0
+ReportOn command input report =
+    MatchBool (nat_lt largest_input (length input)) (report ≡ Fault Refused too_large_line) (AcceptedReport command input report)

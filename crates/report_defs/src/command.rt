@@ -5,4 +5,9 @@
 pub enum Command {
     /// `gasm`: assembles a GPL source to the bytes of its image.
     Gasm,
+    /// `exec N`: places raw bytes from >A000 on and executes up to so many instructions from there.
+    Exec {
+        /// The most instructions, up to 10,000,000.
+        limit: u32,
+    },
 }

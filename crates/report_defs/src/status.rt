@@ -15,4 +15,6 @@ pub enum Status {
     WriteFault = 4,
     /// Memory was wanting.
     Memory = 5,
+    /// The report is whole, and its machine stopped at a word that is not executed, or at a port.
+    Stopped = 7,
 }

@@ -1,5 +1,5 @@
 -- How a run ends by its report.
-use Rattle.std.proofs.Common.{◌≡◌, ℕ, ◌+◌, ◌≤◌, ◌<◌, List, length, Option, Some, None, Ok, Err, Result, true, false, cond, refl, sym, ap, ◌∙◌, subst, arith}
+use Rattle.std.proofs.Common.{◌≡◌, ℕ, ◌+◌, ◌≤◌, ◌<◌, List, length, Option, Some, None, Ok, Err, Result, Bool, true, false, cond, refl, sym, ap, ◌∙◌, subst, arith}
 use Rattle.std.specs.Prelude.{OnOk, OnErr, is_ok, if◌then◌else◌, nat_lt}
 use Rattle.std.proofs.lemmas.Bool.Decides.{nat_tests}
 use Rattle.bench_io.specs.declared.failed.Failed.{Failed}
@@ -11,7 +11,9 @@ use Rattle.report_defs.specs.declared.status.Status.{Status}
 use Rattle.report_defs.specs.declared.status.Status.TheVariants.{Refused, WriteFault}
 use Rattle.report_defs.specs.Commands.{command_of}
 use Rattle.report_defs.specs.FaultLine.{too_large_line}
-use Rattle.report_defs.specs.Report.{Report, Whole, Fault, usage_report, status_of, largest_input, report_on}
+use Rattle.report_defs.specs.Report.{Report, Whole, Fault, usage_report, status_of, largest_input, ReportOn}
+use Rattle.ti_bench.specs.declared.report.Report as made
+use Rattle.ti_bench.specs.Made.{defined_report, whole_status}
 use Rattle.ti_bench.specs.Run.{Run, ReadsInput, ReportsOn, Reports, Wrote, WroteInPart, Reported, FailedToReport, Got, Missed, EndsBy}
 
 -- the bytes of a report were written to the output, or it failed
@@ -33,7 +35,7 @@ reads_whole before after bytes whole = record {
 }
 
 -- an input that is too large
-pub reads_too_much : (command : Command) (before after : SourceState) → GaveUp TooLarge largest_input before after → (bytes : List ℕ) × ReadsInput before after bytes × (Fault Refused too_large_line ≡ report_on command bytes)
+pub reads_too_much : (command : Command) (before after : SourceState) → GaveUp TooLarge largest_input before after → (bytes : List ℕ) × ReadsInput before after bytes × ReportOn command bytes (Fault Refused too_large_line)
 reads_too_much command before after (bytes, long, took) =
     let above : nat_lt largest_input (length bytes) ≡ true = grind (arith, nat_tests) in
     (bytes, record { took = took; within = omega arith; whole = λ le. absurd (omega arith) }, rw above refl)
@@ -46,3 +48,15 @@ reports_by run command report is reports = let P : Option Command → Type 0 = �
 pub reports_usage : (run : Run) (found : Option Command) → ((command : Command) → found ≡ Some command → ⊥) → found ≡ command_of run.words → run.input' ≡ run.input → Reports run usage_report
 reports_usage run None none is same = let P : Option Command → Type 0 = λ found. ReportsOn found run usage_report in subst P is (refl, same)
 reports_usage run (Some command) none is same = absurd (none command refl)
+
+-- the report that was made
+pub made_by : (command : Command) (bytes items : List ℕ) (one report : made.Report) → bytes ≡ items → one ≡ report → ReportOn command bytes (defined_report one) → ReportOn command items (defined_report report)
+made_by command bytes items one report same is on =
+    let P : List ℕ → Type 0 = λ b. ReportOn command b (defined_report report) in
+    let Q : made.Report → Type 0 = λ r. ReportOn command bytes (defined_report r) in
+    subst P same (subst Q is on)
+
+-- a run ends by a whole report, whether its machine stopped or not
+pub whole_ends : (run : Run) (stopped : Bool) → Reported run (whole_status stopped) → EndsBy run (whole_status stopped)
+whole_ends run true reported = reported
+whole_ends run false reported = reported

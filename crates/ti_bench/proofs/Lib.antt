@@ -1,2 +1,5 @@
+pub mod Dumps
 pub mod Ends
+pub mod Loading
 pub mod RowTexts
+pub mod Writing

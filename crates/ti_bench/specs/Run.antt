@@ -5,9 +5,9 @@ use Rattle.bench_io.specs.Stream.{SourceState, SinkState, IsAtEnd, Grew, GrewByP
 use Rattle.bench_io.specs.ReadAll.{Took}
 use Rattle.report_defs.specs.declared.command.Command.{Command}
 use Rattle.report_defs.specs.declared.status.Status.{Status}
-use Rattle.report_defs.specs.declared.status.Status.TheVariants.{Done, Refused, Usage, ReadFault, WriteFault, Memory}
+use Rattle.report_defs.specs.declared.status.Status.TheVariants.{Done, Refused, Usage, ReadFault, WriteFault, Memory, Stopped}
 use Rattle.report_defs.specs.Commands.{command_of}
-use Rattle.report_defs.specs.Report.{Report, Whole, Fault, status_of, usage_report, largest_input, report_on}
+use Rattle.report_defs.specs.Report.{Report, Whole, Fault, status_of, usage_report, largest_input, ReportOn}
 
 -- the words, and the input, the output and the error output before and after the run
 pub record Run : Type 0 where
@@ -38,7 +38,7 @@ Missed before after (byte ∷ bytes) = GrewByPrefix before.held after.held (byte
 -- the report of the run: on words that are no command nothing is read
 abbrev pub ReportsOn : Option Command → Run → Report → Type 0
 ReportsOn None run report = (report ≡ usage_report) × (run.input' ≡ run.input)
-ReportsOn (Some command) run report = (bytes : List ℕ) × ReadsInput run.input run.input' bytes × (report ≡ report_on command bytes)
+ReportsOn (Some command) run report = (bytes : List ℕ) × ReadsInput run.input run.input' bytes × ReportOn command bytes report
 
 abbrev pub Reports : Run → Report → Type 0
 Reports run report = ReportsOn (command_of run.words) run report
@@ -81,3 +81,4 @@ EndsBy run Usage = Reported run Usage
 EndsBy run ReadFault = WroteNothing run × Rose run.input.faults run.input'.faults
 EndsBy run WriteFault = FailedToReport run
 EndsBy run Memory = WroteNothing run
+EndsBy run Stopped = Reported run Stopped

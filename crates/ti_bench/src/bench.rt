@@ -5,8 +5,8 @@ ghost use Rattle.ti_bench.specs.Run.{EndsBy};
 
 use crate::command::read_command;
 use crate::fault_line::{too_large_line, usage_line};
-use crate::put::put_all;
-use crate::report::{Report, make_report};
+use crate::put::{put_all, put_lines};
+use crate::report::{Report, make_report, whole_status};
 use crate::words::Words;
 use bench_io::{Failed, ReadError, Sink, Source, read_all};
 use report_defs::Status;
@@ -50,6 +50,9 @@ pub fn bench<S: Source, O: Sink, E: Sink>(
     };
     match &report {
         Report::Image(image) => ended(put_all(out, image.written()), Status::Done),
+        Report::Lines { text, stopped } => {
+            ended(put_lines(out, text.as_bytes()), whole_status(*stopped))
+        }
         Report::Fault(line) => ended(put_all(err, line.as_bytes()), Status::Refused),
     }
 }

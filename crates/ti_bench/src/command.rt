@@ -1,17 +1,36 @@
 //! Which command the words say.
 
-ghost use Rattle.std.specs.Prelude.{◌≡◌};
-ghost use Rattle.report_defs.specs.Commands.{command_of};
+ghost use Rattle.std.specs.Prelude.{◌≡◌, ◌≤◌};
+ghost use Rattle.report_defs.specs.Commands as spec;
 
 use crate::words::Words;
+use asm_text::decimal_up_to;
 use report_defs::Command;
+
+/// The most instructions that `exec` makes.
+const MOST_INSTRUCTIONS: u32 = 10_000_000;
 
 /// The command that the words say, or `None` where they are in no shape of one.
 pub(crate) fn read_command(words: &Words) -> Option<Command>
-    ensures { result ≡ command_of words.now }
+    ensures { result ≡ spec.command_of words.now }
 {
     match words.as_slice() {
-        [word] if word.as_slice() == b"gasm".as_slice() => Some(Command::Gasm),
+        [name] if name.as_slice() == b"gasm".as_slice() => Some(Command::Gasm),
+        [name, limit] if name.as_slice() == b"exec".as_slice() => {
+            let limit = number_word(limit.as_slice(), MOST_INSTRUCTIONS)?;
+            Some(Command::Exec { limit })
+        }
         _ => None,
     }
+}
+
+/// The number that a word spells by decimal digits without a leading zero, where it is not above a limit.
+fn number_word(word: &[u8], limit: u32) -> Option<u32>
+    requires { limit ≤ 10000000 }
+    ensures { result ≡ spec.number_word limit word.now }
+{
+    if word.len() > 1 && word[0] == b'0' {
+        return None;
+    }
+    decimal_up_to(word, limit)
 }

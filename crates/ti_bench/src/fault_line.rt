@@ -25,6 +25,14 @@ pub(crate) fn too_large_line() -> &'static [u8]
     b"too large\n"
 }
 
+/// What is said of a program that runs past the end of memory.
+#[tactic(auto, unfolding(report_defs::specs::FaultLine::past_end_line))]
+pub(crate) fn past_end_line(alloc: Global) -> Result<String, AllocError>
+    ensures { IfOk result (λ text. string_bytes text ≡ spec.past_end_line) }
+{
+    String::from_str(alloc, "past the end of memory\n")
+}
+
 /// What is said of a refused line of a GPL source.
 pub(crate) fn gpl_refusal_line(
     alloc: Global,

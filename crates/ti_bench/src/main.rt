@@ -1,8 +1,10 @@
-//! A workbench for cartridges of the TI-99/4A that are written in GPL.
+//! A workbench for cartridges of the TI-99/4A.
 #![tactic(auto)]
 
 mod bench;
 mod command;
+mod commands;
+mod dump;
 mod fault_line;
 mod put;
 mod report;

@@ -1,6 +1,6 @@
 //! Writing to a sink.
 
-ghost use Rattle.std.specs.Prelude.{◌≡◌, OnOk, OnErr};
+ghost use Rattle.std.specs.Prelude.{◌<◌, ◌≤◌, length, OnOk, OnErr};
 ghost use Rattle.ti_bench.specs.Run.{Got, Missed};
 
 use bench_io::{Failed, Sink};
@@ -14,4 +14,30 @@ pub(crate) fn put_all<K: Sink>(sink: &mut K, bytes: &[u8]) -> Result<(), Failed>
         return Ok(());
     }
     sink.put(bytes)
+}
+
+/// Writes the lines of a text, each with its line feed by one call.
+pub(crate) fn put_lines<K: Sink>(sink: &mut K, text: &[u8]) -> Result<(), Failed>
+    ensures ok { OnOk result (Got (K.state sink.old) (K.state sink.new) text.now) }
+    ensures failed { OnErr result (Missed (K.state sink.old) (K.state sink.new) text.now) }
+{
+    let mut rest = text;
+    while !rest.is_empty() {
+        let (line, others) = rest.split_at(line_end(rest));
+        sink.put(line)?;
+        rest = others;
+    }
+    Ok(())
+}
+
+/// The place behind the first line of a text that is not empty.
+fn line_end(text: &[u8]) -> usize
+    requires { 0 < length text.now }
+    ensures some { 0 < result }
+    ensures within { result ≤ length text.now }
+{
+    match text.iter().position(|&byte| byte == b'\n') {
+        Some(place) => place + 1,
+        None => text.len(),
+    }
 }

@@ -2,12 +2,11 @@
 
 ghost use Rattle.std.specs.Prelude.{◌≡◌, ◌≤◌, length, IfOk};
 ghost use Rattle.report_defs.specs.Report as spec;
-ghost use Rattle.ti_bench.specs.Made.{defined_report};
+ghost use Rattle.ti_bench.specs.Made.{defined_report, whole_status};
 
-use crate::fault_line::gpl_refusal_line;
-use gpl_asm::{GplError, gpl_assemble};
+use crate::commands::{exec, gasm};
 use gpl_forms::GromImage;
-use report_defs::Command;
+use report_defs::{Command, Status};
 use std::alloc::{AllocError, Global};
 
 /// A report, made and not yet written.
@@ -15,6 +14,13 @@ use std::alloc::{AllocError, Global};
 pub(crate) enum Report {
     /// An image, whose bytes go to standard output.
     Image(GromImage),
+    /// Lines, which go to standard output one by one.
+    Lines {
+        /// All the lines.
+        text: String,
+        /// Whether the machine that they show stopped at a word or at a port.
+        stopped: bool,
+    },
     /// A fault line, which goes to standard error.
     Fault(String),
 }
@@ -26,23 +32,21 @@ pub(crate) fn make_report(
     input: &[u8],
 ) -> Result<Report, AllocError>
     requires { length input.now ≤ spec.largest_input }
-    ensures { IfOk result (λ report. defined_report report ≡ spec.report_on command input.now) }
+    ensures { IfOk result (λ report. spec.ReportOn command input.now (defined_report report)) }
 {
     match command {
         Command::Gasm => gasm(alloc, input),
+        Command::Exec { limit } => exec(alloc, limit, input),
     }
 }
 
-/// The image of a GPL source, or its first refused line.
-fn gasm(alloc: Global, input: &[u8]) -> Result<Report, AllocError>
-    requires { length input.now ≤ spec.largest_input }
-    ensures { IfOk result (λ report. defined_report report ≡ spec.accepted_report Command.Gasm input.now) }
+/// The status of a whole report, by whether its machine stopped.
+pub(crate) fn whole_status(stopped: bool) -> Status
+    ensures { result ≡ whole_status stopped }
 {
-    match gpl_assemble(alloc, input) {
-        Ok(program) => Ok(Report::Image(program.image)),
-        Err(GplError::At { line, cause }) => {
-            Ok(Report::Fault(gpl_refusal_line(alloc, line, cause)?))
-        }
-        Err(GplError::Memory) => Err(AllocError),
+    if stopped {
+        Status::Stopped
+    } else {
+        Status::Done
     }
 }

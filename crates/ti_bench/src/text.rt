@@ -18,6 +18,7 @@ pub(crate) fn push_byte(text: &mut String, byte: u8) -> Result<(), AllocError>
 }
 
 /// Appends a word by `>` and its four hexadecimal digits.
+#[tactic(auto, unfolding(report_defs::specs::Numbers::marked_word))]
 pub(crate) fn push_word(text: &mut String, word: u16) -> Result<(), AllocError>
     ensures { OnOk result (string_bytes text.new ≡ string_bytes text.old ++ numbers.marked_word word) }
 {
@@ -62,7 +63,12 @@ pub(crate) fn push_rows(text: &mut String, first: u16, bytes: &[u8]) -> Result<(
 }
 
 /// Appends what a dump shows for the row with a number.
-fn push_row_text(text: &mut String, first: u16, bytes: &[u8], number: usize) -> Result<(), AllocError>
+fn push_row_text(
+    text: &mut String,
+    first: u16,
+    bytes: &[u8],
+    number: usize,
+) -> Result<(), AllocError>
     requires place { first + length bytes.now ≤ 65536 }
     requires number { number < length bytes.now / 16 }
     ensures { OnOk result (string_bytes text.new ≡ string_bytes text.old ++ rows.row_text first bytes.now number) }

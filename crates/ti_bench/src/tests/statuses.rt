@@ -21,6 +21,14 @@ fn each_status_has_its_cause(rt: HostRuntime) -> Result<(), Fail> {
         &[b"run", b"007"],
         &[b"trace", b"100001"],
         &[b"dis", b"A001"],
+        &[b"exec"],
+        &[b"exec", b""],
+        &[b"exec", b"007"],
+        &[b"exec", b"-1"],
+        &[b"exec", b"1x"],
+        &[b"exec", b"10000001"],
+        &[b"exec", b"99999999999999999999"],
+        &[b"exec", b"1", b"1"],
     ] {
         let ended = run(alloc, words, b" RTN\n".to_vec(alloc)?, &[0], &[])?;
         assert_eq!(rt; ended.status, Status::Usage);
@@ -84,6 +92,7 @@ fn each_status_has_its_cause(rt: HostRuntime) -> Result<(), Fail> {
         (Status::ReadFault, 3),
         (Status::WriteFault, 4),
         (Status::Memory, 5),
+        (Status::Stopped, 7),
     ] {
         assert_eq!(rt; status as u8, number);
     }

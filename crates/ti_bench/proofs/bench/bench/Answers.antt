@@ -5,10 +5,10 @@ use Rattle.bench_io.specs.declared.whole.ReadError.TheVariants.{TooLarge}
 use Rattle.gpl_defs.specs.Image.{written_bytes}
 use Rattle.report_defs.specs.declared.status.Status.TheVariants.{Done, Refused, Usage}
 use Rattle.report_defs.specs.FaultLine.{usage_line, too_large_line}
-use Rattle.report_defs.specs.Report.{Report, Whole, Fault, largest_input, report_on}
+use Rattle.report_defs.specs.Report.{Report, Whole, Fault, largest_input, ReportOn}
 use Rattle.ti_bench.specs.Run.{Run, ReadsInput, ReportsOn}
-use Rattle.ti_bench.specs.Made.{defined_report}
-use Rattle.ti_bench.proofs.Ends.{ends_whole, ends_fault, reads_whole, reads_too_much, reports_by, reports_usage}
+use Rattle.ti_bench.specs.Made.{whole_status}
+use Rattle.ti_bench.proofs.Ends.{ends_whole, ends_fault, reads_whole, reads_too_much, reports_by, reports_usage, made_by, whole_ends}
 use Rattle.ti_bench.proofs.bench.bench.Goals as goal
 
 pub returns-in_default : goal.returns-in_default
@@ -28,7 +28,7 @@ pub returns-in-Image : goal.returns-in-Image
 returns-in-Image g c =
     let run : Run = record { words = c.args.words.now; input = g.S.Source.state c.args.input.now; input' = g.S.Source.state c.read_all.new.source; out = g.O.Sink.state c.args.out.now; out' = g.O.Sink.state c.put_all-in-Image.new.sink; err = g.E.Sink.state c.args.err.now; err' = g.E.Sink.state c.args.err.now } in
     let report = Whole Done (written_bytes c.in-Image.image) in
-    let made : report ≡ report_on c.in-Some.command c.in-Ok.bytes.items = ap defined_report (sym c.in-Image.is) ∙ (c.in-Ok-make_report.ensures ∙ ap (report_on c.in-Some.command) c.as_slice.ensures.value) in
+    let made : ReportOn c.in-Some.command c.in-Ok.bytes.items report = made_by c.in-Some.command _ _ _ _ c.as_slice.ensures.value c.in-Image.is c.in-Ok-make_report.ensures in
     let read : ReportsOn (Some c.in-Some.command) run report = (c.in-Ok.bytes.items, reads_whole run.input run.input' c.in-Ok.bytes.items c.in-Ok.ensures.ok, made) in
     let reports = reports_by run c.in-Some.command report c.in-Some.ensures read in
     rw c.ended-in-Image.ensures (ends_whole run Done (written_bytes c.in-Image.image) _ c.put_all-in-Image.result (λ r. r) reports c.written.ensures refl c.put_all-in-Image.ensures.ok c.put_all-in-Image.ensures.failed)
@@ -37,7 +37,18 @@ pub returns : goal.returns
 returns g c =
     let run : Run = record { words = c.args.words.now; input = g.S.Source.state c.args.input.now; input' = g.S.Source.state c.read_all.new.source; out = g.O.Sink.state c.args.out.now; out' = g.O.Sink.state c.args.out.now; err = g.E.Sink.state c.args.err.now; err' = g.E.Sink.state c.put_all-in-Fault.new.sink } in
     let report = Fault Refused (string_bytes c.in-Fault.line) in
-    let made : report ≡ report_on c.in-Some.command c.in-Ok.bytes.items = ap defined_report (sym c.in-Fault.is) ∙ (c.in-Ok-make_report.ensures ∙ ap (report_on c.in-Some.command) c.as_slice.ensures.value) in
+    let made : ReportOn c.in-Some.command c.in-Ok.bytes.items report = made_by c.in-Some.command _ _ _ _ c.as_slice.ensures.value c.in-Fault.is c.in-Ok-make_report.ensures in
     let read : ReportsOn (Some c.in-Some.command) run report = (c.in-Ok.bytes.items, reads_whole run.input run.input' c.in-Ok.bytes.items c.in-Ok.ensures.ok, made) in
     let reports = reports_by run c.in-Some.command report c.in-Some.ensures read in
-    rw c.ended-in-Fault.ensures (ends_fault run Refused (string_bytes c.in-Fault.line) _ c.put_all-in-Fault.result (λ r. r) reports c.as_bytes.ensures.value refl c.put_all-in-Fault.ensures.ok c.put_all-in-Fault.ensures.failed)
+    rw c.ended-in-Fault.ensures (ends_fault run Refused (string_bytes c.in-Fault.line) _ c.put_all-in-Fault.result (λ r. r) reports c.as_bytes-in-Fault.ensures.value refl c.put_all-in-Fault.ensures.ok c.put_all-in-Fault.ensures.failed)
+
+pub returns-in-Lines : goal.returns-in-Lines
+returns-in-Lines g c =
+    let run : Run = record { words = c.args.words.now; input = g.S.Source.state c.args.input.now; input' = g.S.Source.state c.read_all.new.source; out = g.O.Sink.state c.args.out.now; out' = g.O.Sink.state c.put_lines.new.sink; err = g.E.Sink.state c.args.err.now; err' = g.E.Sink.state c.args.err.now } in
+    let status = whole_status c.in-Lines.stopped in
+    let report = Whole status (string_bytes c.in-Lines.text) in
+    let made : ReportOn c.in-Some.command c.in-Ok.bytes.items report = made_by c.in-Some.command _ _ _ _ c.as_slice.ensures.value c.in-Lines.is c.in-Ok-make_report.ensures in
+    let read : ReportsOn (Some c.in-Some.command) run report = (c.in-Ok.bytes.items, reads_whole run.input run.input' c.in-Ok.bytes.items c.in-Ok.ensures.ok, made) in
+    let reports = reports_by run c.in-Some.command report c.in-Some.ensures read in
+    rw (c.ended-in-Lines.ensures, c.whole_status.ensures)
+    (ends_whole run status (string_bytes c.in-Lines.text) _ c.put_lines.result (whole_ends run c.in-Lines.stopped) reports c.as_bytes.ensures.value refl c.put_lines.ensures.ok c.put_lines.ensures.failed)

@@ -1,0 +1,4 @@
+pub mod Stops
+pub mod Undo
+pub mod Parts
+pub mod Turns

@@ -1,0 +1,18 @@
+-- One turn of a run, a step.
+use Rattle.std.specs.Prelude.{ℕ, true, false, eqb, Option, Some, None}
+use Rattle.console_defs.specs.declared.ends.StepEnd.{StepEnd}
+use Rattle.console_defs.specs.declared.ends.StepEnd.TheVariants.{Done, Refused, Port}
+use Rattle.console_defs.specs.declared.ends.RunEnd.{RunEnd}
+use Rattle.console_defs.specs.declared.ends.RunEnd.TheVariants as run
+
+-- How many instructions a step executed.
+abbrev pub ticks_of : StepEnd → ℕ
+ticks_of (Done word) = 1
+ticks_of (Refused address) = 0
+ticks_of (Port address) = 0
+
+-- The end of a run that a step is.
+abbrev pub end_of_turn : StepEnd → Option RunEnd
+end_of_turn (Done word) = elim (eqb word 0x10FF) [ true ↦ Some run.SelfJump | false ↦ None ]
+end_of_turn (Refused address) = Some (run.Refused address)
+end_of_turn (Port address) = Some (run.Port address)

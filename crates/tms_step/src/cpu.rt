@@ -1,0 +1,98 @@
+//! The processor's state, and its accesses to memory.
+
+ghost use Rattle.std.specs.Prelude.{◌≡◌, ◌<◌, ℕ, ◌+◌, ◌*◌, ◌%◌, IfOk, OnErr, Option, Some, None};
+ghost use Rattle.console_defs.specs.Words.{even, plus};
+ghost use Rattle.console_defs.specs.Status.{IsStatus};
+ghost use Rattle.console_defs.specs.Bus.{Gives};
+ghost use Rattle.console_defs.specs.Memory.{Memory, IsMemory, console, word_read};
+ghost use Rattle.console_defs.specs.Operand.{word_at, with_word, register_place, next_word, index_of};
+ghost use Rattle.tms_step.specs.Stops.{left_by};
+ghost use Rattle.tms_step.specs.Undo.{put_back, SameButPc};
+
+use crate::stop::Stop;
+use console_bus::Bus;
+use console_defs::Status;
+use std::marker::Model;
+
+/// The processor with its memory (TMS9900 data manual, "Registers and memory").
+#[derive(Drop)]
+pub(crate) struct Cpu {
+    pub(crate) bus: Bus,
+    pub(crate) pc: u16,
+    pub(crate) wp: u16,
+    pub(crate) status: Status,
+}
+
+impl Model for Cpu {
+    ghost use Rattle.console_defs.specs.Memory.{Memory};
+    ghost use Rattle.console_defs.specs.Operand.{Cpu as CpuState};
+    ghost use Rattle.console_defs.specs.Status.{IsStatus};
+
+    ghost Value = { CpuState Memory };
+
+    ghost view = { λ x. record { memory = x.bus; pc = x.pc; wp = x.wp; status = x.status } };
+
+    ghost invariant = { λ x. IsStatus x.status };
+}
+
+/// A word that was written over.
+#[derive(Clone, Copy, Debug)]
+pub(crate) struct Kept {
+    /// Its address.
+    pub(crate) place: u16,
+    /// What it was.
+    pub(crate) word: u16,
+}
+
+impl Cpu {
+    /// Does nothing. Its contract says what holds of every memory, for the proof of a caller.
+    #[inline]
+    pub(crate) fn holds_bounds(&self)
+        ensures { IsMemory self.now.memory }
+    {
+        self.bus.holds_bounds();
+    }
+
+    /// The word that holds an address.
+    #[inline]
+    pub(crate) fn word_at(&self, at: u16) -> Result<u16, Stop>
+        ensures { left_by result (λ word. (word, self.now)) ≡ word_at Memory console self.now at }
+    {
+        match self.bus.word_at(at) {
+            Ok(word) => Ok(word),
+            Err(stop) => Err(Stop::Port(stop.0)),
+        }
+    }
+
+    /// Writes the word that holds an address; where a port stops it, nothing has changed.
+    #[inline]
+    pub(crate) fn write_word(&mut self, at: u16, word: u16) -> Result<(), Stop>
+        ensures value { left_by result (λ _. self.new) ≡ with_word Memory console self.old at word }
+        ensures stopped { OnErr result (self.new ≡ self.old) }
+    {
+        match self.bus.write_word(at, word) {
+            Ok(()) => Ok(()),
+            Err(stop) => Err(Stop::Port(stop.0)),
+        }
+    }
+
+    /// The address of a workspace register.
+    #[inline]
+    pub(crate) fn register_place(&self, number: u8) -> u16
+        requires { number < 16 }
+        ensures { result ≡ register_place Memory console self.now number }
+    {
+        self.wp.wrapping_add(2 * number as u16)
+    }
+
+    /// The word at the program counter, which goes on by two.
+    #[inline]
+    pub(crate) fn next_word(&mut self) -> Result<u16, Stop>
+        ensures value { left_by result (λ word. (word, self.new)) ≡ next_word Memory console self.old }
+        ensures same { SameButPc self.old self.new }
+    {
+        let word = self.word_at(self.pc)?;
+        self.pc = self.pc.wrapping_add(2);
+        Ok(word)
+    }
+}

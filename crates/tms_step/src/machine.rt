@@ -1,0 +1,129 @@
+//! The machine: the processor over the console's memory, with a count of its instructions.
+
+ghost use Rattle.std.specs.Prelude.{◌≡◌, ◌<◌, ◌≤◌, ℕ, ◌+◌, true};
+ghost use Rattle.console_defs.specs.Bus.{Gives};
+ghost use Rattle.console_defs.specs.Memory.{Memory, console, word_read};
+ghost use Rattle.console_defs.specs.Operand.{register_place};
+ghost use Rattle.console_defs.specs.Status.{status_word};
+ghost use Rattle.console_defs.specs.Step.{step};
+ghost use Rattle.console_defs.specs.Machine.{MachineState, new_machine, counted, WhereStopped, has_workspace};
+
+use crate::cpu::Cpu;
+use console_bus::Bus;
+use console_defs::{Flags, Status, StepEnd};
+use std::marker::Model;
+
+/// A TMS9900 processor over the memory of the console, with a count of the instructions that it executed.
+#[derive(Drop)]
+pub struct Machine {
+    cpu: Cpu,
+    count: u64,
+}
+
+impl Model for Machine {
+    ghost use Rattle.console_defs.specs.Machine.{MachineState};
+
+    ghost Value = { MachineState };
+
+    ghost view = { λ m. record { cpu = m.cpu; count = m.count } };
+}
+
+impl Machine {
+    /// A machine over a memory, with a workspace pointer and a program counter whose lowest bits are cleared. Its
+    /// status register and its count are 0.
+    pub fn new(bus: Bus, wp: u16, pc: u16) -> Machine
+        ensures { result ≡ new_machine bus wp pc }
+    {
+        let flags = Flags {
+            lgt: false,
+            agt: false,
+            eq: false,
+            c: false,
+            ov: false,
+        };
+        let status = Status {
+            flags,
+            op: false,
+            rest: 0,
+        };
+        Machine {
+            cpu: Cpu {
+                bus,
+                pc: pc / 2 * 2,
+                wp: wp / 2 * 2,
+                status,
+            },
+            count: 0,
+        }
+    }
+
+    /// One step of the processor: the instruction at the program counter is executed, and the count rises by one or
+    /// stands at its type's end. Where it is refused, or meets a port by a word access, the whole machine is as
+    /// before, ports included.
+    #[inline]
+    pub fn step(&mut self) -> StepEnd
+        ensures step { (result, self.new.cpu) ≡ step Memory console self.old.cpu }
+        ensures count { self.new.count ≡ counted result self.old.count }
+        ensures stopped { WhereStopped result (self.new ≡ self.old) }
+    {
+        let end = self.cpu.step();
+        if let StepEnd::Done(_) = end {
+            self.count = self.count.saturating_add(1);
+        }
+        end
+    }
+
+    /// The program counter, the address of the next instruction.
+    pub fn pc(&self) -> u16
+        ensures { result ≡ self.now.cpu.pc }
+    {
+        self.cpu.pc
+    }
+
+    /// The workspace pointer, the address of register 0.
+    pub fn wp(&self) -> u16
+        ensures { result ≡ self.now.cpu.wp }
+    {
+        self.cpu.wp
+    }
+
+    /// The word of the status register, all sixteen bits (TMS9900 data manual, "Status register").
+    pub fn st(&self) -> u16
+        ensures { result ≡ status_word self.now.cpu.status }
+    {
+        self.cpu.status_word()
+    }
+
+    /// How many instructions were executed; it stands at its type's end.
+    pub fn count(&self) -> u64
+        ensures { result ≡ self.now.count }
+    {
+        self.count
+    }
+
+    /// The sixteen registers lie wholly in the scratchpad from >8300 on, or in expansion memory.
+    pub fn has_workspace(&self) -> bool
+        ensures { result ≡ has_workspace self.now.cpu.wp }
+    {
+        matches!(self.cpu.wp, 0x8300..=0x83E0 | 0x2000..=0x3FE0 | 0xA000..=0xFFE0)
+    }
+
+    /// The workspace register with a number below 16 (TMS9900 data manual, "Registers and memory").
+    pub fn register(&self, number: u8) -> u16
+        requires number { number < 16 }
+        requires workspace { has_workspace self.now.cpu.wp ≡ true }
+        ensures { Gives result ≡ word_read self.now.cpu.memory (register_place Memory console self.now.cpu number) }
+    {
+        match self.cpu.word_at(self.cpu.register_place(number)) {
+            Ok(word) => word,
+            Err(_) => unreachable!(),
+        }
+    }
+
+    /// The memory.
+    pub fn bus(&self) -> &Bus
+        ensures { result.now ≡ self.now.cpu.memory }
+    {
+        &self.cpu.bus
+    }
+}

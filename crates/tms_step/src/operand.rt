@@ -1,0 +1,163 @@
+//! Operands: where they stand, what they are, and the growth of a register that is taken back where a later access
+//! stops the instruction.
+
+ghost use Rattle.std.specs.Prelude.{◌≡◌, ◌<◌, IfOk, IsOk, OnOk, OnErr, Some, None, true, false};
+ghost use Rattle.console_defs.specs.Words.{plus};
+ghost use Rattle.console_defs.specs.Flags.{width_of};
+ghost use Rattle.console_defs.specs.Bus.{Gives, answer_of};
+ghost use Rattle.console_defs.specs.Memory.{Memory, IsMemory, console, word_read};
+ghost use Rattle.console_defs.specs.Operand.{mode_of, index_of, operand, with_word, value_at, with_value};
+ghost use Rattle.console_defs.specs.Instructions.{IsPlace};
+ghost use Rattle.tms_step.specs.Stops.{left_by};
+ghost use Rattle.tms_step.specs.Undo.{put_back, SameButPc};
+
+use crate::cpu::{Cpu, Kept};
+use crate::stop::Stop;
+use console_defs::Place;
+
+/// An operand.
+#[derive(Clone, Copy, Debug)]
+pub(crate) struct Operand {
+    pub(crate) address: u16,
+    /// The register that has grown, as it was before.
+    pub(crate) grown: Option<Kept>,
+}
+
+impl Cpu {
+    /// What an index register adds to an address. Register 0 is no index (TMS9900 data manual, "Indexed addressing").
+    #[inline]
+    pub(crate) fn index_of(&self, number: u8) -> Result<u16, Stop>
+        requires { number < 16 }
+        ensures { left_by result (λ index. index) ≡ index_of Memory console self.now number }
+    {
+        if number == 0 {
+            return Ok(0);
+        }
+        self.word_at(self.register_place(number))
+    }
+
+    /// The address of an operand, after the growth of its register (TMS9900 data manual, "Addressing modes").
+    #[inline]
+    pub(crate) fn operand(&mut self, place: Place, byte: bool) -> Result<Operand, Stop>
+        requires { IsPlace place }
+        ensures value { left_by result (λ found. (found.address, self.new)) ≡ operand Memory console (mode_of place.mode) (width_of byte) place.reg self.old }
+        ensures undo { IfOk result (λ found. SameButPc self.old (put_back found.grown self.new)) }
+        ensures stopped { OnErr result (SameButPc self.old self.new) }
+    {
+        match place.mode {
+            0 => Ok(standing(self.register_place(place.reg))),
+            1 => Ok(standing(self.word_at(self.register_place(place.reg))?)),
+            2 => Ok(standing(self.indexed(place.reg)?)),
+            _ => self.grown(place.reg, byte),
+        }
+    }
+
+    /// The following word with an index added.
+    #[inline]
+    fn indexed(&mut self, number: u8) -> Result<u16, Stop>
+        requires { number < 16 }
+        ensures value { left_by result (λ address. (address, self.new)) ≡ operand Memory console (mode_of 2) (width_of false) number self.old }
+        ensures same { SameButPc self.old self.new }
+    {
+        let base = self.next_word()?;
+        let index = self.index_of(number)?;
+        Ok(base.wrapping_add(index))
+    }
+
+    /// The address in a register, which then grows by the bytes of the operand.
+    #[inline]
+    fn grown(&mut self, number: u8, byte: bool) -> Result<Operand, Stop>
+        requires { number < 16 }
+        ensures value { left_by result (λ found. (found.address, self.new)) ≡ operand Memory console (mode_of 3) (width_of byte) number self.old }
+        ensures undo { IfOk result (λ found. SameButPc self.old (put_back found.grown self.new)) }
+        ensures stopped { OnErr result (SameButPc self.old self.new) }
+    {
+        let place = self.register_place(number);
+        let address = self.word_at(place)?;
+        let more = if byte { 1 } else { 2 };
+        let kept = self.write_over(place, address, address.wrapping_add(more))?;
+        Ok(Operand {
+            address,
+            grown: Some(kept),
+        })
+    }
+
+    /// The value at an address, a word or a byte. A byte that is read may change a port, and nothing stops it.
+    #[inline]
+    pub(crate) fn value_at(&mut self, byte: bool, at: u16) -> Result<u16, Stop>
+        ensures value { left_by result (λ value. (value, self.new)) ≡ value_at Memory console byte at self.old }
+        ensures fits { IfOk result (λ value. value < (width_of byte).modulus) }
+        ensures stopped { OnErr result (self.new ≡ self.old) }
+        ensures word { byte ≡ false → self.new ≡ self.old }
+    {
+        if byte {
+            return Ok(self.bus.read_byte(at) as u16);
+        }
+        self.word_at(at)
+    }
+
+    /// Writes a word or a byte to an address. Nothing stops a byte.
+    #[inline]
+    pub(crate) fn write_value(&mut self, byte: bool, at: u16, value: u16) -> Result<(), Stop>
+        requires { value < (width_of byte).modulus }
+        ensures value { left_by result (λ _. self.new) ≡ with_value Memory console byte at value self.old }
+        ensures stopped { OnErr result (self.new ≡ self.old) }
+        ensures byte { byte ≡ true → IsOk result }
+    {
+        if byte {
+            self.bus.write_byte(at, value as u8);
+            return Ok(());
+        }
+        self.write_word(at, value)
+    }
+
+    /// Writes a word over the one that is given, which is kept.
+    #[inline]
+    pub(crate) fn write_over(&mut self, place: u16, old: u16, word: u16) -> Result<Kept, Stop>
+        requires { word_read self.old.memory place ≡ Gives old }
+        ensures value { left_by result (λ _. self.new) ≡ with_word Memory console self.old place word }
+        ensures undo { IfOk result (λ kept. SameButPc self.old (put_back (Some kept) self.new)) }
+        ensures stopped { OnErr result (SameButPc self.old self.new) }
+    {
+        self.holds_bounds();
+        self.write_word(place, word)?;
+        Ok(Kept { place, word: old })
+    }
+
+    /// How an instruction ends, where a register has grown before: unless it was executed, the register is put back.
+    #[inline]
+    #[tactic(auto, using(crate::proofs::PutBack::put_back_later))]
+    pub(crate) fn settle(&mut self, end: Result<(), Stop>, grown: Option<Kept>) -> Result<(), Stop>
+        ensures end { result ≡ end }
+        ensures executed { OnOk result (self.new ≡ self.old) }
+        ensures stopped { OnErr result (self.new ≡ put_back grown self.old) }
+    {
+        if end.is_err() {
+            self.put_back(grown);
+        }
+        end
+    }
+
+    /// Puts a word back that was written over.
+    #[inline]
+    #[tactic(auto, using(crate::proofs::PutBack::taken_left))]
+    pub(crate) fn put_back(&mut self, kept: Option<Kept>)
+        ensures { self.new ≡ put_back kept self.old }
+    {
+        if let Some(kept) = kept {
+            let _written = self.bus.write_word(kept.place, kept.word);
+        }
+    }
+}
+
+/// An operand that leaves all registers as they are.
+#[inline]
+fn standing(address: u16) -> Operand
+    ensures address { result.address ≡ address }
+    ensures grown { result.grown ≡ None }
+{
+    Operand {
+        address,
+        grown: None,
+    }
+}

@@ -1,0 +1,74 @@
+//! Runs of steps.
+
+ghost use Rattle.std.specs.Prelude.{◌≡◌, ◌≤◌, ◌+◌, ◌-◌};
+ghost use Rattle.console_defs.specs.Memory.{Memory, console};
+ghost use Rattle.console_defs.specs.Step.{step};
+ghost use Rattle.console_defs.specs.Runs.{IsRun, is_reached};
+ghost use Rattle.console_defs.specs.Machine.{raised, counted};
+ghost use Rattle.tms_step.specs.Turns.{ticks_of, end_of_turn};
+
+use crate::machine::Machine;
+use crate::steps::Steps;
+use console_defs::{RunEnd, StepEnd};
+use std::sync::ledger::Ledger;
+
+/// The word of a jump to itself.
+const SELF_JUMP: u16 = 0x10FF;
+
+impl Machine {
+    /// Makes steps up to the first of five ends. Before a step, Reached where the program counter is `stop`, else
+    /// Limit where `limit` instructions were executed; at a step, Refused or Port as the step itself; after a step,
+    /// SelfJump where it executed >10FF. The counter rises by the number of executed instructions.
+    pub fn run_to<L: Ledger>(
+        &mut self,
+        stop: Option<u16>,
+        limit: u64,
+        steps: &mut Steps<L>,
+    ) -> RunEnd
+        ensures rises { steps.old ≤ steps.new }
+        ensures run { IsRun Memory console stop limit (steps.new - steps.old) self.old.cpu result self.new.cpu }
+        ensures count { self.new.count ≡ raised self.old.count (steps.new - steps.old) }
+        ensures limit { steps.new - steps.old ≤ limit }
+    {
+        let _count = self.count();
+        for _made in 0..limit {
+            if is_reached(stop, self.pc()) {
+                return RunEnd::Reached;
+            }
+            if let Some(end) = self.turn(steps) {
+                return end;
+            }
+        }
+        if is_reached(stop, self.pc()) {
+            RunEnd::Reached
+        } else {
+            RunEnd::Limit
+        }
+    }
+
+    /// One step, counted where it executed an instruction, and the end of a run that it is.
+    #[inline]
+    fn turn<L: Ledger>(&mut self, steps: &mut Steps<L>) -> Option<RunEnd>
+        ensures step { self.new.cpu ≡ (step Memory console self.old.cpu).1 }
+        ensures end { result ≡ end_of_turn (step Memory console self.old.cpu).0 }
+        ensures ticks { steps.new ≡ steps.old + ticks_of (step Memory console self.old.cpu).0 }
+        ensures count { self.new.count ≡ counted (step Memory console self.old.cpu).0 self.old.count }
+    {
+        match self.step() {
+            StepEnd::Done(word) => {
+                steps.tick();
+                (word == SELF_JUMP).then_some(RunEnd::SelfJump)
+            }
+            StepEnd::Refused(address) => Some(RunEnd::Refused(address)),
+            StepEnd::Port(address) => Some(RunEnd::Port(address)),
+        }
+    }
+}
+
+/// The program counter stands at the address that ends the run.
+#[inline]
+fn is_reached(stop: Option<u16>, pc: u16) -> bool
+    ensures { result ≡ is_reached stop pc }
+{
+    stop == Some(pc)
+}

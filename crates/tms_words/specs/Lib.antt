@@ -1,0 +1,2 @@
+pub use Rattle.console_defs.specs.Flags
+pub use Rattle.console_defs.specs.Instructions
