@@ -1,8 +1,8 @@
 -- Calls of `take`, one after the other.
-use Rattle.std.proofs.Common.{◌≡◌, ◌≢◌, ℕ, ◌+◌, ◌-◌, ◌^◌, ◌<◌, ◌≤◌, min, max, List, [], ◌∷◌, ◌++◌, length, take, Option, Some, None, sym, refl, ap, ◌∙◌, append_assoc, length-append, arith}
+use Rattle.std.proofs.Common.{◌≡◌, ℕ, ◌+◌, ◌<◌, ◌≤◌, List, [], ◌++◌, length, take, Option, Some, None, sym, refl, ap, ◌∙◌, append_assoc, length-append, arith}
 use Rattle.std.specs.Option.{option_map}
 use Rattle.bench_io.specs.Counts.{raised, Rose}
-use Rattle.bench_io.specs.Stream.{SourceState, Gave, IsAtEnd}
+use Rattle.bench_io.specs.Stream.{SourceState, Gave}
 use Rattle.bench_io.specs.ReadAll.{Took}
 
 -- A source before and after some calls, each of which took a byte or more.

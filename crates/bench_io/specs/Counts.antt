@@ -2,7 +2,7 @@
 --
 -- Profile: a count is kept in 64 bits. It never falls, and where a sum would pass 2^64 - 1 it becomes that number
 -- and stays there.
-use Rattle.std.specs.Prelude.{◌≡◌, ◌≢◌, ℕ, ◌+◌, ◌-◌, ◌^◌, ◌<◌, min, max}
+use Rattle.std.specs.Prelude.{◌≢◌, ℕ, ◌+◌, ◌-◌, ◌^◌, ◌<◌, min, max}
 
 -- a count that was raised by a number
 abbrev pub raised : ℕ → ℕ → ℕ

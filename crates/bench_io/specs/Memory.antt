@@ -1,5 +1,5 @@
 -- What clauses see of a source and of a sink in memory.
-use Rattle.std.specs.Prelude.{ℕ, ◌-◌, List, length}
+use Rattle.std.specs.Prelude.{ℕ, List}
 
 -- a source: the bytes left, the number of calls made and of bytes given, the numbers from 0 of the calls that fail,
 -- and how many have failed

@@ -1,9 +1,7 @@
 -- What the layout becomes where bytes are placed.
-use Rattle.std.proofs.Common.{◌≡◌, ℕ, ◌+◌, ◌-◌, ◌≤◌, ◌<◌, Bool, true, false, List, [], ◌∷◌, ◌++◌, length, Option, Some, None, refl, sym, ap, ◌∙◌, length-append, arith}
-use Rattle.std.specs.Prelude.{nat_lt, if◌then◌else◌}
+use Rattle.std.proofs.Common.{◌≡◌, ℕ, ◌+◌, ◌-◌, ◌≤◌, ◌<◌, true, false, List, ◌∷◌, length, Some, None, refl, sym, ap, ◌∙◌, length-append, arith}
+use Rattle.std.specs.Prelude.{nat_lt}
 use Rattle.std.proofs.lemmas.Bool.Decides.{nat_tests}
-use Rattle.std.specs.FinMap.{empty}
-use Rattle.gpl_defs.specs.declared.causes.GplCause.{GplCause}
 use Rattle.gpl_defs.specs.declared.causes.GplCause.TheVariants.{GromFull}
 use Rattle.gpl_defs.specs.Image.{Image, placed}
 use Rattle.gpl_defs.specs.Statements.{Statement, Bytes}

@@ -1,10 +1,10 @@
 -- What one more line makes of the lines before it.
-use Rattle.std.proofs.Common.{◌≡◌, ℕ, List, [], ◌∷◌, Option, Some, None, Result, Ok, Err, refl, sym, ap, ◌∙◌, rules}
+use Rattle.std.proofs.Common.{◌≡◌, ℕ, List, [], ◌∷◌, Some, None, Ok, Err, refl}
 use Rattle.source_defs.specs.declared.text.Line.{Line}
 use Rattle.source_defs.specs.Lines.{part}
 use Rattle.gpl_defs.specs.declared.causes.GplCause.{GplCause}
 use Rattle.gpl_defs.specs.Statements.{Statement, Nothing, Grom, Bytes, End, statement}
-use Rattle.gpl_defs.specs.Layout.{Refusal, refusal, judged, line_gives, statements_from}
+use Rattle.gpl_defs.specs.Layout.{refusal, judged, statements_from}
 
 module _ (text : List ℕ) (before : List Statement) (line : Line) (lines : List Line) where
   -- a line that has no statement

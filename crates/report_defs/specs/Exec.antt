@@ -1,5 +1,5 @@
 -- Executing raw bytes.
-use Rattle.std.specs.Prelude.{◌≡◌, ℕ, ◌-◌, List, ◌++◌, length, codes, Option, None}
+use Rattle.std.specs.Prelude.{◌≡◌, ℕ, ◌-◌, List, ◌++◌, length, codes, None}
 use Rattle.console_defs.specs.Bytes.{HoldsZeros}
 use Rattle.console_defs.specs.Vdp.{IsNewVdp}
 use Rattle.console_defs.specs.Grom.{new_grom}

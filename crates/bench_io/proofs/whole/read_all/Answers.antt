@@ -1,9 +1,7 @@
-use Rattle.std.proofs.Common.{◌≡◌, ◌<◌, ◌≤◌, ◌+◌, ℕ, length, take, drop, ◌++◌, sym, refl, ap, ◌∙◌, subst, arith, rules, length-append, length-take, length-drop}
+use Rattle.std.proofs.Common.{◌≡◌, ◌≤◌, ◌+◌, length, take, drop, ◌++◌, sym, ap, ◌∙◌, arith, rules, length-append, length-take}
 use Rattle.std.proofs.lemmas.Result.{err_from_is_err_and}
 use Rattle.std.proofs.lemmas.List.{take-append-le}
-use Rattle.bench_io.specs.Stream.{SourceState}
-use Rattle.bench_io.specs.ReadAll.{Took}
-use Rattle.bench_io.proofs.Taking.{TookEach, took_from, took_more, gave_none_by, raised_by_none, rose_since, took_last, few_calls}
+use Rattle.bench_io.proofs.Taking.{took_from, took_more, gave_none_by, raised_by_none, rose_since, took_last, few_calls}
 use Rattle.bench_io.proofs.whole.read_all.Goals as goal
 
 pub loop-bytes-preserved : goal.loop-bytes-preserved

@@ -1,7 +1,7 @@
-use Rattle.std.proofs.Common.{◌≡◌, List, [], ◌∷◌, Ok, Err, Some, sym, refl, ap, ◌∙◌, rules}
+use Rattle.std.proofs.Common.{◌≡◌, ◌∷◌, Ok, sym, refl, ap, ◌∙◌}
 use Rattle.std.proofs.lemmas.Bool.{false≢true}
-use Rattle.gpl_defs.specs.Statements.{Statement, End, statement}
-use Rattle.gpl_defs.specs.Layout.{statements_from, image_by, image_of_lines}
+use Rattle.gpl_defs.specs.Statements.{End, statement}
+use Rattle.gpl_defs.specs.Layout.{statements_from, image_by}
 use Rattle.source_defs.specs.Lines.{part, LinesLieInside}
 use Rattle.gpl_asm.specs.Answers.{defined_statement}
 use Rattle.gpl_asm.proofs.Reading.{refused_itself, refused_there, ends_there, goes_on, none_left}

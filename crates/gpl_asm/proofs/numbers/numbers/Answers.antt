@@ -1,6 +1,5 @@
-use Rattle.std.proofs.Common.{◌≡◌, ◌≢◌, ◌<◌, ◌≤◌, ◌+◌, ◌*◌, ℕ, Some, length, take, drop, sym, ◌∙◌, lit<, arith, length-take, length-drop, length-append}
+use Rattle.std.proofs.Common.{◌≡◌, ◌<◌, ◌≤◌, Some, length, take, sym, ◌∙◌, lit<, arith, length-take, length-drop, length-append}
 use Rattle.std.specs.List.{position_or_len}
-use Rattle.std.proofs.lemmas.List.Sums.{prefix_len-le-length}
 use Rattle.source_defs.specs.Numbers.{number, is_comma}
 use Rattle.source_defs.proofs.NumberLaws.{number_written, numbers_more, place_le}
 use Rattle.gpl_asm.proofs.numbers.numbers.Goals as goal

@@ -1,4 +1,3 @@
-use Rattle.std.proofs.Common.{sym, rules}
 use Rattle.gpl_asm.proofs.Adding.{fits, added}
 use Rattle.gpl_asm.proofs.layout.Layout.place.Goals as goal
 
