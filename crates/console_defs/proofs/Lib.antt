@@ -1,6 +1,9 @@
 pub mod ByteLaws
 pub mod WordLaws
 pub mod FlagLaws
+pub mod OverflowLaws
+pub mod ShiftLaws
+pub mod DivideLaws
 pub mod StatusLaws
 pub mod InstructionLaws
 pub mod GromLaws

@@ -1,5 +1,5 @@
--- Results and the status bits that they set.
-use Rattle.std.specs.Prelude.{ℕ, ℤ, pos, ◌+◌, ◌%◌, ◌+ℤ◌, ◌-ℤ◌, Bool, true, false, ◌||◌, ◌==◌, nat_lt, nat_le, int_lt, int_le, if◌then◌else◌}
+-- Widths of operands, sums, differences and comparisons, and the status bits that they set.
+use Rattle.std.specs.Prelude.{ℕ, ℤ, pos, ◌+◌, ◌-◌, ◌%◌, ◌+ℤ◌, ◌-ℤ◌, unsigned_abs, Bool, true, false, ◌||◌, eqb, ◌==◌, nat_lt, nat_le, int_lt, int_le, count_ones, if◌then◌else◌}
 use Rattle.console_defs.specs.declared.flags.Flags.{Flags}
 
 -- A width of operands: one past its largest number, the least number whose sign bit is set, and its bytes.
@@ -34,6 +34,15 @@ abbrev pub by_result : Width → ℕ → Flags → Flags
 by_result width number flags =
     record flags { lgt = nat_lt 0 number; agt = int_lt (pos 0) (signed width number); eq = number == 0 }
 
+-- The five status bits of an operation: L>, A> and EQ by a result, with its C and OV.
+abbrev pub result_flags : Width → ℕ → Bool → Bool → Flags
+result_flags width number carry overflow =
+    by_result width number (record { lgt = false; agt = false; eq = false; c = carry; ov = overflow })
+
+-- OP: a byte has an odd number of ones. TMS9900 data manual, "Status register".
+abbrev pub has_odd_parity : ℕ → Bool
+has_odd_parity byte = eqb (count_ones byte % 2) 1
+
 -- Addition: the exact sum, kept to the width.
 abbrev pub sum_of : Width → ℕ → ℕ → ℕ
 sum_of width destination source = (destination + source) % width.modulus
@@ -47,7 +56,61 @@ abbrev pub sum_overflows : Width → ℕ → ℕ → Bool
 sum_overflows width destination source =
     leaves_range width (signed width destination +ℤ signed width source)
 
--- The status bits of an addition; it sets all five. TMS9900 data manual, "Add words", "Add bytes".
+-- The status bits of an addition; it sets all five.
+-- TMS9900 data manual, "Add words", "Add bytes", "Add immediate", "Increment", "Increment by two".
 abbrev pub sum_flags : Width → ℕ → ℕ → Flags
 sum_flags width destination source =
-    by_result width (sum_of width destination source) (record { lgt = false; agt = false; eq = false; c = sum_carries width destination source; ov = sum_overflows width destination source })
+    result_flags width (sum_of width destination source) (sum_carries width destination source) (sum_overflows width destination source)
+
+-- Subtraction: the exact difference, kept to the width.
+abbrev pub difference_of : Width → ℕ → ℕ → ℕ
+difference_of width destination source = (destination + (width.modulus - source)) % width.modulus
+
+-- C: there is no borrow. TMS9900 data manual, "Status register".
+abbrev pub difference_carries : ℕ → ℕ → Bool
+difference_carries destination source = nat_le source destination
+
+-- OV: the exact difference of the signed numbers has no place in the width.
+-- TMS9900 data manual, "Status register".
+abbrev pub difference_overflows : Width → ℕ → ℕ → Bool
+difference_overflows width destination source =
+    leaves_range width (signed width destination -ℤ signed width source)
+
+-- The status bits of a subtraction; it sets all five.
+-- TMS9900 data manual, "Subtract words", "Subtract bytes", "Decrement", "Decrement by two".
+abbrev pub difference_flags : Width → ℕ → ℕ → Flags
+difference_flags width destination source =
+    result_flags width (difference_of width destination source) (difference_carries destination source) (difference_overflows width destination source)
+
+-- The least signed number of a width, whose negative has no place in it.
+abbrev pub is_least : Width → ℕ → Bool
+is_least width number = number == width.half
+
+-- Negation: the exact negative, kept to the width. TMS9900 data manual, "Negate".
+abbrev pub negation_of : Width → ℕ → ℕ
+negation_of width number = (width.modulus - number) % width.modulus
+
+-- The status bits of a negation: by the result; OV for the least number. TMS9900 data manual, "Negate".
+-- Profile: C is set for 0 alone.
+abbrev pub negation_flags : Width → ℕ → Flags
+negation_flags width number = result_flags width (negation_of width number) (number == 0) (is_least width number)
+
+-- The exact absolute value of the signed number. TMS9900 data manual, "Absolute value".
+abbrev pub absolute_of : Width → ℕ → ℕ
+absolute_of width number = unsigned_abs (signed width number)
+
+-- The status bits of an absolute value: L>, A> and EQ by the operand as it was; OV for the least number.
+-- TMS9900 data manual, "Absolute value".
+-- Profile: C is cleared.
+abbrev pub absolute_flags : Width → ℕ → Flags
+absolute_flags width number = result_flags width number false (is_least width number)
+
+-- L>, A> and EQ by a first number against a second: as numbers, as signed numbers, and for equality. The others stay.
+-- TMS9900 data manual, "Compare words", "Compare bytes", "Compare immediate".
+abbrev pub by_order : Width → ℕ → ℕ → Flags → Flags
+by_order width first second flags =
+    record flags { lgt = nat_lt second first; agt = int_lt (signed width second) (signed width first); eq = first == second }
+
+-- No status bit is set.
+abbrev pub no_flags : Flags
+no_flags = record { lgt = false; agt = false; eq = false; c = false; ov = false }

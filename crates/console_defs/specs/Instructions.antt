@@ -1,5 +1,5 @@
 -- The instruction table.
-use Rattle.std.specs.Prelude.{ℕ, ◌+◌, ◌*◌, ◌/◌, ◌%◌, ◌<◌, Bool, true, false, eqb, bit_and, List, [], ◌∷◌, Option, Some, None}
+use Rattle.std.specs.Prelude.{ℕ, ◌+◌, ◌*◌, ◌/◌, ◌%◌, ◌<◌, Bool, true, false, eqb, bit_and, List, [], ◌∷◌, Option, Some, None, FitsSigned}
 use Rattle.std.specs.Option.{option_map}
 use Rattle.std.specs.Int.{w8, cast_signed, cast_unsigned}
 use Rattle.console_defs.specs.declared.instruction.TwoOp.{TwoOp}
@@ -135,10 +135,10 @@ mask_of (Jump op) = 0xFF00
 mask_of (Imm op) = 0xFFF0
 mask_of (Bare op) = 0xFFFF
 
--- The rows of the table, in the manual's order.
--- Profile: the other operations are no rows yet.
+-- The rows of the table, in the manual's order. TMS9900 data manual, "Instructions".
 abbrev pub operations : List Operation
-operations = Two A false ∷ Two MOV false ∷ Jump JMP ∷ Imm LI ∷ []
+operations =
+    Two SZC false ∷ Two SZC true ∷ Two S false ∷ Two S true ∷ Two C false ∷ Two C true ∷ Two A false ∷ Two A true ∷ Two MOV false ∷ Two MOV true ∷ Two SOC false ∷ Two SOC true ∷ Reg COC ∷ Reg CZC ∷ Reg XOR ∷ Reg XOP ∷ Reg LDCR ∷ Reg STCR ∷ Reg MPY ∷ Reg DIV ∷ Shift SRA ∷ Shift SRL ∷ Shift SLA ∷ Shift SRC ∷ One BLWP ∷ One B ∷ One X ∷ One CLR ∷ One NEG ∷ One INV ∷ One INC ∷ One INCT ∷ One DEC ∷ One DECT ∷ One BL ∷ One SWPB ∷ One SETO ∷ One ABS ∷ Jump JMP ∷ Jump JLT ∷ Jump JLE ∷ Jump JEQ ∷ Jump JHE ∷ Jump JGT ∷ Jump JNE ∷ Jump JNC ∷ Jump JOC ∷ Jump JNO ∷ Jump JL ∷ Jump JH ∷ Jump JOP ∷ Jump SBO ∷ Jump SBZ ∷ Jump TB ∷ Imm LI ∷ Imm AI ∷ Imm ANDI ∷ Imm ORI ∷ Imm CI ∷ Imm STWP ∷ Imm STST ∷ Bare LWPI ∷ Bare LIMI ∷ Bare IDLE ∷ Bare RSET ∷ Bare RTWP ∷ Bare CKON ∷ Bare CKOF ∷ Bare LREX ∷ []
 
 -- A word belongs to the row whose mask leaves the row's code.
 abbrev pub first_row : List Operation → ℕ → Option Operation
@@ -199,6 +199,16 @@ HasRoom (instr.One op at) = IsPlace at
 HasRoom (instr.Jump op disp) = Unit {0}
 HasRoom (instr.Imm op w) = w < 16
 HasRoom (instr.Bare op) = Unit {0}
+
+-- A displacement is a signed byte, as its type says.
+abbrev pub HasSignedByte : Instr → Type 0
+HasSignedByte (instr.Two op byte dst src) = Unit {0}
+HasSignedByte (instr.Reg op d src) = Unit {0}
+HasSignedByte (instr.Shift op count w) = Unit {0}
+HasSignedByte (instr.One op at) = Unit {0}
+HasSignedByte (instr.Jump op disp) = FitsSigned w8 disp
+HasSignedByte (instr.Imm op w) = Unit {0}
+HasSignedByte (instr.Bare op) = Unit {0}
 
 -- The operands of an instruction in their places of its word.
 abbrev pub operands_word : Instr → ℕ

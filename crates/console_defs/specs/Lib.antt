@@ -1,5 +1,8 @@
 pub mod Words
 pub mod Flags
+pub mod Logic
+pub mod Shifts
+pub mod MultiplyDivide
 pub mod Status
 pub mod Instructions
 pub mod Bytes

@@ -1,5 +1,5 @@
 -- The machine of the console: the processor over the console's memory, with a count of its instructions.
-use Rattle.std.specs.Prelude.{ℕ, ◌+◌, ◌-◌, ◌^◌, min, Bool, true, false, ◌&&◌, ◌||◌, nat_le}
+use Rattle.std.specs.Prelude.{ℕ, ◌+◌, ◌-◌, ◌^◌, min, Bool, ◌&&◌, ◌||◌, nat_le}
 use Rattle.console_defs.specs.Words.{even}
 use Rattle.console_defs.specs.Status.{status_at}
 use Rattle.console_defs.specs.Operand.{Cpu}

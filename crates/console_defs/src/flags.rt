@@ -15,9 +15,16 @@ pub struct Flags {
     pub ov: bool,
 }
 
-/// A word and the status bits that it sets.
+/// A word and the status bits that come with it.
 #[derive(Clone, Copy, Debug, PartialEq, Eq)]
 pub struct Out16 {
     pub value: u16,
+    pub flags: Flags,
+}
+
+/// A byte and the status bits that come with it.
+#[derive(Clone, Copy, Debug, PartialEq, Eq)]
+pub struct Out8 {
+    pub value: u8,
     pub flags: Flags,
 }

@@ -8,7 +8,7 @@ mod port_stop;
 mod status;
 
 pub use ends::{RunEnd, StepEnd};
-pub use flags::{Flags, Out16};
+pub use flags::{Flags, Out8, Out16};
 pub use instruction::{
     BareOp, ImmOp, Instr, JumpOp, OneOp, Operation, Place, RegOp, ShiftOp, TwoOp,
 };

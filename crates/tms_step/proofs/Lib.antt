@@ -1,5 +1,5 @@
 pub mod PutBack
 pub mod Results
 pub mod PortLast
-pub mod Workspace
 pub mod Going
+pub mod Jumps

@@ -1,18 +1,18 @@
 -- A byte of a port may be read before a destination is derived or after it: words neither see nor change a port.
-use Rattle.std.proofs.Common.{◌≡◌, ℕ, ◌*◌, Bool, true, false, refl, sym, ap, ◌∙◌, Option, Some, None}
+use Rattle.std.proofs.Common.{◌≡◌, ℕ, true, false, refl, sym, ap, ◌∙◌}
 use Rattle.std.specs.Prelude.{eqb}
 use Rattle.console_defs.specs.Words.{even, plus}
 use Rattle.console_defs.specs.Flags.{Width, width_of}
 use Rattle.console_defs.specs.Bus.{Answer, Gives, AtPort, NoInstruction, ◌>>=◌}
 use Rattle.console_defs.specs.Vdp.{VdpState, vdp_data_read, vdp_status_read}
 use Rattle.console_defs.specs.Grom.{GromState, grom_data_read, grom_address_read}
-use Rattle.console_defs.specs.Memory.{Memory, Port, VdpDataRead, VdpStatusRead, VdpDataWrite, VdpAddressWrite, GromDataRead, GromAddressRead, GromDataWrite, GromAddressWrite, Region, Rom, LowExpansion, HighExpansion, Scratchpad, PortOf, Unmapped, region, is_port_region, is_port_address, port_read, byte_read_in, byte_read, word_read, word_written_in, word_written, console}
-use Rattle.console_defs.specs.Operand.{Cpu, Mode, Register, Indirect, Symbolic, Increment, mode_of, operand, register_place, index_of, with_word, value_at}
+use Rattle.console_defs.specs.Memory.{Memory, Port, VdpDataRead, VdpStatusRead, VdpDataWrite, VdpAddressWrite, GromDataRead, GromAddressRead, GromDataWrite, GromAddressWrite, Region, Rom, LowExpansion, HighExpansion, Scratchpad, PortOf, Unmapped, region, is_port_region, is_port_address, byte_read_in, word_read, word_written_in, word_written, console}
+use Rattle.console_defs.specs.Operand.{Cpu, Mode, Register, Indirect, Symbolic, Increment, mode_of, operand, register_place, index_of, with_word}
 use Rattle.console_defs.specs.Step.{two}
 use Rattle.console_defs.specs.declared.instruction.TwoOp.{TwoOp}
 use Rattle.console_defs.specs.declared.instruction.Place.{Place}
 use Rattle.console_defs.proofs.MemoryLaws.{with_ports, word_read_past_ports, word_written_past_ports}
-use Rattle.tms_step.specs.Parts.{from_source, two_from_port, from_port}
+use Rattle.tms_step.specs.Parts.{from_source, from_port}
 
 -- what a read of a port leaves of the video processor and of the GROMs, and the byte that it gives
 abbrev vdp_after : Port → VdpState → VdpState

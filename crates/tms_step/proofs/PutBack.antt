@@ -1,10 +1,9 @@
 -- A word that was written over is put back.
-use Rattle.std.proofs.Common.{◌≡◌, ℕ, ◌+◌, ◌*◌, ◌/◌, ◌%◌, ◌<◌, List, refl, sym, ap, ◌∙◌, arith, get_or}
+use Rattle.std.proofs.Common.{◌≡◌, ℕ, ◌+◌, ◌<◌, List, refl, sym, ap, ◌∙◌, arith, get_or}
 use Rattle.std.specs.Prelude.{Option, Some, None, Result, Ok, Err, OnErr}
 use Rattle.std.proofs.Math.ListN.{set}
 use Rattle.std.proofs.lemmas.List.{set_comm, set-set, set-get_or}
 use Rattle.console_defs.specs.Words.{high, low, join, even}
-use Rattle.console_defs.specs.Bytes.{HoldsBytes}
 use Rattle.console_defs.specs.Bus.{Answer, Gives, AtPort, NoInstruction, ◌>>=◌, left_by as bus_left_by}
 use Rattle.console_defs.specs.Operand.{Cpu, with_word}
 use Rattle.console_defs.specs.declared.port_stop.PortStop.{PortStop}

@@ -1,9 +1,9 @@
 -- What the code's comparisons say of the signed numbers of the flags.
-use Rattle.std.proofs.Common.{◌≡◌, ℕ, ◌+◌, ◌%◌, ◌<◌, ◌≤◌, Bool, true, false, refl, arith, ℤ, pos, negsuc, ◌-ℤ◌, ◌+ℤ◌}
-use Rattle.std.specs.Prelude.{nat_lt, nat_le, int_lt, ◌&&◌, not, if◌then◌else◌}
+use Rattle.std.proofs.Common.{◌≡◌, ℕ, ◌<◌, Bool, true, false, refl, arith, pos, ◌-ℤ◌}
+use Rattle.std.specs.Prelude.{nat_lt, int_lt, ◌&&◌, if◌then◌else◌}
 use Rattle.std.proofs.lemmas.Int.{ints}
 use Rattle.std.proofs.lemmas.Bool.Decides.{nat_tests}
-use Rattle.console_defs.specs.Flags.{Width, byte_width, word_width, width_of, signed, leaves_range, sum_of, sum_overflows}
+use Rattle.console_defs.specs.Flags.{width_of, signed}
 
 above : (modulus half n : ℕ) (positive below : Bool) → nat_lt 0 n ≡ positive → nat_lt n half ≡ below → n < modulus → int_lt (pos 0) (if below then pos n else pos n -ℤ pos modulus) ≡ (positive && below)
 above modulus half n true true p b fits = grind (arith, ints, nat_tests)

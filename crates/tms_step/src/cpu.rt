@@ -24,6 +24,8 @@ pub(crate) struct Cpu {
 }
 
 impl Model for Cpu {
+    ghost use Rattle.std.specs.Prelude.{◌≡◌};
+    ghost use Rattle.console_defs.specs.Words.{even};
     ghost use Rattle.console_defs.specs.Memory.{Memory};
     ghost use Rattle.console_defs.specs.Operand.{Cpu as CpuState};
     ghost use Rattle.console_defs.specs.Status.{IsStatus};
@@ -32,7 +34,7 @@ impl Model for Cpu {
 
     ghost view = { λ x. record { memory = x.bus; pc = x.pc; wp = x.wp; status = x.status } };
 
-    ghost invariant = { λ x. IsStatus x.status };
+    ghost invariant = { λ x. IsStatus x.status × (even x.pc ≡ x.pc) × (even x.wp ≡ x.wp) };
 }
 
 /// A word that was written over.

@@ -1,10 +1,10 @@
 //! Jumps.
 
 ghost use Rattle.std.specs.Prelude.{◌≡◌, OnErr};
+ghost use Rattle.console_defs.specs.Words.{even};
 ghost use Rattle.console_defs.specs.Memory.{Memory, console};
 ghost use Rattle.console_defs.specs.Step.{jump, jump_target};
 ghost use Rattle.tms_step.specs.Stops.{left_by};
-ghost use Rattle.tms_step.specs.Undo.{SameButPc};
 
 use crate::cpu::Cpu;
 use crate::stop::Stop;
@@ -29,8 +29,11 @@ impl Cpu {
 
 /// The address so many words from another one, in 16 bits (TMS9900 data manual, "Jump instructions").
 #[inline]
+#[tactic(auto, using(crate::proofs::Jumps::even_target))]
 fn jump_target(pc: u16, disp: i8) -> u16
-    ensures { result ≡ jump_target pc disp }
+    requires { even pc ≡ pc }
+    ensures target { result ≡ jump_target pc disp }
+    ensures even { even result ≡ result }
 {
     let bytes = 2 * disp as i16;
     pc.wrapping_add(bytes.cast_unsigned())

@@ -12,6 +12,8 @@ mod status;
 mod step;
 mod steps;
 mod stop;
+#[cfg(test)]
+mod tests;
 mod two;
 
 pub use console_defs::{RunEnd, StepEnd};

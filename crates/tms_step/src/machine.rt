@@ -1,6 +1,7 @@
 //! The machine: the processor over the console's memory, with a count of its instructions.
 
 ghost use Rattle.std.specs.Prelude.{◌≡◌, ◌<◌, ◌≤◌, ℕ, ◌+◌, true};
+ghost use Rattle.console_defs.specs.Words.{even};
 ghost use Rattle.console_defs.specs.Bus.{Gives};
 ghost use Rattle.console_defs.specs.Memory.{Memory, console, word_read};
 ghost use Rattle.console_defs.specs.Operand.{register_place};
@@ -75,14 +76,16 @@ impl Machine {
 
     /// The program counter, the address of the next instruction.
     pub fn pc(&self) -> u16
-        ensures { result ≡ self.now.cpu.pc }
+        ensures value { result ≡ self.now.cpu.pc }
+        ensures even { even result ≡ result }
     {
         self.cpu.pc
     }
 
     /// The workspace pointer, the address of register 0.
     pub fn wp(&self) -> u16
-        ensures { result ≡ self.now.cpu.wp }
+        ensures value { result ≡ self.now.cpu.wp }
+        ensures even { even result ≡ result }
     {
         self.cpu.wp
     }

@@ -1,11 +1,11 @@
 //! Results and their status bits, of words and of bytes.
 
 ghost use Rattle.std.specs.Prelude.{◌≡◌, ◌<◌};
-ghost use Rattle.console_defs.specs.Flags.{byte_width, width_of, by_result, sum_of, sum_flags};
+ghost use Rattle.console_defs.specs.Flags.{width_of, by_result, sum_of, sum_flags};
 ghost use Rattle.console_defs.specs.Status.{IsStatus, with_result};
 
-use console_defs::{Flags, Out16, Status};
-use tms_words::add16;
+use console_defs::{Flags, Out8, Out16, Status};
+use tms_words::{add8, add16, odd8};
 
 /// L>, A> and EQ by a result, and the other status bits as they are (TMS9900 data manual, "Status register").
 #[inline]
@@ -32,32 +32,21 @@ pub(crate) fn sum(byte: bool, destination: u16, source: u16) -> Out16
     ensures flags { result.flags ≡ sum_flags (width_of byte) destination source }
 {
     if byte {
-        add8(destination, source)
+        widened(add8(destination as u8, source as u8))
     } else {
         add16(destination, source)
     }
 }
 
-/// The sum of two bytes, with its status bits (TMS9900 data manual, "Add bytes").
-fn add8(destination: u16, source: u16) -> Out16
-    requires destination { destination < 256 }
-    requires source { source < 256 }
-    ensures value { result.value ≡ sum_of byte_width destination source }
-    ensures flags { result.flags ≡ sum_flags byte_width destination source }
+/// The result of an operation on bytes, as a number of the width of a word.
+#[inline]
+fn widened(out: Out8) -> Out16
+    ensures value { result.value ≡ out.value }
+    ensures flags { result.flags ≡ out.flags }
 {
-    let exact = destination + source;
-    let value = exact % 256;
-    let same_sign = (destination < 0x80) == (source < 0x80);
-    let flags = Flags {
-        lgt: false,
-        agt: false,
-        eq: false,
-        c: exact >= 256,
-        ov: same_sign && (value < 0x80) != (destination < 0x80),
-    };
     Out16 {
-        value,
-        flags: result_flags(true, value, flags),
+        value: u16::from(out.value),
+        flags: out.flags,
     }
 }
 
@@ -65,14 +54,15 @@ fn add8(destination: u16, source: u16) -> Out16
 /// register").
 #[inline]
 pub(crate) fn with_result(byte: bool, value: u16, flags: Flags, status: Status) -> Status
-    requires { IsStatus status }
+    requires fits { value < (width_of byte).modulus }
+    requires status { IsStatus status }
     ensures status { result ≡ with_result byte value flags status }
     ensures room { IsStatus result }
 {
-    let op = if byte {
-        value.count_ones() % 2 == 1
-    } else {
-        status.op
-    };
-    Status { flags, op, ..status }
+    let op = if byte { odd8(value as u8) } else { status.op };
+    Status {
+        flags,
+        op,
+        ..status
+    }
 }

@@ -1,8 +1,8 @@
 //! The instruction of a word.
-ghost use Rattle.std.specs.Prelude.{◌≡◌, IfSome};
-ghost use Rattle.console_defs.specs.Instructions.{operation_at, operands_at, source_at, destination_at, instr_at, word_of, HasRoom};
+ghost use Rattle.std.specs.Prelude.{◌≡◌, ◌≢◌, ◌≤◌, ◌<◌, ◌/◌, ◌*◌, IfSome, IfNone};
+ghost use Rattle.console_defs.specs.Instructions.{two_code, reg_code, shift_code, one_code, jump_code, imm_code, bare_code, operation_at, operands_at, source_at, destination_at, instr_at, word_of, HasRoom};
 
-use console_defs::{ImmOp, Instr, JumpOp, Operation, Place, TwoOp};
+use console_defs::{BareOp, ImmOp, Instr, JumpOp, OneOp, Operation, Place, RegOp, ShiftOp, TwoOp};
 
 /// The instruction that a word says, and None exactly where the word belongs to no row of the instruction table.
 /// TMS9900 data manual, "Instructions".
@@ -22,19 +22,166 @@ pub fn decode(word: u16) -> Option<Instr>
 fn operation_at(word: u16) -> Option<Operation>
     ensures { result ≡ operation_at word }
 {
-    if word & 0xF000 == 0xA000 {
-        return Some(Operation::Two(TwoOp::A, false));
+    match word {
+        0x4000.. => {
+            let (op, byte) = two_at(word);
+            Some(Operation::Two(op, byte))
+        }
+        0x2000..=0x3FFF => Some(Operation::Reg(reg_at(word))),
+        0x1000..=0x1FFF => Some(Operation::Jump(jump_at(word))),
+        0x0800..=0x0BFF => Some(Operation::Shift(shift_at(word))),
+        0x0400..=0x077F => Some(Operation::One(one_at(word))),
+        0x0200..=0x03FF => control_at(word),
+        _ => None,
     }
-    if word & 0xF000 == 0xC000 {
-        return Some(Operation::Two(TwoOp::MOV, false));
+}
+
+/// The row of a word with a register and a following word, or without operand.
+fn control_at(word: u16) -> Option<Operation>
+    requires { (0x0200 ≤ word) × (word < 0x0400) }
+    ensures { result ≡ operation_at word }
+{
+    if let Some(op) = imm_at(word) {
+        return Some(Operation::Imm(op));
     }
-    if word & 0xFF00 == 0x1000 {
-        return Some(Operation::Jump(JumpOp::JMP));
+    match bare_at(word) {
+        Some(op) => Some(Operation::Bare(op)),
+        None => None,
     }
-    if word & 0xFFF0 == 0x0200 {
-        return Some(Operation::Imm(ImmOp::LI));
+}
+
+/// The operation on two operands in a word, and whether it is on bytes.
+fn two_at(word: u16) -> (TwoOp, bool)
+    requires { 0x4000 ≤ word }
+    ensures { two_code result.0 result.1 ≡ word / 4096 * 4096 }
+{
+    match word >> 12 {
+        0x4 => (TwoOp::SZC, false),
+        0x5 => (TwoOp::SZC, true),
+        0x6 => (TwoOp::S, false),
+        0x7 => (TwoOp::S, true),
+        0x8 => (TwoOp::C, false),
+        0x9 => (TwoOp::C, true),
+        0xA => (TwoOp::A, false),
+        0xB => (TwoOp::A, true),
+        0xC => (TwoOp::MOV, false),
+        0xD => (TwoOp::MOV, true),
+        0xE => (TwoOp::SOC, false),
+        _ => (TwoOp::SOC, true),
     }
-    None
+}
+
+/// The operation on a source and a register or number in a word.
+fn reg_at(word: u16) -> RegOp
+    requires { (0x2000 ≤ word) × (word < 0x4000) }
+    ensures { reg_code result ≡ word / 1024 * 1024 }
+{
+    match word >> 10 {
+        0x08 => RegOp::COC,
+        0x09 => RegOp::CZC,
+        0x0A => RegOp::XOR,
+        0x0B => RegOp::XOP,
+        0x0C => RegOp::LDCR,
+        0x0D => RegOp::STCR,
+        0x0E => RegOp::MPY,
+        _ => RegOp::DIV,
+    }
+}
+
+/// The jump, or the operation on a bit, in a word.
+fn jump_at(word: u16) -> JumpOp
+    requires { (0x1000 ≤ word) × (word < 0x2000) }
+    ensures { jump_code result ≡ word / 256 * 256 }
+{
+    match word >> 8 {
+        0x10 => JumpOp::JMP,
+        0x11 => JumpOp::JLT,
+        0x12 => JumpOp::JLE,
+        0x13 => JumpOp::JEQ,
+        0x14 => JumpOp::JHE,
+        0x15 => JumpOp::JGT,
+        0x16 => JumpOp::JNE,
+        0x17 => JumpOp::JNC,
+        0x18 => JumpOp::JOC,
+        0x19 => JumpOp::JNO,
+        0x1A => JumpOp::JL,
+        0x1B => JumpOp::JH,
+        0x1C => JumpOp::JOP,
+        0x1D => JumpOp::SBO,
+        0x1E => JumpOp::SBZ,
+        _ => JumpOp::TB,
+    }
+}
+
+/// The shift in a word.
+fn shift_at(word: u16) -> ShiftOp
+    requires { (0x0800 ≤ word) × (word < 0x0C00) }
+    ensures { shift_code result ≡ word / 256 * 256 }
+{
+    match word >> 8 {
+        0x08 => ShiftOp::SRA,
+        0x09 => ShiftOp::SRL,
+        0x0A => ShiftOp::SLA,
+        _ => ShiftOp::SRC,
+    }
+}
+
+/// The operation on one operand in a word.
+fn one_at(word: u16) -> OneOp
+    requires { (0x0400 ≤ word) × (word < 0x0780) }
+    ensures { one_code result ≡ word / 64 * 64 }
+{
+    match word >> 6 {
+        0x10 => OneOp::BLWP,
+        0x11 => OneOp::B,
+        0x12 => OneOp::X,
+        0x13 => OneOp::CLR,
+        0x14 => OneOp::NEG,
+        0x15 => OneOp::INV,
+        0x16 => OneOp::INC,
+        0x17 => OneOp::INCT,
+        0x18 => OneOp::DEC,
+        0x19 => OneOp::DECT,
+        0x1A => OneOp::BL,
+        0x1B => OneOp::SWPB,
+        0x1C => OneOp::SETO,
+        _ => OneOp::ABS,
+    }
+}
+
+/// The operation on a register and a following word in a word, if it is one.
+fn imm_at(word: u16) -> Option<ImmOp>
+    ensures found { IfSome result (λ op. imm_code op ≡ word / 16 * 16) }
+    ensures none { IfNone result ((op : ImmOp) → imm_code op ≢ word / 16 * 16) }
+{
+    match word >> 4 {
+        0x20 => Some(ImmOp::LI),
+        0x22 => Some(ImmOp::AI),
+        0x24 => Some(ImmOp::ANDI),
+        0x26 => Some(ImmOp::ORI),
+        0x28 => Some(ImmOp::CI),
+        0x2A => Some(ImmOp::STWP),
+        0x2C => Some(ImmOp::STST),
+        _ => None,
+    }
+}
+
+/// The operation without operand in a word, if it is one.
+fn bare_at(word: u16) -> Option<BareOp>
+    ensures found { IfSome result (λ op. bare_code op ≡ word) }
+    ensures none { IfNone result ((op : BareOp) → bare_code op ≢ word) }
+{
+    match word {
+        0x02E0 => Some(BareOp::LWPI),
+        0x0300 => Some(BareOp::LIMI),
+        0x0340 => Some(BareOp::IDLE),
+        0x0360 => Some(BareOp::RSET),
+        0x0380 => Some(BareOp::RTWP),
+        0x03A0 => Some(BareOp::CKON),
+        0x03C0 => Some(BareOp::CKOF),
+        0x03E0 => Some(BareOp::LREX),
+        _ => None,
+    }
 }
 
 /// An operation with the operands of a word.

@@ -1,6 +1,6 @@
 //! The word of an instruction.
-ghost use Rattle.std.specs.Prelude.{◌≡◌, ◌≤◌, Contains, Some};
-ghost use Rattle.console_defs.specs.Instructions.{two_code, reg_code, shift_code, one_code, jump_code, imm_code, bare_code, operations, operation_of, instr_at, word_of, source_word, destination_word, IsPlace, HasRoom};
+ghost use Rattle.std.specs.Prelude.{◌≡◌, ◌≤◌, ◌<◌, ◌+◌, Some};
+ghost use Rattle.console_defs.specs.Instructions.{code_of, operation_of, operands_word, two_code, reg_code, shift_code, one_code, jump_code, imm_code, bare_code, instr_at, word_of, source_word, destination_word, IsPlace, HasRoom, HasSignedByte};
 
 use console_defs::{BareOp, ImmOp, Instr, JumpOp, OneOp, Place, RegOp, ShiftOp, TwoOp};
 
@@ -9,19 +9,45 @@ use console_defs::{BareOp, ImmOp, Instr, JumpOp, OneOp, Place, RegOp, ShiftOp, T
 pub fn encode(instr: &Instr) -> u16
     requires { HasRoom instr.now }
     ensures value { result ≡ word_of instr.now }
-    // an instruction of a row is decoded from its word again
-    ensures decoded { Contains operations (operation_of instr.now) → instr_at result ≡ Some instr.now }
+    // an instruction is decoded from its word again
+    ensures decoded { instr_at result ≡ Some instr.now }
+{
+    let operands = operands_word(instr);
+    code_of(instr) + operands
+}
+
+/// The code of an instruction's operation; its operands have room below it.
+fn code_of(instr: &Instr) -> u16
+    requires room { HasRoom instr.now }
+    requires signed { HasSignedByte instr.now }
+    ensures value { result ≡ code_of (operation_of instr.now) }
+    ensures room { result + operands_word instr.now < 65536 }
 {
     match *instr {
-        Instr::Two { op, byte, dst, src } => {
-            two_code(op, byte) + destination_word(dst) + source_word(src)
-        }
-        Instr::Reg { op, d, src } => reg_code(op) + (u16::from(d) << 6) + source_word(src),
-        Instr::Shift { op, count, w } => { shift_code(op) + (u16::from(count) << 4) + u16::from(w) }
-        Instr::One { op, at } => one_code(op) + source_word(at),
-        Instr::Jump { op, disp } => jump_code(op) + u16::from(disp.cast_unsigned()),
-        Instr::Imm { op, w } => imm_code(op) + u16::from(w),
+        Instr::Two { op, byte, .. } => two_code(op, byte),
+        Instr::Reg { op, .. } => reg_code(op),
+        Instr::Shift { op, .. } => shift_code(op),
+        Instr::One { op, .. } => one_code(op),
+        Instr::Jump { op, .. } => jump_code(op),
+        Instr::Imm { op, .. } => imm_code(op),
         Instr::Bare { op } => bare_code(op),
+    }
+}
+
+/// The operands of an instruction in their places of its word.
+fn operands_word(instr: &Instr) -> u16
+    requires { HasRoom instr.now }
+    ensures value { result ≡ operands_word instr.now }
+    ensures signed { HasSignedByte instr.now }
+{
+    match *instr {
+        Instr::Two { dst, src, .. } => destination_word(dst) + source_word(src),
+        Instr::Reg { d, src, .. } => (u16::from(d) << 6) + source_word(src),
+        Instr::Shift { count, w, .. } => (u16::from(count) << 4) + u16::from(w),
+        Instr::One { at, .. } => source_word(at),
+        Instr::Jump { disp, .. } => u16::from(disp.cast_unsigned()),
+        Instr::Imm { w, .. } => u16::from(w),
+        Instr::Bare { .. } => 0,
     }
 }
 

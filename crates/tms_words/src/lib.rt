@@ -1,15 +1,22 @@
 //! The processor's arithmetic, and its instruction words.
 #![tactic(auto)]
 
+mod bytes;
 mod decoding;
 mod encoding;
-mod sum;
+mod multiply;
+mod shift;
 #[cfg(test)]
 mod tests;
+mod words;
 
+pub use bytes::{abs8, add8, compare8, neg8, odd8, sub8};
 pub use console_defs::{
-    BareOp, Flags, ImmOp, Instr, JumpOp, OneOp, Operation, Out16, Place, RegOp, ShiftOp, TwoOp,
+    BareOp, Flags, ImmOp, Instr, JumpOp, OneOp, Operation, Out8, Out16, Place, RegOp, ShiftOp,
+    TwoOp,
 };
 pub use decoding::decode;
 pub use encoding::encode;
-pub use sum::add16;
+pub use multiply::{div16, mul16};
+pub use shift::shift16;
+pub use words::{abs16, add16, compare16, neg16, sub16};

@@ -1,4 +1,4 @@
-use Rattle.std.proofs.Common.{◌≡◌, ◌<◌, ◌+◌, ◌-◌, ℕ, true, false, refl, sym, ap, ◌∙◌, arith, Some, None}
+use Rattle.std.proofs.Common.{◌≡◌, ◌+◌, ◌-◌, ℕ, Bool, true, false, refl, sym, ap, ◌∙◌, arith, Option, None}
 use Rattle.console_defs.specs.Memory.{Memory, console}
 use Rattle.console_defs.specs.Machine.{raised, counted}
 use Rattle.console_defs.specs.Runs.{is_reached}
@@ -26,6 +26,10 @@ steps_more start now new made ticks before is one = omega arith
 risen : (start now new made ticks : ℕ) → now ≡ start + made → new ≡ now + ticks → new - start ≡ made + ticks
 risen start now new made ticks before is = omega arith
 
+-- what the code's look at the program counter says
+reached_is : (stop : Option ℕ) (pc at : ℕ) (found answer : Bool) → pc ≡ at → found ≡ is_reached stop pc → found ≡ answer → is_reached stop at ≡ answer
+reached_is stop pc at found answer is looked test = ap (is_reached stop) (sym is) ∙ sym looked ∙ test
+
 pub loop-made-init : goal.loop-made-init
 loop-made-init g c =
     (going_start Memory console c.args.stop c.args.limit c.args.self.now.cpu, omega arith, omega arith)
@@ -33,18 +37,18 @@ loop-made-init g c =
 pub returns-then-is_reached-clause-run : goal.returns-then-is_reached-clause-run
 returns-then-is_reached-clause-run g c =
     let number : c.loop-made.steps - c.args.steps.now ≡ c.loop-made._made = omega arith in
-    let reached = ap (λ (pc : ℕ). is_reached c.args.stop pc) (sym c.pc.ensures) ∙ sym c.is_reached.ensures ∙ c.if-is_reached.true in
+    let reached = reached_is c.args.stop c.pc.result c.loop-made.self.cpu.pc c.is_reached.result true c.pc.ensures.value c.is_reached.ensures c.if-is_reached.true in
     rw number (run_reached Memory console c.args.stop c.args.limit c.loop-made._made c.args.self.now.cpu c.loop-made.self.cpu c.loop-made.invariant.0 reached)
 
 pub returns-in-Some-clause-run : goal.returns-in-Some-clause-run
 returns-in-Some-clause-run g c =
     let number : c.turn.new.steps - c.args.steps.now ≡ c.loop-made._made + ticks_of (step Memory console c.loop-made.self.cpu).0 = risen c.args.steps.now c.loop-made.steps c.turn.new.steps c.loop-made._made (ticks_of (step Memory console c.loop-made.self.cpu).0) c.loop-made.invariant.1 c.turn.ensures.ticks in
-    let reached = ap (λ (pc : ℕ). is_reached c.args.stop pc) (sym c.pc.ensures) ∙ sym c.is_reached.ensures ∙ c.if-is_reached.false in
+    let reached = reached_is c.args.stop c.pc.result c.loop-made.self.cpu.pc c.is_reached.result false c.pc.ensures.value c.is_reached.ensures c.if-is_reached.false in
     rw number (run_ended Memory console c.args.stop c.args.limit c.loop-made._made c.args.self.now.cpu c.loop-made.self.cpu c.turn.new.self.cpu c.in-Some.end c.loop-made.invariant.0 c.loop-made-test.true reached (sym c.turn.ensures.end ∙ c.in-Some.is) c.turn.ensures.step)
 
 pub loop-made-preserved : goal.loop-made-preserved
 loop-made-preserved g c =
     let none : end_of_turn (step Memory console c.loop-made.self.cpu).0 ≡ None = sym c.turn.ensures.end ∙ c.in_default.is in
-    let reached = ap (λ (pc : ℕ). is_reached c.args.stop pc) (sym c.pc.ensures) ∙ sym c.is_reached.ensures ∙ c.if-is_reached.false in
+    let reached = reached_is c.args.stop c.pc.result c.loop-made.self.cpu.pc c.is_reached.result false c.pc.ensures.value c.is_reached.ensures c.if-is_reached.false in
     let one = one_tick (step Memory console c.loop-made.self.cpu).0 none in
     (going_more Memory console c.args.stop c.args.limit c.loop-made._made c.args.self.now.cpu c.loop-made.self.cpu c.turn.new.self.cpu c.loop-made.invariant.0 c.loop-made-test.true reached none c.turn.ensures.step, steps_more c.args.steps.now c.loop-made.steps c.turn.new.steps c.loop-made._made (ticks_of (step Memory console c.loop-made.self.cpu).0) c.loop-made.invariant.1 c.turn.ensures.ticks one, counted_more (step Memory console c.loop-made.self.cpu).0 c.args.self.now.count c.loop-made._made c.turn.new.self.count none (c.turn.ensures.count ∙ ap (λ (count : ℕ). counted (step Memory console c.loop-made.self.cpu).0 count) c.loop-made.invariant.2))

@@ -1,4 +1,4 @@
-use Rattle.std.proofs.Common.{◌≡◌, ℕ, ◌+◌}
+use Rattle.std.proofs.Common.{◌≡◌, ◌+◌}
 use Rattle.console_defs.specs.Memory.{Memory, console}
 use Rattle.console_defs.specs.Machine.{raised}
 use Rattle.tms_step.proofs.Going.{Going}

@@ -1,0 +1,104 @@
+//! Sums, differences, negatives, absolute values and comparisons of words, with their status bits.
+ghost use Rattle.std.specs.Prelude.{◌≡◌};
+ghost use Rattle.console_defs.specs.Flags.{word_width, result_flags, sum_of, sum_flags, sum_overflows, difference_of, difference_flags, difference_overflows, negation_of, negation_flags, absolute_of, absolute_flags, by_order, no_flags};
+
+use console_defs::{Flags, Out16};
+
+/// The sum of two words. L>, A> and EQ are set by the sum; C where it leaves the width; OV where the sum of the
+/// signed numbers does. TMS9900 data manual, "Add words".
+pub fn add16(d: u16, s: u16) -> Out16
+    ensures value { result.value ≡ sum_of word_width d s }
+    ensures flags { result.flags ≡ sum_flags word_width d s }
+{
+    let (value, carry) = d.overflowing_add(s);
+    Out16 {
+        value,
+        flags: result_flags16(value, carry, sum_overflows16(d, s)),
+    }
+}
+
+/// The difference `d - s` of two words. L>, A> and EQ are set by the difference; C where there is no borrow; OV where
+/// the difference of the signed numbers leaves the width. TMS9900 data manual, "Subtract words".
+pub fn sub16(d: u16, s: u16) -> Out16
+    ensures value { result.value ≡ difference_of word_width d s }
+    ensures flags { result.flags ≡ difference_flags word_width d s }
+{
+    let value = d.wrapping_sub(s);
+    Out16 {
+        value,
+        flags: result_flags16(value, d >= s, difference_overflows16(d, s)),
+    }
+}
+
+/// The negative of a word. L>, A> and EQ are set by the negative; C for 0 alone; OV for >8000, which stays as it is.
+/// TMS9900 data manual, "Negate".
+pub fn neg16(x: u16) -> Out16
+    ensures value { result.value ≡ negation_of word_width x }
+    ensures flags { result.flags ≡ negation_flags word_width x }
+{
+    let value = x.wrapping_neg();
+    Out16 {
+        value,
+        flags: result_flags16(value, x == 0, x == 0x8000),
+    }
+}
+
+/// The absolute value of a word. L>, A> and EQ are set by the word as it was; C is false; OV for >8000, which stays
+/// as it is. TMS9900 data manual, "Absolute value".
+pub fn abs16(x: u16) -> Out16
+    ensures value { result.value ≡ absolute_of word_width x }
+    ensures flags { result.flags ≡ absolute_flags word_width x }
+{
+    Out16 {
+        value: magnitude16(x),
+        flags: result_flags16(x, false, x == 0x8000),
+    }
+}
+
+/// L>, A> and EQ of `a` against `b`, as words; C and OV are false.
+/// TMS9900 data manual, "Compare words".
+pub fn compare16(a: u16, b: u16) -> Flags
+    ensures { result ≡ by_order word_width a b no_flags }
+{
+    Flags {
+        lgt: a > b,
+        agt: a.cast_signed() > b.cast_signed(),
+        eq: a == b,
+        c: false,
+        ov: false,
+    }
+}
+
+/// L>, A> and EQ by a word against 0, with the given C and OV.
+pub(crate) fn result_flags16(number: u16, c: bool, ov: bool) -> Flags
+    ensures { result ≡ result_flags word_width number c ov }
+{
+    Flags {
+        lgt: number > 0,
+        agt: number.cast_signed() > 0,
+        eq: number == 0,
+        c,
+        ov,
+    }
+}
+
+/// The sum of two signed words is no signed word.
+fn sum_overflows16(d: u16, s: u16) -> bool
+    ensures { result ≡ sum_overflows word_width d s }
+{
+    d.cast_signed().overflowing_add(s.cast_signed()).1
+}
+
+/// The difference of two signed words is no signed word.
+fn difference_overflows16(d: u16, s: u16) -> bool
+    ensures { result ≡ difference_overflows word_width d s }
+{
+    d.cast_signed().overflowing_sub(s.cast_signed()).1
+}
+
+/// The absolute value of a signed word.
+fn magnitude16(x: u16) -> u16
+    ensures { result ≡ absolute_of word_width x }
+{
+    x.cast_signed().unsigned_abs()
+}
