@@ -1,5 +1,5 @@
 -- One step of the processor.
-use Rattle.std.specs.Prelude.{ℕ, ℤ, pos, ◌*ℤ◌, Bool, false, Option, Some, None}
+use Rattle.std.specs.Prelude.{ℕ, ℤ, pos, ◌*ℤ◌, Bool, true, false, not, if◌then◌else◌, Option, Some, None}
 use Rattle.std.specs.Int.{w16, cast_unsigned}
 use Rattle.console_defs.specs.Words.{plus}
 use Rattle.console_defs.specs.Flags.{word_width, width_of, by_result, sum_of, sum_flags}
@@ -22,6 +22,14 @@ use Rattle.console_defs.specs.declared.ends.StepEnd.TheVariants.{Done, Refused, 
 -- Jumps count words from the next instruction. TMS9900 data manual, "Jump instructions".
 abbrev pub jump_target : ℕ → ℤ → ℕ
 jump_target pc disp = plus pc (cast_unsigned w16 (pos 2 *ℤ disp))
+
+-- The instructions whose execution is built so far: A and MOV of words, LI and JMP.
+abbrev pub is_built : Instr → Bool
+is_built (Two A byte dst src) = not byte
+is_built (Two MOV byte dst src) = not byte
+is_built (Jump JMP disp) = true
+is_built (Imm LI w) = true
+is_built _ = false
 
 module _ (M : Type 0) (bus : Bus M) where
   -- A result is stored, and its status bits are set.
@@ -72,9 +80,9 @@ module _ (M : Type 0) (bus : Bus M) where
   executed (One op at) x = NoInstruction
   executed (Bare op) x = NoInstruction
 
-  -- Profile: a word that belongs to no row is no instruction.
+  -- Profile: a word that belongs to no row is no instruction; nor, so far, is one whose execution is not built.
   abbrev pub executed_where : Option Instr → Cpu M → Answer (Cpu M)
-  executed_where (Some instr) x = executed instr x
+  executed_where (Some instr) x = if is_built instr then executed instr x else NoInstruction
   executed_where None x = NoInstruction
 
   -- The instruction at the program counter is read and executed: its word, and the state after it.

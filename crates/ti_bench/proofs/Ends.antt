@@ -1,20 +1,20 @@
 -- How a run ends by its report.
-use Rattle.std.proofs.Common.{◌≡◌, ℕ, ◌+◌, ◌≤◌, ◌<◌, List, length, Option, Some, None, Ok, Err, Result, Bool, true, false, cond, refl, sym, ap, ◌∙◌, subst, arith}
+use Rattle.std.proofs.Common.{◌≡◌, ℕ, List, length, Option, Some, None, Ok, Err, Result, Bool, true, false, refl, subst, arith}
 use Rattle.std.specs.Prelude.{OnOk, OnErr, is_ok, if◌then◌else◌, nat_lt}
 use Rattle.std.proofs.lemmas.Bool.Decides.{nat_tests}
 use Rattle.bench_io.specs.declared.failed.Failed.{Failed}
 use Rattle.bench_io.specs.Stream.{SourceState}
-use Rattle.bench_io.specs.ReadAll.{Took, ReadWhole, GaveUp}
+use Rattle.bench_io.specs.ReadAll.{ReadWhole, GaveUp}
 use Rattle.bench_io.specs.declared.whole.ReadError.TheVariants.{TooLarge}
 use Rattle.report_defs.specs.declared.command.Command.{Command}
 use Rattle.report_defs.specs.declared.status.Status.{Status}
 use Rattle.report_defs.specs.declared.status.Status.TheVariants.{Refused, WriteFault}
 use Rattle.report_defs.specs.Commands.{command_of}
 use Rattle.report_defs.specs.FaultLine.{too_large_line}
-use Rattle.report_defs.specs.Report.{Report, Whole, Fault, usage_report, status_of, largest_input, ReportOn}
+use Rattle.report_defs.specs.Report.{Report, Whole, Fault, usage_report, largest_input, ReportOn}
 use Rattle.ti_bench.specs.declared.report.Report as made
 use Rattle.ti_bench.specs.Made.{defined_report, whole_status}
-use Rattle.ti_bench.specs.Run.{Run, ReadsInput, ReportsOn, Reports, Wrote, WroteInPart, Reported, FailedToReport, Got, Missed, EndsBy}
+use Rattle.ti_bench.specs.Run.{Run, ReadsInput, ReportsOn, Reports, Reported, Got, Missed, EndsBy}
 
 -- the bytes of a report were written to the output, or it failed
 pub ends_whole : (run : Run) (status : Status) (bytes text : List ℕ) (wrote : Result (Unit {0}) Failed) → (Reported run status → EndsBy run status) → Reports run (Whole status bytes) → text ≡ bytes → run.err' ≡ run.err → OnOk wrote (Got run.out run.out' text) → OnErr wrote (Missed run.out run.out' text) → EndsBy run (if is_ok wrote then status else WriteFault)

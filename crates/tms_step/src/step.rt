@@ -4,13 +4,13 @@ ghost use Rattle.std.specs.Prelude.{◌≡◌, OnErr};
 ghost use Rattle.console_defs.specs.Instructions.{HasRoom};
 ghost use Rattle.console_defs.specs.Machine.{WhereStopped};
 ghost use Rattle.console_defs.specs.Memory.{Memory, console};
-ghost use Rattle.console_defs.specs.Step.{executed, execution, step};
+ghost use Rattle.console_defs.specs.Step.{executed, execution, is_built, step};
 ghost use Rattle.tms_step.specs.Stops.{left_by, stopped_at};
 ghost use Rattle.tms_step.specs.Undo.{SameButPc};
 
 use crate::cpu::Cpu;
 use crate::stop::Stop;
-use console_defs::{Instr, StepEnd};
+use console_defs::{ImmOp, Instr, JumpOp, StepEnd, TwoOp};
 use tms_words::decode;
 
 impl Cpu {
@@ -39,8 +39,8 @@ impl Cpu {
     {
         let word = self.next_word()?;
         match decode(word) {
-            Some(instr) => self.executed(instr)?,
-            None => return Err(Stop::NoInstruction),
+            Some(instr) if is_built(&instr) => self.executed(instr)?,
+            _ => return Err(Stop::NoInstruction),
         }
         Ok(word)
     }
@@ -62,6 +62,24 @@ impl Cpu {
             }
         }
     }
+}
+
+/// Whether the execution of an instruction is built.
+#[inline]
+fn is_built(instr: &Instr) -> bool
+    ensures { result ≡ is_built instr.now }
+{
+    matches!(
+        instr,
+        Instr::Two {
+            op: TwoOp::A | TwoOp::MOV,
+            byte: false,
+            ..
+        } | Instr::Jump {
+            op: JumpOp::JMP,
+            ..
+        } | Instr::Imm { op: ImmOp::LI, .. }
+    )
 }
 
 /// The end of a step that stopped at an instruction.

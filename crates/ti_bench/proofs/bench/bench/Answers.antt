@@ -1,12 +1,12 @@
-use Rattle.std.proofs.Common.{◌≡◌, ℕ, List, Some, None, Ok, refl, sym, ap, ◌∙◌, rules, arith}
+use Rattle.std.proofs.Common.{Some, refl}
 use Rattle.std.specs.String.{string_bytes}
 use Rattle.bench_io.specs.ReadAll.{GaveUp}
 use Rattle.bench_io.specs.declared.whole.ReadError.TheVariants.{TooLarge}
 use Rattle.gpl_defs.specs.Image.{written_bytes}
 use Rattle.report_defs.specs.declared.status.Status.TheVariants.{Done, Refused, Usage}
 use Rattle.report_defs.specs.FaultLine.{usage_line, too_large_line}
-use Rattle.report_defs.specs.Report.{Report, Whole, Fault, largest_input, ReportOn}
-use Rattle.ti_bench.specs.Run.{Run, ReadsInput, ReportsOn}
+use Rattle.report_defs.specs.Report.{Whole, Fault, largest_input, ReportOn}
+use Rattle.ti_bench.specs.Run.{Run, ReportsOn}
 use Rattle.ti_bench.specs.Made.{whole_status}
 use Rattle.ti_bench.proofs.Ends.{ends_whole, ends_fault, reads_whole, reads_too_much, reports_by, reports_usage, made_by, whole_ends}
 use Rattle.ti_bench.proofs.bench.bench.Goals as goal

@@ -1,7 +1,6 @@
 use Rattle.std.proofs.Common.{◌≡◌, ◌<◌, ◌++◌, length, sym, ap, ◌∙◌, append_assoc, arith}
 use Rattle.std.proofs.lemmas.List.{take-append-drop}
 use Rattle.std.proofs.lemmas.Result.{err_from_is_err_and}
-use Rattle.ti_bench.specs.Run.{Missed}
 use Rattle.ti_bench.proofs.Writing.{got_more, missed_more}
 use Rattle.ti_bench.proofs.put.put_lines.Goals as goal
 

@@ -1,6 +1,5 @@
-use Rattle.std.proofs.Common.{◌≡◌, ◌++◌, sym, ap, ◌∙◌, append_assoc}
+use Rattle.std.proofs.Common.{◌++◌, sym, ap, ◌∙◌, append_assoc}
 use Rattle.std.specs.String.{string_bytes}
-use Rattle.std.specs.List.{flat_map, range_with_len}
 use Rattle.report_defs.specs.Rows.{row_text}
 use Rattle.ti_bench.proofs.RowTexts.{texts_more}
 use Rattle.ti_bench.proofs.text.push_rows.Goals as goal

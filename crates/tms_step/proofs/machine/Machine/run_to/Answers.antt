@@ -20,6 +20,11 @@ counted_more (Done word) start made now none is = is ∙ omega arith
 counted_more (Refused address) start made now none is = absurd (cc)
 counted_more (Port address) start made now none is = absurd (cc)
 
+counted_last : (end : StepEnd) (start made now : ℕ) → now ≡ counted end (raised start made) → now ≡ raised start (made + ticks_of end)
+counted_last (Done word) start made now is = is ∙ omega arith
+counted_last (Refused address) start made now is = is ∙ omega arith
+counted_last (Port address) start made now is = is ∙ omega arith
+
 steps_more : (start now new made ticks : ℕ) → now ≡ start + made → new ≡ now + ticks → ticks ≡ 1 → new ≡ start + (made + 1)
 steps_more start now new made ticks before is one = omega arith
 
@@ -45,6 +50,11 @@ returns-in-Some-clause-run g c =
     let number : c.turn.new.steps - c.args.steps.now ≡ c.loop-made._made + ticks_of (step Memory console c.loop-made.self.cpu).0 = risen c.args.steps.now c.loop-made.steps c.turn.new.steps c.loop-made._made (ticks_of (step Memory console c.loop-made.self.cpu).0) c.loop-made.invariant.1 c.turn.ensures.ticks in
     let reached = reached_is c.args.stop c.pc.result c.loop-made.self.cpu.pc c.is_reached.result false c.pc.ensures.value c.is_reached.ensures c.if-is_reached.false in
     rw number (run_ended Memory console c.args.stop c.args.limit c.loop-made._made c.args.self.now.cpu c.loop-made.self.cpu c.turn.new.self.cpu c.in-Some.end c.loop-made.invariant.0 c.loop-made-test.true reached (sym c.turn.ensures.end ∙ c.in-Some.is) c.turn.ensures.step)
+
+pub returns-in-Some-clause-count : goal.returns-in-Some-clause-count
+returns-in-Some-clause-count g c =
+    let number : c.turn.new.steps - c.args.steps.now ≡ c.loop-made._made + ticks_of (step Memory console c.loop-made.self.cpu).0 = risen c.args.steps.now c.loop-made.steps c.turn.new.steps c.loop-made._made (ticks_of (step Memory console c.loop-made.self.cpu).0) c.loop-made.invariant.1 c.turn.ensures.ticks in
+    rw number (counted_last (step Memory console c.loop-made.self.cpu).0 c.args.self.now.count c.loop-made._made c.turn.new.self.count (c.turn.ensures.count ∙ ap (λ (count : ℕ). counted (step Memory console c.loop-made.self.cpu).0 count) c.loop-made.invariant.2))
 
 pub loop-made-preserved : goal.loop-made-preserved
 loop-made-preserved g c =
