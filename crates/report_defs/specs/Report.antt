@@ -48,7 +48,7 @@ AcceptedReport Gasm input report = report ≡ gasm_report (image_of_source input
 AcceptedReport (Exec limit) input report =
     MatchBool (nat_lt largest_program (length input)) (report ≡ Fault Refused past_end_line) (ReportsRun limit input report)
 
--- Whatever else holds, an input is refused that is too large. There is one report on each command and input.
+-- Whatever else holds, an input is refused that is too large.
 abbrev pub ReportOn : Command → List ℕ → Report → Type 0
 ReportOn command input report =
     MatchBool (nat_lt largest_input (length input)) (report ≡ Fault Refused too_large_line) (AcceptedReport command input report)
