@@ -1,0 +1,5 @@
+pub mod Modules
+pub mod Digits
+pub mod Tags
+pub mod Writing
+pub mod Reading

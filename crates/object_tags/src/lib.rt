@@ -1,0 +1,16 @@
+//! Tagged object code both ways: modules as text, and text as modules.
+#![tactic(auto)]
+
+mod error;
+mod groups;
+mod lists;
+mod module_name;
+mod parts;
+mod write;
+mod writer;
+
+pub use error::TagError;
+pub use lists::{Defs, Pieces, Refs};
+pub use module_name::ModuleName;
+pub use object_defs::{Piece, Spot, TagCause};
+pub use parts::{Def, Module, Ref};

@@ -1,0 +1,1 @@
+//! A module as text.
