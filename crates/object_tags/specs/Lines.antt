@@ -1,5 +1,5 @@
 -- What the writer has written, and what is to come.
-use Rattle.std.specs.Prelude.{◌≡◌, ℕ, List, ◌∷◌, ◌++◌, OnOk, Result}
+use Rattle.std.specs.Prelude.{◌≡◌, ℕ, List, ◌++◌}
 use Rattle.object_defs.specs.Writing.{Item, Line, written_from}
 use Rattle.object_tags.specs.declared.writer.Writer.{Writer}
 

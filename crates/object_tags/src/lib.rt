@@ -14,3 +14,4 @@ pub use lists::{Defs, Pieces, Refs};
 pub use module_name::ModuleName;
 pub use object_defs::{Piece, Spot, TagCause};
 pub use parts::{Def, Module, Ref};
+pub use write::write_module;

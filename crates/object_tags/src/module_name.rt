@@ -46,6 +46,7 @@ impl ModuleName {
     pub fn as_bytes(&self) -> &[u8]
         ensures value { result.now ≡ self.now }
         ensures name { is_module_name self.now ≡ true }
+        ensures size { length result.now ≡ 8 }
     {
         &self.bytes
     }
