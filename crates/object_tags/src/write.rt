@@ -14,8 +14,8 @@ use std::alloc::{AllocError, Global};
 
 /// The text of a module: lines of groups, each with its checksum and its number, and the line that ends the module.
 pub fn write_module(alloc: Global, module: &Module) -> Result<Vec<u8>, AllocError>
-    requires { HasText (defined_module module.now) }
-    ensures { IfOk result (λ text. text.items ≡ written (defined_module module.now)) }
+    requires { HasText (defined_module «module».now) }
+    ensures { IfOk result (λ text. text.items ≡ written (defined_module «module».now)) }
 {
     let mut writer = Writer::new(alloc);
     writer.put_group(&groups::header_text(module.size, &module.name))?;
