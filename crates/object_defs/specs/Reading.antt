@@ -116,18 +116,18 @@ with_ignored m fields = do
   number ← number_at fields
   Ok m
 
--- the module with one more group, whose tag ends the characters in front of its fields
-abbrev pub with_group : OpenModule → List ℕ → ℕ → Tag → List ℕ → Result OpenModule TagCause
-with_group m front byte tags.Header fields = Err (BadTag byte)
-with_group m front byte (tags.Entry kind) fields = with_entry m byte kind fields
-with_group m front byte (tags.Reference kind) fields = with_reference m byte kind fields
-with_group m front byte (tags.Definition kind) fields = with_definition m byte kind fields
-with_group m front byte tags.Sum fields = with_sum m (checksum front) fields
-with_group m front byte tags.IgnoredSum fields = with_ignored m fields
-with_group m front byte (tags.Address kind) fields = with_address m kind fields
-with_group m front byte (tags.Word kind) fields = with_word m kind fields
-with_group m front byte tags.EndOfLine fields = Ok m
-with_group m front byte tags.EndOfModule fields = Err (BadTag byte)
+-- the module with one more group, where the line up to the group's tag has a checksum
+abbrev pub with_group : OpenModule → ℕ → ℕ → Tag → List ℕ → Result OpenModule TagCause
+with_group m computed byte tags.Header fields = Err (BadTag byte)
+with_group m computed byte (tags.Entry kind) fields = with_entry m byte kind fields
+with_group m computed byte (tags.Reference kind) fields = with_reference m byte kind fields
+with_group m computed byte (tags.Definition kind) fields = with_definition m byte kind fields
+with_group m computed byte tags.Sum fields = with_sum m computed fields
+with_group m computed byte tags.IgnoredSum fields = with_ignored m fields
+with_group m computed byte (tags.Address kind) fields = with_address m kind fields
+with_group m computed byte (tags.Word kind) fields = with_word m kind fields
+with_group m computed byte tags.EndOfLine fields = Ok m
+with_group m computed byte tags.EndOfModule fields = Err (BadTag byte)
 
 -- how many characters a group has behind its tag
 abbrev pub group_size : Tag → ℕ
@@ -147,19 +147,19 @@ is_end_of_line (Some tags.EndOfLine) = true
 is_end_of_line (Some _) = false
 is_end_of_line None = false
 
--- one group, behind the tag that ends the characters in front; `rest` says what the groups behind it give
-abbrev pub group_gives : OpenModule → List ℕ → ℕ → Option Tag → List ℕ → (ℕ → OpenModule → Result OpenModule TagCause) → Result OpenModule TagCause
-group_gives m front byte None fields rest = Err (BadTag byte)
-group_gives m front byte (Some tag) fields rest = with_group m front byte tag fields >>= λ m. rest (group_size tag) m
+-- one group; `rest` says what the groups behind it give
+abbrev pub group_gives : OpenModule → ℕ → ℕ → Option Tag → List ℕ → (ℕ → OpenModule → Result OpenModule TagCause) → Result OpenModule TagCause
+group_gives m computed byte None fields rest = Err (BadTag byte)
+group_gives m computed byte (Some tag) fields rest = with_group m computed byte tag fields >>= λ m. rest (group_size tag) m
 
 -- The groups in the rest of a line, after the characters that are left of a group before them. What follows the tag F
--- is ignored.
+-- is ignored. The checksum is that of the line's characters from the first through the group's tag.
 unfoldable pub with_groups : List ℕ → ℕ → List ℕ → OpenModule → Result OpenModule TagCause
 with_groups line left [] m = Ok m
 with_groups line (suc left) (byte ∷ fields) m = with_groups line left fields m
 with_groups line zero (byte ∷ fields) m =
     if is_end_of_line (tag_of byte) then Ok m
-    else group_gives m (take (length line - length fields) line) byte (tag_of byte) fields (λ left m. with_groups line left fields m)
+    else group_gives m (checksum (take (length line - length fields) line)) byte (tag_of byte) fields (λ left m. with_groups line left fields m)
 
 -- The lines of a text.
 
@@ -184,9 +184,9 @@ is_header (Some tags.Header) = true
 is_header (Some _) = false
 is_header None = false
 
--- a line where no module is open
+-- a line where no module is open; it is not blank, so it has a character
 unfoldable pub opening_line : ℕ → List ℕ → Result OpenModule TagCause
-opening_line ended [] = Err NoEnd
+opening_line ended [] = Err ShortField
 opening_line ended (byte ∷ fields) =
     if not (is_header (tag_of byte)) then Err (BadTag byte)
     else if nat_le most_modules ended then Err TooMany

@@ -1,1 +1,3 @@
 pub mod Composed
+pub mod Blanks
+pub mod Hexadecimal

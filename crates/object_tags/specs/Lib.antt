@@ -5,3 +5,4 @@ pub use Rattle.object_defs.specs.Writing
 pub use Rattle.object_defs.specs.Reading
 pub mod Seen
 pub mod Lines
+pub mod Answers

@@ -2,6 +2,7 @@
 
 ghost use Rattle.std.specs.Prelude.{◌≡◌};
 ghost use Rattle.object_tags.specs.declared.error.TagError.TheVariants.{Memory};
+ghost use Rattle.object_tags.specs.declared.error.Failure.TheVariants as failures;
 
 use object_defs::TagCause;
 use std::alloc::AllocError;
@@ -25,5 +26,30 @@ impl From<AllocError> for TagError {
 
     fn from(_: AllocError) -> Self {
         TagError::Memory
+    }
+}
+
+/// Why a group or a line is not read.
+#[derive(Clone, Copy, Debug)]
+pub(crate) enum Failure {
+    /// It is refused.
+    Cause(TagCause),
+    /// Memory was wanting.
+    Memory,
+}
+
+impl From<TagCause> for Failure {
+    ghost from_gives = { λ cause failure. failure ≡ failures.Cause cause };
+
+    fn from(cause: TagCause) -> Self {
+        Failure::Cause(cause)
+    }
+}
+
+impl From<AllocError> for Failure {
+    ghost from_gives = { λ _ failure. failure ≡ failures.Memory };
+
+    fn from(_: AllocError) -> Self {
+        Failure::Memory
     }
 }

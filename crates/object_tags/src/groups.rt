@@ -164,3 +164,28 @@ pub(crate) fn reference_text(reference: &Ref) -> GroupText
         reference.name.as_bytes(),
     )
 }
+
+/// The tag of a character, or `None` where it is none.
+#[tactic(auto, unfolding(object_defs::specs::Tags::tag_of))]
+pub(crate) fn tag_of(byte: u8) -> Option<Tag>
+    ensures { result ≡ tags.tag_of byte }
+{
+    match byte {
+        b'0' => Some(Tag::Header),
+        b'1' => Some(Tag::Entry(Kind::Absolute)),
+        b'2' => Some(Tag::Entry(Kind::Relocatable)),
+        b'3' => Some(Tag::Reference(Kind::Relocatable)),
+        b'4' => Some(Tag::Reference(Kind::Absolute)),
+        b'5' => Some(Tag::Definition(Kind::Relocatable)),
+        b'6' => Some(Tag::Definition(Kind::Absolute)),
+        b'7' => Some(Tag::Sum),
+        b'8' => Some(Tag::IgnoredSum),
+        b'9' => Some(Tag::Address(Kind::Absolute)),
+        b'A' => Some(Tag::Address(Kind::Relocatable)),
+        b'B' => Some(Tag::Word(Kind::Absolute)),
+        b'C' => Some(Tag::Word(Kind::Relocatable)),
+        b'F' => Some(Tag::EndOfLine),
+        b':' => Some(Tag::EndOfModule),
+        _ => None,
+    }
+}

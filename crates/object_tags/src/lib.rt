@@ -2,9 +2,11 @@
 #![tactic(auto)]
 
 mod error;
+mod fields;
 mod groups;
 mod lists;
 mod module_name;
+mod open_module;
 mod parts;
 mod write;
 mod writer;

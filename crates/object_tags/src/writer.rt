@@ -128,7 +128,7 @@ fn number_after(number: u16) -> u16
 }
 
 /// The place two bytes behind a place.
-fn place_after(at: Spot) -> Spot
+pub(crate) fn place_after(at: Spot) -> Spot
     ensures { result ≡ modules.moved at 2 }
 {
     match at {
