@@ -18,6 +18,10 @@ decimal number = (0x30 + number / 1000 % 10) ∷ (0x30 + number / 100 % 10) ∷ 
 abbrev pub padded : ℕ → List ℕ → List ℕ
 padded width bytes = bytes ++ replicate (width - length bytes) 0x20
 
+-- the two's complement, in 16 bits
+abbrev pub complement : ℕ → ℕ
+complement number = (65536 - number % 65536) % 65536
+
 -- Editor/Assembler manual, "Tagged object code": the two's complement, in 16 bits, of the sum of the characters.
 unfoldable pub checksum : List ℕ → ℕ
-checksum bytes = (65536 - sum bytes % 65536) % 65536
+checksum bytes = complement (sum bytes)

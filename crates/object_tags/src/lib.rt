@@ -1,6 +1,7 @@
 //! Tagged object code both ways: modules as text, and text as modules.
 #![tactic(auto)]
 
+mod checksum;
 mod error;
 mod fields;
 mod groups;
@@ -8,6 +9,8 @@ mod lists;
 mod module_name;
 mod open_module;
 mod parts;
+mod read;
+mod read_line;
 mod write;
 mod writer;
 

@@ -6,6 +6,7 @@ ghost use Rattle.object_defs.specs.Modules as modules;
 ghost use Rattle.object_defs.specs.Writing as writing;
 ghost use Rattle.object_tags.specs.Lines.{Wrote, whole, line_of};
 
+use crate::checksum::checksum;
 use crate::groups::{GroupText, address_text, group, tag_character, word_text};
 use arrayvec::ArrayVec;
 use object_defs::{Piece, Spot, Tag};
@@ -150,16 +151,6 @@ fn piece_text(next: Option<Spot>, piece: Piece) -> GroupText
             text
         }
     }
-}
-
-/// The checksum of characters: the two's complement of their sum in 16 bits.
-#[tactic(auto, unfolding(object_defs::specs::Digits::checksum))]
-pub(crate) fn checksum(bytes: &[u8]) -> u16
-    requires { length bytes.now < 2 ^ 32 }
-    ensures { result ≡ digits.checksum bytes.now }
-{
-    let sum: u64 = bytes.iter().map(|&byte| u64::from(byte)).sum();
-    ((0x1_0000 - sum % 0x1_0000) % 0x1_0000) as u16
 }
 
 /// The groups of a line, their checksum and the end of the line.
