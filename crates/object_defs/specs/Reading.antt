@@ -242,9 +242,12 @@ read_from found (line ∷ lines) = and_then (after_line found line) (λ found. r
 abbrev pub columns : ℕ
 columns = 80
 
+abbrev pub has_line_feed : List ℕ → Bool
+has_line_feed text = list_any is_line_feed text
+
 -- Profile: a text without line feed whose length is a positive multiple of 80 is cut into records of 80 characters.
 abbrev pub is_records : List ℕ → Bool
-is_records text = not (list_any is_line_feed text) && (nat_lt 0 (length text) && (length text % 80 == 0))
+is_records text = not (has_line_feed text) && (nat_lt 0 (length text) && (length text % 80 == 0))
 
 abbrev pub record_at : List ℕ → ℕ → NumberedLine
 record_at text k = record { number = k + 1; text = slice_range text (80 * k) (80 * k + 80) }

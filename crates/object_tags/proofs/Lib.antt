@@ -3,3 +3,4 @@ pub mod Blanks
 pub mod Hexadecimal
 pub mod GroupSteps
 pub mod Sums
+pub mod LineSteps

@@ -16,6 +16,10 @@ use Rattle.object_tags.specs.Seen.{defined_module}
 abbrev pub defined_open : OpenModule → reading.OpenModule
 defined_open m = record { found = defined_module m.found; load = m.load }
 
+-- the modules that have ended
+abbrev pub defined_modules : List Module → List defined.Module
+defined_modules modules = map defined_module modules
+
 -- The cause is the one that is defined; want of memory says nothing.
 abbrev pub Fails : {Y : Type 0} → Failure → Result Y TagCause → Type 0
 Fails failures.Memory read = ⊤
@@ -31,8 +35,12 @@ abbrev pub Leaves : {T Y : Type 0} → Result T Failure → Y → Result Y TagCa
 Leaves (Ok _) after read = read ≡ Ok after
 Leaves (Err failure) after read = Fails failure read
 
--- The modules are those that are defined, and so is the first bad place; want of memory says nothing.
+-- The first bad place is the one that is defined; want of memory says nothing.
+abbrev pub Refuses : {Y : Type 0} → TagError → Result Y reading.Refusal → Type 0
+Refuses (At line cause) read = read ≡ Err (record { line = line; cause = cause })
+Refuses Memory read = ⊤
+
+-- The value is the one that is defined, and so is the first bad place.
 abbrev pub Gives : {X Y : Type 0} → (X → Y) → Result X TagError → Result Y reading.Refusal → Type 0
 Gives view (Ok value) read = read ≡ Ok (view value)
-Gives view (Err (At line cause)) read = read ≡ Err (record { line = line; cause = cause })
-Gives view (Err Memory) read = ⊤
+Gives view (Err error) read = Refuses error read

@@ -6,3 +6,4 @@ pub use Rattle.object_defs.specs.Reading
 pub mod Seen
 pub mod Lines
 pub mod Answers
+pub mod Reads

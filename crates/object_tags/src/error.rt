@@ -5,7 +5,7 @@ ghost use Rattle.object_tags.specs.declared.error.TagError.TheVariants.{Memory};
 ghost use Rattle.object_tags.specs.declared.error.Failure.TheVariants as failures;
 
 use object_defs::TagCause;
-use std::alloc::AllocError;
+use std::alloc::{AllocError, AllocFailed};
 
 /// Why an object text is not read.
 #[derive(Clone, Copy, Debug, PartialEq, Eq)]
@@ -50,6 +50,14 @@ impl From<AllocError> for Failure {
     ghost from_gives = { λ _ failure. failure ≡ failures.Memory };
 
     fn from(_: AllocError) -> Self {
+        Failure::Memory
+    }
+}
+
+impl<T: Drop> From<AllocFailed<T>> for Failure {
+    ghost from_gives = { λ _ failure. failure ≡ failures.Memory };
+
+    fn from(_: AllocFailed<T>) -> Self {
         Failure::Memory
     }
 }

@@ -11,6 +11,7 @@ mod open_module;
 mod parts;
 mod read;
 mod read_line;
+mod reader;
 mod write;
 mod writer;
 
@@ -19,4 +20,5 @@ pub use lists::{Defs, Pieces, Refs};
 pub use module_name::ModuleName;
 pub use object_defs::{Piece, Spot, TagCause};
 pub use parts::{Def, Module, Ref};
+pub use read::read_modules;
 pub use write::write_module;
