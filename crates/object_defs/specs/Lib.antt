@@ -3,3 +3,4 @@ pub mod Digits
 pub mod Tags
 pub mod Writing
 pub mod Reading
+pub mod Laws

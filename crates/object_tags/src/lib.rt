@@ -12,6 +12,8 @@ mod parts;
 mod read;
 mod read_line;
 mod reader;
+#[cfg(test)]
+mod tests;
 mod write;
 mod writer;
 

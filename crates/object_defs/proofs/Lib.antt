@@ -1,0 +1,2 @@
+pub mod FieldsAgain
+pub mod Adding
