@@ -59,14 +59,23 @@ unfolding without_blanks
 name_again [] k h = no_blanks k
 name_again (c ∷ name) k h = let other : is_blank c ≡ false = printed_no_blank c (and_left (is_printed c) (all_printed name) h) in rw (other, name_again name k (and_right (is_printed c) (all_printed name) h)) refl
 
+blank_count : (k : ℕ) → length (replicate {A = ℕ} k 0x20) ≡ k
+blank_count k = length-replicate {A = ℕ} k 0x20
+
+-- a name in a field of six characters
+pub kept_length : (name : List ℕ) → is_kept_name name ≡ true → length (padded 6 name) ≡ 6
+kept_length name h =
+    let front : (nat_lt 0 (length name) && nat_le (length name) 6) ≡ true = and_left _ (all_printed name) h in
+    let short : length name ≤ 6 = let le : nat_le (length name) 6 ≡ true = and_right (nat_lt 0 (length name)) _ front in grind (arith, nat_tests) in
+    let behind_name = blank_count (6 - length name) in
+    length-append name (replicate {A = ℕ} (6 - length name) 0x20) ∙ omega arith
+
 pub symbol_again : (tag n : ℕ) (name rest : List ℕ) → is_kept_name name ≡ true → symbol_at tag (hexadecimal n ++ (padded 6 name ++ rest)) ≡ Ok name
 unfolding symbol_at
 symbol_again tag n name rest h =
     let printed : all_printed name ≡ true = and_right (nat_lt 0 (length name) && nat_le (length name) 6) (all_printed name) h in
-    let front : (nat_lt 0 (length name) && nat_le (length name) 6) ≡ true = and_left _ (all_printed name) h in
-    let short : length name ≤ 6 = let le : nat_le (length name) 6 ≡ true = and_right (nat_lt 0 (length name)) _ front in grind (arith, nat_tests) in
     let behind : drop 4 (hexadecimal n ++ (padded 6 name ++ rest)) ≡ padded 6 name ++ rest = drop_at (hexadecimal n) _ 4 (hexadecimal_length n) in
-    let size : length (padded 6 name) ≡ 6 = omega (arith, length-append name (replicate (6 - length name) 0x20), length-replicate (6 - length name) 0x20) in
+    let size = kept_length name h in
     let field : take 6 (padded 6 name ++ rest) ≡ padded 6 name = take_at (padded 6 name) rest 6 size in
     let kept : without_blanks (padded 6 name) ≡ name = name_again name (6 - length name) printed in
     rw (behind, field, size, kept, h) refl

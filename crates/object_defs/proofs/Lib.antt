@@ -1,2 +1,3 @@
 pub mod FieldsAgain
 pub mod Adding
+pub mod FirstLine
