@@ -24,7 +24,8 @@ pub digits_left : (line : List ℕ) (n : ℕ) (rest : List ℕ) (m : OpenModule)
 unfolding hexadecimal with_groups
 digits_left line n rest m = refl
 
-left_over : (line : List ℕ) (k : ℕ) (xs rest : List ℕ) (m : OpenModule) → length xs ≡ k → with_groups line k (xs ++ rest) m ≡ with_groups line 0 rest m
+-- what a group has behind its tag is passed over
+pub left_over : (line : List ℕ) (k : ℕ) (xs rest : List ℕ) (m : OpenModule) → length xs ≡ k → with_groups line k (xs ++ rest) m ≡ with_groups line 0 rest m
 unfolding with_groups
 left_over line zero [] rest m e = refl
 left_over line (suc k) [] rest m e = absurd (omega arith)

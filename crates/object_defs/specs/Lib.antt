@@ -4,3 +4,4 @@ pub mod Tags
 pub mod Writing
 pub mod Reading
 pub mod Laws
+pub mod Places

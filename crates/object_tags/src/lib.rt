@@ -5,6 +5,7 @@ mod checksum;
 mod error;
 mod fields;
 mod groups;
+mod laws;
 mod lists;
 mod module_name;
 mod open_module;
@@ -18,6 +19,7 @@ mod write;
 mod writer;
 
 pub use error::TagError;
+pub use laws::written_modules_are_read;
 pub use lists::{Defs, Pieces, Refs};
 pub use module_name::ModuleName;
 pub use object_defs::{Piece, Spot, TagCause};
