@@ -1,17 +1,16 @@
 -- Groups that were written are added again.
-use Rattle.std.proofs.Common.{◌≡◌, ℕ, zero, suc, ◌+◌, ◌-◌, ◌*◌, ◌/◌, ◌%◌, ◌<◌, ◌≤◌, Bool, true, false, cond, eqb, List, [], ◌∷◌, ◌++◌, length, take, drop, Option, Some, None, Result, Ok, Err, refl, sym, ap, ◌∙◌, subst, append_assoc, length-append, arith}
-use Rattle.std.specs.Prelude.{nat_lt, nat_le, not, ◌&&◌, ◌||◌, ◌==◌, if◌then◌else◌}
+use Rattle.std.proofs.Common.{◌≡◌, ℕ, zero, suc, ◌-◌, ◌%◌, ◌<◌, Bool, true, false, cond, List, [], ◌∷◌, ◌++◌, length, Option, Some, None, refl, sym, ap, ◌∙◌, append_assoc, length-append, arith}
+use Rattle.std.specs.Prelude.{nat_le}
 use Rattle.std.proofs.lemmas.Bool.Decides.{nat_tests}
 use Rattle.object_defs.specs.declared.spot.Spot.{Spot}
 use Rattle.object_defs.specs.declared.spot.Spot.TheVariants.{Absolute, Relocatable}
 use Rattle.object_defs.specs.declared.spot.Piece.{Piece}
-use Rattle.object_defs.specs.declared.causes.TagCause.{TagCause}
 use Rattle.source_defs.specs.Names.{is_kept_name}
-use Rattle.object_defs.specs.Modules.{Module, Definition, Reference, number_of, moved, even, same_spot, StandsEven}
-use Rattle.object_defs.specs.Digits.{hexadecimal, padded, checksum}
+use Rattle.object_defs.specs.Modules.{Definition, Reference, number_of, moved, same_spot, StandsEven}
+use Rattle.object_defs.specs.Digits.{hexadecimal, padded}
 use Rattle.object_defs.specs.Tags.{tag_of}
-use Rattle.object_defs.specs.Writing.{word_text, address_text, definition_text, reference_text, entry_text, header_text, Item, Group, Placed, item_text}
-use Rattle.object_defs.specs.Reading.{OpenModule, number_at, with_groups, with_group, with_word, with_address, with_entry, with_definition, with_reference, with_sum}
+use Rattle.object_defs.specs.Writing.{word_text, address_text, definition_text, reference_text, entry_text, Placed, item_text}
+use Rattle.object_defs.specs.Reading.{OpenModule, with_groups, with_word, with_address, with_entry, with_definition, with_reference}
 use Rattle.object_defs.specs.Laws.{FitsSpot, FitsPiece, FitsDefinition, FitsReference}
 use Rattle.object_defs.proofs.FieldsAgain.{number_again, symbol_again, hexadecimal_length, kept_length}
 

@@ -1,14 +1,12 @@
 -- Fields that were written are read again.
-use Rattle.std.proofs.Common.{◌≡◌, ℕ, zero, suc, ◌+◌, ◌-◌, ◌*◌, ◌/◌, ◌%◌, ◌<◌, ◌≤◌, Bool, true, false, cond, eqb, List, [], ◌∷◌, ◌++◌, length, take, drop, replicate, Result, Ok, Err, refl, sym, ap, ◌∙◌, append_assoc, length-append, arith}
-use Rattle.std.specs.Prelude.{nat_lt, nat_le, not, ◌&&◌, ◌||◌, ◌==◌, if◌then◌else◌}
-use Rattle.std.specs.List.{list_all}
+use Rattle.std.proofs.Common.{◌≡◌, ℕ, zero, suc, ◌+◌, ◌-◌, ◌*◌, ◌/◌, ◌%◌, ◌<◌, ◌≤◌, Bool, true, false, List, [], ◌∷◌, ◌++◌, length, take, drop, replicate, Ok, refl, ◌∙◌, length-append, arith}
+use Rattle.std.specs.Prelude.{nat_lt, nat_le, ◌&&◌, ◌==◌}
 use Rattle.std.proofs.lemmas.Bool.Decides.{nat_tests}
 use Rattle.std.proofs.lemmas.List.{take_at, drop_at, length-replicate}
-use Rattle.source_defs.specs.Characters.{is_blank, upper_case}
+use Rattle.source_defs.specs.Characters.{is_blank}
 use Rattle.source_defs.specs.Names.{is_kept_name, all_printed, is_printed}
-use Rattle.source_defs.specs.Numbers.{is_hexadecimal_digit, digit_value, all_hexadecimal_digits, value_after}
-use Rattle.object_defs.specs.declared.causes.TagCause.{TagCause}
-use Rattle.object_defs.specs.Modules.{is_name_character, all_name_characters, is_module_name}
+use Rattle.source_defs.specs.Numbers.{is_hexadecimal_digit, digit_value}
+use Rattle.object_defs.specs.Modules.{all_name_characters, is_module_name}
 use Rattle.object_defs.specs.Digits.{hexadecimal, hexadecimal_digit, padded}
 use Rattle.object_defs.specs.Reading.{number_at, module_name_at, symbol_at, all_blank, without_blanks}
 

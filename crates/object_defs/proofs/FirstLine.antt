@@ -1,12 +1,10 @@
 -- The first of the lines that are left of a text.
-use Rattle.std.proofs.Common.{◌≡◌, ℕ, zero, suc, ◌+◌, ◌-◌, ◌<◌, ◌≤◌, Bool, true, false, cond, List, [], ◌∷◌, ◌++◌, length, get_or, take, drop, refl, sym, ap, ◌∙◌, subst, append_assoc, length-append, arith}
-use Rattle.std.specs.Prelude.{map, nat_lt, nat_le, ◌&&◌, if◌then◌else◌, slice_range}
-use Rattle.std.specs.List.{list_all}
+use Rattle.std.proofs.Common.{◌≡◌, ℕ, ◌+◌, ◌-◌, ◌<◌, ◌≤◌, Bool, true, false, List, [], ◌∷◌, ◌++◌, length, get_or, drop, refl, sym, ap, ◌∙◌, subst, append_assoc, length-append, arith}
+use Rattle.std.specs.Prelude.{map, nat_lt, ◌&&◌, slice_range}
 use Rattle.std.proofs.lemmas.Bool.Decides.{nat_tests}
 use Rattle.std.proofs.lemmas.List.{get_or_at, take_at, drop_at}
-use Rattle.source_defs.specs.declared.text.Line.{Line}
 use Rattle.source_defs.specs.Characters.{is_line_feed, is_carriage_return}
-use Rattle.source_defs.specs.Lines.{lines_from, feed_place, after, without_return, part}
+use Rattle.source_defs.specs.Lines.{lines_from, feed_place, part}
 use Rattle.source_defs.proofs.LeastLaws.{least_place_step}
 use Rattle.source_defs.proofs.LineSteps.{lines_from_step}
 use Rattle.object_defs.specs.Modules.{is_name_character, all_name_characters}

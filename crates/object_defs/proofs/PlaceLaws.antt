@@ -1,18 +1,17 @@
 -- A word is added at its place.
-use Rattle.std.proofs.Common.{◌≡◌, ℕ, ◌+◌, ◌-◌, ◌*◌, ◌%◌, ◌<◌, ◌≤◌, Bool, true, false, cond, List, [], ◌∷◌, ◌++◌, length, take, Option, Some, None, Result, Ok, Err, refl, sym, ap, ◌∙◌, subst, arith}
-use Rattle.std.specs.Prelude.{nat_lt, nat_le, is_some, not, ◌&&◌, ◌==◌, if◌then◌else◌}
+use Rattle.std.proofs.Common.{◌≡◌, ℕ, ◌+◌, ◌-◌, ◌*◌, ◌%◌, ◌<◌, Bool, true, false, cond, List, [], ◌∷◌, ◌++◌, length, Some, None, Result, Ok, Err, refl, sym, ap, ◌∙◌, arith}
+use Rattle.std.specs.Prelude.{nat_le, is_some, not, ◌&&◌, ◌==◌}
 use Rattle.std.proofs.lemmas.Bool.Decides.{nat_tests}
-use Rattle.source_defs.specs.Numbers.{is_hexadecimal_digit, digit_value, all_hexadecimal_digits, value_after}
+use Rattle.source_defs.specs.Numbers.{is_hexadecimal_digit, digit_value, all_hexadecimal_digits}
 use Rattle.object_defs.specs.declared.spot.Spot.{Spot}
 use Rattle.object_defs.specs.declared.spot.Spot.TheVariants.{Absolute, Relocatable}
-use Rattle.object_defs.specs.declared.spot.Piece.{Piece}
 use Rattle.object_defs.specs.declared.causes.TagCause.{TagCause}
 use Rattle.object_defs.specs.declared.causes.TagCause.TheVariants.{BadTag, BadDigit, ShortField, TooMany, Checksum}
 use Rattle.object_defs.specs.declared.tag.Kind.{Kind}
 use Rattle.object_defs.specs.declared.tag.Kind.TheVariants as kinds
 use Rattle.object_defs.specs.declared.tag.Tag.{Tag}
 use Rattle.object_defs.specs.declared.tag.Tag.TheVariants as tags
-use Rattle.object_defs.specs.Modules.{Module, Definition, Reference, moved, even}
+use Rattle.object_defs.specs.Modules.{moved, even}
 use Rattle.object_defs.specs.Tags.{spot}
 use Rattle.object_defs.specs.Reading.{OpenModule, ◌>>=◌, number_at, symbol_at, module_name_at, opened, with_group, with_word, with_address, with_entry, with_reference, with_definition, with_sum, with_ignored}
 use Rattle.object_defs.specs.Places.{Group, last_address, words_since, place_behind, HasRead, begun, more, WordsStandAtTheirPlaces}

@@ -1,22 +1,21 @@
 -- The written text of a module reads as that module alone.
-use Rattle.std.proofs.Common.{◌≡◌, ℕ, zero, suc, ◌+◌, ◌-◌, ◌/◌, ◌%◌, ◌<◌, ◌≤◌, Bool, true, false, cond, eqb, List, [], ◌∷◌, ◌++◌, length, get_or, take, drop, replicate, Option, Some, None, Result, Ok, Err, refl, sym, ap, ◌∙◌, subst, append_assoc, append-nil, length-append, eq-eqb, arith}
+use Rattle.std.proofs.Common.{◌≡◌, ℕ, ◌+◌, ◌-◌, ◌/◌, ◌%◌, ◌<◌, ◌≤◌, Bool, true, false, cond, eqb, List, [], ◌∷◌, ◌++◌, length, take, replicate, Option, Some, None, Result, Ok, refl, sym, ap, ◌∙◌, subst, append_assoc, append-nil, length-append, eq-eqb, arith}
 use Rattle.std.specs.Prelude.{map, sum, nat_lt, nat_le, ◌&&◌, ◌||◌, ◌==◌, not, if◌then◌else◌}
 use Rattle.std.specs.List.{list_all, AllByRecursion}
 use Rattle.std.proofs.lemmas.Bool.Decides.{nat_tests}
 use Rattle.std.proofs.lemmas.List.{take_at}
 use Rattle.source_defs.specs.Characters.{is_blank, is_line_feed}
-use Rattle.source_defs.specs.Lines.{lines_from, lines}
+use Rattle.source_defs.specs.Lines.{lines}
 use Rattle.source_defs.proofs.LineSteps.{lines_from_end}
 use Rattle.object_defs.specs.declared.spot.Spot.{Spot}
 use Rattle.object_defs.specs.declared.spot.Spot.TheVariants as spots
 use Rattle.object_defs.specs.declared.spot.Piece.{Piece}
 use Rattle.object_defs.specs.declared.causes.TagCause.{TagCause}
 use Rattle.object_defs.specs.declared.tag.Tag.TheVariants as tags
-use Rattle.object_defs.specs.Modules.{Module, Definition, Reference, HasText, StandsEven, number_of, moved, is_name_character, all_name_characters, is_module_name}
+use Rattle.object_defs.specs.Modules.{Module, Definition, Reference, HasText, StandsEven, moved, all_name_characters}
 use Rattle.object_defs.specs.Digits.{hexadecimal, decimal, padded, checksum}
 use Rattle.object_defs.specs.Tags.{tag_of}
-use Rattle.object_defs.specs.Writing
-use Rattle.object_defs.specs.Writing.{group, header_text, definition_text, reference_text, entry_text, Item, Group, Placed, items_of, entry_items, Line, empty_line, item_text, next_after, with_item, summed, numbered, line_text, last_line_text, number_after, written_from, written}
+use Rattle.object_defs.specs.Writing.{group, header_text, definition_text, reference_text, Item, Group, Placed, items_of, entry_items, Line, empty_line, item_text, with_item, summed, numbered, line_text, last_line_text, number_after, written_from, written}
 use Rattle.object_defs.specs.Reading.{OpenModule, Found, Refusal, NumberedLine, ◌>>=◌, number_at, module_name_at, with_groups, with_sum, opening_line, opened, ends_module, all_blank, after_line, after_line_by, read_from, read, nothing_found, has_line_feed}
 use Rattle.object_defs.specs.Laws.{FitsSpot, FitsPiece, FitsDefinition, FitsReference, IsModule, WrittenModulesAreRead}
 use Rattle.object_defs.proofs.FieldsAgain.{number_again, module_name_again, hexadecimal_length}
@@ -42,11 +41,11 @@ decimal_is number rest = refl
 numbered_is : (number : ℕ) (text more : List ℕ) → numbered number text ++ more ≡ body_of number text ++ 10 ∷ more
 numbered_is number text more =
     let left : numbered number text ++ more ≡ padded 76 text ++ (first_digits number ++ (last_digit number ∷ 10 ∷ more)) =
-      append_assoc (padded 76 text) (decimal number ++ 10 ∷ []) more
-      ∙ ap (λ (xs : List ℕ). padded 76 text ++ xs) (append_assoc (decimal number) (10 ∷ []) more ∙ decimal_is number (10 ∷ more)) in
+    append_assoc (padded 76 text) (decimal number ++ 10 ∷ []) more
+    ∙ ap (λ (xs : List ℕ). padded 76 text ++ xs) (append_assoc (decimal number) (10 ∷ []) more ∙ decimal_is number (10 ∷ more)) in
     let right : body_of number text ++ 10 ∷ more ≡ padded 76 text ++ (first_digits number ++ (last_digit number ∷ 10 ∷ more)) =
-      append_assoc (padded 76 text ++ first_digits number) (last_digit number ∷ []) (10 ∷ more)
-      ∙ append_assoc (padded 76 text) (first_digits number) (last_digit number ∷ 10 ∷ more) in
+    append_assoc (padded 76 text ++ first_digits number) (last_digit number ∷ []) (10 ∷ more)
+    ∙ append_assoc (padded 76 text) (first_digits number) (last_digit number ∷ 10 ∷ more) in
     left ∙ sym right
 
 body_prints : (number : ℕ) (text : List ℕ) → all_name_characters text ≡ true → all_name_characters (body_of number text) ≡ true
@@ -181,7 +180,7 @@ in_line_with current ended line m (Group text) after in_line takes = record {
 }
 in_line_with current ended line m (Placed piece) after in_line takes = record {
   goes = goes_behind current ended line m after (item_text line.next (Placed piece)) in_line
-    (subst (λ (b : OpenModule). Adds m (item_text line.next (Placed piece)) b) (sym takes.is) (piece_adds line.next m piece in_line.next takes.fits takes.evens takes.few));
+      (subst (λ (b : OpenModule). Adds m (item_text line.next (Placed piece)) b) (sym takes.is) (piece_adds line.next m piece in_line.next takes.fits takes.evens takes.few));
   plain = plain-append line.text (item_text line.next (Placed piece)) in_line.plain (piece_plain line.next piece);
   next = λ s e. ap (λ (b : OpenModule). b.load) takes.is ∙ some_is (moved piece.at 2) s e;
 }
@@ -282,23 +281,29 @@ refs_found (reference ∷ refs) m =
 run_pieces : (pieces : List Piece) (rest : List Item) (m end : OpenModule) → AllByRecursion FitsPiece pieces → AllByRecursion StandsEven pieces → length m.found.pieces + length pieces ≤ 32768
     → Run (with_pieces m pieces) rest end → Run m (map Placed pieces ++ rest) end
 run_pieces [] rest m end fits evens few run = run
-run_pieces (piece ∷ pieces) rest m end fits evens few run =
-    (with_piece m piece, record { is = refl; fits = fits.0; evens = evens.0; few = omega arith },
-    run_pieces pieces rest (with_piece m piece) end fits.1 evens.1 (omega (arith, length-append m.found.pieces (piece ∷ []))) run)
+run_pieces (piece ∷ pieces) rest m end fits evens few run = (
+  with_piece m piece,
+  record { is = refl; fits = fits.0; evens = evens.0; few = omega arith },
+  run_pieces pieces rest (with_piece m piece) end fits.1 evens.1 (omega (arith, length-append m.found.pieces (piece ∷ []))) run,
+)
 
 run_defs : (defs : List Definition) (rest : List Item) (m end : OpenModule) → AllByRecursion FitsDefinition defs → length m.found.defs + length defs ≤ 256
     → Run (with_defs m defs) rest end → Run m (map (λ definition. Group (definition_text definition)) defs ++ rest) end
 run_defs [] rest m end fits few run = run
-run_defs (definition ∷ defs) rest m end fits few run =
-    (with_def m definition, record { adds = definition_adds m definition fits.0 (omega arith); load = refl; plain = definition_plain definition fits.0.name },
-    run_defs defs rest (with_def m definition) end fits.1 (omega (arith, length-append m.found.defs (definition ∷ []))) run)
+run_defs (definition ∷ defs) rest m end fits few run = (
+  with_def m definition,
+  record { adds = definition_adds m definition fits.0 (omega arith); load = refl; plain = definition_plain definition fits.0.name },
+  run_defs defs rest (with_def m definition) end fits.1 (omega (arith, length-append m.found.defs (definition ∷ []))) run,
+)
 
 run_refs : (refs : List Reference) (rest : List Item) (m end : OpenModule) → AllByRecursion FitsReference refs → length m.found.refs + length refs ≤ 256
     → Run (with_refs m refs) rest end → Run m (map (λ reference. Group (reference_text reference)) refs ++ rest) end
 run_refs [] rest m end fits few run = run
-run_refs (reference ∷ refs) rest m end fits few run =
-    (with_ref m reference, record { adds = reference_adds m reference fits.0 (omega arith); load = refl; plain = reference_plain reference fits.0.name },
-    run_refs refs rest (with_ref m reference) end fits.1 (omega (arith, length-append m.found.refs (reference ∷ []))) run)
+run_refs (reference ∷ refs) rest m end fits few run = (
+  with_ref m reference,
+  record { adds = reference_adds m reference fits.0 (omega arith); load = refl; plain = reference_plain reference fits.0.name },
+  run_refs refs rest (with_ref m reference) end fits.1 (omega (arith, length-append m.found.refs (reference ∷ []))) run,
+)
 
 run_entry : (entry : Option Spot) (m : OpenModule) → Rattle.std.specs.Prelude.IfSome entry FitsSpot → m.found.entry ≡ None → Run m (entry_items entry) (with_entry_of m entry)
 run_entry None m fits none = refl
@@ -317,14 +322,14 @@ header_line m is rest =
     let size : length (hexadecimal m.size ++ m.name) ≡ 12 = omega (arith, length-append (hexadecimal m.size) m.name, hexadecimal_length m.size, name_length m.name is.name) in
     let line : List ℕ = 0x30 ∷ (hexadecimal m.size ++ (m.name ++ rest)) in
     let left : with_groups line 12 (hexadecimal m.size ++ (m.name ++ rest)) (header_of m) ≡ with_groups line 0 rest (header_of m) =
-      ap (λ (xs : List ℕ). with_groups line 12 xs (header_of m)) (sym (append_assoc (hexadecimal m.size) m.name rest)) ∙ left_over line 12 (hexadecimal m.size ++ m.name) rest (header_of m) size in
+    ap (λ (xs : List ℕ). with_groups line 12 xs (header_of m)) (sym (append_assoc (hexadecimal m.size) m.name rest)) ∙ left_over line 12 (hexadecimal m.size ++ m.name) rest (header_of m) size in
     rw (number_again m.size (m.name ++ rest) is.size, module_name_again 0x30 m.size m.name rest is.name) left
 
 header_opens : (m : Module) → IsModule m → (rest : List ℕ) → opening_line 0 (header_text m.size m.name ++ rest) ≡ with_groups (header_text m.size m.name ++ rest) 0 rest (header_of m)
 header_opens m is rest =
     let named : padded 8 m.name ≡ m.name = name_padded m.name is.name in
     let whole : header_text m.size m.name ++ rest ≡ 0x30 ∷ (hexadecimal m.size ++ (m.name ++ rest)) =
-      ap (λ (xs : List ℕ). (group tags.Header m.size ++ xs) ++ rest) named ∙ append_assoc (group tags.Header m.size) m.name rest in
+    ap (λ (xs : List ℕ). (group tags.Header m.size ++ xs) ++ rest) named ∙ append_assoc (group tags.Header m.size) m.name rest in
     subst (λ (xs : List ℕ). opening_line 0 xs ≡ with_groups xs 0 rest (header_of m)) (sym whole) (header_line m is rest)
 
 header_length : (m : Module) → IsModule m → length (header_text m.size m.name) ≡ 13

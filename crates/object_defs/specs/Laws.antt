@@ -1,5 +1,5 @@
 -- What a written module reads as, and where its words stand.
-use Rattle.std.specs.Prelude.{◌≡◌, ℕ, ◌*◌, ◌+◌, ◌<◌, true, List, [], ◌∷◌, Option, IfSome, Ok}
+use Rattle.std.specs.Prelude.{◌≡◌, ◌<◌, true, [], ◌∷◌, IfSome, Ok}
 use Rattle.std.specs.List.{AllByRecursion}
 use Rattle.source_defs.specs.Names.{is_kept_name}
 use Rattle.object_defs.specs.declared.spot.Spot.{Spot}

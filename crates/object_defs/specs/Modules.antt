@@ -1,7 +1,6 @@
 -- What a module is: its code, its names and its entry.
-use Rattle.std.specs.Prelude.{◌≡◌, ℕ, ◌+◌, ◌-◌, ◌%◌, ◌<◌, ◌≤◌, ◌==◌, Bool, true, false, ◌&&◌, nat_le, List, length, Option, IfSome}
+use Rattle.std.specs.Prelude.{◌≡◌, ℕ, ◌+◌, ◌-◌, ◌%◌, ◌≤◌, ◌==◌, Bool, false, ◌&&◌, nat_le, List, length, Option}
 use Rattle.std.specs.List.{list_all, AllByRecursion}
-use Rattle.source_defs.specs.Names.{is_kept_name}
 use Rattle.object_defs.specs.declared.spot.Spot.{Spot}
 use Rattle.object_defs.specs.declared.spot.Spot.TheVariants.{Absolute, Relocatable}
 use Rattle.object_defs.specs.declared.spot.Piece.{Piece}

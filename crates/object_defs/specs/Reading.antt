@@ -1,7 +1,7 @@
 -- What an object text reads as: its modules, or its first bad place.
 --
 -- Editor/Assembler manual, "Tagged object code".
-use Rattle.std.specs.Prelude.{◌≡◌, ℕ, zero, suc, ◌+◌, ◌-◌, ◌*◌, ◌/◌, ◌%◌, ◌==◌, Bool, true, false, not, ◌&&◌, nat_lt, nat_le, if◌then◌else◌, List, [], ◌∷◌, ◌++◌, length, take, drop, map, slice_range, Option, Some, None, is_some, Result, Ok, Err}
+use Rattle.std.specs.Prelude.{ℕ, zero, suc, ◌+◌, ◌-◌, ◌*◌, ◌/◌, ◌%◌, ◌==◌, Bool, true, false, not, ◌&&◌, nat_lt, nat_le, if◌then◌else◌, List, [], ◌∷◌, ◌++◌, length, take, drop, map, slice_range, Option, Some, None, is_some, Result, Ok, Err}
 use Rattle.std.specs.List.{list_all, list_any, range_with_len}
 use Rattle.source_defs.specs.declared.text.Line.{Line}
 use Rattle.source_defs.specs.Characters.{is_blank, is_line_feed}
@@ -10,13 +10,12 @@ use Rattle.source_defs.specs.Names.{is_kept_name, all_printed}
 use Rattle.source_defs.specs.Numbers.{all_hexadecimal_digits, value_after}
 use Rattle.object_defs.specs.declared.spot.Spot.{Spot}
 use Rattle.object_defs.specs.declared.spot.Spot.TheVariants.{Relocatable}
-use Rattle.object_defs.specs.declared.spot.Piece.{Piece}
 use Rattle.object_defs.specs.declared.causes.TagCause.{TagCause}
 use Rattle.object_defs.specs.declared.causes.TagCause.TheVariants.{BadTag, BadDigit, ShortField, Checksum, NoEnd, TooMany}
 use Rattle.object_defs.specs.declared.tag.Kind.{Kind}
 use Rattle.object_defs.specs.declared.tag.Tag.{Tag}
 use Rattle.object_defs.specs.declared.tag.Tag.TheVariants as tags
-use Rattle.object_defs.specs.Modules.{Module, Definition, Reference, moved, even, is_name_character, all_name_characters, most_modules, most_words, most_names}
+use Rattle.object_defs.specs.Modules.{Module, moved, even, all_name_characters, most_modules, most_words, most_names}
 use Rattle.object_defs.specs.Digits.{checksum}
 use Rattle.object_defs.specs.Tags.{tag_of, spot}
 
@@ -28,6 +27,7 @@ abbrev pub ◌>>=◌ : {A B : Type 0} → Result A TagCause → (A → Result B 
 
 -- The fields behind a tag.
 
+-- the four digits, of either case
 -- Profile: a bad character of a field comes before the end of the line in it.
 unfoldable pub number_at : List ℕ → Result ℕ TagCause
 number_at fields =
@@ -37,6 +37,7 @@ number_at fields =
     else Ok (value_after 16 0 digits)
 
 -- the eight characters behind the digits
+-- Profile: each of them is one from >20 to >7E.
 unfoldable pub module_name_at : ℕ → List ℕ → Result (List ℕ) TagCause
 module_name_at tag fields =
     let name = take 8 (drop 4 fields) in
@@ -53,6 +54,7 @@ without_blanks [] = []
 without_blanks (byte ∷ bytes) = if all_blank (byte ∷ bytes) then [] else byte ∷ without_blanks bytes
 
 -- a name in a field of six characters, of which the line may have fewer
+-- Profile: without the blanks at its end it is one to six characters from >21 to >7E.
 abbrev pub symbol_in : ℕ → List ℕ → Result (List ℕ) TagCause
 symbol_in tag field =
     if nat_lt (length field) 6 && all_printed (without_blanks field) then Err ShortField
@@ -153,7 +155,7 @@ group_gives m computed byte None fields rest = Err (BadTag byte)
 group_gives m computed byte (Some tag) fields rest = with_group m computed byte tag fields >>= λ m. rest (group_size tag) m
 
 -- The groups in the rest of a line, after the characters that are left of a group before them. What follows the tag F
--- is ignored. The checksum is that of the line's characters from the first through the group's tag.
+-- is ignored. Profile: a line may end without it. The checksum is that of the line's characters from the first through the group's tag.
 unfoldable pub with_groups : List ℕ → ℕ → List ℕ → OpenModule → Result OpenModule TagCause
 with_groups line left [] m = Ok m
 with_groups line (suc left) (byte ∷ fields) m = with_groups line left fields m
@@ -192,7 +194,7 @@ opening_line ended (byte ∷ fields) =
     else if nat_le most_modules ended then Err TooMany
     else opened byte fields >>= λ m. with_groups (byte ∷ fields) (group_size tags.Header) fields m
 
--- the tag of the end of a module stands first in the line
+-- the tag of the end of a module stands first in the line, and what follows it is ignored
 abbrev pub ends_module : List ℕ → Bool
 ends_module [] = false
 ends_module (byte ∷ fields) = byte == 0x3A

@@ -1,6 +1,7 @@
 -- One part of a text after the other.
-use Rattle.std.proofs.Common.{◌≡◌, ℕ, List, [], ◌∷◌, ◌++◌, map, refl, sym, ap, ◌∙◌, append-nil}
-use Rattle.object_defs.specs.Writing.{Item, Group, Line, written_from, empty_line}
+use Rattle.std.proofs.Common.{◌≡◌, ℕ, List, [], ◌∷◌, ◌++◌, map, Result, Ok, Err, IfOk, refl, sym, ap, subst, ◌∙◌, append-nil}
+use Rattle.std.specs.List.{AllByRecursion}
+use Rattle.object_defs.specs.Writing.{Item, Line, written_from, empty_line}
 use Rattle.object_tags.specs.declared.writer.Writer.{Writer}
 use Rattle.object_tags.specs.Lines.{whole, line_of, Wrote}
 
@@ -23,3 +24,13 @@ pub begins : (writer : Writer) (items : List Item) → writer.text.items ≡ [] 
 begins writer items text line number =
     ap (λ (front : List ℕ). front ++ written_from writer.number (line_of writer) items) text
     ∙ (ap (λ (n : ℕ). written_from n (line_of writer) items) number ∙ ap (λ (l : Line). written_from 1 l items) line)
+
+-- a fact about what the elements of a list are made to
+pub all_defined : {A B : Type 0} (P : B → Type 0) (f : A → B) (xs : List A) → AllByRecursion (λ (x : A). P (f x)) xs → AllByRecursion P (map f xs)
+all_defined P f [] all = tt
+all_defined P f (x ∷ xs) all = (all.0, all_defined P f xs all.1)
+
+-- a fact about the bytes that a result holds
+pub if_ok : {A E : Type 0} (r : Result A E) (f : A → List ℕ) (bytes : List ℕ) (Q : List ℕ → Type 0) → Q bytes → IfOk r (λ (x : A). f x ≡ bytes) → IfOk r (λ (x : A). Q (f x))
+if_ok (Ok x) f bytes Q q is = subst Q (sym is) q
+if_ok (Err e) f bytes Q q is = tt

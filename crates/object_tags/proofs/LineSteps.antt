@@ -1,5 +1,5 @@
 -- The lines of a text, one by one.
-use Rattle.std.proofs.Common.{◌≡◌, ℕ, suc, ◌+◌, ◌-◌, ◌<◌, arith, List, [], ◌∷◌, Result, Ok, Err, refl, sym, ap, ◌∙◌}
+use Rattle.std.proofs.Common.{◌≡◌, ℕ, suc, ◌+◌, ◌-◌, ◌<◌, arith, List, ◌∷◌, Result, Ok, refl, ◌∙◌}
 use Rattle.std.specs.List.{range_with_len}
 use Rattle.object_defs.specs.Modules as defined
 use Rattle.object_defs.specs.Reading.{Found, Refusal, NumberedLine, after_line, read_from}

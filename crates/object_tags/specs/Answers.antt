@@ -1,6 +1,5 @@
 -- What the reader's answers say, in the terms of the definitions.
-use Rattle.std.specs.Prelude.{◌≡◌, ⊤, List, ℕ, map, Result, Ok, Err}
-use Rattle.std.specs.Option.{option_map}
+use Rattle.std.specs.Prelude.{◌≡◌, ⊤, List, map, Result, Ok, Err}
 use Rattle.object_defs.specs.declared.causes.TagCause.{TagCause}
 use Rattle.object_defs.specs.Modules as defined
 use Rattle.object_defs.specs.Reading as reading

@@ -1,7 +1,6 @@
 -- What the reader has found, and what is to come.
 use Rattle.std.specs.Prelude.{◌≡◌, List, [], Result, Ok, Err}
 use Rattle.std.specs.Option.{option_map}
-use Rattle.object_defs.specs.Modules as defined
 use Rattle.object_defs.specs.Reading.{Found, Refusal, NumberedLine, read_from}
 use Rattle.object_tags.specs.declared.error.TagError.{TagError}
 use Rattle.object_tags.specs.declared.reader.Reader.{Reader}

@@ -1,5 +1,5 @@
 -- What the definitions see of a module of the code.
-use Rattle.std.specs.Prelude.{List, map}
+use Rattle.std.specs.Prelude.{map}
 use Rattle.object_defs.specs.Modules as defined
 use Rattle.object_tags.specs.declared.parts.Def.{Def}
 use Rattle.object_tags.specs.declared.parts.Ref.{Ref}

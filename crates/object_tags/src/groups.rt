@@ -1,10 +1,11 @@
 //! The text of the groups.
 
-ghost use Rattle.std.specs.Prelude.{◌≡◌, ◌≤◌, ◌<◌, ◌+◌, ◌++◌, length, replicate};
+ghost use Rattle.std.specs.Prelude.{◌≡◌, ◌≤◌, ◌<◌, ◌+◌, ◌++◌, true, length, replicate};
 ghost use Rattle.object_defs.specs.Digits as digits;
 ghost use Rattle.object_defs.specs.Modules as modules;
 ghost use Rattle.object_defs.specs.Tags as tags;
 ghost use Rattle.object_defs.specs.Writing as writing;
+ghost use Rattle.object_defs.specs.Laws.{FitsSpot, FitsDefinition, FitsReference};
 ghost use Rattle.object_tags.specs.Seen.{defined_def, defined_ref};
 
 use crate::module_name::ModuleName;
@@ -118,7 +119,9 @@ fn put_blanks(text: &mut GroupText, count: usize)
 
 /// The first group of a module.
 pub(crate) fn header_text(size: u16, name: &ModuleName) -> GroupText
-    ensures { result.items ≡ writing.header_text size name.now }
+    ensures text { result.items ≡ writing.header_text size name.now }
+    ensures size { size < 65536 }
+    ensures name { modules.is_module_name name.now ≡ true }
 {
     let mut text = group(Tag::Header, size);
     text.try_extend_from_slice(name.as_bytes()).unwrap();
@@ -128,6 +131,7 @@ pub(crate) fn header_text(size: u16, name: &ModuleName) -> GroupText
 pub(crate) fn address_text(at: Spot) -> GroupText
     ensures text { result.items ≡ writing.address_text at }
     ensures size { length result.items ≡ 5 }
+    ensures fits { FitsSpot at }
 {
     group(Tag::Address(kind_of(at)), number_of(at))
 }
@@ -135,18 +139,21 @@ pub(crate) fn address_text(at: Spot) -> GroupText
 pub(crate) fn word_text(word: Spot) -> GroupText
     ensures text { result.items ≡ writing.word_text word }
     ensures size { length result.items ≡ 5 }
+    ensures fits { FitsSpot word }
 {
     group(Tag::Word(kind_of(word)), number_of(word))
 }
 
 pub(crate) fn entry_text(entry: Spot) -> GroupText
-    ensures { result.items ≡ writing.entry_text entry }
+    ensures text { result.items ≡ writing.entry_text entry }
+    ensures fits { FitsSpot entry }
 {
     group(Tag::Entry(kind_of(entry)), number_of(entry))
 }
 
 pub(crate) fn definition_text(def: &Def) -> GroupText
-    ensures { result.items ≡ writing.definition_text (defined_def def.now) }
+    ensures text { result.items ≡ writing.definition_text (defined_def def.now) }
+    ensures fits { FitsDefinition (defined_def def.now) }
 {
     named_group(
         Tag::Definition(kind_of(def.value)),
@@ -156,7 +163,8 @@ pub(crate) fn definition_text(def: &Def) -> GroupText
 }
 
 pub(crate) fn reference_text(reference: &Ref) -> GroupText
-    ensures { result.items ≡ writing.reference_text (defined_ref reference.now) }
+    ensures text { result.items ≡ writing.reference_text (defined_ref reference.now) }
+    ensures fits { FitsReference (defined_ref reference.now) }
 {
     named_group(
         Tag::Reference(kind_of(reference.last)),

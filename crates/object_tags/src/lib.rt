@@ -19,7 +19,7 @@ mod write;
 mod writer;
 
 pub use error::TagError;
-pub use laws::written_modules_are_read;
+pub use laws::{words_stand_at_their_places, written_modules_are_read};
 pub use lists::{Defs, Pieces, Refs};
 pub use module_name::ModuleName;
 pub use object_defs::{Piece, Spot, TagCause};

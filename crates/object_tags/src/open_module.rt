@@ -51,7 +51,13 @@ impl OpenModule {
     }
 
     /// Adds a group, where the line up to its tag has a checksum.
-    pub(crate) fn put_group(&mut self, computed: u16, byte: u8, tag: Tag, fields: &[u8]) -> Result<(), Failure>
+    pub(crate) fn put_group(
+        &mut self,
+        computed: u16,
+        byte: u8,
+        tag: Tag,
+        fields: &[u8],
+    ) -> Result<(), Failure>
         ensures { Leaves result (defined_open self.new) (reading.with_group (defined_open self.old) computed byte tag fields.now) }
     {
         match tag {

@@ -7,9 +7,9 @@ ghost use Rattle.object_defs.specs.Reading as reading;
 ghost use Rattle.object_tags.specs.Answers.{Gives, defined_modules};
 ghost use Rattle.object_tags.specs.Reads.{Reads};
 
+use crate::error::TagError;
 use crate::parts::Module;
 use crate::reader::Reader;
-use crate::error::TagError;
 use asm_text::lines;
 use std::alloc::Global;
 

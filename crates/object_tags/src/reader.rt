@@ -38,7 +38,12 @@ impl Reader {
 
     /// Reads a line.
     #[tactic(auto, unfolding(object_defs::specs::Reading::after_line))]
-    pub(crate) fn put_line(&mut self, alloc: Global, number: u32, line: &[u8]) -> Result<(), TagError>
+    pub(crate) fn put_line(
+        &mut self,
+        alloc: Global,
+        number: u32,
+        line: &[u8],
+    ) -> Result<(), TagError>
         requires { length line.now < 2 ^ 32 }
         ensures { TakesLine result (found_of self.new) (reading.after_line (found_of self.old) (record { number = number; text = line.now })) }
     {
@@ -48,7 +53,10 @@ impl Reader {
         self.last = number;
         match self.put_groups(alloc, line) {
             Ok(()) => Ok(()),
-            Err(Failure::Cause(cause)) => Err(TagError::At { line: number, cause }),
+            Err(Failure::Cause(cause)) => Err(TagError::At {
+                line: number,
+                cause,
+            }),
             Err(Failure::Memory) => Err(TagError::Memory),
         }
     }

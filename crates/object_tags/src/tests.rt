@@ -3,24 +3,28 @@
 ghost use Rattle.std.specs.Prelude.{◌≡◌, ◌<◌, ◌^◌, length, IfOk};
 
 use crate::{
-    Def, Defs, Module, ModuleName, Piece, Pieces, Ref, Refs, Spot, TagCause, TagError, read_modules,
-    write_module,
+    Def, Defs, Module, ModuleName, Piece, Pieces, Ref, Refs, Spot, TagCause, TagError,
+    read_modules, write_module,
 };
 use asm_text::Name;
 use std::alloc::{AllocError, Global};
 use std::test::Fail;
 
 /// A module of four words.
-const FOUR_WORDS: &[u8] = b"00008        A0000B0201B1234BA081B045B7F886F                                0001\n:                                                                           0002\n";
+const FOUR_WORDS: &[u8] =
+    b"00008        A0000B0201B1234BA081B045B7F886F                                0001\n:                                                                           0002\n";
 
 /// The same in records of 80 characters.
-const FOUR_WORDS_IN_RECORDS: &[u8] = b"00008        A0000B0201B1234BA081B045B7F886F                                0001:                                                                           0002";
+const FOUR_WORDS_IN_RECORDS: &[u8] =
+    b"00008        A0000B0201B1234BA081B045B7F886F                                0001:                                                                           0002";
 
 /// A module with both kinds of each group.
-const BOTH_KINDS: &[u8] = b"00010TWO MODSA0000B0201C12349A000BA081B045B50002A     63FFFLONGER7F15BF     0001\n30002EXTERN40000X     2000A7FA0FF                                           0002\n:                                                                           0003\n";
+const BOTH_KINDS: &[u8] =
+    b"00010TWO MODSA0000B0201C12349A000BA081B045B50002A     63FFFLONGER7F15BF     0001\n30002EXTERN40000X     2000A7FA0FF                                           0002\n:                                                                           0003\n";
 
 /// A module whose eleventh word does not fit in the first line.
-const ELEVEN_WORDS: &[u8] = b"00016        A0000B0000B0001B0002B0003B0004B0005B0006B0007B0008B00097F290F  0001\nA0014B000A7FDB0F                                                            0002\n:                                                                           0003\n";
+const ELEVEN_WORDS: &[u8] =
+    b"00016        A0000B0000B0001B0002B0003B0004B0005B0006B0007B0008B00097F290F  0001\nA0014B000A7FDB0F                                                            0002\n:                                                                           0003\n";
 
 /// Words as the list of a module.
 fn pieces_of(alloc: Global, words: &[Piece]) -> Result<Pieces, AllocError>
@@ -167,10 +171,14 @@ fn refuses_damaged_lines(rt: HostRuntime) -> Result<(), Fail> {
         (b"00000        30000A B", 1, TagCause::BadTag(b'3')),
         (b"00000        40000A  ", 1, TagCause::ShortField),
         (b"00000        60000", 1, TagCause::ShortField),
-        (b"00000        7FDD8F", 1, TagCause::Checksum {
-            found: 0xFDD8,
-            computed: 0xFDD9,
-        }),
+        (
+            b"00000        7FDD8F",
+            1,
+            TagCause::Checksum {
+                found: 0xFDD8,
+                computed: 0xFDD9,
+            },
+        ),
     ];
     for (text, line, cause) in rows {
         assert!(rt; text.len() < 1000);

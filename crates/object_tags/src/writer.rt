@@ -4,6 +4,7 @@ ghost use Rattle.std.specs.Prelude.{◌≡◌, ◌≤◌, ◌<◌, ◌^◌, ◌+
 ghost use Rattle.object_defs.specs.Digits as digits;
 ghost use Rattle.object_defs.specs.Modules as modules;
 ghost use Rattle.object_defs.specs.Writing as writing;
+ghost use Rattle.object_defs.specs.Laws.{FitsSpot, FitsPiece};
 ghost use Rattle.object_tags.specs.Lines.{Wrote, whole, line_of};
 
 use crate::checksum::checksum;
@@ -61,7 +62,8 @@ impl Writer {
     /// Writes a word, with an address group before it where it is not the place after the word before it on the line.
     #[tactic(auto, using(std::proofs::lemmas::List::append_assoc), unfolding(object_defs::specs::Writing::written_from))]
     pub(crate) fn put_word(&mut self, piece: Piece) -> Result<(), AllocError>
-        ensures { OnOk result (Wrote (writing.Placed piece ∷ []) self.old self.new) }
+        ensures wrote { OnOk result (Wrote (writing.Placed piece ∷ []) self.old self.new) }
+        ensures fits { OnOk result (FitsPiece piece) }
     {
         if self.line.len() + piece_text(self.next, piece).len() > GROUP_COLUMNS {
             self.end_line()?;
@@ -130,7 +132,8 @@ fn number_after(number: u16) -> u16
 
 /// The place two bytes behind a place.
 pub(crate) fn place_after(at: Spot) -> Spot
-    ensures { result ≡ modules.moved at 2 }
+    ensures place { result ≡ modules.moved at 2 }
+    ensures fits { FitsSpot at }
 {
     match at {
         Spot::Absolute(number) => Spot::Absolute(number.wrapping_add(2)),
@@ -140,7 +143,8 @@ pub(crate) fn place_after(at: Spot) -> Spot
 
 /// The text of a word behind a place.
 fn piece_text(next: Option<Spot>, piece: Piece) -> GroupText
-    ensures { result.items ≡ writing.item_text next (writing.Placed piece) }
+    ensures text { result.items ≡ writing.item_text next (writing.Placed piece) }
+    ensures fits { FitsSpot piece.word }
 {
     let word = word_text(piece.word);
     match next {

@@ -1,5 +1,5 @@
 use Rattle.std.proofs.Common.{◌∙◌, refl}
-use Rattle.object_tags.proofs.Hexadecimal.{TwoBytes, two_bytes}
+use Rattle.object_tags.proofs.Hexadecimal.{two_bytes}
 use Rattle.object_tags.proofs.fields.four_digits.Goals as goal
 
 pub unwrap-requires : goal.unwrap-requires

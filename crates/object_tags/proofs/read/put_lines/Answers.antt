@@ -1,10 +1,8 @@
-use Rattle.std.proofs.Common.{◌≡◌, List, [], ◌∷◌, Ok, sym, refl, ap, ◌∙◌, rules}
+use Rattle.std.proofs.Common.{◌∷◌}
 use Rattle.std.specs.Prelude.{map}
 use Rattle.std.proofs.lemmas.Result.{err_from_is_err_and}
-use Rattle.source_defs.specs.declared.text.Line.{Line}
-use Rattle.source_defs.specs.Lines.{lines, LinesLieInside}
-use Rattle.object_defs.specs.Reading.{numbered_line, read_from}
-use Rattle.object_tags.specs.Reads.{found_of}
+use Rattle.source_defs.specs.Lines.{LinesLieInside}
+use Rattle.object_defs.specs.Reading.{numbered_line}
 use Rattle.object_tags.proofs.LineSteps.{line_read, line_refused}
 use Rattle.object_tags.proofs.read.put_lines.Goals as goal
 

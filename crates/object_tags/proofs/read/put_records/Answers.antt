@@ -1,9 +1,8 @@
-use Rattle.std.proofs.Common.{◌≡◌, ◌+◌, ◌-◌, ◌/◌, ◌<◌, length, List, [], ◌∷◌, Ok, sym, refl, ap, ◌∙◌, arith, rules}
+use Rattle.std.proofs.Common.{◌+◌, ◌-◌, ◌/◌, length}
 use Rattle.std.specs.Prelude.{map}
 use Rattle.std.specs.List.{range_with_len}
 use Rattle.std.proofs.lemmas.Result.{err_from_is_err_and}
-use Rattle.object_defs.specs.Reading.{record_at, records, read_from}
-use Rattle.object_tags.specs.Reads.{found_of}
+use Rattle.object_defs.specs.Reading.{record_at}
 use Rattle.object_tags.proofs.LineSteps.{line_read, line_refused, first_number}
 use Rattle.object_tags.proofs.read.put_records.Goals as goal
 

@@ -1,8 +1,8 @@
-use Rattle.std.proofs.Common.{◌≡◌, List, [], Ok, Result, sym, refl, ap, ◌∙◌, subst}
+use Rattle.std.proofs.Common.{◌≡◌, List, [], Result, sym, ap, ◌∙◌, subst}
 use Rattle.std.proofs.lemmas.Result.{err_from_is_err_and}
 use Rattle.object_defs.specs.Modules as defined
 use Rattle.object_defs.specs.Reading.{read, read_from, nothing_found, text_lines, Refusal}
-use Rattle.object_tags.specs.Answers.{Gives, Refuses, defined_modules}
+use Rattle.object_tags.specs.Answers.{Gives, defined_modules}
 use Rattle.object_tags.specs.Reads.{found_of}
 use Rattle.object_tags.proofs.LineSteps.{refuses_same}
 use Rattle.object_tags.proofs.read.read_modules.Goals as goal

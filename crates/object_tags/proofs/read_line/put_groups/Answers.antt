@@ -1,10 +1,10 @@
-use Rattle.std.proofs.Common.{◌≡◌, ℕ, ◌+◌, ◌-◌, ◌%◌, ◌<◌, ◌≤◌, List, [], length, take, drop, sum as total, get_or, Some, None, Ok, Err, refl, sym, ap, ◌∙◌, subst, arith}
+use Rattle.std.proofs.Common.{◌≡◌, ℕ, ◌-◌, ◌%◌, ◌≤◌, List, [], length, take, drop, sum as total, get_or, Some, Ok, refl, sym, ap, ◌∙◌, arith}
 use Rattle.std.proofs.lemmas.Bool.Decides.{nat_tests}
 use Rattle.std.proofs.lemmas.Result.{err_from_is_err_and}
 use Rattle.std.proofs.lemmas.List.{nil_from_length}
 use Rattle.object_defs.specs.Tags.{tag_of}
-use Rattle.object_defs.specs.Digits.{checksum, complement}
-use Rattle.object_defs.specs.Reading.{with_group, with_groups, group_size, is_end_of_line}
+use Rattle.object_defs.specs.Digits.{checksum}
+use Rattle.object_defs.specs.Reading.{with_group, with_groups, is_end_of_line}
 use Rattle.object_tags.specs.Answers.{defined_open, Fails}
 use Rattle.object_tags.proofs.GroupSteps.{no_group, line_ends, no_tag, group_fails, group_added}
 use Rattle.object_tags.proofs.Sums.{computed_here, next_stands}
