@@ -99,6 +99,9 @@ fn reads_modules(rt: HostRuntime) -> Result<(), Fail> {
     ] {
         assert!(rt; gives(alloc, text, &module));
     }
+    let words = relocatable(alloc, &[0, 1, 2, 3, 4, 5, 6, 7, 8, 9, 10])?;
+    let module = module_of(b"        ", 22, words, alloc)?;
+    assert!(rt; gives(alloc, ELEVEN_WORDS, &module));
     let wrapped = pieces_of(
         alloc,
         &[
@@ -204,28 +207,40 @@ fn refuses_damaged_lines(rt: HostRuntime) -> Result<(), Fail> {
     Ok(())
 }
 
+/// A word of a module of tests.
+fn word(at: Spot, word: Spot) -> Piece
+    ensures { result ≡ record { at = at; word = word } }
+{
+    Piece { at, word }
+}
+
 #[test]
 fn writes_modules(rt: HostRuntime) -> Result<(), Fail> {
     let alloc = rt.alloc();
+    let four = Module {
+        name: ModuleName::read(b"        ").ok_or("a name has eight characters")?,
+        size: 8,
+        pieces: pieces_of(
+            alloc,
+            &[
+                word(Spot::Relocatable(0), Spot::Absolute(0x0201)),
+                word(Spot::Relocatable(2), Spot::Absolute(0x1234)),
+                word(Spot::Relocatable(4), Spot::Absolute(0xA081)),
+                word(Spot::Relocatable(6), Spot::Absolute(0x045B)),
+            ],
+        )?,
+        defs: Defs::new(alloc),
+        refs: Refs::new(alloc),
+        entry: None,
+    };
+    assert_eq!(rt; write_module(alloc, &four)?.as_slice(), FOUR_WORDS);
     let pieces = pieces_of(
         alloc,
         &[
-            Piece {
-                at: Spot::Relocatable(0),
-                word: Spot::Absolute(0x0201),
-            },
-            Piece {
-                at: Spot::Relocatable(2),
-                word: Spot::Relocatable(0x1234),
-            },
-            Piece {
-                at: Spot::Absolute(0xA000),
-                word: Spot::Absolute(0xA081),
-            },
-            Piece {
-                at: Spot::Absolute(0xA002),
-                word: Spot::Absolute(0x045B),
-            },
+            word(Spot::Relocatable(0), Spot::Absolute(0x0201)),
+            word(Spot::Relocatable(2), Spot::Relocatable(0x1234)),
+            word(Spot::Absolute(0xA000), Spot::Absolute(0xA081)),
+            word(Spot::Absolute(0xA002), Spot::Absolute(0x045B)),
         ],
     )?;
     let mut module = Module {
