@@ -1,0 +1,88 @@
+-- Fields that were written are read again.
+use Rattle.std.proofs.Common.{◌≡◌, ℕ, zero, suc, ◌+◌, ◌-◌, ◌*◌, ◌/◌, ◌%◌, ◌<◌, ◌≤◌, Bool, true, false, List, [], ◌∷◌, ◌++◌, length, take, drop, replicate, Ok, refl, ◌∙◌, length-append, arith}
+use Rattle.std.specs.Prelude.{nat_lt, nat_le, ◌&&◌, ◌==◌}
+use Rattle.std.proofs.lemmas.Bool.Decides.{nat_tests}
+use Rattle.std.proofs.lemmas.List.{take_at, drop_at, length-replicate}
+use Rattle.source_defs.specs.Characters.{is_blank}
+use Rattle.source_defs.specs.Names.{is_kept_name, all_printed, is_printed}
+use Rattle.source_defs.specs.Numbers.{is_hexadecimal_digit, digit_value}
+use Rattle.object_defs.specs.Modules.{all_name_characters, is_module_name}
+use Rattle.object_defs.specs.Digits.{hexadecimal, hexadecimal_digit, padded}
+use Rattle.object_defs.specs.Reading.{number_at, module_name_at, symbol_at, all_blank, without_blanks}
+
+digit_is : (v : ℕ) → v < 16 → is_hexadecimal_digit (hexadecimal_digit v) ≡ true
+digit_is v lt = grind (arith, nat_tests)
+
+digit_back : (v : ℕ) → v < 16 → digit_value (hexadecimal_digit v) ≡ v
+digit_back v lt = grind (arith, nat_tests)
+
+four_again : (a b c d n : ℕ) (rest : List ℕ) → a < 16 → b < 16 → c < 16 → d < 16 → ((a * 16 + b) * 16 + c) * 16 + d ≡ n
+    → number_at (hexadecimal_digit a ∷ hexadecimal_digit b ∷ hexadecimal_digit c ∷ hexadecimal_digit d ∷ rest) ≡ Ok n
+unfolding number_at
+four_again a b c d n rest la lb lc ld e =
+    let value : (((0 * 16 + a) * 16 + b) * 16 + c) * 16 + d ≡ n = omega arith in
+    rw (digit_is a la, digit_is b lb, digit_is c lc, digit_is d ld, digit_back a la, digit_back b lb, digit_back c lc, digit_back d ld, value) refl
+
+pub number_again : (n : ℕ) (rest : List ℕ) → n < 65536 → number_at (hexadecimal n ++ rest) ≡ Ok n
+unfolding hexadecimal
+number_again n rest lt = four_again (n / 4096 % 16) (n / 256 % 16) (n / 16 % 16) (n % 16) n rest (omega arith) (omega arith) (omega arith) (omega arith) (omega arith)
+
+pub hexadecimal_length : (n : ℕ) → length (hexadecimal n) ≡ 4
+unfolding hexadecimal
+hexadecimal_length n = refl
+
+printed_no_blank : (c : ℕ) → is_printed c ≡ true → is_blank c ≡ false
+printed_no_blank c h = grind (arith, nat_tests)
+
+and_left : (a b : Bool) → (a && b) ≡ true → a ≡ true
+and_left true b h = refl
+and_left false b h = h
+
+and_right : (a b : Bool) → (a && b) ≡ true → b ≡ true
+and_right true b h = h
+and_right false b h = cc
+
+blanks : (k : ℕ) → all_blank (replicate k 0x20) ≡ true
+blanks zero = refl
+blanks (suc k) = blanks k
+
+no_blanks : (k : ℕ) → without_blanks (replicate k 0x20) ≡ []
+unfolding without_blanks
+no_blanks zero = refl
+no_blanks (suc k) = rw (blanks k) refl
+
+-- a name without the blanks that were put behind it
+name_again : (name : List ℕ) (k : ℕ) → all_printed name ≡ true → without_blanks (name ++ replicate k 0x20) ≡ name
+unfolding without_blanks
+name_again [] k h = no_blanks k
+name_again (c ∷ name) k h = let other : is_blank c ≡ false = printed_no_blank c (and_left (is_printed c) (all_printed name) h) in rw (other, name_again name k (and_right (is_printed c) (all_printed name) h)) refl
+
+blank_count : (k : ℕ) → length (replicate {A = ℕ} k 0x20) ≡ k
+blank_count k = length-replicate {A = ℕ} k 0x20
+
+-- a name in a field of six characters
+pub kept_length : (name : List ℕ) → is_kept_name name ≡ true → length (padded 6 name) ≡ 6
+kept_length name h =
+    let front : (nat_lt 0 (length name) && nat_le (length name) 6) ≡ true = and_left _ (all_printed name) h in
+    let short : length name ≤ 6 = let le : nat_le (length name) 6 ≡ true = and_right (nat_lt 0 (length name)) _ front in grind (arith, nat_tests) in
+    let behind_name = blank_count (6 - length name) in
+    length-append name (replicate {A = ℕ} (6 - length name) 0x20) ∙ omega arith
+
+pub symbol_again : (tag n : ℕ) (name rest : List ℕ) → is_kept_name name ≡ true → symbol_at tag (hexadecimal n ++ (padded 6 name ++ rest)) ≡ Ok name
+unfolding symbol_at
+symbol_again tag n name rest h =
+    let printed : all_printed name ≡ true = and_right (nat_lt 0 (length name) && nat_le (length name) 6) (all_printed name) h in
+    let behind : drop 4 (hexadecimal n ++ (padded 6 name ++ rest)) ≡ padded 6 name ++ rest = drop_at (hexadecimal n) _ 4 (hexadecimal_length n) in
+    let size = kept_length name h in
+    let field : take 6 (padded 6 name ++ rest) ≡ padded 6 name = take_at (padded 6 name) rest 6 size in
+    let kept : without_blanks (padded 6 name) ≡ name = name_again name (6 - length name) printed in
+    rw (behind, field, size, kept, h) refl
+
+pub module_name_again : (tag n : ℕ) (name rest : List ℕ) → is_module_name name ≡ true → module_name_at tag (hexadecimal n ++ (name ++ rest)) ≡ Ok name
+unfolding module_name_at
+module_name_again tag n name rest h =
+    let characters : all_name_characters name ≡ true = and_right (length name == 8) (all_name_characters name) h in
+    let size : length name ≡ 8 = let eight : (length name == 8) ≡ true = and_left (length name == 8) (all_name_characters name) h in grind (arith, nat_tests) in
+    let behind : drop 4 (hexadecimal n ++ (name ++ rest)) ≡ name ++ rest = drop_at (hexadecimal n) _ 4 (hexadecimal_length n) in
+    let field : take 8 (name ++ rest) ≡ name = take_at name rest 8 size in
+    rw (behind, field, characters, size) refl

@@ -1,0 +1,429 @@
+-- The written text of a module reads as that module alone.
+use Rattle.std.proofs.Common.{◌≡◌, ℕ, ◌+◌, ◌-◌, ◌/◌, ◌%◌, ◌<◌, ◌≤◌, Bool, true, false, cond, eqb, List, [], ◌∷◌, ◌++◌, length, take, replicate, Option, Some, None, Result, Ok, refl, sym, ap, ◌∙◌, subst, append_assoc, append-nil, length-append, eq-eqb, arith}
+use Rattle.std.specs.Prelude.{map, sum, nat_lt, nat_le, ◌&&◌, ◌||◌, ◌==◌, not, if◌then◌else◌}
+use Rattle.std.specs.List.{list_all, AllByRecursion}
+use Rattle.std.proofs.lemmas.Bool.Decides.{nat_tests}
+use Rattle.std.proofs.lemmas.List.{take_at}
+use Rattle.source_defs.specs.Characters.{is_blank, is_line_feed}
+use Rattle.source_defs.specs.Lines.{lines}
+use Rattle.source_defs.proofs.LineSteps.{lines_from_end}
+use Rattle.object_defs.specs.declared.spot.Spot.{Spot}
+use Rattle.object_defs.specs.declared.spot.Spot.TheVariants as spots
+use Rattle.object_defs.specs.declared.spot.Piece.{Piece}
+use Rattle.object_defs.specs.declared.causes.TagCause.{TagCause}
+use Rattle.object_defs.specs.declared.tag.Tag.TheVariants as tags
+use Rattle.object_defs.specs.Modules.{Module, Definition, Reference, HasText, StandsEven, moved, all_name_characters}
+use Rattle.object_defs.specs.Digits.{hexadecimal, decimal, padded, checksum}
+use Rattle.object_defs.specs.Tags.{tag_of}
+use Rattle.object_defs.specs.Writing.{group, header_text, definition_text, reference_text, Item, Group, Placed, items_of, entry_items, Line, empty_line, item_text, with_item, summed, numbered, line_text, last_line_text, number_after, written_from, written}
+use Rattle.object_defs.specs.Reading.{OpenModule, Found, Refusal, NumberedLine, ◌>>=◌, number_at, module_name_at, with_groups, with_sum, opening_line, opened, ends_module, all_blank, after_line, after_line_by, read_from, read, nothing_found, has_line_feed}
+use Rattle.object_defs.specs.Laws.{FitsSpot, FitsPiece, FitsDefinition, FitsReference, IsModule, WrittenModulesAreRead}
+use Rattle.object_defs.proofs.FieldsAgain.{number_again, module_name_again, hexadecimal_length}
+use Rattle.object_defs.proofs.Adding.{Adds, digits_left, left_over, with_piece, piece_adds, with_def, definition_adds, with_ref, reference_adds, with_entry_at, entry_adds}
+use Rattle.object_defs.proofs.FirstLine.{left_lines, first_line}
+use Rattle.object_defs.proofs.Characters.{IsPlain, plain-append, behind_each_other, decimal_number_prints, padded_prints, summed_prints, piece_plain, definition_plain, reference_plain, entry_plain, header_plain, name_padded, name_length}
+
+-- ---- a line up to its line feed
+
+abbrev first_digits : ℕ → List ℕ
+first_digits number = (0x30 + number / 1000 % 10) ∷ (0x30 + number / 100 % 10) ∷ (0x30 + number / 10 % 10) ∷ []
+
+abbrev last_digit : ℕ → ℕ
+last_digit number = 0x30 + number % 10
+
+abbrev body_of : ℕ → List ℕ → List ℕ
+body_of number text = (padded 76 text ++ first_digits number) ++ last_digit number ∷ []
+
+decimal_is : (number : ℕ) (rest : List ℕ) → decimal number ++ rest ≡ first_digits number ++ (last_digit number ∷ rest)
+unfolding decimal
+decimal_is number rest = refl
+
+numbered_is : (number : ℕ) (text more : List ℕ) → numbered number text ++ more ≡ body_of number text ++ 10 ∷ more
+numbered_is number text more =
+    let left : numbered number text ++ more ≡ padded 76 text ++ (first_digits number ++ (last_digit number ∷ 10 ∷ more)) =
+    append_assoc (padded 76 text) (decimal number ++ 10 ∷ []) more
+    ∙ ap (λ (xs : List ℕ). padded 76 text ++ xs) (append_assoc (decimal number) (10 ∷ []) more ∙ decimal_is number (10 ∷ more)) in
+    let right : body_of number text ++ 10 ∷ more ≡ padded 76 text ++ (first_digits number ++ (last_digit number ∷ 10 ∷ more)) =
+    append_assoc (padded 76 text ++ first_digits number) (last_digit number ∷ []) (10 ∷ more)
+    ∙ append_assoc (padded 76 text) (first_digits number) (last_digit number ∷ 10 ∷ more) in
+    left ∙ sym right
+
+body_prints : (number : ℕ) (text : List ℕ) → all_name_characters text ≡ true → all_name_characters (body_of number text) ≡ true
+body_prints number text h =
+    let digits : all_name_characters (first_digits number ++ last_digit number ∷ []) ≡ true = ap all_name_characters (sym (decimal_is number []) ∙ append-nil (decimal number)) ∙ decimal_number_prints number in
+    ap all_name_characters (append_assoc (padded 76 text) (first_digits number) (last_digit number ∷ []))
+    ∙ behind_each_other (padded 76 text) (first_digits number ++ last_digit number ∷ []) (padded_prints 76 text h) digits
+
+-- the first line of what is left of a text
+line_step : (text front t more : List ℕ) (number n : ℕ) → all_name_characters t ≡ true → text ≡ front ++ (numbered number t ++ more)
+    → left_lines text n (length front) ≡ record { number = n; text = body_of number t } ∷ left_lines text (n + 1) (length (front ++ numbered number t))
+line_step text front t more number n h is =
+    let whole : text ≡ front ++ (body_of number t ++ 10 ∷ more) = is ∙ ap (λ (xs : List ℕ). front ++ xs) (numbered_is number t more) in
+    let line : numbered number t ≡ body_of number t ++ 10 ∷ [] = sym (append-nil (numbered number t)) ∙ numbered_is number t [] in
+    let step = first_line front (padded 76 t ++ first_digits number) more (last_digit number) n (body_prints number t h) in
+    subst (λ (xs : List ℕ). left_lines text n (length front) ≡ record { number = n; text = body_of number t } ∷ left_lines text (n + 1) (length (front ++ xs))) (sym line)
+    (subst (λ (xs : List ℕ). left_lines xs n (length front) ≡ record { number = n; text = body_of number t } ∷ left_lines xs (n + 1) (length (front ++ (body_of number t ++ 10 ∷ [])))) (sym whole) step)
+
+behind_line : (text front line more : List ℕ) → text ≡ front ++ (line ++ more) → text ≡ (front ++ line) ++ more
+behind_line text front line more is = is ∙ sym (append_assoc front line more)
+
+-- ---- the end of a line of groups
+
+abbrev line_end : List ℕ → List ℕ → List ℕ
+line_end text pad = 0x37 ∷ (hexadecimal (checksum (text ++ 0x37 ∷ [])) ++ 0x46 ∷ pad)
+
+checksum-lt : (bytes : List ℕ) → checksum bytes < 65536
+unfolding checksum
+checksum-lt bytes = omega arith
+
+regroup : (a b c d e : List ℕ) → (((a ++ b) ++ c) ++ d) ++ e ≡ a ++ (b ++ (c ++ (d ++ e)))
+regroup a b c d e = simp append_assoc
+
+-- what stands behind the groups of a line
+body_ends : (number : ℕ) (text : List ℕ) → (pad : List ℕ) × (body_of number (summed text) ≡ text ++ line_end text pad)
+body_ends number text =
+    let blanks : List ℕ = replicate (76 - length (summed text)) 0x20 in
+    let sum : List ℕ = group tags.Sum (checksum (text ++ 0x37 ∷ [])) in
+    let pad : List ℕ = blanks ++ (first_digits number ++ last_digit number ∷ []) in
+    (pad, regroup text (sum ++ 0x46 ∷ []) blanks (first_digits number) (last_digit number ∷ []) ∙ ap (λ (xs : List ℕ). text ++ xs) (append_assoc sum (0x46 ∷ []) pad))
+
+sum_read : (text pad : List ℕ) (m : OpenModule) → with_groups (text ++ line_end text pad) 0 (line_end text pad) m ≡ Ok m
+unfolding with_groups with_sum tag_of
+sum_read text pad m =
+    let c = checksum (text ++ 0x37 ∷ []) in
+    let fields : List ℕ = hexadecimal c ++ 0x46 ∷ pad in
+    let line : List ℕ = text ++ 0x37 ∷ fields in
+    let parts : line ≡ (text ++ 0x37 ∷ []) ++ fields = sym (append_assoc text (0x37 ∷ []) fields) in
+    let size : length line - length fields ≡ length (text ++ 0x37 ∷ []) = omega (arith, ap length parts, length-append (text ++ 0x37 ∷ []) fields) in
+    let taken : take (length line - length fields) line ≡ text ++ 0x37 ∷ [] = ap (λ (xs : List ℕ). take (length line - length fields) xs) parts ∙ take_at (text ++ 0x37 ∷ []) fields (length line - length fields) (sym size) in
+    let same : eqb c c ≡ true = eq-eqb c c refl in
+    rw (taken, number_again c (0x46 ∷ pad) (checksum-lt (text ++ 0x37 ∷ [])), same, digits_left line c (0x46 ∷ pad) m) refl
+
+-- ---- a line of groups
+
+abbrev start : Option OpenModule → ℕ → List ℕ → Result OpenModule TagCause
+start None ended line = opening_line ended line
+start (Some m) ended line = with_groups line 0 line m
+
+-- the groups of a line so far lead to a module
+record InLine (current : Option OpenModule) (ended : ℕ) (line : Line) (m : OpenModule) : Type 0 where
+  goes : (rest : List ℕ) → start current ended (line.text ++ rest) ≡ with_groups (line.text ++ rest) 0 rest m
+  plain : IsPlain line.text
+  next : (s : Spot) → line.next ≡ Some s → m.load ≡ s
+
+some_other : (text rest : List ℕ) → all_blank (text ++ 0x37 ∷ rest) ≡ false
+some_other [] rest = refl
+some_other (c ∷ text) rest = rw (some_other text rest) (by (is_blank c))
+  where
+    by : (b : Bool) → (b && false) ≡ false
+    by true = refl
+    by false = refl
+
+starts_with : (text rest : List ℕ) → ends_module text ≡ false → ends_module (text ++ 0x37 ∷ rest) ≡ false
+starts_with [] rest h = refl
+starts_with (c ∷ text) rest h = h
+
+line_done : (found : Found) (line : Line) (m : OpenModule) (n number : ℕ) → InLine found.current (length found.modules) line m
+    → after_line found (record { number = n; text = body_of number (summed line.text) }) ≡ Ok (record { modules = found.modules; current = Some m; last = n })
+unfolding after_line
+line_done found line m n number in_line =
+    let ends = body_ends number line.text in
+    let body : List ℕ = line.text ++ line_end line.text ends.0 in
+    let other : all_blank body ≡ false = some_other line.text (hexadecimal (checksum (line.text ++ 0x37 ∷ [])) ++ 0x46 ∷ ends.0) in
+    let whole : start found.current (length found.modules) body ≡ Ok m = in_line.goes (line_end line.text ends.0) ∙ sum_read line.text ends.0 m in
+    rw (ends.1, other) (by found.current body whole (starts_with line.text (hexadecimal (checksum (line.text ++ 0x37 ∷ [])) ++ 0x46 ∷ ends.0) in_line.plain.no_end))
+  where
+    by : (current : Option OpenModule) (body : List ℕ) → start current (length found.modules) body ≡ Ok m → ends_module body ≡ false
+        → Rattle.object_defs.specs.Reading.refused_at n (after_line_by current (record found { last = n }) body) ≡ Ok (record { modules = found.modules; current = Some m; last = n })
+    by None body e other = rw e refl
+    by (Some before) body e other = rw (other, e) refl
+
+-- the line that ends a module
+colon_done : (modules : List Module) (m : OpenModule) (last n number : ℕ) → after_line (record { modules = modules; current = Some m; last = last }) (record { number = n; text = body_of number (0x3A ∷ []) }) ≡ Ok (record { modules = modules ++ m.found ∷ []; current = None; last = n })
+unfolding after_line
+colon_done modules m last n number = refl
+
+-- ---- items
+
+-- a group adds to a module, and leaves its load address
+record GroupTakes (m : OpenModule) (text : List ℕ) (after : OpenModule) : Type 0 where
+  adds : Adds m text after
+  load : after.load ≡ m.load
+  plain : IsPlain text
+
+record PieceTakes (m : OpenModule) (piece : Piece) (after : OpenModule) : Type 0 where
+  is : after ≡ with_piece m piece
+  fits : FitsPiece piece
+  evens : StandsEven piece
+  few : length m.found.pieces < 32768
+
+abbrev Takes : OpenModule → Item → OpenModule → Type 0
+Takes m (Group text) after = GroupTakes m text after
+Takes m (Placed piece) after = PieceTakes m piece after
+
+-- the items lead from a module to another
+abbrev Run : OpenModule → List Item → OpenModule → Type 0
+Run m [] end = m ≡ end
+Run m (item ∷ items) end = (after : OpenModule) × Takes m item after × Run after items end
+
+goes_behind : (current : Option OpenModule) (ended : ℕ) (line : Line) (m after : OpenModule) (text : List ℕ) → InLine current ended line m → Adds m text after
+    → (rest : List ℕ) → start current ended ((line.text ++ text) ++ rest) ≡ with_groups ((line.text ++ text) ++ rest) 0 rest after
+goes_behind current ended line m after text in_line adds rest =
+    subst (λ (xs : List ℕ). start current ended xs ≡ with_groups xs 0 rest after) (sym (append_assoc line.text text rest))
+    (in_line.goes (text ++ rest) ∙ adds (line.text ++ (text ++ rest)) rest)
+
+in_line_with : (current : Option OpenModule) (ended : ℕ) (line : Line) (m : OpenModule) (item : Item) (after : OpenModule) → InLine current ended line m → Takes m item after → InLine current ended (with_item line item) after
+in_line_with current ended line m (Group text) after in_line takes = record {
+  goes = goes_behind current ended line m after text in_line takes.adds;
+  plain = plain-append line.text text in_line.plain takes.plain;
+  next = λ s e. takes.load ∙ in_line.next s e;
+}
+in_line_with current ended line m (Placed piece) after in_line takes = record {
+  goes = goes_behind current ended line m after (item_text line.next (Placed piece)) in_line
+      (subst (λ (b : OpenModule). Adds m (item_text line.next (Placed piece)) b) (sym takes.is) (piece_adds line.next m piece in_line.next takes.fits takes.evens takes.few));
+  plain = plain-append line.text (item_text line.next (Placed piece)) in_line.plain (piece_plain line.next piece);
+  next = λ s e. ap (λ (b : OpenModule). b.load) takes.is ∙ some_is (moved piece.at 2) s e;
+}
+  where
+    some_is : (a b : Spot) → Some a ≡ Some b → a ≡ b
+    some_is a b e = cc
+
+new_line : (m : OpenModule) (ended : ℕ) → InLine (Some m) ended empty_line m
+new_line m ended = record { goes = λ rest. refl; plain = record { prints = refl; no_end = refl }; next = λ s e. cc }
+
+-- ---- the lines of a module
+
+lines_end : (text : List ℕ) (n at : ℕ) → at ≡ length text → left_lines text n at ≡ []
+lines_end text n at e = ap (map (Rattle.object_defs.specs.Reading.numbered_line text)) (lines_from_end text n at e)
+
+read_one : (found after : Found) (line : NumberedLine) (lines : List NumberedLine) → after_line found line ≡ Ok after → read_from found (line ∷ lines) ≡ read_from after lines
+unfolding read_from
+read_one found after line lines e = rw e refl
+
+read_none : (modules : List Module) (last : ℕ) → read_from (record { modules = modules; current = None; last = last }) [] ≡ Ok modules
+unfolding read_from
+read_none modules last = refl
+
+-- the last line of groups, and the line that ends the module
+read_end : (found : Found) (line : Line) (m : OpenModule) (number n : ℕ) (front text : List ℕ) → text ≡ front ++ (line_text number line.text ++ last_line_text (number_after number))
+    → InLine found.current (length found.modules) line m → read_from found (left_lines text n (length front)) ≡ Ok (found.modules ++ m.found ∷ [])
+read_end found line m number n front text is in_line =
+    let next = number_after number in
+    let first = line_step text front (summed line.text) (last_line_text next) number n (summed_prints line.text in_line.plain.prints) is in
+    let behind : text ≡ (front ++ line_text number line.text) ++ (last_line_text next ++ []) = behind_line text front (line_text number line.text) (last_line_text next) is ∙ ap (λ (xs : List ℕ). (front ++ line_text number line.text) ++ xs) (sym (append-nil (last_line_text next))) in
+    let second = line_step text (front ++ line_text number line.text) (0x3A ∷ []) [] next (n + 1) refl behind in
+    let all : text ≡ (front ++ line_text number line.text) ++ last_line_text next = behind_line text front (line_text number line.text) (last_line_text next) is in
+    let third = lines_end text (n + 1 + 1) (length ((front ++ line_text number line.text) ++ last_line_text next)) (ap length (sym all)) in
+    let groups : Found = record { modules = found.modules; current = Some m; last = n } in
+    let ended : Found = record { modules = found.modules ++ m.found ∷ []; current = None; last = n + 1 } in
+    ap (read_from found) first
+    ∙ (read_one found groups _ _ (line_done found line m n number in_line)
+    ∙ (ap (read_from groups) second
+    ∙ (read_one groups ended _ _ (colon_done found.modules m n (n + 1) next)
+    ∙ (ap (read_from ended) third ∙ read_none (found.modules ++ m.found ∷ []) (n + 1)))))
+
+read_lines : (items : List Item) (found : Found) (line : Line) (m end : OpenModule) (number n : ℕ) (front text : List ℕ) → text ≡ front ++ written_from number line items
+    → InLine found.current (length found.modules) line m → Run m items end → read_from found (left_lines text n (length front)) ≡ Ok (found.modules ++ end.found ∷ [])
+unfolding written_from
+read_lines [] found line m end number n front text is in_line run =
+    read_end found line m number n front text is in_line ∙ ap (λ (b : OpenModule). Ok (found.modules ++ b.found ∷ [])) run
+read_lines (item ∷ items) found line m end number n front text is in_line run =
+    by (nat_le (length line.text + length (item_text line.next item)) 70)
+    (λ found' line' m' number' n' front' is' in_line' run'. read_lines items found' line' m' end number' n' front' text is' in_line' run') is
+  where
+    by : (b : Bool)
+        → ((found' : Found) (line' : Line) (m' : OpenModule) (number' n' : ℕ) (front' : List ℕ) → text ≡ front' ++ written_from number' line' items
+        → InLine found'.current (length found'.modules) line' m' → Run m' items end → read_from found' (left_lines text n' (length front')) ≡ Ok (found'.modules ++ end.found ∷ []))
+        → text ≡ front ++ cond b (written_from number (with_item line item) items) (line_text number line.text ++ written_from (number_after number) (with_item empty_line item) items)
+        → read_from found (left_lines text n (length front)) ≡ Ok (found.modules ++ end.found ∷ [])
+    by true again e = again found (with_item line item) run.0 number n front e (in_line_with found.current (length found.modules) line m item run.0 in_line run.1) run.2
+    by false again e =
+        let more : List ℕ = written_from (number_after number) (with_item empty_line item) items in
+        let groups : Found = record { modules = found.modules; current = Some m; last = n } in
+        ap (read_from found) (line_step text front (summed line.text) more number n (summed_prints line.text in_line.plain.prints) e)
+        ∙ (read_one found groups _ _ (line_done found line m n number in_line)
+        ∙ again groups (with_item empty_line item) run.0 (number_after number) (n + 1) (front ++ line_text number line.text) (behind_line text front (line_text number line.text) more e)
+        (in_line_with (Some m) (length found.modules) empty_line m item run.0 (new_line m (length found.modules)) run.1) run.2)
+
+-- ---- the items of a module
+
+abbrev with_pieces : OpenModule → List Piece → OpenModule
+with_pieces m [] = m
+with_pieces m (piece ∷ pieces) = with_pieces (with_piece m piece) pieces
+
+abbrev with_defs : OpenModule → List Definition → OpenModule
+with_defs m [] = m
+with_defs m (definition ∷ definitions) = with_defs (with_def m definition) definitions
+
+abbrev with_refs : OpenModule → List Reference → OpenModule
+with_refs m [] = m
+with_refs m (reference ∷ references) = with_refs (with_ref m reference) references
+
+abbrev with_entry_of : OpenModule → Option Spot → OpenModule
+with_entry_of m None = m
+with_entry_of m (Some entry) = with_entry_at m entry
+
+pieces_found : (pieces : List Piece) (m : OpenModule) → (with_pieces m pieces).found ≡ record m.found { pieces = m.found.pieces ++ pieces }
+pieces_found [] m = ap (λ (xs : List Piece). record m.found { pieces = xs }) (sym (append-nil m.found.pieces))
+pieces_found (piece ∷ pieces) m =
+    pieces_found pieces (with_piece m piece) ∙ ap (λ (xs : List Piece). record m.found { pieces = xs }) (append_assoc m.found.pieces (piece ∷ []) pieces)
+
+defs_found : (defs : List Definition) (m : OpenModule) → (with_defs m defs).found ≡ record m.found { defs = m.found.defs ++ defs }
+defs_found [] m = ap (λ (xs : List Definition). record m.found { defs = xs }) (sym (append-nil m.found.defs))
+defs_found (definition ∷ defs) m =
+    defs_found defs (with_def m definition) ∙ ap (λ (xs : List Definition). record m.found { defs = xs }) (append_assoc m.found.defs (definition ∷ []) defs)
+
+refs_found : (refs : List Reference) (m : OpenModule) → (with_refs m refs).found ≡ record m.found { refs = m.found.refs ++ refs }
+refs_found [] m = ap (λ (xs : List Reference). record m.found { refs = xs }) (sym (append-nil m.found.refs))
+refs_found (reference ∷ refs) m =
+    refs_found refs (with_ref m reference) ∙ ap (λ (xs : List Reference). record m.found { refs = xs }) (append_assoc m.found.refs (reference ∷ []) refs)
+
+run_pieces : (pieces : List Piece) (rest : List Item) (m end : OpenModule) → AllByRecursion FitsPiece pieces → AllByRecursion StandsEven pieces → length m.found.pieces + length pieces ≤ 32768
+    → Run (with_pieces m pieces) rest end → Run m (map Placed pieces ++ rest) end
+run_pieces [] rest m end fits evens few run = run
+run_pieces (piece ∷ pieces) rest m end fits evens few run = (
+  with_piece m piece,
+  record { is = refl; fits = fits.0; evens = evens.0; few = omega arith },
+  run_pieces pieces rest (with_piece m piece) end fits.1 evens.1 (omega (arith, length-append m.found.pieces (piece ∷ []))) run,
+)
+
+run_defs : (defs : List Definition) (rest : List Item) (m end : OpenModule) → AllByRecursion FitsDefinition defs → length m.found.defs + length defs ≤ 256
+    → Run (with_defs m defs) rest end → Run m (map (λ definition. Group (definition_text definition)) defs ++ rest) end
+run_defs [] rest m end fits few run = run
+run_defs (definition ∷ defs) rest m end fits few run = (
+  with_def m definition,
+  record { adds = definition_adds m definition fits.0 (omega arith); load = refl; plain = definition_plain definition fits.0.name },
+  run_defs defs rest (with_def m definition) end fits.1 (omega (arith, length-append m.found.defs (definition ∷ []))) run,
+)
+
+run_refs : (refs : List Reference) (rest : List Item) (m end : OpenModule) → AllByRecursion FitsReference refs → length m.found.refs + length refs ≤ 256
+    → Run (with_refs m refs) rest end → Run m (map (λ reference. Group (reference_text reference)) refs ++ rest) end
+run_refs [] rest m end fits few run = run
+run_refs (reference ∷ refs) rest m end fits few run = (
+  with_ref m reference,
+  record { adds = reference_adds m reference fits.0 (omega arith); load = refl; plain = reference_plain reference fits.0.name },
+  run_refs refs rest (with_ref m reference) end fits.1 (omega (arith, length-append m.found.refs (reference ∷ []))) run,
+)
+
+run_entry : (entry : Option Spot) (m : OpenModule) → Rattle.std.specs.Prelude.IfSome entry FitsSpot → m.found.entry ≡ None → Run m (entry_items entry) (with_entry_of m entry)
+run_entry None m fits none = refl
+run_entry (Some entry) m fits none = (with_entry_at m entry, record { adds = entry_adds m entry fits none; load = refl; plain = entry_plain entry }, refl)
+
+-- ---- the law
+
+-- the module that a header opens
+abbrev header_of : Module → OpenModule
+header_of m = record { found = record { name = m.name; size = m.size; pieces = []; defs = []; refs = []; entry = None }; load = spots.Relocatable 0 }
+
+header_line : (m : Module) → IsModule m → (rest : List ℕ)
+    → opening_line 0 (0x30 ∷ (hexadecimal m.size ++ (m.name ++ rest))) ≡ with_groups (0x30 ∷ (hexadecimal m.size ++ (m.name ++ rest))) 0 rest (header_of m)
+unfolding opening_line opened tag_of
+header_line m is rest =
+    let size : length (hexadecimal m.size ++ m.name) ≡ 12 = omega (arith, length-append (hexadecimal m.size) m.name, hexadecimal_length m.size, name_length m.name is.name) in
+    let line : List ℕ = 0x30 ∷ (hexadecimal m.size ++ (m.name ++ rest)) in
+    let left : with_groups line 12 (hexadecimal m.size ++ (m.name ++ rest)) (header_of m) ≡ with_groups line 0 rest (header_of m) =
+    ap (λ (xs : List ℕ). with_groups line 12 xs (header_of m)) (sym (append_assoc (hexadecimal m.size) m.name rest)) ∙ left_over line 12 (hexadecimal m.size ++ m.name) rest (header_of m) size in
+    rw (number_again m.size (m.name ++ rest) is.size, module_name_again 0x30 m.size m.name rest is.name) left
+
+header_opens : (m : Module) → IsModule m → (rest : List ℕ) → opening_line 0 (header_text m.size m.name ++ rest) ≡ with_groups (header_text m.size m.name ++ rest) 0 rest (header_of m)
+header_opens m is rest =
+    let named : padded 8 m.name ≡ m.name = name_padded m.name is.name in
+    let whole : header_text m.size m.name ++ rest ≡ 0x30 ∷ (hexadecimal m.size ++ (m.name ++ rest)) =
+    ap (λ (xs : List ℕ). (group tags.Header m.size ++ xs) ++ rest) named ∙ append_assoc (group tags.Header m.size) m.name rest in
+    subst (λ (xs : List ℕ). opening_line 0 xs ≡ with_groups xs 0 rest (header_of m)) (sym whole) (header_line m is rest)
+
+header_length : (m : Module) → IsModule m → length (header_text m.size m.name) ≡ 13
+header_length m is =
+    let named : padded 8 m.name ≡ m.name = name_padded m.name is.name in
+    length-append (group tags.Header m.size) (padded 8 m.name) ∙ (rw named (omega (arith, hexadecimal_length m.size, name_length m.name is.name)))
+
+header_in_line : (m : Module) → IsModule m → InLine None 0 (with_item empty_line (Group (header_text m.size m.name))) (header_of m)
+header_in_line m is = record { goes = header_opens m is; plain = header_plain m.size m.name is.name; next = λ s e. cc }
+
+-- the items behind the header
+abbrev items_behind : Module → List Item
+items_behind m =
+    map Placed m.pieces ++ (map (λ definition. Group (definition_text definition)) m.defs
+    ++ (map (λ reference. Group (reference_text reference)) m.refs ++ entry_items m.entry))
+
+-- what they lead to
+abbrev whole_of : Module → OpenModule
+whole_of m = with_entry_of (with_refs (with_defs (with_pieces (header_of m) m.pieces) m.defs) m.refs) m.entry
+
+entry_found : (entry : Option Spot) (m : OpenModule) → m.found.entry ≡ None → (with_entry_of m entry).found ≡ record m.found { entry = entry }
+entry_found None m none = ap (λ (e : Option Spot). record m.found { entry = e }) none
+entry_found (Some entry) m none = refl
+
+module _ (m : Module) (is : IsModule m) (has : HasText m) where
+  abbrev behind_pieces : OpenModule
+  behind_pieces = with_pieces (header_of m) m.pieces
+
+  abbrev behind_defs : OpenModule
+  behind_defs = with_defs behind_pieces m.defs
+
+  abbrev behind_refs : OpenModule
+  behind_refs = with_refs behind_defs m.refs
+
+  found_pieces : behind_pieces.found ≡ record { name = m.name; size = m.size; pieces = m.pieces; defs = []; refs = []; entry = None }
+  found_pieces = pieces_found m.pieces (header_of m)
+
+  found_defs : behind_defs.found ≡ record { name = m.name; size = m.size; pieces = m.pieces; defs = m.defs; refs = []; entry = None }
+  found_defs = defs_found m.defs behind_pieces ∙ ap (λ (f : Module). record f { defs = f.defs ++ m.defs }) found_pieces
+
+  found_refs : behind_refs.found ≡ record { name = m.name; size = m.size; pieces = m.pieces; defs = m.defs; refs = m.refs; entry = None }
+  found_refs = refs_found m.refs behind_defs ∙ ap (λ (f : Module). record f { refs = f.refs ++ m.refs }) found_defs
+
+  found_whole : (whole_of m).found ≡ m
+  found_whole = entry_found m.entry behind_refs (ap (λ (f : Module). f.entry) found_refs) ∙ ap (λ (f : Module). record f { entry = m.entry }) found_refs
+
+  runs : Run (header_of m) (items_behind m) (whole_of m)
+  runs =
+      let no_defs : length behind_pieces.found.defs ≡ 0 = ap (λ (f : Module). length f.defs) found_pieces in
+      let no_refs : length behind_defs.found.refs ≡ 0 = ap (λ (f : Module). length f.refs) found_defs in
+      let defs : length behind_pieces.found.defs + length m.defs ≤ 256 = omega (arith, no_defs, has.defs) in
+      let refs : length behind_defs.found.refs + length m.refs ≤ 256 = omega (arith, no_refs, has.refs) in
+      let words : 0 + length m.pieces ≤ 32768 = omega (arith, has.words) in
+      run_pieces m.pieces _ (header_of m) (whole_of m) is.pieces has.even_places words
+      (run_defs m.defs _ behind_pieces (whole_of m) is.defs defs
+      (run_refs m.refs _ behind_defs (whole_of m) is.refs refs
+      (run_entry m.entry behind_refs is.entry (ap (λ (f : Module). f.entry) found_refs))))
+
+  begins : written m ≡ written_from 1 (with_item empty_line (Group (header_text m.size m.name))) (items_behind m)
+  unfolding written_from
+  begins =
+      let fits : nat_le (0 + length (header_text m.size m.name)) 70 ≡ true = let n = header_length m is in grind (arith, nat_tests) in
+      rw fits refl
+
+  read_whole : read_from nothing_found (left_lines (written m) 1 0) ≡ Ok (m ∷ [])
+  read_whole =
+      read_lines (items_behind m) nothing_found (with_item empty_line (Group (header_text m.size m.name))) (header_of m) (whole_of m) 1 1 [] (written m) begins (header_in_line m is) runs
+      ∙ ap (λ (f : Module). Ok (f ∷ [])) found_whole
+
+-- ---- the text is no records
+
+feed_at_right : (a b : List ℕ) → has_line_feed b ≡ true → has_line_feed (a ++ b) ≡ true
+feed_at_right [] b h = h
+feed_at_right (c ∷ a) b h = rw (feed_at_right a b h) (by (is_line_feed c))
+  where
+    by : (p : Bool) → (p || true) ≡ true
+    by true = refl
+    by false = refl
+
+feed_written : (items : List Item) (line : Line) (number : ℕ) → has_line_feed (written_from number line items) ≡ true
+unfolding written_from
+feed_written [] line number =
+    feed_at_right (line_text number line.text) (last_line_text (number_after number))
+    (feed_at_right (padded 76 (0x3A ∷ [])) (decimal (number_after number) ++ 0x0A ∷ []) (feed_at_right (decimal (number_after number)) (0x0A ∷ []) refl))
+feed_written (item ∷ items) line number =
+    by (nat_le (length line.text + length (item_text line.next item)) 70) (feed_written items (with_item line item) number) (feed_written items (with_item empty_line item) (number_after number))
+  where
+    by : (b : Bool) → has_line_feed (written_from number (with_item line item) items) ≡ true → has_line_feed (written_from (number_after number) (with_item empty_line item) items) ≡ true
+        → has_line_feed (cond b (written_from number (with_item line item) items) (line_text number line.text ++ written_from (number_after number) (with_item empty_line item) items)) ≡ true
+    by true here there = here
+    by false here there = feed_at_right (line_text number line.text) (written_from (number_after number) (with_item empty_line item) items) there
+
+pub written_modules_are_read : WrittenModulesAreRead
+unfolding read
+written_modules_are_read m is has =
+    let feed : has_line_feed (written m) ≡ true = feed_written (items_of m) empty_line 1 in
+    rw feed (read_whole m is has)

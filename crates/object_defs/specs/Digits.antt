@@ -1,0 +1,27 @@
+-- Numbers and names as characters, and the checksum.
+use Rattle.std.specs.Prelude.{ℕ, ◌+◌, ◌-◌, ◌/◌, ◌%◌, nat_lt, if◌then◌else◌, List, [], ◌∷◌, ◌++◌, length, replicate, sum}
+
+-- a hexadecimal digit, in upper case
+abbrev pub hexadecimal_digit : ℕ → ℕ
+hexadecimal_digit value = if nat_lt value 10 then 0x30 + value else 0x37 + value
+
+-- four hexadecimal digits
+unfoldable pub hexadecimal : ℕ → List ℕ
+hexadecimal number =
+    hexadecimal_digit (number / 4096 % 16) ∷ hexadecimal_digit (number / 256 % 16) ∷ hexadecimal_digit (number / 16 % 16) ∷ hexadecimal_digit (number % 16) ∷ []
+
+-- four decimal digits
+unfoldable pub decimal : ℕ → List ℕ
+decimal number = (0x30 + number / 1000 % 10) ∷ (0x30 + number / 100 % 10) ∷ (0x30 + number / 10 % 10) ∷ (0x30 + number % 10) ∷ []
+
+-- characters with blanks behind them up to a width
+abbrev pub padded : ℕ → List ℕ → List ℕ
+padded width bytes = bytes ++ replicate (width - length bytes) 0x20
+
+-- the two's complement, in 16 bits
+abbrev pub complement : ℕ → ℕ
+complement number = (65536 - number % 65536) % 65536
+
+-- Editor/Assembler manual, "Tagged object code": the two's complement, in 16 bits, of the sum of the characters.
+unfoldable pub checksum : List ℕ → ℕ
+checksum bytes = complement (sum bytes)

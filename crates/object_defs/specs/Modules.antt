@@ -1,0 +1,76 @@
+-- What a module is: its code, its names and its entry.
+use Rattle.std.specs.Prelude.{◌≡◌, ℕ, ◌+◌, ◌-◌, ◌%◌, ◌≤◌, ◌==◌, Bool, false, ◌&&◌, nat_le, List, length, Option}
+use Rattle.std.specs.List.{list_all, AllByRecursion}
+use Rattle.object_defs.specs.declared.spot.Spot.{Spot}
+use Rattle.object_defs.specs.declared.spot.Spot.TheVariants.{Absolute, Relocatable}
+use Rattle.object_defs.specs.declared.spot.Piece.{Piece}
+
+-- the number of a spot, without its kind
+abbrev pub number_of : Spot → ℕ
+number_of (Absolute number) = number
+number_of (Relocatable number) = number
+
+-- Profile: a place past >FFFF is counted from 0 again.
+abbrev pub moved : Spot → ℕ → Spot
+moved (Absolute number) bytes = Absolute ((number + bytes) % 65536)
+moved (Relocatable number) bytes = Relocatable ((number + bytes) % 65536)
+
+-- the place without its lowest bit
+abbrev pub even : Spot → Spot
+even (Absolute number) = Absolute (number - number % 2)
+even (Relocatable number) = Relocatable (number - number % 2)
+
+abbrev pub same_spot : Spot → Spot → Bool
+same_spot (Absolute a) (Absolute b) = a == b
+same_spot (Relocatable a) (Relocatable b) = a == b
+same_spot (Absolute a) (Relocatable b) = false
+same_spot (Relocatable a) (Absolute b) = false
+
+-- a DEF name and its value
+pub record Definition : Type 0 where
+  pub name : List ℕ
+  pub value : Spot
+
+-- a REF name and the place of its last use: absolute 0 where it is never used
+pub record Reference : Type 0 where
+  pub name : List ℕ
+  pub last : Spot
+
+pub record Module : Type 0 where
+  pub name : List ℕ
+  pub size : ℕ
+  pub pieces : List Piece
+  pub defs : List Definition
+  pub refs : List Reference
+  pub entry : Option Spot
+
+-- the limits: modules of one text; words, DEFs and REFs of one module
+abbrev pub most_modules : ℕ
+most_modules = 64
+
+abbrev pub most_words : ℕ
+most_words = 32768
+
+abbrev pub most_names : ℕ
+most_names = 256
+
+-- a character of a module's name
+abbrev pub is_name_character : ℕ → Bool
+is_name_character byte = nat_le 0x20 byte && nat_le byte 0x7E
+
+abbrev pub all_name_characters : List ℕ → Bool
+all_name_characters bytes = list_all is_name_character bytes
+
+-- Profile: a module's name is eight characters from >20 to >7E.
+abbrev pub is_module_name : List ℕ → Bool
+is_module_name bytes = (length bytes == 8) && all_name_characters bytes
+
+abbrev pub StandsEven : Piece → Type 0
+StandsEven piece = number_of piece.at % 2 ≡ 0
+
+-- what a module must be to have a text
+pub record HasText (m : Module) : Type 0 where
+  pub even_places : AllByRecursion StandsEven m.pieces
+  pub words : length m.pieces ≤ 32768
+  pub defs : length m.defs ≤ 256
+  pub refs : length m.refs ≤ 256

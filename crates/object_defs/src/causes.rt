@@ -1,0 +1,23 @@
+//! Why an object text is refused.
+
+/// What is wrong at the first bad place of an object text.
+#[derive(Clone, Copy, Debug, PartialEq, Eq)]
+pub enum TagCause {
+    /// A group is refused: its tag is none that may stand in its place, or its name is no name. It carries the tag.
+    BadTag(u8),
+    /// One of the four characters behind a tag is no hexadecimal digit.
+    BadDigit,
+    /// The line ends inside a group.
+    ShortField,
+    /// The checksum is not that of the line.
+    Checksum {
+        /// The checksum that stands in the line.
+        found: u16,
+        /// The line's checksum.
+        computed: u16,
+    },
+    /// The last module has no end.
+    NoEnd,
+    /// A group passes a limit: the 65th module, or of one module the 257th DEF or REF or the 32,769th word.
+    TooMany,
+}

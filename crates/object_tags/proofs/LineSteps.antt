@@ -1,0 +1,30 @@
+-- The lines of a text, one by one.
+use Rattle.std.proofs.Common.{◌≡◌, ℕ, suc, ◌+◌, ◌-◌, ◌<◌, arith, List, ◌∷◌, Result, Ok, refl, ◌∙◌}
+use Rattle.std.specs.List.{range_with_len}
+use Rattle.object_defs.specs.Modules as defined
+use Rattle.object_defs.specs.Reading.{Found, Refusal, NumberedLine, after_line, read_from}
+use Rattle.object_tags.specs.declared.error.TagError.{TagError}
+use Rattle.object_tags.specs.declared.error.TagError.TheVariants.{At, Memory}
+use Rattle.object_tags.specs.Answers.{Refuses}
+
+module _ (total : Result (List defined.Module) Refusal) (found : Found) (line : NumberedLine) (lines : List NumberedLine) (so_far : total ≡ read_from found (line ∷ lines)) where
+  -- a line that is read
+  pub line_read : (after : Found) → after_line found line ≡ Ok after → total ≡ read_from after lines
+  unfolding read_from
+  line_read after e = so_far ∙ rw e refl
+
+  -- a line that is not
+  pub line_refused : (error : TagError) → Refuses error (after_line found line) → Refuses error total
+  unfolding read_from
+  line_refused (At number cause) e = so_far ∙ rw e refl
+  line_refused Memory e = tt
+
+-- a refusal of the same text
+pub refuses_same : (error : TagError) (a b : Result (List defined.Module) Refusal) → a ≡ b → Refuses error b → Refuses error a
+refuses_same (At number cause) a b same e = same ∙ e
+refuses_same Memory a b same e = tt
+
+-- the first of some numbers in order
+pub first_number : (from end : ℕ) → from < end → range_with_len from (end - from) ≡ from ∷ range_with_len (from + 1) (end - (from + 1))
+first_number from end lt =
+    let e : end - from ≡ suc (end - (from + 1)) = omega arith in rw e refl

@@ -1,0 +1,12 @@
+use Rattle.std.proofs.Common.{◌≡◌, ◌≤◌, length, take}
+use Rattle.object_defs.specs.Reading.{without_blanks}
+use Rattle.object_tags.proofs.fields.without_blanks.Given as goal
+
+abbrev pub invariant-loop-end : goal.invariant-loop-end
+invariant-loop-end l = record {
+  within : l.end ≤ length l.field;
+  same : without_blanks (take l.end l.field) ≡ without_blanks l.field;
+}
+
+abbrev pub decreases-loop-end : goal.decreases-loop-end
+decreases-loop-end l = l.end

@@ -1,0 +1,5 @@
+use Rattle.object_defs.proofs.Written as law
+use Rattle.object_tags.proofs.laws.written_modules_are_read.Goals as goal
+
+pub returns : goal.returns
+returns c = law.written_modules_are_read

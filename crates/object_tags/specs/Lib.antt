@@ -1,0 +1,11 @@
+pub use Rattle.object_defs.specs.Modules
+pub use Rattle.object_defs.specs.Digits
+pub use Rattle.object_defs.specs.Tags
+pub use Rattle.object_defs.specs.Writing
+pub use Rattle.object_defs.specs.Reading
+pub use Rattle.object_defs.specs.Laws
+pub use Rattle.object_defs.specs.Places
+pub mod Seen
+pub mod Lines
+pub mod Answers
+pub mod Reads

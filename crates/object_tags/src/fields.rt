@@ -1,0 +1,140 @@
+//! The fields behind a tag.
+
+ghost use Rattle.std.specs.Prelude.{◌≡◌, true, length, take, drop};
+ghost use Rattle.source_defs.specs.Characters as characters;
+ghost use Rattle.source_defs.specs.Names as names;
+ghost use Rattle.source_defs.specs.Numbers.{all_hexadecimal_digits, value_after};
+ghost use Rattle.source_defs.specs.Numbers as spec;
+ghost use Rattle.object_defs.specs.Reading as reading;
+
+use crate::module_name::{ModuleName, all_name_characters};
+use asm_text::Name;
+use object_defs::TagCause;
+
+/// The first `count` bytes, or all where there are fewer.
+pub(crate) fn front(bytes: &[u8], count: usize) -> &[u8]
+    ensures { result.now ≡ take count bytes.now }
+{
+    if count < bytes.len() {
+        &bytes[..count]
+    } else {
+        bytes
+    }
+}
+
+/// What stands behind the first `count` bytes.
+pub(crate) fn behind(bytes: &[u8], count: usize) -> &[u8]
+    ensures { result.now ≡ drop count bytes.now }
+{
+    if count < bytes.len() {
+        &bytes[count..]
+    } else {
+        &[]
+    }
+}
+
+/// The number of the four digits in front.
+///
+/// `BadDigit` comes where one of them is no digit of either case, and else `ShortField` where there are fewer.
+#[tactic(auto, unfolding(object_defs::specs::Reading::number_at))]
+pub(crate) fn number_at(fields: &[u8]) -> Result<u16, TagCause>
+    ensures { result ≡ reading.number_at fields.now }
+{
+    let digits = front(fields, 4);
+    if !all_hexadecimal_digits(digits) {
+        return Err(TagCause::BadDigit);
+    }
+    if digits.len() < 4 {
+        return Err(TagCause::ShortField);
+    }
+    Ok(four_digits(digits))
+}
+
+fn all_hexadecimal_digits(bytes: &[u8]) -> bool
+    ensures { result ≡ all_hexadecimal_digits bytes.now }
+{
+    bytes.iter().all(|&byte| is_hexadecimal_digit(byte))
+}
+
+fn is_hexadecimal_digit(byte: u8) -> bool
+    ensures { result ≡ spec.is_hexadecimal_digit byte }
+{
+    byte.is_ascii_hexdigit()
+}
+
+fn four_digits(digits: &[u8]) -> u16
+    requires size { length digits.now ≡ 4 }
+    requires digits { all_hexadecimal_digits digits.now ≡ true }
+    ensures { result ≡ value_after 16 0 digits.now }
+{
+    let mut bytes = [0; 2];
+    hex::decode_to_slice(digits, &mut bytes).unwrap();
+    u16::from_be_bytes(bytes)
+}
+
+/// The module's name behind the four digits.
+///
+/// `BadTag` comes where one of its characters is none of a name, and else `ShortField` where there are fewer than eight.
+#[tactic(auto, unfolding(object_defs::specs::Reading::module_name_at))]
+pub(crate) fn module_name_at(tag: u8, fields: &[u8]) -> Result<ModuleName, TagCause>
+    ensures { result ≡ reading.module_name_at tag fields.now }
+{
+    let name = front(behind(fields, 4), 8);
+    if !all_name_characters(name) {
+        return Err(TagCause::BadTag(tag));
+    }
+    ModuleName::read(name).ok_or(TagCause::ShortField)
+}
+
+/// The name of a DEF or a REF behind the four digits.
+///
+/// `BadTag` comes where a character that is not a blank at the end is none of a name, and where there are blanks alone;
+/// else `ShortField` where there are fewer than six.
+#[tactic(auto, unfolding(object_defs::specs::Reading::symbol_at))]
+pub(crate) fn symbol_at(tag: u8, fields: &[u8]) -> Result<Name, TagCause>
+    ensures { result ≡ reading.symbol_at tag fields.now }
+{
+    let field = front(behind(fields, 4), 6);
+    let name = without_blanks(field);
+    if field.len() < 6 && all_printed(name) {
+        return Err(TagCause::ShortField);
+    }
+    Name::read(name).ok_or(TagCause::BadTag(tag))
+}
+
+fn all_printed(bytes: &[u8]) -> bool
+    ensures { result ≡ names.all_printed bytes.now }
+{
+    bytes.iter().all(|&byte| is_printed(byte))
+}
+
+fn is_printed(byte: u8) -> bool
+    ensures { result ≡ names.is_printed byte }
+{
+    byte.is_ascii_graphic()
+}
+
+/// The bytes without the blanks at their end.
+#[tactic(auto, using(crate::proofs::Blanks::trimming))]
+fn without_blanks(field: &[u8]) -> &[u8]
+    ensures { result.now ≡ reading.without_blanks field.now }
+{
+    let mut end = field.len();
+    while end > 0 && is_blank(field[end - 1]) {
+        end -= 1;
+    }
+    &field[..end]
+}
+
+/// Whether each of the bytes is a blank.
+pub(crate) fn all_blank(bytes: &[u8]) -> bool
+    ensures { result ≡ reading.all_blank bytes.now }
+{
+    bytes.iter().all(|&byte| is_blank(byte))
+}
+
+fn is_blank(byte: u8) -> bool
+    ensures { result ≡ characters.is_blank byte }
+{
+    byte == b' ' || byte == b'\t'
+}

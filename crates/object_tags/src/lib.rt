@@ -1,0 +1,28 @@
+//! Tagged object code both ways: modules as text, and text as modules.
+#![tactic(auto)]
+
+mod checksum;
+mod error;
+mod fields;
+mod groups;
+mod laws;
+mod lists;
+mod module_name;
+mod open_module;
+mod parts;
+mod read;
+mod read_line;
+mod reader;
+#[cfg(test)]
+mod tests;
+mod write;
+mod writer;
+
+pub use error::TagError;
+pub use laws::{words_stand_at_their_places, written_modules_are_read};
+pub use lists::{Defs, Pieces, Refs};
+pub use module_name::ModuleName;
+pub use object_defs::{Piece, Spot, TagCause};
+pub use parts::{Def, Module, Ref};
+pub use read::read_modules;
+pub use write::write_module;

@@ -1,0 +1,77 @@
+//! A module as text.
+
+ghost use Rattle.std.specs.Prelude.{◌≡◌, [], ◌∷◌, map, IfOk, IfSome, OnOk, Ok};
+ghost use Rattle.std.specs.List.{AllByRecursion};
+ghost use Rattle.object_defs.specs.Modules.{HasText};
+ghost use Rattle.object_defs.specs.Writing.{Placed, Group, definition_text, reference_text, entry_items, written};
+ghost use Rattle.object_defs.specs.Reading.{read};
+ghost use Rattle.object_defs.specs.Laws.{FitsSpot, FitsPiece, FitsDefinition, FitsReference};
+ghost use Rattle.object_tags.specs.Seen.{defined_def, defined_ref, defined_module};
+ghost use Rattle.object_tags.specs.Lines.{Wrote};
+
+use crate::groups;
+use crate::parts::{Def, Module, Ref};
+use crate::writer::Writer;
+use object_defs::{Piece, Spot};
+use std::alloc::{AllocError, Global};
+
+/// The text of a module: lines of groups, each with its checksum and its number, and the line that ends the module.
+/// `read_modules` gives the module back from it.
+///
+/// The module's words stand at even places, and it has at most 32,768 words, 256 DEFs and 256 REFs.
+///
+/// # Errors
+/// `AllocError` is want of memory.
+pub fn write_module(alloc: Global, module: &Module) -> Result<Vec<u8>, AllocError>
+    requires { HasText (defined_module «module».now) }
+    ensures text { IfOk result (λ text. text.items ≡ written (defined_module «module».now)) }
+    ensures read_again { IfOk result (λ text. read text.items ≡ Ok (defined_module «module».now ∷ [])) }
+{
+    let mut writer = Writer::new(alloc);
+    writer.put_group(&groups::header_text(module.size, &module.name))?;
+    put_pieces(&mut writer, module.pieces.as_slice())?;
+    put_defs(&mut writer, module.defs.as_slice())?;
+    put_refs(&mut writer, module.refs.as_slice())?;
+    put_entry(&mut writer, module.entry)?;
+    writer.finish()
+}
+
+fn put_pieces(writer: &mut Writer, pieces: &[Piece]) -> Result<(), AllocError>
+    ensures wrote { OnOk result (Wrote (map Placed pieces.now) writer.old writer.new) }
+    ensures fits { OnOk result (AllByRecursion FitsPiece pieces.now) }
+{
+    for piece in pieces {
+        writer.put_word(*piece)?;
+    }
+    Ok(())
+}
+
+fn put_defs(writer: &mut Writer, defs: &[Def]) -> Result<(), AllocError>
+    ensures wrote { OnOk result (Wrote (map (λ def. Group (definition_text (defined_def def))) defs.now) writer.old writer.new) }
+    ensures fits { OnOk result (AllByRecursion (λ def. FitsDefinition (defined_def def)) defs.now) }
+{
+    for def in defs {
+        writer.put_group(&groups::definition_text(def))?;
+    }
+    Ok(())
+}
+
+fn put_refs(writer: &mut Writer, refs: &[Ref]) -> Result<(), AllocError>
+    ensures wrote { OnOk result (Wrote (map (λ ref. Group (reference_text (defined_ref ref))) refs.now) writer.old writer.new) }
+    ensures fits { OnOk result (AllByRecursion (λ ref. FitsReference (defined_ref ref)) refs.now) }
+{
+    for reference in refs {
+        writer.put_group(&groups::reference_text(reference))?;
+    }
+    Ok(())
+}
+
+fn put_entry(writer: &mut Writer, entry: Option<Spot>) -> Result<(), AllocError>
+    ensures wrote { OnOk result (Wrote (entry_items entry) writer.old writer.new) }
+    ensures fits { OnOk result (IfSome entry FitsSpot) }
+{
+    if let Some(entry) = entry {
+        writer.put_group(&groups::entry_text(entry))?;
+    }
+    Ok(())
+}
