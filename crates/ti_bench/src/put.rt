@@ -1,6 +1,9 @@
 //! Writing to a sink.
 
-ghost use Rattle.std.specs.Prelude.{◌<◌, ◌≤◌, length, OnOk, OnErr};
+ghost use Rattle.std.specs.Prelude.{◌≡◌, ◌<◌, ◌≤◌, length, OnOk, OnErr};
+ghost use Rattle.std.specs.List.{position};
+ghost use Rattle.source_defs.specs.Characters.{is_line_feed};
+ghost use Rattle.ti_bench.specs.Lines.{first_line_end};
 ghost use Rattle.ti_bench.specs.Run.{Got, Missed};
 
 use bench_io::{Failed, Sink};
@@ -33,11 +36,18 @@ pub(crate) fn put_lines<K: Sink>(sink: &mut K, text: &[u8]) -> Result<(), Failed
 /// The place behind the first line of a text that is not empty.
 fn line_end(text: &[u8]) -> usize
     requires { 0 < length text.now }
+    ensures line { result ≡ first_line_end text.now }
     ensures some { 0 < result }
     ensures within { result ≤ length text.now }
 {
-    match text.iter().position(|&byte| byte == b'\n') {
+    match first_line_feed(text) {
         Some(place) => place + 1,
         None => text.len(),
     }
+}
+
+fn first_line_feed(text: &[u8]) -> Option<usize>
+    ensures { result ≡ position is_line_feed text.now }
+{
+    text.iter().position(|&byte| byte == b'\n')
 }
