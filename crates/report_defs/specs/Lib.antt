@@ -5,3 +5,4 @@ pub mod Commands
 pub mod Dump
 pub mod Exec
 pub mod Report
+pub mod Laws

@@ -1,6 +1,7 @@
 //! The program, over any input and outputs.
 
 ghost use Rattle.std.specs.Prelude.{◌≡◌, if◌then◌else◌, is_ok};
+ghost use Rattle.report_defs.specs.Laws.{OneReport};
 ghost use Rattle.ti_bench.specs.Run.{EndsBy};
 
 use crate::command::read_command;
@@ -18,7 +19,9 @@ const LARGEST_INPUT: usize = 1048576;
 /// Runs the command that the words say. It reads all of `input` before it writes, writes the report to `out`, or a fault
 /// line or the usage line to `err`, and takes all its memory before the first byte is written.
 ///
-/// The contract says of each status exactly when it comes, and what the input and the outputs are then.
+/// The contract says of each status its cause and what the outputs are then, and that there is one report on each command
+/// and input.
+#[tactic(auto, using(report_defs::proofs::OneReport::one_report))]
 pub fn bench<S: Source, O: Sink, E: Sink>(
     alloc: Global,
     words: &Words,
@@ -26,7 +29,8 @@ pub fn bench<S: Source, O: Sink, E: Sink>(
     out: &mut O,
     err: &mut E,
 ) -> Status
-    ensures { EndsBy (record {
+    ensures one_report { OneReport }
+    ensures ends { EndsBy (record {
       words = words.now;
       input = S.state input.old;
       input' = S.state input.new;
