@@ -53,9 +53,10 @@ abbrev pub WroteInPart : Run → Report → Type 0
 WroteInPart run (Whole status bytes) = Missed run.out run.out' bytes × (run.err' ≡ run.err)
 WroteInPart run (Fault status line) = (run.out' ≡ run.out) × Missed run.err run.err' line
 
--- nothing was written
+-- nothing was written, and no more of the input was taken than an input may have
 pub record WroteNothing (run : Run) : Type 0 where
   pub command : IsSome (command_of run.words)
+  pub took : (bytes : List ℕ) × (length bytes ≤ largest_input) × Took run.input run.input' bytes
   pub out : run.out' ≡ run.out
   pub err : run.err' ≡ run.err
 

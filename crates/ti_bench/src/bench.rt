@@ -19,8 +19,8 @@ const LARGEST_INPUT: usize = 1048576;
 /// Runs the command that the words say. It reads all of `input` before it writes, writes the report to `out`, or a fault
 /// line or the usage line to `err`, and takes all its memory before the first byte is written.
 ///
-/// The contract says of each status its cause and what the outputs are then, and that there is one report on each command
-/// and input.
+/// The contract says of each status its cause, and what the input and the outputs are then; and that there is one report
+/// on each command and input.
 #[tactic(auto, using(report_defs::proofs::OneReport::one_report))]
 pub fn bench<S: Source, O: Sink, E: Sink>(
     alloc: Global,
