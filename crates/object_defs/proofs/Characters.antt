@@ -2,6 +2,7 @@
 use Rattle.std.proofs.Common.{◌≡◌, ℕ, zero, suc, ◌+◌, ◌-◌, ◌/◌, ◌%◌, ◌<◌, Bool, true, false, cond, List, [], ◌∷◌, ◌++◌, length, replicate, Option, Some, None, refl, append-nil, arith}
 use Rattle.std.specs.Prelude.{nat_lt, nat_le, ◌&&◌, ◌==◌}
 use Rattle.std.proofs.lemmas.Bool.Decides.{nat_tests}
+use Rattle.source_defs.specs.Numbers.{hexadecimal_digit}
 use Rattle.source_defs.specs.Names.{is_kept_name, is_printed, all_printed}
 use Rattle.object_defs.specs.declared.spot.Spot.{Spot}
 use Rattle.object_defs.specs.declared.spot.Spot.TheVariants.{Absolute, Relocatable}
@@ -9,7 +10,7 @@ use Rattle.object_defs.specs.declared.spot.Piece.{Piece}
 use Rattle.object_defs.specs.declared.tag.Tag.{Tag}
 use Rattle.object_defs.specs.declared.tag.Tag.TheVariants as tags
 use Rattle.object_defs.specs.Modules.{Definition, Reference, same_spot, is_name_character, all_name_characters, is_module_name}
-use Rattle.object_defs.specs.Digits.{hexadecimal, hexadecimal_digit, decimal, padded, checksum}
+use Rattle.object_defs.specs.Digits.{hexadecimal, decimal, padded, checksum}
 use Rattle.object_defs.specs.Tags.{tag_character, kind_of}
 use Rattle.object_defs.specs.Writing.{group, word_text, address_text, definition_text, reference_text, entry_text, header_text, Placed, item_text, summed}
 use Rattle.object_defs.specs.Reading.{ends_module}

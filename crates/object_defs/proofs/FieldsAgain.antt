@@ -5,9 +5,9 @@ use Rattle.std.proofs.lemmas.Bool.Decides.{nat_tests}
 use Rattle.std.proofs.lemmas.List.{take_at, drop_at, length-replicate}
 use Rattle.source_defs.specs.Characters.{is_blank}
 use Rattle.source_defs.specs.Names.{is_kept_name, all_printed, is_printed}
-use Rattle.source_defs.specs.Numbers.{is_hexadecimal_digit, digit_value}
+use Rattle.source_defs.specs.Numbers.{is_hexadecimal_digit, hexadecimal_digit, digit_value}
 use Rattle.object_defs.specs.Modules.{all_name_characters, is_module_name}
-use Rattle.object_defs.specs.Digits.{hexadecimal, hexadecimal_digit, padded}
+use Rattle.object_defs.specs.Digits.{hexadecimal, padded}
 use Rattle.object_defs.specs.Reading.{number_at, module_name_at, symbol_at, all_blank, without_blanks}
 
 digit_is : (v : ℕ) → v < 16 → is_hexadecimal_digit (hexadecimal_digit v) ≡ true

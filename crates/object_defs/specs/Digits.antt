@@ -1,9 +1,6 @@
 -- Numbers and names as characters, and the checksum.
-use Rattle.std.specs.Prelude.{ℕ, ◌+◌, ◌-◌, ◌/◌, ◌%◌, nat_lt, if◌then◌else◌, List, [], ◌∷◌, ◌++◌, length, replicate, sum}
-
--- a hexadecimal digit, in upper case
-abbrev pub hexadecimal_digit : ℕ → ℕ
-hexadecimal_digit value = if nat_lt value 10 then 0x30 + value else 0x37 + value
+use Rattle.std.specs.Prelude.{ℕ, ◌+◌, ◌-◌, ◌/◌, ◌%◌, List, [], ◌∷◌, ◌++◌, length, replicate, sum}
+use Rattle.source_defs.specs.Numbers.{hexadecimal_digit}
 
 -- four hexadecimal digits
 unfoldable pub hexadecimal : ℕ → List ℕ

@@ -1,6 +1,7 @@
 //! The text of the groups.
 
 ghost use Rattle.std.specs.Prelude.{◌≡◌, ◌≤◌, ◌<◌, ◌+◌, ◌++◌, true, length, replicate};
+ghost use Rattle.source_defs.specs.Numbers as numbers;
 ghost use Rattle.object_defs.specs.Digits as digits;
 ghost use Rattle.object_defs.specs.Modules as modules;
 ghost use Rattle.object_defs.specs.Tags as tags;
@@ -71,7 +72,7 @@ fn hexadecimal(number: u16) -> [u8; 4]
 
 fn hexadecimal_digit(value: u8) -> u8
     requires { value < 16 }
-    ensures { result ≡ digits.hexadecimal_digit value }
+    ensures { result ≡ numbers.hexadecimal_digit value }
 {
     if value < 10 {
         b'0' + value

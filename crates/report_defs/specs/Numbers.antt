@@ -1,9 +1,6 @@
 -- How numbers are shown in reports.
-use Rattle.std.specs.Prelude.{ℕ, ◌+◌, ◌/◌, ◌%◌, nat_lt, if◌then◌else◌, List, [], ◌∷◌, ◌++◌}
-
--- 0 to 9, and A to F
-abbrev pub hexadecimal_digit : ℕ → ℕ
-hexadecimal_digit digit = if nat_lt digit 10 then 0x30 + digit else 0x37 + digit
+use Rattle.std.specs.Prelude.{ℕ, ◌/◌, ◌%◌, List, [], ◌∷◌, ◌++◌}
+use Rattle.source_defs.specs.Numbers.{hexadecimal_digit}
 
 -- Profile: bytes are shown by two digits, words by four, in upper case.
 abbrev pub byte_text : ℕ → List ℕ

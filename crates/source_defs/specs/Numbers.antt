@@ -8,6 +8,10 @@ use Rattle.source_defs.specs.Characters.{is_digit, upper_case}
 abbrev pub is_hexadecimal_digit : ℕ → Bool
 is_hexadecimal_digit byte = is_digit byte || (nat_le 0x41 (upper_case byte) && nat_le (upper_case byte) 0x46)
 
+-- the digit of a value below 16, in upper case
+abbrev pub hexadecimal_digit : ℕ → ℕ
+hexadecimal_digit value = if nat_lt value 10 then 0x30 + value else 0x37 + value
+
 -- what a digit stands for
 abbrev pub digit_value : ℕ → ℕ
 digit_value byte = if is_digit byte then byte - 0x30 else upper_case byte - 0x37
