@@ -9,3 +9,4 @@ pub mod InstructionLaws
 pub mod GromLaws
 pub mod MemoryLaws
 pub mod StepRows
+pub mod RefusalLaws

@@ -11,6 +11,8 @@ pub mod Grom
 pub mod Bus
 pub mod Memory
 pub mod Operand
+pub mod forms
 pub mod Step
 pub mod Machine
+pub mod Causes
 pub mod Runs

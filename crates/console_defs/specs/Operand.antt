@@ -1,6 +1,6 @@
 -- The processor's state, and its operands. All is said over any memory with the four accesses, so the order of the
 -- lines is the order of the accesses.
-use Rattle.std.specs.Prelude.{ℕ, ◌*◌, Bool, true, false, eqb}
+use Rattle.std.specs.Prelude.{ℕ, ◌*◌, Bool, true, false, eqb, List, [], ◌∷◌}
 use Rattle.console_defs.specs.Words.{plus}
 use Rattle.console_defs.specs.Flags.{Width}
 use Rattle.console_defs.specs.Bus.{Answer, Gives, ◌>>=◌, Bus}
@@ -29,6 +29,10 @@ mode_of bits =
       | false ↦ elim (eqb bits 1) [ true ↦ Indirect | false ↦ elim (eqb bits 2) [ true ↦ Symbolic | false ↦ Increment ] ]
     ]
 
+-- A workspace register is a word of memory. TMS9900 data manual, "Registers and memory".
+abbrev pub register_in : ℕ → ℕ → ℕ
+register_in wp number = plus wp (2 * number)
+
 module _ (M : Type 0) (bus : Bus M) where
   abbrev pub word_at : Cpu M → ℕ → Answer (ℕ × Cpu M)
   word_at x address = do
@@ -40,9 +44,15 @@ module _ (M : Type 0) (bus : Bus M) where
     memory ← bus.with_word x.memory address word
     Gives (record x { memory = memory })
 
-  -- A workspace register is a word of memory. TMS9900 data manual, "Registers and memory".
+  -- Words are written in a row; of each pair the first is the address.
+  abbrev pub with_words : Cpu M → List (ℕ × ℕ) → Answer (Cpu M)
+  with_words x [] = Gives x
+  with_words x (write ∷ rest) = do
+    written ← with_word x write.0 write.1
+    with_words written rest
+
   abbrev pub register_place : Cpu M → ℕ → ℕ
-  register_place x number = plus x.wp (2 * number)
+  register_place x number = register_in x.wp number
 
   -- The word at the program counter, which goes on by two.
   abbrev pub next_word : Cpu M → Answer (ℕ × Cpu M)

@@ -1,5 +1,5 @@
 -- The status register and its word.
-use Rattle.std.specs.Prelude.{ℕ, ◌+◌, ◌/◌, ◌%◌, ◌<◌, Bool, true, false, eqb}
+use Rattle.std.specs.Prelude.{ℕ, ◌+◌, ◌*◌, ◌/◌, ◌%◌, ◌<◌, Bool, true, false, eqb}
 use Rattle.console_defs.specs.declared.flags.Flags.{Flags}
 use Rattle.console_defs.specs.declared.status.Status.{Status}
 use Rattle.console_defs.specs.Flags.{word_width, byte_width, by_order, has_odd_parity}
@@ -39,3 +39,12 @@ abbrev pub with_order : Bool → ℕ → ℕ → Status → Status
 with_order true first second status =
     record status { flags = by_order byte_width first second status.flags; op = has_odd_parity first }
 with_order false first second status = record status { flags = by_order word_width first second status.flags }
+
+-- The status bits where X is set. TMS9900 data manual, "Extended operation (XOP) instruction".
+abbrev pub with_extension : Status → Status
+with_extension status = record status { rest = 0x0200 + status.rest % 0x0200 }
+
+-- The status bits with the interrupt mask of a word, its low four bits.
+-- TMS9900 data manual, "Internal register load immediate instructions".
+abbrev pub with_mask : ℕ → Status → Status
+with_mask word status = record status { rest = status.rest / 16 * 16 + word % 16 }

@@ -8,7 +8,7 @@ use Rattle.console_defs.specs.Vdp.{VdpState, vdp_data_read, vdp_status_read}
 use Rattle.console_defs.specs.Grom.{GromState, grom_data_read, grom_address_read}
 use Rattle.console_defs.specs.Memory.{Memory, Port, VdpDataRead, VdpStatusRead, VdpDataWrite, VdpAddressWrite, GromDataRead, GromAddressRead, GromDataWrite, GromAddressWrite, Region, Rom, LowExpansion, HighExpansion, Scratchpad, PortOf, Unmapped, region, is_port_region, is_port_address, byte_read_in, word_read, word_written_in, word_written, console}
 use Rattle.console_defs.specs.Operand.{Cpu, Mode, Register, Indirect, Symbolic, Increment, mode_of, operand, register_place, index_of, with_word}
-use Rattle.console_defs.specs.Step.{two}
+use Rattle.console_defs.specs.forms.Two.{two}
 use Rattle.console_defs.specs.declared.instruction.TwoOp.{TwoOp}
 use Rattle.console_defs.specs.declared.instruction.Place.{Place}
 use Rattle.console_defs.proofs.MemoryLaws.{with_ports, word_read_past_ports, word_written_past_ports}

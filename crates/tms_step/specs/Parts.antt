@@ -1,11 +1,16 @@
 -- Parts of the machine step that are functions of the code.
-use Rattle.std.specs.Prelude.{ℕ, Bool, true}
+use Rattle.std.specs.Prelude.{ℕ, Bool, true, false}
 use Rattle.console_defs.specs.Bus.{Answer, ◌>>=◌}
 use Rattle.console_defs.specs.Memory.{Memory, console}
 use Rattle.console_defs.specs.Flags.{width_of}
 use Rattle.console_defs.specs.Operand.{Cpu, mode_of, operand, value_at}
-use Rattle.console_defs.specs.Step.{two}
+use Rattle.console_defs.specs.forms.Two.{two}
 use Rattle.console_defs.specs.declared.instruction.TwoOp.{TwoOp}
+use Rattle.console_defs.specs.declared.instruction.TwoOp.TheVariants.{SZC, S, C, A, MOV, SOC}
+use Rattle.console_defs.specs.declared.instruction.OneOp.{OneOp}
+use Rattle.console_defs.specs.declared.instruction.OneOp.TheVariants.{INC, INCT, DEC, DECT}
+use Rattle.console_defs.specs.declared.instruction.ImmOp.{ImmOp}
+use Rattle.console_defs.specs.declared.instruction.ImmOp.TheVariants.{AI, ANDI, ORI, CI}
 use Rattle.console_defs.specs.declared.instruction.Place.{Place}
 
 -- What follows once the source of two operands is derived.
@@ -26,3 +31,36 @@ abbrev pub from_port : TwoOp → ℕ → Place → Cpu Memory → Answer (Cpu Me
 from_port op source dst x = do
   destination ← operand Memory console (mode_of dst.mode) (width_of true) dst.reg x
   two_from_port op source destination.0 destination.1
+
+-- The operations that add, subtract or compare, and those that set or clear bits; MOV is none of either.
+abbrev pub is_arithmetic : TwoOp → Bool
+is_arithmetic SZC = false
+is_arithmetic S = true
+is_arithmetic C = true
+is_arithmetic A = true
+is_arithmetic MOV = false
+is_arithmetic SOC = false
+
+abbrev pub is_bitwise : TwoOp → Bool
+is_bitwise SZC = true
+is_bitwise S = false
+is_bitwise C = false
+is_bitwise A = false
+is_bitwise MOV = false
+is_bitwise SOC = true
+
+-- The operations that increase or decrease a word, by one or by two.
+abbrev pub is_increment : OneOp → Bool
+is_increment INC = true
+is_increment INCT = true
+is_increment DEC = true
+is_increment DECT = true
+is_increment _ = false
+
+-- The operations on a register and the word that follows, both of which are read.
+abbrev pub reads_both : ImmOp → Bool
+reads_both AI = true
+reads_both ANDI = true
+reads_both ORI = true
+reads_both CI = true
+reads_both _ = false

@@ -5,7 +5,7 @@ ghost use Rattle.console_defs.specs.Words.{even, plus};
 ghost use Rattle.console_defs.specs.Status.{IsStatus};
 ghost use Rattle.console_defs.specs.Bus.{Gives};
 ghost use Rattle.console_defs.specs.Memory.{Memory, IsMemory, console, word_read};
-ghost use Rattle.console_defs.specs.Operand.{word_at, with_word, register_place, next_word, index_of};
+ghost use Rattle.console_defs.specs.Operand.{word_at, with_word, register_in, register_place, next_word, index_of};
 ghost use Rattle.tms_step.specs.Stops.{left_by};
 ghost use Rattle.tms_step.specs.Undo.{put_back, SameButPc};
 
@@ -56,7 +56,7 @@ impl Cpu {
     }
 
     /// The word that holds an address.
-    #[inline]
+    #[inline(always)]
     pub(crate) fn word_at(&self, at: u16) -> Result<u16, Stop>
         ensures { left_by result (λ word. (word, self.now)) ≡ word_at Memory console self.now at }
     {
@@ -67,7 +67,7 @@ impl Cpu {
     }
 
     /// Writes the word that holds an address; where a port stops it, nothing has changed.
-    #[inline]
+    #[inline(always)]
     pub(crate) fn write_word(&mut self, at: u16, word: u16) -> Result<(), Stop>
         ensures value { left_by result (λ _. self.new) ≡ with_word Memory console self.old at word }
         ensures stopped { OnErr result (self.new ≡ self.old) }
@@ -79,16 +79,16 @@ impl Cpu {
     }
 
     /// The address of a workspace register.
-    #[inline]
+    #[inline(always)]
     pub(crate) fn register_place(&self, number: u8) -> u16
         requires { number < 16 }
         ensures { result ≡ register_place Memory console self.now number }
     {
-        self.wp.wrapping_add(2 * number as u16)
+        register_in(self.wp, number)
     }
 
     /// The word at the program counter, which goes on by two.
-    #[inline]
+    #[inline(always)]
     pub(crate) fn next_word(&mut self) -> Result<u16, Stop>
         ensures value { left_by result (λ word. (word, self.new)) ≡ next_word Memory console self.old }
         ensures same { SameButPc self.old self.new }
@@ -97,4 +97,22 @@ impl Cpu {
         self.pc = self.pc.wrapping_add(2);
         Ok(word)
     }
+}
+
+/// The address of a register of a workspace (TMS9900 data manual, "Registers and memory").
+#[inline(always)]
+pub(crate) fn register_in(wp: u16, number: u8) -> u16
+    requires { number < 16 }
+    ensures { result ≡ register_in wp number }
+{
+    wp.wrapping_add(2 * u16::from(number))
+}
+
+/// A word whose lowest bit is cleared.
+#[inline]
+pub(crate) fn even(word: u16) -> u16
+    ensures value { result ≡ even word }
+    ensures even { even result ≡ result }
+{
+    word / 2 * 2
 }

@@ -1,33 +1,71 @@
-//! Instructions on a register with a word that follows.
+//! Instructions on a register, most with a word that follows.
 
-ghost use Rattle.std.specs.Prelude.{◌≡◌, ◌<◌, OnErr};
+ghost use Rattle.std.specs.Prelude.{◌≡◌, ◌<◌, OnErr, true};
 ghost use Rattle.console_defs.specs.Memory.{Memory, console};
-ghost use Rattle.console_defs.specs.Step.{imm};
+ghost use Rattle.console_defs.specs.forms.Imm.{immediate, imm};
+ghost use Rattle.tms_step.specs.Parts.{reads_both};
 ghost use Rattle.tms_step.specs.Stops.{left_by};
 ghost use Rattle.tms_step.specs.Undo.{SameButPc};
 
 use crate::cpu::Cpu;
-use crate::result::result_flags;
+use crate::result::with_order;
 use crate::stop::Stop;
 use console_defs::ImmOp;
+use tms_words::add16;
 
 impl Cpu {
-    /// An operation on a register; the program counter stands at the word that follows (TMS9900 data manual,
-    /// "Immediate register instructions").
-    #[inline]
+    /// An operation on a register; the program counter stands at the word that may follow (TMS9900 data manual,
+    /// "Immediate register instructions", "Internal register store instructions").
+    #[inline(never)]
     pub(crate) fn imm(&mut self, op: ImmOp, number: u8) -> Result<(), Stop>
         requires { number < 16 }
         ensures value { left_by result (λ _. self.new) ≡ imm Memory console op number self.old }
         ensures stopped { OnErr result (SameButPc self.old self.new) }
     {
-        match op {
-            ImmOp::LI => {
-                let word = self.next_word()?;
-                let place = self.register_place(number);
-                let flags = result_flags(false, word, self.status.flags);
-                self.stored(false, place, word, flags)
-            }
-            _ => Err(Stop::NoInstruction),
+        let place = self.register_place(number);
+        if op == ImmOp::LI {
+            let word = self.next_word()?;
+            self.stored_by_result(false, place, word)
+        } else if op == ImmOp::STWP {
+            self.write_word(place, self.wp)
+        } else if op == ImmOp::STST {
+            self.write_word(place, self.status_word())
+        } else {
+            self.with_immediate(op, number)
         }
+    }
+
+    /// AI, ANDI, ORI or CI: the register and the word that follows are both read.
+    #[inline(never)]
+    fn with_immediate(&mut self, op: ImmOp, number: u8) -> Result<(), Stop>
+        requires number { number < 16 }
+        requires op { reads_both op ≡ true }
+        ensures value { left_by result (λ _. self.new) ≡ imm Memory console op number self.old }
+        ensures stopped { OnErr result (SameButPc self.old self.new) }
+    {
+        let (word, found) = self.immediate(number)?;
+        let place = self.register_place(number);
+        if op == ImmOp::AI {
+            self.stored_out(place, add16(found, word))
+        } else if op == ImmOp::ANDI {
+            self.stored_by_result(false, place, found & word)
+        } else if op == ImmOp::ORI {
+            self.stored_by_result(false, place, found | word)
+        } else {
+            self.status = with_order(false, found, word, self.status);
+            Ok(())
+        }
+    }
+
+    /// The word that follows, and a register, which is read after it.
+    #[inline(always)]
+    fn immediate(&mut self, number: u8) -> Result<(u16, u16), Stop>
+        requires { number < 16 }
+        ensures value { left_by result (λ read. (read, self.new)) ≡ immediate Memory console number self.old }
+        ensures same { SameButPc self.old self.new }
+    {
+        let word = self.next_word()?;
+        let found = self.word_at(self.register_place(number))?;
+        Ok((word, found))
     }
 }

@@ -1,13 +1,20 @@
 //! The processor: one step, and runs of steps.
 #![tactic(auto)]
 
+mod bare;
+mod context_switch;
 mod cpu;
 mod imm;
 mod jump;
 mod machine;
+mod one;
 mod operand;
+mod reg;
 mod result;
+#[cfg(test)]
+mod row_tests;
 mod run;
+mod shift;
 mod status;
 mod step;
 mod steps;
@@ -15,6 +22,7 @@ mod stop;
 #[cfg(test)]
 mod tests;
 mod two;
+mod writes;
 
 pub use console_defs::{RunEnd, StepEnd};
 pub use machine::Machine;

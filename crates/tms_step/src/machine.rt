@@ -8,6 +8,7 @@ ghost use Rattle.console_defs.specs.Operand.{register_place};
 ghost use Rattle.console_defs.specs.Status.{status_word};
 ghost use Rattle.console_defs.specs.Step.{step};
 ghost use Rattle.console_defs.specs.Machine.{MachineState, new_machine, counted, WhereStopped, has_workspace};
+ghost use Rattle.console_defs.specs.Causes.{refused_at, refusal, MeetsPort};
 
 use crate::cpu::Cpu;
 use console_bus::Bus;
@@ -60,11 +61,14 @@ impl Machine {
 
     /// One step of the processor: the instruction at the program counter is executed, and the count rises by one or
     /// stands at its type's end. Where it is refused, or meets a port by a word access, the whole machine is as
-    /// before, ports included.
+    /// before, ports included. It is refused exactly where no step executes the word at the program counter,
+    /// and what it meets is one of the eight ports.
     #[inline]
     pub fn step(&mut self) -> StepEnd
         ensures step { (result, self.new.cpu) ≡ step Memory console self.old.cpu }
         ensures count { self.new.count ≡ counted result self.old.count }
+        ensures refused { refused_at result ≡ refusal self.old.cpu }
+        ensures port { MeetsPort result }
         ensures stopped { WhereStopped result (self.new ≡ self.old) }
     {
         let end = self.cpu.step();

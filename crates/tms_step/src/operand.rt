@@ -37,15 +37,29 @@ impl Cpu {
     }
 
     /// The address of an operand, after the growth of its register (TMS9900 data manual, "Addressing modes").
-    #[inline]
+    #[inline(always)]
     pub(crate) fn operand(&mut self, place: Place, byte: bool) -> Result<Operand, Stop>
         requires { IsPlace place }
         ensures value { left_by result (λ found. (found.address, self.new)) ≡ operand Memory console (mode_of place.mode) (width_of byte) place.reg self.old }
         ensures undo { IfOk result (λ found. SameButPc self.old (put_back found.grown self.new)) }
         ensures stopped { OnErr result (SameButPc self.old self.new) }
     {
+        if place.mode == 0 {
+            return Ok(standing(self.register_place(place.reg)));
+        }
+        self.in_memory(place, byte)
+    }
+
+    /// The address of an operand that a register or the following word leads to.
+    #[inline(never)]
+    fn in_memory(&mut self, place: Place, byte: bool) -> Result<Operand, Stop>
+        requires place { IsPlace place }
+        requires mode { 0 < place.mode }
+        ensures value { left_by result (λ found. (found.address, self.new)) ≡ operand Memory console (mode_of place.mode) (width_of byte) place.reg self.old }
+        ensures undo { IfOk result (λ found. SameButPc self.old (put_back found.grown self.new)) }
+        ensures stopped { OnErr result (SameButPc self.old self.new) }
+    {
         match place.mode {
-            0 => Ok(standing(self.register_place(place.reg))),
             1 => Ok(standing(self.word_at(self.register_place(place.reg))?)),
             2 => Ok(standing(self.indexed(place.reg)?)),
             _ => self.grown(place.reg, byte),
@@ -83,7 +97,7 @@ impl Cpu {
     }
 
     /// The value at an address, a word or a byte. A byte that is read may change a port, and nothing stops it.
-    #[inline]
+    #[inline(always)]
     pub(crate) fn value_at(&mut self, byte: bool, at: u16) -> Result<u16, Stop>
         ensures value { left_by result (λ value. (value, self.new)) ≡ value_at Memory console byte at self.old }
         ensures fits { IfOk result (λ value. value < (width_of byte).modulus) }
@@ -97,7 +111,7 @@ impl Cpu {
     }
 
     /// Writes a word or a byte to an address. Nothing stops a byte.
-    #[inline]
+    #[inline(always)]
     pub(crate) fn write_value(&mut self, byte: bool, at: u16, value: u16) -> Result<(), Stop>
         requires { value < (width_of byte).modulus }
         ensures value { left_by result (λ _. self.new) ≡ with_value Memory console byte at value self.old }
@@ -125,7 +139,7 @@ impl Cpu {
     }
 
     /// How an instruction ends, where a register has grown before: unless it was executed, the register is put back.
-    #[inline]
+    #[inline(always)]
     #[tactic(auto, using(crate::proofs::PutBack::put_back_later))]
     pub(crate) fn settle(&mut self, end: Result<(), Stop>, grown: Option<Kept>) -> Result<(), Stop>
         ensures end { result ≡ end }

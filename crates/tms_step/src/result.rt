@@ -1,14 +1,15 @@
 //! Results and their status bits, of words and of bytes.
 
 ghost use Rattle.std.specs.Prelude.{◌≡◌, ◌<◌};
-ghost use Rattle.console_defs.specs.Flags.{width_of, by_result, sum_of, sum_flags};
-ghost use Rattle.console_defs.specs.Status.{IsStatus, with_result};
+ghost use Rattle.console_defs.specs.Flags.{width_of, by_result, sum_of, sum_flags, difference_of, difference_flags, by_order, no_flags};
+ghost use Rattle.console_defs.specs.Logic.{ones_set, ones_cleared};
+ghost use Rattle.console_defs.specs.Status.{IsStatus, with_result, with_order};
 
 use console_defs::{Flags, Out8, Out16, Status};
-use tms_words::{add8, add16, odd8};
+use tms_words::{add8, add16, compare8, compare16, odd8, sub8, sub16};
 
 /// L>, A> and EQ by a result, and the other status bits as they are (TMS9900 data manual, "Status register").
-#[inline]
+#[inline(always)]
 #[tactic(auto, using(crate::proofs::Results::signed_above))]
 pub(crate) fn result_flags(byte: bool, value: u16, flags: Flags) -> Flags
     requires { value < (width_of byte).modulus }
@@ -24,7 +25,7 @@ pub(crate) fn result_flags(byte: bool, value: u16, flags: Flags) -> Flags
 }
 
 /// The sum of two words or of two bytes, with its status bits (TMS9900 data manual, "Add words", "Add bytes").
-#[inline]
+#[inline(always)]
 pub(crate) fn sum(byte: bool, destination: u16, source: u16) -> Out16
     requires destination { destination < (width_of byte).modulus }
     requires source { source < (width_of byte).modulus }
@@ -35,6 +36,54 @@ pub(crate) fn sum(byte: bool, destination: u16, source: u16) -> Out16
         widened(add8(destination as u8, source as u8))
     } else {
         add16(destination, source)
+    }
+}
+
+/// The difference of two words or of two bytes, with its status bits (TMS9900 data manual, "Subtract words", "Subtract
+/// bytes").
+#[inline(always)]
+pub(crate) fn difference(byte: bool, destination: u16, source: u16) -> Out16
+    requires destination { destination < (width_of byte).modulus }
+    requires source { source < (width_of byte).modulus }
+    ensures value { result.value ≡ difference_of (width_of byte) destination source }
+    ensures flags { result.flags ≡ difference_flags (width_of byte) destination source }
+{
+    if byte {
+        widened(sub8(destination as u8, source as u8))
+    } else {
+        sub16(destination, source)
+    }
+}
+
+/// The ones of the source are set in the destination (TMS9900 data manual, "Set ones corresponding", "Set ones
+/// corresponding bytes").
+#[inline]
+pub(crate) fn ones_set(byte: bool, destination: u16, source: u16) -> u16
+    requires destination { destination < (width_of byte).modulus }
+    requires source { source < (width_of byte).modulus }
+    ensures value { result ≡ ones_set destination source }
+    ensures fits { result < (width_of byte).modulus }
+{
+    if byte {
+        u16::from(destination as u8 | source as u8)
+    } else {
+        destination | source
+    }
+}
+
+/// The ones of the source are cleared in the destination (TMS9900 data manual, "Set zeros corresponding", "Set zeros
+/// corresponding bytes").
+#[inline]
+pub(crate) fn ones_cleared(byte: bool, destination: u16, source: u16) -> u16
+    requires destination { destination < (width_of byte).modulus }
+    requires source { source < (width_of byte).modulus }
+    ensures value { result ≡ ones_cleared (width_of byte) destination source }
+    ensures fits { result < (width_of byte).modulus }
+{
+    if byte {
+        u16::from(destination as u8 & !(source as u8))
+    } else {
+        destination & !source
     }
 }
 
@@ -52,7 +101,7 @@ fn widened(out: Out8) -> Out16
 
 /// The status after a result: its bits, and for bytes OP by the number of ones (TMS9900 data manual, "Status
 /// register").
-#[inline]
+#[inline(always)]
 pub(crate) fn with_result(byte: bool, value: u16, flags: Flags, status: Status) -> Status
     requires fits { value < (width_of byte).modulus }
     requires status { IsStatus status }
@@ -64,5 +113,44 @@ pub(crate) fn with_result(byte: bool, value: u16, flags: Flags, status: Status) 
         flags,
         op,
         ..status
+    }
+}
+
+/// The status after a comparison of a first number with a second; the comparison of bytes sets OP by the first (TMS9900
+/// data manual, "Compare words", "Compare bytes", "Compare immediate").
+#[inline]
+pub(crate) fn with_order(byte: bool, first: u16, second: u16, status: Status) -> Status
+    requires first { first < (width_of byte).modulus }
+    requires second { second < (width_of byte).modulus }
+    requires status { IsStatus status }
+    ensures status { result ≡ with_order byte first second status }
+    ensures room { IsStatus result }
+{
+    let Flags { lgt, agt, eq, .. } = order(byte, first, second);
+    let flags = Flags {
+        lgt,
+        agt,
+        eq,
+        ..status.flags
+    };
+    let op = if byte { odd8(first as u8) } else { status.op };
+    Status {
+        flags,
+        op,
+        ..status
+    }
+}
+
+/// L>, A> and EQ of a first number against a second; C and OV are false.
+#[inline]
+fn order(byte: bool, first: u16, second: u16) -> Flags
+    requires first { first < (width_of byte).modulus }
+    requires second { second < (width_of byte).modulus }
+    ensures { result ≡ by_order (width_of byte) first second no_flags }
+{
+    if byte {
+        compare8(first as u8, second as u8)
+    } else {
+        compare16(first, second)
     }
 }

@@ -1,9 +1,10 @@
 //! The word of the status register.
 
 ghost use Rattle.std.specs.Prelude.{◌≡◌, ◌<◌, ◌≤◌};
-ghost use Rattle.console_defs.specs.Status.{bit_of, status_word};
+ghost use Rattle.console_defs.specs.Status.{IsStatus, bit_of, is_set, status_at, status_word};
 
 use crate::cpu::Cpu;
+use console_defs::{Flags, Status};
 
 impl Cpu {
     /// The word of the status register (TMS9900 data manual, "Status register").
@@ -27,4 +28,31 @@ fn bit_of(bit: bool, weight: u16) -> u16
     ensures limit { result ≤ weight }
 {
     if bit { weight } else { 0 }
+}
+
+/// The status register of a word (TMS9900 data manual, "Status register").
+pub(crate) fn status_at(word: u16) -> Status
+    ensures value { result ≡ status_at word }
+    ensures room { IsStatus result }
+{
+    let flags = Flags {
+        lgt: is_set(word, 0x8000),
+        agt: is_set(word, 0x4000),
+        eq: is_set(word, 0x2000),
+        c: is_set(word, 0x1000),
+        ov: is_set(word, 0x0800),
+    };
+    Status {
+        flags,
+        op: is_set(word, 0x0400),
+        rest: word % 0x0400,
+    }
+}
+
+/// A bit of a word is set.
+fn is_set(word: u16, weight: u16) -> bool
+    requires { 0 < weight }
+    ensures { result ≡ is_set word weight }
+{
+    word / weight % 2 == 1
 }

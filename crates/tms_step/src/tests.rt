@@ -11,12 +11,15 @@ use std::sync::ledger::{Blank, Ledger};
 use std::test::Fail;
 use vdp_ports::Vdp;
 
-/// A machine with the workspace at >83E0 and the words from >A000 on, where it begins.
+/// A machine with the workspace at >83E0 and the words from >A000 on, where it begins. Extended operation 2 has its
+/// workspace at >A100 and begins at >A200.
 fn loaded(alloc: Global, words: &[u16]) -> Result<Machine, AllocError>
-    requires { length words.now ≤ 8 }
+    requires { length words.now ≤ 32 }
 {
     let grom = Grom::new(alloc, &vec![in alloc; 0u8; 65_536]?)?;
     let mut bus = Bus::new(alloc, Vdp::new(alloc)?, grom)?;
+    bus.place(0x0048, 0xA100);
+    bus.place(0x004A, 0xA200);
     for (i, word) in words.iter().enumerate() {
         bus.place(0xA000 + 2 * i as u16, *word);
     }
@@ -149,5 +152,44 @@ fn steps_over_the_memory_map(rt: HostRuntime) -> Result<(), Fail> {
         (0x83E0, 0xA008, 0xC000)
     );
     assert_eq!(rt; machine.bus().grom().counter(), 0);
+    // XOP R5,2
+    let mut machine = loaded(rt.alloc(), &[0x2C85])?;
+    assert_eq!(rt; machine.step(), StepEnd::Done(0x2C85));
+    assert_eq!(rt;
+        (machine.wp(), machine.pc(), machine.st()),
+        (0xA100, 0xA200, 0x0200)
+    );
+    if machine.has_workspace() {
+        assert_eq!(rt;
+            (
+                machine.register(11),
+                machine.register(13),
+                machine.register(14),
+                machine.register(15)
+            ),
+            (0x83EA, 0x83E0, 0xA002, 0)
+        );
+    }
+    Ok(())
+}
+
+#[test]
+fn bytes_pass_through_the_ports(rt: HostRuntime) -> Result<(), Fail> {
+    // LI R1,>0040; MOVB R1,@>8C02; SWPB R1; MOVB R1,@>8C02: the video address 0, for writing
+    // LI R2,>ABCD; MOVB R2,@>8C00; SWPB R2; MOVB R2,@>8C00: two bytes
+    // CLR R1; MOVB R1,@>8C02; MOVB R1,@>8C02: the address 0, for reading
+    // MOVB @>8800,R1; AB @>8800,R1; JMP $: the bytes, moved and added
+    let words = [
+        0x0201, 0x0040, 0xD801, 0x8C02, 0x06C1, 0xD801, 0x8C02, 0x0202, 0xABCD, 0xD802, 0x8C00,
+        0x06C2, 0xD802, 0x8C00, 0x04C1, 0xD801, 0x8C02, 0xD801, 0x8C02, 0xD060, 0x8800, 0xB060,
+        0x8800, 0x10FF,
+    ];
+    let mut machine = loaded(rt.alloc(), &words)?;
+    assert_eq!(rt;
+        run::<Brand>(Blank::new(1), &mut machine, None, 100),
+        RunEnd::SelfJump
+    );
+    // >AB + >CD is >78 with a carry and an overflow, and >78 has four ones
+    assert_eq!(rt; seen(&machine), (0xA02E, 0xD800, 14, 0x7800, 0xCDAB));
     Ok(())
 }

@@ -4,20 +4,20 @@ ghost use Rattle.std.specs.Prelude.{◌≡◌, ◌<◌, IsOk, OnErr, true, false
 ghost use Rattle.console_defs.specs.Flags.{width_of};
 ghost use Rattle.console_defs.specs.Instructions.{IsPlace};
 ghost use Rattle.console_defs.specs.Memory.{Memory, console, is_port_address};
-ghost use Rattle.console_defs.specs.Step.{stored, two, executed};
+ghost use Rattle.console_defs.specs.forms.Two.{two, two_operands};
 ghost use Rattle.tms_step.specs.Stops.{left_by};
 ghost use Rattle.tms_step.specs.Undo.{SameButPc};
-ghost use Rattle.tms_step.specs.Parts.{from_source, from_port, two_from_port};
+ghost use Rattle.tms_step.specs.Parts.{from_source, from_port, two_from_port, is_arithmetic, is_bitwise};
 
 use crate::cpu::Cpu;
-use crate::result::{result_flags, sum, with_result};
+use crate::result::{difference, ones_cleared, ones_set, sum, with_order};
 use crate::stop::Stop;
 use console_bus::is_port;
-use console_defs::{Flags, Instr, Place, TwoOp};
+use console_defs::{Place, TwoOp};
 
 impl Cpu {
     /// An operation on two operands: the source is derived first.
-    #[inline]
+    #[inline(always)]
     #[tactic(auto, using(crate::proofs::PutBack::put_back_later))]
     pub(crate) fn two_operands(
         &mut self,
@@ -28,7 +28,7 @@ impl Cpu {
     ) -> Result<(), Stop>
         requires dst { IsPlace dst }
         requires src { IsPlace src }
-        ensures value { left_by result (λ _. self.new) ≡ executed Memory console (Instr.Two op byte dst src) self.old }
+        ensures value { left_by result (λ _. self.new) ≡ two_operands Memory console op byte dst src self.old }
         ensures stopped { OnErr result (SameButPc self.old self.new) }
     {
         let source = self.operand(src, byte)?;
@@ -37,7 +37,7 @@ impl Cpu {
     }
 
     /// What follows once the source is derived: it is read, and the destination is derived.
-    #[inline]
+    #[inline(always)]
     #[tactic(auto, using(crate::proofs::PutBack::put_back_later))]
     fn from_source(&mut self, op: TwoOp, byte: bool, source: u16, dst: Place) -> Result<(), Stop>
         requires { IsPlace dst }
@@ -51,7 +51,7 @@ impl Cpu {
     }
 
     /// The same, where the source is no byte of a port, so that its reading changes nothing.
-    #[inline]
+    #[inline(always)]
     #[tactic(auto, using(crate::proofs::PutBack::put_back_later))]
     fn from_memory(&mut self, op: TwoOp, byte: bool, source: u16, dst: Place) -> Result<(), Stop>
         requires place { IsPlace dst }
@@ -68,6 +68,7 @@ impl Cpu {
     /// The same, where the source is a byte of a port. The port is read last: words, which alone can stop the
     /// instruction, neither see nor change a port.
     #[tactic(auto, using(crate::proofs::PutBack::put_back_later))]
+    #[inline(never)]
     fn from_port(&mut self, op: TwoOp, source: u16, dst: Place) -> Result<(), Stop>
         requires { IsPlace dst }
         ensures value { left_by result (λ _. self.new) ≡ from_port op source dst self.old }
@@ -83,48 +84,70 @@ impl Cpu {
         ensures value { left_by result (λ _. self.new) ≡ two_from_port op source place self.old }
         ensures stopped { OnErr result (self.new ≡ self.old) }
     {
-        if !matches!(op, TwoOp::A | TwoOp::MOV) {
-            return Err(Stop::NoInstruction);
-        }
         let value = self.value_at(true, source)?;
         self.two(op, true, value, place)
     }
 
-    /// Stores a result, and sets its status bits.
-    #[inline]
-    pub(crate) fn stored(
-        &mut self,
-        byte: bool,
-        place: u16,
-        value: u16,
-        flags: Flags,
-    ) -> Result<(), Stop>
-        requires { value < (width_of byte).modulus }
-        ensures value { left_by result (λ _. self.new) ≡ stored Memory console byte place value flags self.old }
-        ensures stopped { OnErr result (self.new ≡ self.old) }
-        ensures byte { byte ≡ true → IsOk result }
-    {
-        self.write_value(byte, place, value)?;
-        self.status = with_result(byte, value, flags, self.status);
-        Ok(())
-    }
-
-    /// An operation on a source and the destination at a place.
-    #[inline]
+    /// An operation on a source and the destination at a place. It is told by tests, and not by a table of jumps (see
+    /// `step`).
+    #[inline(always)]
     pub(crate) fn two(&mut self, op: TwoOp, byte: bool, source: u16, place: u16) -> Result<(), Stop>
         requires { source < (width_of byte).modulus }
         ensures value { left_by result (λ _. self.new) ≡ two Memory console op byte source place self.old }
         ensures stopped { OnErr result (self.new ≡ self.old) }
     {
-        let flags = self.status.flags;
-        match op {
-            TwoOp::A => {
-                let found = self.value_at(byte, place)?;
-                let out = sum(byte, found, source);
-                self.stored(byte, place, out.value, out.flags)
-            }
-            TwoOp::MOV => self.stored(byte, place, source, result_flags(byte, source, flags)),
-            TwoOp::SZC | TwoOp::S | TwoOp::C | TwoOp::SOC => Err(Stop::NoInstruction),
+        if op == TwoOp::MOV {
+            self.stored_by_result(byte, place, source)
+        } else if is_arithmetic(op) {
+            self.arithmetic(op, byte, source, place)
+        } else {
+            self.bitwise(op, byte, source, place)
         }
     }
+
+    /// A sum, a difference or a comparison of a source and the destination at a place.
+    #[inline(always)]
+    fn arithmetic(&mut self, op: TwoOp, byte: bool, source: u16, place: u16) -> Result<(), Stop>
+        requires source { source < (width_of byte).modulus }
+        requires op { is_arithmetic op ≡ true }
+        ensures value { left_by result (λ _. self.new) ≡ two Memory console op byte source place self.old }
+        ensures stopped { OnErr result (self.new ≡ self.old) }
+    {
+        let found = self.value_at(byte, place)?;
+        if op == TwoOp::C {
+            self.status = with_order(byte, source, found, self.status);
+            return Ok(());
+        }
+        let out = if op == TwoOp::A {
+            sum(byte, found, source)
+        } else {
+            difference(byte, found, source)
+        };
+        self.stored(byte, place, out.value, out.flags)
+    }
+
+    /// The ones of a source are set or cleared in the destination at a place.
+    #[inline(always)]
+    fn bitwise(&mut self, op: TwoOp, byte: bool, source: u16, place: u16) -> Result<(), Stop>
+        requires source { source < (width_of byte).modulus }
+        requires op { is_bitwise op ≡ true }
+        ensures value { left_by result (λ _. self.new) ≡ two Memory console op byte source place self.old }
+        ensures stopped { OnErr result (self.new ≡ self.old) }
+    {
+        let found = self.value_at(byte, place)?;
+        let result = if op == TwoOp::SOC {
+            ones_set(byte, found, source)
+        } else {
+            ones_cleared(byte, found, source)
+        };
+        self.stored_by_result(byte, place, result)
+    }
+}
+
+/// The operation is a sum, a difference or a comparison.
+#[inline(always)]
+fn is_arithmetic(op: TwoOp) -> bool
+    ensures { result ≡ is_arithmetic op }
+{
+    matches!(op, TwoOp::S | TwoOp::C | TwoOp::A)
 }

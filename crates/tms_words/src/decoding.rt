@@ -1,5 +1,5 @@
 //! The instruction of a word.
-ghost use Rattle.std.specs.Prelude.{◌≡◌, ◌≢◌, ◌≤◌, ◌<◌, ◌/◌, ◌*◌, IfSome, IfNone};
+ghost use Rattle.std.specs.Prelude.{◌≡◌, ◌≢◌, ◌≤◌, ◌<◌, ◌/◌, ◌%◌, ◌*◌, eqb, IfSome, IfNone};
 ghost use Rattle.console_defs.specs.Instructions.{two_code, reg_code, shift_code, one_code, jump_code, imm_code, bare_code, operation_at, operands_at, source_at, destination_at, instr_at, word_of, HasRoom};
 
 use console_defs::{BareOp, ImmOp, Instr, JumpOp, OneOp, Operation, Place, RegOp, ShiftOp, TwoOp};
@@ -23,10 +23,7 @@ fn operation_at(word: u16) -> Option<Operation>
     ensures { result ≡ operation_at word }
 {
     match word {
-        0x4000.. => {
-            let (op, byte) = two_at(word);
-            Some(Operation::Two(op, byte))
-        }
+        0x4000.. => Some(Operation::Two(two_at(word), word >> 12 & 1 == 1)),
         0x2000..=0x3FFF => Some(Operation::Reg(reg_at(word))),
         0x1000..=0x1FFF => Some(Operation::Jump(jump_at(word))),
         0x0800..=0x0BFF => Some(Operation::Shift(shift_at(word))),
@@ -50,24 +47,18 @@ fn control_at(word: u16) -> Option<Operation>
     }
 }
 
-/// The operation on two operands in a word, and whether it is on bytes.
-fn two_at(word: u16) -> (TwoOp, bool)
+/// The operation on two operands in a word, beside the bit that tells words from bytes.
+fn two_at(word: u16) -> TwoOp
     requires { 0x4000 ≤ word }
-    ensures { two_code result.0 result.1 ≡ word / 4096 * 4096 }
+    ensures { two_code result (eqb (word / 4096 % 2) 1) ≡ word / 4096 * 4096 }
 {
-    match word >> 12 {
-        0x4 => (TwoOp::SZC, false),
-        0x5 => (TwoOp::SZC, true),
-        0x6 => (TwoOp::S, false),
-        0x7 => (TwoOp::S, true),
-        0x8 => (TwoOp::C, false),
-        0x9 => (TwoOp::C, true),
-        0xA => (TwoOp::A, false),
-        0xB => (TwoOp::A, true),
-        0xC => (TwoOp::MOV, false),
-        0xD => (TwoOp::MOV, true),
-        0xE => (TwoOp::SOC, false),
-        _ => (TwoOp::SOC, true),
+    match word >> 13 {
+        2 => TwoOp::SZC,
+        3 => TwoOp::S,
+        4 => TwoOp::C,
+        5 => TwoOp::A,
+        6 => TwoOp::MOV,
+        _ => TwoOp::SOC,
     }
 }
 
@@ -89,6 +80,7 @@ fn reg_at(word: u16) -> RegOp
 }
 
 /// The jump, or the operation on a bit, in a word.
+#[inline(never)]
 fn jump_at(word: u16) -> JumpOp
     requires { (0x1000 ≤ word) × (word < 0x2000) }
     ensures { jump_code result ≡ word / 256 * 256 }

@@ -1,0 +1,34 @@
+//! The change to another workspace, and back.
+
+ghost use Rattle.std.specs.Prelude.{◌≡◌, IfOk};
+ghost use Rattle.console_defs.specs.Words.{even};
+ghost use Rattle.console_defs.specs.Memory.{Memory, console};
+ghost use Rattle.console_defs.specs.forms.ContextSwitch.{vector_at, kept_of};
+ghost use Rattle.tms_step.specs.Stops.{left_by};
+
+use crate::cpu::{Cpu, even};
+use crate::stop::Stop;
+
+impl Cpu {
+    /// The workspace pointer and the program counter of a context switch, from two words of memory (TMS9900 data
+    /// manual, "Branch and load workspace pointer", "Extended operation (XOP) instruction").
+    pub(crate) fn vector_at(&self, at: u16) -> Result<(u16, u16), Stop>
+        ensures value { left_by result (λ vector. vector) ≡ vector_at Memory console at self.now }
+        ensures even { IfOk result (λ vector. (even vector.0 ≡ vector.0) × (even vector.1 ≡ vector.1)) }
+    {
+        let wp = self.word_at(at)?;
+        let pc = self.word_at(at.wrapping_add(2))?;
+        Ok((even(wp), even(pc)))
+    }
+
+    /// What a context switch kept: workspace pointer, program counter and status, in registers 13, 14 and 15 (TMS9900
+    /// data manual, "Return workspace pointer (RTWP) instruction").
+    pub(crate) fn kept(&self) -> Result<(u16, u16, u16), Stop>
+        ensures { left_by result (λ kept. kept) ≡ kept_of Memory console self.now }
+    {
+        let wp = self.word_at(self.register_place(13))?;
+        let pc = self.word_at(self.register_place(14))?;
+        let status = self.word_at(self.register_place(15))?;
+        Ok((wp, pc, status))
+    }
+}

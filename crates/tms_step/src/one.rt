@@ -1,0 +1,138 @@
+//! Instructions with one operand in any mode.
+
+ghost use Rattle.std.specs.Prelude.{◌≡◌, ◌≢◌, ◌<◌, OnErr, true, false};
+ghost use Rattle.console_defs.specs.Instructions.{IsPlace};
+ghost use Rattle.console_defs.specs.Memory.{Memory, console};
+ghost use Rattle.console_defs.specs.forms.One.{one, one_operand};
+ghost use Rattle.console_defs.specs.declared.instruction.OneOp.TheVariants.{BLWP, BL, CLR};
+ghost use Rattle.tms_step.specs.Parts.{is_increment};
+ghost use Rattle.tms_step.specs.Stops.{left_by};
+ghost use Rattle.tms_step.specs.Undo.{SameButPc};
+
+use crate::cpu::{Cpu, even, register_in};
+use crate::stop::Stop;
+use console_defs::{OneOp, Out16, Place};
+use tms_words::{abs16, add16, neg16, sub16};
+
+impl Cpu {
+    /// An operation on an operand in any mode (TMS9900 data manual, "Single operand instructions").
+    #[inline(never)]
+    #[tactic(auto, using(crate::proofs::PutBack::put_back_later))]
+    pub(crate) fn one_operand(&mut self, op: OneOp, at: Place) -> Result<(), Stop>
+        requires { IsPlace at }
+        ensures value { left_by result (λ _. self.new) ≡ one_operand Memory console op at self.old }
+        ensures stopped { OnErr result (SameButPc self.old self.new) }
+    {
+        let operand = self.operand(at, false)?;
+        let end = self.one(op, operand.address);
+        self.settle(end, operand.grown)
+    }
+
+    /// An operation on the operand at an address. Those that programs make most are told first, by tests, and not by a
+    /// table of jumps (see `step`).
+    #[inline]
+    fn one(&mut self, op: OneOp, place: u16) -> Result<(), Stop>
+        ensures value { left_by result (λ _. self.new) ≡ one Memory console op place self.old }
+        ensures stopped { OnErr result (SameButPc self.old self.new) }
+    {
+        if op == OneOp::CLR {
+            self.write_word(place, 0)
+        } else if is_increment(op) {
+            self.incremented(op, place)
+        } else {
+            self.other_one(op, place)
+        }
+    }
+
+    /// INC, INCT, DEC or DECT: the word at an address is increased or decreased.
+    #[inline(never)]
+    fn incremented(&mut self, op: OneOp, place: u16) -> Result<(), Stop>
+        requires { is_increment op ≡ true }
+        ensures value { left_by result (λ _. self.new) ≡ one Memory console op place self.old }
+        ensures stopped { OnErr result (self.new ≡ self.old) }
+    {
+        let found = self.word_at(place)?;
+        if op == OneOp::INC {
+            self.stored_out(place, add16(found, 1))
+        } else if op == OneOp::INCT {
+            self.stored_out(place, add16(found, 2))
+        } else if op == OneOp::DEC {
+            self.stored_out(place, sub16(found, 1))
+        } else {
+            self.stored_out(place, sub16(found, 2))
+        }
+    }
+
+    /// One of the other operations on the operand at an address.
+    #[inline(never)]
+    fn other_one(&mut self, op: OneOp, place: u16) -> Result<(), Stop>
+        requires increment { is_increment op ≡ false }
+        requires clear { op ≢ CLR }
+        ensures value { left_by result (λ _. self.new) ≡ one Memory console op place self.old }
+        ensures stopped { OnErr result (SameButPc self.old self.new) }
+    {
+        match op {
+            OneOp::BLWP => self.switched(place),
+            OneOp::B => {
+                self.pc = even(place);
+                Ok(())
+            }
+            OneOp::X => Err(Stop::NoInstruction),
+            OneOp::NEG => {
+                let found = self.word_at(place)?;
+                self.stored_out(place, neg16(found))
+            }
+            OneOp::INV => {
+                let found = self.word_at(place)?;
+                self.stored_by_result(false, place, !found)
+            }
+            OneOp::BL => self.linked(place),
+            OneOp::SWPB => {
+                let found = self.word_at(place)?;
+                self.write_word(place, found.swap_bytes())
+            }
+            OneOp::ABS => {
+                let found = self.word_at(place)?;
+                self.stored_out(place, abs16(found))
+            }
+            OneOp::SETO => self.write_word(place, 0xFFFF),
+            OneOp::INC | OneOp::INCT | OneOp::DEC | OneOp::DECT | OneOp::CLR => unreachable!(),
+        }
+    }
+
+    /// A branch that keeps the address of the next instruction in register 11 (TMS9900 data manual, "Branch and
+    /// link").
+    #[inline]
+    fn linked(&mut self, place: u16) -> Result<(), Stop>
+        ensures value { left_by result (λ _. self.new) ≡ one Memory console BL place self.old }
+        ensures stopped { OnErr result (self.new ≡ self.old) }
+    {
+        self.write_word(self.register_place(11), self.pc)?;
+        self.pc = even(place);
+        Ok(())
+    }
+
+    /// A context switch by the vector at an address (TMS9900 data manual, "Branch and load workspace pointer").
+    fn switched(&mut self, place: u16) -> Result<(), Stop>
+        ensures value { left_by result (λ _. self.new) ≡ one Memory console BLWP place self.old }
+        ensures stopped { OnErr result (SameButPc self.old self.new) }
+    {
+        let (wp, pc) = self.vector_at(place)?;
+        self.write_words(&[
+            (register_in(wp, 13), self.wp),
+            (register_in(wp, 14), self.pc),
+            (register_in(wp, 15), self.status_word()),
+        ])?;
+        self.wp = wp;
+        self.pc = pc;
+        Ok(())
+    }
+}
+
+/// The operation increases or decreases a word.
+#[inline(always)]
+fn is_increment(op: OneOp) -> bool
+    ensures { result ≡ is_increment op }
+{
+    matches!(op, OneOp::INC | OneOp::INCT | OneOp::DEC | OneOp::DECT)
+}
