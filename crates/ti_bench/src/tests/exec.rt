@@ -161,6 +161,48 @@ fn a_program_is_run_and_shown(rt: HostRuntime) -> Result<(), Fail> {
                 "R8 >0000 >0000 >0000 >0000 >0000 >0000 >0000 >0000",
             ],
         ),
+        // LWPI >8800; JMP $
+        (
+            b"5",
+            b"\x02\xE0\x88\x00\x10\xFF",
+            Status::Done,
+            &[
+                "end self jump",
+                "pad",
+                ">8300 00 00 00 00 00 00 00 00 00 00 00 00 00 00 00 00",
+                "*",
+                "vdp",
+                ">0000 00 00 00 00 00 00 00 00 00 00 00 00 00 00 00 00",
+                "*",
+                "regs 00 00 00 00 00 00 00 00",
+                "grom >0000",
+                "count 2 PC >A004 WP >8800 ST >0000",
+                "R none",
+            ],
+        ),
+        // a byte of video memory, the GROM address and a video register are written by bytes
+        (
+            b"99",
+            b"\x02\x01\x00\x40\xD8\x01\x8C\x02\x06\xC1\xD8\x01\x8C\x02\x02\x02\xAB\xCD\xD8\x02\x8C\x00\xD8\x02\x9C\x02\x06\xC2\xD8\x02\x9C\x02\x02\x01\xE0\x81\xD8\x01\x8C\x02\x06\xC1\xD8\x01\x8C\x02\x10\xFF",
+            Status::Done,
+            &[
+                "end self jump",
+                "pad",
+                ">8300 00 00 00 00 00 00 00 00 00 00 00 00 00 00 00 00",
+                "*",
+                ">83E0 00 00 81 E0 CD AB 00 00 00 00 00 00 00 00 00 00",
+                ">83F0 00 00 00 00 00 00 00 00 00 00 00 00 00 00 00 00",
+                "vdp",
+                ">0000 AB 00 00 00 00 00 00 00 00 00 00 00 00 00 00 00",
+                ">0010 00 00 00 00 00 00 00 00 00 00 00 00 00 00 00 00",
+                "*",
+                "regs 00 E0 00 00 00 00 00 00",
+                "grom >ABCE",
+                "count 14 PC >A02E WP >83E0 ST >8000",
+                "R0 >0000 >81E0 >CDAB >0000 >0000 >0000 >0000 >0000",
+                "R8 >0000 >0000 >0000 >0000 >0000 >0000 >0000 >0000",
+            ],
+        ),
     ] {
         let ended = run(alloc, &[b"exec", limit], program.to_vec(alloc)?, &[], &[])?;
         assert_eq!(rt;
