@@ -3,10 +3,10 @@
 ghost use Rattle.std.specs.Prelude.{◌≡◌, IfOk};
 ghost use Rattle.console_defs.specs.Words.{even};
 ghost use Rattle.console_defs.specs.Memory.{Memory, console};
-ghost use Rattle.console_defs.specs.forms.ContextSwitch.{vector_at, kept_of};
+ghost use Rattle.console_defs.specs.forms.ContextSwitch.{kept_in, vector_at, kept_of};
 ghost use Rattle.tms_step.specs.Stops.{left_by};
 
-use crate::cpu::{Cpu, even};
+use crate::cpu::{Cpu, even, register_in};
 use crate::stop::Stop;
 
 impl Cpu {
@@ -19,6 +19,18 @@ impl Cpu {
         let wp = self.word_at(at)?;
         let pc = self.word_at(at.wrapping_add(2))?;
         Ok((even(wp), even(pc)))
+    }
+
+    /// What a context switch keeps in registers 13, 14 and 15 of a workspace: each with the address of its register
+    /// (TMS9900 data manual, "Branch and load workspace pointer", "Extended operation (XOP) instruction").
+    pub(crate) fn kept_in(&self, wp: u16) -> [(u16, u16); 3]
+        ensures { result ≡ kept_in Memory wp self.now }
+    {
+        [
+            (register_in(wp, 13), self.wp),
+            (register_in(wp, 14), self.pc),
+            (register_in(wp, 15), self.status_word()),
+        ]
     }
 
     /// What a context switch kept: workspace pointer, program counter and status, in registers 13, 14 and 15 (TMS9900

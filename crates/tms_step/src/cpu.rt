@@ -1,13 +1,12 @@
 //! The processor's state, and its accesses to memory.
 
-ghost use Rattle.std.specs.Prelude.{◌≡◌, ◌<◌, ℕ, ◌+◌, ◌*◌, ◌%◌, IfOk, OnErr, Option, Some, None};
-ghost use Rattle.console_defs.specs.Words.{even, plus};
+ghost use Rattle.std.specs.Prelude.{◌≡◌, ◌<◌, ◌*◌, OnErr};
+ghost use Rattle.console_defs.specs.Words.{even};
 ghost use Rattle.console_defs.specs.Status.{IsStatus};
-ghost use Rattle.console_defs.specs.Bus.{Gives};
-ghost use Rattle.console_defs.specs.Memory.{Memory, IsMemory, console, word_read};
-ghost use Rattle.console_defs.specs.Operand.{word_at, with_word, register_in, register_place, next_word, index_of};
+ghost use Rattle.console_defs.specs.Memory.{Memory, IsMemory, console};
+ghost use Rattle.console_defs.specs.Operand.{word_at, with_word, register_in, register_place, next_word};
 ghost use Rattle.tms_step.specs.Stops.{left_by};
-ghost use Rattle.tms_step.specs.Undo.{put_back, SameButPc};
+ghost use Rattle.tms_step.specs.Undo.{SameButPc};
 
 use crate::stop::Stop;
 use console_bus::Bus;

@@ -2,7 +2,7 @@
 
 ghost use Rattle.std.specs.Prelude.{◌≡◌, ◌≢◌, OnErr};
 ghost use Rattle.console_defs.specs.Words.{even};
-ghost use Rattle.console_defs.specs.Memory.{Memory, console};
+ghost use Rattle.console_defs.specs.Memory.{Memory};
 ghost use Rattle.console_defs.specs.forms.Jump.{jump_target, condition, jump};
 ghost use Rattle.console_defs.specs.declared.instruction.JumpOp.TheVariants.{JMP, JEQ, JNE};
 ghost use Rattle.tms_step.specs.Stops.{left_by};
@@ -30,7 +30,8 @@ impl Cpu {
 }
 
 /// The condition of a jump; None for an operation on a bit of the communication register unit (TMS9900 data manual,
-/// "Jump instructions"). Those that programs make most are told first, by tests, and not by a table of jumps (see `step`).
+/// "Jump instructions"). Those that programs make most are told first, by tests, and not by a table of jumps (see
+/// `step`).
 #[inline(always)]
 fn condition(op: JumpOp, status: Status) -> Option<bool>
     ensures { result ≡ condition op status }

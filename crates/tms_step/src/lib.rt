@@ -19,6 +19,7 @@ mod status;
 mod step;
 mod steps;
 mod stop;
+mod stored;
 #[cfg(test)]
 mod tests;
 mod two;

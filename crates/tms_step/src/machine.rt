@@ -1,6 +1,6 @@
 //! The machine: the processor over the console's memory, with a count of its instructions.
 
-ghost use Rattle.std.specs.Prelude.{◌≡◌, ◌<◌, ◌≤◌, ℕ, ◌+◌, true};
+ghost use Rattle.std.specs.Prelude.{◌≡◌, ◌<◌, true};
 ghost use Rattle.console_defs.specs.Words.{even};
 ghost use Rattle.console_defs.specs.Bus.{Gives};
 ghost use Rattle.console_defs.specs.Memory.{Memory, console, word_read};

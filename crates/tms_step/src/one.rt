@@ -9,9 +9,9 @@ ghost use Rattle.tms_step.specs.Parts.{is_increment};
 ghost use Rattle.tms_step.specs.Stops.{left_by};
 ghost use Rattle.tms_step.specs.Undo.{SameButPc};
 
-use crate::cpu::{Cpu, even, register_in};
+use crate::cpu::{Cpu, even};
 use crate::stop::Stop;
-use console_defs::{OneOp, Out16, Place};
+use console_defs::{OneOp, Place};
 use tms_words::{abs16, add16, neg16, sub16};
 
 impl Cpu {
@@ -118,11 +118,7 @@ impl Cpu {
         ensures stopped { OnErr result (SameButPc self.old self.new) }
     {
         let (wp, pc) = self.vector_at(place)?;
-        self.write_words(&[
-            (register_in(wp, 13), self.wp),
-            (register_in(wp, 14), self.pc),
-            (register_in(wp, 15), self.status_word()),
-        ])?;
+        self.write_words(&self.kept_in(wp))?;
         self.wp = wp;
         self.pc = pc;
         Ok(())

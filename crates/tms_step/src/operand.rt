@@ -1,12 +1,9 @@
-//! Operands: where they stand, what they are, and the growth of a register that is taken back where a later access
-//! stops the instruction.
+//! Operands: where they stand, what they are, and the growth of a register.
 
-ghost use Rattle.std.specs.Prelude.{◌≡◌, ◌<◌, IfOk, IsOk, OnOk, OnErr, Some, None, true, false};
-ghost use Rattle.console_defs.specs.Words.{plus};
+ghost use Rattle.std.specs.Prelude.{◌≡◌, ◌<◌, IfOk, IsOk, OnErr, Some, None, true, false};
 ghost use Rattle.console_defs.specs.Flags.{width_of};
-ghost use Rattle.console_defs.specs.Bus.{Gives, answer_of};
-ghost use Rattle.console_defs.specs.Memory.{Memory, IsMemory, console, word_read};
-ghost use Rattle.console_defs.specs.Operand.{mode_of, index_of, operand, with_word, value_at, with_value};
+ghost use Rattle.console_defs.specs.Memory.{Memory, console};
+ghost use Rattle.console_defs.specs.Operand.{mode_of, index_of, operand, value_at, with_value};
 ghost use Rattle.console_defs.specs.Instructions.{IsPlace};
 ghost use Rattle.tms_step.specs.Stops.{left_by};
 ghost use Rattle.tms_step.specs.Undo.{put_back, SameButPc};
@@ -123,44 +120,6 @@ impl Cpu {
             return Ok(());
         }
         self.write_word(at, value)
-    }
-
-    /// Writes a word over the one that is given, which is kept.
-    #[inline]
-    pub(crate) fn write_over(&mut self, place: u16, old: u16, word: u16) -> Result<Kept, Stop>
-        requires { word_read self.old.memory place ≡ Gives old }
-        ensures value { left_by result (λ _. self.new) ≡ with_word Memory console self.old place word }
-        ensures undo { IfOk result (λ kept. SameButPc self.old (put_back (Some kept) self.new)) }
-        ensures stopped { OnErr result (SameButPc self.old self.new) }
-    {
-        self.holds_bounds();
-        self.write_word(place, word)?;
-        Ok(Kept { place, word: old })
-    }
-
-    /// How an instruction ends, where a register has grown before: unless it was executed, the register is put back.
-    #[inline(always)]
-    #[tactic(auto, using(crate::proofs::PutBack::put_back_later))]
-    pub(crate) fn settle(&mut self, end: Result<(), Stop>, grown: Option<Kept>) -> Result<(), Stop>
-        ensures end { result ≡ end }
-        ensures executed { OnOk result (self.new ≡ self.old) }
-        ensures stopped { OnErr result (self.new ≡ put_back grown self.old) }
-    {
-        if end.is_err() {
-            self.put_back(grown);
-        }
-        end
-    }
-
-    /// Puts a word back that was written over.
-    #[inline]
-    #[tactic(auto, using(crate::proofs::PutBack::taken_left))]
-    pub(crate) fn put_back(&mut self, kept: Option<Kept>)
-        ensures { self.new ≡ put_back kept self.old }
-    {
-        if let Some(kept) = kept {
-            let _written = self.bus.write_word(kept.place, kept.word);
-        }
     }
 }
 

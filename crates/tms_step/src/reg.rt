@@ -110,12 +110,8 @@ impl Cpu {
         ensures stopped { OnErr result (SameButPc self.old self.new) }
     {
         let (wp, pc) = self.vector_at(0x0040 + 4 * u16::from(number))?;
-        self.write_words(&[
-            (register_in(wp, 13), self.wp),
-            (register_in(wp, 14), self.pc),
-            (register_in(wp, 15), self.status_word()),
-            (register_in(wp, 11), source),
-        ])?;
+        let [pointer, counter, status] = self.kept_in(wp);
+        self.write_words(&[pointer, counter, status, (register_in(wp, 11), source)])?;
         self.wp = wp;
         self.pc = pc;
         self.status.rest = 0x0200 + self.status.rest % 0x0200;

@@ -1,6 +1,6 @@
 //! Single instructions of every form, worked out by hand from the data manual's rules.
 
-ghost use Rattle.std.specs.Prelude.{◌≡◌, ◌<◌, ◌≤◌, length};
+ghost use Rattle.std.specs.Prelude.{◌<◌};
 
 use crate::{Machine, StepEnd};
 use console_bus::Bus;

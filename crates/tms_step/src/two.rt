@@ -1,6 +1,6 @@
 //! Instructions with two operands in any mode.
 
-ghost use Rattle.std.specs.Prelude.{◌≡◌, ◌<◌, IsOk, OnErr, true, false};
+ghost use Rattle.std.specs.Prelude.{◌≡◌, ◌<◌, OnErr, true, false};
 ghost use Rattle.console_defs.specs.Flags.{width_of};
 ghost use Rattle.console_defs.specs.Instructions.{IsPlace};
 ghost use Rattle.console_defs.specs.Memory.{Memory, console, is_port_address};

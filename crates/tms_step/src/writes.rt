@@ -1,69 +1,16 @@
-//! Results that are stored, and words that are put back where a later write of the same instruction is stopped.
+//! Words that are written, and put back where a later access stops the instruction.
 
-ghost use Rattle.std.specs.Prelude.{◌≡◌, ◌<◌, IfOk, IsOk, OnOk, OnErr, Some, true, false};
-ghost use Rattle.console_defs.specs.Flags.{width_of};
+ghost use Rattle.std.specs.Prelude.{◌≡◌, IfOk, OnOk, OnErr, Some};
 ghost use Rattle.console_defs.specs.Bus.{Gives};
 ghost use Rattle.console_defs.specs.Memory.{Memory, console, word_read};
 ghost use Rattle.console_defs.specs.Operand.{with_word, with_words};
-ghost use Rattle.console_defs.specs.forms.Results.{stored, stored_by_result};
 ghost use Rattle.tms_step.specs.Stops.{left_by};
 ghost use Rattle.tms_step.specs.Undo.{put_back, SameButPc};
 
 use crate::cpu::{Cpu, Kept};
-use crate::result::{result_flags, with_result};
 use crate::stop::Stop;
-use console_defs::{Flags, Out16};
 
 impl Cpu {
-    /// Stores a result, and sets its status bits.
-    #[inline(always)]
-    pub(crate) fn stored(
-        &mut self,
-        byte: bool,
-        place: u16,
-        value: u16,
-        flags: Flags,
-    ) -> Result<(), Stop>
-        requires { value < (width_of byte).modulus }
-        ensures value { left_by result (λ _. self.new) ≡ stored Memory console byte place value flags self.old }
-        ensures stopped { OnErr result (self.new ≡ self.old) }
-        ensures byte { byte ≡ true → IsOk result }
-    {
-        self.write_value(byte, place, value)?;
-        self.status = with_result(byte, value, flags, self.status);
-        Ok(())
-    }
-
-    /// Stores a word with its status bits.
-    #[inline(always)]
-    pub(crate) fn stored_out(&mut self, place: u16, out: Out16) -> Result<(), Stop>
-        ensures value { left_by result (λ _. self.new) ≡ stored Memory console false place out.value out.flags self.old }
-        ensures stopped { OnErr result (self.new ≡ self.old) }
-    {
-        self.stored(false, place, out.value, out.flags)
-    }
-
-    /// Stores a result that sets L>, A> and EQ, and leaves C and OV.
-    #[inline(always)]
-    pub(crate) fn stored_by_result(
-        &mut self,
-        byte: bool,
-        place: u16,
-        value: u16,
-    ) -> Result<(), Stop>
-        requires { value < (width_of byte).modulus }
-        ensures value { left_by result (λ _. self.new) ≡ stored_by_result Memory console byte place value self.old }
-        ensures stopped { OnErr result (self.new ≡ self.old) }
-        ensures byte { byte ≡ true → IsOk result }
-    {
-        self.stored(
-            byte,
-            place,
-            value,
-            result_flags(byte, value, self.status.flags),
-        )
-    }
-
     /// Writes words in a row; of each pair the first is the address. Where a port stops one of them, the memory is as
     /// before.
     #[tactic(auto, using(crate::proofs::PutBack::put_back_later))]
@@ -87,5 +34,43 @@ impl Cpu {
     {
         let old = self.word_at(place)?;
         self.write_over(place, old, word)
+    }
+
+    /// Writes a word over the one that is given, which is kept.
+    #[inline]
+    pub(crate) fn write_over(&mut self, place: u16, old: u16, word: u16) -> Result<Kept, Stop>
+        requires { word_read self.old.memory place ≡ Gives old }
+        ensures value { left_by result (λ _. self.new) ≡ with_word Memory console self.old place word }
+        ensures undo { IfOk result (λ kept. SameButPc self.old (put_back (Some kept) self.new)) }
+        ensures stopped { OnErr result (SameButPc self.old self.new) }
+    {
+        self.holds_bounds();
+        self.write_word(place, word)?;
+        Ok(Kept { place, word: old })
+    }
+
+    /// How an instruction ends, where a word was written over before: unless it was executed, the word is put back.
+    #[inline(always)]
+    #[tactic(auto, using(crate::proofs::PutBack::put_back_later))]
+    pub(crate) fn settle(&mut self, end: Result<(), Stop>, kept: Option<Kept>) -> Result<(), Stop>
+        ensures end { result ≡ end }
+        ensures executed { OnOk result (self.new ≡ self.old) }
+        ensures stopped { OnErr result (self.new ≡ put_back kept self.old) }
+    {
+        if end.is_err() {
+            self.put_back(kept);
+        }
+        end
+    }
+
+    /// Puts a word back that was written over.
+    #[inline]
+    #[tactic(auto, using(crate::proofs::PutBack::taken_left))]
+    pub(crate) fn put_back(&mut self, kept: Option<Kept>)
+        ensures { self.new ≡ put_back kept self.old }
+    {
+        if let Some(kept) = kept {
+            let _written = self.bus.write_word(kept.place, kept.word);
+        }
     }
 }
