@@ -4,7 +4,8 @@ ghost use Rattle.std.specs.Prelude.{◌≡◌};
 ghost use Rattle.source_defs.specs.Characters as spec;
 ghost use Rattle.source_defs.specs.Names as names;
 
-pub(crate) fn is_line_feed(byte: u8) -> bool
+/// Whether a byte is a line feed, which ends a line.
+pub fn is_line_feed(byte: u8) -> bool
     ensures { result ≡ spec.is_line_feed byte }
 {
     byte == b'\n'
@@ -16,7 +17,8 @@ pub(crate) fn is_carriage_return(byte: u8) -> bool
     byte == b'\r'
 }
 
-pub(crate) fn is_blank(byte: u8) -> bool
+/// Whether a byte is a blank: a space or a tab.
+pub fn is_blank(byte: u8) -> bool
     ensures { result ≡ spec.is_blank byte }
 {
     byte == b' ' || byte == b'\t'
@@ -46,7 +48,8 @@ pub(crate) fn is_letter_or_digit(byte: u8) -> bool
     byte.is_ascii_alphanumeric()
 }
 
-pub(crate) fn is_printed(byte: u8) -> bool
+/// Whether a byte is a character that prints, other than the space: from >21 to >7E.
+pub fn is_printed(byte: u8) -> bool
     ensures { result ≡ names.is_printed byte }
 {
     byte.is_ascii_graphic()

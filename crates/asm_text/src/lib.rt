@@ -2,6 +2,7 @@
 #![tactic(auto)]
 
 mod characters;
+mod digits;
 mod laws;
 mod line_fields;
 mod line_iter;
@@ -14,6 +15,8 @@ mod tests;
 mod text;
 mod words;
 
+pub use crate::characters::{is_blank, is_line_feed, is_printed};
+pub use crate::digits::{byte_digits, word_digits};
 pub use crate::laws::{fields_of_a_line, least_places, lines_of_a_text};
 pub use crate::line_fields::Fields;
 pub use crate::line_iter::Lines;

@@ -4,5 +4,7 @@ pub mod Lines
 pub mod Names
 pub mod Fields
 pub mod Numbers
+pub mod Digits
+pub mod Refusals
 pub mod LineLaw
 pub mod FieldLaw

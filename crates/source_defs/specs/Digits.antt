@@ -1,0 +1,19 @@
+-- Bytes and words as hexadecimal digits, in upper case.
+use Rattle.std.specs.Prelude.{ℕ, ◌/◌, ◌%◌, List, [], ◌∷◌}
+use Rattle.source_defs.specs.Numbers.{hexadecimal_digit}
+
+-- a byte by two digits
+unfoldable pub byte_digits : ℕ → List ℕ
+byte_digits byte = hexadecimal_digit (byte / 16 % 16) ∷ hexadecimal_digit (byte % 16) ∷ []
+
+-- a word by four digits
+unfoldable pub word_digits : ℕ → List ℕ
+word_digits word =
+    hexadecimal_digit (word / 4096 % 16) ∷ hexadecimal_digit (word / 256 % 16) ∷ hexadecimal_digit (word / 16 % 16) ∷ hexadecimal_digit (word % 16) ∷ []
+
+-- Editor/Assembler manual, "Constants": a hexadecimal number stands behind the sign >.
+abbrev pub marked_word : ℕ → List ℕ
+marked_word word = 0x3E ∷ word_digits word
+
+abbrev pub marked_byte : ℕ → List ℕ
+marked_byte byte = 0x3E ∷ byte_digits byte

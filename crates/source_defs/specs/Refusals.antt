@@ -1,0 +1,19 @@
+-- Refusals of lines: which line is refused, and why. A definition that may refuse is read from the top, and the first
+-- cause that comes is its answer.
+use Rattle.std.specs.Prelude.{ℕ, Result, Ok, Err}
+
+-- a refused line, by its number
+pub record Refusal (C : Type 0) : Type 0 where
+  pub line : ℕ
+  pub cause : C
+
+-- the first cause goes on, else the value does
+infixl 10 ◌>>=◌
+abbrev pub ◌>>=◌ : {A B C : Type 0} → Result A C → (A → Result B C) → Result B C
+(Ok value) >>= next = next value
+(Err cause) >>= next = Err cause
+
+-- what a line gives, or its refusal with the line's number
+abbrev pub at_line : {A C : Type 0} → ℕ → Result A C → Result A (Refusal C)
+at_line number (Ok value) = Ok value
+at_line number (Err cause) = Err (record { line = number; cause = cause })
