@@ -2,7 +2,7 @@
 use Rattle.std.specs.Prelude.{◌≡◌, ◌%◌, ⊤, Result, Ok, Err}
 use Rattle.gpl_defs.specs.declared.causes.GplCause.{GplCause}
 use Rattle.gpl_defs.specs.Image.{Image}
-use Rattle.gpl_defs.specs.Layout.{Refusal}
+use Rattle.source_defs.specs.Refusals.{Refusal}
 use Rattle.gpl_defs.specs.Statements as spec
 use Rattle.gpl_asm.specs.declared.assemble.GplProgram.{GplProgram}
 use Rattle.gpl_asm.specs.declared.error.GplError.{GplError}
@@ -29,7 +29,7 @@ defined_answer (Ok statement) = Ok (defined_statement statement)
 defined_answer (Err cause) = Err cause
 
 -- The program is the one that is defined, and the refused line is; want of memory says nothing.
-abbrev pub Gives : Result GplProgram GplError → Result Image Refusal → Type 0
+abbrev pub Gives : Result GplProgram GplError → Result Image (Refusal GplCause) → Type 0
 Gives (Ok program) defined = defined ≡ Ok program.image
 Gives (Err (At line cause)) defined = defined ≡ Err (record { line = line; cause = cause })
 Gives (Err Memory) defined = ⊤

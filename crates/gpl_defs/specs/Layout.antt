@@ -5,6 +5,7 @@ use Rattle.std.specs.Prelude.{◌≡◌, ℕ, ◌+◌, ◌==◌, nat_lt, if◌th
 use Rattle.std.specs.FinMap.{empty}
 use Rattle.source_defs.specs.declared.text.Line.{Line}
 use Rattle.source_defs.specs.Lines.{part, lines}
+use Rattle.source_defs.specs.Refusals.{Refusal}
 use Rattle.gpl_defs.specs.declared.causes.GplCause.{GplCause}
 use Rattle.gpl_defs.specs.declared.causes.GplCause.TheVariants.{NotBuilt, GromFull}
 use Rattle.gpl_defs.specs.Image.{Image, placed}
@@ -46,35 +47,30 @@ refusal before (Grom address) = if length (bytes_of_lines before) == 0 then None
 refusal before (Bytes bytes) = if nat_lt (origin before + grom_size) (location before + length bytes) then Some GromFull else None
 refusal before End = None
 
--- a refused line, by its number
-pub record Refusal : Type 0 where
-  pub line : ℕ
-  pub cause : GplCause
-
 -- what a line gives after the lines before it, where `rest` says what the lines after it give
-abbrev pub judged : List Statement → ℕ → Statement → Option GplCause → (List Statement → Result (List Statement) Refusal) → Result (List Statement) Refusal
+abbrev pub judged : List Statement → ℕ → Statement → Option GplCause → (List Statement → Result (List Statement) (Refusal GplCause)) → Result (List Statement) (Refusal GplCause)
 judged before number found (Some cause) rest = Err (record { line = number; cause = cause })
 judged before number End None rest = Ok before
 judged before number Nothing None rest = rest (Nothing ∷ before)
 judged before number (Grom address) None rest = rest (Grom address ∷ before)
 judged before number (Bytes bytes) None rest = rest (Bytes bytes ∷ before)
 
-abbrev pub line_gives : List Statement → ℕ → Result Statement GplCause → (List Statement → Result (List Statement) Refusal) → Result (List Statement) Refusal
+abbrev pub line_gives : List Statement → ℕ → Result Statement GplCause → (List Statement → Result (List Statement) (Refusal GplCause)) → Result (List Statement) (Refusal GplCause)
 line_gives before number (Err cause) rest = Err (record { line = number; cause = cause })
 line_gives before number (Ok found) rest = judged before number found (refusal before found) rest
 
 -- The statements up to END, of which lines after it are not read; or the first refused line.
-unfoldable pub statements_from : List ℕ → List Statement → List Line → Result (List Statement) Refusal
+unfoldable pub statements_from : List ℕ → List Statement → List Line → Result (List Statement) (Refusal GplCause)
 statements_from text before [] = Ok before
 statements_from text before (line ∷ lines) =
     line_gives before line.number (statement (part text line.span)) (λ before. statements_from text before lines)
 
-abbrev pub image_by : Result (List Statement) Refusal → Result Image Refusal
+abbrev pub image_by : Result (List Statement) (Refusal GplCause) → Result Image (Refusal GplCause)
 image_by (Ok statements) = Ok (image_of_lines statements)
 image_by (Err refused) = Err refused
 
 -- the image of a source, or its first refused line
-abbrev pub image_of_source : List ℕ → Result Image Refusal
+abbrev pub image_of_source : List ℕ → Result Image (Refusal GplCause)
 image_of_source text = image_by (statements_from text [] (lines text))
 
 -- the law, which is proved: the bytes of a line stand at its location, behind those of the lines before it

@@ -5,9 +5,9 @@ use Rattle.std.specs.Prelude.{ℕ, List, ◌++◌, codes}
 use Rattle.std.specs.Fmt.{decimal}
 use Rattle.source_defs.specs.declared.causes.TextError.{TextError}
 use Rattle.source_defs.specs.declared.causes.TextError.TheVariants.{LineTooLong, BadLabel}
+use Rattle.source_defs.specs.Refusals.{Refusal}
 use Rattle.gpl_defs.specs.declared.causes.GplCause.{GplCause}
 use Rattle.gpl_defs.specs.declared.causes.GplCause.TheVariants.{Text, NotBuilt, GromFull}
-use Rattle.gpl_defs.specs.Layout.{Refusal}
 
 -- Profile: the commands that are not built yet stand in it too.
 unfoldable pub usage_line : List ℕ
@@ -29,5 +29,5 @@ gpl_cause_text NotBuilt = codes "not built"
 gpl_cause_text GromFull = codes "out of room"
 
 -- a refused line, by its number from 1
-abbrev pub refusal_line : Refusal → List ℕ
+abbrev pub refusal_line : Refusal GplCause → List ℕ
 refusal_line refused = codes "line " ++ (decimal refused.line ++ (codes ": " ++ (gpl_cause_text refused.cause ++ codes "\n")))

@@ -2,8 +2,10 @@
 use Rattle.std.specs.Prelude.{◌≡◌, ℕ, nat_lt, List, length, Result, Ok, Err, MatchBool}
 use Rattle.console_defs.specs.Machine.{MachineState}
 use Rattle.console_defs.specs.declared.ends.RunEnd.{RunEnd}
+use Rattle.source_defs.specs.Refusals.{Refusal}
+use Rattle.gpl_defs.specs.declared.causes.GplCause.{GplCause}
 use Rattle.gpl_defs.specs.Image.{Image, written_bytes}
-use Rattle.gpl_defs.specs.Layout.{Refusal, image_of_source}
+use Rattle.gpl_defs.specs.Layout.{image_of_source}
 use Rattle.report_defs.specs.declared.command.Command.{Command}
 use Rattle.report_defs.specs.declared.command.Command.TheVariants.{Gasm, Exec}
 use Rattle.report_defs.specs.declared.status.Status.{Status}
@@ -28,7 +30,7 @@ abbrev pub largest_input : ℕ
 largest_input = 1048576
 
 -- the bytes of the image from its lowest to its highest written address
-abbrev pub gasm_report : Result Image Refusal → Report
+abbrev pub gasm_report : Result Image (Refusal GplCause) → Report
 gasm_report (Ok image) = Whole Done (written_bytes image)
 gasm_report (Err refused) = Fault Refused (refusal_line refused)
 

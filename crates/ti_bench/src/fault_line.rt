@@ -3,7 +3,6 @@
 ghost use Rattle.std.specs.Prelude.{◌≡◌, IfOk};
 ghost use Rattle.std.specs.String.{string_bytes};
 ghost use Rattle.report_defs.specs.FaultLine as spec;
-ghost use Rattle.gpl_defs.specs.Layout.{Refusal};
 
 use gpl_asm::GplCause;
 use source_defs::TextError;
