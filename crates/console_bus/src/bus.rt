@@ -6,6 +6,7 @@ ghost use Rattle.console_defs.specs.Bytes.{HoldsBytes, HoldsZeros, word_at, with
 ghost use Rattle.console_defs.specs.Bus.{answer_of, left_by};
 ghost use Rattle.console_defs.specs.Memory.{IsMemory, IsNewMemory, IsLoadable, port_at, port_region, is_port_address, region, port_read, port_written, byte_read_in, byte_read, byte_written_in, byte_written, word_read_in, word_read, word_written_in, word_written, two_bytes_read, two_bytes_written, word_placed, cell_set};
 
+use byte_lists::{holds_bytes, zeros};
 use console_defs::PortStop;
 use grom_counter::Grom;
 use std::alloc::{AllocError, Global};
@@ -57,7 +58,7 @@ impl Bus {
     }
 
     /// Reads the word that holds an address: the lowest address bit is ignored (TMS9900 data manual, "Registers and
-    /// memory"). A port stops it, with the port's address; nothing ever changes.
+    /// memory"). By this project's own rule a port stops it, with the port's address; nothing ever changes.
     #[inline]
     pub fn read_word(&mut self, at: u16) -> Result<u16, PortStop>
         ensures word { answer_of result ≡ word_read self.old at }
@@ -106,8 +107,8 @@ impl Bus {
         Ok(())
     }
 
-    /// Reads the byte at an address; a port may change by it. A port for writing, and an address that leads
-    /// nowhere, give 0 (Editor/Assembler manual, on the memory of the computer).
+    /// Reads the byte at an address; a port may change by it (Editor/Assembler manual, on the memory of the computer).
+    /// By this project's own rule a port for writing, and an address that leads nowhere, give 0.
     #[inline]
     pub fn read_byte(&mut self, at: u16) -> u8
         ensures { (result, self.new) ≡ byte_read self.old at }
@@ -121,8 +122,9 @@ impl Bus {
         }
     }
 
-    /// Writes the byte at an address, with no read before it. A write to the console ROM, to a port for reading and
-    /// to an address that leads nowhere changes nothing (Editor/Assembler manual, on the memory of the computer).
+    /// Writes the byte at an address. A write to the console ROM changes nothing (Editor/Assembler manual, on the memory
+    /// of the computer). By this project's own rules no read comes before it, and a write to a port for reading, to the
+    /// GROM's data port and to an address that leads nowhere changes nothing.
     #[inline]
     pub fn write_byte(&mut self, at: u16, byte: u8)
         ensures { self.new ≡ byte_written self.old at byte }
@@ -224,8 +226,8 @@ impl Bus {
     }
 }
 
-/// One of the eight ports stands at the address; none does at an odd one (Editor/Assembler manual, on VDP and GROM
-/// access).
+/// One of the eight ports stands at the address (Editor/Assembler manual, on VDP and GROM access). By this project's own
+/// rule each stands at one address only, and none at an odd one.
 #[inline]
 pub fn is_port(at: u16) -> bool
     ensures { result ≡ is_port_address at }
@@ -261,20 +263,4 @@ fn zero_page() -> [u8; 256]
     ensures { HoldsZeros 256 result }
 {
     [0; 256]
-}
-
-/// A list of so many zeros.
-#[tactic(auto, using(console_defs::proofs::ByteLaws::replicated_zeros))]
-fn zeros(alloc: Global, count: usize) -> Result<Vec<u8>, AllocError>
-    ensures { IfOk result (λ bytes. HoldsZeros count bytes.items) }
-{
-    vec![in alloc; 0; count]
-}
-
-/// Does nothing. A slice of `u8` holds bytes.
-#[inline]
-fn holds_bytes(bytes: &[u8])
-    ensures { (at : ℕ) → slice_index bytes.now at < 256 }
-{
-    let _count = bytes.len();
 }

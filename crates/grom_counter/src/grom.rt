@@ -4,6 +4,7 @@ ghost use Rattle.std.specs.Prelude.{◌≡◌, ◌<◌, ℕ, ◌+◌, ◌*◌, �
 ghost use Rattle.console_defs.specs.Bytes.{HoldsBytes};
 ghost use Rattle.console_defs.specs.Grom.{IsGrom, new_grom, is_grom_idle, next_in_grom, previous_in_grom, grom_fetched_ahead, grom_address_written, grom_address_read, grom_data_read};
 
+use byte_lists::holds_bytes;
 use std::alloc::{AllocError, Global};
 use std::marker::Model;
 
@@ -139,12 +140,4 @@ pub fn next_in_grom(at: u16) -> u16
     ensures back { previous_in_grom result ≡ at }
 {
     at / 8192 * 8192 + (at % 8192 + 1) % 8192
-}
-
-/// Does nothing. A slice of `u8` holds bytes.
-#[inline]
-fn holds_bytes(bytes: &[u8])
-    ensures { (at : ℕ) → slice_index bytes.now at < 256 }
-{
-    let _count = bytes.len();
 }

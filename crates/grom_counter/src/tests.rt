@@ -61,7 +61,12 @@ const CASES: &[(&str, &[Access], u16, bool)] = &[
         0x0002,
         true,
     ),
-    ("first byte of an address", &[WriteAddress(0x12)], 0x1200, false),
+    (
+        "first byte of an address",
+        &[WriteAddress(0x12)],
+        0x1200,
+        false,
+    ),
     (
         "a data read after the first byte of an address",
         &[WriteAddress(0x12), ReadData(0x00), WriteAddress(0x56)],
@@ -128,7 +133,10 @@ fn follows_each_port(rt: HostRuntime) -> Result<(), Fail> {
     for &(name, accesses, counter, is_idle) in CASES {
         let mut grom = some_grom(rt.alloc())?;
         let agree = all_agree(&mut grom, accesses) && shows_its_image(&grom);
-        assert!(rt; agree && grom.counter() == counter && grom.is_idle() == is_idle, "{name}");
+        assert!(rt;
+            agree && grom.counter() == counter && grom.is_idle() == is_idle,
+            "{name}"
+        );
     }
     for &(at, next) in NEXT {
         assert!(rt; next_in_grom(at) == next, "at {at}");

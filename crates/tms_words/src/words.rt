@@ -30,8 +30,8 @@ pub fn sub16(d: u16, s: u16) -> Out16
     }
 }
 
-/// The negative of a word. L>, A> and EQ are set by the negative; C for 0 alone; OV for >8000, which stays as it is.
-/// TMS9900 data manual, "Negate".
+/// The negative of a word. L>, A> and EQ are set by the negative; OV for >8000, which stays as it is (TMS9900 data
+/// manual, "Negate"). C is set for 0 alone, which is this project's own rule.
 pub fn neg16(x: u16) -> Out16
     ensures value { result.value ≡ negation_of word_width x }
     ensures flags { result.flags ≡ negation_flags word_width x }
@@ -43,8 +43,8 @@ pub fn neg16(x: u16) -> Out16
     }
 }
 
-/// The absolute value of a word. L>, A> and EQ are set by the word as it was; C is false; OV for >8000, which stays
-/// as it is. TMS9900 data manual, "Absolute value".
+/// The absolute value of a word. L>, A> and EQ are set by the word as it was; OV for >8000, which stays as it is (TMS9900
+/// data manual, "Absolute value"). C is false, which is this project's own rule.
 pub fn abs16(x: u16) -> Out16
     ensures value { result.value ≡ absolute_of word_width x }
     ensures flags { result.flags ≡ absolute_flags word_width x }

@@ -146,7 +146,10 @@ fn follows_each_port(rt: HostRuntime) -> Result<(), Fail> {
     for &(name, accesses, address, is_idle) in CASES {
         let mut vdp = Vdp::new(rt.alloc())?;
         let agree = all_agree(&mut vdp, accesses);
-        assert!(rt; agree && vdp.address() == address && vdp.is_idle() == is_idle, "{name}");
+        assert!(rt;
+            agree && vdp.address() == address && vdp.is_idle() == is_idle,
+            "{name}"
+        );
     }
     Ok(())
 }
@@ -155,11 +158,13 @@ fn follows_each_port(rt: HostRuntime) -> Result<(), Fail> {
 fn writes_registers(alloc: Global) -> Result<bool, AllocError> {
     let mut vdp = Vdp::new(alloc)?;
     let agree = all_agree(&mut vdp, REGISTERS);
-    Ok(agree
-        && vdp.register(0) == 0
-        && vdp.register(1) == 0xE0
-        && vdp.register(7) == 0xA5
-        && vdp.memory().iter().all(|&byte| byte == 0))
+    Ok(
+        agree
+            && vdp.register(0) == 0
+            && vdp.register(1) == 0xE0
+            && vdp.register(7) == 0xA5
+            && vdp.memory().iter().all(|&byte| byte == 0),
+    )
 }
 
 #[test]

@@ -4,6 +4,7 @@ ghost use Rattle.std.specs.Prelude.{◌≡◌, ◌<◌, ℕ, ◌+◌, ◌*◌, �
 ghost use Rattle.console_defs.specs.Bytes.{HoldsZeros};
 ghost use Rattle.console_defs.specs.Vdp.{IsVdp, IsNewVdp, is_vdp_idle, next_in_vdp, vdp_fetched_ahead, pair_kind, pair_address, pair_done, vdp_address_written, vdp_data_written, vdp_data_read, vdp_status_read};
 
+use byte_lists::{holds_bytes, zeros};
 use std::alloc::{AllocError, Global};
 use std::marker::Model;
 
@@ -191,22 +192,6 @@ fn next_address(address: u16) -> u16
     ensures limit { result < 16384 }
 {
     (address + 1) % 16_384
-}
-
-/// A list of so many zeros.
-#[tactic(auto, using(console_defs::proofs::ByteLaws::replicated_zeros))]
-fn zeros(alloc: Global, count: usize) -> Result<Vec<u8>, AllocError>
-    ensures { IfOk result (λ bytes. HoldsZeros count bytes.items) }
-{
-    vec![in alloc; 0; count]
-}
-
-/// Does nothing. A slice of `u8` holds bytes.
-#[inline]
-fn holds_bytes(bytes: &[u8])
-    ensures { (at : ℕ) → slice_index bytes.now at < 256 }
-{
-    let _count = bytes.len();
 }
 
 /// Does nothing. An optional `u8` is a byte.
