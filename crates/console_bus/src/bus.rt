@@ -2,8 +2,8 @@
 
 ghost use Rattle.std.specs.Prelude.{◌≡◌, ◌<◌, ◌≤◌, ℕ, ◌+◌, ◌-◌, ◌*◌, ◌/◌, ◌%◌, length, slice_index, slice_set, IfOk, OnErr};
 ghost use Rattle.console_defs.specs.Words.{high, low, join, even};
-ghost use Rattle.console_defs.specs.Bytes.{HoldsBytes, HoldsZeros, word_at, with_word_at};
-ghost use Rattle.console_defs.specs.Bus.{answer_of, left_by};
+ghost use Rattle.console_defs.specs.Bytes.{HoldsBytes, HoldsZeros, word_in, with_word_in};
+ghost use Rattle.console_defs.specs.Accesses.{answer_of, written_by};
 ghost use Rattle.console_defs.specs.Memory.{IsMemory, IsNewMemory, IsLoadable, port_at, port_region, is_port_address, region, port_read, port_written, byte_read_in, byte_read, byte_written_in, byte_written, word_read_in, word_read, word_written_in, word_written, two_bytes_read, two_bytes_written, word_placed, cell_set};
 
 use byte_lists::{holds_bytes, zeros};
@@ -92,8 +92,8 @@ impl Bus {
     #[inline]
     #[tactic(auto, using(console_defs::proofs::MemoryLaws::write_is_two_bytes))]
     pub fn write_word(&mut self, at: u16, word: u16) -> Result<(), PortStop>
-        ensures word { left_by result self.new ≡ word_written self.old at word }
-        ensures bytes { left_by result self.new ≡ two_bytes_written self.old at word }
+        ensures word { written_by result self.new ≡ word_written self.old at word }
+        ensures bytes { written_by result self.new ≡ two_bytes_written self.old at word }
         ensures stopped { OnErr result (self.new ≡ self.old) }
     {
         let at = at / 2 * 2;
@@ -242,7 +242,7 @@ pub fn is_port(at: u16) -> bool
 #[inline]
 fn word_in(bytes: &[u8], at: usize) -> u16
     requires { at + 1 < length bytes.now }
-    ensures { result ≡ word_at bytes.now at }
+    ensures { result ≡ word_in bytes.now at }
 {
     256 * bytes[at] as u16 + bytes[at + 1] as u16
 }
@@ -251,7 +251,7 @@ fn word_in(bytes: &[u8], at: usize) -> u16
 #[inline]
 fn set_word(bytes: &mut [u8], at: usize, word: u16)
     requires { at + 1 < length bytes.old }
-    ensures { bytes.new ≡ with_word_at bytes.old at word }
+    ensures { bytes.new ≡ with_word_in bytes.old at word }
 {
     bytes[at] = (word / 256) as u8;
     bytes[at + 1] = (word % 256) as u8;

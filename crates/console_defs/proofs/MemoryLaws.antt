@@ -2,7 +2,7 @@
 use Rattle.std.proofs.Common.{◌≡◌, ◌<◌, ◌≤◌, ℕ, ◌+◌, ◌-◌, ◌%◌, Bool, true, false, nat_lt, arith, refl, ap, sym, ◌∙◌, Option, Some, None}
 use Rattle.std.proofs.lemmas.Bool.{ltb-true, ltb-false, lt-ltb}
 use Rattle.console_defs.specs.Words.{high, low, join, even}
-use Rattle.console_defs.specs.Bus.{Answer, Gives, AtPort, ◌>>=◌}
+use Rattle.console_defs.specs.Accesses.{Answer, Gives, AtPort, ◌>>=◌}
 use Rattle.console_defs.specs.Vdp.{VdpState}
 use Rattle.console_defs.specs.Grom.{GromState}
 use Rattle.console_defs.specs.Memory.{Memory, Port, Region, Rom, LowExpansion, HighExpansion, Scratchpad, PortOf, Unmapped, region, port_at, port_region, is_port_region, is_port_address, byte_read, byte_written, word_read_in, word_written_in, word_read, word_written, two_bytes_read, two_bytes_written, byte_read_in, byte_written_in}

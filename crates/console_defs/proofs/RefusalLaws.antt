@@ -3,9 +3,9 @@
 use Rattle.std.proofs.Common.{◌≡◌, ℕ, Bool, true, false, refl, ap, Option, Some, None, List, [], ◌∷◌}
 use Rattle.std.specs.Prelude.{eqb, ℤ, if◌then◌else◌}
 use Rattle.console_defs.specs.Words.{even, plus}
-use Rattle.console_defs.specs.Flags.{Width}
+use Rattle.console_defs.specs.Flags.{Width, Byte, Word, width_of}
 use Rattle.console_defs.specs.Instructions.{instr_at}
-use Rattle.console_defs.specs.Bus.{Answer, Gives, AtPort, NoInstruction, ◌>>=◌}
+use Rattle.console_defs.specs.Accesses.{Answer, Gives, AtPort, NoInstruction, ◌>>=◌}
 use Rattle.console_defs.specs.Memory.{Memory, Region, Rom, LowExpansion, HighExpansion, Scratchpad, PortOf, Unmapped, region, is_port_region, is_port_address, word_read_in, word_written_in, word_read, word_written, console}
 use Rattle.console_defs.specs.Operand.{Cpu, Mode, Register, Indirect, Symbolic, Increment, operand, index_of, with_words, value_at, with_value}
 use Rattle.console_defs.specs.forms.Results.{stored}
@@ -83,7 +83,7 @@ ruleset accesses = (next_executes, read_executes, write_executes, GivesValue)
 
 with_words_executes : (x : Cpu Memory) (writes : List (ℕ × ℕ)) → Executes (with_words Memory console x writes)
 with_words_executes x [] = GivesValue x
-with_words_executes x (write ∷ rest) =
+with_words_executes x ((address, word) ∷ rest) =
     let all : (written : Cpu Memory) → Executes (with_words Memory console written rest) =
     λ written. with_words_executes written rest in
     search (accesses, all)
@@ -99,39 +99,39 @@ operand_executes Indirect width number x = search accesses
 operand_executes Symbolic width number x = search (accesses, index_executes)
 operand_executes Increment width number x = search accesses
 
-value_executes : (byte : Bool) (address : ℕ) (x : Cpu Memory) → Executes (value_at Memory console byte address x)
-value_executes true address x = search accesses
-value_executes false address x = search accesses
+value_executes : (width : Width) (address : ℕ) (x : Cpu Memory) → Executes (value_at Memory console width address x)
+value_executes Byte address x = search accesses
+value_executes Word address x = search accesses
 
-with_value_executes : (byte : Bool) (address number : ℕ) (x : Cpu Memory) →
-    Executes (with_value Memory console byte address number x)
-with_value_executes true address number x = search accesses
-with_value_executes false address number x = search accesses
+with_value_executes : (width : Width) (address number : ℕ) (x : Cpu Memory) →
+    Executes (with_value Memory console width address number x)
+with_value_executes Byte address number x = search accesses
+with_value_executes Word address number x = search accesses
 
-stored_executes : (byte : Bool) (place number : ℕ) (flags : Flags) (x : Cpu Memory) →
-    Executes (stored Memory console byte place number flags x)
-stored_executes byte place number flags x = search (accesses, with_value_executes)
+stored_executes : (width : Width) (address number : ℕ) (flags : Flags) (x : Cpu Memory) →
+    Executes (stored Memory console width address number flags x)
+stored_executes width address number flags x = search (accesses, with_value_executes)
 
 ruleset operands = (accesses, operand_executes, value_executes, stored_executes, with_words_executes)
 
 -- The operations, by form; of those that are not executed nothing is said.
-two_executes : (op : TwoOp) (byte : Bool) (source place : ℕ) (x : Cpu Memory) →
-    Executes (two Memory console op byte source place x)
-two_executes SZC byte source place x = search operands
-two_executes S byte source place x = search operands
-two_executes C byte source place x = search operands
-two_executes A byte source place x = search operands
-two_executes MOV byte source place x = search operands
-two_executes SOC byte source place x = search operands
+two_executes : (op : TwoOp) (width : Width) (source address : ℕ) (x : Cpu Memory) →
+    Executes (two Memory console op width source address x)
+two_executes SZC width source address x = search operands
+two_executes S width source address x = search operands
+two_executes C width source address x = search operands
+two_executes A width source address x = search operands
+two_executes MOV width source address x = search operands
+two_executes SOC width source address x = search operands
 
-two_operands_executes : (op : TwoOp) (byte : Bool) (dst src : Place) (x : Cpu Memory) →
-    Executes (two_operands Memory console op byte dst src x)
-two_operands_executes op byte dst src x = search (operands, two_executes)
+two_operands_executes : (op : TwoOp) (width : Width) (dst src : Place) (x : Cpu Memory) →
+    Executes (two_operands Memory console op width dst src x)
+two_operands_executes op width dst src x = search (operands, two_executes)
 
-division_executes : (words : Option (ℕ × ℕ)) (place : ℕ) (x : Cpu Memory) →
-    Executes (with_division Memory console words place x)
-division_executes (Some words) place x = with_words_executes x (in_row place words)
-division_executes None place x = GivesValue x
+division_executes : (words : Option (ℕ × ℕ)) (address : ℕ) (x : Cpu Memory) →
+    Executes (with_division Memory console words address x)
+division_executes (Some words) address x = with_words_executes x (in_row address words)
+division_executes None address x = GivesValue x
 
 reg_executes : (op : RegOp) (number source : ℕ) (src : Place) (x : Cpu Memory) →
     is_stopping (Reg op number src) ≡ false →
@@ -159,33 +159,32 @@ shift_executes : (op : ShiftOp) (count number : ℕ) (x : Cpu Memory) →
     Executes (shift Memory console op count number x)
 shift_executes op count number x = search (operands, count_executes)
 
-one_executes : (op : OneOp) (place : ℕ) (at : Place) (x : Cpu Memory) → is_stopping (One op at) ≡ false →
-    Executes (one Memory console op place x)
-one_executes BLWP place at x e = search operands depth 8
-one_executes B place at x e = search operands
-one_executes X place at x e = absurd (cc)
-one_executes CLR place at x e = search operands
-one_executes NEG place at x e = search operands
-one_executes INV place at x e = search operands
-one_executes INC place at x e = search operands
-one_executes INCT place at x e = search operands
-one_executes DEC place at x e = search operands
-one_executes DECT place at x e = search operands
-one_executes BL place at x e = search operands
-one_executes SWPB place at x e = search operands
-one_executes SETO place at x e = search operands
-one_executes ABS place at x e = search operands
+one_executes : (op : OneOp) (address : ℕ) (at : Place) (x : Cpu Memory) → is_stopping (One op at) ≡ false →
+    Executes (one Memory console op address x)
+one_executes BLWP address at x e = search operands depth 8
+one_executes B address at x e = search operands
+one_executes X address at x e = absurd (cc)
+one_executes CLR address at x e = search operands
+one_executes NEG address at x e = search operands
+one_executes INV address at x e = search operands
+one_executes INC address at x e = search operands
+one_executes INCT address at x e = search operands
+one_executes DEC address at x e = search operands
+one_executes DECT address at x e = search operands
+one_executes BL address at x e = search operands
+one_executes SWPB address at x e = search operands
+one_executes SETO address at x e = search operands
+one_executes ABS address at x e = search operands
 
 one_operand_executes : (op : OneOp) (at : Place) (x : Cpu Memory) → is_stopping (One op at) ≡ false →
     Executes (one_operand Memory console op at x)
 one_operand_executes op at x e =
-    let all : (place : ℕ) (y : Cpu Memory) → Executes (one Memory console op place y) =
-    λ place y. one_executes op place at y e in
+    let all : (address : ℕ) (y : Cpu Memory) → Executes (one Memory console op address y) =
+    λ address y. one_executes op address at y e in
     search (operands, all)
 
 jump_where_executes : (taken : Bool) (disp : ℤ) (x : Cpu Memory) → Executes (jump_where Memory (Some taken) disp x)
-jump_where_executes true disp x = GivesValue _
-jump_where_executes false disp x = GivesValue _
+jump_where_executes taken disp x = GivesValue _
 
 jump_executes : (op : JumpOp) (disp : ℤ) (x : Cpu Memory) → is_stopping (Jump op disp) ≡ false →
     Executes (jump Memory op disp x)
@@ -229,7 +228,7 @@ bare_executes LREX x e = absurd (cc)
 -- An instruction whose operation is executed gives a state, or meets a port.
 pub instr_executes : (instr : Instr) (x : Cpu Memory) → is_stopping instr ≡ false →
     Executes (executed Memory console instr x)
-instr_executes (Two op byte dst src) x e = two_operands_executes op byte dst src x
+instr_executes (Two op byte dst src) x e = two_operands_executes op (width_of byte) dst src x
 instr_executes (Reg op number src) x e = source_executes op number src x e
 instr_executes (Shift op count number) x e = shift_executes op count number x
 instr_executes (One op at) x e = one_operand_executes op at x e
@@ -248,9 +247,9 @@ end_by_state x word left = (step_end Memory console x (left >>= λ y. Gives (wor
 
 abbrev execution_by_word : Cpu Memory → Answer ℕ → Answer (ℕ × Cpu Memory)
 execution_by_word x word = do
-  next ← word >>= given
-  left ← executed_where Memory console (instr_at next.0) next.1
-  Gives (next.0, left)
+  (found, next) ← word >>= given
+  left ← executed_where Memory console (instr_at found) next
+  Gives (found, left)
   where
     given : ℕ → Answer (ℕ × Cpu Memory)
     given w = Gives (w, record x { pc = plus x.pc 2 })

@@ -6,7 +6,7 @@ use Rattle.std.proofs.lemmas.Nat.{pow_pos}
 use Rattle.std.proofs.lemmas.Int.{ints}
 use Rattle.std.proofs.lemmas.Bool.Decides.{nat_tests}
 use Rattle.console_defs.specs.declared.instruction.ShiftOp.TheVariants.{SLA}
-use Rattle.console_defs.specs.Flags.{word_width, leaves_range}
+use Rattle.console_defs.specs.Flags.{Word, leaves_range}
 use Rattle.console_defs.specs.Shifts.{sign_after, sign_changes, shift_overflows}
 
 doubled : (word k : ℕ) → word * 2 ^ suc k ≡ 2 * (word * 2 ^ k)
@@ -47,14 +47,14 @@ sign_changes-negative word (suc k) from lt =
     let split = λ (e : word + (65536 - word) ≡ 65536). sym (add-mul word (65536 - word) (2 ^ k)) ∙ ap (λ n. n * 2 ^ k) e in
     more-negative (sign_changes word k) (word * 2 ^ k) (word * 2 ^ suc k) ((65536 - word) * 2 ^ k) ((65536 - word) * 2 ^ suc k) (2 ^ k) (sign_after word 0) (omega arith) (split (omega arith)) (doubled word k) (doubled (65536 - word) k) (mul-pos (omega arith) (pow_pos k)) (sign_changes-negative word k from lt)
 
-leaves_range-negative : (m : ℕ) → leaves_range word_width (neg_ℤ (pos m)) ≡ nat_lt 32768 m
+leaves_range-negative : (m : ℕ) → leaves_range Word (neg_ℤ (pos m)) ≡ nat_lt 32768 m
 leaves_range-negative zero = refl
 leaves_range-negative (suc n) = grind (arith, nat_tests)
 
 pub shift_overflows-sign_changes : (word count : ℕ) → word < 65536 → shift_overflows SLA word count ≡ sign_changes word count
 shift_overflows-sign_changes word count lt = by (nat_lt word 32768) refl
   where
-    by : (b : Bool) → nat_lt word 32768 ≡ b → leaves_range word_width ((if b then pos word else pos word -ℤ pos 65536) *ℤ pos (2 ^ count)) ≡ sign_changes word count
+    by : (b : Bool) → nat_lt word 32768 ≡ b → leaves_range Word ((if b then pos word else pos word -ℤ pos 65536) *ℤ pos (2 ^ count)) ≡ sign_changes word count
     by true e = let low : word < 32768 = grind (arith, nat_tests) in sym (sign_changes-positive word count low)
     by false e =
         let from : 32768 ≤ word = grind (arith, nat_tests) in

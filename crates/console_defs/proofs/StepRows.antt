@@ -3,16 +3,16 @@
 use Rattle.std.proofs.Common.{◌≡◌, ℕ, zero, suc, List, [], ◌∷◌, ◌++◌, refl}
 use Rattle.std.specs.Prelude.{slice_index, slice_set}
 use Rattle.console_defs.specs.Words.{even, high, low}
-use Rattle.console_defs.specs.Bytes.{word_at, with_word_at}
-use Rattle.console_defs.specs.Bus.{Gives, Bus}
+use Rattle.console_defs.specs.Bytes.{word_in, with_word_in}
+use Rattle.console_defs.specs.Accesses.{Gives, Accesses}
 use Rattle.console_defs.specs.Operand.{Cpu}
 use Rattle.console_defs.specs.Status.{status_at, status_word}
 use Rattle.console_defs.specs.Step.{step}
 use Rattle.console_defs.specs.declared.ends.StepEnd.{StepEnd}
 use Rattle.console_defs.specs.declared.ends.StepEnd.TheVariants.{Done, Refused}
 
-abbrev bytes_bus : Bus (List ℕ)
-bytes_bus = record { word = λ m at. Gives (word_at m (even at)); with_word = λ m at word. Gives (with_word_at m (even at) word); byte = λ m at. Gives (slice_index m at, m); with_byte = λ m at byte. Gives (slice_set m at byte) }
+abbrev bytes_access : Accesses (List ℕ)
+bytes_access = record { word = λ m at. Gives (word_in m (even at)); with_word = λ m at word. Gives (with_word_in m (even at) word); byte = λ m at. Gives (slice_index m at, m); with_byte = λ m at byte. Gives (slice_set m at byte) }
 
 abbrev zeros : ℕ → List ℕ
 zeros zero = []
@@ -23,11 +23,11 @@ start = record { memory = 0x02 ∷ 0x01 ∷ 0x7F ∷ 0xFF ∷ 0x02 ∷ 0x02 ∷ 
 
 abbrev after : ℕ → StepEnd × Cpu (List ℕ)
 after zero = (Done 0, start)
-after (suc n) = step (List ℕ) bytes_bus (after n).1
+after (suc n) = step (List ℕ) bytes_access (after n).1
 
 -- what a row shows: the end of the step, the program counter, the status and three registers
 abbrev shown : StepEnd × Cpu (List ℕ) → StepEnd × List ℕ
-shown x = (x.0, x.1.pc ∷ status_word x.1.status ∷ word_at x.1.memory 0x10 ∷ word_at x.1.memory 0x12 ∷ word_at x.1.memory 0x14 ∷ [])
+shown x = (x.0, x.1.pc ∷ status_word x.1.status ∷ word_in x.1.memory 0x10 ∷ word_in x.1.memory 0x12 ∷ word_in x.1.memory 0x14 ∷ [])
 
 pub loads : shown (after 1) ≡ (Done 0x0201, 4 ∷ 0xC000 ∷ 0 ∷ 0x7FFF ∷ 0 ∷ [])
 loads = refl
@@ -39,7 +39,7 @@ pub jumps_to_itself : shown (after 4) ≡ (Done 0x10FF, 10 ∷ 0x8800 ∷ 0 ∷ 
 jumps_to_itself = refl
 
 -- the word 0 belongs to no row
-pub refuses : shown (step (List ℕ) bytes_bus (record start { pc = 12 })) ≡ (Refused 12, 12 ∷ 0 ∷ 0 ∷ 0 ∷ 0 ∷ [])
+pub refuses : shown (step (List ℕ) bytes_access (record start { pc = 12 })) ≡ (Refused 12, 12 ∷ 0 ∷ 0 ∷ 0 ∷ 0 ∷ [])
 refuses = refl
 
 -- an instruction at 0, and registers 0 to 3
@@ -51,7 +51,7 @@ standing word r0 r1 r2 r3 =
     record { memory = bytes_of word (zeros 14 ++ bytes_of r0 (bytes_of r1 (bytes_of r2 (bytes_of r3 (zeros 24))))); pc = 0; wp = 0x10; status = status_at 0 }
 
 abbrev stepped : ℕ → ℕ → ℕ → ℕ → ℕ → StepEnd × List ℕ
-stepped word r0 r1 r2 r3 = shown (step (List ℕ) bytes_bus (standing word r0 r1 r2 r3))
+stepped word r0 r1 r2 r3 = shown (step (List ℕ) bytes_access (standing word r0 r1 r2 r3))
 
 -- DIV R1,R2 without a quotient, and with one
 pub has_no_quotient : stepped 0x3C81 0 1 1 0 ≡ (Done 0x3C81, 2 ∷ 0x0800 ∷ 0 ∷ 1 ∷ 1 ∷ [])

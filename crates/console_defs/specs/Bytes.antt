@@ -14,10 +14,10 @@ pub record HoldsZeros (count : ℕ) (bytes : List ℕ) : Type 0 where
 
 -- The word whose high byte stands at a place of a list, and whose low byte stands after it.
 -- TMS9900 data manual, "Registers and memory".
-abbrev pub word_at : List ℕ → ℕ → ℕ
-word_at bytes at = join (slice_index bytes at) (slice_index bytes (at + 1))
+abbrev pub word_in : List ℕ → ℕ → ℕ
+word_in bytes at = join (slice_index bytes at) (slice_index bytes (at + 1))
 
 -- The list with a word at a place, its high byte first.
 -- TMS9900 data manual, "Registers and memory".
-abbrev pub with_word_at : List ℕ → ℕ → ℕ → List ℕ
-with_word_at bytes at word = slice_set (slice_set bytes at (high word)) (at + 1) (low word)
+abbrev pub with_word_in : List ℕ → ℕ → ℕ → List ℕ
+with_word_in bytes at word = slice_set (slice_set bytes at (high word)) (at + 1) (low word)

@@ -1,7 +1,7 @@
 -- Why a step executes no instruction: what it refuses, and where it meets a port.
 use Rattle.std.specs.Prelude.{◌≡◌, ℕ, Bool, true, Option, Some, None, if◌then◌else◌}
 use Rattle.console_defs.specs.Instructions.{instr_at}
-use Rattle.console_defs.specs.Bus.{Gives, AtPort, NoInstruction}
+use Rattle.console_defs.specs.Accesses.{Gives, AtPort, NoInstruction}
 use Rattle.console_defs.specs.Operand.{Cpu}
 use Rattle.console_defs.specs.Memory.{Memory, word_read, is_port_address}
 use Rattle.console_defs.specs.Step.{is_stopping}

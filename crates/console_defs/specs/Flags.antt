@@ -1,32 +1,61 @@
 -- Widths of operands, sums, differences and comparisons, and the status bits that they set.
-use Rattle.std.specs.Prelude.{ℕ, ℤ, pos, ◌+◌, ◌-◌, ◌%◌, ◌+ℤ◌, ◌-ℤ◌, unsigned_abs, Bool, true, false, ◌||◌, eqb, ◌==◌, nat_lt, nat_le, int_lt, int_le, count_ones, if◌then◌else◌}
+use Rattle.std.specs.Prelude.{
+  ℕ,
+  ℤ,
+  pos,
+  ◌+◌,
+  ◌-◌,
+  ◌%◌,
+  ◌+ℤ◌,
+  ◌-ℤ◌,
+  unsigned_abs,
+  Bool,
+  true,
+  false,
+  ◌||◌,
+  eqb,
+  ◌==◌,
+  nat_lt,
+  nat_le,
+  int_lt,
+  int_le,
+  count_ones,
+  if◌then◌else◌,
+}
 use Rattle.console_defs.specs.declared.flags.Flags.{Flags}
 
--- A width of operands: one past its largest number, the least number whose sign bit is set, and its bytes.
--- TMS9900 data manual, "Registers and memory".
-pub record Width : Type 0 where
-  pub modulus : ℕ
-  pub half : ℕ
-  pub bytes : ℕ
-
-abbrev pub word_width : Width
-word_width = record { modulus = 65536; half = 32768; bytes = 2 }
-
-abbrev pub byte_width : Width
-byte_width = record { modulus = 256; half = 128; bytes = 1 }
+-- The widths of operands. TMS9900 data manual, "Registers and memory".
+pub data Width : Type 0 where
+  Byte : Width
+  Word : Width
 
 -- The width of an instruction's operands: true is the form of bytes.
 abbrev pub width_of : Bool → Width
-width_of true = byte_width
-width_of false = word_width
+width_of true = Byte
+width_of false = Word
+
+-- One past the largest number of a width.
+abbrev pub modulus : Width → ℕ
+modulus Byte = 256
+modulus Word = 65536
+
+-- The least number whose sign bit is set.
+abbrev pub half : Width → ℕ
+half Byte = 128
+half Word = 32768
+
+-- The bytes of an operand.
+abbrev pub size_of : Width → ℕ
+size_of Byte = 1
+size_of Word = 2
 
 -- The signed number that stands for a number, in two's complement.
 abbrev pub signed : Width → ℕ → ℤ
-signed width number = if nat_lt number width.half then pos number else pos number -ℤ pos width.modulus
+signed width number = if nat_lt number (half width) then pos number else pos number -ℤ pos (modulus width)
 
 -- An exact signed number has no place in the width.
 abbrev pub leaves_range : Width → ℤ → Bool
-leaves_range width exact = int_lt exact (pos 0 -ℤ pos width.half) || int_le (pos width.half) exact
+leaves_range width exact = int_lt exact (pos 0 -ℤ pos (half width)) || int_le (pos (half width)) exact
 
 -- L>, A> and EQ by a result: it is compared with 0, as a number, as a signed number, and for equality.
 -- TMS9900 data manual, "Status register".
@@ -45,11 +74,11 @@ has_odd_parity byte = eqb (count_ones byte % 2) 1
 
 -- Addition: the exact sum, kept to the width.
 abbrev pub sum_of : Width → ℕ → ℕ → ℕ
-sum_of width destination source = (destination + source) % width.modulus
+sum_of width destination source = (destination + source) % modulus width
 
 -- C: the exact sum is not below the modulus. TMS9900 data manual, "Status register".
 abbrev pub sum_carries : Width → ℕ → ℕ → Bool
-sum_carries width destination source = nat_le width.modulus (destination + source)
+sum_carries width destination source = nat_le (modulus width) (destination + source)
 
 -- OV: the exact sum of the signed numbers has no place in the width. TMS9900 data manual, "Status register".
 abbrev pub sum_overflows : Width → ℕ → ℕ → Bool
@@ -60,11 +89,13 @@ sum_overflows width destination source =
 -- TMS9900 data manual, "Add words", "Add bytes", "Add immediate", "Increment", "Increment by two".
 abbrev pub sum_flags : Width → ℕ → ℕ → Flags
 sum_flags width destination source =
-    result_flags width (sum_of width destination source) (sum_carries width destination source) (sum_overflows width destination source)
+    result_flags width (sum_of width destination source)
+    (sum_carries width destination source)
+    (sum_overflows width destination source)
 
 -- Subtraction: the exact difference, kept to the width.
 abbrev pub difference_of : Width → ℕ → ℕ → ℕ
-difference_of width destination source = (destination + (width.modulus - source)) % width.modulus
+difference_of width destination source = (destination + (modulus width - source)) % modulus width
 
 -- C: there is no borrow. TMS9900 data manual, "Status register".
 abbrev pub difference_carries : ℕ → ℕ → Bool
@@ -80,15 +111,17 @@ difference_overflows width destination source =
 -- TMS9900 data manual, "Subtract words", "Subtract bytes", "Decrement", "Decrement by two".
 abbrev pub difference_flags : Width → ℕ → ℕ → Flags
 difference_flags width destination source =
-    result_flags width (difference_of width destination source) (difference_carries destination source) (difference_overflows width destination source)
+    result_flags width (difference_of width destination source)
+    (difference_carries destination source)
+    (difference_overflows width destination source)
 
 -- The least signed number of a width, whose negative has no place in it.
 abbrev pub is_least : Width → ℕ → Bool
-is_least width number = number == width.half
+is_least width number = number == half width
 
 -- Negation: the exact negative, kept to the width. TMS9900 data manual, "Negate".
 abbrev pub negation_of : Width → ℕ → ℕ
-negation_of width number = (width.modulus - number) % width.modulus
+negation_of width number = (modulus width - number) % modulus width
 
 -- The status bits of a negation: by the result; OV for the least number. TMS9900 data manual, "Negate".
 -- Profile: C is set for 0 alone.

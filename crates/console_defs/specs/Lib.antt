@@ -8,7 +8,7 @@ pub mod Instructions
 pub mod Bytes
 pub mod Vdp
 pub mod Grom
-pub mod Bus
+pub mod Accesses
 pub mod Memory
 pub mod Operand
 pub mod forms

@@ -2,11 +2,11 @@
 use Rattle.std.specs.Prelude.{ℕ, ◌-◌, eqb, bit_and, bit_or, bit_xor}
 use Rattle.console_defs.specs.declared.flags.Flags.{Flags}
 use Rattle.console_defs.specs.Words.{high, low, join}
-use Rattle.console_defs.specs.Flags.{Width}
+use Rattle.console_defs.specs.Flags.{Width, modulus}
 
 -- Every bit is inverted. TMS9900 data manual, "Invert".
 abbrev pub complement_of : Width → ℕ → ℕ
-complement_of width number = width.modulus - 1 - number
+complement_of width number = modulus width - 1 - number
 
 -- The ones of the source are set in the destination.
 -- TMS9900 data manual, "Set ones corresponding", "Set ones corresponding bytes", "OR immediate".

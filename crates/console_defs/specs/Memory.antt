@@ -1,10 +1,10 @@
 -- The memory map of the console.
 use Rattle.std.specs.Prelude.{◌≡◌, ◌≤◌, ℕ, ◌+◌, ◌-◌, ◌%◌, Bool, true, false, eqb, nat_lt, List, slice_index, slice_set, Option, Some, None}
 use Rattle.console_defs.specs.Words.{high, low, join, even}
-use Rattle.console_defs.specs.Bytes.{HoldsBytes, HoldsZeros, word_at, with_word_at}
+use Rattle.console_defs.specs.Bytes.{HoldsBytes, HoldsZeros, word_in, with_word_in}
 use Rattle.console_defs.specs.Vdp.{VdpState, IsVdp, vdp_address_written, vdp_data_written, vdp_data_read, vdp_status_read}
 use Rattle.console_defs.specs.Grom.{GromState, IsGrom, grom_address_written, grom_address_read, grom_data_read}
-use Rattle.console_defs.specs.Bus.{Answer, Gives, AtPort, Bus}
+use Rattle.console_defs.specs.Accesses.{Answer, Gives, AtPort, Accesses}
 
 -- The memory of a console: four lists of bytes, and the states of the video processor and of the GROMs.
 -- Editor/Assembler manual, on the memory of the computer.
@@ -191,10 +191,10 @@ byte_written m address byte = byte_written_in (region address) m byte
 -- TMS9900 data manual, "Registers and memory".
 -- Profile: a word access to a port stops.
 abbrev pub word_read_in : Region → Memory → ℕ → Answer ℕ
-word_read_in (Rom at) m address = Gives (word_at m.rom at)
-word_read_in (LowExpansion at) m address = Gives (word_at m.low_expansion at)
-word_read_in (HighExpansion at) m address = Gives (word_at m.high_expansion at)
-word_read_in (Scratchpad at) m address = Gives (word_at m.scratchpad at)
+word_read_in (Rom at) m address = Gives (word_in m.rom at)
+word_read_in (LowExpansion at) m address = Gives (word_in m.low_expansion at)
+word_read_in (HighExpansion at) m address = Gives (word_in m.high_expansion at)
+word_read_in (Scratchpad at) m address = Gives (word_in m.scratchpad at)
 word_read_in (PortOf port) m address = AtPort address
 word_read_in Unmapped m address = Gives 0
 
@@ -207,10 +207,10 @@ word_read m address = word_read_in (region (even address)) m (even address)
 abbrev pub word_written_in : Region → Memory → ℕ → ℕ → Answer Memory
 word_written_in (Rom at) m address word = Gives m
 word_written_in (LowExpansion at) m address word =
-    Gives (record m { low_expansion = with_word_at m.low_expansion at word })
+    Gives (record m { low_expansion = with_word_in m.low_expansion at word })
 word_written_in (HighExpansion at) m address word =
-    Gives (record m { high_expansion = with_word_at m.high_expansion at word })
-word_written_in (Scratchpad at) m address word = Gives (record m { scratchpad = with_word_at m.scratchpad at word })
+    Gives (record m { high_expansion = with_word_in m.high_expansion at word })
+word_written_in (Scratchpad at) m address word = Gives (record m { scratchpad = with_word_in m.scratchpad at word })
 word_written_in (PortOf port) m address word = AtPort address
 word_written_in Unmapped m address word = Gives m
 
@@ -218,7 +218,7 @@ abbrev pub word_written : Memory → ℕ → ℕ → Answer Memory
 word_written m address word = word_written_in (region (even address)) m (even address) word
 
 -- The console as the processor's memory.
-abbrev pub console : Bus Memory
+abbrev pub console : Accesses Memory
 console =
     record { word = word_read; with_word = word_written; byte = λ m address. Gives (byte_read m address); with_byte = λ m address byte. Gives (byte_written m address byte) }
 
@@ -230,9 +230,9 @@ IsLoadable address = 0x4000 ≤ address → 0xA000 ≤ address
 -- A word is loaded at its even address, into console ROM too.
 -- Profile: the console ROM is loaded as expansion memory is.
 abbrev pub word_placed_in : Region → Memory → ℕ → Memory
-word_placed_in (Rom at) m word = record m { rom = with_word_at m.rom at word }
-word_placed_in (LowExpansion at) m word = record m { low_expansion = with_word_at m.low_expansion at word }
-word_placed_in (HighExpansion at) m word = record m { high_expansion = with_word_at m.high_expansion at word }
+word_placed_in (Rom at) m word = record m { rom = with_word_in m.rom at word }
+word_placed_in (LowExpansion at) m word = record m { low_expansion = with_word_in m.low_expansion at word }
+word_placed_in (HighExpansion at) m word = record m { high_expansion = with_word_in m.high_expansion at word }
 word_placed_in (Scratchpad at) m word = m
 word_placed_in (PortOf port) m word = m
 word_placed_in Unmapped m word = m

@@ -1,6 +1,6 @@
 -- Steps in a row, and where a run of them ends.
 use Rattle.std.specs.Prelude.{◌≡◌, ◌<◌, ℕ, zero, suc, Bool, true, false, eqb, Option, Some, None}
-use Rattle.console_defs.specs.Bus.{Bus}
+use Rattle.console_defs.specs.Accesses.{Accesses}
 use Rattle.console_defs.specs.Operand.{Cpu}
 use Rattle.console_defs.specs.Step.{step}
 use Rattle.console_defs.specs.declared.ends.StepEnd.{StepEnd}
@@ -25,16 +25,16 @@ end_of_step (Done word) = None
 end_of_step (Refused address) = Some (run.Refused address)
 end_of_step (Port address) = Some (run.Port address)
 
-module _ (M : Type 0) (bus : Bus M) where
+module _ (M : Type 0) (access : Accesses M) where
   -- The state after so many steps in a row.
   abbrev pub after : ℕ → Cpu M → Cpu M
   after zero x = x
-  after (suc made) x = (step M bus (after made x)).1
+  after (suc made) x = (step M access (after made x)).1
 
   -- The last of so many steps executed the jump to itself.
   abbrev pub self_jumped : ℕ → Cpu M → Bool
   self_jumped zero x = false
-  self_jumped (suc made) x = is_self_jump (step M bus (after made x)).0
+  self_jumped (suc made) x = is_self_jump (step M access (after made x)).0
 
   -- What ends a run before a step from x, where so many were made, or at that step.
   -- Profile: the end's address is looked at before the limit.
@@ -42,7 +42,7 @@ module _ (M : Type 0) (bus : Bus M) where
   end_before stop limit made x =
       elim (is_reached stop x.pc) [
         | true ↦ Some run.Reached
-        | false ↦ elim (eqb made limit) [ true ↦ Some run.Limit | false ↦ end_of_step (step M bus x).0 ]
+        | false ↦ elim (eqb made limit) [ true ↦ Some run.Limit | false ↦ end_of_step (step M access x).0 ]
       ]
 
   -- What ends a run from x, if anything does, where so many steps were made.

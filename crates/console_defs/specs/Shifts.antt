@@ -3,7 +3,7 @@ use Rattle.std.specs.Prelude.{ℕ, zero, suc, pos, ◌+◌, ◌-◌, ◌*◌, �
 use Rattle.console_defs.specs.declared.flags.Flags.{Flags}
 use Rattle.console_defs.specs.declared.instruction.ShiftOp.{ShiftOp}
 use Rattle.console_defs.specs.declared.instruction.ShiftOp.TheVariants.{SRA, SRL, SLA, SRC}
-use Rattle.console_defs.specs.Flags.{word_width, signed, leaves_range, result_flags}
+use Rattle.console_defs.specs.Flags.{Word, signed, leaves_range, result_flags}
 
 -- The sixteen bits that come in from the left as a word is shifted to the right: copies of its sign bit, zeros, or
 -- the word itself. TMS9900 data manual, "Shift right arithmetic", "Shift right logical", "Shift right circular".
@@ -30,7 +30,7 @@ last_out op word count = eqb (long_word op word / 2 ^ (count - 1) % 2) 1
 -- OV: the exact signed number, doubled once for each place of a shift to the left, has no place in a word. The other
 -- shifts give false. TMS9900 data manual, "Shift left arithmetic".
 abbrev pub shift_overflows : ShiftOp → ℕ → ℕ → Bool
-shift_overflows SLA word count = leaves_range word_width (signed word_width word *ℤ pos (2 ^ count))
+shift_overflows SLA word count = leaves_range Word (signed Word word *ℤ pos (2 ^ count))
 shift_overflows op word count = false
 
 -- That is the manual's rule: the sign bit changes at some moment of the shift.
@@ -46,7 +46,7 @@ sign_changes word (suc places) =
 -- The status bits of a shift: L>, A> and EQ by the result. TMS9900 data manual, "Shift instructions".
 abbrev pub shift_flags : ShiftOp → ℕ → ℕ → Flags
 shift_flags op word count =
-    result_flags word_width (shifted op word count) (last_out op word count) (shift_overflows op word count)
+    result_flags Word (shifted op word count) (last_out op word count) (shift_overflows op word count)
 
 -- The status bits after a shift: only SLA sets OV, and the other shifts leave it.
 -- TMS9900 data manual, "Shift instructions".

@@ -2,7 +2,7 @@
 use Rattle.std.specs.Prelude.{ℕ, ◌+◌, ◌*◌, ◌/◌, ◌%◌, ◌<◌, Bool, true, false, eqb}
 use Rattle.console_defs.specs.declared.flags.Flags.{Flags}
 use Rattle.console_defs.specs.declared.status.Status.{Status}
-use Rattle.console_defs.specs.Flags.{word_width, byte_width, by_order, has_odd_parity}
+use Rattle.console_defs.specs.Flags.{Width, Byte, Word, by_order, has_odd_parity}
 
 -- The other ten bits have room below OP.
 abbrev pub IsStatus : Status → Type 0
@@ -28,17 +28,17 @@ status_at word =
 
 -- The status bits after a result. An operation on bytes sets OP where the result has an odd number of ones; one on
 -- words leaves it. TMS9900 data manual, "Status register".
-abbrev pub with_result : Bool → ℕ → Flags → Status → Status
-with_result true number flags status = record status { flags = flags; op = has_odd_parity number }
-with_result false number flags status = record status { flags = flags }
+abbrev pub with_result : Width → ℕ → Flags → Status → Status
+with_result Byte number flags status = record status { flags = flags; op = has_odd_parity number }
+with_result Word number flags status = record status { flags = flags }
 
 -- The status bits after a comparison of a first number with a second. C and OV stay, and the comparison of words leaves
 -- OP. TMS9900 data manual, "Compare words", "Compare bytes", "Compare immediate".
 -- Profile: the comparison of bytes sets OP by the first byte, which is the source.
-abbrev pub with_order : Bool → ℕ → ℕ → Status → Status
-with_order true first second status =
-    record status { flags = by_order byte_width first second status.flags; op = has_odd_parity first }
-with_order false first second status = record status { flags = by_order word_width first second status.flags }
+abbrev pub with_order : Width → ℕ → ℕ → Status → Status
+with_order Byte first second status =
+    record status { flags = by_order Byte first second status.flags; op = has_odd_parity first }
+with_order Word first second status = record status { flags = by_order Word first second status.flags }
 
 -- The status bits where X is set. TMS9900 data manual, "Extended operation (XOP) instruction".
 abbrev pub with_extension : Status → Status

@@ -1,7 +1,8 @@
 -- One step of the processor.
 use Rattle.std.specs.Prelude.{ℕ, Bool, true, false, Option, Some, None, if◌then◌else◌}
+use Rattle.console_defs.specs.Flags.{width_of}
 use Rattle.console_defs.specs.Instructions.{instr_at}
-use Rattle.console_defs.specs.Bus.{Answer, Gives, AtPort, NoInstruction, ◌>>=◌, Bus}
+use Rattle.console_defs.specs.Accesses.{Answer, Gives, AtPort, NoInstruction, ◌>>=◌, Accesses}
 use Rattle.console_defs.specs.Operand.{Cpu, next_word}
 use Rattle.console_defs.specs.forms.Two.{two_operands}
 use Rattle.console_defs.specs.forms.Reg.{with_source}
@@ -35,17 +36,17 @@ is_stopping (Bare CKOF) = true
 is_stopping (Bare LREX) = true
 is_stopping _ = false
 
-module _ (M : Type 0) (bus : Bus M) where
+module _ (M : Type 0) (access : Accesses M) where
   -- An instruction is executed; the program counter stands behind its first word.
   -- TMS9900 data manual, "Instructions".
   abbrev pub executed : Instr → Cpu M → Answer (Cpu M)
-  executed (Two op byte dst src) x = two_operands M bus op byte dst src x
-  executed (Reg op number src) x = with_source M bus op number src x
-  executed (Shift op count number) x = shift M bus op count number x
-  executed (One op at) x = one_operand M bus op at x
+  executed (Two op byte dst src) x = two_operands M access op (width_of byte) dst src x
+  executed (Reg op number src) x = with_source M access op number src x
+  executed (Shift op count number) x = shift M access op count number x
+  executed (One op at) x = one_operand M access op at x
   executed (Jump op disp) x = jump M op disp x
-  executed (Imm op number) x = imm M bus op number x
-  executed (Bare op) x = bare M bus op x
+  executed (Imm op number) x = imm M access op number x
+  executed (Bare op) x = bare M access op x
 
   -- Profile: a word that belongs to no row is no instruction; nor is an operation that is not executed, whatever its
   -- operands are.
@@ -56,13 +57,13 @@ module _ (M : Type 0) (bus : Bus M) where
   -- The instruction at the program counter is read and executed: its word, and the state after it.
   abbrev pub execution : Cpu M → Answer (ℕ × Cpu M)
   execution x = do
-    word ← next_word M bus x
-    left ← executed_where (instr_at word.0) word.1
-    Gives (word.0, left)
+    (word, next) ← next_word M access x
+    left ← executed_where (instr_at word) next
+    Gives (word, left)
 
   -- Profile: a step that meets a port, or a word that is no instruction, changes nothing.
   abbrev pub step_end : Cpu M → Answer (ℕ × Cpu M) → StepEnd × Cpu M
-  step_end x (Gives done) = (Done done.0, done.1)
+  step_end x (Gives (word, left)) = (Done word, left)
   step_end x (AtPort address) = (Port address, x)
   step_end x NoInstruction = (Refused x.pc, x)
 

@@ -2,7 +2,7 @@
 use Rattle.std.proofs.Common.{◌≡◌, ◌<◌, ℕ, ◌+◌, Bool, true, false, refl, sym, ap, ◌∙◌, arith, add-one, below_more, Option, Some, None}
 use Rattle.std.proofs.lemmas.Bool.Decides.{nat_tests}
 use Rattle.std.specs.Prelude.{eqb}
-use Rattle.console_defs.specs.Bus.{Answer, Gives, AtPort, NoInstruction, Bus}
+use Rattle.console_defs.specs.Accesses.{Answer, Gives, AtPort, NoInstruction, Accesses}
 use Rattle.console_defs.specs.Operand.{Cpu}
 use Rattle.console_defs.specs.Step.{step, step_end, execution}
 use Rattle.console_defs.specs.Runs.{is_reached, is_self_jump, end_of_step, after, self_jumped, end_before, end_at, IsRun}
@@ -12,12 +12,12 @@ use Rattle.console_defs.specs.declared.ends.RunEnd.{RunEnd}
 use Rattle.console_defs.specs.declared.ends.RunEnd.TheVariants as run
 use Rattle.tms_step.specs.Turns.{ticks_of, end_of_turn}
 
-module _ (M : Type 0) (bus : Bus M) where
+module _ (M : Type 0) (access : Accesses M) where
   -- So many steps led from x to y, and nothing has ended the run.
   pub record Going (stop : Option ℕ) (limit made : ℕ) (x y : Cpu M) : Type 0 where
-    pub left : y ≡ after M bus made x
-    pub first : (before : ℕ) → before < made → end_at M bus stop limit before x ≡ None
-    pub fresh : self_jumped M bus made x ≡ false
+    pub left : y ≡ after M access made x
+    pub first : (before : ℕ) → before < made → end_at M access stop limit before x ≡ None
+    pub fresh : self_jumped M access made x ≡ false
 
   pub going_start : (stop : Option ℕ) (limit : ℕ) (x : Cpu M) → Going stop limit 0 x x
   going_start stop limit x = record { left = refl; first = λ before lt. absurd (omega arith); fresh = refl }
@@ -30,9 +30,9 @@ module _ (M : Type 0) (bus : Bus M) where
   abbrev by_jump : Bool → Option RunEnd → Option RunEnd
   by_jump jumped rest = elim jumped [ true ↦ Some run.SelfJump | false ↦ rest ]
 
-  end_here : (stop : Option ℕ) (limit made : ℕ) (x y : Cpu M) → Going stop limit made x y → end_at M bus stop limit made x ≡ by_tests (is_reached stop y.pc) (eqb made limit) (end_of_step (step M bus y).0)
+  end_here : (stop : Option ℕ) (limit made : ℕ) (x y : Cpu M) → Going stop limit made x y → end_at M access stop limit made x ≡ by_tests (is_reached stop y.pc) (eqb made limit) (end_of_step (step M access y).0)
   end_here stop limit made x y going =
-      ap (λ (jumped : Bool). by_jump jumped (end_before M bus stop limit made (after M bus made x))) going.fresh ∙ ap (λ (c : Cpu M). end_before M bus stop limit made c) (sym going.left)
+      ap (λ (jumped : Bool). by_jump jumped (end_before M access stop limit made (after M access made x))) going.fresh ∙ ap (λ (c : Cpu M). end_before M access stop limit made c) (sym going.left)
 
   -- a test of two numbers
   unequal : (m n : ℕ) (test : Bool) → eqb m n ≡ test → m < n → test ≡ false
@@ -43,51 +43,51 @@ module _ (M : Type 0) (bus : Bus M) where
   equal n true e = refl
   equal n false e = absurd (grind (arith, nat_tests))
 
-  pub run_reached : (stop : Option ℕ) (limit made : ℕ) (x y : Cpu M) → Going stop limit made x y → is_reached stop y.pc ≡ true → IsRun M bus stop limit made x run.Reached y
+  pub run_reached : (stop : Option ℕ) (limit made : ℕ) (x y : Cpu M) → Going stop limit made x y → is_reached stop y.pc ≡ true → IsRun M access stop limit made x run.Reached y
   run_reached stop limit made x y going reached =
-      record { ends = end_here stop limit made x y going ∙ ap (λ (test : Bool). by_tests test (eqb made limit) (end_of_step (step M bus y).0)) reached; first = going.first; left = going.left }
+      record { ends = end_here stop limit made x y going ∙ ap (λ (test : Bool). by_tests test (eqb made limit) (end_of_step (step M access y).0)) reached; first = going.first; left = going.left }
 
-  pub run_limit : (stop : Option ℕ) (limit : ℕ) (x y : Cpu M) → Going stop limit limit x y → is_reached stop y.pc ≡ false → IsRun M bus stop limit limit x run.Limit y
+  pub run_limit : (stop : Option ℕ) (limit : ℕ) (x y : Cpu M) → Going stop limit limit x y → is_reached stop y.pc ≡ false → IsRun M access stop limit limit x run.Limit y
   run_limit stop limit x y going reached =
-      record { ends = end_here stop limit limit x y going ∙ ap (λ (test : Bool). by_tests test (eqb limit limit) (end_of_step (step M bus y).0)) reached ∙ ap (λ (test : Bool). by_tests false test (end_of_step (step M bus y).0)) (equal limit (eqb limit limit) refl); first = going.first; left = going.left }
+      record { ends = end_here stop limit limit x y going ∙ ap (λ (test : Bool). by_tests test (eqb limit limit) (end_of_step (step M access y).0)) reached ∙ ap (λ (test : Bool). by_tests false test (end_of_step (step M access y).0)) (equal limit (eqb limit limit) refl); first = going.first; left = going.left }
 
   -- where neither the address nor the limit is met, the step decides
-  end_step : (stop : Option ℕ) (limit made : ℕ) (x y : Cpu M) → Going stop limit made x y → made < limit → is_reached stop y.pc ≡ false → end_at M bus stop limit made x ≡ end_of_step (step M bus y).0
+  end_step : (stop : Option ℕ) (limit made : ℕ) (x y : Cpu M) → Going stop limit made x y → made < limit → is_reached stop y.pc ≡ false → end_at M access stop limit made x ≡ end_of_step (step M access y).0
   end_step stop limit made x y going lt reached =
-      end_here stop limit made x y going ∙ ap (λ (test : Bool). by_tests test (eqb made limit) (end_of_step (step M bus y).0)) reached ∙ ap (λ (test : Bool). by_tests false test (end_of_step (step M bus y).0)) (unequal made limit (eqb made limit) refl lt)
+      end_here stop limit made x y going ∙ ap (λ (test : Bool). by_tests test (eqb made limit) (end_of_step (step M access y).0)) reached ∙ ap (λ (test : Bool). by_tests false test (end_of_step (step M access y).0)) (unequal made limit (eqb made limit) refl lt)
 
-  after_more : (made : ℕ) (x y z : Cpu M) → y ≡ after M bus made x → z ≡ (step M bus y).1 → z ≡ after M bus (made + 1) x
-  after_more made x y z left stepped = rw (add-one) (stepped ∙ ap (λ (c : Cpu M). (step M bus c).1) left)
+  after_more : (made : ℕ) (x y z : Cpu M) → y ≡ after M access made x → z ≡ (step M access y).1 → z ≡ after M access (made + 1) x
+  after_more made x y z left stepped = rw (add-one) (stepped ∙ ap (λ (c : Cpu M). (step M access c).1) left)
 
-  jumped_more : (made : ℕ) (x y : Cpu M) (end : StepEnd) → y ≡ after M bus made x → (step M bus y).0 ≡ end → self_jumped M bus (made + 1) x ≡ is_self_jump end
+  jumped_more : (made : ℕ) (x y : Cpu M) (end : StepEnd) → y ≡ after M access made x → (step M access y).0 ≡ end → self_jumped M access (made + 1) x ≡ is_self_jump end
   jumped_more made x y end left e =
-      rw (add-one) (ap (λ (c : Cpu M). is_self_jump (step M bus c).0) (sym left) ∙ ap is_self_jump e)
+      rw (add-one) (ap (λ (c : Cpu M). is_self_jump (step M access c).0) (sym left) ∙ ap is_self_jump e)
 
-  first_more : (stop : Option ℕ) (limit made word : ℕ) (x y : Cpu M) → Going stop limit made x y → made < limit → is_reached stop y.pc ≡ false → (step M bus y).0 ≡ Done word → (before : ℕ) → before < made + 1 → end_at M bus stop limit before x ≡ None
+  first_more : (stop : Option ℕ) (limit made word : ℕ) (x y : Cpu M) → Going stop limit made x y → made < limit → is_reached stop y.pc ≡ false → (step M access y).0 ≡ Done word → (before : ℕ) → before < made + 1 → end_at M access stop limit before x ≡ None
   first_more stop limit made word x y going lt reached e =
-      below_more (λ before. end_at M bus stop limit before x ≡ None) made going.first (end_step stop limit made x y going lt reached ∙ ap end_of_step e)
+      below_more (λ before. end_at M access stop limit before x ≡ None) made going.first (end_step stop limit made x y going lt reached ∙ ap end_of_step e)
 
   goes_on : (word : ℕ) (test : Bool) → eqb word 0x10FF ≡ test → (elim test as (λ _. Option RunEnd) [ true ↦ Some run.SelfJump | false ↦ None ]) ≡ None → test ≡ false
   goes_on word true e ends = absurd (cc)
   goes_on word false e ends = refl
 
   -- A step that does not end the run.
-  pub going_more : (stop : Option ℕ) (limit made : ℕ) (x y z : Cpu M) → Going stop limit made x y → made < limit → is_reached stop y.pc ≡ false → end_of_turn (step M bus y).0 ≡ None → z ≡ (step M bus y).1 → Going stop limit (made + 1) x z
-  going_more stop limit made x y z going lt reached ends stepped = by (step M bus y).0 refl ends
+  pub going_more : (stop : Option ℕ) (limit made : ℕ) (x y z : Cpu M) → Going stop limit made x y → made < limit → is_reached stop y.pc ≡ false → end_of_turn (step M access y).0 ≡ None → z ≡ (step M access y).1 → Going stop limit (made + 1) x z
+  going_more stop limit made x y z going lt reached ends stepped = by (step M access y).0 refl ends
     where
-      by : (end : StepEnd) → (step M bus y).0 ≡ end → end_of_turn end ≡ None → Going stop limit (made + 1) x z
+      by : (end : StepEnd) → (step M access y).0 ≡ end → end_of_turn end ≡ None → Going stop limit (made + 1) x z
       by (Done word) e none =
           record { left = after_more made x y z going.left stepped; first = first_more stop limit made word x y going lt reached e; fresh = jumped_more made x y (Done word) going.left e ∙ goes_on word (eqb word 0x10FF) refl none }
       by (Refused address) e none = absurd (cc)
       by (Port address) e none = absurd (cc)
 
   -- a step that executes no instruction leaves the state
-  refused_same : (y : Cpu M) (address : ℕ) (answer : Answer (ℕ × Cpu M)) → (step_end M bus y answer).0 ≡ Refused address → (step_end M bus y answer).1 ≡ y
+  refused_same : (y : Cpu M) (address : ℕ) (answer : Answer (ℕ × Cpu M)) → (step_end M access y answer).0 ≡ Refused address → (step_end M access y answer).1 ≡ y
   refused_same y address (Gives done) e = absurd (cc)
   refused_same y address (AtPort port) e = refl
   refused_same y address NoInstruction e = refl
 
-  port_same : (y : Cpu M) (address : ℕ) (answer : Answer (ℕ × Cpu M)) → (step_end M bus y answer).0 ≡ Port address → (step_end M bus y answer).1 ≡ y
+  port_same : (y : Cpu M) (address : ℕ) (answer : Answer (ℕ × Cpu M)) → (step_end M access y answer).0 ≡ Port address → (step_end M access y answer).1 ≡ y
   port_same y address (Gives done) e = absurd (cc)
   port_same y address (AtPort port) e = refl
   port_same y address NoInstruction e = refl
@@ -97,17 +97,17 @@ module _ (M : Type 0) (bus : Bus M) where
   jumps word ending false ends = absurd (cc)
 
   -- A step that ends the run.
-  pub run_ended : (stop : Option ℕ) (limit made : ℕ) (x y z : Cpu M) (ending : RunEnd) → Going stop limit made x y → made < limit → is_reached stop y.pc ≡ false → end_of_turn (step M bus y).0 ≡ Some ending → z ≡ (step M bus y).1 → IsRun M bus stop limit (made + ticks_of (step M bus y).0) x ending z
-  run_ended stop limit made x y z ending going lt reached ends stepped = by (step M bus y).0 refl ends
+  pub run_ended : (stop : Option ℕ) (limit made : ℕ) (x y z : Cpu M) (ending : RunEnd) → Going stop limit made x y → made < limit → is_reached stop y.pc ≡ false → end_of_turn (step M access y).0 ≡ Some ending → z ≡ (step M access y).1 → IsRun M access stop limit (made + ticks_of (step M access y).0) x ending z
+  run_ended stop limit made x y z ending going lt reached ends stepped = by (step M access y).0 refl ends
     where
       none : made + 0 ≡ made
       none = omega arith
 
-      by : (end : StepEnd) → (step M bus y).0 ≡ end → end_of_turn end ≡ Some ending → IsRun M bus stop limit (made + ticks_of end) x ending z
+      by : (end : StepEnd) → (step M access y).0 ≡ end → end_of_turn end ≡ Some ending → IsRun M access stop limit (made + ticks_of end) x ending z
       by (Done word) e some =
           let jump = jumps word ending (eqb word 0x10FF) some in
-          record { ends = ap (λ (test : Bool). by_jump test (end_before M bus stop limit (made + 1) (after M bus (made + 1) x))) (jumped_more made x y (Done word) going.left e ∙ jump.0) ∙ jump.1; first = first_more stop limit made word x y going lt reached e; left = after_more made x y z going.left stepped }
+          record { ends = ap (λ (test : Bool). by_jump test (end_before M access stop limit (made + 1) (after M access (made + 1) x))) (jumped_more made x y (Done word) going.left e ∙ jump.0) ∙ jump.1; first = first_more stop limit made word x y going lt reached e; left = after_more made x y z going.left stepped }
       by (Refused address) e some =
-          rw none (record { ends = end_step stop limit made x y going lt reached ∙ ap end_of_step e ∙ some; first = going.first; left = stepped ∙ refused_same y address (execution M bus y) e ∙ going.left })
+          rw none (record { ends = end_step stop limit made x y going lt reached ∙ ap end_of_step e ∙ some; first = going.first; left = stepped ∙ refused_same y address (execution M access y) e ∙ going.left })
       by (Port address) e some =
-          rw none (record { ends = end_step stop limit made x y going lt reached ∙ ap end_of_step e ∙ some; first = going.first; left = stepped ∙ port_same y address (execution M bus y) e ∙ going.left })
+          rw none (record { ends = end_step stop limit made x y going lt reached ∙ ap end_of_step e ∙ some; first = going.first; left = stepped ∙ port_same y address (execution M access y) e ∙ going.left })

@@ -2,48 +2,28 @@
 use Rattle.std.proofs.Common.{◌≡◌, ℕ, true, false, refl, sym, ap, ◌∙◌}
 use Rattle.std.specs.Prelude.{eqb}
 use Rattle.console_defs.specs.Words.{even, plus}
-use Rattle.console_defs.specs.Flags.{Width, width_of}
-use Rattle.console_defs.specs.Bus.{Answer, Gives, AtPort, NoInstruction, ◌>>=◌}
-use Rattle.console_defs.specs.Vdp.{VdpState, vdp_data_read, vdp_status_read}
-use Rattle.console_defs.specs.Grom.{GromState, grom_data_read, grom_address_read}
-use Rattle.console_defs.specs.Memory.{Memory, Port, VdpDataRead, VdpStatusRead, VdpDataWrite, VdpAddressWrite, GromDataRead, GromAddressRead, GromDataWrite, GromAddressWrite, Region, Rom, LowExpansion, HighExpansion, Scratchpad, PortOf, Unmapped, region, is_port_region, is_port_address, byte_read_in, word_read, word_written_in, word_written, console}
-use Rattle.console_defs.specs.Operand.{Cpu, Mode, Register, Indirect, Symbolic, Increment, mode_of, operand, register_place, index_of, with_word}
+use Rattle.console_defs.specs.Flags.{Width, Byte, size_of}
+use Rattle.console_defs.specs.Accesses.{Answer, Gives, AtPort, NoInstruction, ◌>>=◌}
+use Rattle.console_defs.specs.Vdp.{VdpState}
+use Rattle.console_defs.specs.Grom.{GromState}
+use Rattle.console_defs.specs.Memory.{Memory, Port, VdpDataRead, VdpStatusRead, VdpDataWrite, VdpAddressWrite, GromDataRead, GromAddressRead, GromDataWrite, GromAddressWrite, Region, Rom, LowExpansion, HighExpansion, Scratchpad, PortOf, Unmapped, region, is_port_region, is_port_address, port_read, byte_read_in, word_read, word_written_in, word_written, console}
+use Rattle.console_defs.specs.Operand.{Cpu, Mode, Register, Indirect, Symbolic, Increment, mode_of, operand, register_address, index_of, with_word}
 use Rattle.console_defs.specs.forms.Two.{two}
 use Rattle.console_defs.specs.declared.instruction.TwoOp.{TwoOp}
 use Rattle.console_defs.specs.declared.instruction.Place.{Place}
 use Rattle.console_defs.proofs.MemoryLaws.{with_ports, word_read_past_ports, word_written_past_ports}
 use Rattle.tms_step.specs.Parts.{from_source, from_port}
 
--- what a read of a port leaves of the video processor and of the GROMs, and the byte that it gives
-abbrev vdp_after : Port → VdpState → VdpState
-vdp_after VdpDataRead vdp = (vdp_data_read vdp).1
-vdp_after VdpStatusRead vdp = (vdp_status_read vdp).1
-vdp_after VdpDataWrite vdp = vdp
-vdp_after VdpAddressWrite vdp = vdp
-vdp_after GromDataRead vdp = vdp
-vdp_after GromAddressRead vdp = vdp
-vdp_after GromDataWrite vdp = vdp
-vdp_after GromAddressWrite vdp = vdp
+-- what a read of a port leaves of the video processor and of the GROMs, and the byte that it gives; the rest of the
+-- memory makes no difference to them
+abbrev vdp_after : Port → Memory → VdpState → VdpState
+vdp_after port m vdp = (port_read port (record m { vdp = vdp })).1.vdp
 
-abbrev grom_after : Port → GromState → GromState
-grom_after VdpDataRead grom = grom
-grom_after VdpStatusRead grom = grom
-grom_after VdpDataWrite grom = grom
-grom_after VdpAddressWrite grom = grom
-grom_after GromDataRead grom = (grom_data_read grom).1
-grom_after GromAddressRead grom = (grom_address_read grom).1
-grom_after GromDataWrite grom = grom
-grom_after GromAddressWrite grom = grom
+abbrev grom_after : Port → Memory → GromState → GromState
+grom_after port m grom = (port_read port (record m { grom = grom })).1.grom
 
-abbrev byte_of : Port → VdpState → GromState → ℕ
-byte_of VdpDataRead vdp grom = (vdp_data_read vdp).0
-byte_of VdpStatusRead vdp grom = (vdp_status_read vdp).0
-byte_of VdpDataWrite vdp grom = 0
-byte_of VdpAddressWrite vdp grom = 0
-byte_of GromDataRead vdp grom = (grom_data_read grom).0
-byte_of GromAddressRead vdp grom = (grom_address_read grom).0
-byte_of GromDataWrite vdp grom = 0
-byte_of GromAddressWrite vdp grom = 0
+abbrev byte_of : Port → Memory → VdpState → GromState → ℕ
+byte_of port m vdp grom = (port_read port (with_ports m vdp grom)).0
 
 given : {X : Type 0} (a b : X) → Gives a ≡ Gives b → a ≡ b
 given a b e = cc
@@ -88,7 +68,7 @@ module _ (a : VdpState → VdpState) (b : GromState → GromState) (k : ℕ × C
 
   index_past : (x : Cpu Memory) (number : ℕ) → index_of Memory console (moved x) number ≡ index_of Memory console x number
   index_past x number =
-      ap (λ (word : Answer ℕ). elim (eqb number 0) as (λ _. Answer ℕ) [ true ↦ Gives 0 | false ↦ word ]) (read_past x (register_place Memory console x number))
+      ap (λ (word : Answer ℕ). elim (eqb number 0) as (λ _. Answer ℕ) [ true ↦ Gives 0 | false ↦ word ]) (read_past x (register_address Memory console x number))
 
   indexed : (x : Cpu Memory) (number : ℕ) (word : Answer ℕ) → before x (beside word (moved x) >>= λ base. index_of Memory console base.1 number >>= λ i. Gives (plus base.0 i, base.1)) ≡ after (beside word x >>= λ base. index_of Memory console base.1 number >>= λ i. Gives (plus base.0 i, base.1))
   indexed x number (Gives word) =
@@ -116,32 +96,42 @@ module _ (a : VdpState → VdpState) (b : GromState → GromState) (k : ℕ × C
   pub operand_past : (mode : Mode) (width : Width) (number : ℕ) (x : Cpu Memory) → before x (operand Memory console mode width number (moved x)) ≡ after (operand Memory console mode width number x)
   operand_past Register width number x = refl
   operand_past Indirect width number x =
-      ap (λ (word : Answer ℕ). before x (word >>= λ w. Gives (w, moved x))) (read_past x (register_place Memory console x number)) ∙ indirect x (word_read x.memory (register_place Memory console x number))
+      ap (λ (word : Answer ℕ). before x (word >>= λ w. Gives (w, moved x))) (read_past x (register_address Memory console x number)) ∙ indirect x (word_read x.memory (register_address Memory console x number))
   operand_past Symbolic width number x =
       let on : Cpu Memory = record x { pc = plus x.pc 2 } in
       ap (λ (word : Answer ℕ). before on (beside word (moved on) >>= λ base. index_of Memory console base.1 number >>= λ i. Gives (plus base.0 i, base.1))) (read_past x x.pc) ∙ indexed on number (word_read x.memory x.pc)
   operand_past Increment width number x =
-      ap (λ (word : Answer ℕ). before x (word >>= λ w. with_word Memory console (moved x) (register_place Memory console x number) (plus w width.bytes) >>= λ y. Gives (w, y))) (read_past x (register_place Memory console x number)) ∙ incremented x (register_place Memory console x number) width.bytes (word_read x.memory (register_place Memory console x number))
+      ap (λ (word : Answer ℕ). before x (word >>= λ w. with_word Memory console (moved x) (register_address Memory console x number) (plus w (size_of width)) >>= λ y. Gives (w, y))) (read_past x (register_address Memory console x number)) ∙ incremented x (register_address Memory console x number) (size_of width) (word_read x.memory (register_address Memory console x number))
 
 -- what follows a byte in a region, before a destination is derived and after it
 abbrev byte_first : Region → TwoOp → Place → Cpu Memory → Answer (Cpu Memory)
 byte_first place op dst x =
-    operand Memory console (mode_of dst.mode) (width_of true) dst.reg (record x { memory = (byte_read_in place x.memory).1 }) >>= λ d. two Memory console op true (byte_read_in place x.memory).0 d.0 d.1
+    operand Memory console (mode_of dst.mode) Byte dst.reg (record x { memory = (byte_read_in place x.memory).1 }) >>= λ d. two Memory console op Byte (byte_read_in place x.memory).0 d.0 d.1
 
 abbrev byte_last : Region → TwoOp → Place → Cpu Memory → Answer (Cpu Memory)
 byte_last place op dst x =
-    operand Memory console (mode_of dst.mode) (width_of true) dst.reg x >>= λ d. two Memory console op true (byte_read_in place d.1.memory).0 d.0 (record d.1 { memory = (byte_read_in place d.1.memory).1 })
+    operand Memory console (mode_of dst.mode) Byte dst.reg x >>= λ d. two Memory console op Byte (byte_read_in place d.1.memory).0 d.0 (record d.1 { memory = (byte_read_in place d.1.memory).1 })
 
-abbrev then_two : Port → TwoOp → ℕ × Cpu Memory → VdpState → GromState → Answer (Cpu Memory)
-then_two port op d vdp grom = two Memory console op true (byte_of port vdp grom) d.0 d.1
+abbrev then_two : Port → Memory → TwoOp → ℕ × Cpu Memory → VdpState → GromState → Answer (Cpu Memory)
+then_two port m op d vdp grom = two Memory console op Byte (byte_of port m vdp grom) d.0 d.1
 
-last_at : (port : Port) (op : TwoOp) (dst : Place) (x : Cpu Memory) → byte_first (PortOf port) op dst x ≡ byte_last (PortOf port) op dst x
-last_at VdpDataRead op dst x = operand_past (vdp_after VdpDataRead) (grom_after VdpDataRead) (then_two VdpDataRead op) (mode_of dst.mode) (width_of true) dst.reg x
-last_at VdpStatusRead op dst x = operand_past (vdp_after VdpStatusRead) (grom_after VdpStatusRead) (then_two VdpStatusRead op) (mode_of dst.mode) (width_of true) dst.reg x
+-- the operand is the same where the port has gone on
+past_port : (port : Port) (op : TwoOp) (dst : Place) (x : Cpu Memory) →
+    before (vdp_after port x.memory) (grom_after port x.memory) (then_two port x.memory op) x
+    (operand Memory console (mode_of dst.mode) Byte dst.reg (moved (vdp_after port x.memory) (grom_after port x.memory) (then_two port x.memory op) x))
+    ≡ after (vdp_after port x.memory) (grom_after port x.memory) (then_two port x.memory op)
+    (operand Memory console (mode_of dst.mode) Byte dst.reg x)
+past_port port op dst x =
+    operand_past (vdp_after port x.memory) (grom_after port x.memory) (then_two port x.memory op) (mode_of dst.mode) Byte dst.reg x
+
+last_at : (port : Port) (op : TwoOp) (dst : Place) (x : Cpu Memory) →
+    byte_first (PortOf port) op dst x ≡ byte_last (PortOf port) op dst x
+last_at VdpDataRead op dst x = past_port VdpDataRead op dst x
+last_at VdpStatusRead op dst x = past_port VdpStatusRead op dst x
 last_at VdpDataWrite op dst x = refl
 last_at VdpAddressWrite op dst x = refl
-last_at GromDataRead op dst x = operand_past (vdp_after GromDataRead) (grom_after GromDataRead) (then_two GromDataRead op) (mode_of dst.mode) (width_of true) dst.reg x
-last_at GromAddressRead op dst x = operand_past (vdp_after GromAddressRead) (grom_after GromAddressRead) (then_two GromAddressRead op) (mode_of dst.mode) (width_of true) dst.reg x
+last_at GromDataRead op dst x = past_port GromDataRead op dst x
+last_at GromAddressRead op dst x = past_port GromAddressRead op dst x
 last_at GromDataWrite op dst x = refl
 last_at GromAddressWrite op dst x = refl
 
@@ -154,5 +144,5 @@ last_in (PortOf port) op dst x e = last_at port op dst x
 last_in Unmapped op dst x e = absurd (cc)
 
 -- What follows a source at a port is the same where the port is read last.
-pub port_last : (op : TwoOp) (source : ℕ) (dst : Place) (x : Cpu Memory) → is_port_address source ≡ true → from_port op source dst x ≡ from_source op true source dst x
+pub port_last : (op : TwoOp) (source : ℕ) (dst : Place) (x : Cpu Memory) → is_port_address source ≡ true → from_port op source dst x ≡ from_source op Byte source dst x
 port_last op source dst x e = sym (last_in (region source) op dst x e)

@@ -4,7 +4,7 @@ use Rattle.std.specs.Prelude.{Option, Some, None, Result, Ok, Err, OnErr}
 use Rattle.std.proofs.Math.ListN.{set}
 use Rattle.std.proofs.lemmas.List.{set_comm, set-set, set-get_or}
 use Rattle.console_defs.specs.Words.{high, low, join, even}
-use Rattle.console_defs.specs.Bus.{Answer, Gives, AtPort, NoInstruction, ◌>>=◌, left_by as bus_left_by}
+use Rattle.console_defs.specs.Accesses.{Answer, Gives, AtPort, NoInstruction, ◌>>=◌, written_by}
 use Rattle.console_defs.specs.Operand.{Cpu, with_word}
 use Rattle.console_defs.specs.declared.port_stop.PortStop.{PortStop}
 use Rattle.console_defs.specs.Memory.{Memory, Region, Rom, LowExpansion, HighExpansion, Scratchpad, PortOf, Unmapped, IsMemory, region, word_read_in, word_written_in, word_read, word_written, console}
@@ -46,19 +46,19 @@ written_back m written address word old is read wrote =
     back_in (region (even address)) m written (even address) word old is read wrote
 
 -- What a write of a machine left is undone by the word that was there.
-pub write_over-undone : (x y : Cpu Memory) (place word old : ℕ) → IsMemory x.memory → word_read x.memory place ≡ Gives old → Gives y ≡ with_word Memory console x place word → SameButPc x (put_back (Some (record { place = place; word = old })) y)
-write_over-undone x y place word old is read wrote = by (word_written x.memory place word) refl wrote
+pub write_over-undone : (x y : Cpu Memory) (address word old : ℕ) → IsMemory x.memory → word_read x.memory address ≡ Gives old → Gives y ≡ with_word Memory console x address word → SameButPc x (put_back (Some (record { address = address; word = old })) y)
+write_over-undone x y address word old is read wrote = by (word_written x.memory address word) refl wrote
   where
-    by : (a : Answer Memory) → word_written x.memory place word ≡ a → Gives y ≡ (a >>= λ memory. Gives (record x { memory = memory })) → SameButPc x (put_back (Some (record { place = place; word = old })) y)
+    by : (a : Answer Memory) → word_written x.memory address word ≡ a → Gives y ≡ (a >>= λ memory. Gives (record x { memory = memory })) → SameButPc x (put_back (Some (record { address = address; word = old })) y)
     by (Gives memory) e w =
         let left : y ≡ record x { memory = memory } = given y (record x { memory = memory }) w in
-        let back : word_written memory place old ≡ Gives x.memory = written_back x.memory memory place word old is read e in
+        let back : word_written memory address old ≡ Gives x.memory = written_back x.memory memory address word old is read e in
         rw left (record { same = ap (λ (a : Answer Memory). record x { memory = taken a memory }) back })
     by (AtPort address) e w = absurd (cc)
     by NoInstruction e w = absurd (cc)
 
 -- A write leaves what it gives, or what was there.
-pub taken_left : (result : Result Unit PortStop) (old new : Memory) (answer : Answer Memory) → bus_left_by result new ≡ answer → OnErr result (new ≡ old) → taken answer old ≡ new
+pub taken_left : (result : Result Unit PortStop) (old new : Memory) (answer : Answer Memory) → written_by result new ≡ answer → OnErr result (new ≡ old) → taken answer old ≡ new
 taken_left (Ok done) old new answer is same = rw (← is) refl
 taken_left (Err stop) old new answer is same = rw (← is) (sym same)
 

@@ -1,6 +1,6 @@
 -- What the results of the code say.
 use Rattle.std.specs.Prelude.{ℕ, Result, Ok, Err}
-use Rattle.console_defs.specs.Bus.{Answer, Gives, AtPort, NoInstruction}
+use Rattle.console_defs.specs.Accesses.{Answer, Gives, AtPort, NoInstruction}
 use Rattle.console_defs.specs.declared.ends.StepEnd.{StepEnd}
 use Rattle.console_defs.specs.declared.ends.StepEnd.TheVariants.{Refused, Port}
 use Rattle.tms_step.specs.declared.stop.Stop.{Stop}

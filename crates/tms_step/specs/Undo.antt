@@ -1,6 +1,6 @@
 -- A word that was written over, and its being put back.
 use Rattle.std.specs.Prelude.{◌≡◌, Option, Some, None}
-use Rattle.console_defs.specs.Bus.{Answer, Gives, AtPort, NoInstruction}
+use Rattle.console_defs.specs.Accesses.{Answer, Gives, AtPort, NoInstruction}
 use Rattle.console_defs.specs.Memory.{Memory, word_written}
 use Rattle.console_defs.specs.Operand.{Cpu}
 use Rattle.tms_step.specs.declared.cpu.Kept.{Kept}
@@ -14,7 +14,7 @@ taken NoInstruction memory = memory
 -- The state with a word put back.
 abbrev pub put_back : Option Kept → Cpu Memory → Cpu Memory
 put_back None x = x
-put_back (Some kept) x = record x { memory = taken (word_written x.memory kept.place kept.word) x.memory }
+put_back (Some kept) x = record x { memory = taken (word_written x.memory kept.address kept.word) x.memory }
 
 -- The new state is the old one but for the program counter.
 pub record SameButPc (old new : Cpu Memory) : Type 0 where

@@ -38,9 +38,9 @@ impl Cpu {
     pub(crate) fn kept(&self) -> Result<(u16, u16, u16), Stop>
         ensures { left_by result (λ kept. kept) ≡ kept_of Memory console self.now }
     {
-        let wp = self.word_at(self.register_place(13))?;
-        let pc = self.word_at(self.register_place(14))?;
-        let status = self.word_at(self.register_place(15))?;
+        let wp = self.word_at(self.register_address(13))?;
+        let pc = self.word_at(self.register_address(14))?;
+        let status = self.word_at(self.register_address(15))?;
         Ok((wp, pc, status))
     }
 }

@@ -4,7 +4,7 @@ ghost use Rattle.std.specs.Prelude.{◌≡◌, ◌<◌, ◌*◌, OnErr};
 ghost use Rattle.console_defs.specs.Words.{even};
 ghost use Rattle.console_defs.specs.Status.{IsStatus};
 ghost use Rattle.console_defs.specs.Memory.{Memory, IsMemory, console};
-ghost use Rattle.console_defs.specs.Operand.{word_at, with_word, register_in, register_place, next_word};
+ghost use Rattle.console_defs.specs.Operand.{word_at, with_word, register_in, register_address, next_word};
 ghost use Rattle.tms_step.specs.Stops.{left_by};
 ghost use Rattle.tms_step.specs.Undo.{SameButPc};
 
@@ -40,7 +40,7 @@ impl Model for Cpu {
 #[derive(Clone, Copy, Debug)]
 pub(crate) struct Kept {
     /// Its address.
-    pub(crate) place: u16,
+    pub(crate) address: u16,
     /// What it was.
     pub(crate) word: u16,
 }
@@ -79,9 +79,9 @@ impl Cpu {
 
     /// The address of a workspace register.
     #[inline(always)]
-    pub(crate) fn register_place(&self, number: u8) -> u16
+    pub(crate) fn register_address(&self, number: u8) -> u16
         requires { number < 16 }
-        ensures { result ≡ register_place Memory console self.now number }
+        ensures { result ≡ register_address Memory console self.now number }
     {
         register_in(self.wp, number)
     }

@@ -22,14 +22,14 @@ impl Cpu {
         ensures value { left_by result (λ _. self.new) ≡ imm Memory console op number self.old }
         ensures stopped { OnErr result (SameButPc self.old self.new) }
     {
-        let place = self.register_place(number);
+        let address = self.register_address(number);
         if op == ImmOp::LI {
             let word = self.next_word()?;
-            self.stored_by_result(false, place, word)
+            self.stored_by_result(false, address, word)
         } else if op == ImmOp::STWP {
-            self.write_word(place, self.wp)
+            self.write_word(address, self.wp)
         } else if op == ImmOp::STST {
-            self.write_word(place, self.status_word())
+            self.write_word(address, self.status_word())
         } else {
             self.with_immediate(op, number)
         }
@@ -44,13 +44,13 @@ impl Cpu {
         ensures stopped { OnErr result (SameButPc self.old self.new) }
     {
         let (word, found) = self.immediate(number)?;
-        let place = self.register_place(number);
+        let address = self.register_address(number);
         if op == ImmOp::AI {
-            self.stored_out(place, add16(found, word))
+            self.stored_out(address, add16(found, word))
         } else if op == ImmOp::ANDI {
-            self.stored_by_result(false, place, found & word)
+            self.stored_by_result(false, address, found & word)
         } else if op == ImmOp::ORI {
-            self.stored_by_result(false, place, found | word)
+            self.stored_by_result(false, address, found | word)
         } else {
             self.status = with_order(false, found, word, self.status);
             Ok(())
@@ -61,11 +61,11 @@ impl Cpu {
     #[inline(always)]
     fn immediate(&mut self, number: u8) -> Result<(u16, u16), Stop>
         requires { number < 16 }
-        ensures value { left_by result (λ read. (read, self.new)) ≡ immediate Memory console number self.old }
+        ensures value { left_by result (λ read. (read.0, read.1, self.new)) ≡ immediate Memory console number self.old }
         ensures same { SameButPc self.old self.new }
     {
         let word = self.next_word()?;
-        let found = self.word_at(self.register_place(number))?;
+        let found = self.word_at(self.register_address(number))?;
         Ok((word, found))
     }
 }

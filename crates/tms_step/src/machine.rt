@@ -2,9 +2,9 @@
 
 ghost use Rattle.std.specs.Prelude.{◌≡◌, ◌<◌, true};
 ghost use Rattle.console_defs.specs.Words.{even};
-ghost use Rattle.console_defs.specs.Bus.{Gives};
+ghost use Rattle.console_defs.specs.Accesses.{Gives};
 ghost use Rattle.console_defs.specs.Memory.{Memory, console, word_read};
-ghost use Rattle.console_defs.specs.Operand.{register_place};
+ghost use Rattle.console_defs.specs.Operand.{register_address};
 ghost use Rattle.console_defs.specs.Status.{status_word};
 ghost use Rattle.console_defs.specs.Step.{step};
 ghost use Rattle.console_defs.specs.Machine.{MachineState, new_machine, counted, WhereStopped, has_workspace};
@@ -119,9 +119,9 @@ impl Machine {
     pub fn register(&self, number: u8) -> u16
         requires number { number < 16 }
         requires workspace { has_workspace self.now.cpu.wp ≡ true }
-        ensures { Gives result ≡ word_read self.now.cpu.memory (register_place Memory console self.now.cpu number) }
+        ensures { Gives result ≡ word_read self.now.cpu.memory (register_address Memory console self.now.cpu number) }
     {
-        match self.cpu.word_at(self.cpu.register_place(number)) {
+        match self.cpu.word_at(self.cpu.register_address(number)) {
             Ok(word) => word,
             Err(_) => unreachable!(),
         }

@@ -31,71 +31,71 @@ impl Cpu {
     /// An operation on the operand at an address. Those that programs make most are told first, by tests, and not by a
     /// table of jumps (see `step`).
     #[inline]
-    fn one(&mut self, op: OneOp, place: u16) -> Result<(), Stop>
-        ensures value { left_by result (λ _. self.new) ≡ one Memory console op place self.old }
+    fn one(&mut self, op: OneOp, address: u16) -> Result<(), Stop>
+        ensures value { left_by result (λ _. self.new) ≡ one Memory console op address self.old }
         ensures stopped { OnErr result (SameButPc self.old self.new) }
     {
         if op == OneOp::CLR {
-            self.write_word(place, 0)
+            self.write_word(address, 0)
         } else if is_increment(op) {
-            self.incremented(op, place)
+            self.incremented(op, address)
         } else {
-            self.other_one(op, place)
+            self.other_one(op, address)
         }
     }
 
     /// INC, INCT, DEC or DECT: the word at an address is increased or decreased.
     #[inline(never)]
-    fn incremented(&mut self, op: OneOp, place: u16) -> Result<(), Stop>
+    fn incremented(&mut self, op: OneOp, address: u16) -> Result<(), Stop>
         requires { is_increment op ≡ true }
-        ensures value { left_by result (λ _. self.new) ≡ one Memory console op place self.old }
+        ensures value { left_by result (λ _. self.new) ≡ one Memory console op address self.old }
         ensures stopped { OnErr result (self.new ≡ self.old) }
     {
-        let found = self.word_at(place)?;
+        let found = self.word_at(address)?;
         if op == OneOp::INC {
-            self.stored_out(place, add16(found, 1))
+            self.stored_out(address, add16(found, 1))
         } else if op == OneOp::INCT {
-            self.stored_out(place, add16(found, 2))
+            self.stored_out(address, add16(found, 2))
         } else if op == OneOp::DEC {
-            self.stored_out(place, sub16(found, 1))
+            self.stored_out(address, sub16(found, 1))
         } else {
-            self.stored_out(place, sub16(found, 2))
+            self.stored_out(address, sub16(found, 2))
         }
     }
 
     /// One of the other operations on the operand at an address.
     #[inline(never)]
-    fn other_one(&mut self, op: OneOp, place: u16) -> Result<(), Stop>
+    fn other_one(&mut self, op: OneOp, address: u16) -> Result<(), Stop>
         requires increment { is_increment op ≡ false }
         requires clear { op ≢ CLR }
-        ensures value { left_by result (λ _. self.new) ≡ one Memory console op place self.old }
+        ensures value { left_by result (λ _. self.new) ≡ one Memory console op address self.old }
         ensures stopped { OnErr result (SameButPc self.old self.new) }
     {
         match op {
-            OneOp::BLWP => self.switched(place),
+            OneOp::BLWP => self.switched(address),
             OneOp::B => {
-                self.pc = even(place);
+                self.pc = even(address);
                 Ok(())
             }
             OneOp::X => Err(Stop::NoInstruction),
             OneOp::NEG => {
-                let found = self.word_at(place)?;
-                self.stored_out(place, neg16(found))
+                let found = self.word_at(address)?;
+                self.stored_out(address, neg16(found))
             }
             OneOp::INV => {
-                let found = self.word_at(place)?;
-                self.stored_by_result(false, place, !found)
+                let found = self.word_at(address)?;
+                self.stored_by_result(false, address, !found)
             }
-            OneOp::BL => self.linked(place),
+            OneOp::BL => self.linked(address),
             OneOp::SWPB => {
-                let found = self.word_at(place)?;
-                self.write_word(place, found.swap_bytes())
+                let found = self.word_at(address)?;
+                self.write_word(address, found.swap_bytes())
             }
             OneOp::ABS => {
-                let found = self.word_at(place)?;
-                self.stored_out(place, abs16(found))
+                let found = self.word_at(address)?;
+                self.stored_out(address, abs16(found))
             }
-            OneOp::SETO => self.write_word(place, 0xFFFF),
+            OneOp::SETO => self.write_word(address, 0xFFFF),
             OneOp::INC | OneOp::INCT | OneOp::DEC | OneOp::DECT | OneOp::CLR => unreachable!(),
         }
     }
@@ -103,21 +103,21 @@ impl Cpu {
     /// A branch that keeps the address of the next instruction in register 11 (TMS9900 data manual, "Branch and
     /// link").
     #[inline]
-    fn linked(&mut self, place: u16) -> Result<(), Stop>
-        ensures value { left_by result (λ _. self.new) ≡ one Memory console BL place self.old }
+    fn linked(&mut self, address: u16) -> Result<(), Stop>
+        ensures value { left_by result (λ _. self.new) ≡ one Memory console BL address self.old }
         ensures stopped { OnErr result (self.new ≡ self.old) }
     {
-        self.write_word(self.register_place(11), self.pc)?;
-        self.pc = even(place);
+        self.write_word(self.register_address(11), self.pc)?;
+        self.pc = even(address);
         Ok(())
     }
 
     /// A context switch by the vector at an address (TMS9900 data manual, "Branch and load workspace pointer").
-    fn switched(&mut self, place: u16) -> Result<(), Stop>
-        ensures value { left_by result (λ _. self.new) ≡ one Memory console BLWP place self.old }
+    fn switched(&mut self, address: u16) -> Result<(), Stop>
+        ensures value { left_by result (λ _. self.new) ≡ one Memory console BLWP address self.old }
         ensures stopped { OnErr result (SameButPc self.old self.new) }
     {
-        let (wp, pc) = self.vector_at(place)?;
+        let (wp, pc) = self.vector_at(address)?;
         self.write_words(&self.kept_in(wp))?;
         self.wp = wp;
         self.pc = pc;

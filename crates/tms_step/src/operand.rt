@@ -1,7 +1,7 @@
 //! Operands: where they stand, what they are, and the growth of a register.
 
 ghost use Rattle.std.specs.Prelude.{◌≡◌, ◌<◌, IfOk, IsOk, OnErr, Some, None, true, false};
-ghost use Rattle.console_defs.specs.Flags.{width_of};
+ghost use Rattle.console_defs.specs.Flags.{Word, modulus, width_of};
 ghost use Rattle.console_defs.specs.Memory.{Memory, console};
 ghost use Rattle.console_defs.specs.Operand.{mode_of, index_of, operand, value_at, with_value};
 ghost use Rattle.console_defs.specs.Instructions.{IsPlace};
@@ -30,7 +30,7 @@ impl Cpu {
         if number == 0 {
             return Ok(0);
         }
-        self.word_at(self.register_place(number))
+        self.word_at(self.register_address(number))
     }
 
     /// The address of an operand, after the growth of its register (TMS9900 data manual, "Addressing modes").
@@ -42,7 +42,7 @@ impl Cpu {
         ensures stopped { OnErr result (SameButPc self.old self.new) }
     {
         if place.mode == 0 {
-            return Ok(standing(self.register_place(place.reg)));
+            return Ok(standing(self.register_address(place.reg)));
         }
         self.in_memory(place, byte)
     }
@@ -57,7 +57,7 @@ impl Cpu {
         ensures stopped { OnErr result (SameButPc self.old self.new) }
     {
         match place.mode {
-            1 => Ok(standing(self.word_at(self.register_place(place.reg))?)),
+            1 => Ok(standing(self.word_at(self.register_address(place.reg))?)),
             2 => Ok(standing(self.indexed(place.reg)?)),
             _ => self.grown(place.reg, byte),
         }
@@ -67,7 +67,7 @@ impl Cpu {
     #[inline]
     fn indexed(&mut self, number: u8) -> Result<u16, Stop>
         requires { number < 16 }
-        ensures value { left_by result (λ address. (address, self.new)) ≡ operand Memory console (mode_of 2) (width_of false) number self.old }
+        ensures value { left_by result (λ address. (address, self.new)) ≡ operand Memory console (mode_of 2) Word number self.old }
         ensures same { SameButPc self.old self.new }
     {
         let base = self.next_word()?;
@@ -83,10 +83,10 @@ impl Cpu {
         ensures undo { IfOk result (λ found. SameButPc self.old (put_back found.grown self.new)) }
         ensures stopped { OnErr result (SameButPc self.old self.new) }
     {
-        let place = self.register_place(number);
-        let address = self.word_at(place)?;
+        let register = self.register_address(number);
+        let address = self.word_at(register)?;
         let more = if byte { 1 } else { 2 };
-        let kept = self.write_over(place, address, address.wrapping_add(more))?;
+        let kept = self.write_over(register, address, address.wrapping_add(more))?;
         Ok(Operand {
             address,
             grown: Some(kept),
@@ -96,8 +96,8 @@ impl Cpu {
     /// The value at an address, a word or a byte. A byte that is read may change a port, and nothing stops it.
     #[inline(always)]
     pub(crate) fn value_at(&mut self, byte: bool, at: u16) -> Result<u16, Stop>
-        ensures value { left_by result (λ value. (value, self.new)) ≡ value_at Memory console byte at self.old }
-        ensures fits { IfOk result (λ value. value < (width_of byte).modulus) }
+        ensures value { left_by result (λ value. (value, self.new)) ≡ value_at Memory console (width_of byte) at self.old }
+        ensures fits { IfOk result (λ value. value < modulus (width_of byte)) }
         ensures stopped { OnErr result (self.new ≡ self.old) }
         ensures word { byte ≡ false → self.new ≡ self.old }
     {
@@ -110,8 +110,8 @@ impl Cpu {
     /// Writes a word or a byte to an address. Nothing stops a byte.
     #[inline(always)]
     pub(crate) fn write_value(&mut self, byte: bool, at: u16, value: u16) -> Result<(), Stop>
-        requires { value < (width_of byte).modulus }
-        ensures value { left_by result (λ _. self.new) ≡ with_value Memory console byte at value self.old }
+        requires { value < modulus (width_of byte) }
+        ensures value { left_by result (λ _. self.new) ≡ with_value Memory console (width_of byte) at value self.old }
         ensures stopped { OnErr result (self.new ≡ self.old) }
         ensures byte { byte ≡ true → IsOk result }
     {

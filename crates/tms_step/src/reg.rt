@@ -3,7 +3,7 @@
 ghost use Rattle.std.specs.Prelude.{◌≡◌, ◌<◌, OnErr};
 ghost use Rattle.console_defs.specs.Instructions.{IsPlace};
 ghost use Rattle.console_defs.specs.Memory.{Memory, console};
-ghost use Rattle.console_defs.specs.Operand.{register_place};
+ghost use Rattle.console_defs.specs.Operand.{register_address};
 ghost use Rattle.console_defs.specs.forms.Reg.{values_at, with_division, reg, with_source};
 ghost use Rattle.console_defs.specs.declared.instruction.RegOp.TheVariants.{XOP, DIV};
 ghost use Rattle.tms_step.specs.Stops.{left_by};
@@ -37,26 +37,26 @@ impl Cpu {
         ensures value { left_by result (λ _. self.new) ≡ reg Memory console op number source self.old }
         ensures stopped { OnErr result (SameButPc self.old self.new) }
     {
-        let place = self.register_place(number);
+        let address = self.register_address(number);
         match op {
             RegOp::COC => {
-                let (value, found) = self.values_at(source, place)?;
+                let (value, found) = self.values_at(source, address)?;
                 self.status.flags.eq = value & found == value;
                 Ok(())
             }
             RegOp::CZC => {
-                let (value, found) = self.values_at(source, place)?;
+                let (value, found) = self.values_at(source, address)?;
                 self.status.flags.eq = value & found == 0;
                 Ok(())
             }
             RegOp::XOR => {
-                let (value, found) = self.values_at(source, place)?;
-                self.stored_by_result(false, place, found ^ value)
+                let (value, found) = self.values_at(source, address)?;
+                self.stored_by_result(false, address, found ^ value)
             }
             RegOp::MPY => {
-                let (value, found) = self.values_at(source, place)?;
+                let (value, found) = self.values_at(source, address)?;
                 let (more, less) = mul16(found, value);
-                self.write_words(&[(place, more), (place.wrapping_add(2), less)])
+                self.write_words(&[(address, more), (address.wrapping_add(2), less)])
             }
             RegOp::XOP => self.extended(number, source),
             RegOp::DIV => self.divided(number, source),
@@ -80,23 +80,23 @@ impl Cpu {
         ensures value { left_by result (λ _. self.new) ≡ reg Memory console DIV number source self.old }
         ensures stopped { OnErr result (SameButPc self.old self.new) }
     {
-        let place = self.register_place(number);
-        let (value, more) = self.values_at(source, place)?;
-        let less = self.word_at(place.wrapping_add(2))?;
+        let address = self.register_address(number);
+        let (value, more) = self.values_at(source, address)?;
+        let less = self.word_at(address.wrapping_add(2))?;
         let division = div16(more, less, value);
-        self.with_division(division, place)?;
+        self.with_division(division, address)?;
         self.status.flags.ov = division.is_none();
         Ok(())
     }
 
-    /// A quotient and a remainder, where there are any, go to a place and the word after it.
-    fn with_division(&mut self, division: Option<(u16, u16)>, place: u16) -> Result<(), Stop>
-        ensures value { left_by result (λ _. self.new) ≡ with_division Memory console division place self.old }
+    /// A quotient and a remainder, where there are any, go to an address and the word after it.
+    fn with_division(&mut self, division: Option<(u16, u16)>, address: u16) -> Result<(), Stop>
+        ensures value { left_by result (λ _. self.new) ≡ with_division Memory console division address self.old }
         ensures stopped { OnErr result (SameButPc self.old self.new) }
     {
         match division {
             Some((quotient, remainder)) => {
-                self.write_words(&[(place, quotient), (place.wrapping_add(2), remainder)])
+                self.write_words(&[(address, quotient), (address.wrapping_add(2), remainder)])
             }
             None => Ok(()),
         }

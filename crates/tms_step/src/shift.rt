@@ -22,11 +22,11 @@ impl Cpu {
         ensures value { left_by result (λ _. self.new) ≡ shift Memory console op count number self.old }
         ensures stopped { OnErr result (SameButPc self.old self.new) }
     {
-        let place = self.register_place(number);
-        let found = self.word_at(place)?;
+        let address = self.register_address(number);
+        let found = self.word_at(address)?;
         let places = self.count_of(count)?;
         let out = shifted(op, found, places, self.status.flags);
-        self.stored(false, place, out.value, out.flags)
+        self.stored(false, address, out.value, out.flags)
     }
 
     /// The count of a shift, from 1 to 16.
@@ -39,7 +39,7 @@ impl Cpu {
         if count > 0 {
             return Ok(count);
         }
-        let word = self.word_at(self.register_place(0))?;
+        let word = self.word_at(self.register_address(0))?;
         Ok(count_in(word))
     }
 }

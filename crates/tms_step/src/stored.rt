@@ -1,7 +1,7 @@
 //! Results that are stored with their status bits.
 
-ghost use Rattle.std.specs.Prelude.{◌≡◌, ◌<◌, IsOk, OnErr, true, false};
-ghost use Rattle.console_defs.specs.Flags.{width_of};
+ghost use Rattle.std.specs.Prelude.{◌≡◌, ◌<◌, IsOk, OnErr, true};
+ghost use Rattle.console_defs.specs.Flags.{Word, modulus, width_of};
 ghost use Rattle.console_defs.specs.Memory.{Memory, console};
 ghost use Rattle.console_defs.specs.forms.Results.{stored, stored_by_result};
 ghost use Rattle.tms_step.specs.Stops.{left_by};
@@ -17,27 +17,27 @@ impl Cpu {
     pub(crate) fn stored(
         &mut self,
         byte: bool,
-        place: u16,
+        address: u16,
         value: u16,
         flags: Flags,
     ) -> Result<(), Stop>
-        requires { value < (width_of byte).modulus }
-        ensures value { left_by result (λ _. self.new) ≡ stored Memory console byte place value flags self.old }
+        requires { value < modulus (width_of byte) }
+        ensures value { left_by result (λ _. self.new) ≡ stored Memory console (width_of byte) address value flags self.old }
         ensures stopped { OnErr result (self.new ≡ self.old) }
         ensures byte { byte ≡ true → IsOk result }
     {
-        self.write_value(byte, place, value)?;
+        self.write_value(byte, address, value)?;
         self.status = with_result(byte, value, flags, self.status);
         Ok(())
     }
 
     /// Stores a word with its status bits.
     #[inline(always)]
-    pub(crate) fn stored_out(&mut self, place: u16, out: Out16) -> Result<(), Stop>
-        ensures value { left_by result (λ _. self.new) ≡ stored Memory console false place out.value out.flags self.old }
+    pub(crate) fn stored_out(&mut self, address: u16, out: Out16) -> Result<(), Stop>
+        ensures value { left_by result (λ _. self.new) ≡ stored Memory console Word address out.value out.flags self.old }
         ensures stopped { OnErr result (self.new ≡ self.old) }
     {
-        self.stored(false, place, out.value, out.flags)
+        self.stored(false, address, out.value, out.flags)
     }
 
     /// Stores a result that sets L>, A> and EQ, and leaves C and OV.
@@ -45,17 +45,17 @@ impl Cpu {
     pub(crate) fn stored_by_result(
         &mut self,
         byte: bool,
-        place: u16,
+        address: u16,
         value: u16,
     ) -> Result<(), Stop>
-        requires { value < (width_of byte).modulus }
-        ensures value { left_by result (λ _. self.new) ≡ stored_by_result Memory console byte place value self.old }
+        requires { value < modulus (width_of byte) }
+        ensures value { left_by result (λ _. self.new) ≡ stored_by_result Memory console (width_of byte) address value self.old }
         ensures stopped { OnErr result (self.new ≡ self.old) }
         ensures byte { byte ≡ true → IsOk result }
     {
         self.stored(
             byte,
-            place,
+            address,
             value,
             result_flags(byte, value, self.status.flags),
         )

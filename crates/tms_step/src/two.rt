@@ -1,7 +1,7 @@
 //! Instructions with two operands in any mode.
 
 ghost use Rattle.std.specs.Prelude.{◌≡◌, ◌<◌, OnErr, true, false};
-ghost use Rattle.console_defs.specs.Flags.{width_of};
+ghost use Rattle.console_defs.specs.Flags.{modulus, width_of};
 ghost use Rattle.console_defs.specs.Instructions.{IsPlace};
 ghost use Rattle.console_defs.specs.Memory.{Memory, console, is_port_address};
 ghost use Rattle.console_defs.specs.forms.Two.{two, two_operands};
@@ -28,7 +28,7 @@ impl Cpu {
     ) -> Result<(), Stop>
         requires dst { IsPlace dst }
         requires src { IsPlace src }
-        ensures value { left_by result (λ _. self.new) ≡ two_operands Memory console op byte dst src self.old }
+        ensures value { left_by result (λ _. self.new) ≡ two_operands Memory console op (width_of byte) dst src self.old }
         ensures stopped { OnErr result (SameButPc self.old self.new) }
     {
         let source = self.operand(src, byte)?;
@@ -41,7 +41,7 @@ impl Cpu {
     #[tactic(auto, using(crate::proofs::PutBack::put_back_later))]
     fn from_source(&mut self, op: TwoOp, byte: bool, source: u16, dst: Place) -> Result<(), Stop>
         requires { IsPlace dst }
-        ensures value { left_by result (λ _. self.new) ≡ from_source op byte source dst self.old }
+        ensures value { left_by result (λ _. self.new) ≡ from_source op (width_of byte) source dst self.old }
         ensures stopped { OnErr result (SameButPc self.old self.new) }
     {
         if byte && is_port(source) {
@@ -54,9 +54,9 @@ impl Cpu {
     #[inline(always)]
     #[tactic(auto, using(crate::proofs::PutBack::put_back_later))]
     fn from_memory(&mut self, op: TwoOp, byte: bool, source: u16, dst: Place) -> Result<(), Stop>
-        requires place { IsPlace dst }
+        requires dst { IsPlace dst }
         requires memory { byte ≡ true → is_port_address source ≡ false }
-        ensures value { left_by result (λ _. self.new) ≡ from_source op byte source dst self.old }
+        ensures value { left_by result (λ _. self.new) ≡ from_source op (width_of byte) source dst self.old }
         ensures stopped { OnErr result (SameButPc self.old self.new) }
     {
         let value = self.value_at(byte, source)?;
@@ -80,40 +80,46 @@ impl Cpu {
     }
 
     /// An operation on a byte that is read from a port and a destination.
-    fn two_from_port(&mut self, op: TwoOp, source: u16, place: u16) -> Result<(), Stop>
-        ensures value { left_by result (λ _. self.new) ≡ two_from_port op source place self.old }
+    fn two_from_port(&mut self, op: TwoOp, source: u16, address: u16) -> Result<(), Stop>
+        ensures value { left_by result (λ _. self.new) ≡ two_from_port op source address self.old }
         ensures stopped { OnErr result (self.new ≡ self.old) }
     {
         let value = self.value_at(true, source)?;
-        self.two(op, true, value, place)
+        self.two(op, true, value, address)
     }
 
-    /// An operation on a source and the destination at a place. It is told by tests, and not by a table of jumps (see
+    /// An operation on a source and the destination at an address. It is told by tests, and not by a table of jumps (see
     /// `step`).
     #[inline(always)]
-    pub(crate) fn two(&mut self, op: TwoOp, byte: bool, source: u16, place: u16) -> Result<(), Stop>
-        requires { source < (width_of byte).modulus }
-        ensures value { left_by result (λ _. self.new) ≡ two Memory console op byte source place self.old }
+    pub(crate) fn two(
+        &mut self,
+        op: TwoOp,
+        byte: bool,
+        source: u16,
+        address: u16,
+    ) -> Result<(), Stop>
+        requires { source < modulus (width_of byte) }
+        ensures value { left_by result (λ _. self.new) ≡ two Memory console op (width_of byte) source address self.old }
         ensures stopped { OnErr result (self.new ≡ self.old) }
     {
         if op == TwoOp::MOV {
-            self.stored_by_result(byte, place, source)
+            self.stored_by_result(byte, address, source)
         } else if is_arithmetic(op) {
-            self.arithmetic(op, byte, source, place)
+            self.arithmetic(op, byte, source, address)
         } else {
-            self.bitwise(op, byte, source, place)
+            self.bitwise(op, byte, source, address)
         }
     }
 
-    /// A sum, a difference or a comparison of a source and the destination at a place.
+    /// A sum, a difference or a comparison of a source and the destination at an address.
     #[inline(always)]
-    fn arithmetic(&mut self, op: TwoOp, byte: bool, source: u16, place: u16) -> Result<(), Stop>
-        requires source { source < (width_of byte).modulus }
+    fn arithmetic(&mut self, op: TwoOp, byte: bool, source: u16, address: u16) -> Result<(), Stop>
+        requires source { source < modulus (width_of byte) }
         requires op { is_arithmetic op ≡ true }
-        ensures value { left_by result (λ _. self.new) ≡ two Memory console op byte source place self.old }
+        ensures value { left_by result (λ _. self.new) ≡ two Memory console op (width_of byte) source address self.old }
         ensures stopped { OnErr result (self.new ≡ self.old) }
     {
-        let found = self.value_at(byte, place)?;
+        let found = self.value_at(byte, address)?;
         if op == TwoOp::C {
             self.status = with_order(byte, source, found, self.status);
             return Ok(());
@@ -123,24 +129,24 @@ impl Cpu {
         } else {
             difference(byte, found, source)
         };
-        self.stored(byte, place, out.value, out.flags)
+        self.stored(byte, address, out.value, out.flags)
     }
 
-    /// The ones of a source are set or cleared in the destination at a place.
+    /// The ones of a source are set or cleared in the destination at an address.
     #[inline(always)]
-    fn bitwise(&mut self, op: TwoOp, byte: bool, source: u16, place: u16) -> Result<(), Stop>
-        requires source { source < (width_of byte).modulus }
+    fn bitwise(&mut self, op: TwoOp, byte: bool, source: u16, address: u16) -> Result<(), Stop>
+        requires source { source < modulus (width_of byte) }
         requires op { is_bitwise op ≡ true }
-        ensures value { left_by result (λ _. self.new) ≡ two Memory console op byte source place self.old }
+        ensures value { left_by result (λ _. self.new) ≡ two Memory console op (width_of byte) source address self.old }
         ensures stopped { OnErr result (self.new ≡ self.old) }
     {
-        let found = self.value_at(byte, place)?;
+        let found = self.value_at(byte, address)?;
         let result = if op == TwoOp::SOC {
             ones_set(byte, found, source)
         } else {
             ones_cleared(byte, found, source)
         };
-        self.stored_by_result(byte, place, result)
+        self.stored_by_result(byte, address, result)
     }
 }
 

@@ -1,7 +1,7 @@
 //! Words that are written, and put back where a later access stops the instruction.
 
 ghost use Rattle.std.specs.Prelude.{◌≡◌, IfOk, OnOk, OnErr, Some};
-ghost use Rattle.console_defs.specs.Bus.{Gives};
+ghost use Rattle.console_defs.specs.Accesses.{Gives};
 ghost use Rattle.console_defs.specs.Memory.{Memory, console, word_read};
 ghost use Rattle.console_defs.specs.Operand.{with_word, with_words};
 ghost use Rattle.tms_step.specs.Stops.{left_by};
@@ -18,35 +18,35 @@ impl Cpu {
         ensures value { left_by result (λ _. self.new) ≡ with_words Memory console self.old writes.now }
         ensures stopped { OnErr result (SameButPc self.old self.new) }
     {
-        let [(place, word), rest @ ..] = writes else {
+        let [(address, word), rest @ ..] = writes else {
             return Ok(());
         };
-        let kept = self.replace(*place, *word)?;
+        let kept = self.replace(*address, *word)?;
         let end = self.write_words(rest);
         self.settle(end, Some(kept))
     }
 
     /// Writes a word over the one that stands there, which is kept.
-    fn replace(&mut self, place: u16, word: u16) -> Result<Kept, Stop>
-        ensures value { left_by result (λ _. self.new) ≡ with_word Memory console self.old place word }
+    fn replace(&mut self, address: u16, word: u16) -> Result<Kept, Stop>
+        ensures value { left_by result (λ _. self.new) ≡ with_word Memory console self.old address word }
         ensures undo { IfOk result (λ kept. SameButPc self.old (put_back (Some kept) self.new)) }
         ensures stopped { OnErr result (SameButPc self.old self.new) }
     {
-        let old = self.word_at(place)?;
-        self.write_over(place, old, word)
+        let old = self.word_at(address)?;
+        self.write_over(address, old, word)
     }
 
     /// Writes a word over the one that is given, which is kept.
     #[inline]
-    pub(crate) fn write_over(&mut self, place: u16, old: u16, word: u16) -> Result<Kept, Stop>
-        requires { word_read self.old.memory place ≡ Gives old }
-        ensures value { left_by result (λ _. self.new) ≡ with_word Memory console self.old place word }
+    pub(crate) fn write_over(&mut self, address: u16, old: u16, word: u16) -> Result<Kept, Stop>
+        requires { word_read self.old.memory address ≡ Gives old }
+        ensures value { left_by result (λ _. self.new) ≡ with_word Memory console self.old address word }
         ensures undo { IfOk result (λ kept. SameButPc self.old (put_back (Some kept) self.new)) }
         ensures stopped { OnErr result (SameButPc self.old self.new) }
     {
         self.holds_bounds();
-        self.write_word(place, word)?;
-        Ok(Kept { place, word: old })
+        self.write_word(address, word)?;
+        Ok(Kept { address, word: old })
     }
 
     /// How an instruction ends, where a word was written over before: unless it was executed, the word is put back.
@@ -70,7 +70,7 @@ impl Cpu {
         ensures { self.new ≡ put_back kept self.old }
     {
         if let Some(kept) = kept {
-            let _written = self.bus.write_word(kept.place, kept.word);
+            let _written = self.bus.write_word(kept.address, kept.word);
         }
     }
 }

@@ -1,14 +1,14 @@
 //! Sums, differences, negatives, absolute values, comparisons and the parity of bytes, with their status bits.
 ghost use Rattle.std.specs.Prelude.{◌≡◌};
-ghost use Rattle.console_defs.specs.Flags.{byte_width, result_flags, sum_of, sum_flags, sum_overflows, difference_of, difference_flags, difference_overflows, negation_of, negation_flags, absolute_of, absolute_flags, by_order, no_flags, has_odd_parity};
+ghost use Rattle.console_defs.specs.Flags.{Byte, result_flags, sum_of, sum_flags, sum_overflows, difference_of, difference_flags, difference_overflows, negation_of, negation_flags, absolute_of, absolute_flags, by_order, no_flags, has_odd_parity};
 
 use console_defs::{Flags, Out8};
 
 /// The sum of two bytes; its status bits are those of `add16` at the width of a byte.
 /// TMS9900 data manual, "Add bytes".
 pub fn add8(d: u8, s: u8) -> Out8
-    ensures value { result.value ≡ sum_of byte_width d s }
-    ensures flags { result.flags ≡ sum_flags byte_width d s }
+    ensures value { result.value ≡ sum_of Byte d s }
+    ensures flags { result.flags ≡ sum_flags Byte d s }
 {
     let (value, carry) = d.overflowing_add(s);
     Out8 {
@@ -20,8 +20,8 @@ pub fn add8(d: u8, s: u8) -> Out8
 /// The difference `d - s` of two bytes; its status bits are those of `sub16` at the width of a byte.
 /// TMS9900 data manual, "Subtract bytes".
 pub fn sub8(d: u8, s: u8) -> Out8
-    ensures value { result.value ≡ difference_of byte_width d s }
-    ensures flags { result.flags ≡ difference_flags byte_width d s }
+    ensures value { result.value ≡ difference_of Byte d s }
+    ensures flags { result.flags ≡ difference_flags Byte d s }
 {
     let value = d.wrapping_sub(s);
     Out8 {
@@ -33,8 +33,8 @@ pub fn sub8(d: u8, s: u8) -> Out8
 /// The negative of a byte; its status bits are those of `neg16` at the width of a byte.
 /// TMS9900 data manual, "Negate".
 pub fn neg8(x: u8) -> Out8
-    ensures value { result.value ≡ negation_of byte_width x }
-    ensures flags { result.flags ≡ negation_flags byte_width x }
+    ensures value { result.value ≡ negation_of Byte x }
+    ensures flags { result.flags ≡ negation_flags Byte x }
 {
     let value = x.wrapping_neg();
     Out8 {
@@ -46,8 +46,8 @@ pub fn neg8(x: u8) -> Out8
 /// The absolute value of a byte; its status bits are those of `abs16` at the width of a byte.
 /// TMS9900 data manual, "Absolute value".
 pub fn abs8(x: u8) -> Out8
-    ensures value { result.value ≡ absolute_of byte_width x }
-    ensures flags { result.flags ≡ absolute_flags byte_width x }
+    ensures value { result.value ≡ absolute_of Byte x }
+    ensures flags { result.flags ≡ absolute_flags Byte x }
 {
     Out8 {
         value: magnitude8(x),
@@ -58,7 +58,7 @@ pub fn abs8(x: u8) -> Out8
 /// L>, A> and EQ of `a` against `b`, as bytes; C and OV are false.
 /// TMS9900 data manual, "Compare bytes".
 pub fn compare8(a: u8, b: u8) -> Flags
-    ensures { result ≡ by_order byte_width a b no_flags }
+    ensures { result ≡ by_order Byte a b no_flags }
 {
     Flags {
         lgt: a > b,
@@ -78,7 +78,7 @@ pub fn odd8(x: u8) -> bool
 
 /// L>, A> and EQ by a byte against 0, with the given C and OV.
 fn result_flags8(number: u8, c: bool, ov: bool) -> Flags
-    ensures { result ≡ result_flags byte_width number c ov }
+    ensures { result ≡ result_flags Byte number c ov }
 {
     Flags {
         lgt: number > 0,
@@ -91,21 +91,21 @@ fn result_flags8(number: u8, c: bool, ov: bool) -> Flags
 
 /// The sum of two signed bytes is no signed byte.
 fn sum_overflows8(d: u8, s: u8) -> bool
-    ensures { result ≡ sum_overflows byte_width d s }
+    ensures { result ≡ sum_overflows Byte d s }
 {
     d.cast_signed().overflowing_add(s.cast_signed()).1
 }
 
 /// The difference of two signed bytes is no signed byte.
 fn difference_overflows8(d: u8, s: u8) -> bool
-    ensures { result ≡ difference_overflows byte_width d s }
+    ensures { result ≡ difference_overflows Byte d s }
 {
     d.cast_signed().overflowing_sub(s.cast_signed()).1
 }
 
 /// The absolute value of a signed byte.
 fn magnitude8(x: u8) -> u8
-    ensures { result ≡ absolute_of byte_width x }
+    ensures { result ≡ absolute_of Byte x }
 {
     x.cast_signed().unsigned_abs()
 }

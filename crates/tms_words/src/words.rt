@@ -1,14 +1,14 @@
 //! Sums, differences, negatives, absolute values and comparisons of words, with their status bits.
 ghost use Rattle.std.specs.Prelude.{◌≡◌};
-ghost use Rattle.console_defs.specs.Flags.{word_width, result_flags, sum_of, sum_flags, sum_overflows, difference_of, difference_flags, difference_overflows, negation_of, negation_flags, absolute_of, absolute_flags, by_order, no_flags};
+ghost use Rattle.console_defs.specs.Flags.{Word, result_flags, sum_of, sum_flags, sum_overflows, difference_of, difference_flags, difference_overflows, negation_of, negation_flags, absolute_of, absolute_flags, by_order, no_flags};
 
 use console_defs::{Flags, Out16};
 
 /// The sum of two words. L>, A> and EQ are set by the sum; C where it leaves the width; OV where the sum of the
 /// signed numbers does. TMS9900 data manual, "Add words".
 pub fn add16(d: u16, s: u16) -> Out16
-    ensures value { result.value ≡ sum_of word_width d s }
-    ensures flags { result.flags ≡ sum_flags word_width d s }
+    ensures value { result.value ≡ sum_of Word d s }
+    ensures flags { result.flags ≡ sum_flags Word d s }
 {
     let (value, carry) = d.overflowing_add(s);
     Out16 {
@@ -20,8 +20,8 @@ pub fn add16(d: u16, s: u16) -> Out16
 /// The difference `d - s` of two words. L>, A> and EQ are set by the difference; C where there is no borrow; OV where
 /// the difference of the signed numbers leaves the width. TMS9900 data manual, "Subtract words".
 pub fn sub16(d: u16, s: u16) -> Out16
-    ensures value { result.value ≡ difference_of word_width d s }
-    ensures flags { result.flags ≡ difference_flags word_width d s }
+    ensures value { result.value ≡ difference_of Word d s }
+    ensures flags { result.flags ≡ difference_flags Word d s }
 {
     let value = d.wrapping_sub(s);
     Out16 {
@@ -33,8 +33,8 @@ pub fn sub16(d: u16, s: u16) -> Out16
 /// The negative of a word. L>, A> and EQ are set by the negative; OV for >8000, which stays as it is (TMS9900 data
 /// manual, "Negate"). C is set for 0 alone, which is this project's own rule.
 pub fn neg16(x: u16) -> Out16
-    ensures value { result.value ≡ negation_of word_width x }
-    ensures flags { result.flags ≡ negation_flags word_width x }
+    ensures value { result.value ≡ negation_of Word x }
+    ensures flags { result.flags ≡ negation_flags Word x }
 {
     let value = x.wrapping_neg();
     Out16 {
@@ -46,8 +46,8 @@ pub fn neg16(x: u16) -> Out16
 /// The absolute value of a word. L>, A> and EQ are set by the word as it was; OV for >8000, which stays as it is (TMS9900
 /// data manual, "Absolute value"). C is false, which is this project's own rule.
 pub fn abs16(x: u16) -> Out16
-    ensures value { result.value ≡ absolute_of word_width x }
-    ensures flags { result.flags ≡ absolute_flags word_width x }
+    ensures value { result.value ≡ absolute_of Word x }
+    ensures flags { result.flags ≡ absolute_flags Word x }
 {
     Out16 {
         value: magnitude16(x),
@@ -58,7 +58,7 @@ pub fn abs16(x: u16) -> Out16
 /// L>, A> and EQ of `a` against `b`, as words; C and OV are false.
 /// TMS9900 data manual, "Compare words".
 pub fn compare16(a: u16, b: u16) -> Flags
-    ensures { result ≡ by_order word_width a b no_flags }
+    ensures { result ≡ by_order Word a b no_flags }
 {
     Flags {
         lgt: a > b,
@@ -71,7 +71,7 @@ pub fn compare16(a: u16, b: u16) -> Flags
 
 /// L>, A> and EQ by a word against 0, with the given C and OV.
 pub(crate) fn result_flags16(number: u16, c: bool, ov: bool) -> Flags
-    ensures { result ≡ result_flags word_width number c ov }
+    ensures { result ≡ result_flags Word number c ov }
 {
     Flags {
         lgt: number > 0,
@@ -84,21 +84,21 @@ pub(crate) fn result_flags16(number: u16, c: bool, ov: bool) -> Flags
 
 /// The sum of two signed words is no signed word.
 fn sum_overflows16(d: u16, s: u16) -> bool
-    ensures { result ≡ sum_overflows word_width d s }
+    ensures { result ≡ sum_overflows Word d s }
 {
     d.cast_signed().overflowing_add(s.cast_signed()).1
 }
 
 /// The difference of two signed words is no signed word.
 fn difference_overflows16(d: u16, s: u16) -> bool
-    ensures { result ≡ difference_overflows word_width d s }
+    ensures { result ≡ difference_overflows Word d s }
 {
     d.cast_signed().overflowing_sub(s.cast_signed()).1
 }
 
 /// The absolute value of a signed word.
 fn magnitude16(x: u16) -> u16
-    ensures { result ≡ absolute_of word_width x }
+    ensures { result ≡ absolute_of Word x }
 {
     x.cast_signed().unsigned_abs()
 }

@@ -1,12 +1,29 @@
 -- Jumps.
-use Rattle.std.specs.Prelude.{ℕ, ℤ, pos, ◌*ℤ◌, Bool, true, false, not, ◌&&◌, ◌||◌, Option, Some, None}
+use Rattle.std.specs.Prelude.{ℕ, ℤ, pos, ◌*ℤ◌, Bool, true, not, ◌&&◌, ◌||◌, if◌then◌else◌, Option, Some, None}
 use Rattle.std.specs.Int.{w16, cast_unsigned}
 use Rattle.console_defs.specs.Words.{plus}
-use Rattle.console_defs.specs.Bus.{Answer, Gives, NoInstruction}
+use Rattle.console_defs.specs.Accesses.{Answer, Gives, NoInstruction}
 use Rattle.console_defs.specs.Operand.{Cpu}
 use Rattle.console_defs.specs.declared.status.Status.{Status}
 use Rattle.console_defs.specs.declared.instruction.JumpOp.{JumpOp}
-use Rattle.console_defs.specs.declared.instruction.JumpOp.TheVariants.{JMP, JLT, JLE, JEQ, JHE, JGT, JNE, JNC, JOC, JNO, JL, JH, JOP, SBO, SBZ, TB}
+use Rattle.console_defs.specs.declared.instruction.JumpOp.TheVariants.{
+  JMP,
+  JLT,
+  JLE,
+  JEQ,
+  JHE,
+  JGT,
+  JNE,
+  JNC,
+  JOC,
+  JNO,
+  JL,
+  JH,
+  JOP,
+  SBO,
+  SBZ,
+  TB,
+}
 
 -- Jumps count words from the next instruction. TMS9900 data manual, "Jump instructions".
 abbrev pub jump_target : ℕ → ℤ → ℕ
@@ -33,10 +50,10 @@ condition SBZ status = None
 condition TB status = None
 
 module _ (M : Type 0) where
+  -- A jump whose condition holds goes to its target; without a condition it is no jump.
   -- TMS9900 data manual, "Jump instructions".
   abbrev pub jump_where : Option Bool → ℤ → Cpu M → Answer (Cpu M)
-  jump_where (Some true) disp x = Gives (record x { pc = jump_target x.pc disp })
-  jump_where (Some false) disp x = Gives x
+  jump_where (Some taken) disp x = Gives (record x { pc = if taken then jump_target x.pc disp else x.pc })
   jump_where None disp x = NoInstruction
 
   abbrev pub jump : JumpOp → ℤ → Cpu M → Answer (Cpu M)

@@ -1,49 +1,49 @@
 -- Two operands in any mode.
-use Rattle.std.specs.Prelude.{ℕ, Bool}
-use Rattle.console_defs.specs.Flags.{width_of, sum_of, sum_flags, difference_of, difference_flags}
+use Rattle.std.specs.Prelude.{ℕ}
+use Rattle.console_defs.specs.Flags.{Width, sum_of, sum_flags, difference_of, difference_flags}
 use Rattle.console_defs.specs.Logic.{ones_set, ones_cleared}
 use Rattle.console_defs.specs.Status.{with_order}
-use Rattle.console_defs.specs.Bus.{Answer, Gives, ◌>>=◌, Bus}
+use Rattle.console_defs.specs.Accesses.{Answer, Gives, ◌>>=◌, Accesses}
 use Rattle.console_defs.specs.Operand.{Cpu, mode_of, operand, value_at}
 use Rattle.console_defs.specs.forms.Results.{stored, stored_by_result}
 use Rattle.console_defs.specs.declared.instruction.Place.{Place}
 use Rattle.console_defs.specs.declared.instruction.TwoOp.{TwoOp}
 use Rattle.console_defs.specs.declared.instruction.TwoOp.TheVariants.{SZC, S, C, A, MOV, SOC}
 
-module _ (M : Type 0) (bus : Bus M) where
-  -- An operation on a source and the destination at a place.
-  abbrev pub two : TwoOp → Bool → ℕ → ℕ → Cpu M → Answer (Cpu M)
+module _ (M : Type 0) (access : Accesses M) where
+  -- An operation on a source and the destination at an address.
+  abbrev pub two : TwoOp → Width → ℕ → ℕ → Cpu M → Answer (Cpu M)
   -- TMS9900 data manual, "Set zeros corresponding", "Set zeros corresponding bytes".
-  two SZC byte source place x = do
-    found ← value_at M bus byte place x
-    stored_by_result M bus byte place (ones_cleared (width_of byte) found.0 source) found.1
+  two SZC width source address x = do
+    (found, read) ← value_at M access width address x
+    stored_by_result M access width address (ones_cleared width found source) read
   -- Subtract: L>, A>, EQ, C and OV by the difference. TMS9900 data manual, "Subtract words", "Subtract bytes".
-  two S byte source place x = do
-    found ← value_at M bus byte place x
-    stored M bus byte place (difference_of (width_of byte) found.0 source) (difference_flags (width_of byte) found.0 source) found.1
+  two S width source address x = do
+    (found, read) ← value_at M access width address x
+    stored M access width address (difference_of width found source) (difference_flags width found source) read
   -- Compare: the source against the destination, of which neither changes.
   -- TMS9900 data manual, "Compare words", "Compare bytes".
-  two C byte source place x = do
-    found ← value_at M bus byte place x
-    Gives (record found.1 { status = with_order byte source found.0 found.1.status })
+  two C width source address x = do
+    (found, read) ← value_at M access width address x
+    Gives (record read { status = with_order width source found read.status })
   -- Add: L>, A>, EQ, C and OV by the sum. TMS9900 data manual, "Add words", "Add bytes".
-  two A byte source place x = do
-    found ← value_at M bus byte place x
-    stored M bus byte place (sum_of (width_of byte) found.0 source) (sum_flags (width_of byte) found.0 source) found.1
+  two A width source address x = do
+    (found, read) ← value_at M access width address x
+    stored M access width address (sum_of width found source) (sum_flags width found source) read
   -- Move: L>, A> and EQ by the source. TMS9900 data manual, "Move word", "Move byte".
   -- Profile: the destination is written without being read.
-  two MOV byte source place x = stored_by_result M bus byte place source x
+  two MOV width source address x = stored_by_result M access width address source x
   -- TMS9900 data manual, "Set ones corresponding", "Set ones corresponding bytes".
-  two SOC byte source place x = do
-    found ← value_at M bus byte place x
-    stored_by_result M bus byte place (ones_set found.0 source) found.1
+  two SOC width source address x = do
+    (found, read) ← value_at M access width address x
+    stored_by_result M access width address (ones_set found source) read
 
   -- The source is derived first.
   -- TMS9900 data manual, "Dual operand instructions with multiple addressing modes for source and destination operand".
   -- Profile: its register grows and it is read before the destination is derived.
-  abbrev pub two_operands : TwoOp → Bool → Place → Place → Cpu M → Answer (Cpu M)
-  two_operands op byte dst src x = do
-    source ← operand M bus (mode_of src.mode) (width_of byte) src.reg x
-    value ← value_at M bus byte source.0 source.1
-    destination ← operand M bus (mode_of dst.mode) (width_of byte) dst.reg value.1
-    two op byte value.0 destination.0 destination.1
+  abbrev pub two_operands : TwoOp → Width → Place → Place → Cpu M → Answer (Cpu M)
+  two_operands op width dst src x = do
+    (source, derived) ← operand M access (mode_of src.mode) width src.reg x
+    (value, read) ← value_at M access width source derived
+    (destination, left) ← operand M access (mode_of dst.mode) width dst.reg read
+    two op width value destination left

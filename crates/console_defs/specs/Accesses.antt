@@ -16,20 +16,20 @@ abbrev pub ◌>>=◌ : {X Y : Type 0} → Answer X → (X → Answer Y) → Answ
 ◌>>=◌ (AtPort address) next = AtPort address
 ◌>>=◌ NoInstruction next = NoInstruction
 
--- The four accesses: a word is read or written at its even address; a byte that is read may change a port.
+-- The four accesses to a memory: a word is read or written at its even address; a byte that is read may change a port.
 -- TMS9900 data manual, "Registers and memory".
-pub record Bus (M : Type 0) : Type 0 where
+pub record Accesses (M : Type 0) : Type 0 where
   pub word : M → ℕ → Answer ℕ
   pub with_word : M → ℕ → ℕ → Answer M
   pub byte : M → ℕ → Answer (ℕ × M)
   pub with_byte : M → ℕ → ℕ → Answer M
 
--- The answer of a word access of the code.
+-- The answer of a word that the code reads.
 abbrev pub answer_of : {X : Type 0} → Result X PortStop → Answer X
 answer_of (Ok x) = Gives x
 answer_of (Err stop) = AtPort stop.0
 
--- The same, with what the access left.
-abbrev pub left_by : {X Y : Type 0} → Result X PortStop → Y → Answer Y
-left_by (Ok x) left = Gives left
-left_by (Err stop) left = AtPort stop.0
+-- The answer of a word that the code writes, with what the write left.
+abbrev pub written_by : {X Y : Type 0} → Result X PortStop → Y → Answer Y
+written_by (Ok x) left = Gives left
+written_by (Err stop) left = AtPort stop.0
