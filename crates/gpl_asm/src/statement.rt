@@ -32,12 +32,13 @@ pub(crate) enum Statement {
 }
 
 impl Statement {
-    ghost use Rattle.std.specs.Prelude.{◌≡◌, ◌↔◌, IsTrue};
+    ghost use Rattle.std.specs.Prelude.{◌≡◌};
+    ghost use Rattle.gpl_defs.specs.Layout.{is_end};
     ghost use Rattle.gpl_asm.specs.Answers.{defined_statement};
 
     /// Whether the source ends here.
     pub(crate) fn is_end(&self) -> bool
-        ensures { IsTrue result ↔ (defined_statement self.now ≡ spec.End) }
+        ensures { result ≡ is_end (defined_statement self.now) }
     {
         matches!(self, Statement::End)
     }
