@@ -59,7 +59,8 @@ pub(crate) fn read_statement(line: &[u8]) -> Result<Statement, GplCause>
 fn fields_statement(line: &[u8], found: &Fields) -> Result<Statement, GplCause>
     requires inside { FieldsLieInside line.now found.now }
     requires length { length line.now ≤ 256 }
-    ensures value { defined_answer result ≡ spec.fields_statement line.now found.now.label found.now.operation found.now.operands }
+    ensures value { defined_answer result
+        ≡ spec.fields_statement line.now found.now.label found.now.operation found.now.operands }
     ensures aligned { IfOk result IsAligned }
 {
     match (found.label, found.operation) {

@@ -117,9 +117,7 @@ fn zeros(alloc: Global, count: usize) -> Result<Vec<u8>, AllocError>
 /// `count` places that are not marked.
 fn no_marks(alloc: Global, count: usize) -> Result<Vec<bool>, AllocError>
     ensures size { IfOk result (λ marks. length marks.items ≡ count) }
-    ensures each {
-        IfOk result (λ marks. EachIndex marks.items (λ k. slice_index_or marks.items k false ≡ false))
-    }
+    ensures each { IfOk result (λ marks. EachIndex marks.items (λ k. slice_index_or marks.items k false ≡ false)) }
 {
     vec![in alloc; false; count]
 }

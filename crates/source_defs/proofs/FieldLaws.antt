@@ -104,7 +104,7 @@ ends_operands line from le =
       after = end.not_before_start;
       within = end.not_after_end;
       blanks_in_quotes = λ k ge lt.
-        quoted_blank (is_blank (get_or line k 0)) (in_quotes line from k) (end.none_before k ge lt);
+          quoted_blank (is_blank (get_or line k 0)) (in_quotes line from k) (end.none_before k ge lt);
       blank = λ lt. ends_blank (is_blank (get_or line at 0)) (in_quotes line from at) (end.passes lt);
       outside_quotes = λ lt. ends_outside (is_blank (get_or line at 0)) (in_quotes line from at) (end.passes lt);
     }
@@ -113,8 +113,8 @@ ends_operands line from le =
 operation_by : (b : Bool) (line : List ℕ) (from : ℕ) → nat_lt (word_start line from) (length line) ≡ b
     → from ≤ length line
     → IsOperation line from
-        (cond b (Some (record { start = word_start line from; end = word_end line (word_start line from) })) None)
-        (word_end line (word_start line from))
+    (cond b (Some (record { start = word_start line from; end = word_end line (word_start line from) })) None)
+    (word_end line (word_start line from))
 operation_by true line from e le =
     let start = starts_word line from le in
     (start, ltb-true _ _ e, ends_word line (word_start line from) start.within, refl)
@@ -122,7 +122,7 @@ operation_by false line from e le =
     let start = starts_word line from le in
     let past : word_start line from ≡ length line = grind (arith, nat_tests, start.within) in
     let end : word_end line (word_start line from) ≡ length line =
-        least_place_end _ line (word_start line from) (omega arith) ∙ past in
+    least_place_end _ line (word_start line from) (omega arith) ∙ past in
     ((rw past at start), end)
 
 apart : (line : List ℕ) (label : Option (List ℕ)) (end : ℕ) → end ≤ length line → IsLabel line label end

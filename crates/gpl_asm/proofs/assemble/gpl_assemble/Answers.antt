@@ -11,8 +11,8 @@ pub returns-in-Err-add : goal.returns-in-Err-add
 returns-in-Err-add c =
     let i = c.loop-line.invariant in
     let step =
-        refused_there c.args.text.now i.0 c.in-Some.line c.next.new.self (defined_statement c.in-Ok.found)
-        c.in-Err-add.cause (sym c.in-Ok.ensures.value) (c.in-Err-add.ensures.added i.0 i.1) in
+    refused_there c.args.text.now i.0 c.in-Some.line c.next.new.self (defined_statement c.in-Ok.found)
+    c.in-Err-add.cause (sym c.in-Ok.ensures.value) (c.in-Err-add.ensures.added i.0 i.1) in
     rw c.refused-in-Err-add.ensures
     (ap (λ read. read >>= (λ statements. Ok (image_of_lines statements)))
     (sym i.4 ∙ (ap (statements_from c.args.text.now i.0) c.in-Some.ensures.steps ∙ step)))
@@ -22,11 +22,10 @@ loop-line-preserved c =
     let i = c.loop-line.invariant in
     let laid = c.in_default.ensures.added i.0 i.1 in
     let inside : LinesLieInside c.args.text.now (c.in-Some.line ∷ c.next.new.self) =
-        rw c.in-Some.ensures.steps at i.3 in
+    rw c.in-Some.ensures.steps at i.3 in
     let step =
-        goes_on c.args.text.now i.0 c.in-Some.line c.next.new.self (defined_statement c.in-Ok.found)
-        (sym c.is_end.ensures ∙ c.if-is_end.false) (sym c.in-Ok.ensures.value) laid.0 in
-    (
+    goes_on c.args.text.now i.0 c.in-Some.line c.next.new.self (defined_statement c.in-Ok.found)
+    (sym c.is_end.ensures ∙ c.if-is_end.false) (sym c.in-Ok.ensures.value) laid.0 in (
       defined_statement c.in-Ok.found ∷ i.0,
       laid.1,
       c.in_default.ensures.within,
@@ -38,7 +37,7 @@ pub returns-in-Err : goal.returns-in-Err
 returns-in-Err c =
     let i = c.loop-line.invariant in
     let step =
-        refused_itself c.args.text.now i.0 c.in-Some.line c.next.new.self c.in-Err.cause (sym c.in-Err.ensures.value) in
+    refused_itself c.args.text.now i.0 c.in-Some.line c.next.new.self c.in-Err.cause (sym c.in-Err.ensures.value) in
     rw c.refused.ensures
     (ap (λ read. read >>= (λ statements. Ok (image_of_lines statements)))
     (sym i.4 ∙ (ap (statements_from c.args.text.now i.0) c.in-Some.ensures.steps ∙ step)))
@@ -57,8 +56,8 @@ returns c =
           ∙ ap Ok (sym image))
       | in-Some+in-Ok+then-is_end w ↦
           let ends =
-              ends_there text i.0 w.in-Some.line _ (defined_statement w.in-Ok.found)
-              (sym w.is_end.ensures ∙ w.if-is_end.true) (sym w.in-Ok.ensures.value) in
+          ends_there text i.0 w.in-Some.line _ (defined_statement w.in-Ok.found)
+          (sym w.is_end.ensures ∙ w.if-is_end.true) (sym w.in-Ok.ensures.value) in
           whole
           ∙ (ap (λ read. read >>= (λ statements. Ok (image_of_lines statements)))
           (ap (statements_from text i.0) w.in-Some.ensures.steps ∙ ends)
