@@ -6,5 +6,8 @@ pub use Rattle.source_defs.specs.Names
 pub use Rattle.source_defs.specs.Numbers
 pub use Rattle.source_defs.specs.Fields
 pub use Rattle.source_defs.specs.FieldLaw
+pub use Rattle.source_defs.specs.Tokens
+pub use Rattle.source_defs.specs.TokenLaw
 pub mod GivenFields
+pub mod GivenTokens
 pub mod Padding

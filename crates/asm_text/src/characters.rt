@@ -36,6 +36,12 @@ pub(crate) fn is_asterisk(byte: u8) -> bool
     byte == b'*'
 }
 
+pub(crate) fn is_digit(byte: u8) -> bool
+    ensures { result ≡ spec.is_digit byte }
+{
+    byte.is_ascii_digit()
+}
+
 pub(crate) fn is_letter(byte: u8) -> bool
     ensures { result ≡ spec.is_letter byte }
 {

@@ -9,7 +9,10 @@ ghost use Rattle.source_defs.specs.Numbers.{hexadecimal_digit};
 pub fn byte_digits(byte: u8) -> [u8; 2]
     ensures { result ≡ spec.byte_digits byte }
 {
-    [hexadecimal_digit(byte / 16 % 16), hexadecimal_digit(byte % 16)]
+    [
+        hexadecimal_digit(byte / 16 % 16),
+        hexadecimal_digit(byte % 16),
+    ]
 }
 
 /// The four hexadecimal digits of a word, in upper case.

@@ -14,7 +14,9 @@ pub fn lines_of_a_text()
     ensures { LinesAreLines }
 {}
 
-/// Blanks stand between the fields of a line, and none in a field but in an operand field's quotes.
+/// The fields of a line stand apart in it: the label is the name from column 1 up to the first blank, in upper case;
+/// blanks alone stand between it, the operation and the operand field, and none in them but in quotes. A comment has
+/// no fields.
 pub fn fields_of_a_line()
     ensures { FieldsStandApart }
 {}

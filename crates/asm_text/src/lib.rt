@@ -1,4 +1,4 @@
-//! Source text: its lines, the fields of a line, and names.
+//! Source text: its lines, the fields of a line, names, and the tokens and values of expressions.
 #![tactic(auto)]
 
 mod characters;
@@ -9,10 +9,12 @@ mod line_iter;
 mod name;
 mod numbers;
 mod places;
+mod scan;
 mod split;
 #[cfg(test)]
 mod tests;
 mod text;
+mod token;
 mod words;
 
 pub use crate::characters::{is_blank, is_line_feed, is_printed};
@@ -22,7 +24,9 @@ pub use crate::line_fields::Fields;
 pub use crate::line_iter::Lines;
 pub use crate::name::Name;
 pub use crate::numbers::{decimal_up_to, number};
+pub use crate::scan::tokens;
 pub use crate::split::fields;
 pub use crate::text::lines;
+pub use crate::token::{Token, TokenKind};
 pub use crate::words::is_word;
-pub use source_defs::{Line, Span, TextError};
+pub use source_defs::{ExprError, Line, Span, TextError};

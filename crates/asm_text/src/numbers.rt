@@ -37,7 +37,7 @@ pub fn decimal_up_to(digits: &[u8], limit: u32) -> Option<u32>
 }
 
 /// The number of one to four hexadecimal digits.
-fn hexadecimal_number(digits: &[u8]) -> Option<u16>
+pub(crate) fn hexadecimal_number(digits: &[u8]) -> Option<u16>
     ensures { result ≡ spec.hexadecimal_number digits.now }
 {
     if digits.is_empty() || digits.len() > 4 {
@@ -48,6 +48,12 @@ fn hexadecimal_number(digits: &[u8]) -> Option<u16>
         value = value * 16 + u16::from(hexadecimal_digit(byte)?);
     }
     Some(value)
+}
+
+pub(crate) fn is_hexadecimal_digit(byte: u8) -> bool
+    ensures { result ≡ spec.is_hexadecimal_digit byte }
+{
+    byte.is_ascii_hexdigit()
 }
 
 /// What a hexadecimal digit of either case stands for.

@@ -1,10 +1,13 @@
 //! The places in a text or a line where something begins or ends.
 
-ghost use Rattle.std.specs.Prelude.{◌≡◌, ◌≤◌, length};
+ghost use Rattle.std.specs.Prelude.{◌≡◌, ◌≤◌, length, if◌then◌else◌, Some, None};
 ghost use Rattle.source_defs.specs.Fields as spec;
+ghost use Rattle.source_defs.specs.Fields.{in_quotes};
+ghost use Rattle.source_defs.specs.Tokens as tokens;
 ghost use Rattle.source_defs.specs.Lines.{feed_place};
 
-use crate::characters::{is_blank, is_line_feed, is_quote};
+use crate::characters::{is_blank, is_digit, is_letter_or_digit, is_line_feed, is_quote};
+use crate::numbers::is_hexadecimal_digit;
 
 /// From a place on, the first line feed, or the text's end.
 #[tactic(auto, using(source_defs::proofs::LeastLaws::leasts))]
@@ -66,4 +69,73 @@ pub(crate) fn operand_end(line: &[u8], start: usize) -> usize
         }
     }
     line.len()
+}
+
+/// From a place on, the first byte that is no digit, or the text's end.
+#[tactic(auto, using(source_defs::proofs::LeastLaws::leasts, source_defs::proofs::LeastLaws::least_bounds))]
+pub(crate) fn digits_end(text: &[u8], from: usize) -> usize
+    requires { from ≤ length text.now }
+    ensures place { result ≡ tokens.digits_end text.now from }
+    ensures after { from ≤ result }
+    ensures within { result ≤ length text.now }
+{
+    for at in from..text.len() {
+        if !is_digit(text[at]) {
+            return at;
+        }
+    }
+    text.len()
+}
+
+/// From a place on, the first byte that is no hexadecimal digit, or the text's end.
+#[tactic(auto, using(source_defs::proofs::LeastLaws::leasts, source_defs::proofs::LeastLaws::least_bounds))]
+pub(crate) fn hexadecimal_end(text: &[u8], from: usize) -> usize
+    requires { from ≤ length text.now }
+    ensures place { result ≡ tokens.hexadecimal_end text.now from }
+    ensures after { from ≤ result }
+    ensures within { result ≤ length text.now }
+{
+    for at in from..text.len() {
+        if !is_hexadecimal_digit(text[at]) {
+            return at;
+        }
+    }
+    text.len()
+}
+
+/// From a place on, the first byte that is no letter and no digit, or the text's end.
+#[tactic(auto, using(source_defs::proofs::LeastLaws::leasts, source_defs::proofs::LeastLaws::least_bounds))]
+pub(crate) fn name_end(text: &[u8], from: usize) -> usize
+    requires { from ≤ length text.now }
+    ensures place { result ≡ tokens.name_end text.now from }
+    ensures after { from ≤ result }
+    ensures within { result ≤ length text.now }
+{
+    for at in from..text.len() {
+        if !is_letter_or_digit(text[at]) {
+            return at;
+        }
+    }
+    text.len()
+}
+
+/// The end of a quoted text that starts at a place, or `None` where it is not closed.
+#[tactic(auto, using(source_defs::proofs::LeastLaws::leasts, source_defs::proofs::LeastLaws::least_bounds,
+    source_defs::proofs::Quotes::quoting))]
+pub(crate) fn text_end(text: &[u8], start: usize) -> Option<usize>
+    requires { start ≤ length text.now }
+    ensures {
+        result ≡ (if in_quotes text.now start (tokens.text_end text.now start)
+            then None else Some (tokens.text_end text.now start))
+    }
+{
+    let mut quoted = false;
+    for at in start..text.len() {
+        if is_quote(text[at]) {
+            quoted = !quoted;
+        } else if !quoted {
+            return Some(at);
+        }
+    }
+    if quoted { None } else { Some(text.len()) }
 }

@@ -81,9 +81,9 @@ fn fields_after(line: &[u8], label: Option<Name>, from: usize) -> Fields
     }
 }
 
-/// The name in a label field, in upper case.
+/// The name that a text is, in upper case.
 #[tactic(auto, using(source_defs::proofs::FieldLaws::upper_case_kept, source_defs::proofs::FieldLaws::upper_case_name))]
-fn label(field: &[u8]) -> Option<Name>
+pub(crate) fn label(field: &[u8]) -> Option<Name>
     ensures value { result ≡ (if is_name field.now then Some (map upper_case field.now) else None) }
     ensures names { IfSome result IsUpperCaseName }
 {

@@ -61,7 +61,8 @@ impl Layout {
     fn begin(&mut self, address: u32) -> Result<(), GplCause>
         requires aligned { address % 0x2000 ≡ 0 }
         requires address { address < 65536 }
-        ensures added { (before : List spec.Statement) → self.old ≡ layout_of before → Adds before (spec.Grom address) result self.new }
+        ensures added { (before : List spec.Statement) → self.old ≡ layout_of before →
+            Adds before (spec.Grom address) result self.new }
         ensures within { OnOk result (IsInGrom self.new) }
     {
         if self.location != self.origin {
@@ -75,7 +76,8 @@ impl Layout {
     /// Places bytes at the location.
     fn place(&mut self, bytes: &[u8]) -> Result<(), GplCause>
         requires within { IsInGrom self.old }
-        ensures added { (before : List spec.Statement) → self.old ≡ layout_of before → Adds before (spec.Bytes bytes.now) result self.new }
+        ensures added { (before : List spec.Statement) → self.old ≡ layout_of before →
+            Adds before (spec.Bytes bytes.now) result self.new }
         ensures within { OnOk result (IsInGrom self.new) }
     {
         let end = self.origin + GROM_SIZE;

@@ -32,12 +32,13 @@ pub(crate) enum Statement {
 }
 
 impl Statement {
-    ghost use Rattle.std.specs.Prelude.{◌≡◌, ◌↔◌, IsTrue};
+    ghost use Rattle.std.specs.Prelude.{◌≡◌};
+    ghost use Rattle.gpl_defs.specs.Layout.{is_end};
     ghost use Rattle.gpl_asm.specs.Answers.{defined_statement};
 
     /// Whether the source ends here.
     pub(crate) fn is_end(&self) -> bool
-        ensures { IsTrue result ↔ (defined_statement self.now ≡ spec.End) }
+        ensures { result ≡ is_end (defined_statement self.now) }
     {
         matches!(self, Statement::End)
     }
@@ -58,7 +59,8 @@ pub(crate) fn read_statement(line: &[u8]) -> Result<Statement, GplCause>
 fn fields_statement(line: &[u8], found: &Fields) -> Result<Statement, GplCause>
     requires inside { FieldsLieInside line.now found.now }
     requires length { length line.now ≤ 256 }
-    ensures value { defined_answer result ≡ spec.fields_statement line.now found.now.label found.now.operation found.now.operands }
+    ensures value { defined_answer result
+        ≡ spec.fields_statement line.now found.now.label found.now.operation found.now.operands }
     ensures aligned { IfOk result IsAligned }
 {
     match (found.label, found.operation) {

@@ -4,7 +4,6 @@ use Rattle.gpl_defs.specs.declared.instruction.GplInstr.{GplInstr}
 use Rattle.gpl_defs.specs.declared.instruction.GplInstr.TheVariants.{Plain}
 use Rattle.gpl_defs.specs.Codes.{plain_code}
 
--- the shortest spelling: of all the bytes that mean the instruction, the fewest
--- GPL Programmer's Guide, the statements without operand: the code byte alone
+-- GPL Programmer's Guide, the statements without operand: the code byte alone.
 abbrev pub bytes_of : GplInstr → List ℕ
 bytes_of (Plain op) = plain_code op ∷ []

@@ -1,4 +1,6 @@
 -- A GROM image: which addresses were written, and with what byte.
+--
+-- Profile: a source is assembled to such an image, which tells an address that holds 0 from one that was never written.
 use Rattle.std.specs.Prelude.{ℕ, ◌+◌, ◌-◌, ◌==◌, if◌then◌else◌, min, max, List, [], ◌∷◌, map, unwrap_or}
 use Rattle.std.specs.List.{range_with_len}
 use Rattle.std.specs.Ordering.{nat_cmp}
@@ -8,7 +10,7 @@ use Rattle.std.specs.FinMap.{FinMap, entries, get, insert}
 abbrev pub Image : Type 0
 Image = FinMap nat_cmp ℕ
 
--- the byte at an address, 0 where none is written
+-- Profile: the byte at an address, 0 where none is written.
 abbrev pub byte_at : Image → ℕ → ℕ
 byte_at image at = unwrap_or (get image at) 0
 
@@ -22,15 +24,15 @@ abbrev pub past_highest : List (ℕ × ℕ) → ℕ
 past_highest [] = 0
 past_highest (cell ∷ cells) = max (cell.0 + 1) (past_highest cells)
 
--- one past the highest written address, 0 where nothing is written
+-- Profile: one past the highest written address, 0 where nothing is written.
 abbrev pub high_of : Image → ℕ
 high_of image = past_highest (entries image)
 
--- the lowest written address, 0 where nothing is written
+-- Profile: the lowest written address, 0 where nothing is written.
 abbrev pub low_of : Image → ℕ
 low_of image = if high_of image == 0 then 0 else lowest (entries image)
 
--- the bytes from the lowest to the highest written address, 0 where none is written between them
+-- Profile: the bytes from the lowest to the highest written address, 0 where none is written between them.
 abbrev pub written_bytes : Image → List ℕ
 written_bytes image = map (byte_at image) (range_with_len (low_of image) (high_of image - low_of image))
 

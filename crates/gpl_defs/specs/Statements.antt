@@ -47,12 +47,14 @@ abbrev pub data_statement : Option (List ℕ) → Result Statement GplCause
 data_statement (Some values) = Ok (Bytes (flat_map word_bytes values))
 data_statement None = Err NotBuilt
 
--- Profile: END has no operand so far.
+-- Editor/Assembler manual, "Program end": END ends the source.
+-- Profile: it has no operand so far.
 abbrev pub end_statement : List ℕ → Result Statement GplCause
 end_statement [] = Ok End
 end_statement (byte ∷ bytes) = Err NotBuilt
 
--- the statement of an operation with its operand field; an operation without operands ignores the rest of its line
+-- The statement of an operation with its operand field.
+-- Profile: an operation without operands ignores the rest of its line.
 unfoldable pub operation_statement : List ℕ → List ℕ → Result Statement GplCause
 operation_statement operation operands =
     if is_word operation (codes "RTN") then Ok (Bytes (bytes_of (Plain RTN)))
@@ -67,6 +69,7 @@ fields_statement line None None operands = Ok Nothing
 fields_statement line None (Some operation) operands = operation_statement (part line operation) (part line operands)
 fields_statement line (Some label) operation operands = Err NotBuilt
 
+-- Profile: a line that has no fields is refused for the cause that it has none.
 abbrev pub statement_by : List ℕ → Result Fields TextError → Result Statement GplCause
 statement_by line (Ok found) = fields_statement line found.label found.operation found.operands
 statement_by line (Err error) = Err (Text error)

@@ -6,7 +6,7 @@ ghost use Rattle.gpl_defs.specs.Codes.{plain_code as code_of};
 use arrayvec::ArrayVec;
 use gpl_defs::{GplInstr, PlainOp};
 
-/// The shortest spelling of an instruction.
+/// The bytes of an instruction: for one without operand, its code byte.
 pub fn write_instr(instr: &GplInstr) -> ArrayVec<u8, 13>
     ensures { result.items ≡ bytes_of instr.now }
 {

@@ -4,3 +4,5 @@ pub mod LineSteps
 pub mod LineLaws
 pub mod FieldLaws
 pub mod NumberLaws
+mod ExpressionRows
+pub mod TokenLaws

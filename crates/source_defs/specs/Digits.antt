@@ -9,7 +9,8 @@ byte_digits byte = hexadecimal_digit (byte / 16 % 16) ∷ hexadecimal_digit (byt
 -- a word by four digits
 unfoldable pub word_digits : ℕ → List ℕ
 word_digits word =
-    hexadecimal_digit (word / 4096 % 16) ∷ hexadecimal_digit (word / 256 % 16) ∷ hexadecimal_digit (word / 16 % 16) ∷ hexadecimal_digit (word % 16) ∷ []
+    hexadecimal_digit (word / 4096 % 16) ∷ hexadecimal_digit (word / 256 % 16)
+    ∷ hexadecimal_digit (word / 16 % 16) ∷ hexadecimal_digit (word % 16) ∷ []
 
 -- Editor/Assembler manual, "Constants": a hexadecimal number stands behind the sign >.
 abbrev pub marked_word : ℕ → List ℕ

@@ -1,7 +1,9 @@
--- Where the fields of a line begin and end, in the words of the rule.
-use Rattle.std.specs.Prelude.{◌≡◌, ℕ, ◌<◌, ◌≤◌, true, false, List, length, slice_index}
-use Rattle.source_defs.specs.Characters.{is_blank}
-use Rattle.source_defs.specs.Fields.{word_start, word_end, in_quotes, operand_end}
+-- What the fields of a line are, in the words of the rule.
+use Rattle.std.specs.Prelude.{◌≡◌, ℕ, ◌<◌, ◌≤◌, Bool, true, false, ◌⊎◌, List, length, slice_index, take, map, Option, Some, None, Result, Ok}
+use Rattle.source_defs.specs.declared.text.Span.{Span}
+use Rattle.source_defs.specs.Characters.{is_blank, is_asterisk, upper_case}
+use Rattle.source_defs.specs.Names.{is_name}
+use Rattle.source_defs.specs.Fields.{in_quotes, Fields, no_fields, longest_line, fields}
 
 -- only blanks stand before the place, and no blank stands there
 pub record IsWordStart (line : List ℕ) (from start : ℕ) : Type 0 where
@@ -21,15 +23,43 @@ pub record IsWordEnd (line : List ℕ) (from end : ℕ) : Type 0 where
 pub record IsOperandEnd (line : List ℕ) (start end : ℕ) : Type 0 where
   pub after : start ≤ end
   pub within : end ≤ length line
-  pub blanks_in_quotes : (k : ℕ) → start ≤ k → k < end → is_blank (slice_index line k) ≡ true → in_quotes line start k ≡ true
+  pub blanks_in_quotes :
+      (k : ℕ) → start ≤ k → k < end → is_blank (slice_index line k) ≡ true → in_quotes line start k ≡ true
   pub blank : end < length line → is_blank (slice_index line end) ≡ true
   pub outside_quotes : end < length line → in_quotes line start end ≡ false
 
-pub record HasFieldPlaces (line : List ℕ) (from : ℕ) : Type 0 where
-  pub word_starts : IsWordStart line from (word_start line from)
-  pub word_ends : IsWordEnd line from (word_end line from)
-  pub operands_end : IsOperandEnd line from (operand_end line from)
+-- a comment: nothing but blanks, or an asterisk in column 1
+abbrev pub IsComment : List ℕ → Type 0
+IsComment line = IsWordStart line 0 (length line) ⊎ (is_asterisk (slice_index line 0) ≡ true)
+
+-- the label is the name that stands from column 1 up to the first blank, in upper case; a blank there is no label
+abbrev pub IsLabel : List ℕ → Option (List ℕ) → ℕ → Type 0
+IsLabel line (Some name) end =
+    IsWordEnd line 0 end × (is_name (take end line) ≡ true) × (name ≡ map upper_case (take end line))
+IsLabel line None end = (is_blank (slice_index line 0) ≡ true) × (end ≡ 0)
+
+-- the operation is the first word from a place on; there is none where only blanks follow
+abbrev pub IsOperation : List ℕ → ℕ → Option Span → ℕ → Type 0
+IsOperation line from (Some span) end =
+    IsWordStart line from span.start × (span.start < length line) × IsWordEnd line span.start span.end
+    × (end ≡ span.end)
+IsOperation line from None end = IsWordStart line from (length line) × (end ≡ length line)
+
+-- label, operation and operand field stand one behind the other, with blanks alone between them
+pub record StandApart (line : List ℕ) (found : Fields) : Type 0 where
+  pub label_end : ℕ
+  pub operation_end : ℕ
+  pub label : IsLabel line found.label label_end
+  pub operation : IsOperation line label_end found.operation operation_end
+  pub operands_start : IsWordStart line operation_end found.operands.start
+  pub operands_end : IsOperandEnd line found.operands.start found.operands.end
+
+-- a comment has no fields, and each other line those that stand apart in it
+pub record AreFieldsOf (line : List ℕ) (found : Fields) : Type 0 where
+  pub short : length line ≤ longest_line
+  pub comment : IsComment line → found ≡ no_fields
+  pub others : (IsComment line → ⊥) → StandApart line found
 
 -- the law, which is proved
 abbrev pub FieldsStandApart : Type 0
-FieldsStandApart = (line : List ℕ) (from : ℕ) → from ≤ length line → HasFieldPlaces line from
+FieldsStandApart = (line : List ℕ) (found : Fields) → fields line ≡ Ok found → AreFieldsOf line found

@@ -51,7 +51,8 @@ fields_after line label from =
     let operands = word_start line operation_end in
     record {
       label = label;
-      operation = if nat_lt operation (length line) then Some (record { start = operation; end = operation_end }) else None;
+      operation =
+          if nat_lt operation (length line) then Some (record { start = operation; end = operation_end }) else None;
       operands = record { start = operands; end = operand_end line operands };
     }
 
@@ -69,7 +70,8 @@ fields line =
     if nat_lt longest_line (length line) then Err LineTooLong
     else if is_comment line then Ok no_fields
     else if is_blank (slice_index line 0) then Ok (fields_after line None 0)
-    else if is_name (label_field line) then Ok (fields_after line (Some (map upper_case (label_field line))) (word_end line 0))
+    else if is_name (label_field line)
+    then Ok (fields_after line (Some (map upper_case (label_field line))) (word_end line 0))
     else Err BadLabel
 
 -- column 1 holds neither a blank nor an asterisk, and the label field is no name

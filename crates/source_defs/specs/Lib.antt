@@ -6,5 +6,9 @@ pub mod Fields
 pub mod Numbers
 pub mod Digits
 pub mod Refusals
+pub mod Tokens
+pub mod TokenLaw
+pub mod Expression
+pub mod Operands
 pub mod LineLaw
 pub mod FieldLaw

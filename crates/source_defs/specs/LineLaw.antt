@@ -17,7 +17,8 @@ ending text at =
 pub record IsLine (text : List ℕ) (line : Line) : Type 0 where
   pub inside : IsInside text line.span
   pub no_feed : (k : ℕ) → line.span.start ≤ k → k < line.span.end → is_line_feed (slice_index text k) ≡ false
-  pub no_return : ending text line.span.end ≡ 0x0A ∷ [] → line.span.start < line.span.end → is_carriage_return (slice_index text (line.span.end - 1)) ≡ false
+  pub no_return : ending text line.span.end ≡ 0x0A ∷ [] → line.span.start < line.span.end
+      → is_carriage_return (slice_index text (line.span.end - 1)) ≡ false
   pub last : ending text line.span.end ≡ [] → (line.span.end ≡ length text) × (line.span.start < line.span.end)
 
 -- lines and their endings, one after the other, are the text; each is a line, and they count from 1

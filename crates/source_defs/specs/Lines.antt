@@ -33,7 +33,8 @@ after text feed = if nat_lt feed (length text) then feed + 1 else feed
 -- the places of the line feeds among bytes of which the first stands at a place
 abbrev pub line_feeds_from : ℕ → List ℕ → List ℕ
 line_feeds_from at [] = []
-line_feeds_from at (byte ∷ bytes) = if is_line_feed byte then at ∷ line_feeds_from (at + 1) bytes else line_feeds_from (at + 1) bytes
+line_feeds_from at (byte ∷ bytes) =
+    if is_line_feed byte then at ∷ line_feeds_from (at + 1) bytes else line_feeds_from (at + 1) bytes
 
 -- where each line begins and ends, with a carriage return: it begins where the text does or after a line feed,
 -- and ends at the next line feed or where the text does
@@ -55,7 +56,8 @@ numbered_from number (span ∷ spans) = record { number = number; span = span } 
 -- the lines from a place of a text on; only what begins before the text's end is a line
 unfoldable pub lines_from : List ℕ → ℕ → ℕ → List ℕ → List Line
 lines_from text number at bytes =
-    numbered_from number (map (without_return text) (filter (λ bounds. nat_lt bounds.0 (length text)) (bounds_between at (line_feeds_from at bytes) (length text))))
+    let bounds = bounds_between at (line_feeds_from at bytes) (length text) in
+    numbered_from number (map (without_return text) (filter (λ bounds. nat_lt bounds.0 (length text)) bounds))
 
 -- the lines of a text
 abbrev pub lines : List ℕ → List Line

@@ -11,7 +11,8 @@ all_letters_or_digits bytes = list_all is_letter_or_digit bytes
 
 -- Editor/Assembler manual, "Symbols": a letter, and up to five letters or digits.
 abbrev pub is_name : List ℕ → Bool
-is_name bytes = nat_lt 0 (length bytes) && nat_le (length bytes) 6 && is_letter (slice_index bytes 0) && all_letters_or_digits bytes
+is_name bytes =
+    nat_lt 0 (length bytes) && nat_le (length bytes) 6 && is_letter (slice_index bytes 0) && all_letters_or_digits bytes
 
 -- a name whose letters are in upper case
 pub record IsUpperCaseName (bytes : List ℕ) : Type 0 where

@@ -30,7 +30,8 @@ all_hexadecimal_digits digits = list_all is_hexadecimal_digit digits
 -- Profile: it may have zeros in front.
 abbrev pub decimal_up_to : ℕ → List ℕ → Option ℕ
 decimal_up_to limit digits =
-    if nat_lt 0 (length digits) && all_digits digits && nat_le (value_after 10 0 digits) limit then Some (value_after 10 0 digits) else None
+    let value = value_after 10 0 digits in
+    if nat_lt 0 (length digits) && all_digits digits && nat_le value limit then Some value else None
 
 -- Editor/Assembler manual, "Constants": a decimal number is at most 65,535.
 abbrev pub decimal_number : List ℕ → Option ℕ
@@ -39,7 +40,9 @@ decimal_number digits = decimal_up_to 65535 digits
 -- Editor/Assembler manual, "Constants": a hexadecimal number has one to four digits.
 abbrev pub hexadecimal_number : List ℕ → Option ℕ
 hexadecimal_number digits =
-    if nat_lt 0 (length digits) && nat_le (length digits) 4 && all_hexadecimal_digits digits then Some (value_after 16 0 digits) else None
+    if nat_lt 0 (length digits) && nat_le (length digits) 4 && all_hexadecimal_digits digits
+    then Some (value_after 16 0 digits)
+    else None
 
 -- Editor/Assembler manual, "Constants": hexadecimal digits stand behind the sign >.
 unfoldable pub number : List ℕ → Option ℕ
@@ -51,7 +54,8 @@ is_comma byte = byte == 0x2C
 -- the numbers of texts that all are one
 abbrev pub numbers_of : List (List ℕ) → Option (List ℕ)
 numbers_of [] = Some []
-numbers_of (text ∷ texts) = option_and_then (λ first. option_map (λ others. first ∷ others) (numbers_of texts)) (number text)
+numbers_of (text ∷ texts) =
+    option_and_then (λ first. option_map (λ others. first ∷ others) (numbers_of texts)) (number text)
 
 -- the numbers of a field, with a comma between two of them
 unfoldable pub numbers : List ℕ → Option (List ℕ)

@@ -1,0 +1,23 @@
+-- What `tokens` gives, in the terms of the definitions.
+use Rattle.std.specs.Prelude.{Result, Ok, Err}
+use Rattle.source_defs.specs.declared.causes.ExprError.{ExprError}
+use Rattle.source_defs.specs.Tokens as defined
+use Rattle.asm_text.specs.declared.token.Token.{Token}
+use Rattle.asm_text.specs.declared.token.TokenKind.{TokenKind}
+use Rattle.asm_text.specs.declared.token.TokenKind.TheVariants.{Number, Name, Here, Text, Sign}
+
+-- the kind of a token, with the name seen as its bytes
+abbrev pub defined_kind : TokenKind → defined.Kind
+defined_kind (Number number) = defined.Number number
+defined_kind (Name name) = defined.Name name
+defined_kind Here = defined.Here
+defined_kind Text = defined.Text
+defined_kind (Sign operator) = defined.Sign operator
+
+abbrev pub defined_token : Token → defined.Token
+defined_token token = record { kind = defined_kind token.kind; span = token.span }
+
+-- the definition's answer
+abbrev pub defined_token_answer : Result Token ExprError → Result defined.Token ExprError
+defined_token_answer (Ok token) = Ok (defined_token token)
+defined_token_answer (Err cause) = Err cause

@@ -1,0 +1,178 @@
+-- The value of an expression.
+--
+-- Editor/Assembler manual, "Expressions": an optional minus sign and a term, then operators with terms, which are taken
+-- from left to right without precedence.
+-- Profile: the first refusal from the left is the expression's, and a term's own refusal stands before that of joining it.
+use Rattle.std.specs.Prelude.{ℕ, ◌+◌, ◌-◌, ◌*◌, ◌/◌, ◌%◌, ◌==◌, Bool, true, false, not, ◌&&◌, nat_le, if◌then◌else◌, List, [], ◌∷◌, length, take, drop, Option, Some, None, Result, Ok, Err}
+use Rattle.source_defs.specs.declared.causes.ExprError.{ExprError}
+use Rattle.source_defs.specs.declared.causes.ExprError.TheVariants.{BadToken, UnknownName, BadRelocation, DivideByZero}
+use Rattle.source_defs.specs.Refusals.{◌>>=◌}
+use Rattle.source_defs.specs.Characters.{is_quote}
+use Rattle.source_defs.specs.Lines.{part}
+use Rattle.source_defs.specs.Tokens.{Kind, Number, Name, Here, Text, Sign, Token, tokens}
+
+-- Editor/Assembler manual, "Expressions": a number; a place in relocatable code; or an external name, whose value the
+-- linker knows.
+pub data Value : Type 0 where
+  Absolute : ℕ → Value
+  Relocatable : ℕ → Value
+  External : List ℕ → Value
+
+-- Profile: results keep 16 bits.
+abbrev pub to_word : ℕ → ℕ
+to_word number = number % 0x10000
+
+-- the number with the other sign
+abbrev pub negated : ℕ → ℕ
+negated number = to_word (0x10000 - number)
+
+-- a word as a signed number: whether it is below zero, and how far it is from zero
+abbrev pub is_negative : ℕ → Bool
+is_negative number = nat_le 0x8000 number
+
+abbrev pub magnitude : ℕ → ℕ
+magnitude number = if is_negative number then 0x10000 - number else number
+
+-- Profile: division takes signed numbers toward zero.
+abbrev pub quotient : ℕ → ℕ → ℕ
+quotient a b =
+    let whole = magnitude a / magnitude b in
+    if is_negative a
+    then (if is_negative b then whole else negated whole)
+    else if is_negative b then negated whole else whole
+
+-- Editor/Assembler manual, "Expressions": the sum of an absolute and a relocatable value is relocatable.
+abbrev pub sum : Value → Value → Result Value ExprError
+sum (Absolute a) (Absolute b) = Ok (Absolute (to_word (a + b)))
+sum (Absolute a) (Relocatable b) = Ok (Relocatable (to_word (a + b)))
+sum (Relocatable a) (Absolute b) = Ok (Relocatable (to_word (a + b)))
+sum (Absolute a) (External name) = Err BadRelocation
+sum (Relocatable a) (Relocatable b) = Err BadRelocation
+sum (Relocatable a) (External name) = Err BadRelocation
+sum (External name) b = Err BadRelocation
+
+-- Editor/Assembler manual, "Expressions": a relocatable value less an absolute one is relocatable, and less a relocatable
+-- one it is absolute.
+abbrev pub difference : Value → Value → Result Value ExprError
+difference (Absolute a) (Absolute b) = Ok (Absolute (to_word (a + 0x10000 - b)))
+difference (Relocatable a) (Absolute b) = Ok (Relocatable (to_word (a + 0x10000 - b)))
+difference (Relocatable a) (Relocatable b) = Ok (Absolute (to_word (a + 0x10000 - b)))
+difference (Absolute a) (Relocatable b) = Err BadRelocation
+difference (Absolute a) (External name) = Err BadRelocation
+difference (Relocatable a) (External name) = Err BadRelocation
+difference (External name) b = Err BadRelocation
+
+abbrev pub product : Value → Value → Result Value ExprError
+product (Absolute a) (Absolute b) = Ok (Absolute (to_word (a * b)))
+product (Absolute a) (Relocatable b) = Err BadRelocation
+product (Absolute a) (External name) = Err BadRelocation
+product (Relocatable a) b = Err BadRelocation
+product (External name) b = Err BadRelocation
+
+-- Profile: a relocatable or an external value is no dividend, by 0 too.
+abbrev pub ratio : Value → Value → Result Value ExprError
+ratio (Absolute a) (Absolute b) = if b == 0 then Err DivideByZero else Ok (Absolute (quotient a b))
+ratio (Absolute a) (Relocatable b) = Err BadRelocation
+ratio (Absolute a) (External name) = Err BadRelocation
+ratio (Relocatable a) b = Err BadRelocation
+ratio (External name) b = Err BadRelocation
+
+-- two values, joined by an operator
+abbrev pub joined : ℕ → Value → Value → Result Value ExprError
+joined operator a b =
+    if operator == 0x2B then sum a b
+    else if operator == 0x2D then difference a b
+    else if operator == 0x2A then product a b
+    else ratio a b
+
+-- a value behind a minus sign
+abbrev pub minus : Value → Result Value ExprError
+minus (Absolute number) = Ok (Absolute (negated number))
+minus (Relocatable number) = Err BadRelocation
+minus (External name) = Err BadRelocation
+
+-- the characters between the quotes of a text, of which two quotes are one; whether a quote came just before
+abbrev pub characters_behind : Bool → List ℕ → List ℕ
+characters_behind quote [] = []
+characters_behind quote (byte ∷ bytes) =
+    let others = characters_behind (is_quote byte && not quote) bytes in
+    if is_quote byte && quote then others else byte ∷ others
+
+-- the characters of a quoted text
+abbrev pub characters : List ℕ → List ℕ
+characters quoted = characters_behind true (take (length quoted - 1) quoted)
+
+-- Editor/Assembler manual, "Constants": one or two characters; one character stands in the low byte.
+abbrev pub characters_value : List ℕ → Result Value ExprError
+characters_value (low ∷ []) = Ok (Absolute low)
+characters_value (high ∷ low ∷ []) = Ok (Absolute (high * 256 + low))
+characters_value [] = Err BadToken
+characters_value (first ∷ second ∷ third ∷ others) = Err BadToken
+
+-- the value of a name, where it has one
+abbrev pub known_value : Option Value → Result Value ExprError
+known_value (Some value) = Ok value
+known_value None = Err UnknownName
+
+-- the operator that a token is
+abbrev pub operator_of : Kind → Result ℕ ExprError
+operator_of (Sign operator) = Ok operator
+operator_of (Number number) = Err BadToken
+operator_of (Name name) = Err BadToken
+operator_of Here = Err BadToken
+operator_of Text = Err BadToken
+
+-- whether a token is a minus sign
+abbrev pub is_minus : Kind → Bool
+is_minus (Sign operator) = operator == 0x2D
+is_minus (Number number) = false
+is_minus (Name name) = false
+is_minus Here = false
+is_minus Text = false
+
+-- by what each name stands for, what $ stands for, and the text that the tokens are of
+module _ (look : List ℕ → Option Value) (here : Value) (text : List ℕ) where
+  abbrev pub kind_value : Kind → List ℕ → Result Value ExprError
+  kind_value (Number number) written = Ok (Absolute number)
+  kind_value (Name name) written = known_value (look name)
+  kind_value Here written = Ok here
+  kind_value Text written = characters_value (characters written)
+  kind_value (Sign operator) written = Err BadToken
+
+  -- the value of a term; a token that is none is refused where it stands
+  abbrev pub term_value : Token → Result Value ExprError
+  term_value token = kind_value token.kind (part text token.span)
+
+  -- a value, then operators with terms
+  abbrev pub value_with : Value → List Token → Result Value ExprError
+  value_with total [] = Ok total
+  value_with total (operator ∷ []) = Err BadToken
+  value_with total (operator ∷ term ∷ others) = do
+    by ← operator_of operator.kind
+    next ← term_value term
+    total ← joined by total next
+    value_with total others
+
+  -- a minus sign, and what stands behind it
+  abbrev pub minus_value : List Token → Result Value ExprError
+  minus_value [] = Err BadToken
+  minus_value (term ∷ others) = do
+    first ← term_value term
+    total ← minus first
+    value_with total others
+
+  -- the value of tokens; where there are none, a term is missing
+  abbrev pub value : List Token → Result Value ExprError
+  value [] = Err BadToken
+  value (term ∷ others) =
+      if is_minus term.kind
+      then minus_value others
+      else (do
+        total ← term_value term
+        value_with total others)
+
+-- the value of a text: its tokens first, then its terms
+abbrev pub expression : (List ℕ → Option Value) → Value → List ℕ → Result Value ExprError
+expression look here text = do
+  found ← tokens text
+  value look here text found
