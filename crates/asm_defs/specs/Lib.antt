@@ -1,3 +1,6 @@
 pub mod Operations
 pub mod Operands
+pub mod Forms
+pub mod FirstChecks
+pub mod SecondChecks
 pub mod Printed

@@ -1,5 +1,8 @@
--- The names of the operations.
-use Rattle.std.specs.Prelude.{ℕ, true, false, List, codes}
+-- The names of the operations. The manual's two names for words of other operations stand beside them.
+use Rattle.std.specs.Prelude.{ℕ, true, false, find, if◌then◌else◌, List, codes, Option, Some}
+use Rattle.std.specs.Option.{option_map}
+use Rattle.source_defs.specs.Names.{is_word}
+use Rattle.console_defs.specs.Instructions.{operations}
 use Rattle.console_defs.specs.declared.instruction.TwoOp.{TwoOp}
 use Rattle.console_defs.specs.declared.instruction.TwoOp.TheVariants.{SZC, S, C, A, MOV, SOC}
 use Rattle.console_defs.specs.declared.instruction.RegOp.{RegOp}
@@ -20,6 +23,8 @@ use Rattle.console_defs.specs.declared.instruction.BareOp.{BareOp}
 use Rattle.console_defs.specs.declared.instruction.BareOp.TheVariants.{LWPI, LIMI, IDLE, RSET, RTWP, CKON, CKOF, LREX}
 use Rattle.console_defs.specs.declared.instruction.Operation.{Operation}
 use Rattle.console_defs.specs.declared.instruction.Operation.TheVariants.{Two, Reg, Shift, One, Jump, Imm, Bare}
+use Rattle.asm_defs.specs.declared.mnemonic.Mnemonic.{Mnemonic}
+use Rattle.asm_defs.specs.declared.mnemonic.Mnemonic.TheVariants.{Of, Fixed}
 
 -- The name of an operation. Editor/Assembler manual, "Assembly Language Instructions".
 abbrev pub name_of : Operation → List ℕ
@@ -92,3 +97,11 @@ name_of (Bare RTWP) = codes "RTWP"
 name_of (Bare CKON) = codes "CKON"
 name_of (Bare CKOF) = codes "CKOF"
 name_of (Bare LREX) = codes "LREX"
+
+-- What an operation field names. NOP is a jump to the next instruction, and RT a branch by register 11.
+-- Editor/Assembler manual, "Pseudo-instructions".
+unfoldable pub mnemonic : List ℕ → Option Mnemonic
+mnemonic text =
+    if is_word text (codes "NOP") then Some (Fixed 0x1000)
+    else if is_word text (codes "RT") then Some (Fixed 0x045B)
+    else option_map Of (find (λ operation. is_word text (name_of operation)) operations)

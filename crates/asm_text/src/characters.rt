@@ -3,6 +3,7 @@
 ghost use Rattle.std.specs.Prelude.{◌≡◌};
 ghost use Rattle.source_defs.specs.Characters as spec;
 ghost use Rattle.source_defs.specs.Names as names;
+ghost use Rattle.source_defs.specs.Numbers as numbers;
 
 /// Whether a byte is a line feed, which ends a line.
 pub fn is_line_feed(byte: u8) -> bool
@@ -24,10 +25,18 @@ pub fn is_blank(byte: u8) -> bool
     byte == b' ' || byte == b'\t'
 }
 
-pub(crate) fn is_quote(byte: u8) -> bool
+/// Whether a byte is a quote.
+pub fn is_quote(byte: u8) -> bool
     ensures { result ≡ spec.is_quote byte }
 {
     byte == b'\''
+}
+
+/// Whether a byte is a comma, which parts operands.
+pub fn is_comma(byte: u8) -> bool
+    ensures { result ≡ numbers.is_comma byte }
+{
+    byte == b','
 }
 
 pub(crate) fn is_asterisk(byte: u8) -> bool

@@ -8,7 +8,7 @@ use Rattle.source_defs.specs.Names.{is_word}
 use Rattle.source_defs.specs.Fields.{in_quotes}
 use Rattle.source_defs.specs.Tokens.{token_at, tokens_from}
 use Rattle.source_defs.specs.Expression.{Value, Absolute, Relocatable, External, expression}
-use Rattle.source_defs.specs.Operands.{operands}
+use Rattle.source_defs.specs.Operands.{operands, operands_from}
 
 -- LOOP is relocatable >0104, A is absolute 10, EXT is external, and no other name is known; $ is relocatable >0110
 abbrev look : List ℕ → Option Value
@@ -75,5 +75,5 @@ refused_in_the_second_step = refl
 -- a comma in quotes parts no operands, and an empty operand is one
 cut : map operands (codes "" ∷ codes "R1" ∷ codes "'A,B',2" ∷ codes ",1," ∷ [])
     ≡ [] ∷ (span 0 2 ∷ []) ∷ (span 0 5 ∷ span 6 7 ∷ []) ∷ (span 0 0 ∷ span 1 2 ∷ span 3 3 ∷ []) ∷ []
-unfolding in_quotes
+unfolding in_quotes operands_from
 cut = refl

@@ -4,5 +4,6 @@ pub mod LineSteps
 pub mod LineLaws
 pub mod FieldLaws
 pub mod NumberLaws
+pub mod OperandSteps
 mod ExpressionRows
 pub mod TokenLaws

@@ -1,0 +1,46 @@
+-- The forms of one operand and of two.
+use Rattle.std.proofs.Common.{◌≡◌, ℕ, suc, List, [], ◌∷◌, length, eqb, false, refl, arith}
+use Rattle.std.specs.Prelude.{Result, Ok, Err}
+use Rattle.std.proofs.lemmas.Bool.Decides.{nat_tests}
+use Rattle.source_defs.specs.Refusals.{◌>>=◌}
+use Rattle.asm_defs.specs.declared.causes.FormError.{FormError}
+use Rattle.asm_defs.specs.declared.slot.Slot.{Slot}
+use Rattle.asm_defs.specs.Forms.{Form}
+use Rattle.asm_defs.specs.FirstChecks.{form_in, forms_of, operand_forms, operand_texts}
+use Rattle.asm_forms.specs.Forms.{one_of, two_of, both_forms}
+
+longer : (n : ℕ) → eqb (suc (suc n)) 1 ≡ false
+longer n = grind (arith, nat_tests)
+
+longer_still : (n : ℕ) → eqb (suc (suc (suc n))) 2 ≡ false
+longer_still n = grind (arith, nat_tests)
+
+one_form : (slot : Slot) (texts : List (List ℕ))
+    → operand_forms (slot ∷ []) texts ≡ (one_of texts >>= λ text. form_in slot text >>= λ form. Ok (form ∷ []))
+one_form slot [] = refl
+one_form slot (text ∷ []) = refl
+one_form slot (first ∷ second ∷ texts) = let no = longer (length texts) in rw no refl
+
+pub one_is_counted : (slot : Slot) (field : List ℕ)
+    → forms_of (slot ∷ []) field ≡ (one_of (operand_texts field) >>= λ text. form_in slot text >>= λ form. Ok (form ∷ []))
+one_is_counted slot field = one_form slot (operand_texts field)
+
+both_are_formed : (first second : Result Form FormError)
+    → (first >>= λ form. (second >>= λ next. Ok (next ∷ [])) >>= λ forms. Ok (form ∷ forms))
+    ≡ (first >>= λ form. second >>= λ next. Ok (form ∷ next ∷ []))
+both_are_formed (Ok form) (Ok next) = refl
+both_are_formed (Ok form) (Err cause) = refl
+both_are_formed (Err cause) second = refl
+
+two_forms : (slot other : Slot) (texts : List (List ℕ))
+    → operand_forms (slot ∷ other ∷ []) texts
+    ≡ (two_of texts >>= λ pair. form_in slot pair.0 >>= λ first. form_in other pair.1 >>= λ second. Ok (first ∷ second ∷ []))
+two_forms slot other [] = refl
+two_forms slot other (first ∷ []) = refl
+two_forms slot other (first ∷ second ∷ []) = both_are_formed (form_in slot first) (form_in other second)
+two_forms slot other (first ∷ second ∷ third ∷ texts) = let no = longer_still (length texts) in rw no refl
+
+pub two_are_counted : (slot other : Slot) (field : List ℕ)
+    → forms_of (slot ∷ other ∷ []) field
+    ≡ (two_of (operand_texts field) >>= λ pair. both_forms slot other pair.0 pair.1)
+two_are_counted slot other field = two_forms slot other (operand_texts field)

@@ -1,0 +1,13 @@
+-- Up to two operands as a list.
+use Rattle.std.specs.Prelude.{List, [], ◌∷◌}
+use Rattle.asm_defs.specs.declared.slot.Slot.{Slot}
+use Rattle.asm_forms.specs.declared.up_to_two.UpToTwo.{UpToTwo}
+use Rattle.asm_forms.specs.declared.up_to_two.UpToTwo.TheVariants.{None, One, Two}
+
+abbrev pub items_of : {A B : Type 0} → (A → B) → UpToTwo A → List B
+items_of seen None = []
+items_of seen (One item) = seen item ∷ []
+items_of seen (Two first second) = seen first ∷ seen second ∷ []
+
+abbrev pub slots_in : UpToTwo Slot → List Slot
+slots_in slots = items_of (λ slot. slot) slots
