@@ -64,8 +64,8 @@ WhereStopped (Done word) said = Unit {0}
 WhereStopped (Refused address) said = said
 WhereStopped (Port address) said = said
 
--- Profile: the registers of a workspace are shown where all sixteen, 32 bytes, lie in the scratchpad from >8300 on or in
--- one of the two parts of expansion memory.
+-- Profile: the registers of a workspace are shown where all sixteen, 32 bytes, lie in the scratchpad from >8300 on or
+-- in one of the two parts of expansion memory.
 abbrev pub has_workspace : ℕ → Bool
 has_workspace wp =
     (nat_le 0x8300 wp && nat_le wp 0x83E0)

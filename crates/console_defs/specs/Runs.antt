@@ -51,7 +51,8 @@ end_at stop limit made x =
     elim (self_jumped made x) [ true ↦ Some run.SelfJump | false ↦ end_before stop limit made (after made x) ]
 
 -- A run from x to y, over so many executed instructions: the least number at which something ends it.
-pub record IsRun (stop : Option ℕ) (limit made : ℕ) (x : MachineState) (ending : RunEnd) (y : MachineState) : Type 0 where
+pub record IsRun (stop : Option ℕ) (limit made : ℕ) (x : MachineState) (ending : RunEnd) (y : MachineState) :
+    Type 0 where
   pub ends : end_at stop limit made x ≡ Some ending
   pub first : (before : ℕ) → before < made → end_at stop limit before x ≡ None
   pub left : y ≡ after made x

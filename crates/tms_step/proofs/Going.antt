@@ -1,5 +1,6 @@
 -- A run that goes on, and its ends.
-use Rattle.std.proofs.Common.{◌≡◌, ◌<◌, ℕ, ◌+◌, Bool, true, false, refl, sym, ap, ◌∙◌, arith, add-one, below_more, Option, Some, None}
+use Rattle.std.proofs.Common.{◌≡◌, ◌<◌, ℕ, ◌+◌, Bool, true, false, refl, sym, ap, ◌∙◌, arith, add-one, below_more}
+use Rattle.std.proofs.Common.{Option, Some, None}
 use Rattle.std.proofs.lemmas.Bool.Decides.{nat_tests}
 use Rattle.std.specs.Prelude.{eqb}
 use Rattle.console_defs.specs.Accesses.{Answer, Gives, AtPort, NoInstruction}
@@ -7,7 +8,8 @@ use Rattle.console_defs.specs.Memory.{Memory, console}
 use Rattle.console_defs.specs.Operand.{Cpu}
 use Rattle.console_defs.specs.Step.{step_end, execution, step}
 use Rattle.console_defs.specs.Machine.{MachineState, counted, machine_step}
-use Rattle.console_defs.specs.Runs.{is_reached, is_self_jump, end_of_step, after, self_jumped, end_before, end_at, IsRun}
+use Rattle.console_defs.specs.Runs.{is_reached, is_self_jump, end_of_step, after, self_jumped, end_before, end_at}
+use Rattle.console_defs.specs.Runs.{IsRun}
 use Rattle.console_defs.specs.declared.ends.StepEnd.{StepEnd}
 use Rattle.console_defs.specs.declared.ends.StepEnd.TheVariants.{Done, Refused, Port}
 use Rattle.console_defs.specs.declared.ends.RunEnd.{RunEnd}
@@ -31,9 +33,11 @@ by_tests reached limited rest =
 abbrev by_jump : Bool → Option RunEnd → Option RunEnd
 by_jump jumped rest = elim jumped [ true ↦ Some run.SelfJump | false ↦ rest ]
 
-end_here : (stop : Option ℕ) (limit made : ℕ) (x y : MachineState) → Going stop limit made x y → end_at stop limit made x ≡ by_tests (is_reached stop y.cpu.pc) (eqb made limit) (end_of_step (machine_step y).0)
+end_here : (stop : Option ℕ) (limit made : ℕ) (x y : MachineState) → Going stop limit made x y →
+    end_at stop limit made x ≡ by_tests (is_reached stop y.cpu.pc) (eqb made limit) (end_of_step (machine_step y).0)
 end_here stop limit made x y going =
-    ap (λ (jumped : Bool). by_jump jumped (end_before stop limit made (after made x))) going.fresh ∙ ap (λ (c : MachineState). end_before stop limit made c) (sym going.left)
+    ap (λ (jumped : Bool). by_jump jumped (end_before stop limit made (after made x))) going.fresh
+    ∙ ap (λ (c : MachineState). end_before stop limit made c) (sym going.left)
 
 -- a test of two numbers
 unequal : (m n : ℕ) (test : Bool) → eqb m n ≡ test → m < n → test ≡ false
@@ -44,7 +48,8 @@ equal : (m n : ℕ) (test : Bool) → eqb m n ≡ test → m ≡ n → test ≡ 
 equal m n true e same = refl
 equal m n false e same = absurd (grind (arith, nat_tests))
 
-pub run_reached : (stop : Option ℕ) (limit made : ℕ) (x y : MachineState) → Going stop limit made x y → is_reached stop y.cpu.pc ≡ true → IsRun stop limit made x run.Reached y
+pub run_reached : (stop : Option ℕ) (limit made : ℕ) (x y : MachineState) → Going stop limit made x y →
+    is_reached stop y.cpu.pc ≡ true → IsRun stop limit made x run.Reached y
 run_reached stop limit made x y going reached =
     record { ends = end_here stop limit made x y going ∙ ap (λ (test : Bool). by_tests test (eqb made limit) (end_of_step (machine_step y).0)) reached; first = going.first; left = going.left }
 
@@ -59,27 +64,36 @@ run_limit stop limit made x y going all reached =
     record { ends = ends; first = going.first; left = going.left }
 
 -- where neither the address nor the limit is met, the step decides
-end_step : (stop : Option ℕ) (limit made : ℕ) (x y : MachineState) → Going stop limit made x y → made < limit → is_reached stop y.cpu.pc ≡ false → end_at stop limit made x ≡ end_of_step (machine_step y).0
+end_step : (stop : Option ℕ) (limit made : ℕ) (x y : MachineState) → Going stop limit made x y → made < limit →
+    is_reached stop y.cpu.pc ≡ false → end_at stop limit made x ≡ end_of_step (machine_step y).0
 end_step stop limit made x y going lt reached =
-    end_here stop limit made x y going ∙ ap (λ (test : Bool). by_tests test (eqb made limit) (end_of_step (machine_step y).0)) reached ∙ ap (λ (test : Bool). by_tests false test (end_of_step (machine_step y).0)) (unequal made limit (eqb made limit) refl lt)
+    end_here stop limit made x y going
+    ∙ ap (λ (test : Bool). by_tests test (eqb made limit) (end_of_step (machine_step y).0)) reached
+    ∙ ap (λ (test : Bool). by_tests false test (end_of_step (machine_step y).0)) (unequal made limit (eqb made limit) refl lt)
 
 after_more : (made : ℕ) (x y z : MachineState) → y ≡ after made x → z ≡ (machine_step y).1 → z ≡ after (made + 1) x
 after_more made x y z left stepped = rw (add-one) (stepped ∙ ap (λ (c : MachineState). (machine_step c).1) left)
 
-jumped_more : (made : ℕ) (x y : MachineState) (end : StepEnd) → y ≡ after made x → (machine_step y).0 ≡ end → self_jumped (made + 1) x ≡ is_self_jump end
+jumped_more : (made : ℕ) (x y : MachineState) (end : StepEnd) → y ≡ after made x → (machine_step y).0 ≡ end →
+    self_jumped (made + 1) x ≡ is_self_jump end
 jumped_more made x y end left e =
     rw (add-one) (ap (λ (c : MachineState). is_self_jump (machine_step c).0) (sym left) ∙ ap is_self_jump e)
 
-first_more : (stop : Option ℕ) (limit made word : ℕ) (x y : MachineState) → Going stop limit made x y → made < limit → is_reached stop y.cpu.pc ≡ false → (machine_step y).0 ≡ Done word → (before : ℕ) → before < made + 1 → end_at stop limit before x ≡ None
+first_more : (stop : Option ℕ) (limit made word : ℕ) (x y : MachineState) → Going stop limit made x y → made < limit →
+    is_reached stop y.cpu.pc ≡ false → (machine_step y).0 ≡ Done word → (before : ℕ) → before < made + 1 →
+    end_at stop limit before x ≡ None
 first_more stop limit made word x y going lt reached e =
     below_more (λ before. end_at stop limit before x ≡ None) made going.first (end_step stop limit made x y going lt reached ∙ ap end_of_step e)
 
-goes_on : (word : ℕ) (test : Bool) → eqb word 0x10FF ≡ test → (elim test as (λ _. Option RunEnd) [ true ↦ Some run.SelfJump | false ↦ None ]) ≡ None → test ≡ false
+goes_on : (word : ℕ) (test : Bool) → eqb word 0x10FF ≡ test →
+    (elim test as (λ _. Option RunEnd) [ true ↦ Some run.SelfJump | false ↦ None ]) ≡ None → test ≡ false
 goes_on word true e ends = absurd (cc)
 goes_on word false e ends = refl
 
 -- A step that does not end the run.
-pub going_more : (stop : Option ℕ) (limit made : ℕ) (x y z : MachineState) → Going stop limit made x y → made < limit → is_reached stop y.cpu.pc ≡ false → end_of_turn (machine_step y).0 ≡ None → z ≡ (machine_step y).1 → Going stop limit (made + 1) x z
+pub going_more : (stop : Option ℕ) (limit made : ℕ) (x y z : MachineState) → Going stop limit made x y → made < limit →
+    is_reached stop y.cpu.pc ≡ false → end_of_turn (machine_step y).0 ≡ None → z ≡ (machine_step y).1 →
+    Going stop limit (made + 1) x z
 going_more stop limit made x y z going lt reached ends stepped = by (machine_step y).0 refl ends
   where
     by : (end : StepEnd) → (machine_step y).0 ≡ end → end_of_turn end ≡ None → Going stop limit (made + 1) x z
@@ -121,18 +135,24 @@ port_same y address e =
     (port_left y.cpu address (execution Memory console y.cpu) e)
     (ap (λ (end : StepEnd). counted end y.count) e)
 
-jumps : (word : ℕ) (ending : RunEnd) (test : Bool) → (elim test as (λ _. Option RunEnd) [ true ↦ Some run.SelfJump | false ↦ None ]) ≡ Some ending → (test ≡ true) × (Some run.SelfJump ≡ Some ending)
+jumps : (word : ℕ) (ending : RunEnd) (test : Bool) →
+    (elim test as (λ _. Option RunEnd) [ true ↦ Some run.SelfJump | false ↦ None ]) ≡ Some ending →
+    (test ≡ true) × (Some run.SelfJump ≡ Some ending)
 jumps word ending true ends = (refl, ends)
 jumps word ending false ends = absurd (cc)
 
 -- A step that ends the run.
-pub run_ended : (stop : Option ℕ) (limit made : ℕ) (x y z : MachineState) (ending : RunEnd) → Going stop limit made x y → made < limit → is_reached stop y.cpu.pc ≡ false → end_of_turn (machine_step y).0 ≡ Some ending → z ≡ (machine_step y).1 → IsRun stop limit (made + ticks_of (machine_step y).0) x ending z
+pub run_ended : (stop : Option ℕ) (limit made : ℕ) (x y z : MachineState) (ending : RunEnd) →
+    Going stop limit made x y → made < limit → is_reached stop y.cpu.pc ≡ false →
+    end_of_turn (machine_step y).0 ≡ Some ending → z ≡ (machine_step y).1 →
+    IsRun stop limit (made + ticks_of (machine_step y).0) x ending z
 run_ended stop limit made x y z ending going lt reached ends stepped = by (machine_step y).0 refl ends
   where
     none : made + 0 ≡ made
     none = omega arith
 
-    by : (end : StepEnd) → (machine_step y).0 ≡ end → end_of_turn end ≡ Some ending → IsRun stop limit (made + ticks_of end) x ending z
+    by : (end : StepEnd) → (machine_step y).0 ≡ end → end_of_turn end ≡ Some ending →
+        IsRun stop limit (made + ticks_of end) x ending z
     by (Done word) e some =
         let jump = jumps word ending (eqb word 0x10FF) some in
         record { ends = ap (λ (test : Bool). by_jump test (end_before stop limit (made + 1) (after (made + 1) x))) (jumped_more made x y (Done word) going.left e ∙ jump.0) ∙ jump.1; first = first_more stop limit made word x y going lt reached e; left = after_more made x y z going.left stepped }

@@ -6,7 +6,8 @@ ghost use Rattle.console_defs.specs.Accesses.{Gives};
 ghost use Rattle.console_defs.specs.Memory.{Memory, console, word_read};
 ghost use Rattle.console_defs.specs.Operand.{register_address};
 ghost use Rattle.console_defs.specs.Status.{status_at, status_word};
-ghost use Rattle.console_defs.specs.Machine.{MachineState, IsMachine, new_machine, machine_step, WhereStopped, has_workspace};
+ghost use Rattle.console_defs.specs.Machine.{MachineState, IsMachine, new_machine, machine_step, WhereStopped};
+ghost use Rattle.console_defs.specs.Machine.{has_workspace};
 ghost use Rattle.console_defs.specs.Causes.{refused_at, refusal, MeetsPort};
 
 use crate::cpu::Cpu;

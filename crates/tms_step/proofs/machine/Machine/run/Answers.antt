@@ -13,14 +13,16 @@ one_tick (Done word) none = refl
 one_tick (Refused address) none = absurd (cc)
 one_tick (Port address) none = absurd (cc)
 
-steps_more : (start now new made ticks : ℕ) → now ≡ start + made → new ≡ now + ticks → ticks ≡ 1 → new ≡ start + (made + 1)
+steps_more : (start now new made ticks : ℕ) → now ≡ start + made → new ≡ now + ticks → ticks ≡ 1 → new
+    ≡ start + (made + 1)
 steps_more start now new made ticks before is one = omega arith
 
 risen : (start now new made ticks : ℕ) → now ≡ start + made → new ≡ now + ticks → new - start ≡ made + ticks
 risen start now new made ticks before is = omega arith
 
 -- what the code's look at the program counter says
-reached_is : (stop : Option ℕ) (pc at : ℕ) (found answer : Bool) → pc ≡ at → found ≡ is_reached stop pc → found ≡ answer → is_reached stop at ≡ answer
+reached_is : (stop : Option ℕ) (pc at : ℕ) (found answer : Bool) → pc ≡ at → found ≡ is_reached stop pc →
+    found ≡ answer → is_reached stop at ≡ answer
 reached_is stop pc at found answer is looked test = ap (is_reached stop) (sym is) ∙ sym looked ∙ test
 
 pub loop-made-init : goal.loop-made-init
