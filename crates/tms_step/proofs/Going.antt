@@ -14,7 +14,7 @@ use Rattle.console_defs.specs.declared.ends.StepEnd.{StepEnd}
 use Rattle.console_defs.specs.declared.ends.StepEnd.TheVariants.{Done, Refused, Port}
 use Rattle.console_defs.specs.declared.ends.RunEnd.{RunEnd}
 use Rattle.console_defs.specs.declared.ends.RunEnd.TheVariants as run
-use Rattle.tms_step.specs.Turns.{ticks_of, end_of_turn}
+use Rattle.tms_step.specs.Turns.{ticks_of, end_of_turn, end_at_limit}
 
 -- So many steps led from x to y, and nothing has ended the run.
 pub record Going (stop : Option ℕ) (limit made : ℕ) (x y : MachineState) : Type 0 where
@@ -62,6 +62,16 @@ run_limit stop limit made x y going all reached =
     ∙ ap (λ (test : Bool). by_tests test (eqb made limit) rest) reached
     ∙ ap (λ (test : Bool). by_tests false test rest) (equal made limit (eqb made limit) refl all) in
     record { ends = ends; first = going.first; left = going.left }
+
+-- A run that is at its limit has ended.
+pub run_at_limit : (stop : Option ℕ) (limit made : ℕ) (x y : MachineState) → Going stop limit made x y →
+    made ≡ limit → IsRun stop limit made x (end_at_limit stop y.cpu.pc) y
+run_at_limit stop limit made x y going all = by (is_reached stop y.cpu.pc) refl
+  where
+    by : (reached : Bool) → is_reached stop y.cpu.pc ≡ reached →
+        IsRun stop limit made x (elim reached as (λ _. RunEnd) [ true ↦ run.Reached | false ↦ run.Limit ]) y
+    by true e = run_reached stop limit made x y going e
+    by false e = run_limit stop limit made x y going all e
 
 -- where neither the address nor the limit is met, the step decides
 end_step : (stop : Option ℕ) (limit made : ℕ) (x y : MachineState) → Going stop limit made x y → made < limit →

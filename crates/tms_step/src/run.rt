@@ -6,7 +6,7 @@ ghost use Rattle.console_defs.specs.Accesses.{Gives};
 ghost use Rattle.console_defs.specs.Machine.{machine_step};
 ghost use Rattle.console_defs.specs.Machine as machine;
 ghost use Rattle.console_defs.specs.Runs.{IsRun, is_reached};
-ghost use Rattle.tms_step.specs.Turns.{ticks_of, end_of_turn};
+ghost use Rattle.tms_step.specs.Turns.{ticks_of, end_of_turn, end_at_limit};
 
 use crate::machine::Machine;
 use crate::steps::Steps;
@@ -50,11 +50,7 @@ impl Machine {
                 return end;
             }
         }
-        if is_reached(stop, self.pc()) {
-            RunEnd::Reached
-        } else {
-            RunEnd::Limit
-        }
+        end_at_limit(stop, self.pc())
     }
 
     /// One step, counted where it executed an instruction, and the end of a run that it is.
@@ -72,6 +68,17 @@ impl Machine {
             StepEnd::Refused(address) => Some(RunEnd::Refused(address)),
             StepEnd::Port(address) => Some(RunEnd::Port(address)),
         }
+    }
+}
+
+/// The end of a run that executed as many instructions as its limit says: the address is looked at before the limit.
+fn end_at_limit(stop: Option<u16>, pc: u16) -> RunEnd
+    ensures { result ≡ end_at_limit stop pc }
+{
+    if is_reached(stop, pc) {
+        RunEnd::Reached
+    } else {
+        RunEnd::Limit
     }
 }
 

@@ -3,8 +3,8 @@ use Rattle.console_defs.specs.Machine.{MachineState, machine_step}
 use Rattle.console_defs.specs.Runs.{is_reached}
 use Rattle.console_defs.specs.declared.ends.StepEnd.{StepEnd}
 use Rattle.console_defs.specs.declared.ends.StepEnd.TheVariants.{Done, Refused, Port}
-use Rattle.tms_step.specs.Turns.{ticks_of, end_of_turn}
-use Rattle.tms_step.proofs.Going.{going_start, going_more, run_reached, run_ended, run_limit}
+use Rattle.tms_step.specs.Turns.{ticks_of, end_of_turn, end_at_limit}
+use Rattle.tms_step.proofs.Going.{going_start, going_more, run_reached, run_ended, run_at_limit}
 use Rattle.tms_step.proofs.machine.Machine.run.Goals as goal
 
 -- a step that does not end the run executed one instruction
@@ -47,9 +47,11 @@ loop-made-preserved g c =
     let one = one_tick (machine_step c.loop-made.self).0 none in
     (going_more c.args.stop c.args.limit c.loop-made._made c.args.self.now c.loop-made.self c.turn.new.self c.loop-made.invariant.0 c.loop-made-test.true reached none c.turn.ensures.step, steps_more c.args.steps.now c.loop-made.steps c.turn.new.steps c.loop-made._made (ticks_of (machine_step c.loop-made.self).0) c.loop-made.invariant.1 c.turn.ensures.ticks one)
 
-pub returns-else-is_reached-2-clause-run : goal.returns-else-is_reached-2-clause-run
-returns-else-is_reached-2-clause-run g c =
+pub returns-clause-run : goal.returns-clause-run
+returns-clause-run g c =
     let number : c.loop-made.steps - c.args.steps.now ≡ c.loop-made._made = omega arith in
     let all : c.loop-made._made ≡ c.args.limit = omega arith in
-    let reached = reached_is c.args.stop c.pc-2.result c.loop-made.self.cpu.pc c.is_reached-2.result false c.pc-2.ensures.value c.is_reached-2.ensures c.if-is_reached-2.false in
-    rw number (run_limit c.args.stop c.args.limit c.loop-made._made c.args.self.now c.loop-made.self c.loop-made.invariant.0 all reached)
+    let at = c.loop-made.self in
+    let told : c.end_at_limit.result ≡ end_at_limit c.args.stop at.cpu.pc =
+    c.end_at_limit.ensures ∙ ap (end_at_limit c.args.stop) c.pc-2.ensures.value in
+    rw (number, told) (run_at_limit c.args.stop c.args.limit c.loop-made._made c.args.self.now at c.loop-made.invariant.0 all)
