@@ -1,6 +1,7 @@
 -- Laws of the instruction table: each code lies under its mask, no word belongs to two rows, and words and
 -- instructions give each other back.
-use Rattle.std.proofs.Common.{◌≡◌, ℕ, zero, suc, ◌+◌, ◌*◌, ◌/◌, ◌%◌, ◌<◌, ◌≤◌, Bool, true, false, length, get_or, List, [], ◌∷◌, refl, sym, ap, ◌∙◌, arith, Option, Some, None}
+use Rattle.std.proofs.Common.{◌≡◌, ℕ, zero, suc, ◌+◌, ◌*◌, ◌/◌, ◌%◌, ◌<◌, ◌≤◌, Bool, true, false, length, get_or, List}
+use Rattle.std.proofs.Common.{[], ◌∷◌, refl, sym, ap, ◌∙◌, arith, Option, Some, None}
 use Rattle.std.specs.Prelude.{ℤ, ◌≢◌, eqb, ◌&&◌, not, nat_lt, nat_le, bit_and, Contains, IfSome}
 use Rattle.std.specs.Option.{option_map}
 use Rattle.std.specs.Int.{w8, cast_signed, cast_unsigned}
@@ -15,15 +16,19 @@ use Rattle.console_defs.specs.declared.instruction.BareOp.{BareOp}
 use Rattle.console_defs.specs.declared.instruction.TwoOp.TheVariants.{SZC, S, C, A, MOV, SOC}
 use Rattle.console_defs.specs.declared.instruction.RegOp.TheVariants.{COC, CZC, XOR, XOP, LDCR, STCR, MPY, DIV}
 use Rattle.console_defs.specs.declared.instruction.ShiftOp.TheVariants.{SRA, SRL, SLA, SRC}
-use Rattle.console_defs.specs.declared.instruction.OneOp.TheVariants.{BLWP, B, X, CLR, NEG, INV, INC, INCT, DEC, DECT, BL, SWPB, SETO, ABS}
-use Rattle.console_defs.specs.declared.instruction.JumpOp.TheVariants.{JMP, JLT, JLE, JEQ, JHE, JGT, JNE, JNC, JOC, JNO, JL, JH, JOP, SBO, SBZ, TB}
+use Rattle.console_defs.specs.declared.instruction.OneOp.TheVariants.{BLWP, B, X, CLR, NEG, INV, INC, INCT, DEC, DECT}
+use Rattle.console_defs.specs.declared.instruction.OneOp.TheVariants.{BL, SWPB, SETO, ABS}
+use Rattle.console_defs.specs.declared.instruction.JumpOp.TheVariants.{JMP, JLT, JLE, JEQ, JHE, JGT, JNE, JNC, JOC, JNO}
+use Rattle.console_defs.specs.declared.instruction.JumpOp.TheVariants.{JL, JH, JOP, SBO, SBZ, TB}
 use Rattle.console_defs.specs.declared.instruction.ImmOp.TheVariants.{LI, AI, ANDI, ORI, CI, STWP, STST}
 use Rattle.console_defs.specs.declared.instruction.BareOp.TheVariants.{LWPI, LIMI, IDLE, RSET, RTWP, CKON, CKOF, LREX}
 use Rattle.console_defs.specs.declared.instruction.Operation.{Operation}
 use Rattle.console_defs.specs.declared.instruction.Operation.TheVariants.{Two, Reg, Shift, One, Jump, Imm, Bare}
 use Rattle.console_defs.specs.declared.instruction.Instr.{Instr}
 use Rattle.console_defs.specs.declared.instruction.Instr.TheVariants as instr
-use Rattle.console_defs.specs.Instructions.{two_code, reg_code, shift_code, one_code, jump_code, imm_code, bare_code, code_of, mask_of, operations, first_row, operation_at, operands_at, instr_at, operation_of, word_of, HasRoom, HasSignedByte}
+use Rattle.console_defs.specs.Instructions.{two_code, reg_code, shift_code, one_code, jump_code, imm_code, bare_code}
+use Rattle.console_defs.specs.Instructions.{code_of, mask_of, operations, first_row, operation_at, operands_at}
+use Rattle.console_defs.specs.Instructions.{instr_at, operation_of, word_of, HasRoom, HasSignedByte}
 
 -- the code has no bit that the mask does not fix, and is a word
 abbrev is_under_mask : Operation → Bool
@@ -116,7 +121,8 @@ has_row (Bare CKOF) = (67, omega arith, refl)
 has_row (Bare LREX) = (68, omega arith, refl)
 
 -- a word that belongs to two rows shows that they share it
-shared : (word : ℕ) (a b : Operation) → bit_and word (mask_of a) ≡ code_of a → bit_and word (mask_of b) ≡ code_of b → bit_and (code_of a) (mask_of b) ≡ bit_and (code_of b) (mask_of a)
+shared : (word : ℕ) (a b : Operation) → bit_and word (mask_of a) ≡ code_of a → bit_and word (mask_of b) ≡ code_of b →
+    bit_and (code_of a) (mask_of b) ≡ bit_and (code_of b) (mask_of a)
 shared word a b in_a in_b =
     rw (← in_a, ← in_b, and_assoc (mask_of b) word (mask_of a), and_assoc (mask_of a) word (mask_of b), and_comm (mask_of a) (mask_of b)) refl
 
@@ -125,11 +131,15 @@ eqb_is m n true e same = refl
 eqb_is m n false e same = grind (arith, nat_tests)
 
 -- the row that is found has the word
-pub first_row_meets : (rows : List Operation) (word : ℕ) (operation : Operation) → first_row rows word ≡ Some operation → bit_and word (mask_of operation) ≡ code_of operation
+pub first_row_meets : (rows : List Operation) (word : ℕ) (operation : Operation) →
+    first_row rows word ≡ Some operation → bit_and word (mask_of operation) ≡ code_of operation
 first_row_meets [] word operation e = absurd (cc)
 first_row_meets (row ∷ rows) word operation e = by (first_row_meets rows word operation) (eqb (bit_and word (mask_of row)) (code_of row)) refl e
   where
-    by : (first_row rows word ≡ Some operation → bit_and word (mask_of operation) ≡ code_of operation) → (b : Bool) → eqb (bit_and word (mask_of row)) (code_of row) ≡ b → (elim b as (λ _. Option Operation) [ true ↦ Some row | false ↦ first_row rows word ]) ≡ Some operation → bit_and word (mask_of operation) ≡ code_of operation
+    by : (first_row rows word ≡ Some operation → bit_and word (mask_of operation) ≡ code_of operation) → (b : Bool) →
+        eqb (bit_and word (mask_of row)) (code_of row) ≡ b →
+        (elim b as (λ _. Option Operation) [ true ↦ Some row | false ↦ first_row rows word ]) ≡ Some operation →
+        bit_and word (mask_of operation) ≡ code_of operation
     by rest true test found = let same : row ≡ operation = cc in rw (← same) (grind (arith, nat_tests))
     by rest false test found = rest found
 
@@ -146,35 +156,42 @@ not_true true e t = cc
 not_true false e t = cc
 
 -- each of the rows passes a test that all of them pass
-passes : (test : Operation → Bool) (rows : List Operation) (operation : Operation) (k : ℕ) → list_all test rows ≡ true → k < length rows → get_or rows k operation ≡ operation → test operation ≡ true
+passes : (test : Operation → Bool) (rows : List Operation) (operation : Operation) (k : ℕ) → list_all test rows ≡ true →
+    k < length rows → get_or rows k operation ≡ operation → test operation ≡ true
 passes test [] operation k all lt at = absurd (omega arith)
 passes test (row ∷ rows) operation zero all lt at = ap test (sym at) ∙ left_of (test row) (list_all test rows) all
 passes test (row ∷ rows) operation (suc k) all lt at = passes test rows operation k (right_of (test row) (list_all test rows) all) (omega arith) at
 
-front : (b : Bool) (row : Operation) (rest : Option Operation) → b ≡ true → (elim b as (λ _. Option Operation) [ true ↦ Some row | false ↦ rest ]) ≡ Some row
+front : (b : Bool) (row : Operation) (rest : Option Operation) → b ≡ true →
+    (elim b as (λ _. Option Operation) [ true ↦ Some row | false ↦ rest ]) ≡ Some row
 front true row rest e = refl
 front false row rest e = absurd (cc)
 
 -- where the rows are apart, the row that has a word is found
-first_row_at : (rows : List Operation) (word : ℕ) (operation : Operation) (k : ℕ) → all_apart rows ≡ true → k < length rows → get_or rows k operation ≡ operation → bit_and word (mask_of operation) ≡ code_of operation → first_row rows word ≡ Some operation
+first_row_at : (rows : List Operation) (word : ℕ) (operation : Operation) (k : ℕ) → all_apart rows ≡ true →
+    k < length rows → get_or rows k operation ≡ operation → bit_and word (mask_of operation) ≡ code_of operation →
+    first_row rows word ≡ Some operation
 first_row_at [] word operation k apart lt at meets = absurd (omega arith)
 first_row_at (row ∷ rows) word operation zero apart lt at meets =
     let meets_row : bit_and word (mask_of row) ≡ code_of row = rw at meets in
-    front (eqb (bit_and word (mask_of row)) (code_of row)) row (first_row rows word) (eqb_is (bit_and word (mask_of row)) (code_of row) _ refl meets_row) ∙ ap Some at
+    front (eqb (bit_and word (mask_of row)) (code_of row)) row (first_row rows word) (eqb_is (bit_and word (mask_of row)) (code_of row) _ refl meets_row)
+    ∙ ap Some at
 first_row_at (row ∷ rows) word operation (suc k) apart lt at meets =
     by (first_row_at rows word operation k (right_of (list_all (λ other. not (could_share row other)) rows) (all_apart rows) apart) (omega arith) at meets) (eqb (bit_and word (mask_of row)) (code_of row)) refl
   where
     no_share : not (could_share row operation) ≡ true
     no_share = passes (λ other. not (could_share row other)) rows operation k (left_of (list_all (λ other. not (could_share row other)) rows) (all_apart rows) apart) (omega arith) at
 
-    by : first_row rows word ≡ Some operation → (b : Bool) → eqb (bit_and word (mask_of row)) (code_of row) ≡ b → (elim b as (λ _. Option Operation) [ true ↦ Some row | false ↦ first_row rows word ]) ≡ Some operation
+    by : first_row rows word ≡ Some operation → (b : Bool) → eqb (bit_and word (mask_of row)) (code_of row) ≡ b →
+        (elim b as (λ _. Option Operation) [ true ↦ Some row | false ↦ first_row rows word ]) ≡ Some operation
     by rest true test =
         let meets_row : bit_and word (mask_of row) ≡ code_of row = grind (arith, nat_tests) in
         absurd (not_true (could_share row operation) no_share (eqb_is _ _ (could_share row operation) refl (shared word row operation meets_row meets)))
     by rest false test = rest
 
 -- the row that a word meets is the one that is found
-pub operation_at-meets : (operation : Operation) (word : ℕ) → bit_and word (mask_of operation) ≡ code_of operation → operation_at word ≡ Some operation
+pub operation_at-meets : (operation : Operation) (word : ℕ) → bit_and word (mask_of operation) ≡ code_of operation →
+    operation_at word ≡ Some operation
 operation_at-meets operation word meets =
     let row = has_row operation in first_row_at operations word operation row.0 rows_are_apart row.1 row.2 meets
 
@@ -188,7 +205,8 @@ HasCode (Jump op) word = jump_code op ≡ word / 256 * 256
 HasCode (Imm op) word = imm_code op ≡ word / 16 * 16
 HasCode (Bare op) word = bare_code op ≡ word
 
-has_code-meets : (operation : Operation) (word : ℕ) → word < 65536 → HasCode operation word → bit_and word (mask_of operation) ≡ code_of operation
+has_code-meets : (operation : Operation) (word : ℕ) → word < 65536 → HasCode operation word →
+    bit_and word (mask_of operation) ≡ code_of operation
 has_code-meets (Two op byte) word lt code = and_high_mask 16 12 (omega arith) word lt ∙ sym code
 has_code-meets (Reg op) word lt code = and_high_mask 16 10 (omega arith) word lt ∙ sym code
 has_code-meets (Shift op) word lt code = and_high_mask 16 8 (omega arith) word lt ∙ sym code
@@ -197,7 +215,8 @@ has_code-meets (Jump op) word lt code = and_high_mask 16 8 (omega arith) word lt
 has_code-meets (Imm op) word lt code = and_high_mask 16 4 (omega arith) word lt ∙ sym code
 has_code-meets (Bare op) word lt code = let high = and_high_mask 16 0 (omega arith) word lt in omega (arith, code, high)
 
-meets-has_code : (operation : Operation) (word : ℕ) → word < 65536 → bit_and word (mask_of operation) ≡ code_of operation → HasCode operation word
+meets-has_code : (operation : Operation) (word : ℕ) → word < 65536 → bit_and word (mask_of operation)
+    ≡ code_of operation → HasCode operation word
 meets-has_code (Two op byte) word lt meets = sym meets ∙ and_high_mask 16 12 (omega arith) word lt
 meets-has_code (Reg op) word lt meets = sym meets ∙ and_high_mask 16 10 (omega arith) word lt
 meets-has_code (Shift op) word lt meets = sym meets ∙ and_high_mask 16 8 (omega arith) word lt
@@ -206,11 +225,13 @@ meets-has_code (Jump op) word lt meets = sym meets ∙ and_high_mask 16 8 (omega
 meets-has_code (Imm op) word lt meets = sym meets ∙ and_high_mask 16 4 (omega arith) word lt
 meets-has_code (Bare op) word lt meets = let high = and_high_mask 16 0 (omega arith) word lt in omega (arith, meets, high)
 
-pub operation_at-has_code : (operation : Operation) (word : ℕ) → word < 65536 → HasCode operation word → operation_at word ≡ Some operation
+pub operation_at-has_code : (operation : Operation) (word : ℕ) → word < 65536 → HasCode operation word →
+    operation_at word ≡ Some operation
 operation_at-has_code operation word lt code = operation_at-meets operation word (has_code-meets operation word lt code)
 
 -- no row is found where no operation has its code in the word
-pub operation_at-none : (word : ℕ) → word < 65536 → ((operation : Operation) → HasCode operation word → ⊥) → operation_at word ≡ None
+pub operation_at-none : (word : ℕ) → word < 65536 → ((operation : Operation) → HasCode operation word → ⊥) →
+    operation_at word ≡ None
 operation_at-none word lt none = by (operation_at word) refl
   where
     by : (found : Option Operation) → operation_at word ≡ found → found ≡ None
@@ -256,7 +277,8 @@ in_place operation =
     record { from = grind (arith, nat_tests); below = grind (arith, nat_tests) }
 
 -- where a word of an operation stands
-pub has_code-place : (operation : Operation) (word : ℕ) → HasCode operation word → (first_of operation ≤ word) × (word < end_of operation)
+pub has_code-place : (operation : Operation) (word : ℕ) → HasCode operation word →
+    (first_of operation ≤ word) × (word < end_of operation)
 has_code-place (Two op byte) word code = let place = in_place (Two op byte) in (omega arith, omega arith)
 has_code-place (Reg op) word code = let place = in_place (Reg op) in (omega arith, omega arith)
 has_code-place (Shift op) word code = let place = in_place (Shift op) in (omega arith, omega arith)
@@ -266,7 +288,8 @@ has_code-place (Imm op) word code = let place = in_place (Imm op) in (omega arit
 has_code-place (Bare op) word code = let place = in_place (Bare op) in (omega arith, omega arith)
 
 -- the places between those of the forms belong to no row
-pub operation_at-between : (word : ℕ) → word < 0x1000 → (0x0200 ≤ word → 0x0780 ≤ word) → (0x0800 ≤ word → 0x0C00 ≤ word) → operation_at word ≡ None
+pub operation_at-between : (word : ℕ) → word < 0x1000 → (0x0200 ≤ word → 0x0780 ≤ word) →
+    (0x0800 ≤ word → 0x0C00 ≤ word) → operation_at word ≡ None
 operation_at-between word lt after_ones after_shifts = operation_at-none word (omega arith) none
   where
     none : (operation : Operation) → HasCode operation word → ⊥
@@ -279,7 +302,8 @@ operation_at-between word lt after_ones after_shifts = operation_at-none word (o
     none (Bare op) code = let place = has_code-place (Bare op) word code in omega arith
 
 -- a word of the two small forms' places that has no code of theirs belongs to no row
-pub operation_at-control : (word : ℕ) → 0x0200 ≤ word → word < 0x0400 → ((op : ImmOp) → imm_code op ≢ word / 16 * 16) → ((op : BareOp) → bare_code op ≢ word) → operation_at word ≡ None
+pub operation_at-control : (word : ℕ) → 0x0200 ≤ word → word < 0x0400 → ((op : ImmOp) → imm_code op ≢ word / 16 * 16) →
+    ((op : BareOp) → bare_code op ≢ word) → operation_at word ≡ None
 operation_at-control word from below no_imm no_bare = operation_at-none word (omega arith) none
   where
     none : (operation : Operation) → HasCode operation word → ⊥
@@ -292,7 +316,8 @@ operation_at-control word from below no_imm no_bare = operation_at-none word (om
     none (Bare op) code = no_bare op code
 
 -- a word of a row is the code and the operands that it gives
-word_of-operands_at : (operation : Operation) (word : ℕ) → word < 65536 → bit_and word (mask_of operation) ≡ code_of operation → word_of (operands_at operation word) ≡ word
+word_of-operands_at : (operation : Operation) (word : ℕ) → word < 65536 →
+    bit_and word (mask_of operation) ≡ code_of operation → word_of (operands_at operation word) ≡ word
 word_of-operands_at (Two op byte) word lt meets =
     let high = and_high_mask 16 12 (omega arith) word lt in omega (arith, meets, high)
 word_of-operands_at (Reg op) word lt meets =
@@ -311,14 +336,16 @@ word_of-operands_at (Bare op) word lt meets =
     let high = and_high_mask 16 0 (omega arith) word lt in omega (arith, meets, high)
 
 -- a row that is found, with its operands, has the word again
-pub word_of-found : (operation : Operation) (word : ℕ) → word < 65536 → operation_at word ≡ Some operation → word_of (operands_at operation word) ≡ word
+pub word_of-found : (operation : Operation) (word : ℕ) → word < 65536 → operation_at word ≡ Some operation →
+    word_of (operands_at operation word) ≡ word
 word_of-found operation word lt found = word_of-operands_at operation word lt (first_row_meets operations word operation found)
 
 -- the decoded instruction is encoded as the word again
 pub instr_at-encoded : (word : ℕ) → word < 65536 → IfSome (instr_at word) (λ instr. word_of instr ≡ word)
 instr_at-encoded word lt = by (operation_at word) refl
   where
-    by : (found : Option Operation) → operation_at word ≡ found → IfSome (option_map (λ operation. operands_at operation word) found) (λ instr. word_of instr ≡ word)
+    by : (found : Option Operation) → operation_at word ≡ found →
+        IfSome (option_map (λ operation. operands_at operation word) found) (λ instr. word_of instr ≡ word)
     by None e = tt
     by (Some operation) e = word_of-found operation word lt e
 
@@ -342,27 +369,32 @@ instr_at-room word = by (operation_at word)
 -- ---- from an instruction to its word, and back
 
 -- a code below the operands' places, and operands that fit them
-high-12 : (code operands : ℕ) → code < 65536 → bit_and code 0xF000 ≡ code → operands < 4096 → (code / 4096 * 4096 ≡ code) × (bit_and (code + operands) 0xF000 ≡ code)
+high-12 : (code operands : ℕ) → code < 65536 → bit_and code 0xF000 ≡ code → operands < 4096 →
+    (code / 4096 * 4096 ≡ code) × (bit_and (code + operands) 0xF000 ≡ code)
 high-12 code operands lt under fits =
     let whole : code / 4096 * 4096 ≡ code = sym (and_high_mask 16 12 (omega arith) code lt) ∙ under in
     (whole, and_high_mask 16 12 (omega arith) (code + operands) (omega arith) ∙ omega arith)
 
-high-10 : (code operands : ℕ) → code < 65536 → bit_and code 0xFC00 ≡ code → operands < 1024 → (code / 1024 * 1024 ≡ code) × (bit_and (code + operands) 0xFC00 ≡ code)
+high-10 : (code operands : ℕ) → code < 65536 → bit_and code 0xFC00 ≡ code → operands < 1024 →
+    (code / 1024 * 1024 ≡ code) × (bit_and (code + operands) 0xFC00 ≡ code)
 high-10 code operands lt under fits =
     let whole : code / 1024 * 1024 ≡ code = sym (and_high_mask 16 10 (omega arith) code lt) ∙ under in
     (whole, and_high_mask 16 10 (omega arith) (code + operands) (omega arith) ∙ omega arith)
 
-high-8 : (code operands : ℕ) → code < 65536 → bit_and code 0xFF00 ≡ code → operands < 256 → (code / 256 * 256 ≡ code) × (bit_and (code + operands) 0xFF00 ≡ code)
+high-8 : (code operands : ℕ) → code < 65536 → bit_and code 0xFF00 ≡ code → operands < 256 →
+    (code / 256 * 256 ≡ code) × (bit_and (code + operands) 0xFF00 ≡ code)
 high-8 code operands lt under fits =
     let whole : code / 256 * 256 ≡ code = sym (and_high_mask 16 8 (omega arith) code lt) ∙ under in
     (whole, and_high_mask 16 8 (omega arith) (code + operands) (omega arith) ∙ omega arith)
 
-high-6 : (code operands : ℕ) → code < 65536 → bit_and code 0xFFC0 ≡ code → operands < 64 → (code / 64 * 64 ≡ code) × (bit_and (code + operands) 0xFFC0 ≡ code)
+high-6 : (code operands : ℕ) → code < 65536 → bit_and code 0xFFC0 ≡ code → operands < 64 →
+    (code / 64 * 64 ≡ code) × (bit_and (code + operands) 0xFFC0 ≡ code)
 high-6 code operands lt under fits =
     let whole : code / 64 * 64 ≡ code = sym (and_high_mask 16 6 (omega arith) code lt) ∙ under in
     (whole, and_high_mask 16 6 (omega arith) (code + operands) (omega arith) ∙ omega arith)
 
-high-4 : (code operands : ℕ) → code < 65536 → bit_and code 0xFFF0 ≡ code → operands < 16 → (code / 16 * 16 ≡ code) × (bit_and (code + operands) 0xFFF0 ≡ code)
+high-4 : (code operands : ℕ) → code < 65536 → bit_and code 0xFFF0 ≡ code → operands < 16 →
+    (code / 16 * 16 ≡ code) × (bit_and (code + operands) 0xFFF0 ≡ code)
 high-4 code operands lt under fits =
     let whole : code / 16 * 16 ≡ code = sym (and_high_mask 16 4 (omega arith) code lt) ∙ under in
     (whole, and_high_mask 16 4 (omega arith) (code + operands) (omega arith) ∙ omega arith)
@@ -381,7 +413,8 @@ lies_under operation =
     record { fits = grind (arith, nat_tests); under = grind (arith, nat_tests) }
 
 -- the word of an instruction has its code under its mask
-word_meets : (instr : Instr) → HasRoom instr → HasSignedByte instr → LiesUnder (operation_of instr) → bit_and (word_of instr) (mask_of (operation_of instr)) ≡ code_of (operation_of instr)
+word_meets : (instr : Instr) → HasRoom instr → HasSignedByte instr → LiesUnder (operation_of instr) →
+    bit_and (word_of instr) (mask_of (operation_of instr)) ≡ code_of (operation_of instr)
 word_meets (instr.Two op byte dst src) room signed code = (high-12 _ _ code.fits code.under (omega arith)).1
 word_meets (instr.Reg op d src) room signed code = (high-10 _ _ code.fits code.under (omega arith)).1
 word_meets (instr.Shift op count w) room signed code = (high-8 _ _ code.fits code.under (omega arith)).1
@@ -390,11 +423,13 @@ word_meets (instr.Jump op disp) room signed code = (high-8 _ (cast_unsigned w8 d
 word_meets (instr.Imm op w) room signed code = (high-4 _ _ code.fits code.under room).1
 word_meets (instr.Bare op) room signed code = let e : code_of (Bare op) + 0 ≡ code_of (Bare op) = omega arith in rw e code.under
 
-same_place : (place : Place) (mode reg : ℕ) → mode ≡ place.mode → reg ≡ place.reg → ◌≡◌ {A = Place} (record { mode = mode; reg = reg }) place
+same_place : (place : Place) (mode reg : ℕ) → mode ≡ place.mode → reg ≡ place.reg →
+    ◌≡◌ {A = Place} (record { mode = mode; reg = reg }) place
 same_place place mode reg p q = λ i. record { mode = p i; reg = q i }
 
 -- the operands of an instruction's word are its own
-operands_at-word_of : (instr : Instr) → HasRoom instr → HasSignedByte instr → LiesUnder (operation_of instr) → operands_at (operation_of instr) (word_of instr) ≡ instr
+operands_at-word_of : (instr : Instr) → HasRoom instr → HasSignedByte instr → LiesUnder (operation_of instr) →
+    operands_at (operation_of instr) (word_of instr) ≡ instr
 operands_at-word_of (instr.Two op byte dst src) room signed code =
     let high = (high-12 _ 0 code.fits code.under (omega arith)).0 in
     let destination = same_place dst (word_of (instr.Two op byte dst src) / 1024 % 4) (word_of (instr.Two op byte dst src) / 64 % 16) (omega arith) (omega arith) in
@@ -430,4 +465,5 @@ pub instr_at-word_of : (instr : Instr) → HasRoom instr → HasSignedByte instr
 instr_at-word_of instr room signed =
     let code = lies_under (operation_of instr) in
     let found = operation_at-meets (operation_of instr) (word_of instr) (word_meets instr room signed code) in
-    ap (option_map (λ operation. operands_at operation (word_of instr))) found ∙ ap Some (operands_at-word_of instr room signed code)
+    ap (option_map (λ operation. operands_at operation (word_of instr))) found
+    ∙ ap Some (operands_at-word_of instr room signed code)

@@ -1,6 +1,5 @@
 pub mod ByteLaws
 pub mod WordLaws
-pub mod FlagLaws
 pub mod OverflowLaws
 pub mod ShiftLaws
 pub mod DivideLaws
@@ -10,3 +9,4 @@ pub mod GromLaws
 pub mod MemoryLaws
 pub mod StepRows
 pub mod RefusalLaws
+pub mod RunLaws

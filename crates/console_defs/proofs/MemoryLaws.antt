@@ -1,11 +1,15 @@
 -- Laws about the memory map.
-use Rattle.std.proofs.Common.{◌≡◌, ◌<◌, ◌≤◌, ℕ, ◌+◌, ◌-◌, ◌%◌, Bool, true, false, nat_lt, arith, refl, ap, sym, ◌∙◌, Option, Some, None}
+use Rattle.std.proofs.Common.{◌≡◌, ◌<◌, ◌≤◌, ℕ, ◌+◌, ◌-◌, ◌%◌, Bool, true, false, nat_lt, arith, refl, ap, sym, ◌∙◌}
+use Rattle.std.proofs.Common.{Option, Some, None}
 use Rattle.std.proofs.lemmas.Bool.{ltb-true, ltb-false, lt-ltb}
 use Rattle.console_defs.specs.Words.{high, low, join, even}
 use Rattle.console_defs.specs.Accesses.{Answer, Gives, AtPort, ◌>>=◌}
 use Rattle.console_defs.specs.Vdp.{VdpState}
 use Rattle.console_defs.specs.Grom.{GromState}
-use Rattle.console_defs.specs.Memory.{Memory, Port, Region, Rom, LowExpansion, HighExpansion, Scratchpad, PortOf, Unmapped, region, port_at, port_region, is_port_region, is_port_address, byte_read, byte_written, word_read_in, word_written_in, word_read, word_written, two_bytes_read, two_bytes_written, byte_read_in, byte_written_in}
+use Rattle.console_defs.specs.Memory.{Memory, Port, Region, Rom, LowExpansion, HighExpansion, Scratchpad, PortOf}
+use Rattle.console_defs.specs.Memory.{Unmapped, region, port_at, port_region, is_port_region, is_port_address}
+use Rattle.console_defs.specs.Memory.{byte_read, byte_written, word_read_in, word_written_in, word_read, word_written}
+use Rattle.console_defs.specs.Memory.{two_bytes_read, two_bytes_written, byte_read_in, byte_written_in}
 
 -- Where the odd address after an even one leads: no port stands there.
 abbrev beside : Region → Region
@@ -61,13 +65,15 @@ region_low address from below = grind arith
 pub region_gap : (address : ℕ) → 0x4000 ≤ address → address < 0x8000 → region address ≡ Unmapped
 region_gap address from below = grind arith
 
-pub region_scratchpad : (address : ℕ) → 0x8000 ≤ address → address < 0x8400 → region address ≡ Scratchpad (address % 256)
+pub region_scratchpad : (address : ℕ) → 0x8000 ≤ address → address < 0x8400 → region address
+    ≡ Scratchpad (address % 256)
 region_scratchpad address from below = grind arith
 
 pub region_ports : (address : ℕ) → 0x8400 ≤ address → address < 0xA000 → region address ≡ port_region (port_at address)
 region_ports address from below =
     let by_tests : region address ≡ region_by_tests (nat_lt address 0x2000) (nat_lt address 0x4000) (nat_lt address 0x8000) (nat_lt address 0x8400) (nat_lt address 0xA000) address = refl in
-    by_tests ∙ rw (not_below 0x2000 address (omega arith), not_below 0x4000 address (omega arith), not_below 0x8000 address (omega arith), not_below 0x8400 address from, lt-ltb address 0xA000 below) refl
+    by_tests
+    ∙ rw (not_below 0x2000 address (omega arith), not_below 0x4000 address (omega arith), not_below 0x8000 address (omega arith), not_below 0x8400 address from, lt-ltb address 0xA000 below) refl
 
 pub region_high : (address : ℕ) → 0xA000 ≤ address → region address ≡ HighExpansion (address - 0xA000)
 region_high address from = grind arith
@@ -135,7 +141,8 @@ write_by_region (PortOf port) m address word = refl
 write_by_region Unmapped m address word = refl
 
 -- A word that is written is two bytes that are written.
-pub write_is_two_bytes : (m : Memory) (address word : ℕ) → word_written m address word ≡ two_bytes_written m address word
+pub write_is_two_bytes : (m : Memory) (address word : ℕ) → word_written m address word
+    ≡ two_bytes_written m address word
 write_is_two_bytes m address word =
     let with_second : Region → Answer Memory =
     λ second.

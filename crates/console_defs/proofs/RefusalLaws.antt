@@ -6,8 +6,11 @@ use Rattle.console_defs.specs.Words.{even, plus}
 use Rattle.console_defs.specs.Flags.{Width, Byte, Word, width_of}
 use Rattle.console_defs.specs.Instructions.{instr_at}
 use Rattle.console_defs.specs.Accesses.{Answer, Gives, AtPort, NoInstruction, ◌>>=◌}
-use Rattle.console_defs.specs.Memory.{Memory, Region, Rom, LowExpansion, HighExpansion, Scratchpad, PortOf, Unmapped, region, is_port_region, is_port_address, word_read_in, word_written_in, word_read, word_written, console}
-use Rattle.console_defs.specs.Operand.{Cpu, Mode, Register, Indirect, Symbolic, Increment, operand, index_of, with_words, value_at, with_value}
+use Rattle.console_defs.specs.Memory.{Memory, Region, Rom, LowExpansion, HighExpansion, Scratchpad, PortOf, Unmapped}
+use Rattle.console_defs.specs.Memory.{region, is_port_region, is_port_address, word_read_in, word_written_in, word_read}
+use Rattle.console_defs.specs.Memory.{word_written, console}
+use Rattle.console_defs.specs.Operand.{Cpu, Mode, Register, Indirect, Symbolic, Increment, operand, index_of}
+use Rattle.console_defs.specs.Operand.{with_words, value_at, with_value}
 use Rattle.console_defs.specs.forms.Results.{stored}
 use Rattle.console_defs.specs.forms.Two.{two, two_operands}
 use Rattle.console_defs.specs.forms.Reg.{reg, with_source, with_division, in_row}
@@ -26,9 +29,11 @@ use Rattle.console_defs.specs.declared.instruction.RegOp.{RegOp}
 use Rattle.console_defs.specs.declared.instruction.RegOp.TheVariants.{COC, CZC, XOR, XOP, LDCR, STCR, MPY, DIV}
 use Rattle.console_defs.specs.declared.instruction.ShiftOp.{ShiftOp}
 use Rattle.console_defs.specs.declared.instruction.OneOp.{OneOp}
-use Rattle.console_defs.specs.declared.instruction.OneOp.TheVariants.{BLWP, B, X, CLR, NEG, INV, INC, INCT, DEC, DECT, BL, SWPB, SETO, ABS}
+use Rattle.console_defs.specs.declared.instruction.OneOp.TheVariants.{BLWP, B, X, CLR, NEG, INV, INC, INCT, DEC, DECT}
+use Rattle.console_defs.specs.declared.instruction.OneOp.TheVariants.{BL, SWPB, SETO, ABS}
 use Rattle.console_defs.specs.declared.instruction.JumpOp.{JumpOp}
-use Rattle.console_defs.specs.declared.instruction.JumpOp.TheVariants.{JMP, JLT, JLE, JEQ, JHE, JGT, JNE, JNC, JOC, JNO, JL, JH, JOP, SBO, SBZ, TB}
+use Rattle.console_defs.specs.declared.instruction.JumpOp.TheVariants.{JMP, JLT, JLE, JEQ, JHE, JGT, JNE, JNC, JOC, JNO}
+use Rattle.console_defs.specs.declared.instruction.JumpOp.TheVariants.{JL, JH, JOP, SBO, SBZ, TB}
 use Rattle.console_defs.specs.declared.instruction.ImmOp.{ImmOp}
 use Rattle.console_defs.specs.declared.instruction.ImmOp.TheVariants.{LI, AI, ANDI, ORI, CI, STWP, STST}
 use Rattle.console_defs.specs.declared.instruction.BareOp.{BareOp}

@@ -12,7 +12,12 @@ use Rattle.console_defs.specs.declared.ends.StepEnd.{StepEnd}
 use Rattle.console_defs.specs.declared.ends.StepEnd.TheVariants.{Done, Refused}
 
 abbrev bytes_access : Accesses (List ℕ)
-bytes_access = record { word = λ m at. Gives (word_in m (even at)); with_word = λ m at word. Gives (with_word_in m (even at) word); byte = λ m at. Gives (slice_index m at, m); with_byte = λ m at byte. Gives (slice_set m at byte) }
+bytes_access = record {
+  word = λ m at. Gives (word_in m (even at));
+  with_word = λ m at word. Gives (with_word_in m (even at) word);
+  byte = λ m at. Gives (slice_index m at, m);
+  with_byte = λ m at byte. Gives (slice_set m at byte);
+}
 
 abbrev zeros : ℕ → List ℕ
 zeros zero = []

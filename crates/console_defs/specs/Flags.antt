@@ -1,27 +1,7 @@
 -- Widths of operands, sums, differences and comparisons, and the status bits that they set.
-use Rattle.std.specs.Prelude.{
-  ℕ,
-  ℤ,
-  pos,
-  ◌+◌,
-  ◌-◌,
-  ◌%◌,
-  ◌+ℤ◌,
-  ◌-ℤ◌,
-  unsigned_abs,
-  Bool,
-  true,
-  false,
-  ◌||◌,
-  eqb,
-  ◌==◌,
-  nat_lt,
-  nat_le,
-  int_lt,
-  int_le,
-  count_ones,
-  if◌then◌else◌,
-}
+use Rattle.std.specs.Prelude.{ℕ, ℤ, pos, ◌+◌, ◌-◌, ◌%◌, ◌+ℤ◌, ◌-ℤ◌, unsigned_abs, count_ones}
+use Rattle.std.specs.Prelude.{Bool, true, false, not, ◌&&◌, ◌||◌, eqb, ◌==◌, nat_lt, nat_le, int_lt, int_le}
+use Rattle.std.specs.Prelude.{if◌then◌else◌}
 use Rattle.console_defs.specs.declared.flags.Flags.{Flags}
 
 -- The widths of operands. TMS9900 data manual, "Registers and memory".
@@ -85,6 +65,22 @@ abbrev pub sum_overflows : Width → ℕ → ℕ → Bool
 sum_overflows width destination source =
     leaves_range width (signed width destination +ℤ signed width source)
 
+-- The sign bit of a number is set. TMS9900 data manual, "Registers and memory".
+abbrev pub is_negative : Width → ℕ → Bool
+is_negative width number = nat_le (half width) number
+
+-- Two sign bits differ.
+abbrev pub differ : Bool → Bool → Bool
+differ true second = not second
+differ false second = second
+
+-- That is the manual's rule: the operands have one sign, and the sum has the other.
+-- TMS9900 data manual, "Status register".
+abbrev pub sum_has_wrong_sign : Width → ℕ → ℕ → Bool
+sum_has_wrong_sign width destination source =
+    not (differ (is_negative width destination) (is_negative width source))
+    && differ (is_negative width destination) (is_negative width (sum_of width destination source))
+
 -- The status bits of an addition; it sets all five.
 -- TMS9900 data manual, "Add words", "Add bytes", "Add immediate", "Increment", "Increment by two".
 abbrev pub sum_flags : Width → ℕ → ℕ → Flags
@@ -106,6 +102,13 @@ difference_carries destination source = nat_le source destination
 abbrev pub difference_overflows : Width → ℕ → ℕ → Bool
 difference_overflows width destination source =
     leaves_range width (signed width destination -ℤ signed width source)
+
+-- That is the manual's rule: the operands have different signs, and the difference has not the destination's.
+-- TMS9900 data manual, "Status register".
+abbrev pub difference_has_wrong_sign : Width → ℕ → ℕ → Bool
+difference_has_wrong_sign width destination source =
+    differ (is_negative width destination) (is_negative width source)
+    && differ (is_negative width destination) (is_negative width (difference_of width destination source))
 
 -- The status bits of a subtraction; it sets all five.
 -- TMS9900 data manual, "Subtract words", "Subtract bytes", "Decrement", "Decrement by two".
@@ -142,7 +145,11 @@ absolute_flags width number = result_flags width number false (is_least width nu
 -- TMS9900 data manual, "Compare words", "Compare bytes", "Compare immediate".
 abbrev pub by_order : Width → ℕ → ℕ → Flags → Flags
 by_order width first second flags =
-    record flags { lgt = nat_lt second first; agt = int_lt (signed width second) (signed width first); eq = first == second }
+    record flags {
+      lgt = nat_lt second first;
+      agt = int_lt (signed width second) (signed width first);
+      eq = first == second;
+    }
 
 -- No status bit is set.
 abbrev pub no_flags : Flags

@@ -1,5 +1,6 @@
 -- The instruction table.
-use Rattle.std.specs.Prelude.{ℕ, ◌+◌, ◌*◌, ◌/◌, ◌%◌, ◌<◌, Bool, true, false, eqb, bit_and, List, [], ◌∷◌, Option, Some, None, FitsSigned}
+use Rattle.std.specs.Prelude.{ℕ, ◌+◌, ◌*◌, ◌/◌, ◌%◌, ◌<◌, Bool, true, false, eqb, bit_and, List, [], ◌∷◌, Option, Some}
+use Rattle.std.specs.Prelude.{None, FitsSigned}
 use Rattle.std.specs.Option.{option_map}
 use Rattle.std.specs.Int.{w8, cast_signed, cast_unsigned}
 use Rattle.console_defs.specs.declared.instruction.TwoOp.{TwoOp}
@@ -9,9 +10,11 @@ use Rattle.console_defs.specs.declared.instruction.RegOp.TheVariants.{COC, CZC, 
 use Rattle.console_defs.specs.declared.instruction.ShiftOp.{ShiftOp}
 use Rattle.console_defs.specs.declared.instruction.ShiftOp.TheVariants.{SRA, SRL, SLA, SRC}
 use Rattle.console_defs.specs.declared.instruction.OneOp.{OneOp}
-use Rattle.console_defs.specs.declared.instruction.OneOp.TheVariants.{BLWP, B, X, CLR, NEG, INV, INC, INCT, DEC, DECT, BL, SWPB, SETO, ABS}
+use Rattle.console_defs.specs.declared.instruction.OneOp.TheVariants.{BLWP, B, X, CLR, NEG, INV, INC, INCT, DEC, DECT}
+use Rattle.console_defs.specs.declared.instruction.OneOp.TheVariants.{BL, SWPB, SETO, ABS}
 use Rattle.console_defs.specs.declared.instruction.JumpOp.{JumpOp}
-use Rattle.console_defs.specs.declared.instruction.JumpOp.TheVariants.{JMP, JLT, JLE, JEQ, JHE, JGT, JNE, JNC, JOC, JNO, JL, JH, JOP, SBO, SBZ, TB}
+use Rattle.console_defs.specs.declared.instruction.JumpOp.TheVariants.{JMP, JLT, JLE, JEQ, JHE, JGT, JNE, JNC, JOC, JNO}
+use Rattle.console_defs.specs.declared.instruction.JumpOp.TheVariants.{JL, JH, JOP, SBO, SBZ, TB}
 use Rattle.console_defs.specs.declared.instruction.ImmOp.{ImmOp}
 use Rattle.console_defs.specs.declared.instruction.ImmOp.TheVariants.{LI, AI, ANDI, ORI, CI, STWP, STST}
 use Rattle.console_defs.specs.declared.instruction.BareOp.{BareOp}
@@ -135,16 +138,88 @@ mask_of (Jump op) = 0xFF00
 mask_of (Imm op) = 0xFFF0
 mask_of (Bare op) = 0xFFFF
 
--- The rows of the table, in the manual's order. TMS9900 data manual, "Instructions".
+-- The rows of the table, by form. TMS9900 data manual, "Instructions".
 abbrev pub operations : List Operation
 operations =
-    Two SZC false ∷ Two SZC true ∷ Two S false ∷ Two S true ∷ Two C false ∷ Two C true ∷ Two A false ∷ Two A true ∷ Two MOV false ∷ Two MOV true ∷ Two SOC false ∷ Two SOC true ∷ Reg COC ∷ Reg CZC ∷ Reg XOR ∷ Reg XOP ∷ Reg LDCR ∷ Reg STCR ∷ Reg MPY ∷ Reg DIV ∷ Shift SRA ∷ Shift SRL ∷ Shift SLA ∷ Shift SRC ∷ One BLWP ∷ One B ∷ One X ∷ One CLR ∷ One NEG ∷ One INV ∷ One INC ∷ One INCT ∷ One DEC ∷ One DECT ∷ One BL ∷ One SWPB ∷ One SETO ∷ One ABS ∷ Jump JMP ∷ Jump JLT ∷ Jump JLE ∷ Jump JEQ ∷ Jump JHE ∷ Jump JGT ∷ Jump JNE ∷ Jump JNC ∷ Jump JOC ∷ Jump JNO ∷ Jump JL ∷ Jump JH ∷ Jump JOP ∷ Jump SBO ∷ Jump SBZ ∷ Jump TB ∷ Imm LI ∷ Imm AI ∷ Imm ANDI ∷ Imm ORI ∷ Imm CI ∷ Imm STWP ∷ Imm STST ∷ Bare LWPI ∷ Bare LIMI ∷ Bare IDLE ∷ Bare RSET ∷ Bare RTWP ∷ Bare CKON ∷ Bare CKOF ∷ Bare LREX ∷ []
+    Two SZC false
+    ∷ Two SZC true
+    ∷ Two S false
+    ∷ Two S true
+    ∷ Two C false
+    ∷ Two C true
+    ∷ Two A false
+    ∷ Two A true
+    ∷ Two MOV false
+    ∷ Two MOV true
+    ∷ Two SOC false
+    ∷ Two SOC true
+    ∷ Reg COC
+    ∷ Reg CZC
+    ∷ Reg XOR
+    ∷ Reg XOP
+    ∷ Reg LDCR
+    ∷ Reg STCR
+    ∷ Reg MPY
+    ∷ Reg DIV
+    ∷ Shift SRA
+    ∷ Shift SRL
+    ∷ Shift SLA
+    ∷ Shift SRC
+    ∷ One BLWP
+    ∷ One B
+    ∷ One X
+    ∷ One CLR
+    ∷ One NEG
+    ∷ One INV
+    ∷ One INC
+    ∷ One INCT
+    ∷ One DEC
+    ∷ One DECT
+    ∷ One BL
+    ∷ One SWPB
+    ∷ One SETO
+    ∷ One ABS
+    ∷ Jump JMP
+    ∷ Jump JLT
+    ∷ Jump JLE
+    ∷ Jump JEQ
+    ∷ Jump JHE
+    ∷ Jump JGT
+    ∷ Jump JNE
+    ∷ Jump JNC
+    ∷ Jump JOC
+    ∷ Jump JNO
+    ∷ Jump JL
+    ∷ Jump JH
+    ∷ Jump JOP
+    ∷ Jump SBO
+    ∷ Jump SBZ
+    ∷ Jump TB
+    ∷ Imm LI
+    ∷ Imm AI
+    ∷ Imm ANDI
+    ∷ Imm ORI
+    ∷ Imm CI
+    ∷ Imm STWP
+    ∷ Imm STST
+    ∷ Bare LWPI
+    ∷ Bare LIMI
+    ∷ Bare IDLE
+    ∷ Bare RSET
+    ∷ Bare RTWP
+    ∷ Bare CKON
+    ∷ Bare CKOF
+    ∷ Bare LREX
+    ∷ []
 
 -- A word belongs to the row whose mask leaves the row's code.
 abbrev pub first_row : List Operation → ℕ → Option Operation
 first_row [] word = None
 first_row (operation ∷ rest) word =
-    elim (eqb (bit_and word (mask_of operation)) (code_of operation)) [ true ↦ Some operation | false ↦ first_row rest word ]
+    elim (eqb (bit_and word (mask_of operation)) (code_of operation)) [
+      | true ↦ Some operation
+      | false ↦ first_row rest word
+    ]
 
 abbrev pub operation_at : ℕ → Option Operation
 operation_at word = first_row operations word

@@ -1,9 +1,12 @@
--- The machine of the console: the processor over the console's memory, with a count of its instructions.
-use Rattle.std.specs.Prelude.{ℕ, ◌+◌, ◌-◌, ◌^◌, min, Bool, ◌&&◌, ◌||◌, nat_le}
+-- The machine of the console: the processor over the console's memory, with a count of its instructions, and its steps.
+use Rattle.std.specs.Prelude.{◌≡◌, ◌<◌, ℕ, zero, suc, ◌^◌, Bool, ◌&&◌, ◌||◌, nat_le}
+use Rattle.count_defs.specs.Counts.{raised}
 use Rattle.console_defs.specs.Words.{even}
-use Rattle.console_defs.specs.Status.{status_at}
+use Rattle.console_defs.specs.Status.{IsStatus, status_at}
+use Rattle.console_defs.specs.Accesses.{Answer, Gives, AtPort, NoInstruction, ◌>>=◌}
 use Rattle.console_defs.specs.Operand.{Cpu}
-use Rattle.console_defs.specs.Memory.{Memory}
+use Rattle.console_defs.specs.Memory.{Memory, IsMemory, console}
+use Rattle.console_defs.specs.Step.{step}
 use Rattle.console_defs.specs.declared.ends.StepEnd.{StepEnd}
 use Rattle.console_defs.specs.declared.ends.StepEnd.TheVariants.{Done, Refused, Port}
 
@@ -12,15 +15,22 @@ pub record MachineState : Type 0 where
   pub cpu : Cpu Memory
   pub count : ℕ
 
+-- What is true of every machine: its memory, its status register, that the program counter and the workspace pointer
+-- are even words, and a count of 64 bits.
+pub record IsMachine (x : MachineState) : Type 0 where
+  pub memory : IsMemory x.cpu.memory
+  pub status : IsStatus x.cpu.status
+  pub even_pc : even x.cpu.pc ≡ x.cpu.pc
+  pub even_wp : even x.cpu.wp ≡ x.cpu.wp
+  pub pc : x.cpu.pc < 65536
+  pub wp : x.cpu.wp < 65536
+  pub count : x.count < 2 ^ 64
+
 -- Profile: a new machine has status 0 and count 0, and the lowest bit of its workspace pointer and of its program
 -- counter is cleared.
 abbrev pub new_machine : Memory → ℕ → ℕ → MachineState
 new_machine memory wp pc =
     record { cpu = record { memory = memory; pc = even pc; wp = even wp; status = status_at 0 }; count = 0 }
-
--- Profile: a count that would pass 2^64 - 1 stands there.
-abbrev pub raised : ℕ → ℕ → ℕ
-raised count more = min (count + more) (2 ^ 64 - 1)
 
 -- The count after a step: an instruction that was executed raises it by one.
 abbrev pub counted : StepEnd → ℕ → ℕ
@@ -28,14 +38,36 @@ counted (Done word) count = raised count 1
 counted (Refused address) count = count
 counted (Port address) count = count
 
+-- One step of the machine: how the step of its processor ends, and the machine after it.
+abbrev pub machine_step : MachineState → StepEnd × MachineState
+machine_step x =
+    let stepped = step Memory console x.cpu in
+    (stepped.0, record { cpu = stepped.1; count = counted stepped.0 x.count })
+
+-- A step as an answer: it gives a machine where it executed an instruction.
+abbrev pub given_by : StepEnd × MachineState → Answer MachineState
+given_by (Done word, left) = Gives left
+given_by (Refused address, left) = NoInstruction
+given_by (Port address, left) = AtPort address
+
+abbrev pub done_step : MachineState → Answer MachineState
+done_step x = given_by (machine_step x)
+
+-- So many steps in a row that all execute an instruction.
+abbrev pub steps : ℕ → MachineState → Answer MachineState
+steps zero x = Gives x
+steps (suc count) x = done_step x >>= steps count
+
 -- What is said where a step executed no instruction.
 abbrev pub WhereStopped : StepEnd → Type 0 → Type 0
 WhereStopped (Done word) said = Unit {0}
 WhereStopped (Refused address) said = said
 WhereStopped (Port address) said = said
 
--- The sixteen registers of a workspace, 32 bytes, lie wholly in the scratchpad from >8300 on or in one of the two
--- parts of expansion memory.
+-- Profile: the registers of a workspace are shown where all sixteen, 32 bytes, lie in the scratchpad from >8300 on or
+-- in one of the two parts of expansion memory.
 abbrev pub has_workspace : ℕ → Bool
 has_workspace wp =
-    (nat_le 0x8300 wp && nat_le wp 0x83E0) || (nat_le 0x2000 wp && nat_le wp 0x3FE0) || (nat_le 0xA000 wp && nat_le wp 0xFFE0)
+    (nat_le 0x8300 wp && nat_le wp 0x83E0)
+    || (nat_le 0x2000 wp && nat_le wp 0x3FE0)
+    || (nat_le 0xA000 wp && nat_le wp 0xFFE0)

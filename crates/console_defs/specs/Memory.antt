@@ -1,8 +1,10 @@
 -- The memory map of the console.
-use Rattle.std.specs.Prelude.{◌≡◌, ◌≤◌, ℕ, ◌+◌, ◌-◌, ◌%◌, Bool, true, false, eqb, nat_lt, List, slice_index, slice_set, Option, Some, None}
+use Rattle.std.specs.Prelude.{◌≡◌, ◌≤◌, ℕ, ◌+◌, ◌-◌, ◌%◌, Bool, true, false, eqb, nat_lt, List, slice_index, slice_set}
+use Rattle.std.specs.Prelude.{Option, Some, None}
 use Rattle.console_defs.specs.Words.{high, low, join, even}
 use Rattle.console_defs.specs.Bytes.{HoldsBytes, HoldsZeros, word_in, with_word_in}
-use Rattle.console_defs.specs.Vdp.{VdpState, IsVdp, vdp_address_written, vdp_data_written, vdp_data_read, vdp_status_read}
+use Rattle.console_defs.specs.Vdp.{VdpState, IsVdp, vdp_address_written, vdp_data_written, vdp_data_read}
+use Rattle.console_defs.specs.Vdp.{vdp_status_read}
 use Rattle.console_defs.specs.Grom.{GromState, IsGrom, grom_address_written, grom_address_read, grom_data_read}
 use Rattle.console_defs.specs.Accesses.{Answer, Gives, AtPort, Accesses}
 
@@ -71,7 +73,8 @@ port_at address =
                                     | false ↦
                                         elim (eqb address 0x9C00) [
                                           | true ↦ Some GromDataWrite
-                                          | false ↦ elim (eqb address 0x9C02) [ true ↦ Some GromAddressWrite | false ↦ None ]
+                                          | false ↦
+                                              elim (eqb address 0x9C02) [ true ↦ Some GromAddressWrite | false ↦ None ]
                                         ]
                                   ]
                             ]
@@ -220,7 +223,12 @@ word_written m address word = word_written_in (region (even address)) m (even ad
 -- The console as the processor's memory.
 abbrev pub console : Accesses Memory
 console =
-    record { word = word_read; with_word = word_written; byte = λ m address. Gives (byte_read m address); with_byte = λ m address byte. Gives (byte_written m address byte) }
+    record {
+      word = word_read;
+      with_word = word_written;
+      byte = λ m address. Gives (byte_read m address);
+      with_byte = λ m address byte. Gives (byte_written m address byte);
+    }
 
 -- A program is loaded into console ROM and expansion memory alone: below >4000, or from >A000 on.
 -- Editor/Assembler manual, on the memory of the computer.

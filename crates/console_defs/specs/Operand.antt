@@ -26,7 +26,11 @@ abbrev pub mode_of : ℕ → Mode
 mode_of bits =
     elim (eqb bits 0) [
       | true ↦ Register
-      | false ↦ elim (eqb bits 1) [ true ↦ Indirect | false ↦ elim (eqb bits 2) [ true ↦ Symbolic | false ↦ Increment ] ]
+      | false ↦
+          elim (eqb bits 1) [
+            | true ↦ Indirect
+            | false ↦ elim (eqb bits 2) [ true ↦ Symbolic | false ↦ Increment ]
+          ]
     ]
 
 -- A workspace register is a word of memory. TMS9900 data manual, "Registers and memory".

@@ -1,8 +1,8 @@
--- Steps in a row, and where a run of them ends.
+-- Where a run of steps ends.
+-- Profile: a run has five ends: its program counter stands at the address that ends it; as many instructions were
+-- executed as its limit says; a step is refused; a step meets a port; a jump to itself was executed.
 use Rattle.std.specs.Prelude.{◌≡◌, ◌<◌, ℕ, zero, suc, Bool, true, false, eqb, Option, Some, None}
-use Rattle.console_defs.specs.Accesses.{Accesses}
-use Rattle.console_defs.specs.Operand.{Cpu}
-use Rattle.console_defs.specs.Step.{step}
+use Rattle.console_defs.specs.Machine.{MachineState, machine_step}
 use Rattle.console_defs.specs.declared.ends.StepEnd.{StepEnd}
 use Rattle.console_defs.specs.declared.ends.StepEnd.TheVariants.{Done, Refused, Port}
 use Rattle.console_defs.specs.declared.ends.RunEnd.{RunEnd}
@@ -25,34 +25,34 @@ end_of_step (Done word) = None
 end_of_step (Refused address) = Some (run.Refused address)
 end_of_step (Port address) = Some (run.Port address)
 
-module _ (M : Type 0) (access : Accesses M) where
-  -- The state after so many steps in a row.
-  abbrev pub after : ℕ → Cpu M → Cpu M
-  after zero x = x
-  after (suc made) x = (step M access (after made x)).1
+-- The machine after so many steps in a row.
+abbrev pub after : ℕ → MachineState → MachineState
+after zero x = x
+after (suc made) x = (machine_step (after made x)).1
 
-  -- The last of so many steps executed the jump to itself.
-  abbrev pub self_jumped : ℕ → Cpu M → Bool
-  self_jumped zero x = false
-  self_jumped (suc made) x = is_self_jump (step M access (after made x)).0
+-- The last of so many steps executed the jump to itself.
+abbrev pub self_jumped : ℕ → MachineState → Bool
+self_jumped zero x = false
+self_jumped (suc made) x = is_self_jump (machine_step (after made x)).0
 
-  -- What ends a run before a step from x, where so many were made, or at that step.
-  -- Profile: the end's address is looked at before the limit.
-  abbrev pub end_before : Option ℕ → ℕ → ℕ → Cpu M → Option RunEnd
-  end_before stop limit made x =
-      elim (is_reached stop x.pc) [
-        | true ↦ Some run.Reached
-        | false ↦ elim (eqb made limit) [ true ↦ Some run.Limit | false ↦ end_of_step (step M access x).0 ]
-      ]
+-- What ends a run before a step from x, where so many were made, or at that step.
+-- Profile: the end's address is looked at before the limit, and the limit before the step.
+abbrev pub end_before : Option ℕ → ℕ → ℕ → MachineState → Option RunEnd
+end_before stop limit made x =
+    elim (is_reached stop x.cpu.pc) [
+      | true ↦ Some run.Reached
+      | false ↦ elim (eqb made limit) [ true ↦ Some run.Limit | false ↦ end_of_step (machine_step x).0 ]
+    ]
 
-  -- What ends a run from x, if anything does, where so many steps were made.
-  -- Profile: a jump to itself ends a run before its address is looked at again.
-  abbrev pub end_at : Option ℕ → ℕ → ℕ → Cpu M → Option RunEnd
-  end_at stop limit made x =
-      elim (self_jumped made x) [ true ↦ Some run.SelfJump | false ↦ end_before stop limit made (after made x) ]
+-- What ends a run from x, if anything does, where so many steps were made.
+-- Profile: a jump to itself that was executed is told before the limit.
+abbrev pub end_at : Option ℕ → ℕ → ℕ → MachineState → Option RunEnd
+end_at stop limit made x =
+    elim (self_jumped made x) [ true ↦ Some run.SelfJump | false ↦ end_before stop limit made (after made x) ]
 
-  -- A run from x to y, over so many executed instructions: the least number at which something ends it.
-  pub record IsRun (stop : Option ℕ) (limit made : ℕ) (x : Cpu M) (ending : RunEnd) (y : Cpu M) : Type 0 where
-    pub ends : end_at stop limit made x ≡ Some ending
-    pub first : (before : ℕ) → before < made → end_at stop limit before x ≡ None
-    pub left : y ≡ after made x
+-- A run from x to y, over so many executed instructions: the least number at which something ends it.
+pub record IsRun (stop : Option ℕ) (limit made : ℕ) (x : MachineState) (ending : RunEnd) (y : MachineState) :
+    Type 0 where
+  pub ends : end_at stop limit made x ≡ Some ending
+  pub first : (before : ℕ) → before < made → end_at stop limit before x ≡ None
+  pub left : y ≡ after made x

@@ -1,5 +1,6 @@
 -- Shifts of a word by a count from 1 to 16.
-use Rattle.std.specs.Prelude.{ℕ, zero, suc, pos, ◌+◌, ◌-◌, ◌*◌, ◌/◌, ◌%◌, ◌^◌, ◌*ℤ◌, Bool, false, not, ◌||◌, eqb, nat_lt, if◌then◌else◌}
+use Rattle.std.specs.Prelude.{ℕ, zero, suc, pos, ◌+◌, ◌-◌, ◌*◌, ◌/◌, ◌%◌, ◌^◌, ◌*ℤ◌, Bool, false, not, ◌||◌, eqb}
+use Rattle.std.specs.Prelude.{nat_lt, if◌then◌else◌}
 use Rattle.console_defs.specs.declared.flags.Flags.{Flags}
 use Rattle.console_defs.specs.declared.instruction.ShiftOp.{ShiftOp}
 use Rattle.console_defs.specs.declared.instruction.ShiftOp.TheVariants.{SRA, SRL, SLA, SRC}

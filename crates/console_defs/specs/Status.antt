@@ -15,7 +15,13 @@ bit_of false weight = 0
 -- The word of a status register. TMS9900 data manual, "Status register".
 abbrev pub status_word : Status → ℕ
 status_word status =
-    bit_of status.flags.lgt 0x8000 + bit_of status.flags.agt 0x4000 + bit_of status.flags.eq 0x2000 + bit_of status.flags.c 0x1000 + bit_of status.flags.ov 0x0800 + bit_of status.op 0x0400 + status.rest
+    bit_of status.flags.lgt 0x8000
+    + bit_of status.flags.agt 0x4000
+    + bit_of status.flags.eq 0x2000
+    + bit_of status.flags.c 0x1000
+    + bit_of status.flags.ov 0x0800
+    + bit_of status.op 0x0400
+    + status.rest
 
 -- A bit of a word is set.
 abbrev pub is_set : ℕ → ℕ → Bool
@@ -24,7 +30,17 @@ is_set word weight = eqb (word / weight % 2) 1
 -- The status register of a word. TMS9900 data manual, "Status register".
 abbrev pub status_at : ℕ → Status
 status_at word =
-    record { flags = record { lgt = is_set word 0x8000; agt = is_set word 0x4000; eq = is_set word 0x2000; c = is_set word 0x1000; ov = is_set word 0x0800 }; op = is_set word 0x0400; rest = word % 1024 }
+    record {
+      flags = record {
+        lgt = is_set word 0x8000;
+        agt = is_set word 0x4000;
+        eq = is_set word 0x2000;
+        c = is_set word 0x1000;
+        ov = is_set word 0x0800;
+      };
+      op = is_set word 0x0400;
+      rest = word % 1024;
+    }
 
 -- The status bits after a result. An operation on bytes sets OP where the result has an odd number of ones; one on
 -- words leaves it. TMS9900 data manual, "Status register".

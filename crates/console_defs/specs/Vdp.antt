@@ -1,5 +1,6 @@
 -- The video processor as the processor sees it: its memory, its registers and its four ports.
-use Rattle.std.specs.Prelude.{◌≡◌, ◌<◌, ℕ, ◌+◌, ◌/◌, ◌%◌, Bool, true, false, eqb, List, slice_index, slice_set, Option, Some, None, is_none, IfSome}
+use Rattle.std.specs.Prelude.{◌≡◌, ◌<◌, ℕ, ◌+◌, ◌/◌, ◌%◌, Bool, true, false, eqb, List, slice_index, slice_set, Option}
+use Rattle.std.specs.Prelude.{Some, None, is_none, IfSome}
 use Rattle.console_defs.specs.Words.{join}
 use Rattle.console_defs.specs.Bytes.{HoldsBytes, HoldsZeros}
 
@@ -93,7 +94,12 @@ vdp_address_written vdp byte = address_byte_taken vdp.held vdp byte
 -- Profile: the byte becomes the fetched byte, and the pair is idle again.
 abbrev pub vdp_data_written : VdpState → ℕ → VdpState
 vdp_data_written vdp byte =
-    record vdp { memory = slice_set vdp.memory vdp.address byte; address = next_in_vdp vdp.address; fetched = byte; held = None }
+    record vdp {
+      memory = slice_set vdp.memory vdp.address byte;
+      address = next_in_vdp vdp.address;
+      fetched = byte;
+      held = None;
+    }
 
 -- The data port is read: it gives the fetched byte, and the next one is fetched ahead.
 -- TMS9918A data manual, "CPU read from VRAM".

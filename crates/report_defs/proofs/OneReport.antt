@@ -5,9 +5,8 @@ use Rattle.std.proofs.lemmas.Bool.Decides.{nat_tests}
 use Rattle.console_defs.specs.Bytes.{HoldsZeros}
 use Rattle.console_defs.specs.Vdp.{VdpState, IsNewVdp}
 use Rattle.console_defs.specs.Grom.{new_grom}
-use Rattle.console_defs.specs.Operand.{Cpu}
-use Rattle.console_defs.specs.Memory.{Memory, console}
-use Rattle.console_defs.specs.Machine.{MachineState, new_machine, raised}
+use Rattle.console_defs.specs.Memory.{Memory}
+use Rattle.console_defs.specs.Machine.{MachineState, new_machine}
 use Rattle.console_defs.specs.Runs.{IsRun, end_at, after}
 use Rattle.console_defs.specs.declared.ends.RunEnd.{RunEnd}
 use Rattle.report_defs.specs.declared.command.Command.{Command}
@@ -62,7 +61,7 @@ some_one : (e f : RunEnd) → Some e ≡ Some f → e ≡ f
 some_one e f is = cc
 
 -- a run ends at one number, and by one end
-one_number : (stop : Option ℕ) (limit m n : ℕ) (x y z : Cpu Memory) (e f : RunEnd) → IsRun Memory console stop limit m x e y → IsRun Memory console stop limit n x f z → m ≡ n
+one_number : (stop : Option ℕ) (limit m n : ℕ) (x y z : MachineState) (e f : RunEnd) → IsRun stop limit m x e y → IsRun stop limit n x f z → m ≡ n
 one_number stop limit m n x y z e f p q = by (nat_lt m n) refl (nat_lt n m) refl
   where
     by : (below : Bool) → nat_lt m n ≡ below → (above : Bool) → nat_lt n m ≡ above → m ≡ n
@@ -70,21 +69,17 @@ one_number stop limit m n x y z e f p q = by (nat_lt m n) refl (nat_lt n m) refl
     by false b true a = absurd (some_apart f _ q.ends (p.first n (grind (arith, nat_tests))))
     by false b false a = grind (arith, nat_tests)
 
-same_run : (stop : Option ℕ) (limit m n : ℕ) (x y z : Cpu Memory) (e f : RunEnd) → m ≡ n → IsRun Memory console stop limit m x e y → IsRun Memory console stop limit n x f z → (e ≡ f) × (y ≡ z)
+same_run : (stop : Option ℕ) (limit m n : ℕ) (x y z : MachineState) (e f : RunEnd) → m ≡ n → IsRun stop limit m x e y → IsRun stop limit n x f z → (e ≡ f) × (y ≡ z)
 same_run stop limit m n x y z e f same p q =
-    (some_one e f (sym p.ends ∙ ap (λ made. end_at Memory console stop limit made x) same ∙ q.ends), p.left ∙ ap (λ made. after Memory console made x) same ∙ sym q.left)
-
-one_left : (a b : MachineState) → a.cpu ≡ b.cpu → a.count ≡ b.count → a ≡ b
-one_left a b cpu count = ap (λ c. record a { cpu = c }) cpu ∙ ap (λ c. record b { count = c }) count
+    (some_one e f (sym p.ends ∙ ap (λ made. end_at stop limit made x) same ∙ q.ends), p.left ∙ ap (λ made. after made x) same ∙ sym q.left)
 
 -- one end and one machine come of a program
 one_execution : (limit : ℕ) (input : List ℕ) (e f : RunEnd) (left right : MachineState) → Executes limit input e left → Executes limit input f right → (e ≡ f) × (left ≡ right)
 one_execution limit input e f left right p q =
     let start : p.start ≡ q.start = one_start input p.start q.start p.is_start q.is_start in
-    let run : IsRun Memory console None limit q.made p.start.cpu f right.cpu = subst (λ s. IsRun Memory console None limit q.made s.cpu f right.cpu) (sym start) q.run in
-    let made : p.made ≡ q.made = one_number None limit p.made q.made p.start.cpu left.cpu right.cpu e f p.run run in
-    let same = same_run None limit p.made q.made p.start.cpu left.cpu right.cpu e f made p.run run in
-    (same.0, one_left left right same.1 (p.count ∙ ap (λ s. raised s.count p.made) start ∙ ap (raised q.start.count) made ∙ sym q.count))
+    let run : IsRun None limit q.made p.start f right = subst (λ s. IsRun None limit q.made s f right) (sym start) q.run in
+    let made : p.made ≡ q.made = one_number None limit p.made q.made p.start left right e f p.run run in
+    same_run None limit p.made q.made p.start left right e f made p.run run
 
 one_run_report : (limit : ℕ) (input : List ℕ) (first second : Report) → ReportsRun limit input first → ReportsRun limit input second → first ≡ second
 one_run_report limit input first second p q =

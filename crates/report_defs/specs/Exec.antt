@@ -3,8 +3,8 @@ use Rattle.std.specs.Prelude.{◌≡◌, ℕ, ◌-◌, List, ◌++◌, length, c
 use Rattle.console_defs.specs.Bytes.{HoldsZeros}
 use Rattle.console_defs.specs.Vdp.{IsNewVdp}
 use Rattle.console_defs.specs.Grom.{new_grom}
-use Rattle.console_defs.specs.Memory.{Memory, console}
-use Rattle.console_defs.specs.Machine.{MachineState, new_machine, raised}
+use Rattle.console_defs.specs.Memory.{Memory}
+use Rattle.console_defs.specs.Machine.{MachineState, new_machine}
 use Rattle.console_defs.specs.Runs.{IsRun}
 use Rattle.console_defs.specs.declared.ends.RunEnd.{RunEnd}
 use Rattle.console_defs.specs.declared.ends.RunEnd.TheVariants.{Reached, Limit, Refused, Port, SelfJump}
@@ -32,8 +32,7 @@ pub record Executes (limit : ℕ) (input : List ℕ) (ending : RunEnd) (left : M
   pub start : MachineState
   pub is_start : IsStart input start
   pub made : ℕ
-  pub run : IsRun Memory console None limit made start.cpu ending left.cpu
-  pub count : left.count ≡ raised start.count made
+  pub run : IsRun None limit made start ending left
 
 -- Profile: a report of a run begins with its end.
 abbrev pub end_text : RunEnd → List ℕ

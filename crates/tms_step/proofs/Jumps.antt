@@ -6,6 +6,7 @@ use Rattle.std.proofs.lemmas.Int.{ints}
 use Rattle.console_defs.specs.Words.{even}
 use Rattle.console_defs.specs.forms.Jump.{jump_target}
 
-pub even_target : (pc : ℕ) (disp : ℤ) → even pc ≡ pc → FitsSigned w8 disp → even (jump_target pc disp) ≡ jump_target pc disp
+pub even_target : (pc : ℕ) (disp : ℤ) → even pc ≡ pc → FitsSigned w8 disp → even (jump_target pc disp)
+    ≡ jump_target pc disp
 even_target pc (pos n) is fits = grind (arith, ints)
 even_target pc (negsuc n) is fits = grind (arith, ints)

@@ -1,5 +1,6 @@
--- One turn of a run, a step.
+-- One turn of a run, a step; and the end of a run at its limit.
 use Rattle.std.specs.Prelude.{ℕ, true, false, eqb, Option, Some, None}
+use Rattle.console_defs.specs.Runs.{is_reached}
 use Rattle.console_defs.specs.declared.ends.StepEnd.{StepEnd}
 use Rattle.console_defs.specs.declared.ends.StepEnd.TheVariants.{Done, Refused, Port}
 use Rattle.console_defs.specs.declared.ends.RunEnd.{RunEnd}
@@ -16,3 +17,7 @@ abbrev pub end_of_turn : StepEnd → Option RunEnd
 end_of_turn (Done word) = elim (eqb word 0x10FF) [ true ↦ Some run.SelfJump | false ↦ None ]
 end_of_turn (Refused address) = Some (run.Refused address)
 end_of_turn (Port address) = Some (run.Port address)
+
+-- The end of a run that executed as many instructions as its limit says.
+abbrev pub end_at_limit : Option ℕ → ℕ → RunEnd
+end_at_limit stop pc = elim (is_reached stop pc) [ true ↦ run.Reached | false ↦ run.Limit ]

@@ -46,11 +46,18 @@ pub(crate) struct Kept {
 }
 
 impl Cpu {
-    /// Does nothing. Its contract says what holds of every memory, for the proof of a caller.
+    /// Does nothing. Its contract says what holds of every processor, for the proof of a caller.
     #[inline]
     pub(crate) fn holds_bounds(&self)
-        ensures { IsMemory self.now.memory }
+        ensures memory { IsMemory self.now.memory }
+        ensures status { IsStatus self.now.status }
+        ensures even_pc { even self.now.pc ≡ self.now.pc }
+        ensures even_wp { even self.now.wp ≡ self.now.wp }
+        ensures pc { self.now.pc < 65536 }
+        ensures wp { self.now.wp < 65536 }
     {
+        let _pc = self.pc;
+        let _wp = self.wp;
         self.bus.holds_bounds();
     }
 

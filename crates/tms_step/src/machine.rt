@@ -5,9 +5,9 @@ ghost use Rattle.console_defs.specs.Words.{even};
 ghost use Rattle.console_defs.specs.Accesses.{Gives};
 ghost use Rattle.console_defs.specs.Memory.{Memory, console, word_read};
 ghost use Rattle.console_defs.specs.Operand.{register_address};
-ghost use Rattle.console_defs.specs.Status.{status_word};
-ghost use Rattle.console_defs.specs.Step.{step};
-ghost use Rattle.console_defs.specs.Machine.{MachineState, new_machine, counted, WhereStopped, has_workspace};
+ghost use Rattle.console_defs.specs.Status.{status_at, status_word};
+ghost use Rattle.console_defs.specs.Machine.{MachineState, IsMachine, new_machine, machine_step, WhereStopped};
+ghost use Rattle.console_defs.specs.Machine.{has_workspace};
 ghost use Rattle.console_defs.specs.Causes.{refused_at, refusal, MeetsPort};
 
 use crate::cpu::Cpu;
@@ -33,9 +33,12 @@ impl Model for Machine {
 impl Machine {
     /// A machine over a memory, with a workspace pointer and a program counter whose lowest bits are cleared. Its
     /// status register and its count are 0.
+    #[tactic(auto, using(console_defs::proofs::RunLaws::new_machine_is))]
     pub fn new(bus: Bus, wp: u16, pc: u16) -> Machine
-        ensures { result ≡ new_machine bus wp pc }
+        ensures machine { result ≡ new_machine bus wp pc }
+        ensures bounds { IsMachine result }
     {
+        bus.holds_bounds();
         let flags = Flags {
             lgt: false,
             agt: false,
@@ -59,14 +62,22 @@ impl Machine {
         }
     }
 
+    /// Does nothing. Its contract says what holds of every machine, for the proof of a caller.
+    #[inline]
+    pub fn holds_bounds(&self)
+        ensures { IsMachine self.now }
+    {
+        let _count = self.count;
+        self.cpu.holds_bounds();
+    }
+
     /// One step of the processor: the instruction at the program counter is executed, and the count rises by one or
     /// stands at its type's end. Where it is refused, or meets a port by a word access, the whole machine is as
     /// before, ports included. It is refused exactly where no step executes the word at the program counter,
     /// and what it meets is one of the eight ports.
     #[inline]
     pub fn step(&mut self) -> StepEnd
-        ensures step { (result, self.new.cpu) ≡ step Memory console self.old.cpu }
-        ensures count { self.new.count ≡ counted result self.old.count }
+        ensures step { (result, self.new) ≡ machine_step self.old }
         ensures refused { refused_at result ≡ refusal self.old.cpu }
         ensures port { MeetsPort result }
         ensures stopped { WhereStopped result (self.new ≡ self.old) }
@@ -96,7 +107,8 @@ impl Machine {
 
     /// The word of the status register, all sixteen bits (TMS9900 data manual, "Status register").
     pub fn st(&self) -> u16
-        ensures { result ≡ status_word self.now.cpu.status }
+        ensures word { result ≡ status_word self.now.cpu.status }
+        ensures status { status_at result ≡ self.now.cpu.status }
     {
         self.cpu.status_word()
     }

@@ -1,10 +1,10 @@
 //! Instructions with one operand in any mode.
 
-ghost use Rattle.std.specs.Prelude.{◌≡◌, ◌≢◌, ◌<◌, OnErr, true, false};
+ghost use Rattle.std.specs.Prelude.{◌≡◌, ◌≢◌, ◌<◌, IsOk, OnErr, true, false};
 ghost use Rattle.console_defs.specs.Instructions.{IsPlace};
 ghost use Rattle.console_defs.specs.Memory.{Memory, console};
 ghost use Rattle.console_defs.specs.forms.One.{one, one_operand};
-ghost use Rattle.console_defs.specs.declared.instruction.OneOp.TheVariants.{BLWP, BL, CLR};
+ghost use Rattle.console_defs.specs.declared.instruction.OneOp.TheVariants.{BLWP, B, BL, CLR};
 ghost use Rattle.tms_step.specs.Parts.{is_increment};
 ghost use Rattle.tms_step.specs.Stops.{left_by};
 ghost use Rattle.tms_step.specs.Undo.{SameButPc};
@@ -73,10 +73,7 @@ impl Cpu {
     {
         match op {
             OneOp::BLWP => self.switched(address),
-            OneOp::B => {
-                self.pc = even(address);
-                Ok(())
-            }
+            OneOp::B => self.branched(address),
             OneOp::X => Err(Stop::NoInstruction),
             OneOp::NEG => {
                 let found = self.word_at(address)?;
@@ -100,6 +97,16 @@ impl Cpu {
         }
     }
 
+    /// A branch to an address; an odd one is made even (TMS9900 data manual, "Branch").
+    #[inline(always)]
+    fn branched(&mut self, address: u16) -> Result<(), Stop>
+        ensures value { left_by result (λ _. self.new) ≡ one Memory console B address self.old }
+        ensures executed { IsOk result }
+    {
+        self.pc = even(address);
+        Ok(())
+    }
+
     /// A branch that keeps the address of the next instruction in register 11 (TMS9900 data manual, "Branch and
     /// link").
     #[inline]
@@ -108,8 +115,7 @@ impl Cpu {
         ensures stopped { OnErr result (self.new ≡ self.old) }
     {
         self.write_word(self.register_address(11), self.pc)?;
-        self.pc = even(address);
-        Ok(())
+        self.branched(address)
     }
 
     /// A context switch by the vector at an address (TMS9900 data manual, "Branch and load workspace pointer").

@@ -37,7 +37,8 @@ impl Cpu {
     #[inline(always)]
     pub(crate) fn operand(&mut self, place: Place, byte: bool) -> Result<Operand, Stop>
         requires { IsPlace place }
-        ensures value { left_by result (λ found. (found.address, self.new)) ≡ operand Memory console (mode_of place.mode) (width_of byte) place.reg self.old }
+        ensures value { left_by result (λ found. (found.address, self.new))
+            ≡ operand Memory console (mode_of place.mode) (width_of byte) place.reg self.old }
         ensures undo { IfOk result (λ found. SameButPc self.old (put_back found.grown self.new)) }
         ensures stopped { OnErr result (SameButPc self.old self.new) }
     {
@@ -52,7 +53,8 @@ impl Cpu {
     fn in_memory(&mut self, place: Place, byte: bool) -> Result<Operand, Stop>
         requires place { IsPlace place }
         requires mode { 0 < place.mode }
-        ensures value { left_by result (λ found. (found.address, self.new)) ≡ operand Memory console (mode_of place.mode) (width_of byte) place.reg self.old }
+        ensures value { left_by result (λ found. (found.address, self.new))
+            ≡ operand Memory console (mode_of place.mode) (width_of byte) place.reg self.old }
         ensures undo { IfOk result (λ found. SameButPc self.old (put_back found.grown self.new)) }
         ensures stopped { OnErr result (SameButPc self.old self.new) }
     {
@@ -67,7 +69,8 @@ impl Cpu {
     #[inline]
     fn indexed(&mut self, number: u8) -> Result<u16, Stop>
         requires { number < 16 }
-        ensures value { left_by result (λ address. (address, self.new)) ≡ operand Memory console (mode_of 2) Word number self.old }
+        ensures value { left_by result (λ address. (address, self.new))
+            ≡ operand Memory console (mode_of 2) Word number self.old }
         ensures same { SameButPc self.old self.new }
     {
         let base = self.next_word()?;
@@ -79,7 +82,8 @@ impl Cpu {
     #[inline]
     fn grown(&mut self, number: u8, byte: bool) -> Result<Operand, Stop>
         requires { number < 16 }
-        ensures value { left_by result (λ found. (found.address, self.new)) ≡ operand Memory console (mode_of 3) (width_of byte) number self.old }
+        ensures value { left_by result (λ found. (found.address, self.new))
+            ≡ operand Memory console (mode_of 3) (width_of byte) number self.old }
         ensures undo { IfOk result (λ found. SameButPc self.old (put_back found.grown self.new)) }
         ensures stopped { OnErr result (SameButPc self.old self.new) }
     {
@@ -96,7 +100,8 @@ impl Cpu {
     /// The value at an address, a word or a byte. A byte that is read may change a port, and nothing stops it.
     #[inline(always)]
     pub(crate) fn value_at(&mut self, byte: bool, at: u16) -> Result<u16, Stop>
-        ensures value { left_by result (λ value. (value, self.new)) ≡ value_at Memory console (width_of byte) at self.old }
+        ensures value { left_by result (λ value. (value, self.new))
+            ≡ value_at Memory console (width_of byte) at self.old }
         ensures fits { IfOk result (λ value. value < modulus (width_of byte)) }
         ensures stopped { OnErr result (self.new ≡ self.old) }
         ensures word { byte ≡ false → self.new ≡ self.old }

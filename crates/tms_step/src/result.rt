@@ -1,7 +1,8 @@
 //! Results and their status bits, of words and of bytes.
 
 ghost use Rattle.std.specs.Prelude.{◌≡◌, ◌<◌};
-ghost use Rattle.console_defs.specs.Flags.{modulus, width_of, by_result, sum_of, sum_flags, difference_of, difference_flags, by_order, no_flags};
+ghost use Rattle.console_defs.specs.Flags.{modulus, width_of, by_result, sum_of, sum_flags, difference_of};
+ghost use Rattle.console_defs.specs.Flags.{difference_flags, by_order, no_flags};
 ghost use Rattle.console_defs.specs.Logic.{ones_set, ones_cleared};
 ghost use Rattle.console_defs.specs.Status.{IsStatus, with_result, with_order};
 

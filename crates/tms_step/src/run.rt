@@ -1,11 +1,12 @@
 //! Runs of steps.
 
 ghost use Rattle.std.specs.Prelude.{◌≡◌, ◌≤◌, ◌+◌, ◌-◌};
-ghost use Rattle.console_defs.specs.Memory.{Memory, console};
-ghost use Rattle.console_defs.specs.Step.{step};
+ghost use Rattle.count_defs.specs.Counts.{raised};
+ghost use Rattle.console_defs.specs.Accesses.{Gives};
+ghost use Rattle.console_defs.specs.Machine.{machine_step};
+ghost use Rattle.console_defs.specs.Machine as machine;
 ghost use Rattle.console_defs.specs.Runs.{IsRun, is_reached};
-ghost use Rattle.console_defs.specs.Machine.{raised, counted};
-ghost use Rattle.tms_step.specs.Turns.{ticks_of, end_of_turn};
+ghost use Rattle.tms_step.specs.Turns.{ticks_of, end_of_turn, end_at_limit};
 
 use crate::machine::Machine;
 use crate::steps::Steps;
@@ -26,11 +27,21 @@ impl Machine {
         steps: &mut Steps<L>,
     ) -> RunEnd
         ensures rises { steps.old ≤ steps.new }
-        ensures run { IsRun Memory console stop limit (steps.new - steps.old) self.old.cpu result self.new.cpu }
+        ensures run { IsRun stop limit (steps.new - steps.old) self.old result self.new }
+        // so many steps that all executed an instruction lead to the machine
+        ensures steps { machine.steps (steps.new - steps.old) self.old ≡ Gives self.new }
         ensures count { self.new.count ≡ raised self.old.count (steps.new - steps.old) }
         ensures limit { steps.new - steps.old ≤ limit }
     {
-        let _count = self.count();
+        self.run(stop, limit, steps)
+    }
+
+    /// The loop of a run.
+    fn run<L: Ledger>(&mut self, stop: Option<u16>, limit: u64, steps: &mut Steps<L>) -> RunEnd
+        ensures rises { steps.old ≤ steps.new }
+        ensures run { IsRun stop limit (steps.new - steps.old) self.old result self.new }
+        ensures limit { steps.new - steps.old ≤ limit }
+    {
         for _made in 0..limit {
             if is_reached(stop, self.pc()) {
                 return RunEnd::Reached;
@@ -39,20 +50,15 @@ impl Machine {
                 return end;
             }
         }
-        if is_reached(stop, self.pc()) {
-            RunEnd::Reached
-        } else {
-            RunEnd::Limit
-        }
+        end_at_limit(stop, self.pc())
     }
 
     /// One step, counted where it executed an instruction, and the end of a run that it is.
     #[inline]
     fn turn<L: Ledger>(&mut self, steps: &mut Steps<L>) -> Option<RunEnd>
-        ensures step { self.new.cpu ≡ (step Memory console self.old.cpu).1 }
-        ensures end { result ≡ end_of_turn (step Memory console self.old.cpu).0 }
-        ensures ticks { steps.new ≡ steps.old + ticks_of (step Memory console self.old.cpu).0 }
-        ensures count { self.new.count ≡ counted (step Memory console self.old.cpu).0 self.old.count }
+        ensures step { self.new ≡ (machine_step self.old).1 }
+        ensures end { result ≡ end_of_turn (machine_step self.old).0 }
+        ensures ticks { steps.new ≡ steps.old + ticks_of (machine_step self.old).0 }
     {
         match self.step() {
             StepEnd::Done(word) => {
@@ -62,6 +68,17 @@ impl Machine {
             StepEnd::Refused(address) => Some(RunEnd::Refused(address)),
             StepEnd::Port(address) => Some(RunEnd::Port(address)),
         }
+    }
+}
+
+/// The end of a run that executed as many instructions as its limit says: the address is looked at before the limit.
+fn end_at_limit(stop: Option<u16>, pc: u16) -> RunEnd
+    ensures { result ≡ end_at_limit stop pc }
+{
+    if is_reached(stop, pc) {
+        RunEnd::Reached
+    } else {
+        RunEnd::Limit
     }
 }
 

@@ -8,8 +8,10 @@ use console_defs::{Flags, Status};
 
 impl Cpu {
     /// The word of the status register (TMS9900 data manual, "Status register").
+    #[tactic(auto, using(console_defs::proofs::StatusLaws::status_again))]
     pub(crate) fn status_word(&self) -> u16
-        ensures { result ≡ status_word self.now.status }
+        ensures word { result ≡ status_word self.now.status }
+        ensures status { status_at result ≡ self.now.status }
     {
         let status = self.status;
         bit_of(status.flags.lgt, 0x8000)

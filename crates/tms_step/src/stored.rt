@@ -22,7 +22,8 @@ impl Cpu {
         flags: Flags,
     ) -> Result<(), Stop>
         requires { value < modulus (width_of byte) }
-        ensures value { left_by result (λ _. self.new) ≡ stored Memory console (width_of byte) address value flags self.old }
+        ensures value { left_by result (λ _. self.new)
+            ≡ stored Memory console (width_of byte) address value flags self.old }
         ensures stopped { OnErr result (self.new ≡ self.old) }
         ensures byte { byte ≡ true → IsOk result }
     {
@@ -34,7 +35,8 @@ impl Cpu {
     /// Stores a word with its status bits.
     #[inline(always)]
     pub(crate) fn stored_out(&mut self, address: u16, out: Out16) -> Result<(), Stop>
-        ensures value { left_by result (λ _. self.new) ≡ stored Memory console Word address out.value out.flags self.old }
+        ensures value { left_by result (λ _. self.new)
+            ≡ stored Memory console Word address out.value out.flags self.old }
         ensures stopped { OnErr result (self.new ≡ self.old) }
     {
         self.stored(false, address, out.value, out.flags)
@@ -49,7 +51,8 @@ impl Cpu {
         value: u16,
     ) -> Result<(), Stop>
         requires { value < modulus (width_of byte) }
-        ensures value { left_by result (λ _. self.new) ≡ stored_by_result Memory console (width_of byte) address value self.old }
+        ensures value { left_by result (λ _. self.new)
+            ≡ stored_by_result Memory console (width_of byte) address value self.old }
         ensures stopped { OnErr result (self.new ≡ self.old) }
         ensures byte { byte ≡ true → IsOk result }
     {

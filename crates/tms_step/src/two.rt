@@ -28,7 +28,8 @@ impl Cpu {
     ) -> Result<(), Stop>
         requires dst { IsPlace dst }
         requires src { IsPlace src }
-        ensures value { left_by result (λ _. self.new) ≡ two_operands Memory console op (width_of byte) dst src self.old }
+        ensures value { left_by result (λ _. self.new)
+            ≡ two_operands Memory console op (width_of byte) dst src self.old }
         ensures stopped { OnErr result (SameButPc self.old self.new) }
     {
         let source = self.operand(src, byte)?;
@@ -88,8 +89,8 @@ impl Cpu {
         self.two(op, true, value, address)
     }
 
-    /// An operation on a source and the destination at an address. It is told by tests, and not by a table of jumps (see
-    /// `step`).
+    /// An operation on a source and the destination at an address. It is told by tests, and not by a table of jumps
+    /// (see `step`).
     #[inline(always)]
     pub(crate) fn two(
         &mut self,

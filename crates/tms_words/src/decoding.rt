@@ -1,6 +1,8 @@
 //! The instruction of a word.
 ghost use Rattle.std.specs.Prelude.{◌≡◌, ◌≢◌, ◌≤◌, ◌<◌, ◌/◌, ◌%◌, ◌*◌, eqb, IfSome, IfNone};
-ghost use Rattle.console_defs.specs.Instructions.{two_code, reg_code, shift_code, one_code, jump_code, imm_code, bare_code, operation_at, operands_at, source_at, destination_at, instr_at, word_of, HasRoom};
+ghost use Rattle.console_defs.specs.Instructions.{two_code, reg_code, shift_code, one_code, jump_code, imm_code};
+ghost use Rattle.console_defs.specs.Instructions.{bare_code, operation_at, operands_at, source_at, destination_at};
+ghost use Rattle.console_defs.specs.Instructions.{instr_at, word_of, HasRoom};
 
 use console_defs::{BareOp, ImmOp, Instr, JumpOp, OneOp, Operation, Place, RegOp, ShiftOp, TwoOp};
 

@@ -31,7 +31,8 @@ pub fn shift16(op: ShiftOp, value: u16, count: u8) -> Out16
 fn shift_right(long: u32, count: u8) -> Out16
     requires { (1 ≤ count) × (count ≤ 16) }
     ensures value { result.value ≡ long / 2 ^ count % 65536 }
-    ensures flags { result.flags ≡ result_flags Word (long / 2 ^ count % 65536) (eqb (long / 2 ^ (count - 1) % 2) 1) false }
+    ensures flags { result.flags
+        ≡ result_flags Word (long / 2 ^ count % 65536) (eqb (long / 2 ^ (count - 1) % 2) 1) false }
 {
     let value = (long >> count & 0xFFFF) as u16;
     let last_out = long >> (count - 1) & 1 == 1;

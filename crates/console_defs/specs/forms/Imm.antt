@@ -27,7 +27,10 @@ module _ (M : Type 0) (access : Accesses M) where
   -- Add immediate: L>, A>, EQ, C and OV by the sum.
   imm AI number x = do
     (word, found, next) ← immediate number x
-    stored M access Word (register_address M access next number) (sum_of Word found word) (sum_flags Word found word) next
+    stored M access Word (register_address M access next number)
+        (sum_of Word found word)
+        (sum_flags Word found word)
+        next
   -- And immediate.
   imm ANDI number x = do
     (word, found, next) ← immediate number x

@@ -6,24 +6,8 @@ use Rattle.console_defs.specs.Accesses.{Answer, Gives, NoInstruction}
 use Rattle.console_defs.specs.Operand.{Cpu}
 use Rattle.console_defs.specs.declared.status.Status.{Status}
 use Rattle.console_defs.specs.declared.instruction.JumpOp.{JumpOp}
-use Rattle.console_defs.specs.declared.instruction.JumpOp.TheVariants.{
-  JMP,
-  JLT,
-  JLE,
-  JEQ,
-  JHE,
-  JGT,
-  JNE,
-  JNC,
-  JOC,
-  JNO,
-  JL,
-  JH,
-  JOP,
-  SBO,
-  SBZ,
-  TB,
-}
+use Rattle.console_defs.specs.declared.instruction.JumpOp.TheVariants.{JMP, JLT, JLE, JEQ, JHE, JGT, JNE, JNC, JOC, JNO}
+use Rattle.console_defs.specs.declared.instruction.JumpOp.TheVariants.{JL, JH, JOP, SBO, SBZ, TB}
 
 -- Jumps count words from the next instruction. TMS9900 data manual, "Jump instructions".
 abbrev pub jump_target : ℕ → ℤ → ℕ

@@ -1,17 +1,8 @@
 -- One operand in any mode.
 use Rattle.std.specs.Prelude.{ℕ}
 use Rattle.console_defs.specs.Words.{even}
-use Rattle.console_defs.specs.Flags.{
-  Word,
-  sum_of,
-  sum_flags,
-  difference_of,
-  difference_flags,
-  negation_of,
-  negation_flags,
-  absolute_of,
-  absolute_flags,
-}
+use Rattle.console_defs.specs.Flags.{Word, sum_of, sum_flags, difference_of, difference_flags, negation_of}
+use Rattle.console_defs.specs.Flags.{negation_flags, absolute_of, absolute_flags}
 use Rattle.console_defs.specs.Logic.{complement_of, swapped}
 use Rattle.console_defs.specs.Accesses.{Answer, Gives, NoInstruction, ◌>>=◌, Accesses}
 use Rattle.console_defs.specs.Operand.{Cpu, mode_of, operand, with_word, with_words, register_address}
@@ -19,22 +10,8 @@ use Rattle.console_defs.specs.forms.Results.{stored, stored_by_result}
 use Rattle.console_defs.specs.forms.ContextSwitch.{kept_in, vector_at}
 use Rattle.console_defs.specs.declared.instruction.Place.{Place}
 use Rattle.console_defs.specs.declared.instruction.OneOp.{OneOp}
-use Rattle.console_defs.specs.declared.instruction.OneOp.TheVariants.{
-  BLWP,
-  B,
-  X,
-  CLR,
-  NEG,
-  INV,
-  INC,
-  INCT,
-  DEC,
-  DECT,
-  BL,
-  SWPB,
-  SETO,
-  ABS,
-}
+use Rattle.console_defs.specs.declared.instruction.OneOp.TheVariants.{BLWP, B, X, CLR, NEG, INV, INC, INCT, DEC, DECT}
+use Rattle.console_defs.specs.declared.instruction.OneOp.TheVariants.{BL, SWPB, SETO, ABS}
 
 module _ (M : Type 0) (access : Accesses M) where
   -- An operation on the operand at an address. TMS9900 data manual, "Single operand instructions".

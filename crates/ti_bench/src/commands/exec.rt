@@ -3,8 +3,6 @@
 ghost use Rattle.std.specs.Prelude.{◌≡◌, ◌<◌, ◌≤◌, ◌++◌, ℕ, [], length, codes, None, IfOk, OnOk};
 ghost use Rattle.std.specs.String.{string_bytes};
 ghost use Rattle.console_defs.specs.Bytes.{HoldsZeros};
-ghost use Rattle.console_defs.specs.Machine.{raised};
-ghost use Rattle.console_defs.specs.Memory.{Memory, console};
 ghost use Rattle.console_defs.specs.Runs.{IsRun};
 ghost use Rattle.report_defs.specs.Numbers.{marked_word};
 ghost use Rattle.report_defs.specs.Report as spec;
@@ -53,8 +51,7 @@ fn run<L: Ledger>(machine: &mut Machine, limit: u64, blank: Blank) -> RunEnd
     requires name { blank.name ≡ L.name }
     requires parts { blank.parts ≡ L.parts }
     requires some { 0 < L.parts }
-    ensures { (made : ℕ) × IsRun Memory console None limit made machine.old.cpu result machine.new.cpu
-        × (machine.new.count ≡ raised machine.old.count made) }
+    ensures { (made : ℕ) × IsRun None limit made machine.old result machine.new }
 {
     let mut steps = Steps::<L>::new(blank);
     machine.run_to(None, limit, &mut steps)

@@ -1,64 +1,13 @@
-use Rattle.std.proofs.Common.{◌≡◌, ◌+◌, ◌-◌, ℕ, Bool, true, false, refl, sym, ap, ◌∙◌, arith, Option, None}
-use Rattle.console_defs.specs.Memory.{Memory, console}
-use Rattle.console_defs.specs.Machine.{raised, counted}
-use Rattle.console_defs.specs.Runs.{is_reached}
-use Rattle.console_defs.specs.Step.{step}
-use Rattle.console_defs.specs.declared.ends.StepEnd.{StepEnd}
-use Rattle.console_defs.specs.declared.ends.StepEnd.TheVariants.{Done, Refused, Port}
-use Rattle.tms_step.specs.Turns.{ticks_of, end_of_turn}
-use Rattle.tms_step.proofs.Going.{going_start, going_more, run_reached, run_ended}
+use Rattle.std.proofs.Common.{◌-◌}
+use Rattle.console_defs.proofs.RunLaws.{run_is_steps, run_counts}
 use Rattle.tms_step.proofs.machine.Machine.run_to.Goals as goal
 
--- a step that does not end the run executed one instruction
-one_tick : (end : StepEnd) → end_of_turn end ≡ None → ticks_of end ≡ 1
-one_tick (Done word) none = refl
-one_tick (Refused address) none = absurd (cc)
-one_tick (Port address) none = absurd (cc)
+pub returns-clause-steps : goal.returns-clause-steps
+returns-clause-steps g c =
+    run_is_steps c.args.stop c.args.limit (c.run.new.steps - c.args.steps.now) c.args.self.now c.run.new.self c.run.result
+    c.run.ensures.run
 
-counted_more : (end : StepEnd) (start made now : ℕ) → end_of_turn end ≡ None → now ≡ counted end (raised start made) → now ≡ raised start (made + 1)
-counted_more (Done word) start made now none is = is ∙ omega arith
-counted_more (Refused address) start made now none is = absurd (cc)
-counted_more (Port address) start made now none is = absurd (cc)
-
-counted_last : (end : StepEnd) (start made now : ℕ) → now ≡ counted end (raised start made) → now ≡ raised start (made + ticks_of end)
-counted_last (Done word) start made now is = is ∙ omega arith
-counted_last (Refused address) start made now is = is ∙ omega arith
-counted_last (Port address) start made now is = is ∙ omega arith
-
-steps_more : (start now new made ticks : ℕ) → now ≡ start + made → new ≡ now + ticks → ticks ≡ 1 → new ≡ start + (made + 1)
-steps_more start now new made ticks before is one = omega arith
-
-risen : (start now new made ticks : ℕ) → now ≡ start + made → new ≡ now + ticks → new - start ≡ made + ticks
-risen start now new made ticks before is = omega arith
-
--- what the code's look at the program counter says
-reached_is : (stop : Option ℕ) (pc at : ℕ) (found answer : Bool) → pc ≡ at → found ≡ is_reached stop pc → found ≡ answer → is_reached stop at ≡ answer
-reached_is stop pc at found answer is looked test = ap (is_reached stop) (sym is) ∙ sym looked ∙ test
-
-pub loop-made-init : goal.loop-made-init
-loop-made-init g c =
-    (going_start Memory console c.args.stop c.args.limit c.args.self.now.cpu, omega arith, omega arith)
-
-pub returns-then-is_reached-clause-run : goal.returns-then-is_reached-clause-run
-returns-then-is_reached-clause-run g c =
-    let number : c.loop-made.steps - c.args.steps.now ≡ c.loop-made._made = omega arith in
-    let reached = reached_is c.args.stop c.pc.result c.loop-made.self.cpu.pc c.is_reached.result true c.pc.ensures.value c.is_reached.ensures c.if-is_reached.true in
-    rw number (run_reached Memory console c.args.stop c.args.limit c.loop-made._made c.args.self.now.cpu c.loop-made.self.cpu c.loop-made.invariant.0 reached)
-
-pub returns-in-Some-clause-run : goal.returns-in-Some-clause-run
-returns-in-Some-clause-run g c =
-    let number : c.turn.new.steps - c.args.steps.now ≡ c.loop-made._made + ticks_of (step Memory console c.loop-made.self.cpu).0 = risen c.args.steps.now c.loop-made.steps c.turn.new.steps c.loop-made._made (ticks_of (step Memory console c.loop-made.self.cpu).0) c.loop-made.invariant.1 c.turn.ensures.ticks in
-    let reached = reached_is c.args.stop c.pc.result c.loop-made.self.cpu.pc c.is_reached.result false c.pc.ensures.value c.is_reached.ensures c.if-is_reached.false in
-    rw number (run_ended Memory console c.args.stop c.args.limit c.loop-made._made c.args.self.now.cpu c.loop-made.self.cpu c.turn.new.self.cpu c.in-Some.end c.loop-made.invariant.0 c.loop-made-test.true reached (sym c.turn.ensures.end ∙ c.in-Some.is) c.turn.ensures.step)
-
-pub returns-in-Some-clause-count : goal.returns-in-Some-clause-count
-returns-in-Some-clause-count g c =
-    let number : c.turn.new.steps - c.args.steps.now ≡ c.loop-made._made + ticks_of (step Memory console c.loop-made.self.cpu).0 = risen c.args.steps.now c.loop-made.steps c.turn.new.steps c.loop-made._made (ticks_of (step Memory console c.loop-made.self.cpu).0) c.loop-made.invariant.1 c.turn.ensures.ticks in
-    rw number (counted_last (step Memory console c.loop-made.self.cpu).0 c.args.self.now.count c.loop-made._made c.turn.new.self.count (c.turn.ensures.count ∙ ap (λ (count : ℕ). counted (step Memory console c.loop-made.self.cpu).0 count) c.loop-made.invariant.2))
-
-pub loop-made-preserved : goal.loop-made-preserved
-loop-made-preserved g c =
-    let none : end_of_turn (step Memory console c.loop-made.self.cpu).0 ≡ None = sym c.turn.ensures.end ∙ c.in_default.is in
-    let reached = reached_is c.args.stop c.pc.result c.loop-made.self.cpu.pc c.is_reached.result false c.pc.ensures.value c.is_reached.ensures c.if-is_reached.false in
-    let one = one_tick (step Memory console c.loop-made.self.cpu).0 none in
-    (going_more Memory console c.args.stop c.args.limit c.loop-made._made c.args.self.now.cpu c.loop-made.self.cpu c.turn.new.self.cpu c.loop-made.invariant.0 c.loop-made-test.true reached none c.turn.ensures.step, steps_more c.args.steps.now c.loop-made.steps c.turn.new.steps c.loop-made._made (ticks_of (step Memory console c.loop-made.self.cpu).0) c.loop-made.invariant.1 c.turn.ensures.ticks one, counted_more (step Memory console c.loop-made.self.cpu).0 c.args.self.now.count c.loop-made._made c.turn.new.self.count none (c.turn.ensures.count ∙ ap (λ (count : ℕ). counted (step Memory console c.loop-made.self.cpu).0 count) c.loop-made.invariant.2))
+pub returns-clause-count : goal.returns-clause-count
+returns-clause-count g c =
+    run_counts c.args.stop c.args.limit (c.run.new.steps - c.args.steps.now) c.args.self.now c.run.new.self c.run.result
+    c.run.ensures.run
