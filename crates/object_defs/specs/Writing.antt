@@ -8,12 +8,13 @@ use Rattle.object_defs.specs.declared.spot.Piece.{Piece}
 use Rattle.object_defs.specs.declared.tag.Tag.{Tag}
 use Rattle.object_defs.specs.declared.tag.Tag.TheVariants as tags
 use Rattle.object_defs.specs.Modules.{Module, Definition, Reference, number_of, moved, same_spot}
-use Rattle.object_defs.specs.Digits.{hexadecimal, decimal, padded, checksum}
+use Rattle.source_defs.specs.Digits.{word_digits}
+use Rattle.object_defs.specs.Digits.{decimal, padded, checksum}
 use Rattle.object_defs.specs.Tags.{tag_character, kind_of}
 
 -- a tag and four digits
 abbrev pub group : Tag → ℕ → List ℕ
-group tag number = tag_character tag ∷ hexadecimal number
+group tag number = tag_character tag ∷ word_digits number
 
 abbrev pub header_text : ℕ → List ℕ → List ℕ
 header_text size name = group tags.Header size ++ padded 8 name

@@ -8,7 +8,9 @@ ghost use Rattle.object_defs.specs.Laws.{FitsSpot, FitsPiece};
 ghost use Rattle.object_tags.specs.Lines.{Wrote, whole, line_of};
 
 use crate::checksum::checksum;
-use crate::groups::{GroupText, address_text, group, tag_character, word_text};
+use crate::group_text::{GroupText, address_text, group, word_text};
+use crate::spots::place_after;
+use crate::tags::tag_character;
 use arrayvec::ArrayVec;
 use object_defs::{Piece, Spot, Tag};
 use std::alloc::{AllocError, Global};
@@ -128,17 +130,6 @@ fn number_after(number: u16) -> u16
     ensures { result ≡ writing.number_after number }
 {
     ((u32::from(number) + 1) % 10_000) as u16
-}
-
-/// The place two bytes behind a place.
-pub(crate) fn place_after(at: Spot) -> Spot
-    ensures place { result ≡ modules.moved at 2 }
-    ensures fits { FitsSpot at }
-{
-    match at {
-        Spot::Absolute(number) => Spot::Absolute(number.wrapping_add(2)),
-        Spot::Relocatable(number) => Spot::Relocatable(number.wrapping_add(2)),
-    }
 }
 
 /// The text of a word behind a place.
