@@ -23,7 +23,7 @@ mod writer;
 
 pub use error::TagError;
 pub use laws::written_modules_are_read;
-pub use lists::{Defs, Pieces, Refs};
+pub use lists::{Defs, Items, Pieces, Refs};
 pub use module_name::ModuleName;
 pub use object_defs::{Piece, Spot, TagCause};
 pub use parts::{Def, Module, Ref};
