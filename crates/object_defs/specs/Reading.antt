@@ -177,4 +177,6 @@ text_lines text = if is_records text then records text else map (numbered_line t
 
 -- the modules of a text, or its first bad place
 unfoldable pub read : List ℕ → Result (List Module) (Refusal TagCause)
-read text = with_lines nothing_found (text_lines text) >>= λ found. ended (last_number 0 (text_lines text)) found.modules found.current
+read text = do
+  found ← with_lines nothing_found (text_lines text)
+  ended (last_number 0 (text_lines text)) found.modules found.current

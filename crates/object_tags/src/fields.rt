@@ -73,7 +73,8 @@ fn four_digits(digits: &[u8]) -> u16
 
 /// The module's name behind the four digits.
 ///
-/// `BadTag` comes where one of its characters is none of a name, and else `ShortField` where there are fewer than eight.
+/// `BadTag` comes where one of its characters is none of a name, and else `ShortField` where there are fewer than
+/// eight.
 #[tactic(auto, unfolding(object_defs::specs::Fields::module_name_at))]
 pub(crate) fn module_name_at(tag: u8, fields: &[u8]) -> Result<ModuleName, TagCause>
     ensures { result ≡ spec.module_name_at tag fields.now }

@@ -31,7 +31,8 @@ impl<'a> Model for Groups<'a> {
 
     ghost view = { λ s. groups_from (take s.at s.line.now) 0 (drop s.at s.line.now) };
 
-    ghost invariant = { λ s. (s.at ≤ length s.line.now) × (length s.line.now < 2 ^ 32) × (s.total ≡ sum (take s.at s.line.now) % 65536) };
+    ghost invariant = { λ s. (s.at ≤ length s.line.now) × (length s.line.now < 2 ^ 32)
+        × (s.total ≡ sum (take s.at s.line.now) % 65536) };
 }
 
 impl<'a> Groups<'a> {

@@ -48,7 +48,8 @@ impl Reader {
         line: &[u8],
     ) -> Result<(), TagError>
         requires { length line.now < 2 ^ 32 }
-        ensures { TakesLine result (kept_of self.new) (running.kept_line (kept_of self.old) (record { number = number; text = line.now })) }
+        ensures { TakesLine result (kept_of self.new)
+            (running.kept_line (kept_of self.old) (record { number = number; text = line.now })) }
     {
         if all_blank(line) {
             return Ok(());
@@ -67,7 +68,8 @@ impl Reader {
     /// Takes the groups of a line.
     fn take_groups(&mut self, alloc: Global, line: &[u8]) -> Result<(), Failure>
         requires { length line.now < 2 ^ 32 }
-        ensures { Leaves result (kept_of self.new) (running.kept_groups (kept_of self.old) (groups_from [] 0 line.now)) }
+        ensures { Leaves result (kept_of self.new)
+            (running.kept_groups (kept_of self.old) (groups_from [] 0 line.now)) }
     {
         for found in Groups::new(line) {
             self.take_group(alloc, found)?;

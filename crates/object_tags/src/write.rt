@@ -47,7 +47,8 @@ fn put_pieces(writer: &mut Writer, pieces: &[Piece]) -> Result<(), AllocError>
 }
 
 fn put_defs(writer: &mut Writer, defs: &[Def]) -> Result<(), AllocError>
-    ensures wrote { OnOk result (Wrote (map (λ def. Group (definition_text (defined_def def))) defs.now) writer.old writer.new) }
+    ensures wrote { OnOk result
+        (Wrote (map (λ def. Group (definition_text (defined_def def))) defs.now) writer.old writer.new) }
     ensures fits { OnOk result (AllByRecursion (λ def. FitsDefinition (defined_def def)) defs.now) }
 {
     for def in defs {
@@ -57,7 +58,8 @@ fn put_defs(writer: &mut Writer, defs: &[Def]) -> Result<(), AllocError>
 }
 
 fn put_refs(writer: &mut Writer, refs: &[Ref]) -> Result<(), AllocError>
-    ensures wrote { OnOk result (Wrote (map (λ ref. Group (reference_text (defined_ref ref))) refs.now) writer.old writer.new) }
+    ensures wrote { OnOk result
+        (Wrote (map (λ ref. Group (reference_text (defined_ref ref))) refs.now) writer.old writer.new) }
     ensures fits { OnOk result (AllByRecursion (λ ref. FitsReference (defined_ref ref)) refs.now) }
 {
     for reference in refs {

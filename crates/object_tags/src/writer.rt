@@ -87,7 +87,8 @@ impl Writer {
 
     /// Ends the line, and begins the next one.
     fn end_line(&mut self) -> Result<(), AllocError>
-        ensures text { OnOk result (self.new.text.items ≡ self.old.text.items ++ writing.line_text self.old.number self.old.line.items) }
+        ensures text { OnOk result
+            (self.new.text.items ≡ self.old.text.items ++ writing.line_text self.old.number self.old.line.items) }
         ensures line { OnOk result (line_of self.new ≡ writing.empty_line) }
         ensures number { OnOk result (self.new.number ≡ writing.number_after self.old.number) }
     {
@@ -112,7 +113,8 @@ impl Writer {
 
     /// Writes a line up to its line feed, and counts it.
     fn put_numbered(&mut self, line: &ArrayVec<u8, PADDED_COLUMNS>) -> Result<(), AllocError>
-        ensures text { OnOk result (self.new.text.items ≡ self.old.text.items ++ writing.numbered self.old.number line.now.items) }
+        ensures text { OnOk result
+            (self.new.text.items ≡ self.old.text.items ++ writing.numbered self.old.number line.now.items) }
         ensures number { OnOk result (self.new.number ≡ writing.number_after self.old.number) }
         ensures line { self.new.line ≡ self.old.line }
     {
