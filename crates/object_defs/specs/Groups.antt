@@ -115,11 +115,15 @@ group_size (Word word) = 4
 group_size EndOfLine = 0
 group_size EndOfModule = 0
 
--- What follows the end of a line or of a module is ignored, and no group is looked for behind a broken one.
+-- What follows the end of a line or of a module is ignored.
+abbrev pub is_last : Group → Bool
+is_last EndOfLine = true
+is_last EndOfModule = true
+is_last _ = false
+
+-- no group is looked for behind a broken one
 abbrev pub ends_line : FoundGroup → Bool
-ends_line (Whole character EndOfLine) = true
-ends_line (Whole character EndOfModule) = true
-ends_line (Whole character _) = false
+ends_line (Whole character group) = is_last group
 ends_line (Broken character tag cause) = true
 
 abbrev pub size_found : FoundGroup → ℕ

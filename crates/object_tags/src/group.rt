@@ -80,6 +80,13 @@ impl Group {
         }
     }
 
+    /// Whether it is the last group of its line.
+    fn is_last(&self) -> bool
+        ensures { result ≡ spec.is_last (defined_group self.now) }
+    {
+        matches!(self, Group::EndOfLine | Group::EndOfModule)
+    }
+
     /// How many characters the group has behind its tag.
     fn size(&self) -> usize
         ensures { result ≡ spec.group_size (defined_group self.now) }
@@ -140,10 +147,7 @@ impl FoundGroup {
         ensures { result ≡ spec.ends_line (defined_found self.now) }
     {
         match self {
-            FoundGroup::Whole { group, .. } => matches!(
-                group,
-                Group::EndOfLine | Group::EndOfModule
-            ),
+            FoundGroup::Whole { group, .. } => group.is_last(),
             FoundGroup::Broken { .. } => true,
         }
     }
