@@ -1,67 +1,88 @@
 -- Groups that were written are added again.
-use Rattle.std.proofs.Common.{◌≡◌, ℕ, zero, suc, ◌-◌, ◌%◌, ◌<◌, Bool, true, false, cond, List, [], ◌∷◌, ◌++◌, length, Option, Some, None, refl, sym, ap, ◌∙◌, append_assoc, length-append, arith}
+use Rattle.std.proofs.Common.{◌≡◌, ℕ, zero, suc, ◌+◌, ◌-◌, ◌%◌, ◌<◌, Bool, true, false, cond, List, [], ◌∷◌, ◌++◌, length, Option, Some, None, Result, Ok, refl, sym, ap, ◌∙◌, append_assoc, append-nil, length-append, arith}
 use Rattle.std.specs.Prelude.{nat_le}
 use Rattle.std.proofs.lemmas.Bool.Decides.{nat_tests}
+use Rattle.source_defs.specs.Names.{is_kept_name}
+use Rattle.source_defs.specs.Digits.{word_digits}
 use Rattle.object_defs.specs.declared.spot.Spot.{Spot}
 use Rattle.object_defs.specs.declared.spot.Spot.TheVariants.{Absolute, Relocatable}
 use Rattle.object_defs.specs.declared.spot.Piece.{Piece}
-use Rattle.source_defs.specs.Names.{is_kept_name}
-use Rattle.object_defs.specs.Modules.{Definition, Reference, number_of, moved, same_spot, StandsEven}
-use Rattle.object_defs.specs.Digits.{hexadecimal, padded}
+use Rattle.object_defs.specs.declared.causes.TagCause.{TagCause}
+use Rattle.object_defs.specs.Modules.{Module, Definition, Reference, number_of, moved, even, same_spot, StandsEven}
+use Rattle.object_defs.specs.Digits.{padded, checksum}
 use Rattle.object_defs.specs.Tags.{tag_of}
+use Rattle.object_defs.specs.Groups.{Group, Header, Entry, Referred, Defined, Address, Word, FoundGroup, Whole, found_with, found_at, group_size, ends_line, groups_from}
+use Rattle.object_defs.specs.Running.{OpenModule, opened, begun, more, Kept, with_current, kept_with, kept_groups}
 use Rattle.object_defs.specs.Writing.{word_text, address_text, definition_text, reference_text, entry_text, Placed, item_text}
-use Rattle.object_defs.specs.Reading.{OpenModule, with_groups, with_word, with_address, with_entry, with_definition, with_reference}
 use Rattle.object_defs.specs.Laws.{FitsSpot, FitsPiece, FitsDefinition, FitsReference}
-use Rattle.object_defs.proofs.FieldsAgain.{number_again, symbol_again, hexadecimal_length, kept_length}
+use Rattle.object_defs.proofs.FieldsAgain.{number_again, module_name_again, symbol_again, digits_length, kept_length}
+
+-- what the rest of a line leads to, behind the characters before it
+abbrev pub leads : Kept → List ℕ → List ℕ → Result Kept TagCause
+leads kept before rest = kept_groups kept (groups_from before 0 rest)
 
 -- a text adds to a module what another has more than it, whatever line it stands in
 abbrev pub Adds : OpenModule → List ℕ → OpenModule → Type 0
-Adds m text after = (line rest : List ℕ) → with_groups line 0 (text ++ rest) m ≡ with_groups line 0 rest after
-
--- the digits of a group are passed over
-pub digits_left : (line : List ℕ) (n : ℕ) (rest : List ℕ) (m : OpenModule) → with_groups line 4 (hexadecimal n ++ rest) m ≡ with_groups line 0 rest m
-unfolding hexadecimal with_groups
-digits_left line n rest m = refl
+Adds m text after = (kept : Kept) (before rest : List ℕ) → leads (with_current kept m) before (text ++ rest) ≡ leads (with_current kept after) (before ++ text) rest
 
 -- what a group has behind its tag is passed over
-pub left_over : (line : List ℕ) (k : ℕ) (xs rest : List ℕ) (m : OpenModule) → length xs ≡ k → with_groups line k (xs ++ rest) m ≡ with_groups line 0 rest m
-unfolding with_groups
-left_over line zero [] rest m e = refl
-left_over line (suc k) [] rest m e = absurd (omega arith)
-left_over line zero (x ∷ xs) rest m e = absurd (omega arith)
-left_over line (suc k) (x ∷ xs) rest m e = left_over line k xs rest m (omega arith)
+left_over : (before : List ℕ) (k : ℕ) (xs rest : List ℕ) → length xs ≡ k → groups_from before k (xs ++ rest) ≡ groups_from (before ++ xs) 0 rest
+unfolding groups_from
+left_over before zero [] rest e = ap (λ (b : List ℕ). groups_from b 0 rest) (sym (append-nil before))
+left_over before (suc k) [] rest e = absurd (omega arith)
+left_over before zero (x ∷ xs) rest e = absurd (omega arith)
+left_over before (suc k) (x ∷ xs) rest e = left_over (before ++ x ∷ []) k xs rest (omega arith) ∙ ap (λ (b : List ℕ). groups_from b 0 rest) (append_assoc before (x ∷ []) xs)
+
+-- a group that is whole and is added
+pub group_adds : (kept after : Kept) (before : List ℕ) (character : ℕ) (fields rest : List ℕ) (group : Group)
+    → found_at before character (fields ++ rest) ≡ Whole character group → ends_line (Whole character group) ≡ false → length fields ≡ group_size group
+    → kept_with kept (Whole character group) ≡ Ok after → leads kept before (character ∷ (fields ++ rest)) ≡ leads after (before ++ character ∷ fields) rest
+unfolding groups_from kept_groups
+group_adds kept after before character fields rest group found goes size adds =
+    let behind : groups_from (before ++ character ∷ []) (group_size group) (fields ++ rest) ≡ groups_from (before ++ character ∷ fields) 0 rest =
+    left_over (before ++ character ∷ []) (group_size group) fields rest size ∙ ap (λ (b : List ℕ). groups_from b 0 rest) (append_assoc before (character ∷ []) fields) in
+    rw (found, goes, adds, behind) refl
+
+-- ---- words at their places
 
 abbrev pub with_piece : OpenModule → Piece → OpenModule
 with_piece m piece = record { found = record m.found { pieces = m.found.pieces ++ piece ∷ [] }; load = moved piece.at 2 }
 
 -- a word at the load address
-pub word_adds : (m : OpenModule) (word : Spot) → FitsSpot word → length m.found.pieces < 32768 → Adds m (word_text word) (with_piece m (record { at = m.load; word = word }))
-unfolding with_groups with_word tag_of
-word_adds m (Absolute n) fits few line rest =
+word_adds : (m : OpenModule) (word : Spot) → FitsSpot word → length m.found.pieces < 32768 → Adds m (word_text word) (with_piece m (record { at = m.load; word = word }))
+unfolding found_with more tag_of
+word_adds m (Absolute n) fits few kept before rest =
     let room : nat_le 32768 (length m.found.pieces) ≡ false = grind (arith, nat_tests) in
-    rw (room, number_again n rest fits, digits_left line n rest (with_piece m (record { at = m.load; word = Absolute n }))) refl
-word_adds m (Relocatable n) fits few line rest =
+    group_adds _ _ before 0x42 (word_digits n) rest (Word (Absolute n)) (rw (number_again n rest fits) refl) refl (digits_length n) (rw room refl)
+word_adds m (Relocatable n) fits few kept before rest =
     let room : nat_le 32768 (length m.found.pieces) ≡ false = grind (arith, nat_tests) in
-    rw (room, number_again n rest fits, digits_left line n rest (with_piece m (record { at = m.load; word = Relocatable n }))) refl
+    group_adds _ _ before 0x43 (word_digits n) rest (Word (Relocatable n)) (rw (number_again n rest fits) refl) refl (digits_length n) (rw room refl)
 
 abbrev with_load : OpenModule → Spot → OpenModule
 with_load m at = record { found = m.found; load = at }
 
-even_number : (n : ℕ) → n % 2 ≡ 0 → n - n % 2 ≡ n
-even_number n e = omega arith
+even_is : (at : Spot) → FitsSpot at → number_of at % 2 ≡ 0 → moved (even at) 0 ≡ at
+even_is (Absolute n) fits evens = let e : (n - n % 2 + 0) % 65536 ≡ n = omega arith in ap Absolute e
+even_is (Relocatable n) fits evens = let e : (n - n % 2 + 0) % 65536 ≡ n = omega arith in ap Relocatable e
 
 address_adds : (m : OpenModule) (at : Spot) → FitsSpot at → number_of at % 2 ≡ 0 → Adds m (address_text at) (with_load m at)
-unfolding with_groups with_address tag_of
-address_adds m (Absolute n) fits evens line rest =
-    rw (number_again n rest fits, even_number n evens, digits_left line n rest (with_load m (Absolute n))) refl
-address_adds m (Relocatable n) fits evens line rest =
-    rw (number_again n rest fits, even_number n evens, digits_left line n rest (with_load m (Relocatable n))) refl
+unfolding found_with more tag_of
+address_adds m (Absolute n) fits evens kept before rest =
+    group_adds _ _ before 0x39 (word_digits n) rest (Address (Absolute n)) (rw (number_again n rest fits) refl) refl (digits_length n)
+    (ap (λ (at : Spot). Ok (with_current kept (with_load m at))) (even_is (Absolute n) fits evens))
+address_adds m (Relocatable n) fits evens kept before rest =
+    group_adds _ _ before 0x41 (word_digits n) rest (Address (Relocatable n)) (rw (number_again n rest fits) refl) refl (digits_length n)
+    (ap (λ (at : Spot). Ok (with_current kept (with_load m at))) (even_is (Relocatable n) fits evens))
+
+pub adds_both : (m between after : OpenModule) (a b : List ℕ) → Adds m a between → Adds between b after → Adds m (a ++ b) after
+adds_both m between after a b p q kept before rest =
+    ap (leads (with_current kept m) before) (append_assoc a b rest)
+    ∙ (p kept before (b ++ rest) ∙ (q kept (before ++ a) rest ∙ ap (λ (xs : List ℕ). leads (with_current kept after) xs rest) (append_assoc before a b)))
 
 -- a word behind its address
 addressed_adds : (m : OpenModule) (piece : Piece) → FitsPiece piece → StandsEven piece → length m.found.pieces < 32768 → Adds m (address_text piece.at ++ word_text piece.word) (with_piece m piece)
-addressed_adds m piece fits evens few line rest =
-    ap (λ (xs : List ℕ). with_groups line 0 xs m) (append_assoc (address_text piece.at) (word_text piece.word) rest)
-    ∙ (address_adds m piece.at fits.at evens line (word_text piece.word ++ rest) ∙ word_adds (with_load m piece.at) piece.word fits.word few line rest)
+addressed_adds m piece fits evens few =
+    adds_both m (with_load m piece.at) (with_piece m piece) (address_text piece.at) (word_text piece.word) (address_adds m piece.at fits.at evens) (word_adds (with_load m piece.at) piece.word fits.word few)
 
 same_is : (a b : Spot) → same_spot a b ≡ true → a ≡ b
 same_is (Absolute a) (Absolute b) h = let e : a ≡ b = grind (arith, nat_tests) in ap Absolute e
@@ -78,8 +99,11 @@ piece_adds (Some s) m piece at fits evens few = by (same_spot s piece.at) refl
     by : (b : Bool) → same_spot s piece.at ≡ b → Adds m (cond b (word_text piece.word) (address_text piece.at ++ word_text piece.word)) (with_piece m piece)
     by true e =
         let here : m.load ≡ piece.at = at s refl ∙ same_is s piece.at e in
-        λ line rest. word_adds m piece.word fits.word few line rest ∙ ap (λ (a : Spot). with_groups line 0 rest (record { found = record m.found { pieces = m.found.pieces ++ record { at = a; word = piece.word } ∷ [] }; load = moved a 2 })) here
+        λ kept before rest. word_adds m piece.word fits.word few kept before rest
+        ∙ ap (λ (a : Spot). leads (with_current kept (with_piece m (record { at = a; word = piece.word }))) (before ++ word_text piece.word) rest) here
     by false e = addressed_adds m piece fits evens few
+
+-- ---- names and the entry
 
 abbrev pub with_def : OpenModule → Definition → OpenModule
 with_def m definition = record m { found = record m.found { defs = m.found.defs ++ definition ∷ [] } }
@@ -90,40 +114,50 @@ with_ref m reference = record m { found = record m.found { refs = m.found.refs +
 abbrev pub with_entry_at : OpenModule → Spot → OpenModule
 with_entry_at m entry = record m { found = record m.found { entry = Some entry } }
 
-digits_and_name : (line : List ℕ) (n : ℕ) (name rest : List ℕ) (m : OpenModule) → is_kept_name name ≡ true → with_groups line 10 (hexadecimal n ++ (padded 6 name ++ rest)) m ≡ with_groups line 0 rest m
-digits_and_name line n name rest m h =
-    let size : length (hexadecimal n ++ padded 6 name) ≡ 10 = omega (arith, length-append (hexadecimal n) (padded 6 name), hexadecimal_length n, kept_length name h) in
-    ap (λ (xs : List ℕ). with_groups line 10 xs m) (sym (append_assoc (hexadecimal n) (padded 6 name) rest)) ∙ left_over line 10 (hexadecimal n ++ padded 6 name) rest m size
+named_length : (n : ℕ) (name : List ℕ) → is_kept_name name ≡ true → length (word_digits n ++ padded 6 name) ≡ 10
+named_length n name h = omega (arith, length-append (word_digits n) (padded 6 name), digits_length n, kept_length name h)
 
 pub definition_adds : (m : OpenModule) (definition : Definition) → FitsDefinition definition → length m.found.defs < 256 → Adds m (definition_text definition) (with_def m definition)
-unfolding with_groups with_definition tag_of
-definition_adds m definition fits few line rest = by definition.value fits.value
+unfolding found_with more tag_of
+definition_adds m definition fits few kept before rest = by definition.value fits.value
   where
-    by : (value : Spot) → FitsSpot value → with_groups line 0 (definition_text (record { name = definition.name; value = value }) ++ rest) m ≡ with_groups line 0 rest (with_def m (record { name = definition.name; value = value }))
+    room : nat_le 256 (length m.found.defs) ≡ false
+    room = grind (arith, nat_tests)
+
+    by : (value : Spot) → FitsSpot value
+        → leads (with_current kept m) before (definition_text (record { name = definition.name; value = value }) ++ rest)
+        ≡ leads (with_current kept (with_def m (record { name = definition.name; value = value }))) (before ++ definition_text (record { name = definition.name; value = value })) rest
     by (Absolute n) lt =
-        let room : nat_le 256 (length m.found.defs) ≡ false = grind (arith, nat_tests) in
-        let whole = append_assoc (hexadecimal n) (padded 6 definition.name) rest in
-        rw (whole, room, number_again n (padded 6 definition.name ++ rest) lt, symbol_again 0x36 n definition.name rest fits.name, digits_and_name line n definition.name rest (with_def m (record { name = definition.name; value = Absolute n })) fits.name) refl
+        let whole = append_assoc (word_digits n) (padded 6 definition.name) rest in
+        group_adds _ _ before 0x36 (word_digits n ++ padded 6 definition.name) rest (Defined (record { name = definition.name; value = Absolute n }))
+        (rw (whole, number_again n (padded 6 definition.name ++ rest) lt, symbol_again 0x36 n definition.name rest fits.name) refl) refl (named_length n definition.name fits.name) (rw room refl)
     by (Relocatable n) lt =
-        let room : nat_le 256 (length m.found.defs) ≡ false = grind (arith, nat_tests) in
-        let whole = append_assoc (hexadecimal n) (padded 6 definition.name) rest in
-        rw (whole, room, number_again n (padded 6 definition.name ++ rest) lt, symbol_again 0x35 n definition.name rest fits.name, digits_and_name line n definition.name rest (with_def m (record { name = definition.name; value = Relocatable n })) fits.name) refl
+        let whole = append_assoc (word_digits n) (padded 6 definition.name) rest in
+        group_adds _ _ before 0x35 (word_digits n ++ padded 6 definition.name) rest (Defined (record { name = definition.name; value = Relocatable n }))
+        (rw (whole, number_again n (padded 6 definition.name ++ rest) lt, symbol_again 0x35 n definition.name rest fits.name) refl) refl (named_length n definition.name fits.name) (rw room refl)
 
 pub reference_adds : (m : OpenModule) (reference : Reference) → FitsReference reference → length m.found.refs < 256 → Adds m (reference_text reference) (with_ref m reference)
-unfolding with_groups with_reference tag_of
-reference_adds m reference fits few line rest = by reference.last fits.last
+unfolding found_with more tag_of
+reference_adds m reference fits few kept before rest = by reference.last fits.last
   where
-    by : (last : Spot) → FitsSpot last → with_groups line 0 (reference_text (record { name = reference.name; last = last }) ++ rest) m ≡ with_groups line 0 rest (with_ref m (record { name = reference.name; last = last }))
+    room : nat_le 256 (length m.found.refs) ≡ false
+    room = grind (arith, nat_tests)
+
+    by : (last : Spot) → FitsSpot last
+        → leads (with_current kept m) before (reference_text (record { name = reference.name; last = last }) ++ rest)
+        ≡ leads (with_current kept (with_ref m (record { name = reference.name; last = last }))) (before ++ reference_text (record { name = reference.name; last = last })) rest
     by (Absolute n) lt =
-        let room : nat_le 256 (length m.found.refs) ≡ false = grind (arith, nat_tests) in
-        let whole = append_assoc (hexadecimal n) (padded 6 reference.name) rest in
-        rw (whole, room, number_again n (padded 6 reference.name ++ rest) lt, symbol_again 0x34 n reference.name rest fits.name, digits_and_name line n reference.name rest (with_ref m (record { name = reference.name; last = Absolute n })) fits.name) refl
+        let whole = append_assoc (word_digits n) (padded 6 reference.name) rest in
+        group_adds _ _ before 0x34 (word_digits n ++ padded 6 reference.name) rest (Referred (record { name = reference.name; last = Absolute n }))
+        (rw (whole, number_again n (padded 6 reference.name ++ rest) lt, symbol_again 0x34 n reference.name rest fits.name) refl) refl (named_length n reference.name fits.name) (rw room refl)
     by (Relocatable n) lt =
-        let room : nat_le 256 (length m.found.refs) ≡ false = grind (arith, nat_tests) in
-        let whole = append_assoc (hexadecimal n) (padded 6 reference.name) rest in
-        rw (whole, room, number_again n (padded 6 reference.name ++ rest) lt, symbol_again 0x33 n reference.name rest fits.name, digits_and_name line n reference.name rest (with_ref m (record { name = reference.name; last = Relocatable n })) fits.name) refl
+        let whole = append_assoc (word_digits n) (padded 6 reference.name) rest in
+        group_adds _ _ before 0x33 (word_digits n ++ padded 6 reference.name) rest (Referred (record { name = reference.name; last = Relocatable n }))
+        (rw (whole, number_again n (padded 6 reference.name ++ rest) lt, symbol_again 0x33 n reference.name rest fits.name) refl) refl (named_length n reference.name fits.name) (rw room refl)
 
 pub entry_adds : (m : OpenModule) (entry : Spot) → FitsSpot entry → m.found.entry ≡ None → Adds m (entry_text entry) (with_entry_at m entry)
-unfolding with_groups with_entry tag_of
-entry_adds m (Absolute n) fits none line rest = rw (none, number_again n rest fits, digits_left line n rest (with_entry_at m (Absolute n))) refl
-entry_adds m (Relocatable n) fits none line rest = rw (none, number_again n rest fits, digits_left line n rest (with_entry_at m (Relocatable n))) refl
+unfolding found_with more tag_of
+entry_adds m (Absolute n) fits none kept before rest =
+    group_adds _ _ before 0x31 (word_digits n) rest (Entry (Absolute n)) (rw (number_again n rest fits) refl) refl (digits_length n) (rw none refl)
+entry_adds m (Relocatable n) fits none kept before rest =
+    group_adds _ _ before 0x32 (word_digits n) rest (Entry (Relocatable n)) (rw (number_again n rest fits) refl) refl (digits_length n) (rw none refl)

@@ -7,8 +7,9 @@ use Rattle.source_defs.specs.Characters.{is_blank}
 use Rattle.source_defs.specs.Names.{is_kept_name, all_printed, is_printed}
 use Rattle.source_defs.specs.Numbers.{is_hexadecimal_digit, hexadecimal_digit, digit_value}
 use Rattle.object_defs.specs.Modules.{all_name_characters, is_module_name}
-use Rattle.object_defs.specs.Digits.{hexadecimal, padded}
-use Rattle.object_defs.specs.Reading.{number_at, module_name_at, symbol_at, all_blank, without_blanks}
+use Rattle.source_defs.specs.Digits.{word_digits}
+use Rattle.object_defs.specs.Digits.{padded}
+use Rattle.object_defs.specs.Fields.{number_at, module_name_at, symbol_at, all_blank, without_blanks}
 
 digit_is : (v : ℕ) → v < 16 → is_hexadecimal_digit (hexadecimal_digit v) ≡ true
 digit_is v lt = grind (arith, nat_tests)
@@ -23,13 +24,13 @@ four_again a b c d n rest la lb lc ld e =
     let value : (((0 * 16 + a) * 16 + b) * 16 + c) * 16 + d ≡ n = omega arith in
     rw (digit_is a la, digit_is b lb, digit_is c lc, digit_is d ld, digit_back a la, digit_back b lb, digit_back c lc, digit_back d ld, value) refl
 
-pub number_again : (n : ℕ) (rest : List ℕ) → n < 65536 → number_at (hexadecimal n ++ rest) ≡ Ok n
-unfolding hexadecimal
+pub number_again : (n : ℕ) (rest : List ℕ) → n < 65536 → number_at (word_digits n ++ rest) ≡ Ok n
+unfolding word_digits
 number_again n rest lt = four_again (n / 4096 % 16) (n / 256 % 16) (n / 16 % 16) (n % 16) n rest (omega arith) (omega arith) (omega arith) (omega arith) (omega arith)
 
-pub hexadecimal_length : (n : ℕ) → length (hexadecimal n) ≡ 4
-unfolding hexadecimal
-hexadecimal_length n = refl
+pub digits_length : (n : ℕ) → length (word_digits n) ≡ 4
+unfolding word_digits
+digits_length n = refl
 
 printed_no_blank : (c : ℕ) → is_printed c ≡ true → is_blank c ≡ false
 printed_no_blank c h = grind (arith, nat_tests)
@@ -68,21 +69,21 @@ kept_length name h =
     let behind_name = blank_count (6 - length name) in
     length-append name (replicate {A = ℕ} (6 - length name) 0x20) ∙ omega arith
 
-pub symbol_again : (tag n : ℕ) (name rest : List ℕ) → is_kept_name name ≡ true → symbol_at tag (hexadecimal n ++ (padded 6 name ++ rest)) ≡ Ok name
+pub symbol_again : (tag n : ℕ) (name rest : List ℕ) → is_kept_name name ≡ true → symbol_at tag (word_digits n ++ (padded 6 name ++ rest)) ≡ Ok name
 unfolding symbol_at
 symbol_again tag n name rest h =
     let printed : all_printed name ≡ true = and_right (nat_lt 0 (length name) && nat_le (length name) 6) (all_printed name) h in
-    let behind : drop 4 (hexadecimal n ++ (padded 6 name ++ rest)) ≡ padded 6 name ++ rest = drop_at (hexadecimal n) _ 4 (hexadecimal_length n) in
+    let behind : drop 4 (word_digits n ++ (padded 6 name ++ rest)) ≡ padded 6 name ++ rest = drop_at (word_digits n) _ 4 (digits_length n) in
     let size = kept_length name h in
     let field : take 6 (padded 6 name ++ rest) ≡ padded 6 name = take_at (padded 6 name) rest 6 size in
     let kept : without_blanks (padded 6 name) ≡ name = name_again name (6 - length name) printed in
     rw (behind, field, size, kept, h) refl
 
-pub module_name_again : (tag n : ℕ) (name rest : List ℕ) → is_module_name name ≡ true → module_name_at tag (hexadecimal n ++ (name ++ rest)) ≡ Ok name
+pub module_name_again : (tag n : ℕ) (name rest : List ℕ) → is_module_name name ≡ true → module_name_at tag (word_digits n ++ (name ++ rest)) ≡ Ok name
 unfolding module_name_at
 module_name_again tag n name rest h =
     let characters : all_name_characters name ≡ true = and_right (length name == 8) (all_name_characters name) h in
     let size : length name ≡ 8 = let eight : (length name == 8) ≡ true = and_left (length name == 8) (all_name_characters name) h in grind (arith, nat_tests) in
-    let behind : drop 4 (hexadecimal n ++ (name ++ rest)) ≡ name ++ rest = drop_at (hexadecimal n) _ 4 (hexadecimal_length n) in
+    let behind : drop 4 (word_digits n ++ (name ++ rest)) ≡ name ++ rest = drop_at (word_digits n) _ 4 (digits_length n) in
     let field : take 8 (name ++ rest) ≡ name = take_at name rest 8 size in
     rw (behind, field, characters, size) refl

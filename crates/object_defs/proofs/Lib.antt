@@ -1,6 +1,6 @@
+pub mod Running
 pub mod FieldsAgain
+pub mod Characters
 pub mod Adding
 pub mod FirstLine
-pub mod Characters
 pub mod Written
-pub mod PlaceLaws

@@ -13,15 +13,21 @@ use Rattle.object_defs.specs.declared.spot.Piece.{Piece}
 use Rattle.object_defs.specs.declared.causes.TagCause.{TagCause}
 use Rattle.object_defs.specs.declared.tag.Tag.TheVariants as tags
 use Rattle.object_defs.specs.Modules.{Module, Definition, Reference, HasText, StandsEven, moved, all_name_characters}
-use Rattle.object_defs.specs.Digits.{hexadecimal, decimal, padded, checksum}
+use Rattle.source_defs.specs.Digits.{word_digits}
+use Rattle.source_defs.specs.Refusals.{Refusal}
+use Rattle.object_defs.specs.Digits.{decimal, padded, checksum}
 use Rattle.object_defs.specs.Tags.{tag_of}
 use Rattle.object_defs.specs.Writing.{group, header_text, definition_text, reference_text, Item, Group, Placed, items_of, entry_items, Line, empty_line, item_text, with_item, summed, numbered, line_text, last_line_text, number_after, written_from, written}
-use Rattle.object_defs.specs.Reading.{OpenModule, Found, Refusal, NumberedLine, ◌>>=◌, number_at, module_name_at, with_groups, with_sum, opening_line, opened, ends_module, all_blank, after_line, after_line_by, read_from, read, nothing_found, has_line_feed}
+use Rattle.object_defs.specs.Fields.{all_blank}
+use Rattle.object_defs.specs.Groups.{Header, Sum, FoundGroup, Whole, found_with, found_at, groups_from}
+use Rattle.object_defs.specs.Reading.{NumberedLine, numbered_line, has_line_feed, text_lines, read}
+use Rattle.object_defs.specs.Running.{OpenModule, opened, begun, more, Kept, nothing_kept, with_current, with_ended, kept_with, kept_groups, kept_line, kept_lines}
 use Rattle.object_defs.specs.Laws.{FitsSpot, FitsPiece, FitsDefinition, FitsReference, IsModule, WrittenModulesAreRead}
-use Rattle.object_defs.proofs.FieldsAgain.{number_again, module_name_again, hexadecimal_length}
-use Rattle.object_defs.proofs.Adding.{Adds, digits_left, left_over, with_piece, piece_adds, with_def, definition_adds, with_ref, reference_adds, with_entry_at, entry_adds}
+use Rattle.object_defs.proofs.FieldsAgain.{number_again, module_name_again, digits_length}
+use Rattle.object_defs.proofs.Adding.{leads, Adds, group_adds, with_piece, piece_adds, with_def, definition_adds, with_ref, reference_adds, with_entry_at, entry_adds}
 use Rattle.object_defs.proofs.FirstLine.{left_lines, first_line}
-use Rattle.object_defs.proofs.Characters.{IsPlain, plain-append, behind_each_other, decimal_number_prints, padded_prints, summed_prints, piece_plain, definition_plain, reference_plain, entry_plain, header_plain, name_padded, name_length}
+use Rattle.object_defs.proofs.Characters.{behind_each_other, decimal_number_prints, padded_prints, summed_prints, piece_prints, definition_prints, reference_prints, entry_prints, header_prints, name_padded, name_length}
+use Rattle.object_defs.proofs.Running.{read_is}
 
 -- ---- a line up to its line feed
 
@@ -70,7 +76,7 @@ behind_line text front line more is = is ∙ sym (append_assoc front line more)
 -- ---- the end of a line of groups
 
 abbrev line_end : List ℕ → List ℕ → List ℕ
-line_end text pad = 0x37 ∷ (hexadecimal (checksum (text ++ 0x37 ∷ [])) ++ 0x46 ∷ pad)
+line_end text pad = 0x37 ∷ (word_digits (checksum (text ++ 0x37 ∷ [])) ++ 0x46 ∷ pad)
 
 checksum-lt : (bytes : List ℕ) → checksum bytes < 65536
 unfolding checksum
@@ -87,28 +93,28 @@ body_ends number text =
     let pad : List ℕ = blanks ++ (first_digits number ++ last_digit number ∷ []) in
     (pad, regroup text (sum ++ 0x46 ∷ []) blanks (first_digits number) (last_digit number ∷ []) ∙ ap (λ (xs : List ℕ). text ++ xs) (append_assoc sum (0x46 ∷ []) pad))
 
-sum_read : (text pad : List ℕ) (m : OpenModule) → with_groups (text ++ line_end text pad) 0 (line_end text pad) m ≡ Ok m
-unfolding with_groups with_sum tag_of
-sum_read text pad m =
+line_ends : (before pad : List ℕ) (kept : Kept) (m : OpenModule) → leads (with_current kept m) before (0x46 ∷ pad) ≡ Ok (with_current kept m)
+unfolding groups_from kept_groups found_with more tag_of
+line_ends before pad kept m = refl
+
+-- the checksum of the line agrees, and the line ends
+sum_read : (text pad : List ℕ) (kept : Kept) (m : OpenModule) → leads (with_current kept m) text (line_end text pad) ≡ Ok (with_current kept m)
+unfolding found_with more tag_of
+sum_read text pad kept m =
     let c = checksum (text ++ 0x37 ∷ []) in
-    let fields : List ℕ = hexadecimal c ++ 0x46 ∷ pad in
-    let line : List ℕ = text ++ 0x37 ∷ fields in
-    let parts : line ≡ (text ++ 0x37 ∷ []) ++ fields = sym (append_assoc text (0x37 ∷ []) fields) in
-    let size : length line - length fields ≡ length (text ++ 0x37 ∷ []) = omega (arith, ap length parts, length-append (text ++ 0x37 ∷ []) fields) in
-    let taken : take (length line - length fields) line ≡ text ++ 0x37 ∷ [] = ap (λ (xs : List ℕ). take (length line - length fields) xs) parts ∙ take_at (text ++ 0x37 ∷ []) fields (length line - length fields) (sym size) in
     let same : eqb c c ≡ true = eq-eqb c c refl in
-    rw (taken, number_again c (0x46 ∷ pad) (checksum-lt (text ++ 0x37 ∷ [])), same, digits_left line c (0x46 ∷ pad) m) refl
+    let found : found_at text 0x37 (word_digits c ++ 0x46 ∷ pad) ≡ Whole 0x37 Sum = rw (number_again c (0x46 ∷ pad) (checksum-lt (text ++ 0x37 ∷ [])), same) refl in
+    group_adds (with_current kept m) (with_current kept m) text 0x37 (word_digits c) (0x46 ∷ pad) Sum found refl (digits_length c) refl ∙ line_ends (text ++ 0x37 ∷ word_digits c) pad kept m
 
 -- ---- a line of groups
 
-abbrev start : Option OpenModule → ℕ → List ℕ → Result OpenModule TagCause
-start None ended line = opening_line ended line
-start (Some m) ended line = with_groups line 0 line m
+abbrev start : List Module → Option OpenModule → ℕ → Kept
+start modules current last = record { modules = modules; current = current; last = last }
 
 -- the groups of a line so far lead to a module
-record InLine (current : Option OpenModule) (ended : ℕ) (line : Line) (m : OpenModule) : Type 0 where
-  goes : (rest : List ℕ) → start current ended (line.text ++ rest) ≡ with_groups (line.text ++ rest) 0 rest m
-  plain : IsPlain line.text
+record InLine (modules : List Module) (current : Option OpenModule) (line : Line) (m : OpenModule) : Type 0 where
+  goes : (last : ℕ) (rest : List ℕ) → leads (start modules current last) [] (line.text ++ rest) ≡ leads (start modules (Some m) last) line.text rest
+  prints : all_name_characters line.text ≡ true
   next : (s : Spot) → line.next ≡ Some s → m.load ≡ s
 
 some_other : (text rest : List ℕ) → all_blank (text ++ 0x37 ∷ rest) ≡ false
@@ -119,28 +125,20 @@ some_other (c ∷ text) rest = rw (some_other text rest) (by (is_blank c))
     by true = refl
     by false = refl
 
-starts_with : (text rest : List ℕ) → ends_module text ≡ false → ends_module (text ++ 0x37 ∷ rest) ≡ false
-starts_with [] rest h = refl
-starts_with (c ∷ text) rest h = h
-
-line_done : (found : Found) (line : Line) (m : OpenModule) (n number : ℕ) → InLine found.current (length found.modules) line m
-    → after_line found (record { number = n; text = body_of number (summed line.text) }) ≡ Ok (record { modules = found.modules; current = Some m; last = n })
-unfolding after_line
-line_done found line m n number in_line =
+line_done : (kept : Kept) (line : Line) (m : OpenModule) (n number : ℕ) → InLine kept.modules kept.current line m
+    → kept_line kept (record { number = n; text = body_of number (summed line.text) }) ≡ Ok (start kept.modules (Some m) n)
+unfolding kept_line
+line_done kept line m n number in_line =
     let ends = body_ends number line.text in
-    let body : List ℕ = line.text ++ line_end line.text ends.0 in
-    let other : all_blank body ≡ false = some_other line.text (hexadecimal (checksum (line.text ++ 0x37 ∷ [])) ++ 0x46 ∷ ends.0) in
-    let whole : start found.current (length found.modules) body ≡ Ok m = in_line.goes (line_end line.text ends.0) ∙ sum_read line.text ends.0 m in
-    rw (ends.1, other) (by found.current body whole (starts_with line.text (hexadecimal (checksum (line.text ++ 0x37 ∷ [])) ++ 0x46 ∷ ends.0) in_line.plain.no_end))
-  where
-    by : (current : Option OpenModule) (body : List ℕ) → start current (length found.modules) body ≡ Ok m → ends_module body ≡ false
-        → Rattle.object_defs.specs.Reading.refused_at n (after_line_by current (record found { last = n }) body) ≡ Ok (record { modules = found.modules; current = Some m; last = n })
-    by None body e other = rw e refl
-    by (Some before) body e other = rw (other, e) refl
+    let other : all_blank (line.text ++ line_end line.text ends.0) ≡ false = some_other line.text (word_digits (checksum (line.text ++ 0x37 ∷ [])) ++ 0x46 ∷ ends.0) in
+    let whole : leads (start kept.modules kept.current n) [] (line.text ++ line_end line.text ends.0) ≡ Ok (start kept.modules (Some m) n) =
+    in_line.goes n (line_end line.text ends.0) ∙ sum_read line.text ends.0 (start kept.modules (Some m) n) m in
+    rw (ends.1, other, whole) refl
 
 -- the line that ends a module
-colon_done : (modules : List Module) (m : OpenModule) (last n number : ℕ) → after_line (record { modules = modules; current = Some m; last = last }) (record { number = n; text = body_of number (0x3A ∷ []) }) ≡ Ok (record { modules = modules ++ m.found ∷ []; current = None; last = n })
-unfolding after_line
+colon_done : (modules : List Module) (m : OpenModule) (last n number : ℕ)
+    → kept_line (start modules (Some m) last) (record { number = n; text = body_of number (0x3A ∷ []) }) ≡ Ok (start (modules ++ m.found ∷ []) None n)
+unfolding kept_line groups_from kept_groups found_with more tag_of
 colon_done modules m last n number = refl
 
 -- ---- items
@@ -149,7 +147,7 @@ colon_done modules m last n number = refl
 record GroupTakes (m : OpenModule) (text : List ℕ) (after : OpenModule) : Type 0 where
   adds : Adds m text after
   load : after.load ≡ m.load
-  plain : IsPlain text
+  prints : all_name_characters text ≡ true
 
 record PieceTakes (m : OpenModule) (piece : Piece) (after : OpenModule) : Type 0 where
   is : after ≡ with_piece m piece
@@ -166,84 +164,85 @@ abbrev Run : OpenModule → List Item → OpenModule → Type 0
 Run m [] end = m ≡ end
 Run m (item ∷ items) end = (after : OpenModule) × Takes m item after × Run after items end
 
-goes_behind : (current : Option OpenModule) (ended : ℕ) (line : Line) (m after : OpenModule) (text : List ℕ) → InLine current ended line m → Adds m text after
-    → (rest : List ℕ) → start current ended ((line.text ++ text) ++ rest) ≡ with_groups ((line.text ++ text) ++ rest) 0 rest after
-goes_behind current ended line m after text in_line adds rest =
-    subst (λ (xs : List ℕ). start current ended xs ≡ with_groups xs 0 rest after) (sym (append_assoc line.text text rest))
-    (in_line.goes (text ++ rest) ∙ adds (line.text ++ (text ++ rest)) rest)
+goes_behind : (modules : List Module) (current : Option OpenModule) (line : Line) (m after : OpenModule) (text : List ℕ) → InLine modules current line m → Adds m text after
+    → (last : ℕ) (rest : List ℕ) → leads (start modules current last) [] ((line.text ++ text) ++ rest) ≡ leads (start modules (Some after) last) (line.text ++ text) rest
+goes_behind modules current line m after text in_line adds last rest =
+    ap (leads (start modules current last) []) (append_assoc line.text text rest)
+    ∙ (in_line.goes last (text ++ rest) ∙ adds (start modules (Some m) last) line.text rest)
 
-in_line_with : (current : Option OpenModule) (ended : ℕ) (line : Line) (m : OpenModule) (item : Item) (after : OpenModule) → InLine current ended line m → Takes m item after → InLine current ended (with_item line item) after
-in_line_with current ended line m (Group text) after in_line takes = record {
-  goes = goes_behind current ended line m after text in_line takes.adds;
-  plain = plain-append line.text text in_line.plain takes.plain;
+in_line_with : (modules : List Module) (current : Option OpenModule) (line : Line) (m : OpenModule) (item : Item) (after : OpenModule)
+    → InLine modules current line m → Takes m item after → InLine modules current (with_item line item) after
+in_line_with modules current line m (Group text) after in_line takes = record {
+  goes = goes_behind modules current line m after text in_line takes.adds;
+  prints = behind_each_other line.text text in_line.prints takes.prints;
   next = λ s e. takes.load ∙ in_line.next s e;
 }
-in_line_with current ended line m (Placed piece) after in_line takes = record {
-  goes = goes_behind current ended line m after (item_text line.next (Placed piece)) in_line
+in_line_with modules current line m (Placed piece) after in_line takes = record {
+  goes = goes_behind modules current line m after (item_text line.next (Placed piece)) in_line
       (subst (λ (b : OpenModule). Adds m (item_text line.next (Placed piece)) b) (sym takes.is) (piece_adds line.next m piece in_line.next takes.fits takes.evens takes.few));
-  plain = plain-append line.text (item_text line.next (Placed piece)) in_line.plain (piece_plain line.next piece);
+  prints = behind_each_other line.text (item_text line.next (Placed piece)) in_line.prints (piece_prints line.next piece);
   next = λ s e. ap (λ (b : OpenModule). b.load) takes.is ∙ some_is (moved piece.at 2) s e;
 }
   where
     some_is : (a b : Spot) → Some a ≡ Some b → a ≡ b
     some_is a b e = cc
 
-new_line : (m : OpenModule) (ended : ℕ) → InLine (Some m) ended empty_line m
-new_line m ended = record { goes = λ rest. refl; plain = record { prints = refl; no_end = refl }; next = λ s e. cc }
+new_line : (modules : List Module) (m : OpenModule) → InLine modules (Some m) empty_line m
+new_line modules m = record { goes = λ last rest. refl; prints = refl; next = λ s e. cc }
 
 -- ---- the lines of a module
 
 lines_end : (text : List ℕ) (n at : ℕ) → at ≡ length text → left_lines text n at ≡ []
-lines_end text n at e = ap (map (Rattle.object_defs.specs.Reading.numbered_line text)) (lines_from_end text n at e)
+lines_end text n at e = ap (map (numbered_line text)) (lines_from_end text n at e)
 
-read_one : (found after : Found) (line : NumberedLine) (lines : List NumberedLine) → after_line found line ≡ Ok after → read_from found (line ∷ lines) ≡ read_from after lines
-unfolding read_from
-read_one found after line lines e = rw e refl
+read_one : (kept after : Kept) (line : NumberedLine) (lines : List NumberedLine) → kept_line kept line ≡ Ok after → kept_lines kept (line ∷ lines) ≡ kept_lines after lines
+unfolding kept_lines
+read_one kept after line lines e = rw e refl
 
-read_none : (modules : List Module) (last : ℕ) → read_from (record { modules = modules; current = None; last = last }) [] ≡ Ok modules
-unfolding read_from
+read_none : (modules : List Module) (last : ℕ) → kept_lines (start modules None last) [] ≡ Ok modules
+unfolding kept_lines
 read_none modules last = refl
 
 -- the last line of groups, and the line that ends the module
-read_end : (found : Found) (line : Line) (m : OpenModule) (number n : ℕ) (front text : List ℕ) → text ≡ front ++ (line_text number line.text ++ last_line_text (number_after number))
-    → InLine found.current (length found.modules) line m → read_from found (left_lines text n (length front)) ≡ Ok (found.modules ++ m.found ∷ [])
-read_end found line m number n front text is in_line =
+read_end : (kept : Kept) (line : Line) (m : OpenModule) (number n : ℕ) (front text : List ℕ) → text ≡ front ++ (line_text number line.text ++ last_line_text (number_after number))
+    → InLine kept.modules kept.current line m → kept_lines kept (left_lines text n (length front)) ≡ Ok (kept.modules ++ m.found ∷ [])
+read_end kept line m number n front text is in_line =
     let next = number_after number in
-    let first = line_step text front (summed line.text) (last_line_text next) number n (summed_prints line.text in_line.plain.prints) is in
+    let first = line_step text front (summed line.text) (last_line_text next) number n (summed_prints line.text in_line.prints) is in
     let behind : text ≡ (front ++ line_text number line.text) ++ (last_line_text next ++ []) = behind_line text front (line_text number line.text) (last_line_text next) is ∙ ap (λ (xs : List ℕ). (front ++ line_text number line.text) ++ xs) (sym (append-nil (last_line_text next))) in
     let second = line_step text (front ++ line_text number line.text) (0x3A ∷ []) [] next (n + 1) refl behind in
     let all : text ≡ (front ++ line_text number line.text) ++ last_line_text next = behind_line text front (line_text number line.text) (last_line_text next) is in
     let third = lines_end text (n + 1 + 1) (length ((front ++ line_text number line.text) ++ last_line_text next)) (ap length (sym all)) in
-    let groups : Found = record { modules = found.modules; current = Some m; last = n } in
-    let ended : Found = record { modules = found.modules ++ m.found ∷ []; current = None; last = n + 1 } in
-    ap (read_from found) first
-    ∙ (read_one found groups _ _ (line_done found line m n number in_line)
-    ∙ (ap (read_from groups) second
-    ∙ (read_one groups ended _ _ (colon_done found.modules m n (n + 1) next)
-    ∙ (ap (read_from ended) third ∙ read_none (found.modules ++ m.found ∷ []) (n + 1)))))
+    let groups : Kept = start kept.modules (Some m) n in
+    let ended : Kept = start (kept.modules ++ m.found ∷ []) None (n + 1) in
+    ap (kept_lines kept) first
+    ∙ (read_one kept groups _ _ (line_done kept line m n number in_line)
+    ∙ (ap (kept_lines groups) second
+    ∙ (read_one groups ended _ _ (colon_done kept.modules m n (n + 1) next)
+    ∙ (ap (kept_lines ended) third ∙ read_none (kept.modules ++ m.found ∷ []) (n + 1)))))
 
-read_lines : (items : List Item) (found : Found) (line : Line) (m end : OpenModule) (number n : ℕ) (front text : List ℕ) → text ≡ front ++ written_from number line items
-    → InLine found.current (length found.modules) line m → Run m items end → read_from found (left_lines text n (length front)) ≡ Ok (found.modules ++ end.found ∷ [])
+read_lines : (items : List Item) (kept : Kept) (line : Line) (m end : OpenModule) (number n : ℕ) (front text : List ℕ) → text ≡ front ++ written_from number line items
+    → InLine kept.modules kept.current line m → Run m items end → kept_lines kept (left_lines text n (length front)) ≡ Ok (kept.modules ++ end.found ∷ [])
 unfolding written_from
-read_lines [] found line m end number n front text is in_line run =
-    read_end found line m number n front text is in_line ∙ ap (λ (b : OpenModule). Ok (found.modules ++ b.found ∷ [])) run
-read_lines (item ∷ items) found line m end number n front text is in_line run =
+read_lines [] kept line m end number n front text is in_line run =
+    read_end kept line m number n front text is in_line ∙ ap (λ (b : OpenModule). Ok (kept.modules ++ b.found ∷ [])) run
+read_lines (item ∷ items) kept line m end number n front text is in_line run =
     by (nat_le (length line.text + length (item_text line.next item)) 70)
-    (λ found' line' m' number' n' front' is' in_line' run'. read_lines items found' line' m' end number' n' front' text is' in_line' run') is
+    (λ kept' line' m' number' n' front' is' in_line' run'. read_lines items kept' line' m' end number' n' front' text is' in_line' run') is
   where
     by : (b : Bool)
-        → ((found' : Found) (line' : Line) (m' : OpenModule) (number' n' : ℕ) (front' : List ℕ) → text ≡ front' ++ written_from number' line' items
-        → InLine found'.current (length found'.modules) line' m' → Run m' items end → read_from found' (left_lines text n' (length front')) ≡ Ok (found'.modules ++ end.found ∷ []))
+        → ((kept' : Kept) (line' : Line) (m' : OpenModule) (number' n' : ℕ) (front' : List ℕ) → text ≡ front' ++ written_from number' line' items
+        → InLine kept'.modules kept'.current line' m' → Run m' items end → kept_lines kept' (left_lines text n' (length front')) ≡ Ok (kept'.modules ++ end.found ∷ []))
         → text ≡ front ++ cond b (written_from number (with_item line item) items) (line_text number line.text ++ written_from (number_after number) (with_item empty_line item) items)
-        → read_from found (left_lines text n (length front)) ≡ Ok (found.modules ++ end.found ∷ [])
-    by true again e = again found (with_item line item) run.0 number n front e (in_line_with found.current (length found.modules) line m item run.0 in_line run.1) run.2
+        → kept_lines kept (left_lines text n (length front)) ≡ Ok (kept.modules ++ end.found ∷ [])
+    by true again e = again kept (with_item line item) run.0 number n front e (in_line_with kept.modules kept.current line m item run.0 in_line run.1) run.2
     by false again e =
-        let more : List ℕ = written_from (number_after number) (with_item empty_line item) items in
-        let groups : Found = record { modules = found.modules; current = Some m; last = n } in
-        ap (read_from found) (line_step text front (summed line.text) more number n (summed_prints line.text in_line.plain.prints) e)
-        ∙ (read_one found groups _ _ (line_done found line m n number in_line)
-        ∙ again groups (with_item empty_line item) run.0 (number_after number) (n + 1) (front ++ line_text number line.text) (behind_line text front (line_text number line.text) more e)
-        (in_line_with (Some m) (length found.modules) empty_line m item run.0 (new_line m (length found.modules)) run.1) run.2)
+        let rest : List ℕ = written_from (number_after number) (with_item empty_line item) items in
+        let groups : Kept = start kept.modules (Some m) n in
+        ap (kept_lines kept) (line_step text front (summed line.text) rest number n (summed_prints line.text in_line.prints) e)
+        ∙ (read_one kept groups _ _ (line_done kept line m n number in_line)
+        ∙ again groups (with_item empty_line item) run.0 (number_after number) (n + 1) (front ++ line_text number line.text) (behind_line text front (line_text number line.text) rest e)
+        (in_line_with kept.modules (Some m) empty_line m item run.0 (new_line kept.modules m) run.1) run.2)
 
 -- ---- the items of a module
 
@@ -292,7 +291,7 @@ run_defs : (defs : List Definition) (rest : List Item) (m end : OpenModule) → 
 run_defs [] rest m end fits few run = run
 run_defs (definition ∷ defs) rest m end fits few run = (
   with_def m definition,
-  record { adds = definition_adds m definition fits.0 (omega arith); load = refl; plain = definition_plain definition fits.0.name },
+  record { adds = definition_adds m definition fits.0 (omega arith); load = refl; prints = definition_prints definition fits.0.name },
   run_defs defs rest (with_def m definition) end fits.1 (omega (arith, length-append m.found.defs (definition ∷ []))) run,
 )
 
@@ -301,44 +300,38 @@ run_refs : (refs : List Reference) (rest : List Item) (m end : OpenModule) → A
 run_refs [] rest m end fits few run = run
 run_refs (reference ∷ refs) rest m end fits few run = (
   with_ref m reference,
-  record { adds = reference_adds m reference fits.0 (omega arith); load = refl; plain = reference_plain reference fits.0.name },
+  record { adds = reference_adds m reference fits.0 (omega arith); load = refl; prints = reference_prints reference fits.0.name },
   run_refs refs rest (with_ref m reference) end fits.1 (omega (arith, length-append m.found.refs (reference ∷ []))) run,
 )
 
 run_entry : (entry : Option Spot) (m : OpenModule) → Rattle.std.specs.Prelude.IfSome entry FitsSpot → m.found.entry ≡ None → Run m (entry_items entry) (with_entry_of m entry)
 run_entry None m fits none = refl
-run_entry (Some entry) m fits none = (with_entry_at m entry, record { adds = entry_adds m entry fits none; load = refl; plain = entry_plain entry }, refl)
+run_entry (Some entry) m fits none = (with_entry_at m entry, record { adds = entry_adds m entry fits none; load = refl; prints = entry_prints entry }, refl)
 
 -- ---- the law
 
 -- the module that a header opens
 abbrev header_of : Module → OpenModule
-header_of m = record { found = record { name = m.name; size = m.size; pieces = []; defs = []; refs = []; entry = None }; load = spots.Relocatable 0 }
-
-header_line : (m : Module) → IsModule m → (rest : List ℕ)
-    → opening_line 0 (0x30 ∷ (hexadecimal m.size ++ (m.name ++ rest))) ≡ with_groups (0x30 ∷ (hexadecimal m.size ++ (m.name ++ rest))) 0 rest (header_of m)
-unfolding opening_line opened tag_of
-header_line m is rest =
-    let size : length (hexadecimal m.size ++ m.name) ≡ 12 = omega (arith, length-append (hexadecimal m.size) m.name, hexadecimal_length m.size, name_length m.name is.name) in
-    let line : List ℕ = 0x30 ∷ (hexadecimal m.size ++ (m.name ++ rest)) in
-    let left : with_groups line 12 (hexadecimal m.size ++ (m.name ++ rest)) (header_of m) ≡ with_groups line 0 rest (header_of m) =
-    ap (λ (xs : List ℕ). with_groups line 12 xs (header_of m)) (sym (append_assoc (hexadecimal m.size) m.name rest)) ∙ left_over line 12 (hexadecimal m.size ++ m.name) rest (header_of m) size in
-    rw (number_again m.size (m.name ++ rest) is.size, module_name_again 0x30 m.size m.name rest is.name) left
-
-header_opens : (m : Module) → IsModule m → (rest : List ℕ) → opening_line 0 (header_text m.size m.name ++ rest) ≡ with_groups (header_text m.size m.name ++ rest) 0 rest (header_of m)
-header_opens m is rest =
-    let named : padded 8 m.name ≡ m.name = name_padded m.name is.name in
-    let whole : header_text m.size m.name ++ rest ≡ 0x30 ∷ (hexadecimal m.size ++ (m.name ++ rest)) =
-    ap (λ (xs : List ℕ). (group tags.Header m.size ++ xs) ++ rest) named ∙ append_assoc (group tags.Header m.size) m.name rest in
-    subst (λ (xs : List ℕ). opening_line 0 xs ≡ with_groups xs 0 rest (header_of m)) (sym whole) (header_line m is rest)
+header_of m = opened m.size m.name
 
 header_length : (m : Module) → IsModule m → length (header_text m.size m.name) ≡ 13
 header_length m is =
     let named : padded 8 m.name ≡ m.name = name_padded m.name is.name in
-    length-append (group tags.Header m.size) (padded 8 m.name) ∙ (rw named (omega (arith, hexadecimal_length m.size, name_length m.name is.name)))
+    length-append (group tags.Header m.size) (padded 8 m.name) ∙ (rw named (omega (arith, digits_length m.size, name_length m.name is.name)))
 
-header_in_line : (m : Module) → IsModule m → InLine None 0 (with_item empty_line (Group (header_text m.size m.name))) (header_of m)
-header_in_line m is = record { goes = header_opens m is; plain = header_plain m.size m.name is.name; next = λ s e. cc }
+header_goes : (m : Module) → IsModule m → (last : ℕ) (rest : List ℕ)
+    → leads (start [] None last) [] (header_text m.size m.name ++ rest) ≡ leads (start [] (Some (header_of m)) last) (header_text m.size m.name) rest
+unfolding found_with begun tag_of
+header_goes m is last rest =
+    let named : padded 8 m.name ≡ m.name = name_padded m.name is.name in
+    let size : length (word_digits m.size ++ padded 8 m.name) ≡ 12 = length-append (word_digits m.size) (padded 8 m.name) ∙ (rw named (omega (arith, digits_length m.size, name_length m.name is.name))) in
+    let whole = append_assoc (word_digits m.size) m.name rest in
+    let found : found_at [] 0x30 ((word_digits m.size ++ padded 8 m.name) ++ rest) ≡ Whole 0x30 (Header m.size m.name) =
+    rw (named, whole, number_again m.size (m.name ++ rest) is.size, module_name_again 0x30 m.size m.name rest is.name) refl in
+    group_adds (start [] None last) (start [] (Some (header_of m)) last) [] 0x30 (word_digits m.size ++ padded 8 m.name) rest (Header m.size m.name) found refl size refl
+
+header_in_line : (m : Module) → IsModule m → InLine [] None (with_item empty_line (Group (header_text m.size m.name))) (header_of m)
+header_in_line m is = record { goes = header_goes m is; prints = header_prints m.size m.name is.name; next = λ s e. cc }
 
 -- the items behind the header
 abbrev items_behind : Module → List Item
@@ -394,9 +387,9 @@ module _ (m : Module) (is : IsModule m) (has : HasText m) where
       let fits : nat_le (0 + length (header_text m.size m.name)) 70 ≡ true = let n = header_length m is in grind (arith, nat_tests) in
       rw fits refl
 
-  read_whole : read_from nothing_found (left_lines (written m) 1 0) ≡ Ok (m ∷ [])
+  read_whole : kept_lines nothing_kept (left_lines (written m) 1 0) ≡ Ok (m ∷ [])
   read_whole =
-      read_lines (items_behind m) nothing_found (with_item empty_line (Group (header_text m.size m.name))) (header_of m) (whole_of m) 1 1 [] (written m) begins (header_in_line m is) runs
+      read_lines (items_behind m) nothing_kept (with_item empty_line (Group (header_text m.size m.name))) (header_of m) (whole_of m) 1 1 [] (written m) begins (header_in_line m is) runs
       ∙ ap (λ (f : Module). Ok (f ∷ [])) found_whole
 
 -- ---- the text is no records
@@ -423,7 +416,6 @@ feed_written (item ∷ items) line number =
     by false here there = feed_at_right (line_text number line.text) (written_from (number_after number) (with_item empty_line item) items) there
 
 pub written_modules_are_read : WrittenModulesAreRead
-unfolding read
 written_modules_are_read m is has =
     let feed : has_line_feed (written m) ≡ true = feed_written (items_of m) empty_line 1 in
-    rw feed (read_whole m is has)
+    read_is (written m) ∙ rw feed (read_whole m is has)

@@ -1,15 +1,10 @@
--- Numbers and names as characters, and the checksum.
+-- Line numbers and names as characters, and the checksum.
 use Rattle.std.specs.Prelude.{ℕ, ◌+◌, ◌-◌, ◌/◌, ◌%◌, List, [], ◌∷◌, ◌++◌, length, replicate, sum}
-use Rattle.source_defs.specs.Numbers.{hexadecimal_digit}
-
--- four hexadecimal digits
-unfoldable pub hexadecimal : ℕ → List ℕ
-hexadecimal number =
-    hexadecimal_digit (number / 4096 % 16) ∷ hexadecimal_digit (number / 256 % 16) ∷ hexadecimal_digit (number / 16 % 16) ∷ hexadecimal_digit (number % 16) ∷ []
 
 -- four decimal digits
 unfoldable pub decimal : ℕ → List ℕ
-decimal number = (0x30 + number / 1000 % 10) ∷ (0x30 + number / 100 % 10) ∷ (0x30 + number / 10 % 10) ∷ (0x30 + number % 10) ∷ []
+decimal number =
+    (0x30 + number / 1000 % 10) ∷ (0x30 + number / 100 % 10) ∷ (0x30 + number / 10 % 10) ∷ (0x30 + number % 10) ∷ []
 
 -- characters with blanks behind them up to a width
 abbrev pub padded : ℕ → List ℕ → List ℕ

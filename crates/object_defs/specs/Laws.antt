@@ -1,4 +1,4 @@
--- What a written module reads as, and where its words stand.
+-- What a written module reads as.
 use Rattle.std.specs.Prelude.{◌≡◌, ◌<◌, true, [], ◌∷◌, IfSome, Ok}
 use Rattle.std.specs.List.{AllByRecursion}
 use Rattle.source_defs.specs.Names.{is_kept_name}

@@ -1,7 +1,9 @@
 pub mod Modules
 pub mod Digits
 pub mod Tags
-pub mod Writing
+pub mod Fields
+pub mod Groups
 pub mod Reading
+pub mod Running
+pub mod Writing
 pub mod Laws
-pub mod Places

@@ -31,7 +31,7 @@ pub record Definition : Type 0 where
   pub name : List ℕ
   pub value : Spot
 
--- a REF name and the place of its last use: absolute 0 where it is never used
+-- A REF name and the place of its last use. Profile: absolute 0 where it is never used, as in the group `40000`.
 pub record Reference : Type 0 where
   pub name : List ℕ
   pub last : Spot
@@ -44,13 +44,15 @@ pub record Module : Type 0 where
   pub refs : List Reference
   pub entry : Option Spot
 
--- the limits: modules of one text; words, DEFs and REFs of one module
+-- Profile: a text has at most 64 modules.
 abbrev pub most_modules : ℕ
 most_modules = 64
 
+-- Profile: a module has at most 32,768 words, which is as many as there are even places.
 abbrev pub most_words : ℕ
 most_words = 32768
 
+-- Profile: a module has at most 256 DEFs, and at most 256 REFs.
 abbrev pub most_names : ℕ
 most_names = 256
 
@@ -68,9 +70,9 @@ is_module_name bytes = (length bytes == 8) && all_name_characters bytes
 abbrev pub StandsEven : Piece → Type 0
 StandsEven piece = number_of piece.at % 2 ≡ 0
 
--- what a module must be to have a text
+-- what a module must be to have a text: its words stand at even places, and it passes no limit
 pub record HasText (m : Module) : Type 0 where
   pub even_places : AllByRecursion StandsEven m.pieces
-  pub words : length m.pieces ≤ 32768
-  pub defs : length m.defs ≤ 256
-  pub refs : length m.refs ≤ 256
+  pub words : length m.pieces ≤ most_words
+  pub defs : length m.defs ≤ most_names
+  pub refs : length m.refs ≤ most_names

@@ -1,245 +1,157 @@
--- What an object text reads as: its modules, or its first bad place.
+-- The second step of reading: the modules that the groups of a text give, or its first bad place.
 --
 -- Editor/Assembler manual, "Tagged object code".
-use Rattle.std.specs.Prelude.{ℕ, zero, suc, ◌+◌, ◌-◌, ◌*◌, ◌/◌, ◌%◌, ◌==◌, Bool, true, false, not, ◌&&◌, nat_lt, nat_le, if◌then◌else◌, List, [], ◌∷◌, ◌++◌, length, take, drop, map, slice_range, Option, Some, None, is_some, Result, Ok, Err}
-use Rattle.std.specs.List.{list_all, list_any, range_with_len}
+use Rattle.std.specs.Prelude.{ℕ, zero, suc, ◌+◌, ◌*◌, ◌/◌, ◌%◌, ◌==◌, Bool, not, ◌&&◌, nat_lt, nat_le, if◌then◌else◌, List, [], ◌∷◌, ◌++◌, length, map, slice_range, Option, Some, None, is_some, Result, Ok, Err}
+use Rattle.std.specs.List.{list_any, range_with_len}
 use Rattle.source_defs.specs.declared.text.Line.{Line}
-use Rattle.source_defs.specs.Characters.{is_blank, is_line_feed}
+use Rattle.source_defs.specs.Characters.{is_line_feed}
 use Rattle.source_defs.specs.Lines.{part, lines}
-use Rattle.source_defs.specs.Names.{is_kept_name, all_printed}
-use Rattle.source_defs.specs.Numbers.{all_hexadecimal_digits, value_after}
+use Rattle.source_defs.specs.Refusals.{Refusal, ◌>>=◌, at_line}
 use Rattle.object_defs.specs.declared.spot.Spot.{Spot}
 use Rattle.object_defs.specs.declared.spot.Spot.TheVariants.{Relocatable}
+use Rattle.object_defs.specs.declared.spot.Piece.{Piece}
 use Rattle.object_defs.specs.declared.causes.TagCause.{TagCause}
-use Rattle.object_defs.specs.declared.causes.TagCause.TheVariants.{BadTag, BadDigit, ShortField, Checksum, NoEnd, TooMany}
-use Rattle.object_defs.specs.declared.tag.Kind.{Kind}
+use Rattle.object_defs.specs.declared.causes.TagCause.TheVariants.{BadTag, NoEnd, TooMany}
 use Rattle.object_defs.specs.declared.tag.Tag.{Tag}
 use Rattle.object_defs.specs.declared.tag.Tag.TheVariants as tags
-use Rattle.object_defs.specs.Modules.{Module, moved, even, all_name_characters, most_modules, most_words, most_names}
-use Rattle.object_defs.specs.Digits.{checksum}
-use Rattle.object_defs.specs.Tags.{tag_of, spot}
+use Rattle.object_defs.specs.Modules.{Module, Definition, Reference, moved, even, most_modules, most_words, most_names}
+use Rattle.object_defs.specs.Fields.{all_blank}
+use Rattle.object_defs.specs.Groups.{Group, Header, Entry, Referred, Defined, Address, Word, EndOfModule, FoundGroup, tag_found, character_found, group_found, groups_of}
 
--- the first cause goes on, else the value does
-infixl 10 ◌>>=◌
-abbrev pub ◌>>=◌ : {A B : Type 0} → Result A TagCause → (A → Result B TagCause) → Result B TagCause
-(Ok value) >>= next = next value
-(Err cause) >>= next = Err cause
+-- A module from its groups, of which the nearest stands first.
 
--- The fields behind a tag.
-
--- the four digits, of either case
--- Profile: a bad character of a field comes before the end of the line in it.
-unfoldable pub number_at : List ℕ → Result ℕ TagCause
-number_at fields =
-    let digits = take 4 fields in
-    if not (all_hexadecimal_digits digits) then Err BadDigit
-    else if nat_lt (length digits) 4 then Err ShortField
-    else Ok (value_after 16 0 digits)
-
--- the eight characters behind the digits
--- Profile: each of them is one from >20 to >7E.
-unfoldable pub module_name_at : ℕ → List ℕ → Result (List ℕ) TagCause
-module_name_at tag fields =
-    let name = take 8 (drop 4 fields) in
-    if not (all_name_characters name) then Err (BadTag tag)
-    else if nat_lt (length name) 8 then Err ShortField
-    else Ok name
-
-abbrev pub all_blank : List ℕ → Bool
-all_blank bytes = list_all is_blank bytes
-
--- the characters without the blanks at their end
-unfoldable pub without_blanks : List ℕ → List ℕ
-without_blanks [] = []
-without_blanks (byte ∷ bytes) = if all_blank (byte ∷ bytes) then [] else byte ∷ without_blanks bytes
-
--- a name in a field of six characters, of which the line may have fewer
--- Profile: without the blanks at its end it is one to six characters from >21 to >7E.
-abbrev pub symbol_in : ℕ → List ℕ → Result (List ℕ) TagCause
-symbol_in tag field =
-    if nat_lt (length field) 6 && all_printed (without_blanks field) then Err ShortField
-    else if is_kept_name (without_blanks field) then Ok (without_blanks field)
-    else Err (BadTag tag)
-
--- the six characters behind the digits
-unfoldable pub symbol_at : ℕ → List ℕ → Result (List ℕ) TagCause
-symbol_at tag fields = symbol_in tag (take 6 (drop 4 fields))
-
--- The groups of an open module.
-
--- the module that its groups give so far, and the load address
-pub record OpenModule : Type 0 where
-  pub found : Module
-  pub load : Spot
-
--- Profile: only one entry stands in a module.
-unfoldable pub with_entry : OpenModule → ℕ → Kind → List ℕ → Result OpenModule TagCause
-with_entry m tag kind fields =
-    if is_some m.found.entry then Err (BadTag tag) else do
-      number ← number_at fields
-      Ok (record m { found = record m.found { entry = Some (spot kind number) } })
-
--- Profile: a surplus group is refused before its digits are read.
-unfoldable pub with_reference : OpenModule → ℕ → Kind → List ℕ → Result OpenModule TagCause
-with_reference m tag kind fields =
-    if nat_le most_names (length m.found.refs) then Err TooMany else do
-      number ← number_at fields
-      name ← symbol_at tag fields
-      Ok (record m { found = record m.found { refs = m.found.refs ++ record { name = name; last = spot kind number } ∷ [] } })
-
-unfoldable pub with_definition : OpenModule → ℕ → Kind → List ℕ → Result OpenModule TagCause
-with_definition m tag kind fields =
-    if nat_le most_names (length m.found.defs) then Err TooMany else do
-      number ← number_at fields
-      name ← symbol_at tag fields
-      Ok (record m { found = record m.found { defs = m.found.defs ++ record { name = name; value = spot kind number } ∷ [] } })
-
+-- the last address group, or relocatable 0
 -- Profile: the lowest bit of a load address is dropped.
-unfoldable pub with_address : OpenModule → Kind → List ℕ → Result OpenModule TagCause
-with_address m kind fields = do
-  number ← number_at fields
-  Ok (record m { load = even (spot kind number) })
+abbrev pub last_address : List Group → Spot
+last_address [] = Relocatable 0
+last_address (Address at ∷ before) = even at
+last_address (_ ∷ before) = last_address before
 
--- a word at the load address, which grows by 2
-unfoldable pub with_word : OpenModule → Kind → List ℕ → Result OpenModule TagCause
-with_word m kind fields =
-    if nat_le most_words (length m.found.pieces) then Err TooMany else do
-      number ← number_at fields
-      Ok (record { found = record m.found { pieces = m.found.pieces ++ record { at = m.load; word = spot kind number } ∷ [] }; load = moved m.load 2 })
+-- the number of words behind the last address group
+abbrev pub words_since : List Group → ℕ
+words_since [] = 0
+words_since (Address at ∷ before) = 0
+words_since (Word word ∷ before) = words_since before + 1
+words_since (_ ∷ before) = words_since before
 
--- the checksum that a line has up to the tag 7, against the one that stands there
-unfoldable pub with_sum : OpenModule → ℕ → List ℕ → Result OpenModule TagCause
-with_sum m computed fields = do
-  number ← number_at fields
-  if number == computed then Ok m else Err (Checksum number computed)
+-- The place of a word: the last address group before it in its module, or relocatable 0, plus twice the number of
+-- words between.
+abbrev pub place_behind : List Group → Spot
+place_behind before = moved (last_address before) (2 * words_since before)
 
-unfoldable pub with_ignored : OpenModule → List ℕ → Result OpenModule TagCause
-with_ignored m fields = do
-  number ← number_at fields
-  Ok m
+abbrev pub pieces_of : List Group → List Piece
+pieces_of [] = []
+pieces_of (Word word ∷ before) = pieces_of before ++ record { at = place_behind before; word = word } ∷ []
+pieces_of (_ ∷ before) = pieces_of before
 
--- the module with one more group, where the line up to the group's tag has a checksum
-abbrev pub with_group : OpenModule → ℕ → ℕ → Tag → List ℕ → Result OpenModule TagCause
-with_group m computed byte tags.Header fields = Err (BadTag byte)
-with_group m computed byte (tags.Entry kind) fields = with_entry m byte kind fields
-with_group m computed byte (tags.Reference kind) fields = with_reference m byte kind fields
-with_group m computed byte (tags.Definition kind) fields = with_definition m byte kind fields
-with_group m computed byte tags.Sum fields = with_sum m computed fields
-with_group m computed byte tags.IgnoredSum fields = with_ignored m fields
-with_group m computed byte (tags.Address kind) fields = with_address m kind fields
-with_group m computed byte (tags.Word kind) fields = with_word m kind fields
-with_group m computed byte tags.EndOfLine fields = Ok m
-with_group m computed byte tags.EndOfModule fields = Err (BadTag byte)
+abbrev pub defs_of : List Group → List Definition
+defs_of [] = []
+defs_of (Defined definition ∷ before) = defs_of before ++ definition ∷ []
+defs_of (_ ∷ before) = defs_of before
 
--- how many characters a group has behind its tag
-abbrev pub group_size : Tag → ℕ
-group_size tags.Header = 12
-group_size (tags.Entry kind) = 4
-group_size (tags.Reference kind) = 10
-group_size (tags.Definition kind) = 10
-group_size tags.Sum = 4
-group_size tags.IgnoredSum = 4
-group_size (tags.Address kind) = 4
-group_size (tags.Word kind) = 4
-group_size tags.EndOfLine = 0
-group_size tags.EndOfModule = 0
+abbrev pub refs_of : List Group → List Reference
+refs_of [] = []
+refs_of (Referred reference ∷ before) = refs_of before ++ reference ∷ []
+refs_of (_ ∷ before) = refs_of before
 
-abbrev pub is_end_of_line : Option Tag → Bool
-is_end_of_line (Some tags.EndOfLine) = true
-is_end_of_line (Some _) = false
-is_end_of_line None = false
+abbrev pub entry_of : List Group → Option Spot
+entry_of [] = None
+entry_of (Entry at ∷ before) = Some at
+entry_of (_ ∷ before) = entry_of before
 
--- one group; `rest` says what the groups behind it give
-abbrev pub group_gives : OpenModule → ℕ → ℕ → Option Tag → List ℕ → (ℕ → OpenModule → Result OpenModule TagCause) → Result OpenModule TagCause
-group_gives m computed byte None fields rest = Err (BadTag byte)
-group_gives m computed byte (Some tag) fields rest = with_group m computed byte tag fields >>= λ m. rest (group_size tag) m
+abbrev pub size_of : List Group → ℕ
+size_of [] = 0
+size_of (Header size name ∷ before) = size
+size_of (_ ∷ before) = size_of before
 
--- The groups in the rest of a line, after the characters that are left of a group before them. What follows the tag F
--- is ignored. Profile: a line may end without it. The checksum is that of the line's characters from the first through the group's tag.
-unfoldable pub with_groups : List ℕ → ℕ → List ℕ → OpenModule → Result OpenModule TagCause
-with_groups line left [] m = Ok m
-with_groups line (suc left) (byte ∷ fields) m = with_groups line left fields m
-with_groups line zero (byte ∷ fields) m =
-    if is_end_of_line (tag_of byte) then Ok m
-    else group_gives m (checksum (take (length line - length fields) line)) byte (tag_of byte) fields (λ left m. with_groups line left fields m)
+abbrev pub name_of : List Group → List ℕ
+name_of [] = []
+name_of (Header size name ∷ before) = name
+name_of (_ ∷ before) = name_of before
 
--- The lines of a text.
+abbrev pub module_of : List Group → Module
+module_of groups =
+    record {
+      name = name_of groups;
+      size = size_of groups;
+      pieces = pieces_of groups;
+      defs = defs_of groups;
+      refs = refs_of groups;
+      entry = entry_of groups;
+    }
 
--- the modules that lines give: those that have ended, the one that is open, and the last line that is not blank
+-- Which tags may stand. Profile: a tag that may not, or that passes a limit, is refused before its fields are.
+
+-- where no module is open and some have ended: a module begins with the tag 0
+abbrev pub stands_first : ℕ → ℕ → Option Tag → Result Tag TagCause
+stands_first ended character (Some tags.Header) = if nat_le most_modules ended then Err TooMany else Ok tags.Header
+stands_first ended character _ = Err (BadTag character)
+
+-- behind the groups of its module: neither a second header nor a second entry
+abbrev pub stands_behind : Module → ℕ → Option Tag → Result Tag TagCause
+stands_behind m character None = Err (BadTag character)
+stands_behind m character (Some tags.Header) = Err (BadTag character)
+stands_behind m character (Some (tags.Entry kind)) =
+    if is_some m.entry then Err (BadTag character) else Ok (tags.Entry kind)
+stands_behind m character (Some (tags.Reference kind)) =
+    if nat_le most_names (length m.refs) then Err TooMany else Ok (tags.Reference kind)
+stands_behind m character (Some (tags.Definition kind)) =
+    if nat_le most_names (length m.defs) then Err TooMany else Ok (tags.Definition kind)
+stands_behind m character (Some (tags.Word kind)) =
+    if nat_le most_words (length m.pieces) then Err TooMany else Ok (tags.Word kind)
+stands_behind m character (Some tag) = Ok tag
+
+-- no groups: no module is open
+abbrev pub stands : ℕ → List Group → ℕ → Option Tag → Result Tag TagCause
+stands ended [] character tag = stands_first ended character tag
+stands ended (group ∷ before) character tag = stands_behind (module_of (group ∷ before)) character tag
+
+-- The groups of a text, one after the other.
+
+-- the modules that have ended, and the groups of the one that has not: the nearest first, none where no module is open
 pub record Found : Type 0 where
   pub modules : List Module
-  pub current : Option OpenModule
-  pub last : ℕ
+  pub current : List Group
 
 abbrev pub nothing_found : Found
-nothing_found = record { modules = []; current = None; last = 0 }
+nothing_found = record { modules = []; current = [] }
 
--- the first group of a module, behind its tag. A load address starts at relocatable 0.
-unfoldable pub opened : ℕ → List ℕ → Result OpenModule TagCause
-opened tag fields = do
-  size ← number_at fields
-  name ← module_name_at tag fields
-  Ok (record { found = record { name = name; size = size; pieces = []; defs = []; refs = []; entry = None }; load = Relocatable 0 })
+abbrev pub added : Found → Group → Found
+added found EndOfModule = record { modules = found.modules ++ module_of found.current ∷ []; current = [] }
+added found group = record found { current = group ∷ found.current }
 
-abbrev pub is_header : Option Tag → Bool
-is_header (Some tags.Header) = true
-is_header (Some _) = false
-is_header None = false
+-- A group is added where its tag may stand and it is whole.
+abbrev pub with_group : Found → FoundGroup → Result Found TagCause
+with_group found at = do
+  tag ← stands (length found.modules) found.current (character_found at) (tag_found at)
+  group ← group_found at
+  Ok (added found group)
 
--- a line where no module is open; it is not blank, so it has a character
-unfoldable pub opening_line : ℕ → List ℕ → Result OpenModule TagCause
-opening_line ended [] = Err ShortField
-opening_line ended (byte ∷ fields) =
-    if not (is_header (tag_of byte)) then Err (BadTag byte)
-    else if nat_le most_modules ended then Err TooMany
-    else opened byte fields >>= λ m. with_groups (byte ∷ fields) (group_size tags.Header) fields m
-
--- the tag of the end of a module stands first in the line, and what follows it is ignored
-abbrev pub ends_module : List ℕ → Bool
-ends_module [] = false
-ends_module (byte ∷ fields) = byte == 0x3A
-
-abbrev pub with_current : Found → OpenModule → Found
-with_current found m = record found { current = Some m }
-
--- a line that is not blank
-abbrev pub after_line_by : Option OpenModule → Found → List ℕ → Result Found TagCause
-after_line_by None found line = opening_line (length found.modules) line >>= λ m. Ok (with_current found m)
-after_line_by (Some m) found line =
-    if ends_module line then Ok (record found { modules = found.modules ++ m.found ∷ []; current = None })
-    else with_groups line 0 line m >>= λ m. Ok (with_current found m)
-
--- a refused line, by its number
-pub record Refusal : Type 0 where
-  pub line : ℕ
-  pub cause : TagCause
+abbrev pub with_groups : Found → List FoundGroup → Result Found TagCause
+with_groups found [] = Ok found
+with_groups found (group ∷ groups) = with_group found group >>= λ found. with_groups found groups
 
 pub record NumberedLine : Type 0 where
   pub number : ℕ
   pub text : List ℕ
 
-abbrev pub refused_at : {A : Type 0} → ℕ → Result A TagCause → Result A Refusal
-refused_at number (Ok value) = Ok value
-refused_at number (Err cause) = Err (record { line = number; cause = cause })
+abbrev pub with_lines : Found → List NumberedLine → Result Found (Refusal TagCause)
+with_lines found [] = Ok found
+with_lines found (line ∷ lines) =
+    at_line line.number (with_groups found (groups_of line.text)) >>= λ found. with_lines found lines
 
--- Profile: lines of blanks are skipped.
-unfoldable pub after_line : Found → NumberedLine → Result Found Refusal
-after_line found line =
-    if all_blank line.text then Ok found
-    else refused_at line.number (after_line_by found.current (record found { last = line.number }) line.text)
+-- the number of the last line that is not blank, or one from before
+abbrev pub last_number : ℕ → List NumberedLine → ℕ
+last_number last [] = last
+last_number last (line ∷ lines) = last_number (if all_blank line.text then last else line.number) lines
 
-abbrev pub ended : Found → Option OpenModule → Result (List Module) Refusal
-ended found None = Ok found.modules
-ended found (Some m) = Err (record { line = found.last; cause = NoEnd })
+-- the modules, where each has its end
+-- Profile: a missing end is refused at the last line that is not blank.
+abbrev pub ended : ℕ → List Module → List Group → Result (List Module) (Refusal TagCause)
+ended last modules [] = Ok modules
+ended last modules (group ∷ groups) = Err (record { line = last; cause = NoEnd })
 
-abbrev pub and_then : {A B : Type 0} → Result A Refusal → (A → Result B Refusal) → Result B Refusal
-and_then (Ok value) next = next value
-and_then (Err refused) next = Err refused
-
--- what is found in the end, with the lines that follow
-unfoldable pub read_from : Found → List NumberedLine → Result (List Module) Refusal
-read_from found [] = ended found found.current
-read_from found (line ∷ lines) = and_then (after_line found line) (λ found. read_from found lines)
+-- The lines of a text.
 
 abbrev pub columns : ℕ
 columns = 80
@@ -264,5 +176,7 @@ abbrev pub text_lines : List ℕ → List NumberedLine
 text_lines text = if is_records text then records text else map (numbered_line text) (lines text)
 
 -- the modules of a text, or its first bad place
-unfoldable pub read : List ℕ → Result (List Module) Refusal
-read text = read_from nothing_found (text_lines text)
+unfoldable pub read : List ℕ → Result (List Module) (Refusal TagCause)
+read text = do
+  found ← with_lines nothing_found (text_lines text)
+  ended (last_number 0 (text_lines text)) found.modules found.current

@@ -8,12 +8,13 @@ use Rattle.object_defs.specs.declared.spot.Piece.{Piece}
 use Rattle.object_defs.specs.declared.tag.Tag.{Tag}
 use Rattle.object_defs.specs.declared.tag.Tag.TheVariants as tags
 use Rattle.object_defs.specs.Modules.{Module, Definition, Reference, number_of, moved, same_spot}
-use Rattle.object_defs.specs.Digits.{hexadecimal, decimal, padded, checksum}
+use Rattle.source_defs.specs.Digits.{word_digits}
+use Rattle.object_defs.specs.Digits.{decimal, padded, checksum}
 use Rattle.object_defs.specs.Tags.{tag_character, kind_of}
 
 -- a tag and four digits
 abbrev pub group : Tag → ℕ → List ℕ
-group tag number = tag_character tag ∷ hexadecimal number
+group tag number = tag_character tag ∷ word_digits number
 
 abbrev pub header_text : ℕ → List ℕ → List ℕ
 header_text size name = group tags.Header size ++ padded 8 name
@@ -25,10 +26,12 @@ abbrev pub word_text : Spot → List ℕ
 word_text word = group (tags.Word (kind_of word)) (number_of word)
 
 abbrev pub definition_text : Definition → List ℕ
-definition_text definition = group (tags.Definition (kind_of definition.value)) (number_of definition.value) ++ padded 6 definition.name
+definition_text definition =
+    group (tags.Definition (kind_of definition.value)) (number_of definition.value) ++ padded 6 definition.name
 
 abbrev pub reference_text : Reference → List ℕ
-reference_text reference = group (tags.Reference (kind_of reference.last)) (number_of reference.last) ++ padded 6 reference.name
+reference_text reference =
+    group (tags.Reference (kind_of reference.last)) (number_of reference.last) ++ padded 6 reference.name
 
 abbrev pub entry_text : Spot → List ℕ
 entry_text entry = group (tags.Entry (kind_of entry)) (number_of entry)
@@ -61,10 +64,12 @@ abbrev pub is_next : Option Spot → Spot → List ℕ → List ℕ → List ℕ
 is_next None at there elsewhere = elsewhere
 is_next (Some next) at there elsewhere = if same_spot next at then there else elsewhere
 
--- A word has an address group before it where its place is not the one after the word before it on the same line.
+-- Profile: a word has an address group before it where its place is not the one after the word before it on the same
+-- line.
 abbrev pub item_text : Option Spot → Item → List ℕ
 item_text next (Group text) = text
-item_text next (Placed piece) = is_next next piece.at (word_text piece.word) (address_text piece.at ++ word_text piece.word)
+item_text next (Placed piece) =
+    is_next next piece.at (word_text piece.word) (address_text piece.at ++ word_text piece.word)
 
 abbrev pub next_after : Option Spot → Item → Option Spot
 next_after next (Group text) = next
@@ -73,13 +78,14 @@ next_after next (Placed piece) = Some (moved piece.at 2)
 abbrev pub with_item : Line → Item → Line
 with_item line item = record { text = line.text ++ item_text line.next item; next = next_after line.next item }
 
--- the columns of a line that groups may take
+-- Profile: the groups of a line take at most 70 columns, before its checksum.
 abbrev pub group_columns : ℕ
 group_columns = 70
 
 -- the groups, the checksum up to its own tag, and the end of the line
 abbrev pub summed : List ℕ → List ℕ
-summed text = text ++ (group tags.Sum (checksum (text ++ tag_character tags.Sum ∷ [])) ++ tag_character tags.EndOfLine ∷ [])
+summed text =
+    text ++ (group tags.Sum (checksum (text ++ tag_character tags.Sum ∷ [])) ++ tag_character tags.EndOfLine ∷ [])
 
 -- Profile: a line is padded to column 76; then stand its number in four digits and a line feed.
 abbrev pub numbered : ℕ → List ℕ → List ℕ
@@ -91,15 +97,16 @@ line_text number text = numbered number (summed text)
 abbrev pub last_line_text : ℕ → List ℕ
 last_line_text number = numbered number (tag_character tags.EndOfModule ∷ [])
 
--- the number of the line after one: lines count from 1 modulo 10,000
+-- Profile: lines count from 1 modulo 10,000.
 abbrev pub number_after : ℕ → ℕ
 number_after number = (number + 1) % 10000
 
--- An item that does not fit in the columns begins a new line, an address group together with its word.
+-- Profile: an item that does not fit in the columns begins a new line, an address group together with its word.
 unfoldable pub written_from : ℕ → Line → List Item → List ℕ
 written_from number line [] = line_text number line.text ++ last_line_text (number_after number)
 written_from number line (item ∷ items) =
-    if nat_le (length line.text + length (item_text line.next item)) group_columns then written_from number (with_item line item) items
+    if nat_le (length line.text + length (item_text line.next item)) group_columns
+    then written_from number (with_item line item) items
     else line_text number line.text ++ written_from (number_after number) (with_item empty_line item) items
 
 -- the text of a module

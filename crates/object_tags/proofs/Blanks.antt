@@ -3,7 +3,7 @@ use Rattle.std.proofs.Common.{◌≡◌, ℕ, Bool, true, false, List, [], ◌�
 use Rattle.std.proofs.lemmas.List.{take_more}
 use Rattle.std.specs.Prelude.{◌&&◌, if◌then◌else◌}
 use Rattle.source_defs.specs.Characters.{is_blank}
-use Rattle.object_defs.specs.Reading.{all_blank, without_blanks}
+use Rattle.object_defs.specs.Fields.{all_blank, without_blanks}
 
 and_true : (b : Bool) → (b && true) ≡ b
 and_true true = refl

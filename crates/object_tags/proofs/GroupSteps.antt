@@ -1,78 +1,111 @@
 -- The groups of a line, one by one.
-use Rattle.std.proofs.Common.{◌≡◌, ℕ, zero, suc, ◌-◌, ◌<◌, ◌≤◌, get_or, true, false, List, [], ◌∷◌, length, take, drop, Some, None, Result, Ok, Err, refl, sym, ap, ◌∙◌, arith}
-use Rattle.std.specs.Prelude.{nat_le}
-use Rattle.std.proofs.lemmas.Bool.Decides.{nat_tests}
+use Rattle.std.proofs.Common.{◌≡◌, ℕ, zero, suc, ◌+◌, ◌-◌, ◌%◌, ◌<◌, ◌≤◌, get_or, cond, List, [], ◌∷◌, ◌++◌, length, take, drop, sum, refl, sym, ap, subst, ◌∙◌, append_assoc, append-nil, length-append, length-drop, take-append-drop, Result, Ok, arith}
+use Rattle.std.proofs.lemmas.List.{take_at, drop_at, length-take-le, take_more, drop_more, nil_from_length}
+use Rattle.std.proofs.lemmas.List.Sums.{sum_by-append}
 use Rattle.object_defs.specs.declared.causes.TagCause.{TagCause}
-use Rattle.object_defs.specs.declared.causes.TagCause.TheVariants.{BadTag}
-use Rattle.object_defs.specs.declared.tag.Tag.{Tag}
-use Rattle.object_defs.specs.Digits.{checksum}
+use Rattle.object_defs.specs.Digits.{complement, checksum}
+use Rattle.object_defs.specs.Groups.{FoundGroup, tag_at, found_with, ends_line, size_found, groups_from}
+use Rattle.object_defs.specs.Running.{Kept, kept_with, kept_groups}
 use Rattle.object_tags.specs.declared.error.Failure.{Failure}
 use Rattle.object_tags.specs.declared.error.Failure.TheVariants as failures
 use Rattle.object_tags.specs.Answers.{Fails}
-use Rattle.object_defs.specs.Tags.{tag_of}
-use Rattle.object_defs.specs.Reading.{OpenModule, with_group, with_groups, group_size, is_end_of_line, is_header, opened, opening_line}
+
+sum-append : (a b : List ℕ) → sum (a ++ b) ≡ sum a + sum b
+sum-append a b = sum_by-append (λ (x : ℕ). x) a b
 
 -- the characters that are left of a group are passed over
-pub skipped : (line : List ℕ) (left : ℕ) (fields : List ℕ) (m : OpenModule) → with_groups line left fields m ≡ with_groups line 0 (drop left fields) m
-unfolding with_groups
-skipped line zero fields m = refl
-skipped line (suc left) [] m = refl
-skipped line (suc left) (byte ∷ fields) m = skipped line left fields m
+passed_over : (before : List ℕ) (left : ℕ) (rest : List ℕ) → groups_from before left rest ≡ groups_from (before ++ take left rest) 0 (drop left rest)
+unfolding groups_from
+passed_over before zero rest = ap (λ (b : List ℕ). groups_from b 0 rest) (sym (append-nil before))
+passed_over before (suc left) [] = refl
+passed_over before (suc left) (byte ∷ rest) =
+    passed_over (before ++ byte ∷ []) left rest ∙ ap (λ (b : List ℕ). groups_from b 0 (drop left rest)) (append_assoc before (byte ∷ []) (take left rest))
 
--- what stands in front
-pub first_and_rest : (xs : List ℕ) → 1 ≤ length xs → xs ≡ get_or xs 0 0 ∷ drop 1 xs
-first_and_rest [] h = absurd (omega arith)
-first_and_rest (x ∷ xs) h = refl
+-- a line up to a place, some characters behind it, and the rest
+module _ (line : List ℕ) (at left : ℕ) (inside : at ≤ length line) where
+  abbrev passed : List ℕ
+  passed = take left (drop at line)
 
--- a line that opens a module
-pub opens : (ended : ℕ) (line : List ℕ) (m : OpenModule) → 1 ≤ length line → is_header (tag_of (get_or line 0 0)) ≡ true → ended < 64
-    → opened (get_or line 0 0) (drop 1 line) ≡ Ok m → opening_line ended line ≡ with_groups line 0 (drop 13 line) m
-unfolding opening_line
-opens ended [] m h header few begun = absurd (omega arith)
-opens ended (byte ∷ fields) m h header few begun =
-    let fits : nat_le 64 ended ≡ false = grind (arith, nat_tests) in
-    rw (header, fits, begun) (skipped (byte ∷ fields) 12 fields m)
+  abbrev rest : List ℕ
+  rest = drop left (drop at line)
+
+  parts : line ≡ (take at line ++ passed) ++ rest
+  parts =
+      sym (take-append-drop at line) ∙ (ap (λ (xs : List ℕ). take at line ++ xs) (sym (take-append-drop left (drop at line))) ∙ sym (append_assoc (take at line) passed rest))
+
+  size : length (take at line ++ passed) ≡ at + length passed
+  size = length-append (take at line) passed ∙ ap (λ (n : ℕ). n + length passed) (length-take-le at line inside)
+
+  pub front_is : take (at + length passed) line ≡ take at line ++ passed
+  front_is = ap (take (at + length passed)) parts ∙ take_at (take at line ++ passed) rest (at + length passed) size
+
+  rest_is : drop (at + length passed) line ≡ rest
+  rest_is = ap (drop (at + length passed)) parts ∙ drop_at (take at line ++ passed) rest (at + length passed) size
+
+  pub passed_within : at + length passed ≤ length line
+  passed_within = omega (arith, size, ap length parts, length-append (take at line ++ passed) rest)
+
+  -- the groups behind the characters
+  pub groups_behind : groups_from (take (at + length passed) line) 0 (drop (at + length passed) line) ≡ groups_from (take at line) left (drop at line)
+  groups_behind = rw (front_is, rest_is) (sym (passed_over (take at line) left (drop at line)))
+
+  -- the sum of the line through them
+  pub sum_behind : (total : ℕ) → total ≡ sum (take at line) % 65536 → (total + sum passed % 65536) % 65536 ≡ sum (take (at + length passed) line) % 65536
+  sum_behind total is = rw front_is (omega (arith, is, sum-append (take at line) passed))
+
+-- the next character of a line
+module _ (line : List ℕ) (at : ℕ) (inside : at < length line) where
+  abbrev byte : ℕ
+  byte = get_or line at 0
+
+  abbrev before : List ℕ
+  before = take at line
+
+  one : take (at + 1) line ≡ before ++ byte ∷ []
+  one = take_more line at 0 inside
+
+  cut : drop at line ≡ byte ∷ drop (at + 1) line
+  cut = drop_more line at 0 inside
+
+  pub next_sum : (total : ℕ) → total ≡ sum before % 65536 → (total + byte) % 65536 ≡ sum (take (at + 1) line) % 65536
+  next_sum total is = rw one (omega (arith, is, sum-append before (byte ∷ [])))
+
+  pub next_checksum : (total : ℕ) → total ≡ sum before % 65536 → complement ((total + byte) % 65536) ≡ checksum (before ++ byte ∷ [])
+  unfolding checksum
+  next_checksum total is =
+      let added : ((total + byte) % 65536) % 65536 ≡ sum (before ++ byte ∷ []) % 65536 = omega (arith, is, sum-append before (byte ∷ [])) in
+      ap (λ (n : ℕ). (65536 - n) % 65536) added
+
+  -- what stands in the place of a group, and the groups behind it
+  pub first_group : (found : FoundGroup) → found ≡ found_with (checksum (before ++ byte ∷ [])) byte (tag_at at byte) (drop (at + 1) line)
+      → groups_from before 0 (drop at line) ≡ found ∷ cond (ends_line found) [] (groups_from (take (at + 1) line) (size_found found) (drop (at + 1) line))
+  unfolding groups_from
+  first_group found is =
+      let place : length before ≡ at = length-take-le at line (omega (arith, inside)) in
+      rw (cut, place, ← is, one) refl
 
 -- no group is left
-pub no_group : (line : List ℕ) (m : OpenModule) → with_groups line 0 [] m ≡ Ok m
-unfolding with_groups
-no_group line m = refl
+pub no_groups : (line : List ℕ) (at : ℕ) → at ≡ length line → groups_from (take at line) 0 (drop at line) ≡ []
+unfolding groups_from
+no_groups line at e = let none : drop at line ≡ [] = nil_from_length (drop at line) (omega (arith, length-drop at line)) in rw none refl
 
--- the groups in the rest of a line, of which some are left
-module _ (line rest : List ℕ) (m : OpenModule) (total : Result OpenModule TagCause) (some : 1 ≤ length rest) (so_far : with_groups line 0 rest m ≡ total) where
-  abbrev byte : ℕ
-  byte = get_or rest 0 0
+pub none_left : groups_from [] 0 [] ≡ []
+unfolding groups_from
+none_left = refl
 
-  abbrev fields : List ℕ
-  fields = drop 1 rest
-
-  abbrev computed : ℕ
-  computed = checksum (take (length line - length fields) line)
-
-  split : with_groups line 0 (byte ∷ fields) m ≡ total
-  split = ap (λ (r : List ℕ). with_groups line 0 r m) (sym (first_and_rest rest some)) ∙ so_far
-
-  -- the end of the line
-  pub line_ends : is_end_of_line (tag_of byte) ≡ true → total ≡ Ok m
-  unfolding with_groups
-  line_ends e = sym split ∙ rw e refl
-
-  -- no tag
-  pub no_tag : tag_of byte ≡ None → total ≡ Err (BadTag byte)
-  unfolding with_groups
-  no_tag e = sym split ∙ rw e refl
-
-  refused : (tag : Tag) (cause : TagCause) → tag_of byte ≡ Some tag → is_end_of_line (Some tag) ≡ false → with_group m computed byte tag fields ≡ Err cause → total ≡ Err cause
-  unfolding with_groups
-  refused tag cause e other r = sym split ∙ rw (e, other, r) refl
-
-  -- a group that is not added
-  pub group_fails : (tag : Tag) (failure : Failure) → tag_of byte ≡ Some tag → is_end_of_line (Some tag) ≡ false → Fails failure (with_group m computed byte tag fields) → Fails failure total
-  group_fails tag failures.Memory e other r = tt
-  group_fails tag (failures.Cause cause) e other r = refused tag cause e other r
-
+-- the groups that are left of a line, and what they lead to
+module _ (total : Result Kept TagCause) (kept : Kept) (group : FoundGroup) (groups : List FoundGroup) (so_far : total ≡ kept_groups kept (group ∷ groups)) where
   -- a group that is added
-  pub group_added : (tag : Tag) (after : OpenModule) → tag_of byte ≡ Some tag → is_end_of_line (Some tag) ≡ false → with_group m computed byte tag fields ≡ Ok after
-      → with_groups line 0 (drop (group_size tag) fields) after ≡ total
-  unfolding with_groups
-  group_added tag after e other r = sym (sym split ∙ rw (e, other, r) (skipped line (group_size tag) fields after))
+  pub group_added : (after : Kept) → kept_with kept group ≡ Ok after → total ≡ kept_groups after groups
+  unfolding kept_groups
+  group_added after e = so_far ∙ rw e refl
+
+  -- a group that is not
+  pub group_fails : (failure : Failure) → Fails failure (kept_with kept group) → Fails failure total
+  unfolding kept_groups
+  group_fails failures.Memory e = tt
+  group_fails (failures.Cause cause) e = so_far ∙ rw e refl
+
+pub all_added : (kept : Kept) → kept_groups kept [] ≡ Ok kept
+unfolding kept_groups
+all_added kept = refl

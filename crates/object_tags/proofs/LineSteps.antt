@@ -2,25 +2,28 @@
 use Rattle.std.proofs.Common.{◌≡◌, ℕ, suc, ◌+◌, ◌-◌, ◌<◌, arith, List, ◌∷◌, Result, Ok, refl, ◌∙◌}
 use Rattle.std.specs.List.{range_with_len}
 use Rattle.object_defs.specs.Modules as defined
-use Rattle.object_defs.specs.Reading.{Found, Refusal, NumberedLine, after_line, read_from}
+use Rattle.source_defs.specs.Refusals.{Refusal}
+use Rattle.object_defs.specs.declared.causes.TagCause.{TagCause}
+use Rattle.object_defs.specs.Reading.{NumberedLine}
+use Rattle.object_defs.specs.Running.{Kept, kept_line, kept_lines}
 use Rattle.object_tags.specs.declared.error.TagError.{TagError}
 use Rattle.object_tags.specs.declared.error.TagError.TheVariants.{At, Memory}
 use Rattle.object_tags.specs.Answers.{Refuses}
 
-module _ (total : Result (List defined.Module) Refusal) (found : Found) (line : NumberedLine) (lines : List NumberedLine) (so_far : total ≡ read_from found (line ∷ lines)) where
+module _ (total : Result (List defined.Module) (Refusal TagCause)) (kept : Kept) (line : NumberedLine) (lines : List NumberedLine) (so_far : total ≡ kept_lines kept (line ∷ lines)) where
   -- a line that is read
-  pub line_read : (after : Found) → after_line found line ≡ Ok after → total ≡ read_from after lines
-  unfolding read_from
+  pub line_read : (after : Kept) → kept_line kept line ≡ Ok after → total ≡ kept_lines after lines
+  unfolding kept_lines
   line_read after e = so_far ∙ rw e refl
 
   -- a line that is not
-  pub line_refused : (error : TagError) → Refuses error (after_line found line) → Refuses error total
-  unfolding read_from
+  pub line_refused : (error : TagError) → Refuses error (kept_line kept line) → Refuses error total
+  unfolding kept_lines
   line_refused (At number cause) e = so_far ∙ rw e refl
   line_refused Memory e = tt
 
 -- a refusal of the same text
-pub refuses_same : (error : TagError) (a b : Result (List defined.Module) Refusal) → a ≡ b → Refuses error b → Refuses error a
+pub refuses_same : (error : TagError) (a b : Result (List defined.Module) (Refusal TagCause)) → a ≡ b → Refuses error b → Refuses error a
 refuses_same (At number cause) a b same e = same ∙ e
 refuses_same Memory a b same e = tt
 

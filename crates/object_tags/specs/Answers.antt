@@ -2,7 +2,8 @@
 use Rattle.std.specs.Prelude.{◌≡◌, ⊤, List, map, Result, Ok, Err}
 use Rattle.object_defs.specs.declared.causes.TagCause.{TagCause}
 use Rattle.object_defs.specs.Modules as defined
-use Rattle.object_defs.specs.Reading as reading
+use Rattle.source_defs.specs.Refusals.{Refusal}
+use Rattle.object_defs.specs.Running as running
 use Rattle.object_tags.specs.declared.error.Failure.{Failure}
 use Rattle.object_tags.specs.declared.error.Failure.TheVariants as failures
 use Rattle.object_tags.specs.declared.error.TagError.{TagError}
@@ -12,7 +13,7 @@ use Rattle.object_tags.specs.declared.open_module.OpenModule.{OpenModule}
 use Rattle.object_tags.specs.Seen.{defined_module}
 
 -- the module that is open
-abbrev pub defined_open : OpenModule → reading.OpenModule
+abbrev pub defined_open : OpenModule → running.OpenModule
 defined_open m = record { found = defined_module m.found; load = m.load }
 
 -- the modules that have ended
@@ -35,11 +36,11 @@ Leaves (Ok _) after read = read ≡ Ok after
 Leaves (Err failure) after read = Fails failure read
 
 -- The first bad place is the one that is defined; want of memory says nothing.
-abbrev pub Refuses : {Y : Type 0} → TagError → Result Y reading.Refusal → Type 0
+abbrev pub Refuses : {Y : Type 0} → TagError → Result Y (Refusal TagCause) → Type 0
 Refuses (At line cause) read = read ≡ Err (record { line = line; cause = cause })
 Refuses Memory read = ⊤
 
 -- The value is the one that is defined, and so is the first bad place.
-abbrev pub Gives : {X Y : Type 0} → (X → Y) → Result X TagError → Result Y reading.Refusal → Type 0
+abbrev pub Gives : {X Y : Type 0} → (X → Y) → Result X TagError → Result Y (Refusal TagCause) → Type 0
 Gives view (Ok value) read = read ≡ Ok (view value)
 Gives view (Err error) read = Refuses error read

@@ -1,11 +1,14 @@
 pub use Rattle.object_defs.specs.Modules
 pub use Rattle.object_defs.specs.Digits
 pub use Rattle.object_defs.specs.Tags
-pub use Rattle.object_defs.specs.Writing
+pub use Rattle.object_defs.specs.Fields
+pub use Rattle.object_defs.specs.Groups
 pub use Rattle.object_defs.specs.Reading
+pub use Rattle.object_defs.specs.Running
+pub use Rattle.object_defs.specs.Writing
 pub use Rattle.object_defs.specs.Laws
-pub use Rattle.object_defs.specs.Places
 pub mod Seen
+pub mod SeenGroups
 pub mod Lines
 pub mod Answers
 pub mod Reads

@@ -1,21 +1,29 @@
--- What the reader has found, and what is to come.
+-- What the reader has kept, and what is to come.
 use Rattle.std.specs.Prelude.{◌≡◌, List, [], Result, Ok, Err}
 use Rattle.std.specs.Option.{option_map}
-use Rattle.object_defs.specs.Reading.{Found, Refusal, NumberedLine, read_from}
+use Rattle.source_defs.specs.Refusals.{Refusal}
+use Rattle.object_defs.specs.declared.causes.TagCause.{TagCause}
+use Rattle.object_defs.specs.Reading.{NumberedLine}
+use Rattle.object_defs.specs.Running.{Kept, kept_lines}
 use Rattle.object_tags.specs.declared.error.TagError.{TagError}
 use Rattle.object_tags.specs.declared.reader.Reader.{Reader}
 use Rattle.object_tags.specs.Answers.{defined_modules, defined_open, Refuses}
 
--- what the reader has found
-abbrev pub found_of : Reader → Found
-found_of reader = record { modules = defined_modules reader.modules.items; current = option_map defined_open reader.current; last = reader.last }
+-- what the reader has kept
+abbrev pub kept_of : Reader → Kept
+kept_of reader =
+    record {
+      modules = defined_modules reader.modules.items;
+      current = option_map defined_open reader.current;
+      last = reader.last;
+    }
 
 -- a line leaves what is defined, or is refused as defined
-abbrev pub TakesLine : {T : Type 0} → Result T TagError → Found → Result Found Refusal → Type 0
+abbrev pub TakesLine : {T : Type 0} → Result T TagError → Kept → Result Kept (Refusal TagCause) → Type 0
 TakesLine (Ok _) after defined = defined ≡ Ok after
 TakesLine (Err error) after defined = Refuses error defined
 
 -- lines were read, and no lines follow, or they are refused
 abbrev pub Reads : {T : Type 0} → Result T TagError → Reader → Reader → List NumberedLine → Type 0
-Reads (Ok _) before after lines = read_from (found_of before) lines ≡ read_from (found_of after) []
-Reads (Err error) before after lines = Refuses error (read_from (found_of before) lines)
+Reads (Ok _) before after lines = kept_lines (kept_of before) lines ≡ kept_lines (kept_of after) []
+Reads (Err error) before after lines = Refuses error (kept_lines (kept_of before) lines)

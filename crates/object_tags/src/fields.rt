@@ -1,14 +1,13 @@
 //! The fields behind a tag.
 
 ghost use Rattle.std.specs.Prelude.{◌≡◌, true, length, take, drop};
-ghost use Rattle.source_defs.specs.Characters as characters;
 ghost use Rattle.source_defs.specs.Names as names;
 ghost use Rattle.source_defs.specs.Numbers.{all_hexadecimal_digits, value_after};
-ghost use Rattle.source_defs.specs.Numbers as spec;
-ghost use Rattle.object_defs.specs.Reading as reading;
+ghost use Rattle.source_defs.specs.Numbers as numbers;
+ghost use Rattle.object_defs.specs.Fields as spec;
 
 use crate::module_name::{ModuleName, all_name_characters};
-use asm_text::Name;
+use asm_text::{Name, is_blank, is_printed};
 use object_defs::TagCause;
 
 /// The first `count` bytes, or all where there are fewer.
@@ -36,9 +35,9 @@ pub(crate) fn behind(bytes: &[u8], count: usize) -> &[u8]
 /// The number of the four digits in front.
 ///
 /// `BadDigit` comes where one of them is no digit of either case, and else `ShortField` where there are fewer.
-#[tactic(auto, unfolding(object_defs::specs::Reading::number_at))]
+#[tactic(auto, unfolding(object_defs::specs::Fields::number_at))]
 pub(crate) fn number_at(fields: &[u8]) -> Result<u16, TagCause>
-    ensures { result ≡ reading.number_at fields.now }
+    ensures { result ≡ spec.number_at fields.now }
 {
     let digits = front(fields, 4);
     if !all_hexadecimal_digits(digits) {
@@ -57,7 +56,7 @@ fn all_hexadecimal_digits(bytes: &[u8]) -> bool
 }
 
 fn is_hexadecimal_digit(byte: u8) -> bool
-    ensures { result ≡ spec.is_hexadecimal_digit byte }
+    ensures { result ≡ numbers.is_hexadecimal_digit byte }
 {
     byte.is_ascii_hexdigit()
 }
@@ -74,10 +73,11 @@ fn four_digits(digits: &[u8]) -> u16
 
 /// The module's name behind the four digits.
 ///
-/// `BadTag` comes where one of its characters is none of a name, and else `ShortField` where there are fewer than eight.
-#[tactic(auto, unfolding(object_defs::specs::Reading::module_name_at))]
+/// `BadTag` comes where one of its characters is none of a name, and else `ShortField` where there are fewer than
+/// eight.
+#[tactic(auto, unfolding(object_defs::specs::Fields::module_name_at))]
 pub(crate) fn module_name_at(tag: u8, fields: &[u8]) -> Result<ModuleName, TagCause>
-    ensures { result ≡ reading.module_name_at tag fields.now }
+    ensures { result ≡ spec.module_name_at tag fields.now }
 {
     let name = front(behind(fields, 4), 8);
     if !all_name_characters(name) {
@@ -90,9 +90,9 @@ pub(crate) fn module_name_at(tag: u8, fields: &[u8]) -> Result<ModuleName, TagCa
 ///
 /// `BadTag` comes where a character that is not a blank at the end is none of a name, and where there are blanks alone;
 /// else `ShortField` where there are fewer than six.
-#[tactic(auto, unfolding(object_defs::specs::Reading::symbol_at))]
+#[tactic(auto, unfolding(object_defs::specs::Fields::symbol_at))]
 pub(crate) fn symbol_at(tag: u8, fields: &[u8]) -> Result<Name, TagCause>
-    ensures { result ≡ reading.symbol_at tag fields.now }
+    ensures { result ≡ spec.symbol_at tag fields.now }
 {
     let field = front(behind(fields, 4), 6);
     let name = without_blanks(field);
@@ -108,16 +108,10 @@ fn all_printed(bytes: &[u8]) -> bool
     bytes.iter().all(|&byte| is_printed(byte))
 }
 
-fn is_printed(byte: u8) -> bool
-    ensures { result ≡ names.is_printed byte }
-{
-    byte.is_ascii_graphic()
-}
-
 /// The bytes without the blanks at their end.
 #[tactic(auto, using(crate::proofs::Blanks::trimming))]
 fn without_blanks(field: &[u8]) -> &[u8]
-    ensures { result.now ≡ reading.without_blanks field.now }
+    ensures { result.now ≡ spec.without_blanks field.now }
 {
     let mut end = field.len();
     while end > 0 && is_blank(field[end - 1]) {
@@ -128,13 +122,7 @@ fn without_blanks(field: &[u8]) -> &[u8]
 
 /// Whether each of the bytes is a blank.
 pub(crate) fn all_blank(bytes: &[u8]) -> bool
-    ensures { result ≡ reading.all_blank bytes.now }
+    ensures { result ≡ spec.all_blank bytes.now }
 {
     bytes.iter().all(|&byte| is_blank(byte))
-}
-
-fn is_blank(byte: u8) -> bool
-    ensures { result ≡ characters.is_blank byte }
-{
-    byte == b' ' || byte == b'\t'
 }

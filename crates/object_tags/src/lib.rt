@@ -4,6 +4,8 @@
 mod checksum;
 mod error;
 mod fields;
+mod group;
+mod group_text;
 mod groups;
 mod laws;
 mod lists;
@@ -11,16 +13,17 @@ mod module_name;
 mod open_module;
 mod parts;
 mod read;
-mod read_line;
 mod reader;
+mod spots;
+mod tags;
 #[cfg(test)]
 mod tests;
 mod write;
 mod writer;
 
 pub use error::TagError;
-pub use laws::{words_stand_at_their_places, written_modules_are_read};
-pub use lists::{Defs, Pieces, Refs};
+pub use laws::written_modules_are_read;
+pub use lists::{Defs, Items, Pieces, Refs};
 pub use module_name::ModuleName;
 pub use object_defs::{Piece, Spot, TagCause};
 pub use parts::{Def, Module, Ref};

@@ -7,134 +7,54 @@ use object_defs::Piece;
 use std::alloc::{AllocError, Global};
 use std::marker::Model;
 
-/// The words of a module, each with its place.
-///
-/// Contracts see them as a list.
+/// A list of a module. Contracts see it as a list.
 #[derive(Debug, Drop)]
-pub struct Pieces {
-    items: Vec<Piece>,
+pub struct Items<T> {
+    items: Vec<T>,
 }
 
-impl Model for Pieces {
-    ghost use Rattle.std.specs.Prelude.{List};
-    ghost use Rattle.object_defs.specs.declared.spot.Piece.{Piece};
-
-    ghost Value = { List Piece };
-
-    ghost view = { λ list. list.items.items };
-}
-
-impl Pieces {
-    /// The empty list.
-    pub fn new(alloc: Global) -> Pieces
-        ensures { result ≡ [] }
-    {
-        Pieces {
-            items: Vec::new(alloc),
-        }
-    }
-
-    /// Appends a word. Where memory is wanting the list stays as it was.
-    pub fn push(&mut self, item: Piece) -> Result<(), AllocError>
-        ensures appended { OnOk result (self.new ≡ self.old ++ item ∷ []) }
-        ensures same { OnErr result (self.new ≡ self.old) }
-    {
-        self.items.push(item)?;
-        Ok(())
-    }
-
-    /// The list, in order.
-    pub fn as_slice(&self) -> &[Piece]
-        ensures { result.now ≡ self.now }
-    {
-        self.items.as_slice()
-    }
-}
+/// The words of a module, each with its place.
+pub type Pieces = Items<Piece>;
 
 /// The names that a module defines.
-///
-/// Contracts see them as a list.
-#[derive(Debug, Drop)]
-pub struct Defs {
-    items: Vec<Def>,
-}
-
-impl Model for Defs {
-    ghost use Rattle.std.specs.Prelude.{List};
-    ghost use Rattle.object_tags.specs.declared.parts.Def.{Def};
-
-    ghost Value = { List Def };
-
-    ghost view = { λ list. list.items.items };
-}
-
-impl Defs {
-    /// The empty list.
-    pub fn new(alloc: Global) -> Defs
-        ensures { result ≡ [] }
-    {
-        Defs {
-            items: Vec::new(alloc),
-        }
-    }
-
-    /// Appends a name. Where memory is wanting the list stays as it was.
-    pub fn push(&mut self, item: Def) -> Result<(), AllocError>
-        ensures appended { OnOk result (self.new ≡ self.old ++ item ∷ []) }
-        ensures same { OnErr result (self.new ≡ self.old) }
-    {
-        self.items.push(item)?;
-        Ok(())
-    }
-
-    /// The list, in order.
-    pub fn as_slice(&self) -> &[Def]
-        ensures { result.now ≡ self.now }
-    {
-        self.items.as_slice()
-    }
-}
+pub type Defs = Items<Def>;
 
 /// The names that a module needs from other modules.
-///
-/// Contracts see them as a list.
-#[derive(Debug, Drop)]
-pub struct Refs {
-    items: Vec<Ref>,
-}
+pub type Refs = Items<Ref>;
 
-impl Model for Refs {
+impl<T> Model for Items<T> {
     ghost use Rattle.std.specs.Prelude.{List};
-    ghost use Rattle.object_tags.specs.declared.parts.Ref.{Ref};
 
-    ghost Value = { List Ref };
+    ghost Value = { List T };
 
     ghost view = { λ list. list.items.items };
 }
 
-impl Refs {
+impl<T> Items<T> {
     /// The empty list.
-    pub fn new(alloc: Global) -> Refs
+    pub fn new(alloc: Global) -> Items<T>
         ensures { result ≡ [] }
     {
-        Refs {
+        Items {
             items: Vec::new(alloc),
         }
     }
 
-    /// Appends a name. Where memory is wanting the list stays as it was.
-    pub fn push(&mut self, item: Ref) -> Result<(), AllocError>
+    /// The list, in order.
+    pub fn as_slice(&self) -> &[T]
+        ensures { result.now ≡ self.now }
+    {
+        self.items.as_slice()
+    }
+}
+
+impl<T: Drop> Items<T> {
+    /// Appends an item. Where memory is wanting the list stays as it was.
+    pub fn push(&mut self, item: T) -> Result<(), AllocError>
         ensures appended { OnOk result (self.new ≡ self.old ++ item ∷ []) }
         ensures same { OnErr result (self.new ≡ self.old) }
     {
         self.items.push(item)?;
         Ok(())
-    }
-
-    /// The list, in order.
-    pub fn as_slice(&self) -> &[Ref]
-        ensures { result.now ≡ self.now }
-    {
-        self.items.as_slice()
     }
 }

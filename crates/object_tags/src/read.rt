@@ -2,7 +2,6 @@
 
 ghost use Rattle.std.specs.Prelude.{◌≡◌, ◌<◌, ◌^◌, ◌*◌, ◌+◌, ◌/◌, length, map};
 ghost use Rattle.source_defs.specs.Lines.{lines as lines_of};
-ghost use Rattle.source_defs.specs.Characters.{is_line_feed};
 ghost use Rattle.object_defs.specs.Reading as reading;
 ghost use Rattle.object_tags.specs.Answers.{Gives, defined_modules};
 ghost use Rattle.object_tags.specs.Reads.{Reads};
@@ -10,7 +9,7 @@ ghost use Rattle.object_tags.specs.Reads.{Reads};
 use crate::error::TagError;
 use crate::parts::Module;
 use crate::reader::Reader;
-use asm_text::lines;
+use asm_text::{is_line_feed, lines};
 use std::alloc::Global;
 
 /// How many characters a record has.
@@ -27,19 +26,19 @@ pub fn read_modules(alloc: Global, bytes: &[u8]) -> Result<Vec<Module>, TagError
     ensures { Gives (λ modules. defined_modules modules.items) result (reading.read bytes.now) }
 {
     let mut reader = Reader::new(alloc);
-    put_text(alloc, &mut reader, bytes)?;
+    take_text(alloc, &mut reader, bytes)?;
     reader.finish()
 }
 
 /// Reads a whole text.
-fn put_text(alloc: Global, reader: &mut Reader, text: &[u8]) -> Result<(), TagError>
+fn take_text(alloc: Global, reader: &mut Reader, text: &[u8]) -> Result<(), TagError>
     requires { length text.now < 2 ^ 32 }
     ensures { Reads result reader.old reader.new (reading.text_lines text.now) }
 {
     if is_records(text) {
-        put_records(alloc, reader, text)
+        take_records(alloc, reader, text)
     } else {
-        put_lines(alloc, reader, text)
+        take_lines(alloc, reader, text)
     }
 }
 
@@ -56,31 +55,25 @@ fn has_line_feed(text: &[u8]) -> bool
     text.iter().any(|&byte| is_line_feed(byte))
 }
 
-fn is_line_feed(byte: u8) -> bool
-    ensures { result ≡ is_line_feed byte }
-{
-    byte == b'\n'
-}
-
 /// Reads the records of a text.
-fn put_records(alloc: Global, reader: &mut Reader, text: &[u8]) -> Result<(), TagError>
+fn take_records(alloc: Global, reader: &mut Reader, text: &[u8]) -> Result<(), TagError>
     requires { length text.now < 2 ^ 32 }
     ensures { Reads result reader.old reader.new (reading.records text.now) }
 {
     for k in 0..text.len() / COLUMNS {
         let from = COLUMNS * k;
-        reader.put_line(alloc, k as u32 + 1, &text[from..from + COLUMNS])?;
+        reader.take_line(alloc, k as u32 + 1, &text[from..from + COLUMNS])?;
     }
     Ok(())
 }
 
 /// Reads the lines of a text.
-fn put_lines(alloc: Global, reader: &mut Reader, text: &[u8]) -> Result<(), TagError>
+fn take_lines(alloc: Global, reader: &mut Reader, text: &[u8]) -> Result<(), TagError>
     requires { length text.now < 2 ^ 32 }
     ensures { Reads result reader.old reader.new (map (reading.numbered_line text.now) (lines_of text.now)) }
 {
     for line in lines(text) {
-        reader.put_line(alloc, line.number, &text[line.span.start..line.span.end])?;
+        reader.take_line(alloc, line.number, &text[line.span.start..line.span.end])?;
     }
     Ok(())
 }

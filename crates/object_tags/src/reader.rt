@@ -1,15 +1,18 @@
 //! The modules of the lines so far.
 
-ghost use Rattle.std.specs.Prelude.{◌≡◌, ◌<◌, ◌^◌, length, [], IfOk};
-ghost use Rattle.object_defs.specs.Reading as reading;
+ghost use Rattle.std.specs.Prelude.{◌≡◌, ◌<◌, ◌^◌, length, []};
+ghost use Rattle.object_defs.specs.Groups.{groups_from};
+ghost use Rattle.object_defs.specs.Running as running;
 ghost use Rattle.object_tags.specs.Answers.{Leaves, Gives, defined_modules};
-ghost use Rattle.object_tags.specs.Reads.{found_of, TakesLine};
+ghost use Rattle.object_tags.specs.Reads.{kept_of, TakesLine};
+ghost use Rattle.object_tags.specs.SeenGroups.{defined_found};
 
 use crate::error::{Failure, TagError};
 use crate::fields::all_blank;
+use crate::group::FoundGroup;
+use crate::groups::Groups;
 use crate::open_module::OpenModule;
 use crate::parts::Module;
-use crate::read_line::{ends_module, opening_line, put_groups};
 use object_defs::TagCause;
 use std::alloc::Global;
 
@@ -27,7 +30,7 @@ pub(crate) struct Reader {
 impl Reader {
     /// What no lines give.
     pub(crate) fn new(alloc: Global) -> Reader
-        ensures { found_of result ≡ reading.nothing_found }
+        ensures { kept_of result ≡ running.nothing_kept }
     {
         Reader {
             modules: Vec::new(alloc),
@@ -36,22 +39,23 @@ impl Reader {
         }
     }
 
-    /// Reads a line.
-    #[tactic(auto, unfolding(object_defs::specs::Reading::after_line))]
-    pub(crate) fn put_line(
+    /// Takes a line.
+    #[tactic(auto, unfolding(object_defs::specs::Running::kept_line))]
+    pub(crate) fn take_line(
         &mut self,
         alloc: Global,
         number: u32,
         line: &[u8],
     ) -> Result<(), TagError>
         requires { length line.now < 2 ^ 32 }
-        ensures { TakesLine result (found_of self.new) (reading.after_line (found_of self.old) (record { number = number; text = line.now })) }
+        ensures { TakesLine result (kept_of self.new)
+            (running.kept_line (kept_of self.old) (record { number = number; text = line.now })) }
     {
         if all_blank(line) {
             return Ok(());
         }
         self.last = number;
-        match self.put_groups(alloc, line) {
+        match self.take_groups(alloc, line) {
             Ok(()) => Ok(()),
             Err(Failure::Cause(cause)) => Err(TagError::At {
                 line: number,
@@ -61,18 +65,29 @@ impl Reader {
         }
     }
 
-    /// Reads a line that is not blank.
-    fn put_groups(&mut self, alloc: Global, line: &[u8]) -> Result<(), Failure>
+    /// Takes the groups of a line.
+    fn take_groups(&mut self, alloc: Global, line: &[u8]) -> Result<(), Failure>
         requires { length line.now < 2 ^ 32 }
-        ensures { Leaves result (found_of self.new) (reading.after_line_by (found_of self.old).current (found_of self.old) line.now) }
+        ensures { Leaves result (kept_of self.new)
+            (running.kept_groups (kept_of self.old) (groups_from [] 0 line.now)) }
+    {
+        for found in Groups::new(line) {
+            self.take_group(alloc, found)?;
+        }
+        Ok(())
+    }
+
+    /// Takes one more group.
+    fn take_group(&mut self, alloc: Global, found: FoundGroup) -> Result<(), Failure>
+        ensures { Leaves result (kept_of self.new) (running.kept_with (kept_of self.old) (defined_found found)) }
     {
         match self.current.take() {
             None => {
-                self.current = Some(opening_line(alloc, self.modules.len(), line)?);
+                self.current = Some(OpenModule::begin(alloc, self.modules.len(), found)?);
             }
-            Some(module) if ends_module(line) => self.modules.push(module.found)?,
+            Some(module) if found.ends_module() => self.modules.push(module.found)?,
             Some(mut module) => {
-                put_groups(&mut module, line, 0)?;
+                module.take_group(found)?;
                 self.current = Some(module);
             }
         }
@@ -80,9 +95,9 @@ impl Reader {
     }
 
     /// The modules, or `NoEnd` where the last one has not ended.
-    #[tactic(auto, unfolding(object_defs::specs::Reading::read_from))]
+    #[tactic(auto, unfolding(object_defs::specs::Running::kept_lines))]
     pub(crate) fn finish(self) -> Result<Vec<Module>, TagError>
-        ensures { Gives (λ modules. defined_modules modules.items) result (reading.read_from (found_of self) []) }
+        ensures { Gives (λ modules. defined_modules modules.items) result (running.kept_lines (kept_of self) []) }
     {
         match self.current {
             None => Ok(self.modules),

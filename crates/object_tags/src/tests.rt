@@ -1,6 +1,6 @@
 //! Modules and texts, worked out by the format's rules.
 
-ghost use Rattle.std.specs.Prelude.{◌≡◌, ◌<◌, ◌^◌, length, IfOk};
+ghost use Rattle.std.specs.Prelude.{◌≡◌, IfOk};
 
 use crate::{
     Def, Defs, Module, ModuleName, Piece, Pieces, Ref, Refs, Spot, TagCause, TagError,
@@ -26,6 +26,186 @@ const BOTH_KINDS: &[u8] =
 const ELEVEN_WORDS: &[u8] =
     b"00016        A0000B0000B0001B0002B0003B0004B0005B0006B0007B0008B00097F290F  0001\nA0014B000A7FDB0F                                                            0002\n:                                                                           0003\n";
 
+/// A word at a place.
+macro_rules! word {
+    ($at:ident $place:literal, $kind:ident $number:literal) => {
+        Piece {
+            at: Spot::$at($place),
+            word: Spot::$kind($number),
+        }
+    };
+}
+
+/// The words of the module of four.
+const FOUR: &[Piece] = &[
+    word!(Relocatable 0, Absolute 0x0201),
+    word!(Relocatable 2, Absolute 0x1234),
+    word!(Relocatable 4, Absolute 0xA081),
+    word!(Relocatable 6, Absolute 0x045B),
+];
+
+/// The words of the module with both kinds of each group.
+const BOTH: &[Piece] = &[
+    word!(Relocatable 0, Absolute 0x0201),
+    word!(Relocatable 2, Relocatable 0x1234),
+    word!(Absolute 0xA000, Absolute 0xA081),
+    word!(Absolute 0xA002, Absolute 0x045B),
+];
+
+/// The eleven words.
+const ELEVEN: &[Piece] = &[
+    word!(Relocatable 0, Absolute 0),
+    word!(Relocatable 2, Absolute 1),
+    word!(Relocatable 4, Absolute 2),
+    word!(Relocatable 6, Absolute 3),
+    word!(Relocatable 8, Absolute 4),
+    word!(Relocatable 10, Absolute 5),
+    word!(Relocatable 12, Absolute 6),
+    word!(Relocatable 14, Absolute 7),
+    word!(Relocatable 16, Absolute 8),
+    word!(Relocatable 18, Absolute 9),
+    word!(Relocatable 20, Absolute 10),
+];
+
+/// The last place, and the place after it.
+const WRAPPED: &[Piece] = &[
+    word!(Absolute 0xFFFE, Relocatable 0x00AF),
+    word!(Absolute 0, Absolute 0x7EF5),
+];
+
+/// The word of a second module, which begins at relocatable 0 again.
+const SECOND: &[Piece] = &[word!(Relocatable 0, Absolute 2)];
+
+/// Texts, with the number of their modules and the words of the last one.
+const READ: &[(&[u8], usize, &[Piece])] = &[
+    (FOUR_WORDS, 1, FOUR),
+    (FOUR_WORDS_IN_RECORDS, 1, FOUR),
+    (
+        b"00008        A0000B0201B1234BA081B045B81234F\n:\n",
+        1,
+        FOUR,
+    ),
+    (
+        b"00008        B0201B1234F\r\n \t\n\nBa081B045bF ignored\n: ignored",
+        1,
+        FOUR,
+    ),
+    (BOTH_KINDS, 1, BOTH),
+    (ELEVEN_WORDS, 1, ELEVEN),
+    (b"00000A~ B    9FFFFC00afB7eF5\n:", 1, WRAPPED),
+    (
+        b"00000        9FFFEB00017FB86F\n:\n00000        50000A\t    B0002\n:",
+        2,
+        SECOND,
+    ),
+    (b"", 0, &[]),
+];
+
+/// Texts, and the line and cause of their first bad place.
+const REFUSED: &[(&[u8], u32, TagCause)] = &[
+    (
+        b"00008        A0000B0201B1234BA082B045B7F886F\n:",
+        1,
+        TagCause::Checksum {
+            found: 0xF886,
+            computed: 0xF885,
+        },
+    ),
+    (b"00008        A00", 1, TagCause::ShortField),
+    (b"00000        F", 1, TagCause::NoEnd),
+    (b"00000        F\n\n9000\n:", 3, TagCause::ShortField),
+    (b"00000        F\n8FFFF\n \n", 2, TagCause::NoEnd),
+    (b"B0001F\n:", 1, TagCause::BadTag(b'B')),
+    (b"\n:", 2, TagCause::BadTag(b':')),
+    (b"00000        F\n:\n:", 3, TagCause::BadTag(b':')),
+    (b"00000        :", 1, TagCause::BadTag(b':')),
+    (b"00000        00000        F\n:", 1, TagCause::BadTag(b'0')),
+    (b"00000        1000020000F\n:", 1, TagCause::BadTag(b'2')),
+    (b"00000        G0000F\n:", 1, TagCause::BadTag(b'G')),
+    (b"00000        B0000 F\n:", 1, TagCause::BadTag(b' ')),
+    (b"00000        B0000\r", 1, TagCause::BadTag(b'\r')),
+    (b"\x0100000        F\n:", 1, TagCause::BadTag(1)),
+    (b"00000       \tF\n:", 1, TagCause::BadTag(b'0')),
+    (b"00000\x7F", 1, TagCause::BadTag(b'0')),
+    (b"00000       ", 1, TagCause::ShortField),
+    (b"0000g       ", 1, TagCause::BadDigit),
+    (b"00000        AX000F\n:", 1, TagCause::BadDigit),
+    (b"00000        A0x", 1, TagCause::BadDigit),
+    (b"00000        50000A\tB   F\n:", 1, TagCause::BadTag(b'5')),
+    (b"00000        50000      F\n:", 1, TagCause::BadTag(b'5')),
+    (b"00000        30000A B", 1, TagCause::BadTag(b'3')),
+    (b"00000        40000A  ", 1, TagCause::ShortField),
+    (b"00000        60000", 1, TagCause::ShortField),
+    (
+        b"00000        7FDD8F",
+        1,
+        TagCause::Checksum {
+            found: 0xFDD8,
+            computed: 0xFDD9,
+        },
+    ),
+];
+
+/// Whether a text has so many modules, of which the last has these words.
+fn gives(alloc: Global, text: &[u8], count: usize, words: &[Piece]) -> bool {
+    if text.len() > 1000 {
+        return false;
+    }
+    match read_modules(alloc, text) {
+        Ok(modules) => modules.len() == count && ends_with(modules.as_slice(), words),
+        Err(_) => false,
+    }
+}
+
+fn ends_with(modules: &[Module], words: &[Piece]) -> bool {
+    match modules {
+        [.., module] => module.pieces.as_slice() == words,
+        [] => words.is_empty(),
+    }
+}
+
+#[test]
+fn reads_modules(rt: HostRuntime) -> Result<(), Fail> {
+    for &(text, count, words) in READ {
+        assert!(rt; gives(rt.alloc(), text, count, words), "{}", text.len());
+    }
+    Ok(())
+}
+
+/// Whether a text is refused at a line for a cause.
+fn refuses(alloc: Global, text: &[u8], line: u32, cause: TagCause) -> bool {
+    if text.len() > 2000 {
+        return false;
+    }
+    match read_modules(alloc, text) {
+        Ok(_) => false,
+        Err(error) => error == TagError::At { line, cause },
+    }
+}
+
+/// A text of 65 modules.
+fn too_many_modules(alloc: Global) -> Result<Vec<u8>, AllocError> {
+    let mut text = Vec::new(alloc);
+    for _ in 0..65 {
+        text.extend_from_slice(b"00000        F\n:\n")?;
+    }
+    Ok(text)
+}
+
+#[test]
+fn refuses_damaged_lines(rt: HostRuntime) -> Result<(), Fail> {
+    for &(text, line, cause) in REFUSED {
+        assert!(rt;
+            refuses(rt.alloc(), text, line, cause),
+            "line {line}, {}",
+            text.len()
+        );
+    }
+    let text = too_many_modules(rt.alloc())?;
+    assert!(rt; refuses(rt.alloc(), text.as_slice(), 129, TagCause::TooMany));
+    Ok(())
+}
+
 /// Words as the list of a module.
 fn pieces_of(alloc: Global, words: &[Piece]) -> Result<Pieces, AllocError>
     ensures { IfOk result (λ pieces. pieces ≡ words.now) }
@@ -37,238 +217,65 @@ fn pieces_of(alloc: Global, words: &[Piece]) -> Result<Pieces, AllocError>
     Ok(pieces)
 }
 
-/// Absolute words at relocatable places from 0 on.
-fn relocatable(alloc: Global, words: &[u16]) -> Result<Pieces, AllocError> {
-    let mut pieces = Pieces::new(alloc);
-    let mut at = 0u16;
-    for &word in words {
-        pieces.push(Piece {
-            at: Spot::Relocatable(at),
-            word: Spot::Absolute(word),
-        })?;
-        at = at.wrapping_add(2);
-    }
-    Ok(pieces)
-}
-
-/// A module without names.
-fn module_of(name: &[u8], size: u16, pieces: Pieces, alloc: Global) -> Result<Module, Fail> {
-    Ok(Module {
-        name: ModuleName::read(name).ok_or("a name has eight characters")?,
-        size,
-        pieces,
+/// Whether the module of four words is written as its text.
+fn writes_four(alloc: Global) -> Result<bool, AllocError> {
+    let Some(name) = ModuleName::read(b"        ") else {
+        return Ok(false);
+    };
+    let module = Module {
+        name,
+        size: 8,
+        pieces: pieces_of(alloc, FOUR)?,
         defs: Defs::new(alloc),
         refs: Refs::new(alloc),
         entry: None,
-    })
+    };
+    Ok(write_module(alloc, &module)?.as_slice() == FOUR_WORDS)
 }
 
-/// Whether a text gives this one module.
-fn gives(alloc: Global, text: &[u8], module: &Module) -> bool {
-    if text.len() > 1000 {
-        return false;
-    }
-    match read_modules(alloc, text) {
-        Ok(modules) => match modules.as_slice() {
-            [found] => is_same(found, module),
-            _ => false,
-        },
-        Err(_) => false,
-    }
+/// A DEF by its name.
+fn def(name: &[u8], value: Spot) -> Option<Def> {
+    Name::read(name).map(|name| Def { name, value })
 }
 
-fn is_same(found: &Module, module: &Module) -> bool {
-    found.name == module.name
-        && found.size == module.size
-        && found.pieces.as_slice() == module.pieces.as_slice()
-        && found.defs.as_slice() == module.defs.as_slice()
-        && found.refs.as_slice() == module.refs.as_slice()
-        && found.entry == module.entry
+/// A REF by its name.
+fn reference(name: &[u8], last: Spot) -> Option<Ref> {
+    Name::read(name).map(|name| Ref { name, last })
 }
 
-#[test]
-fn reads_modules(rt: HostRuntime) -> Result<(), Fail> {
-    let alloc = rt.alloc();
-    let words = relocatable(alloc, &[0x0201, 0x1234, 0xA081, 0x045B])?;
-    let module = module_of(b"        ", 8, words, alloc)?;
-    for text in [
-        FOUR_WORDS,
-        FOUR_WORDS_IN_RECORDS,
-        b"00008        A0000B0201B1234BA081B045B81234F\n:\n",
-        b"00008        B0201B1234F\r\n \t\n\nBa081B045bF ignored\n: ignored",
-    ] {
-        assert!(rt; gives(alloc, text, &module));
+/// Whether the module with both kinds of each group is written as its text.
+fn writes_both_kinds(alloc: Global) -> Result<bool, AllocError> {
+    let Some(name) = ModuleName::read(b"TWO MODS") else {
+        return Ok(false);
+    };
+    let mut defs = Defs::new(alloc);
+    let mut refs = Refs::new(alloc);
+    if let Some(first) = def(b"A", Spot::Relocatable(2)) {
+        defs.push(first)?;
     }
-    let words = relocatable(alloc, &[0, 1, 2, 3, 4, 5, 6, 7, 8, 9, 10])?;
-    let module = module_of(b"        ", 22, words, alloc)?;
-    assert!(rt; gives(alloc, ELEVEN_WORDS, &module));
-    let wrapped = pieces_of(
-        alloc,
-        &[
-            Piece {
-                at: Spot::Absolute(0xFFFE),
-                word: Spot::Relocatable(0x00AF),
-            },
-            Piece {
-                at: Spot::Absolute(0),
-                word: Spot::Absolute(0x7EF5),
-            },
-        ],
-    )?;
-    let module = module_of(b"A~ B    ", 0, wrapped, alloc)?;
-    assert!(rt; gives(alloc, b"00000A~ B    9FFFFC00afB7eF5\n:", &module));
-    let two = b"00000        9FFFEB00017FB86F\n:\n00000        50000A\t    B0002\n:";
-    let modules = read_modules(alloc, two)?;
-    assert_eq!(rt; modules.len(), 2);
-    for module in modules.as_slice() {
-        assert_eq!(rt; module.pieces.as_slice().len(), 1);
-        for def in module.defs.as_slice() {
-            assert_eq!(rt; def.name.as_bytes(), b"A".as_slice());
-            assert_eq!(rt;
-                module.pieces.as_slice().first(),
-                Some(&Piece {
-                    at: Spot::Relocatable(0),
-                    word: Spot::Absolute(2),
-                })
-            );
-        }
+    if let Some(second) = def(b"LONGER", Spot::Absolute(0x3FFF)) {
+        defs.push(second)?;
     }
-    assert!(rt; read_modules(alloc, b"")?.is_empty());
-    Ok(())
-}
-
-#[test]
-fn refuses_damaged_lines(rt: HostRuntime) -> Result<(), Fail> {
-    let alloc = rt.alloc();
-    let rows: [(&[u8], u32, TagCause); 27] = [
-        (
-            b"00008        A0000B0201B1234BA082B045B7F886F\n:",
-            1,
-            TagCause::Checksum {
-                found: 0xF886,
-                computed: 0xF885,
-            },
-        ),
-        (b"00008        A00", 1, TagCause::ShortField),
-        (b"00000        F", 1, TagCause::NoEnd),
-        (b"00000        F\n\n9000\n:", 3, TagCause::ShortField),
-        (b"00000        F\n8FFFF\n \n", 2, TagCause::NoEnd),
-        (b"B0001F\n:", 1, TagCause::BadTag(b'B')),
-        (b"\n:", 2, TagCause::BadTag(b':')),
-        (b"00000        F\n:\n:", 3, TagCause::BadTag(b':')),
-        (b"00000        :", 1, TagCause::BadTag(b':')),
-        (b"00000        00000        F\n:", 1, TagCause::BadTag(b'0')),
-        (b"00000        1000020000F\n:", 1, TagCause::BadTag(b'2')),
-        (b"00000        G0000F\n:", 1, TagCause::BadTag(b'G')),
-        (b"00000        B0000 F\n:", 1, TagCause::BadTag(b' ')),
-        (b"00000        B0000\r", 1, TagCause::BadTag(b'\r')),
-        (b"\x0100000        F\n:", 1, TagCause::BadTag(1)),
-        (b"00000       \tF\n:", 1, TagCause::BadTag(b'0')),
-        (b"00000\x7F", 1, TagCause::BadTag(b'0')),
-        (b"00000       ", 1, TagCause::ShortField),
-        (b"0000g       ", 1, TagCause::BadDigit),
-        (b"00000        AX000F\n:", 1, TagCause::BadDigit),
-        (b"00000        A0x", 1, TagCause::BadDigit),
-        (b"00000        50000A\tB   F\n:", 1, TagCause::BadTag(b'5')),
-        (b"00000        50000      F\n:", 1, TagCause::BadTag(b'5')),
-        (b"00000        30000A B", 1, TagCause::BadTag(b'3')),
-        (b"00000        40000A  ", 1, TagCause::ShortField),
-        (b"00000        60000", 1, TagCause::ShortField),
-        (
-            b"00000        7FDD8F",
-            1,
-            TagCause::Checksum {
-                found: 0xFDD8,
-                computed: 0xFDD9,
-            },
-        ),
-    ];
-    for (text, line, cause) in rows {
-        assert!(rt; text.len() < 1000);
-        match read_modules(alloc, text) {
-            Ok(_) => assert!(rt; false),
-            Err(error) => assert_eq!(rt; error, TagError::At { line, cause }),
-        }
+    if let Some(used) = reference(b"EXTERN", Spot::Relocatable(2)) {
+        refs.push(used)?;
     }
-    let mut text = Vec::new(alloc);
-    for _ in 0..65 {
-        text.extend_from_slice(b"00000        F\n:\n")?;
+    if let Some(unused) = reference(b"X", Spot::Absolute(0)) {
+        refs.push(unused)?;
     }
-    assert!(rt; text.len() == 65 * 17);
-    assert!(rt;
-        matches!(
-            read_modules(alloc, text.as_slice()),
-            Err(TagError::At {
-                line: 129,
-                cause: TagCause::TooMany
-            })
-        )
-    );
-    Ok(())
-}
-
-/// A word of a module of tests.
-fn word(at: Spot, word: Spot) -> Piece
-    ensures { result ≡ record { at = at; word = word } }
-{
-    Piece { at, word }
+    let module = Module {
+        name,
+        size: 0x10,
+        pieces: pieces_of(alloc, BOTH)?,
+        defs,
+        refs,
+        entry: Some(Spot::Relocatable(10)),
+    };
+    Ok(write_module(alloc, &module)?.as_slice() == BOTH_KINDS)
 }
 
 #[test]
 fn writes_modules(rt: HostRuntime) -> Result<(), Fail> {
-    let alloc = rt.alloc();
-    let four = Module {
-        name: ModuleName::read(b"        ").ok_or("a name has eight characters")?,
-        size: 8,
-        pieces: pieces_of(
-            alloc,
-            &[
-                word(Spot::Relocatable(0), Spot::Absolute(0x0201)),
-                word(Spot::Relocatable(2), Spot::Absolute(0x1234)),
-                word(Spot::Relocatable(4), Spot::Absolute(0xA081)),
-                word(Spot::Relocatable(6), Spot::Absolute(0x045B)),
-            ],
-        )?,
-        defs: Defs::new(alloc),
-        refs: Refs::new(alloc),
-        entry: None,
-    };
-    assert_eq!(rt; write_module(alloc, &four)?.as_slice(), FOUR_WORDS);
-    let pieces = pieces_of(
-        alloc,
-        &[
-            word(Spot::Relocatable(0), Spot::Absolute(0x0201)),
-            word(Spot::Relocatable(2), Spot::Relocatable(0x1234)),
-            word(Spot::Absolute(0xA000), Spot::Absolute(0xA081)),
-            word(Spot::Absolute(0xA002), Spot::Absolute(0x045B)),
-        ],
-    )?;
-    let mut module = Module {
-        name: ModuleName::read(b"TWO MODS").ok_or("a name has eight characters")?,
-        size: 0x10,
-        pieces,
-        defs: Defs::new(alloc),
-        refs: Refs::new(alloc),
-        entry: Some(Spot::Relocatable(10)),
-    };
-    module.defs.push(Def {
-        name: Name::read(b"A").ok_or("a name")?,
-        value: Spot::Relocatable(2),
-    })?;
-    module.defs.push(Def {
-        name: Name::read(b"LONGER").ok_or("a name")?,
-        value: Spot::Absolute(0x3FFF),
-    })?;
-    module.refs.push(Ref {
-        name: Name::read(b"EXTERN").ok_or("a name")?,
-        last: Spot::Relocatable(2),
-    })?;
-    module.refs.push(Ref {
-        name: Name::read(b"X").ok_or("a name")?,
-        last: Spot::Absolute(0),
-    })?;
-    let text = write_module(alloc, &module)?;
-    assert_eq!(rt; text.as_slice(), BOTH_KINDS);
-    assert!(rt; gives(alloc, text.as_slice(), &module));
+    assert!(rt; writes_four(rt.alloc())?);
+    assert!(rt; writes_both_kinds(rt.alloc())?);
     Ok(())
 }

@@ -9,7 +9,7 @@ ghost use Rattle.object_defs.specs.Laws.{FitsSpot, FitsPiece, FitsDefinition, Fi
 ghost use Rattle.object_tags.specs.Seen.{defined_def, defined_ref, defined_module};
 ghost use Rattle.object_tags.specs.Lines.{Wrote};
 
-use crate::groups;
+use crate::group_text;
 use crate::parts::{Def, Module, Ref};
 use crate::writer::Writer;
 use object_defs::{Piece, Spot};
@@ -28,7 +28,7 @@ pub fn write_module(alloc: Global, module: &Module) -> Result<Vec<u8>, AllocErro
     ensures read_again { IfOk result (λ text. read text.items ≡ Ok (defined_module «module».now ∷ [])) }
 {
     let mut writer = Writer::new(alloc);
-    writer.put_group(&groups::header_text(module.size, &module.name))?;
+    writer.put_group(&group_text::header_text(module.size, &module.name))?;
     put_pieces(&mut writer, module.pieces.as_slice())?;
     put_defs(&mut writer, module.defs.as_slice())?;
     put_refs(&mut writer, module.refs.as_slice())?;
@@ -47,21 +47,23 @@ fn put_pieces(writer: &mut Writer, pieces: &[Piece]) -> Result<(), AllocError>
 }
 
 fn put_defs(writer: &mut Writer, defs: &[Def]) -> Result<(), AllocError>
-    ensures wrote { OnOk result (Wrote (map (λ def. Group (definition_text (defined_def def))) defs.now) writer.old writer.new) }
+    ensures wrote { OnOk result
+        (Wrote (map (λ def. Group (definition_text (defined_def def))) defs.now) writer.old writer.new) }
     ensures fits { OnOk result (AllByRecursion (λ def. FitsDefinition (defined_def def)) defs.now) }
 {
     for def in defs {
-        writer.put_group(&groups::definition_text(def))?;
+        writer.put_group(&group_text::definition_text(def))?;
     }
     Ok(())
 }
 
 fn put_refs(writer: &mut Writer, refs: &[Ref]) -> Result<(), AllocError>
-    ensures wrote { OnOk result (Wrote (map (λ ref. Group (reference_text (defined_ref ref))) refs.now) writer.old writer.new) }
+    ensures wrote { OnOk result
+        (Wrote (map (λ ref. Group (reference_text (defined_ref ref))) refs.now) writer.old writer.new) }
     ensures fits { OnOk result (AllByRecursion (λ ref. FitsReference (defined_ref ref)) refs.now) }
 {
     for reference in refs {
-        writer.put_group(&groups::reference_text(reference))?;
+        writer.put_group(&group_text::reference_text(reference))?;
     }
     Ok(())
 }
@@ -71,7 +73,7 @@ fn put_entry(writer: &mut Writer, entry: Option<Spot>) -> Result<(), AllocError>
     ensures fits { OnOk result (IfSome entry FitsSpot) }
 {
     if let Some(entry) = entry {
-        writer.put_group(&groups::entry_text(entry))?;
+        writer.put_group(&group_text::entry_text(entry))?;
     }
     Ok(())
 }

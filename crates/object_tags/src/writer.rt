@@ -8,7 +8,9 @@ ghost use Rattle.object_defs.specs.Laws.{FitsSpot, FitsPiece};
 ghost use Rattle.object_tags.specs.Lines.{Wrote, whole, line_of};
 
 use crate::checksum::checksum;
-use crate::groups::{GroupText, address_text, group, tag_character, word_text};
+use crate::group_text::{GroupText, address_text, group, word_text};
+use crate::spots::place_after;
+use crate::tags::tag_character;
 use arrayvec::ArrayVec;
 use object_defs::{Piece, Spot, Tag};
 use std::alloc::{AllocError, Global};
@@ -85,7 +87,8 @@ impl Writer {
 
     /// Ends the line, and begins the next one.
     fn end_line(&mut self) -> Result<(), AllocError>
-        ensures text { OnOk result (self.new.text.items ≡ self.old.text.items ++ writing.line_text self.old.number self.old.line.items) }
+        ensures text { OnOk result
+            (self.new.text.items ≡ self.old.text.items ++ writing.line_text self.old.number self.old.line.items) }
         ensures line { OnOk result (line_of self.new ≡ writing.empty_line) }
         ensures number { OnOk result (self.new.number ≡ writing.number_after self.old.number) }
     {
@@ -110,7 +113,8 @@ impl Writer {
 
     /// Writes a line up to its line feed, and counts it.
     fn put_numbered(&mut self, line: &ArrayVec<u8, PADDED_COLUMNS>) -> Result<(), AllocError>
-        ensures text { OnOk result (self.new.text.items ≡ self.old.text.items ++ writing.numbered self.old.number line.now.items) }
+        ensures text { OnOk result
+            (self.new.text.items ≡ self.old.text.items ++ writing.numbered self.old.number line.now.items) }
         ensures number { OnOk result (self.new.number ≡ writing.number_after self.old.number) }
         ensures line { self.new.line ≡ self.old.line }
     {
@@ -128,17 +132,6 @@ fn number_after(number: u16) -> u16
     ensures { result ≡ writing.number_after number }
 {
     ((u32::from(number) + 1) % 10_000) as u16
-}
-
-/// The place two bytes behind a place.
-pub(crate) fn place_after(at: Spot) -> Spot
-    ensures place { result ≡ modules.moved at 2 }
-    ensures fits { FitsSpot at }
-{
-    match at {
-        Spot::Absolute(number) => Spot::Absolute(number.wrapping_add(2)),
-        Spot::Relocatable(number) => Spot::Relocatable(number.wrapping_add(2)),
-    }
 }
 
 /// The text of a word behind a place.

@@ -1,5 +1,5 @@
 use Rattle.std.proofs.Common.{◌≡◌, ◌≤◌, length, take}
-use Rattle.object_defs.specs.Reading.{without_blanks}
+use Rattle.object_defs.specs.Fields.{without_blanks}
 use Rattle.object_tags.proofs.fields.without_blanks.Given as goal
 
 abbrev pub invariant-loop-end : goal.invariant-loop-end

@@ -1,0 +1,49 @@
+-- The fields that stand behind a tag: a number, and behind some tags a name.
+--
+-- Editor/Assembler manual, "Tagged object code": four hexadecimal digits, and a name of eight or six characters.
+use Rattle.std.specs.Prelude.{ℕ, not, ◌&&◌, nat_lt, if◌then◌else◌, List, [], ◌∷◌, length, take, drop, Result, Ok, Err, Bool}
+use Rattle.std.specs.List.{list_all}
+use Rattle.source_defs.specs.Characters.{is_blank}
+use Rattle.source_defs.specs.Names.{is_kept_name, all_printed}
+use Rattle.source_defs.specs.Numbers.{all_hexadecimal_digits, value_after}
+use Rattle.object_defs.specs.declared.causes.TagCause.{TagCause}
+use Rattle.object_defs.specs.declared.causes.TagCause.TheVariants.{BadTag, BadDigit, ShortField}
+use Rattle.object_defs.specs.Modules.{all_name_characters}
+
+-- the four digits
+-- Profile: they are of either case; a bad character of a field comes before the end of the line in it.
+unfoldable pub number_at : List ℕ → Result ℕ TagCause
+number_at fields =
+    let digits = take 4 fields in
+    if not (all_hexadecimal_digits digits) then Err BadDigit
+    else if nat_lt (length digits) 4 then Err ShortField
+    else Ok (value_after 16 0 digits)
+
+-- the eight characters behind the digits
+-- Profile: each of them is one from >20 to >7E, or else the tag is refused.
+unfoldable pub module_name_at : ℕ → List ℕ → Result (List ℕ) TagCause
+module_name_at tag fields =
+    let name = take 8 (drop 4 fields) in
+    if not (all_name_characters name) then Err (BadTag tag)
+    else if nat_lt (length name) 8 then Err ShortField
+    else Ok name
+
+abbrev pub all_blank : List ℕ → Bool
+all_blank bytes = list_all is_blank bytes
+
+-- the characters without the blanks at their end
+unfoldable pub without_blanks : List ℕ → List ℕ
+without_blanks [] = []
+without_blanks (byte ∷ bytes) = if all_blank (byte ∷ bytes) then [] else byte ∷ without_blanks bytes
+
+-- a name in a field of six characters, of which the line may have fewer
+-- Profile: without the blanks at its end it is one to six characters from >21 to >7E, or else the tag is refused.
+abbrev pub symbol_in : ℕ → List ℕ → Result (List ℕ) TagCause
+symbol_in tag field =
+    if nat_lt (length field) 6 && all_printed (without_blanks field) then Err ShortField
+    else if is_kept_name (without_blanks field) then Ok (without_blanks field)
+    else Err (BadTag tag)
+
+-- the six characters behind the digits
+unfoldable pub symbol_at : ℕ → List ℕ → Result (List ℕ) TagCause
+symbol_at tag fields = symbol_in tag (take 6 (drop 4 fields))
