@@ -1,4 +1,3 @@
-pub mod Counts
 pub mod Stream
 pub mod Memory
 pub mod ReadAll

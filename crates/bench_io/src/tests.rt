@@ -14,7 +14,7 @@ struct Endless {
 }
 
 impl Source for Endless {
-    ghost state = { λ s. record { left = None; calls = s.calls; taken = s.taken; faults = 0 } };
+    ghost state = { λ s. record { left = None; calls = s.calls; taken = s.taken; empty = 0; faults = 0 } };
 
     fn take(&mut self, buffer: &mut [u8]) -> Result<usize, Failed> {
         self.calls = self.calls.saturating_add(1);
