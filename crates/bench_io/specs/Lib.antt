@@ -1,3 +1,4 @@
 pub mod Stream
 pub mod Memory
 pub mod ReadAll
+pub mod Written

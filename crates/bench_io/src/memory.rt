@@ -58,18 +58,18 @@ impl Source for MemSource {
         requires { 0 < length buffer.old }
         ensures fails { IsErr result ↔ Contains self.old.fails self.old.calls }
         ensures failed { OnErr result (self.new ≡ record self.old {
-            calls = raised self.old.calls 1;
-            empty = raised self.old.empty 1;
-            faults = raised self.old.faults 1;
+          calls = raised self.old.calls 1;
+          empty = raised self.old.empty 1;
+          faults = raised self.old.faults 1;
         }) }
         ensures cause { OnErr result (Rose self.old.faults self.new.faults) }
         ensures count { IfOk result (λ count. count ≡ min (length buffer.old) (length self.old.left)) }
         ensures bytes { IfOk result (λ count. buffer.new ≡ take count self.old.left ++ drop count buffer.old) }
         ensures ok { IfOk result (λ count. self.new ≡ record self.old {
-            left = drop count self.old.left;
-            calls = raised self.old.calls 1;
-            taken = raised self.old.taken count;
-            empty = raised self.old.empty (empty_calls count);
+          left = drop count self.old.left;
+          calls = raised self.old.calls 1;
+          taken = raised self.old.taken count;
+          empty = raised self.old.empty (empty_calls count);
         }) }
     {
         let call = self.calls;

@@ -49,14 +49,14 @@ impl<R: Read + Drop> Source for StdSource<R> {
         ensures cause { OnErr result (Rose self.old.faults self.new.faults) }
         ensures within { IfOk result (λ count. count ≤ length buffer.old) }
         ensures ok { IfOk result (λ count. self.new ≡ record self.old {
-            calls = raised self.old.calls 1;
-            taken = raised self.old.taken count;
-            empty = raised self.old.empty (empty_calls count);
+          calls = raised self.old.calls 1;
+          taken = raised self.old.taken count;
+          empty = raised self.old.empty (empty_calls count);
         }) }
         ensures error { OnErr result (self.new ≡ record self.old {
-            calls = raised self.old.calls 1;
-            empty = raised self.old.empty 1;
-            faults = raised self.old.faults 1;
+          calls = raised self.old.calls 1;
+          empty = raised self.old.empty 1;
+          faults = raised self.old.faults 1;
         }) }
     {
         self.calls = self.calls.saturating_add(1);
@@ -115,8 +115,8 @@ impl<W: Write + Drop> Sink for StdSink<W> {
         ensures cause { OnErr result (Rose self.old.faults self.new.faults) }
         ensures ok { OnOk result (self.new ≡ record self.old { puts = raised self.old.puts 1 }) }
         ensures error { OnErr result (self.new ≡ record self.old {
-            puts = raised self.old.puts 1;
-            faults = raised self.old.faults 1;
+          puts = raised self.old.puts 1;
+          faults = raised self.old.faults 1;
         }) }
     {
         self.puts = self.puts.saturating_add(1);

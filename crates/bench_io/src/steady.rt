@@ -49,10 +49,10 @@ impl Source for SteadySource {
         ensures count { IfOk result (λ count. count ≡ min (length buffer.old) (length self.old.left)) }
         ensures bytes { IfOk result (λ count. buffer.new ≡ take count self.old.left ++ drop count buffer.old) }
         ensures ok { IfOk result (λ count. self.new ≡ record self.old {
-            left = drop count self.old.left;
-            calls = raised self.old.calls 1;
-            taken = raised self.old.taken count;
-            empty = raised self.old.empty (empty_calls count);
+          left = drop count self.old.left;
+          calls = raised self.old.calls 1;
+          taken = raised self.old.taken count;
+          empty = raised self.old.empty (empty_calls count);
         }) }
     {
         self.calls = self.calls.saturating_add(1);
@@ -66,7 +66,7 @@ impl Source for SteadySource {
 }
 
 /// A sink that drops what it is given, tells nothing of it, and never fails.
-#[derive(Debug)]
+#[derive(Debug, Drop)]
 pub struct SteadySink {
     puts: u64,
 }
