@@ -7,12 +7,12 @@ use Rattle.console_defs.specs.Vdp.{VdpState, IsNewVdp}
 use Rattle.console_defs.specs.Grom.{new_grom}
 use Rattle.console_defs.specs.Operand.{Cpu}
 use Rattle.console_defs.specs.Memory.{Memory, console}
-use Rattle.console_defs.specs.Machine.{MachineState, new_machine, raised}
+use Rattle.console_defs.specs.Machine.{MachineState, new_machine}
 use Rattle.console_defs.specs.Runs.{IsRun, end_at, after}
 use Rattle.console_defs.specs.declared.ends.RunEnd.{RunEnd}
 use Rattle.report_defs.specs.declared.command.Command.{Command}
 use Rattle.report_defs.specs.declared.command.Command.TheVariants.{Gasm, Exec}
-use Rattle.report_defs.specs.Exec.{HoldsProgram, IsStart, Executes, exec_text, end_status}
+use Rattle.report_defs.specs.Exec.{HoldsProgram, IsStart, Executes, exec_lines, end_status}
 use Rattle.report_defs.specs.FaultLine.{too_large_line, past_end_line}
 use Rattle.report_defs.specs.declared.status.Status.TheVariants.{Refused}
 use Rattle.report_defs.specs.Report.{Report, Whole, Fault, ReportsRun, AcceptedReport, largest_input, largest_program}
@@ -84,12 +84,12 @@ one_execution limit input e f left right p q =
     let run : IsRun Memory console None limit q.made p.start.cpu f right.cpu = subst (λ s. IsRun Memory console None limit q.made s.cpu f right.cpu) (sym start) q.run in
     let made : p.made ≡ q.made = one_number None limit p.made q.made p.start.cpu left.cpu right.cpu e f p.run run in
     let same = same_run None limit p.made q.made p.start.cpu left.cpu right.cpu e f made p.run run in
-    (same.0, one_left left right same.1 (p.count ∙ ap (λ s. raised s.count p.made) start ∙ ap (raised q.start.count) made ∙ sym q.count))
+    (same.0, one_left left right same.1 (p.count ∙ made ∙ sym q.count))
 
 one_run_report : (limit : ℕ) (input : List ℕ) (first second : Report) → ReportsRun limit input first → ReportsRun limit input second → first ≡ second
 one_run_report limit input first second p q =
     let same = one_execution limit input p.ending q.ending p.left q.left p.executes q.executes in
-    p.is ∙ ap (λ ending. Whole (end_status ending) (exec_text ending p.left)) same.0 ∙ ap (λ left. Whole (end_status q.ending) (exec_text q.ending left)) same.1 ∙ sym q.is
+    p.is ∙ ap (λ ending. Whole (end_status ending) (exec_lines ending p.left)) same.0 ∙ ap (λ left. Whole (end_status q.ending) (exec_lines q.ending left)) same.1 ∙ sym q.is
 
 -- by a test, one fault or one of other reports
 one_by : (test : Bool) (fault first second : Report) (Other : Report → Type 0) → ((first second : Report) → Other first → Other second → first ≡ second) → MatchBool test (first ≡ fault) (Other first) → MatchBool test (second ≡ fault) (Other second) → first ≡ second

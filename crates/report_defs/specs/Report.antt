@@ -1,5 +1,5 @@
 -- What a command reports on its input.
-use Rattle.std.specs.Prelude.{◌≡◌, ℕ, nat_lt, List, length, Result, Ok, Err, MatchBool}
+use Rattle.std.specs.Prelude.{◌≡◌, ℕ, nat_lt, List, [], ◌∷◌, length, Result, Ok, Err, MatchBool}
 use Rattle.console_defs.specs.Machine.{MachineState}
 use Rattle.console_defs.specs.declared.ends.RunEnd.{RunEnd}
 use Rattle.source_defs.specs.Refusals.{Refusal}
@@ -11,15 +11,15 @@ use Rattle.report_defs.specs.declared.command.Command.TheVariants.{Gasm, Exec}
 use Rattle.report_defs.specs.declared.status.Status.{Status}
 use Rattle.report_defs.specs.declared.status.Status.TheVariants.{Done, Refused, Usage}
 use Rattle.report_defs.specs.FaultLine.{usage_line, too_large_line, past_end_line, refusal_line}
-use Rattle.report_defs.specs.Exec.{Executes, exec_text, end_status}
+use Rattle.report_defs.specs.Exec.{Executes, exec_lines, end_status}
 
--- the bytes that standard output gets, or the line that standard error gets, and the status
+-- The pieces that standard output gets, each by one write, or the line that standard error gets; and the status.
 pub data Report : Type 0 where
-  Whole : Status → List ℕ → Report
+  Whole : Status → List (List ℕ) → Report
   Fault : Status → List ℕ → Report
 
 abbrev pub status_of : Report → Status
-status_of (Whole status bytes) = status
+status_of (Whole status pieces) = status
 status_of (Fault status line) = status
 
 abbrev pub usage_report : Report
@@ -29,9 +29,14 @@ usage_report = Fault Usage usage_line
 abbrev pub largest_input : ℕ
 largest_input = 1048576
 
--- the bytes of the image from its lowest to its highest written address
+-- bytes in one piece, or in none where there are none
+abbrev pub one_piece : List ℕ → List (List ℕ)
+one_piece [] = []
+one_piece (byte ∷ bytes) = (byte ∷ bytes) ∷ []
+
+-- Profile: the report of gasm is the bytes of the image from its lowest to its highest written address, in one piece.
 abbrev pub gasm_report : Result Image (Refusal GplCause) → Report
-gasm_report (Ok image) = Whole Done (written_bytes image)
+gasm_report (Ok image) = Whole Done (one_piece (written_bytes image))
 gasm_report (Err refused) = Fault Refused (refusal_line refused)
 
 -- the report of a run of the machine
@@ -39,7 +44,7 @@ pub record ReportsRun (limit : ℕ) (input : List ℕ) (report : Report) : Type 
   pub ending : RunEnd
   pub left : MachineState
   pub executes : Executes limit input ending left
-  pub is : report ≡ Whole (end_status ending) (exec_text ending left)
+  pub is : report ≡ Whole (end_status ending) (exec_lines ending left)
 
 -- Profile: a program of raw bytes has room from >A000 to >FFFF.
 abbrev pub largest_program : ℕ

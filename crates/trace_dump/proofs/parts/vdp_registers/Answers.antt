@@ -1,5 +1,5 @@
-use Rattle.ti_bench.proofs.Dumps.{eight}
-use Rattle.ti_bench.proofs.dump.vdp_registers.Goals as goal
+use Rattle.trace_dump.proofs.Dumps.{eight}
+use Rattle.trace_dump.proofs.parts.vdp_registers.Goals as goal
 
 pub returns : goal.returns
 returns c =

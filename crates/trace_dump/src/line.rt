@@ -1,0 +1,54 @@
+//! A line of a dump, as it grows.
+
+ghost use Rattle.std.specs.Prelude.{◌≡◌, ◌≤◌, ◌<◌, ◌+◌, ◌*◌, ◌∷◌, ◌++◌, length};
+ghost use Rattle.arrayvec.specs.ArrayVec.{array_vec_len};
+ghost use Rattle.source_defs.specs.Digits.{byte_digits, marked_word};
+ghost use Rattle.report_defs.specs.Rows.{spaced_bytes};
+
+use arrayvec::ArrayVec;
+use asm_text::{byte_digits, word_digits};
+
+/// A line of up to 80 bytes, its line feed included.
+pub(crate) type Line = ArrayVec<u8, 80>;
+
+/// Appends bytes.
+pub(crate) fn append(line: &mut Line, bytes: &[u8])
+    requires { array_vec_len line.old + length bytes.now ≤ 80 }
+    ensures bytes { line.new.items ≡ line.old.items ++ bytes.now }
+    ensures len { array_vec_len line.new ≡ array_vec_len line.old + length bytes.now }
+{
+    line.try_extend_from_slice(bytes).unwrap();
+}
+
+/// Appends a word by `>` and its four hexadecimal digits.
+#[tactic(auto, using(std::proofs::Common::append_assoc))]
+pub(crate) fn append_word(line: &mut Line, word: u16)
+    requires { array_vec_len line.old + 5 ≤ 80 }
+    ensures bytes { line.new.items ≡ line.old.items ++ marked_word word }
+    ensures len { array_vec_len line.new ≡ array_vec_len line.old + 5 }
+{
+    line.push(b'>');
+    append(line, &word_digits(word));
+}
+
+/// Appends bytes, each after a blank by its two hexadecimal digits.
+pub(crate) fn append_spaced(line: &mut Line, bytes: &[u8])
+    requires { array_vec_len line.old + 3 * length bytes.now ≤ 80 }
+    ensures bytes { line.new.items ≡ line.old.items ++ spaced_bytes bytes.now }
+    ensures len { array_vec_len line.new ≡ array_vec_len line.old + 3 * length bytes.now }
+{
+    for &byte in bytes {
+        append_spaced_byte(line, byte);
+    }
+}
+
+/// Appends a byte after a blank.
+#[tactic(auto, using(std::proofs::Common::append_assoc))]
+fn append_spaced_byte(line: &mut Line, byte: u8)
+    requires { array_vec_len line.old + 3 ≤ 80 }
+    ensures bytes { line.new.items ≡ line.old.items ++ (0x20 ∷ byte_digits byte) }
+    ensures len { array_vec_len line.new ≡ array_vec_len line.old + 3 }
+{
+    line.push(b' ');
+    append(line, &byte_digits(byte));
+}
