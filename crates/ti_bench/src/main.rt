@@ -4,13 +4,11 @@
 mod bench;
 mod command;
 mod commands;
-mod dump;
 mod fault_line;
-mod put;
+mod input;
 mod report;
 #[cfg(test)]
 mod tests;
-mod text;
 mod words;
 
 use crate::bench::bench;

@@ -1,4 +1,4 @@
-//! What a machine looks like, line by line, to any sink. It takes no memory.
+//! What a machine looks like, line by line, to any sink; and the lines that reports are made of. Nothing takes memory.
 #![tactic(auto)]
 
 mod line;
@@ -6,4 +6,5 @@ mod parts;
 mod rows;
 mod workspace;
 
+pub use line::{Line, append, append_count, append_word};
 pub use parts::dump;

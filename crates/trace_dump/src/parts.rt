@@ -2,16 +2,14 @@
 
 ghost use Rattle.std.specs.Prelude.{◌≡◌, ◌≤◌, ◌+◌, ◌++◌, length};
 ghost use Rattle.arrayvec.specs.ArrayVec.{array_vec_len};
-ghost use Rattle.std.specs.Fmt.{decimal};
 ghost use Rattle.report_defs.specs.Dump as spec;
 ghost use Rattle.bench_io.specs.Written.{Written};
 
-use crate::line::{Line, append, append_spaced, append_word};
+use crate::line::{Line, append, append_count, append_spaced, append_word};
 use crate::rows::put_rows;
 use crate::workspace::put_workspace;
 use bench_io::{Failed, Sink, put_piece};
 use grom_counter::Grom;
-use itoa::Buffer;
 use tms_step::Machine;
 use vdp_ports::Vdp;
 
@@ -106,19 +104,10 @@ fn count_line(machine: &Machine) -> Line
     line
 }
 
-/// Appends a count in decimal digits.
-fn append_count(line: &mut Line, count: u64)
-    requires { array_vec_len line.old ≤ 6 }
-    ensures bytes { line.new.items ≡ line.old.items ++ decimal count }
-    ensures len { array_vec_len line.new ≤ 46 }
-{
-    append(line, Buffer::new().format(count).as_bytes());
-}
-
 /// Appends a word behind a label.
 #[tactic(auto, using(std::proofs::Common::append_assoc), unfolding(report_defs::specs::Dump::labelled_word))]
 fn append_labelled(line: &mut Line, label: &[u8], word: u16)
-    requires { array_vec_len line.old + length label.now + 5 ≤ 80 }
+    requires { array_vec_len line.old + length label.now + 5 ≤ 128 }
     ensures bytes { line.new.items ≡ line.old.items ++ spec.labelled_word label.now word }
     ensures len { array_vec_len line.new ≡ array_vec_len line.old + length label.now + 5 }
 {

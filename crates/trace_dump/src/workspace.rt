@@ -54,7 +54,7 @@ fn append_registers(line: &mut Line, machine: &Machine, first: u8)
 fn append_register(line: &mut Line, machine: &Machine, number: u8)
     requires workspace { has_workspace machine.now.cpu.wp ≡ true }
     requires number { number < 16 }
-    requires room { array_vec_len line.old + 6 ≤ 80 }
+    requires room { array_vec_len line.old + 6 ≤ 128 }
     ensures bytes { line.new.items ≡ line.old.items ++ spec.register_text machine.now.cpu number }
     ensures len { array_vec_len line.new ≡ array_vec_len line.old + 6 }
 {
