@@ -1,8 +1,8 @@
 -- Calls of `take`, one after the other.
-use Rattle.std.proofs.Common.{◌≡◌, ℕ, ◌+◌, ◌<◌, ◌≤◌, List, [], ◌++◌, length, take, Option, Some, None, sym, refl, ap, ◌∙◌, append_assoc, length-append, arith}
+use Rattle.std.proofs.Common.{◌≡◌, ℕ, zero, suc, ◌+◌, ◌<◌, ◌≤◌, List, [], ◌++◌, length, take, Option, Some, None, sym, refl, ap, ◌∙◌, append_assoc, length-append, arith}
 use Rattle.std.specs.Option.{option_map}
-use Rattle.bench_io.specs.Counts.{raised, Rose}
-use Rattle.bench_io.specs.Stream.{SourceState, Gave}
+use Rattle.count_defs.specs.Counts.{raised, Rose}
+use Rattle.bench_io.specs.Stream.{SourceState, Gave, empty_calls}
 use Rattle.bench_io.specs.ReadAll.{Took}
 
 -- A source before and after some calls, each of which took a byte or more.
@@ -10,6 +10,7 @@ pub record TookEach (before after : SourceState) (bytes : List ℕ) : Type 0 whe
   pub told : Gave before.left after.left bytes
   pub number : after.taken ≡ raised before.taken (length bytes)
   pub made : (calls : ℕ) × (calls ≤ length bytes) × (after.calls ≡ raised before.calls calls)
+  pub none : after.empty ≡ before.empty
   pub faults : before.faults ≤ after.faults
 
 pub raised-raised : (count a b : ℕ) → raised (raised count a) b ≡ raised count (a + b)
@@ -17,6 +18,9 @@ raised-raised count a b = omega arith
 
 pub raised-zero : (count : ℕ) → raised count 0 ≡ count
 raised-zero count = omega arith
+
+pub raised_by_none : (count by : ℕ) → by ≡ 0 → raised count by ≡ count
+raised_by_none count by none = omega arith
 
 -- no bytes are given by no calls
 pub gave_none : (left : Option (List ℕ)) → Gave left left []
@@ -32,23 +36,26 @@ took_none s = record {
   told = gave_none s.left;
   number = sym (raised-zero s.taken);
   made = (0, omega arith, sym (raised-zero s.calls));
+  none = refl;
   faults = omega arith;
 }
 
-pub took_from : (a b : SourceState) (x : List ℕ) → TookEach a b x → Took a b x
+pub took_from : (a b : SourceState) (x : List ℕ) → TookEach a b x → Took a b x 0
 took_from a b x h = record {
   told = h.told;
   number = h.number;
   made = (h.made.0, omega (arith, h.made.1), h.made.2);
+  none = h.none ∙ sym (raised-zero a.empty);
   faults = h.faults;
 }
 
 -- one more call, which gave some bytes
-pub took_more : (a b c : SourceState) (x y : List ℕ) (count : ℕ) → TookEach a b x → length y ≡ count → 0 < count → Gave b.left c.left y → c.taken ≡ raised b.taken count → c.calls ≡ raised b.calls 1 → b.faults ≤ c.faults → TookEach a c (x ++ y)
-took_more a b c x y count h len some gave taken calls faults = record {
+pub took_more : (a b c : SourceState) (x y : List ℕ) (count : ℕ) → TookEach a b x → length y ≡ count → 0 < count → Gave b.left c.left y → c.taken ≡ raised b.taken count → c.calls ≡ raised b.calls 1 → c.empty ≡ raised b.empty (empty_calls count) → b.faults ≤ c.faults → TookEach a c (x ++ y)
+took_more a b c x y count h len some gave taken calls empty faults = record {
   told = gave_more a.left b.left c.left x y h.told gave;
   number = taken ∙ (ap (λ n. raised n count) h.number ∙ (raised-raised a.taken (length x) count ∙ ap (raised a.taken) (ap (λ n. length x + n) (sym len) ∙ sym (length-append x y))));
   made = (h.made.0 + 1, omega (arith, length-append x y, h.made.1), calls ∙ (ap (λ n. raised n 1) h.made.2 ∙ raised-raised a.calls h.made.0 1));
+  none = empty ∙ (raised_by_none b.empty (empty_calls count) (omega arith) ∙ h.none);
   faults = omega (arith, h.faults);
 }
 
@@ -58,11 +65,12 @@ gave_nothing a None h = h
 gave_nothing a (Some rest) h = h
 
 -- a last call, which gave no byte
-pub took_last : (a b c : SourceState) (x : List ℕ) → TookEach a b x → b.left ≡ c.left → c.taken ≡ b.taken → c.calls ≡ raised b.calls 1 → b.faults ≤ c.faults → Took a c x
-took_last a b c x h left taken calls faults = record {
+pub took_last : (a b c : SourceState) (x : List ℕ) → TookEach a b x → b.left ≡ c.left → c.taken ≡ b.taken → c.calls ≡ raised b.calls 1 → c.empty ≡ raised b.empty 1 → b.faults ≤ c.faults → Took a c x 1
+took_last a b c x h left taken calls empty faults = record {
   told = h.told ∙ ap (option_map (λ rest. x ++ rest)) left;
   number = taken ∙ h.number;
   made = (h.made.0 + 1, omega (arith, h.made.1), calls ∙ (ap (λ n. raised n 1) h.made.2 ∙ raised-raised a.calls h.made.0 1));
+  none = empty ∙ ap (λ n. raised n 1) h.none;
   faults = omega (arith, h.faults);
 }
 
@@ -74,9 +82,6 @@ few_calls a b now x limit h short calls =
 -- what a call that gave no byte leaves
 pub gave_none_by : (a b : Option (List ℕ)) (count : ℕ) (buffer : List ℕ) → count ≡ 0 → Gave a b (take count buffer) → a ≡ b
 gave_none_by a b count buffer none h = gave_nothing a b (rw none at h)
-
-pub raised_by_none : (count by : ℕ) → by ≡ 0 → raised count by ≡ count
-raised_by_none count by none = omega arith
 
 -- what rose in the last call rose since the first
 pub rose_since : (a b c : ℕ) → a ≤ b → Rose b c → Rose a c

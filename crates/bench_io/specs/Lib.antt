@@ -1,4 +1,4 @@
-pub mod Counts
 pub mod Stream
 pub mod Memory
 pub mod ReadAll
+pub mod Written

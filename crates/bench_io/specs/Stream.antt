@@ -1,19 +1,38 @@
 -- What a source has left, what a sink holds, and their counts.
-use Rattle.std.specs.Prelude.{◌≡◌, ℕ, List, [], ◌++◌, take, Option, IfSome}
+use Rattle.std.specs.Prelude.{◌≡◌, ℕ, ◌-◌, List, [], ◌++◌, take, Option, IfSome}
 use Rattle.std.specs.Option.{option_map}
 
 -- a source: the bytes that are left, where it tells them; how many calls of `take` were made, how many bytes they gave,
--- and how many of them failed
+-- how many of them gave no byte (at the end, or by failing), and how many failed
 pub record SourceState : Type 0 where
   pub left : Option (List ℕ)
   pub calls : ℕ
   pub taken : ℕ
+  pub empty : ℕ
   pub faults : ℕ
 
--- a sink: the bytes that it holds, where it tells them, and how many calls of `put` failed
+-- a sink: the bytes that it holds, where it tells them, how many calls of `put` were made, and how many of
+-- them failed
 pub record SinkState : Type 0 where
   pub held : Option (List ℕ)
+  pub puts : ℕ
   pub faults : ℕ
+
+-- what is counted of a source that tells nothing of its bytes
+pub record SourceCounts : Type 0 where
+  pub calls : ℕ
+  pub taken : ℕ
+  pub empty : ℕ
+  pub faults : ℕ
+
+-- what is counted of a sink that tells nothing of its bytes
+pub record SinkCounts : Type 0 where
+  pub puts : ℕ
+  pub faults : ℕ
+
+-- 1 for a call that gave no byte, 0 for one that gave some
+abbrev pub empty_calls : ℕ → ℕ
+empty_calls count = 1 - count
 
 -- what was left before: these bytes, and then what is left now; a source that tells its bytes goes on telling them
 abbrev pub Gave : Option (List ℕ) → Option (List ℕ) → List ℕ → Type 0

@@ -8,6 +8,7 @@ mod source;
 mod std_io;
 mod steady;
 mod whole;
+mod written;
 
 pub use failed::Failed;
 pub use memory::{MemSink, MemSource};
@@ -16,6 +17,7 @@ pub use source::Source;
 pub use std_io::{StdSink, StdSource};
 pub use steady::{SteadySink, SteadySource};
 pub use whole::{ReadError, read_all};
+pub use written::put_piece;
 
 #[cfg(test)]
 mod tests;

@@ -1,5 +1,6 @@
 ghost use Rattle.std.specs.Prelude.{◌≡◌, ◌⊎◌, ◌↔◌, ◌<◌, ◌≤◌, ◌+◌, ◌-◌, min, ℕ, List, [], ◌++◌, length, take, drop, vec_len, vec_capacity, Option, Some, IsErr, IfOk, OnOk, OnErr, Contains};
-ghost use Rattle.bench_io.specs.Counts.{raised, Rose};
+ghost use Rattle.count_defs.specs.Counts.{raised, Rose};
+ghost use Rattle.bench_io.specs.Stream.{empty_calls};
 
 use crate::{Failed, Sink, Source};
 use std::alloc::{AllocError, Global};
@@ -11,6 +12,7 @@ pub struct MemSource {
     bytes: Vec<u8>,
     position: usize,
     calls: u64,
+    empty: u64,
     fails: Vec<u64>,
     faults: u64,
 }
@@ -21,7 +23,7 @@ impl Model for MemSource {
 
     ghost Value = { Supply };
 
-    ghost view = { λ s. record { left = drop s.position s.bytes.items; calls = s.calls; taken = s.position; fails = s.fails.items; faults = s.faults } };
+    ghost view = { λ s. record { left = drop s.position s.bytes.items; calls = s.calls; taken = s.position; empty = s.empty; fails = s.fails.items; faults = s.faults } };
 
     ghost invariant = { λ s. s.position ≤ vec_len s.bytes };
 }
@@ -29,12 +31,13 @@ impl Model for MemSource {
 impl MemSource {
     /// A source of `bytes`, of which the calls whose numbers from 0 stand in `fails` fail.
     pub fn new(bytes: Vec<u8>, fails: Vec<u64>) -> Self
-        ensures { result ≡ record { left = bytes.items; calls = 0; taken = 0; fails = fails.items; faults = 0 } }
+        ensures { result ≡ record { left = bytes.items; calls = 0; taken = 0; empty = 0; fails = fails.items; faults = 0 } }
     {
         MemSource {
             bytes,
             position: 0,
             calls: 0,
+            empty: 0,
             fails,
             faults: 0,
         }
@@ -49,25 +52,38 @@ impl MemSource {
 }
 
 impl Source for MemSource {
-    ghost state = { λ s. record { left = Some s.left; calls = s.calls; taken = s.taken; faults = s.faults } };
+    ghost state = { λ s. record { left = Some s.left; calls = s.calls; taken = s.taken; empty = s.empty; faults = s.faults } };
 
     fn take(&mut self, buffer: &mut [u8]) -> Result<usize, Failed>
         requires { 0 < length buffer.old }
         ensures fails { IsErr result ↔ Contains self.old.fails self.old.calls }
-        ensures failed { OnErr result (self.new ≡ record self.old { calls = raised self.old.calls 1; faults = raised self.old.faults 1 }) }
+        ensures failed { OnErr result (self.new ≡ record self.old {
+          calls = raised self.old.calls 1;
+          empty = raised self.old.empty 1;
+          faults = raised self.old.faults 1;
+        }) }
         ensures cause { OnErr result (Rose self.old.faults self.new.faults) }
         ensures count { IfOk result (λ count. count ≡ min (length buffer.old) (length self.old.left)) }
         ensures bytes { IfOk result (λ count. buffer.new ≡ take count self.old.left ++ drop count buffer.old) }
-        ensures ok { IfOk result (λ count. self.new ≡ record self.old { left = drop count self.old.left; calls = raised self.old.calls 1; taken = raised self.old.taken count }) }
+        ensures ok { IfOk result (λ count. self.new ≡ record self.old {
+          left = drop count self.old.left;
+          calls = raised self.old.calls 1;
+          taken = raised self.old.taken count;
+          empty = raised self.old.empty (empty_calls count);
+        }) }
     {
         let call = self.calls;
         self.calls = call.saturating_add(1);
         if self.fails.contains(&call) {
+            self.empty = self.empty.saturating_add(1);
             self.faults = self.faults.saturating_add(1);
             return Err(Failed);
         }
         let count = copy_front(&self.bytes[self.position..], buffer);
         self.position += count;
+        if count == 0 {
+            self.empty = self.empty.saturating_add(1);
+        }
         Ok(count)
     }
 }
@@ -137,7 +153,7 @@ impl MemSink {
 }
 
 impl Sink for MemSink {
-    ghost state = { λ s. record { held = Some s.held; faults = s.faults } };
+    ghost state = { λ s. record { held = Some s.held; puts = s.calls; faults = s.faults } };
 
     fn put(&mut self, bytes: &[u8]) -> Result<(), Failed>
         ensures fails { IsErr result ↔ (Contains self.old.fails self.old.calls ⊎ (self.old.room < length self.old.held + length bytes.now)) }

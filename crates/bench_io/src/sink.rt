@@ -1,12 +1,12 @@
-ghost use Rattle.std.specs.Prelude.{◌≤◌, OnOk, OnErr};
-ghost use Rattle.bench_io.specs.Counts.{Rose};
+ghost use Rattle.std.specs.Prelude.{◌≡◌, ◌≤◌, OnOk, OnErr};
+ghost use Rattle.count_defs.specs.Counts.{raised, Rose};
 ghost use Rattle.bench_io.specs.Stream.{SinkState, Grew, GrewByPrefix};
 
 use crate::Failed;
 
 /// Where bytes go, one piece after the other.
 pub trait Sink {
-    /// The bytes that it holds, where the sink tells them, and the count of faults, which does not fall.
+    /// The bytes that it holds, where the sink tells them, and the counts of calls and of faults. Neither falls.
     ghost state: { Self → SinkState };
 
     /// Appends all of `bytes`.
@@ -18,6 +18,7 @@ pub trait Sink {
         ensures put { OnOk result (Grew (state self.old).held (state self.new).held bytes.now) }
         ensures failed { OnErr result (GrewByPrefix (state self.old).held (state self.new).held bytes.now) }
 
+        ensures puts { (state self.new).puts ≡ raised (state self.old).puts 1 }
         ensures faults { (state self.old).faults ≤ (state self.new).faults }
         ensures cause { OnErr result (Rose (state self.old).faults (state self.new).faults) };
 }

@@ -1,42 +1,75 @@
-ghost use Rattle.std.specs.Prelude.{◌≡◌, None};
+ghost use Rattle.std.specs.Prelude.{◌≡◌, ◌<◌, ◌≤◌, length, None, IfOk, OnOk, OnErr};
+ghost use Rattle.count_defs.specs.Counts.{raised, Rose};
+ghost use Rattle.bench_io.specs.Stream.{empty_calls};
 
 use crate::{Failed, Sink, Source};
 use std::io::{Read, Write};
+use std::marker::Model;
 
 /// A source over any reader of std. It tells nothing of what the reader has left. Each error of the reader is a fault.
+/// Contracts see it as its counts.
 #[derive(Debug, Drop)]
 pub struct StdSource<R: Read + Drop> {
     reader: R,
     calls: u64,
     taken: u64,
+    empty: u64,
     faults: u64,
+}
+
+impl<R: Read + Drop> Model for StdSource<R> {
+    ghost use Rattle.bench_io.specs.Stream.{SourceCounts};
+
+    ghost Value = { SourceCounts };
+
+    ghost view = { λ s. record { calls = s.calls; taken = s.taken; empty = s.empty; faults = s.faults } };
 }
 
 impl<R: Read + Drop> StdSource<R> {
     /// A source over `reader`, of which nothing has been taken.
     pub fn new(reader: R) -> Self
-        ensures { ⟦<StdSource<R> as Source>⟧.state result ≡ record { left = None; calls = 0; taken = 0; faults = 0 } }
+        ensures { result ≡ record { calls = 0; taken = 0; empty = 0; faults = 0 } }
     {
         StdSource {
             reader,
             calls: 0,
             taken: 0,
+            empty: 0,
             faults: 0,
         }
     }
 }
 
 impl<R: Read + Drop> Source for StdSource<R> {
-    ghost state = { λ s. record { left = None; calls = s.calls; taken = s.taken; faults = s.faults } };
+    ghost state = { λ s. record { left = None; calls = s.calls; taken = s.taken; empty = s.empty; faults = s.faults } };
 
-    fn take(&mut self, buffer: &mut [u8]) -> Result<usize, Failed> {
+    /// Each error of the reader raises the count of faults by one, and nothing else does.
+    fn take(&mut self, buffer: &mut [u8]) -> Result<usize, Failed>
+        requires { 0 < length buffer.old }
+        ensures cause { OnErr result (Rose self.old.faults self.new.faults) }
+        ensures within { IfOk result (λ count. count ≤ length buffer.old) }
+        ensures ok { IfOk result (λ count. self.new ≡ record self.old {
+          calls = raised self.old.calls 1;
+          taken = raised self.old.taken count;
+          empty = raised self.old.empty (empty_calls count);
+        }) }
+        ensures error { OnErr result (self.new ≡ record self.old {
+          calls = raised self.old.calls 1;
+          empty = raised self.old.empty 1;
+          faults = raised self.old.faults 1;
+        }) }
+    {
         self.calls = self.calls.saturating_add(1);
         match self.reader.read(buffer) {
             Ok(count) => {
                 self.taken = self.taken.saturating_add(count as u64);
+                if count == 0 {
+                    self.empty = self.empty.saturating_add(1);
+                }
                 Ok(count)
             }
             Err(_) => {
+                self.empty = self.empty.saturating_add(1);
                 self.faults = self.faults.saturating_add(1);
                 Err(Failed)
             }
@@ -45,26 +78,48 @@ impl<R: Read + Drop> Source for StdSource<R> {
 }
 
 /// A sink over any writer of std. It tells nothing of what the writer holds. Each error of the writer is a fault, and so
-/// is a write that takes nothing of a piece that is not empty.
+/// is a write that takes nothing of a piece that is not empty. Contracts see it as its counts.
 #[derive(Debug, Drop)]
 pub struct StdSink<W: Write + Drop> {
     writer: W,
+    puts: u64,
     faults: u64,
+}
+
+impl<W: Write + Drop> Model for StdSink<W> {
+    ghost use Rattle.bench_io.specs.Stream.{SinkCounts};
+
+    ghost Value = { SinkCounts };
+
+    ghost view = { λ s. record { puts = s.puts; faults = s.faults } };
 }
 
 impl<W: Write + Drop> StdSink<W> {
     /// A sink over `writer`.
     pub fn new(writer: W) -> Self
-        ensures { ⟦<StdSink<W> as Sink>⟧.state result ≡ record { held = None; faults = 0 } }
+        ensures { result ≡ record { puts = 0; faults = 0 } }
     {
-        StdSink { writer, faults: 0 }
+        StdSink {
+            writer,
+            puts: 0,
+            faults: 0,
+        }
     }
 }
 
 impl<W: Write + Drop> Sink for StdSink<W> {
-    ghost state = { λ s. record { held = None; faults = s.faults } };
+    ghost state = { λ s. record { held = None; puts = s.puts; faults = s.faults } };
 
-    fn put(&mut self, bytes: &[u8]) -> Result<(), Failed> {
+    /// Each error of the writer raises the count of faults by one, and nothing else does.
+    fn put(&mut self, bytes: &[u8]) -> Result<(), Failed>
+        ensures cause { OnErr result (Rose self.old.faults self.new.faults) }
+        ensures ok { OnOk result (self.new ≡ record self.old { puts = raised self.old.puts 1 }) }
+        ensures error { OnErr result (self.new ≡ record self.old {
+          puts = raised self.old.puts 1;
+          faults = raised self.old.faults 1;
+        }) }
+    {
+        self.puts = self.puts.saturating_add(1);
         match self.writer.write_all(bytes) {
             Ok(()) => Ok(()),
             Err(_) => {

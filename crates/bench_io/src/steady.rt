@@ -1,5 +1,6 @@
 ghost use Rattle.std.specs.Prelude.{◌≡◌, ◌<◌, ◌≤◌, ◌+◌, min, ℕ, List, [], ◌++◌, length, take, drop, vec_len, Option, Some, None, IsOk, IsOkAnd, IfOk};
-ghost use Rattle.bench_io.specs.Counts.{raised};
+ghost use Rattle.count_defs.specs.Counts.{raised};
+ghost use Rattle.bench_io.specs.Stream.{empty_calls};
 
 use crate::memory::copy_front;
 use crate::{Failed, Sink, Source};
@@ -11,6 +12,7 @@ pub struct SteadySource {
     bytes: Vec<u8>,
     position: usize,
     calls: u64,
+    empty: u64,
 }
 
 impl Model for SteadySource {
@@ -19,7 +21,7 @@ impl Model for SteadySource {
 
     ghost Value = { Supply };
 
-    ghost view = { λ s. record { left = drop s.position s.bytes.items; calls = s.calls; taken = s.position; fails = []; faults = 0 } };
+    ghost view = { λ s. record { left = drop s.position s.bytes.items; calls = s.calls; taken = s.position; empty = s.empty; fails = []; faults = 0 } };
 
     ghost invariant = { λ s. s.position ≤ vec_len s.bytes };
 }
@@ -27,52 +29,73 @@ impl Model for SteadySource {
 impl SteadySource {
     /// A source of `bytes`.
     pub fn new(bytes: Vec<u8>) -> Self
-        ensures { result ≡ record { left = bytes.items; calls = 0; taken = 0; fails = []; faults = 0 } }
+        ensures { result ≡ record { left = bytes.items; calls = 0; taken = 0; empty = 0; fails = []; faults = 0 } }
     {
         SteadySource {
             bytes,
             position: 0,
             calls: 0,
+            empty: 0,
         }
     }
 }
 
 impl Source for SteadySource {
-    ghost state = { λ s. record { left = Some s.left; calls = s.calls; taken = s.taken; faults = 0 } };
+    ghost state = { λ s. record { left = Some s.left; calls = s.calls; taken = s.taken; empty = s.empty; faults = 0 } };
 
     fn take(&mut self, buffer: &mut [u8]) -> Result<usize, Failed>
         requires { 0 < length buffer.old }
         ensures steady { IsOk result }
         ensures count { IfOk result (λ count. count ≡ min (length buffer.old) (length self.old.left)) }
         ensures bytes { IfOk result (λ count. buffer.new ≡ take count self.old.left ++ drop count buffer.old) }
-        ensures ok { IfOk result (λ count. self.new ≡ record self.old { left = drop count self.old.left; calls = raised self.old.calls 1; taken = raised self.old.taken count }) }
+        ensures ok { IfOk result (λ count. self.new ≡ record self.old {
+          left = drop count self.old.left;
+          calls = raised self.old.calls 1;
+          taken = raised self.old.taken count;
+          empty = raised self.old.empty (empty_calls count);
+        }) }
     {
         self.calls = self.calls.saturating_add(1);
         let count = copy_front(&self.bytes[self.position..], buffer);
         self.position += count;
+        if count == 0 {
+            self.empty = self.empty.saturating_add(1);
+        }
         Ok(count)
     }
 }
 
 /// A sink that drops what it is given, tells nothing of it, and never fails.
-#[derive(Clone, Copy, Debug, PartialEq, Eq)]
-pub struct SteadySink;
+#[derive(Debug, Drop)]
+pub struct SteadySink {
+    puts: u64,
+}
+
+impl Model for SteadySink {
+    ghost use Rattle.bench_io.specs.Stream.{SinkCounts};
+
+    ghost Value = { SinkCounts };
+
+    ghost view = { λ s. record { puts = s.puts; faults = 0 } };
+}
 
 impl SteadySink {
     /// The sink.
     pub fn new() -> Self
-        ensures { ⟦<SteadySink as Sink>⟧.state result ≡ record { held = None; faults = 0 } }
+        ensures { result ≡ record { puts = 0; faults = 0 } }
     {
-        SteadySink
+        SteadySink { puts: 0 }
     }
 }
 
 impl Sink for SteadySink {
-    ghost state = { λ _. record { held = None; faults = 0 } };
+    ghost state = { λ s. record { held = None; puts = s.puts; faults = 0 } };
 
     fn put(&mut self, _bytes: &[u8]) -> Result<(), Failed>
         ensures steady { IsOk result }
+        ensures puts { self.new ≡ record self.old { puts = raised self.old.puts 1 } }
     {
+        self.puts = self.puts.saturating_add(1);
         Ok(())
     }
 }

@@ -1,28 +1,8 @@
-ghost use Rattle.std.specs.Prelude.{None};
-
 use super::*;
 use std::alloc::{AllocError, Global};
 use std::io;
 use std::io::{ErrorKind, Read, Write};
 use std::test::Fail;
-
-/// A source that gives one byte a call and never ends.
-#[derive(Drop)]
-struct Endless {
-    calls: u64,
-    taken: u64,
-}
-
-impl Source for Endless {
-    ghost state = { λ s. record { left = None; calls = s.calls; taken = s.taken; faults = 0 } };
-
-    fn take(&mut self, buffer: &mut [u8]) -> Result<usize, Failed> {
-        self.calls = self.calls.saturating_add(1);
-        self.taken = self.taken.saturating_add(1);
-        buffer[0] = 7;
-        Ok(1)
-    }
-}
 
 /// A reader whose every read fails.
 #[derive(Drop)]
@@ -56,98 +36,112 @@ impl Write for Narrow {
     }
 }
 
-fn source(alloc: Global, size: usize, fails: &[u64]) -> Result<MemSource, AllocError> {
-    Ok(MemSource::new(vec![in alloc; 9; size]?, Vec::from_slice(alloc, fails)?))
+/// The number of no call.
+const NEVER: u64 = 99;
+
+/// Bytes of a source, the call that fails, the limit, and how many bytes come. Four calls read 9,000 bytes: three with
+/// bytes, and the end.
+const READINGS: &[(usize, u64, usize, Result<usize, ReadError>)] = &[
+    (0, NEVER, 0, Ok(0)),
+    (1, NEVER, 0, Err(ReadError::TooLarge)),
+    (5, NEVER, 4, Err(ReadError::TooLarge)),
+    (5, NEVER, 5, Ok(5)),
+    (4096, NEVER, 4096, Ok(4096)),
+    (9000, NEVER, 1048576, Ok(9000)),
+    (9000, 0, 10000, Err(ReadError::Fault)),
+    (9000, 3, 10000, Err(ReadError::Fault)),
+    (9000, 4, 10000, Ok(9000)),
+];
+
+/// Whether so many bytes are read as said, and the source has counted a fault where it is one.
+fn reads_as(
+    alloc: Global,
+    size: usize,
+    fails: u64,
+    limit: usize,
+    want: Result<usize, ReadError>,
+) -> Result<bool, AllocError> {
+    if limit == usize::MAX {
+        return Ok(false);
+    }
+    let mut source = MemSource::new(vec![in alloc; 9; size]?, Vec::from_slice(alloc, &[fails])?);
+    let got = read_all(alloc, &mut source, limit).map(|bytes| bytes.len());
+    Ok(got == want && source.faults() == u64::from(want == Err(ReadError::Fault)))
+}
+
+/// Whether a steady source is read whole.
+fn reads_steadily(alloc: Global) -> Result<bool, AllocError> {
+    let mut source = SteadySource::new(Vec::from_slice(alloc, b"one")?);
+    Ok(read_all(alloc, &mut source, 3).is_ok_and(|bytes| bytes.as_slice() == b"one".as_slice()))
 }
 
 #[test]
 fn a_source_is_read_up_to_its_end_or_its_limit(rt: HostRuntime) -> Result<(), Fail> {
-    let alloc = rt.alloc();
-    // bytes, limit, and how many come
-    for (size, limit, want) in [
-        (0, 0, Ok(0)),
-        (1, 0, Err(ReadError::TooLarge)),
-        (5, 1, Err(ReadError::TooLarge)),
-        (5, 4, Err(ReadError::TooLarge)),
-        (5, 5, Ok(5)),
-        (4096, 4096, Ok(4096)),
-        (9000, 1048576, Ok(9000)),
-    ] {
-        let got = read_all(alloc, &mut source(alloc, size, &[])?, limit).map(|bytes| bytes.len());
-        assert_eq!(rt; got, want, "{size} bytes, limit {limit}");
+    for &(size, fails, limit, want) in READINGS {
+        assert!(rt;
+            reads_as(rt.alloc(), size, fails, limit, want)?,
+            "{size} bytes, limit {limit}, call {fails} fails"
+        );
     }
-    // Four calls read 9,000 bytes: three with bytes, and the end.
-    for fail in 0..4 {
-        let mut failing = source(alloc, 9000, &[fail])?;
-        let got = read_all(alloc, &mut failing, 10000).map(|bytes| bytes.len());
-        assert_eq!(rt; got, Err(ReadError::Fault), "call {fail} fails");
-        assert_eq!(rt; failing.faults(), 1);
-    }
-    let mut later = source(alloc, 9000, &[4])?;
-    assert_eq!(rt;
-        read_all(alloc, &mut later, 10000).map(|bytes| bytes.len()),
-        Ok(9000)
-    );
-    assert_eq!(rt;
-        read_all(alloc, &mut later, 10000).map(|bytes| bytes.len()),
-        Err(ReadError::Fault)
-    );
-
-    let mut endless = Endless { calls: 0, taken: 0 };
-    let got = read_all(alloc, &mut endless, 10).map(|bytes| bytes.len());
-    assert_eq!(rt; got, Err(ReadError::TooLarge));
-    assert_eq!(rt; (endless.calls, endless.taken), (11, 11));
-
-    let mut steady = SteadySource::new(Vec::from_slice(alloc, b"one")?);
-    let bytes = read_all(alloc, &mut steady, 3)?;
-    assert_eq!(rt; bytes.as_slice(), b"one".as_slice());
+    assert!(rt; reads_steadily(rt.alloc())?);
     Ok(())
 }
 
-#[test]
-fn a_memory_sink_keeps_to_its_room(rt: HostRuntime) -> Result<(), Fail> {
-    let alloc = rt.alloc();
-    let mut sink = MemSink::new(alloc, 3, Vec::from_slice(alloc, &[3])?)?;
-    for (piece, want, held, faults) in [
-        (b"ab".as_slice(), Ok(()), b"ab".as_slice(), 0),
-        (b"cd", Err(Failed), b"ab", 1),
-        (b"c", Ok(()), b"abc", 1),
-        (b"", Err(Failed), b"abc", 2),
-        (b"", Ok(()), b"abc", 2),
-        (b"d", Err(Failed), b"abc", 3),
-    ] {
-        assert_eq!(rt; sink.put(piece), want);
-        assert_eq!(rt; sink.bytes(), held);
-        assert_eq!(rt; sink.faults(), faults);
-    }
-    assert_eq!(rt; SteadySink::new().put(b"gone"), Ok(()));
-    Ok(())
+/// Pieces that are put into a sink with room for three bytes whose fourth call fails, whether each is taken, and what the
+/// sink holds then.
+const PIECES: &[(&[u8], bool, &[u8])] = &[
+    (b"ab", true, b"ab"),
+    (b"cd", false, b"ab"),
+    (b"c", true, b"abc"),
+    (b"", false, b"abc"),
+    (b"", true, b"abc"),
+    (b"d", false, b"abc"),
+];
+
+/// Whether a sink takes a piece or counts a fault, and what it holds then.
+fn puts_as(sink: &mut MemSink, piece: &[u8], taken: bool, held: &[u8]) -> bool {
+    let faults = sink.faults();
+    let done = sink.put(piece).is_ok();
+    done == taken && sink.bytes() == held && (sink.faults() == faults) == taken
 }
 
-#[test]
-fn real_streams_fail_in_mid_stream(rt: HostRuntime) -> Result<(), Fail> {
-    let alloc = rt.alloc();
-    let (reader, writer) = io::pipe(&rt)?;
+/// Whether what goes through a pipe comes out of it.
+fn passes_a_pipe(rt: &HostRuntime) -> io::Result<bool> {
+    let (reader, writer) = io::pipe(rt)?;
     {
         let mut sink = StdSink::new(writer);
-        assert_eq!(rt; sink.put(b"through "), Ok(()));
-        assert_eq!(rt; sink.put(b"a pipe"), Ok(()));
+        if put_piece(&mut sink, b"through ").is_err() || sink.put(b"a pipe").is_err() {
+            return Ok(false);
+        }
     }
-    let bytes = read_all(alloc, &mut StdSource::new(reader), 100)?;
-    assert_eq!(rt; bytes.as_slice(), b"through a pipe".as_slice());
+    let read = read_all(rt.alloc(), &mut StdSource::new(reader), 100);
+    Ok(read.is_ok_and(|bytes| bytes.as_slice() == b"through a pipe".as_slice()))
+}
 
-    let mut failing = StdSource::new(b"front".as_slice().chain(Broken));
+/// Whether a reader that fails behind its first bytes gives these, then fails, and goes on failing.
+fn fails_behind_its_front(alloc: Global) -> bool {
+    let mut source = StdSource::new(b"front".as_slice().chain(Broken));
     let mut buffer = [0; 8];
-    assert_eq!(rt; failing.take(&mut buffer), Ok(5));
-    assert_eq!(rt; failing.take(&mut buffer), Err(Failed));
-    let got = read_all(alloc, &mut failing, 100).map(|bytes| bytes.len());
-    assert_eq!(rt; got, Err(ReadError::Fault));
+    source.take(&mut buffer) == Ok(5)
+        && source.take(&mut buffer) == Err(Failed)
+        && read_all(alloc, &mut source, 100).is_err_and(|error| error == ReadError::Fault)
+}
 
-    for fails in [true, false] {
-        let mut sink = StdSink::new(Narrow { room: 4, fails });
-        assert_eq!(rt; sink.put(b"abc"), Ok(()));
-        assert_eq!(rt; sink.put(b"def"), Err(Failed));
-        assert_eq!(rt; sink.put(b""), Ok(()));
+/// Whether a writer with room for four bytes takes three, then fails, whether by an error or by taking nothing.
+fn fails_when_full(fails: bool) -> bool {
+    let mut sink = StdSink::new(Narrow { room: 4, fails });
+    sink.put(b"abc").is_ok() && sink.put(b"def").is_err() && sink.put(b"").is_ok()
+}
+
+#[test]
+fn sinks_and_real_streams_fail_where_they_must(rt: HostRuntime) -> Result<(), Fail> {
+    let mut sink = MemSink::new(rt.alloc(), 3, Vec::from_slice(rt.alloc(), &[3])?)?;
+    for &(piece, taken, held) in PIECES {
+        assert!(rt; puts_as(&mut sink, piece, taken, held), "{piece:?}");
     }
+    assert!(rt; passes_a_pipe(&rt)? && fails_behind_its_front(rt.alloc()));
+    assert!(rt;
+        fails_when_full(true) && fails_when_full(false) && SteadySink::new().put(b"gone").is_ok()
+    );
     Ok(())
 }

@@ -1,5 +1,5 @@
 ghost use Rattle.std.specs.Prelude.{◌≡◌, ◌<◌, ◌≤◌, ◌+◌, ℕ, IfOk, IfErr};
-ghost use Rattle.bench_io.specs.Counts.{raised};
+ghost use Rattle.count_defs.specs.Counts.{raised};
 ghost use Rattle.bench_io.specs.ReadAll.{ReadWhole, GaveUp};
 ghost use Rattle.bench_io.specs.declared.whole.ReadError.TheVariants.{Fault, Memory};
 

@@ -11,10 +11,9 @@ use Rattle.console_defs.specs.Runs.{IsRun, end_at, after}
 use Rattle.console_defs.specs.declared.ends.RunEnd.{RunEnd}
 use Rattle.report_defs.specs.declared.command.Command.{Command}
 use Rattle.report_defs.specs.declared.command.Command.TheVariants.{Gasm, Exec}
-use Rattle.report_defs.specs.Exec.{HoldsProgram, IsStart, Executes, exec_text, end_status}
-use Rattle.report_defs.specs.FaultLine.{too_large_line, past_end_line}
-use Rattle.report_defs.specs.declared.status.Status.TheVariants.{Refused}
-use Rattle.report_defs.specs.Report.{Report, Whole, Fault, ReportsRun, AcceptedReport, largest_input, largest_program}
+use Rattle.report_defs.specs.Exec.{HoldsProgram, IsStart, Executes, exec_lines, end_status}
+use Rattle.report_defs.specs.declared.fault.Fault.TheVariants.{TooLarge, PastEnd}
+use Rattle.report_defs.specs.Report.{Report, Whole, Faulty, ReportsRun, AcceptedReport, largest_input, largest_program}
 use Rattle.report_defs.specs.Laws.{OneReport}
 
 -- zeros are one list
@@ -84,7 +83,7 @@ one_execution limit input e f left right p q =
 one_run_report : (limit : ℕ) (input : List ℕ) (first second : Report) → ReportsRun limit input first → ReportsRun limit input second → first ≡ second
 one_run_report limit input first second p q =
     let same = one_execution limit input p.ending q.ending p.left q.left p.executes q.executes in
-    p.is ∙ ap (λ ending. Whole (end_status ending) (exec_text ending p.left)) same.0 ∙ ap (λ left. Whole (end_status q.ending) (exec_text q.ending left)) same.1 ∙ sym q.is
+    p.is ∙ ap (λ ending. Whole (end_status ending) (exec_lines ending p.left)) same.0 ∙ ap (λ left. Whole (end_status q.ending) (exec_lines q.ending left)) same.1 ∙ sym q.is
 
 -- by a test, one fault or one of other reports
 one_by : (test : Bool) (fault first second : Report) (Other : Report → Type 0) → ((first second : Report) → Other first → Other second → first ≡ second) → MatchBool test (first ≡ fault) (Other first) → MatchBool test (second ≡ fault) (Other second) → first ≡ second
@@ -94,8 +93,8 @@ one_by false fault first second Other one p q = one first second p q
 one_accepted : (command : Command) (input : List ℕ) (first second : Report) → AcceptedReport command input first → AcceptedReport command input second → first ≡ second
 one_accepted Gasm input first second p q = p ∙ sym q
 one_accepted (Exec limit) input first second p q =
-    one_by (nat_lt largest_program (length input)) (Fault Refused past_end_line) first second (ReportsRun limit input) (one_run_report limit input) p q
+    one_by (nat_lt largest_program (length input)) (Faulty PastEnd) first second (ReportsRun limit input) (one_run_report limit input) p q
 
 pub one_report : OneReport
 one_report command input first second p q =
-    one_by (nat_lt largest_input (length input)) (Fault Refused too_large_line) first second (AcceptedReport command input) (one_accepted command input) p q
+    one_by (nat_lt largest_input (length input)) (Faulty TooLarge) first second (AcceptedReport command input) (one_accepted command input) p q

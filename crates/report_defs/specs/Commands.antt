@@ -1,5 +1,5 @@
 -- The words of the command line.
-use Rattle.std.specs.Prelude.{ℕ, ◌==◌, Bool, ◌&&◌, nat_eq, nat_lt, if◌then◌else◌, List, [], ◌∷◌, length, slice_index, codes, Option, Some, None}
+use Rattle.std.specs.Prelude.{ℕ, ◌==◌, Bool, true, ◌&&◌, nat_eq, nat_lt, if◌then◌else◌, List, [], ◌∷◌, length, slice_index, codes, Option, Some, None}
 use Rattle.std.specs.Option.{option_map}
 use Rattle.std.specs.Cmp.Lexicographic.{pointwise}
 use Rattle.source_defs.specs.Numbers.{decimal_up_to}
@@ -30,3 +30,8 @@ command_of [] = None
 command_of (name ∷ []) = if same_word name (codes "gasm") then Some Gasm else None
 command_of (name ∷ word ∷ []) = if same_word name (codes "exec") then exec_command word else None
 command_of (name ∷ word ∷ next ∷ others) = None
+
+-- Profile: each command reads its input.
+abbrev pub reads : Command → Bool
+reads Gasm = true
+reads (Exec limit) = true

@@ -1,4 +1,4 @@
--- What a machine looks like: its scratchpad, its ports, its count and its registers.
+-- What a machine looks like: its scratchpad, its ports, its count and its registers. A dump is a list of lines.
 use Rattle.std.specs.Prelude.{ℕ, ◌*◌, if◌then◌else◌, List, [], ◌∷◌, ◌++◌, codes}
 use Rattle.std.specs.List.{flat_map, range_with_len}
 use Rattle.std.specs.Fmt.{decimal}
@@ -10,28 +10,31 @@ use Rattle.console_defs.specs.Memory.{Memory, word_read}
 use Rattle.console_defs.specs.Operand.{Cpu}
 use Rattle.console_defs.specs.Status.{status_word}
 use Rattle.console_defs.specs.Machine.{MachineState, has_workspace}
-use Rattle.report_defs.specs.Numbers.{marked_word}
-use Rattle.report_defs.specs.Rows.{spaced_bytes, rows_text}
+use Rattle.source_defs.specs.Digits.{marked_word}
+use Rattle.report_defs.specs.Rows.{spaced_bytes, rows_lines}
 
 -- Profile: a dump begins with the scratchpad, in rows from >8300.
-unfoldable pub pad_text : List ℕ → List ℕ
-pad_text scratchpad = codes "pad\n" ++ rows_text 0x8300 scratchpad
+unfoldable pub pad_lines : List ℕ → List (List ℕ)
+pad_lines scratchpad = codes "pad\n" ∷ rows_lines 0x8300 scratchpad
 
 -- Profile: then the video memory, in rows from >0000, and the eight registers of the video processor.
-unfoldable pub vdp_text : VdpState → List ℕ
-vdp_text vdp = codes "vdp\n" ++ (rows_text 0 vdp.memory ++ (codes "regs" ++ (spaced_bytes vdp.registers ++ codes "\n")))
+unfoldable pub vdp_registers_line : List ℕ → List ℕ
+vdp_registers_line registers = codes "regs" ++ (spaced_bytes registers ++ codes "\n")
+
+unfoldable pub vdp_lines : VdpState → List (List ℕ)
+vdp_lines vdp = codes "vdp\n" ∷ (rows_lines 0 vdp.memory ++ vdp_registers_line vdp.registers ∷ [])
 
 -- Profile: then the counter of the GROMs.
-unfoldable pub grom_text : GromState → List ℕ
-grom_text grom = codes "grom " ++ (marked_word grom.counter ++ codes "\n")
+unfoldable pub grom_line : GromState → List ℕ
+grom_line grom = codes "grom " ++ (marked_word grom.counter ++ codes "\n")
 
 -- a word behind a label
 unfoldable pub labelled_word : List ℕ → ℕ → List ℕ
 labelled_word label word = label ++ marked_word word
 
 -- Profile: then the count of executed instructions, program counter, workspace pointer and status.
-unfoldable pub count_text : MachineState → List ℕ
-count_text machine =
+unfoldable pub count_line : MachineState → List ℕ
+count_line machine =
     codes "count " ++ (decimal machine.count
     ++ (labelled_word (codes " PC ") machine.cpu.pc
     ++ (labelled_word (codes " WP ") machine.cpu.wp
@@ -50,16 +53,19 @@ register_text cpu number = shown_word (word_read cpu.memory (plus cpu.wp (2 * nu
 unfoldable pub eight_registers : Cpu Memory → ℕ → List ℕ
 eight_registers cpu first = flat_map (register_text cpu) (range_with_len first 8)
 
+-- eight registers, behind the name of the first
+unfoldable pub registers_line : List ℕ → Cpu Memory → ℕ → List ℕ
+registers_line name cpu first = name ++ (eight_registers cpu first ++ codes "\n")
+
 -- Profile: then the sixteen registers, or that there are none, where the workspace does not lie wholly in memory that
 -- can be shown.
-unfoldable pub registers_text : Cpu Memory → List ℕ
-registers_text cpu =
-    if has_workspace cpu.wp then codes "R0" ++ (eight_registers cpu 0 ++ (codes "\nR8" ++ (eight_registers cpu 8 ++ codes "\n")))
-    else codes "R none\n"
+unfoldable pub workspace_lines : Cpu Memory → List (List ℕ)
+workspace_lines cpu =
+    if has_workspace cpu.wp then registers_line (codes "R0") cpu 0 ∷ registers_line (codes "R8") cpu 8 ∷ []
+    else codes "R none\n" ∷ []
 
-abbrev pub dump_text : MachineState → List ℕ
-dump_text machine =
-    pad_text machine.cpu.memory.scratchpad
-    ++ (vdp_text machine.cpu.memory.vdp
-    ++ (grom_text machine.cpu.memory.grom
-    ++ (count_text machine ++ registers_text machine.cpu)))
+abbrev pub dump_lines : MachineState → List (List ℕ)
+dump_lines machine =
+    pad_lines machine.cpu.memory.scratchpad
+    ++ (vdp_lines machine.cpu.memory.vdp
+    ++ (grom_line machine.cpu.memory.grom ∷ count_line machine ∷ workspace_lines machine.cpu))

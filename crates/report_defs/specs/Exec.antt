@@ -1,5 +1,5 @@
 -- Executing raw bytes.
-use Rattle.std.specs.Prelude.{◌≡◌, ℕ, ◌-◌, List, ◌++◌, length, codes, None}
+use Rattle.std.specs.Prelude.{◌≡◌, ℕ, ◌-◌, List, ◌∷◌, ◌++◌, length, codes, None}
 use Rattle.console_defs.specs.Bytes.{HoldsZeros}
 use Rattle.console_defs.specs.Vdp.{IsNewVdp}
 use Rattle.console_defs.specs.Grom.{new_grom}
@@ -10,8 +10,8 @@ use Rattle.console_defs.specs.declared.ends.RunEnd.{RunEnd}
 use Rattle.console_defs.specs.declared.ends.RunEnd.TheVariants.{Reached, Limit, Refused, Port, SelfJump}
 use Rattle.report_defs.specs.declared.status.Status.{Status}
 use Rattle.report_defs.specs.declared.status.Status.TheVariants as status
-use Rattle.report_defs.specs.Numbers.{marked_word}
-use Rattle.report_defs.specs.Dump.{dump_text}
+use Rattle.source_defs.specs.Digits.{marked_word}
+use Rattle.report_defs.specs.Dump.{dump_lines}
 
 -- Profile: the bytes stand from >A000 on, and all other memory is 0.
 pub record HoldsProgram (memory : Memory) (input : List ℕ) : Type 0 where
@@ -35,12 +35,12 @@ pub record Executes (limit : ℕ) (input : List ℕ) (ending : RunEnd) (left : M
   pub run : IsRun None limit made start ending left
 
 -- Profile: a report of a run begins with its end.
-abbrev pub end_text : RunEnd → List ℕ
-end_text Limit = codes "end limit\n"
-end_text SelfJump = codes "end self jump\n"
-end_text (Refused address) = codes "end refused " ++ (marked_word address ++ codes "\n")
-end_text (Port address) = codes "end port " ++ (marked_word address ++ codes "\n")
-end_text Reached = codes "end reached\n"
+abbrev pub end_line : RunEnd → List ℕ
+end_line Limit = codes "end limit\n"
+end_line SelfJump = codes "end self jump\n"
+end_line (Refused address) = codes "end refused " ++ (marked_word address ++ codes "\n")
+end_line (Port address) = codes "end port " ++ (marked_word address ++ codes "\n")
+end_line Reached = codes "end reached\n"
 
 -- Profile: a machine that stopped at a word or at a port has a status of its own.
 abbrev pub end_status : RunEnd → Status
@@ -50,5 +50,5 @@ end_status (Refused address) = status.Stopped
 end_status (Port address) = status.Stopped
 end_status Reached = status.Done
 
-abbrev pub exec_text : RunEnd → MachineState → List ℕ
-exec_text ending left = end_text ending ++ dump_text left
+abbrev pub exec_lines : RunEnd → MachineState → List (List ℕ)
+exec_lines ending left = end_line ending ∷ dump_lines left

@@ -1,5 +1,5 @@
 -- What a command reports on its input.
-use Rattle.std.specs.Prelude.{◌≡◌, ℕ, nat_lt, List, length, Result, Ok, Err, MatchBool}
+use Rattle.std.specs.Prelude.{◌≡◌, ℕ, nat_lt, List, [], ◌∷◌, length, Result, Ok, Err, MatchBool}
 use Rattle.console_defs.specs.Machine.{MachineState}
 use Rattle.console_defs.specs.declared.ends.RunEnd.{RunEnd}
 use Rattle.source_defs.specs.Refusals.{Refusal}
@@ -9,37 +9,42 @@ use Rattle.gpl_defs.specs.Layout.{image_of_source}
 use Rattle.report_defs.specs.declared.command.Command.{Command}
 use Rattle.report_defs.specs.declared.command.Command.TheVariants.{Gasm, Exec}
 use Rattle.report_defs.specs.declared.status.Status.{Status}
-use Rattle.report_defs.specs.declared.status.Status.TheVariants.{Done, Refused, Usage}
-use Rattle.report_defs.specs.FaultLine.{usage_line, too_large_line, past_end_line, refusal_line}
-use Rattle.report_defs.specs.Exec.{Executes, exec_text, end_status}
+use Rattle.report_defs.specs.declared.status.Status.TheVariants.{Done}
+use Rattle.report_defs.specs.declared.fault.Fault.{Fault}
+use Rattle.report_defs.specs.declared.fault.Fault.TheVariants.{TooLarge, PastEnd, Gpl}
+use Rattle.report_defs.specs.FaultLine.{fault_status}
+use Rattle.report_defs.specs.Exec.{Executes, exec_lines, end_status}
 
--- the bytes that standard output gets, or the line that standard error gets, and the status
+-- The pieces that standard output gets, each by one write, with the status; or the fault whose line standard error
+-- gets.
 pub data Report : Type 0 where
-  Whole : Status → List ℕ → Report
-  Fault : Status → List ℕ → Report
+  Whole : Status → List (List ℕ) → Report
+  Faulty : Fault → Report
 
 abbrev pub status_of : Report → Status
-status_of (Whole status bytes) = status
-status_of (Fault status line) = status
-
-abbrev pub usage_report : Report
-usage_report = Fault Usage usage_line
+status_of (Whole status pieces) = status
+status_of (Faulty fault) = fault_status fault
 
 -- Profile: an input has at most 1,048,576 bytes.
 abbrev pub largest_input : ℕ
 largest_input = 1048576
 
--- the bytes of the image from its lowest to its highest written address
+-- bytes in one piece, or in none where there are none
+abbrev pub one_piece : List ℕ → List (List ℕ)
+one_piece [] = []
+one_piece (byte ∷ bytes) = (byte ∷ bytes) ∷ []
+
+-- Profile: the report of gasm is the bytes of the image from its lowest to its highest written address, in one piece.
 abbrev pub gasm_report : Result Image (Refusal GplCause) → Report
-gasm_report (Ok image) = Whole Done (written_bytes image)
-gasm_report (Err refused) = Fault Refused (refusal_line refused)
+gasm_report (Ok image) = Whole Done (one_piece (written_bytes image))
+gasm_report (Err refused) = Faulty (Gpl refused.line refused.cause)
 
 -- the report of a run of the machine
 pub record ReportsRun (limit : ℕ) (input : List ℕ) (report : Report) : Type 0 where
   pub ending : RunEnd
   pub left : MachineState
   pub executes : Executes limit input ending left
-  pub is : report ≡ Whole (end_status ending) (exec_text ending left)
+  pub is : report ≡ Whole (end_status ending) (exec_lines ending left)
 
 -- Profile: a program of raw bytes has room from >A000 to >FFFF.
 abbrev pub largest_program : ℕ
@@ -48,9 +53,9 @@ largest_program = 24576
 abbrev pub AcceptedReport : Command → List ℕ → Report → Type 0
 AcceptedReport Gasm input report = report ≡ gasm_report (image_of_source input)
 AcceptedReport (Exec limit) input report =
-    MatchBool (nat_lt largest_program (length input)) (report ≡ Fault Refused past_end_line) (ReportsRun limit input report)
+    MatchBool (nat_lt largest_program (length input)) (report ≡ Faulty PastEnd) (ReportsRun limit input report)
 
 -- Whatever else holds, an input is refused that is too large.
 abbrev pub ReportOn : Command → List ℕ → Report → Type 0
 ReportOn command input report =
-    MatchBool (nat_lt largest_input (length input)) (report ≡ Fault Refused too_large_line) (AcceptedReport command input report)
+    MatchBool (nat_lt largest_input (length input)) (report ≡ Faulty TooLarge) (AcceptedReport command input report)

@@ -2,15 +2,15 @@
 use Rattle.std.specs.Prelude.{ℕ, ◌+◌, ◌-◌, ◌*◌, ◌/◌, Bool, not, ◌&&◌, nat_eq, nat_lt, if◌then◌else◌, List, [], ◌∷◌, ◌++◌, length, slice_range, codes}
 use Rattle.std.specs.List.{flat_map, range_with_len}
 use Rattle.std.specs.Cmp.Lexicographic.{pointwise}
-use Rattle.report_defs.specs.Numbers.{byte_text, marked_word}
+use Rattle.source_defs.specs.Digits.{byte_digits, marked_word}
 
 -- the row of 16 bytes with a number, from 0
 abbrev pub row : List ℕ → ℕ → List ℕ
 row bytes number = slice_range bytes (16 * number) (16 * number + 16)
 
--- bytes, each after a blank
+-- Profile: bytes are shown by two digits, each byte after a blank.
 abbrev pub spaced_bytes : List ℕ → List ℕ
-spaced_bytes bytes = flat_map (λ byte. 0x20 ∷ byte_text byte) bytes
+spaced_bytes bytes = flat_map (λ byte. 0x20 ∷ byte_digits byte) bytes
 
 -- Profile: a row is shown by its address and its bytes.
 abbrev pub row_line : ℕ → List ℕ → List ℕ
@@ -21,12 +21,12 @@ abbrev pub is_repeated : List ℕ → ℕ → Bool
 is_repeated bytes number = nat_lt 0 number && pointwise nat_eq (row bytes (number - 1)) (row bytes number)
 
 -- Profile: of a longest run of rows that each equal the row before, the first shows an asterisk and the others nothing.
-abbrev pub row_text : ℕ → List ℕ → ℕ → List ℕ
-row_text first bytes number =
-    if not (is_repeated bytes number) then row_line (first + 16 * number) (row bytes number)
+abbrev pub row_lines : ℕ → List ℕ → ℕ → List (List ℕ)
+row_lines first bytes number =
+    if not (is_repeated bytes number) then row_line (first + 16 * number) (row bytes number) ∷ []
     else if is_repeated bytes (number - 1) then []
-    else codes "*\n"
+    else codes "*\n" ∷ []
 
--- the rows of bytes, of which the first stands at an address
-unfoldable pub rows_text : ℕ → List ℕ → List ℕ
-rows_text first bytes = flat_map (row_text first bytes) (range_with_len 0 (length bytes / 16))
+-- the lines of bytes in rows, of which the first stands at an address
+unfoldable pub rows_lines : ℕ → List ℕ → List (List ℕ)
+rows_lines first bytes = flat_map (row_lines first bytes) (range_with_len 0 (length bytes / 16))

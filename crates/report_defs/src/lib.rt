@@ -2,7 +2,9 @@
 #![tactic(auto)]
 
 mod command;
+mod fault;
 mod status;
 
 pub use command::Command;
+pub use fault::Fault;
 pub use status::Status;

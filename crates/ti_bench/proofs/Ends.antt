@@ -1,62 +1,102 @@
 -- How a run ends by its report.
-use Rattle.std.proofs.Common.{◌≡◌, ℕ, List, length, Option, Some, None, Ok, Err, Result, Bool, true, false, refl, subst, arith}
-use Rattle.std.specs.Prelude.{OnOk, OnErr, is_ok, if◌then◌else◌, nat_lt}
+use Rattle.std.proofs.Common.{◌≡◌, ℕ, zero, ◌≤◌, List, [], length, Option, Some, None, Ok, Err, Bool, true, false, refl, sym, subst, arith, rules}
+use Rattle.std.specs.Prelude.{nat_lt, IsSome}
 use Rattle.std.proofs.lemmas.Bool.Decides.{nat_tests}
-use Rattle.bench_io.specs.declared.failed.Failed.{Failed}
 use Rattle.bench_io.specs.Stream.{SourceState}
-use Rattle.bench_io.specs.ReadAll.{ReadWhole, GaveUp}
-use Rattle.bench_io.specs.declared.whole.ReadError.TheVariants.{TooLarge}
+use Rattle.bench_io.specs.ReadAll.{Took, ReadWhole, GaveUp}
+use Rattle.bench_io.specs.declared.failed.Failed.{Failed}
+use Rattle.bench_io.specs.declared.whole.ReadError.TheVariants as error
+use Rattle.bench_io.proofs.Taking.{took_none, took_from}
+use Rattle.console_defs.specs.declared.ends.RunEnd.TheVariants.{Reached, Limit, Refused, Port, SelfJump}
 use Rattle.report_defs.specs.declared.command.Command.{Command}
+use Rattle.report_defs.specs.declared.fault.Fault.TheVariants as fault
 use Rattle.report_defs.specs.declared.status.Status.{Status}
-use Rattle.report_defs.specs.declared.status.Status.TheVariants.{Refused, WriteFault}
-use Rattle.report_defs.specs.Commands.{command_of}
-use Rattle.report_defs.specs.FaultLine.{too_large_line}
-use Rattle.report_defs.specs.Report.{Report, Whole, Fault, usage_report, largest_input, ReportOn}
-use Rattle.ti_bench.specs.declared.report.Report as made
-use Rattle.ti_bench.specs.Made.{defined_report, whole_status}
-use Rattle.ti_bench.specs.Run.{Run, ReadsInput, ReportsOn, Reports, Reported, Got, Missed, EndsBy}
+use Rattle.report_defs.specs.declared.status.Status.TheVariants as status
+use Rattle.report_defs.specs.Commands.{command_of, reads}
+use Rattle.report_defs.specs.Report as spec
+use Rattle.ti_bench.specs.declared.report.Report.{Report}
+use Rattle.ti_bench.specs.declared.report.Report.TheVariants as made
+use Rattle.ti_bench.specs.Made.{defined_report}
+use Rattle.ti_bench.specs.Run.{Outputs, Run, ReadsInput, Reads, TakesWhole, ReportsOn, Reports, WroteReport, WrittenReport, EndsWith, WroteNothing, EndsBy}
 
--- the bytes of a report were written to the output, or it failed
-pub ends_whole : (run : Run) (status : Status) (bytes text : List ℕ) (wrote : Result (Unit {0}) Failed) → (Reported run status → EndsBy run status) → Reports run (Whole status bytes) → text ≡ bytes → run.err' ≡ run.err → OnOk wrote (Got run.out run.out' text) → OnErr wrote (Missed run.out run.out' text) → EndsBy run (if is_ok wrote then status else WriteFault)
-ends_whole run status bytes text (Ok done) back reports is other ok failed = back (record { report = Whole status bytes; reports = reports; is = refl; wrote = (rw is at ok, other) })
-ends_whole run status bytes text (Err error) back reports is other ok failed = record { report = Whole status bytes; reports = reports; missed = (rw is at failed, other) }
+-- a report that was written ends by its status
+written_ends : (o : Outputs) (report : Report) → WroteReport o (defined_report report) → EndsWith o (defined_report report) (spec.status_of (defined_report report))
+written_ends o (made.Image image) wrote = (refl, wrote)
+written_ends o (made.Run Reached machine) wrote = (refl, wrote)
+written_ends o (made.Run Limit machine) wrote = (refl, wrote)
+written_ends o (made.Run (Refused address) machine) wrote = (refl, wrote)
+written_ends o (made.Run (Port address) machine) wrote = (refl, wrote)
+written_ends o (made.Run SelfJump machine) wrote = (refl, wrote)
+written_ends o (made.Fault fault.Usage) wrote = (refl, wrote)
+written_ends o (made.Fault fault.TooLarge) wrote = (refl, wrote)
+written_ends o (made.Fault fault.PastEnd) wrote = (refl, wrote)
+written_ends o (made.Fault (fault.Gpl line cause)) wrote = (refl, wrote)
 
--- a fault line was written to the error output, or it failed
-pub ends_fault : (run : Run) (status : Status) (line text : List ℕ) (wrote : Result (Unit {0}) Failed) → (Reported run status → EndsBy run status) → Reports run (Fault status line) → text ≡ line → run.out' ≡ run.out → OnOk wrote (Got run.err run.err' text) → OnErr wrote (Missed run.err run.err' text) → EndsBy run (if is_ok wrote then status else WriteFault)
-ends_fault run status line text (Ok done) back reports is other ok failed = back (record { report = Fault status line; reports = reports; is = refl; wrote = (other, rw is at ok) })
-ends_fault run status line text (Err error) back reports is other ok failed = record { report = Fault status line; reports = reports; missed = (other, rw is at failed) }
+wrote_report : (o : Outputs) (report : spec.Report) (done : Unit {0}) → WrittenReport {E = Failed} (Ok done) o report → WroteReport o report
+wrote_report o (spec.Whole status pieces) done written = written
+wrote_report o (spec.Faulty fault) done written = written
 
--- an input that was read whole
-pub reads_whole : (before after : SourceState) (bytes : List ℕ) → ReadWhole largest_input before after bytes → ReadsInput before after bytes
-reads_whole before after bytes whole = record {
-  took = whole.took;
-  within = omega (arith, whole.within);
-  whole = λ le. whole.end;
-}
+pub ends_done : (o : Outputs) (report : Report) (done : Unit {0}) (s : Status) → WrittenReport {E = Failed} (Ok done) o (defined_report report) → s ≡ spec.status_of (defined_report report) → EndsWith o (defined_report report) s
+ends_done o report done s written is =
+    let P : Status → Type 0 = λ t. EndsWith o (defined_report report) t in
+    subst P (sym is) (written_ends o report (wrote_report o (defined_report report) done written))
+
+-- a report that was not written whole ends by a write fault
+pub ends_missed : (o : Outputs) (report : spec.Report) (error : Failed) → WrittenReport {T = Unit {0}} (Err error) o report → EndsWith o report status.WriteFault
+ends_missed o (spec.Whole status pieces) error written = written
+ends_missed o (spec.Faulty fault) error written = written
+
+-- a run ends as the writing of its report
+pub by_report : (run : Run) (report : spec.Report) (s : Status) → Reports run report → EndsWith run.outputs report s → EndsBy run s
+by_report run report status.Done reports ends = (report, reports, ends)
+by_report run report status.Refused reports ends = (report, reports, ends)
+by_report run report status.Usage reports ends = (report, reports, ends)
+by_report run report status.ReadFault reports ends = absurd ends
+by_report run report status.WriteFault reports ends = (report, reports, ends)
+by_report run report status.Memory reports ends = absurd ends
+by_report run report status.Stopped reports ends = (report, reports, ends)
+
+-- an input that was taken whole
+pub reads_whole : (reading : Bool) (before after : SourceState) (bytes : List ℕ) → TakesWhole reading before after bytes → Reads reading before after bytes
+reads_whole true before after bytes whole =
+    let within = whole.within in
+    let below : nat_lt spec.largest_input (length bytes) ≡ false = grind (arith, nat_tests) in
+    record { took = rw below whole.took; within = omega arith; whole = λ le. whole.end }
+reads_whole false before after bytes nothing = nothing
+
+pub takes_within : (reading : Bool) (before after : SourceState) (bytes : List ℕ) → TakesWhole reading before after bytes → length bytes ≤ spec.largest_input
+takes_within true before after bytes whole = whole.within
+takes_within false before after bytes nothing = rw nothing.1 (omega arith)
 
 -- an input that is too large
-pub reads_too_much : (command : Command) (before after : SourceState) → GaveUp TooLarge largest_input before after → (bytes : List ℕ) × ReadsInput before after bytes × ReportOn command bytes (Fault Refused too_large_line)
-reads_too_much command before after (bytes, long, took) =
-    let above : nat_lt largest_input (length bytes) ≡ true = grind (arith, nat_tests) in
-    (bytes, record { took = took; within = omega arith; whole = λ le. absurd (omega arith) }, rw above refl)
+pub reads_too_much : (run : Run) (command : Command) → reads command ≡ true → GaveUp error.TooLarge spec.largest_input run.input run.input' → ReportsOn (Some command) run (spec.Faulty fault.TooLarge)
+reads_too_much run command reading (bytes, long, took) =
+    let above : nat_lt spec.largest_input (length bytes) ≡ true = grind (arith, nat_tests) in
+    let input : ReadsInput run.input run.input' bytes = record { took = rw above took; within = omega arith; whole = λ le. absurd (omega arith) } in
+    (bytes, rw reading input, rw above refl)
 
 -- the command that the words say
-pub reports_by : (run : Run) (command : Command) (report : Report) → Some command ≡ command_of run.words → ReportsOn (Some command) run report → Reports run report
-reports_by run command report is reports = let P : Option Command → Type 0 = λ found. ReportsOn found run report in subst P is reports
+pub reports_by : (run : Run) (command : Command) (report : spec.Report) → Some command ≡ command_of run.words → ReportsOn (Some command) run report → Reports run report
+reports_by run command report is reports =
+    let P : Option Command → Type 0 = λ found. ReportsOn found run report in
+    subst P is reports
 
 -- words that are no command
-pub reports_usage : (run : Run) (found : Option Command) → ((command : Command) → found ≡ Some command → ⊥) → found ≡ command_of run.words → run.input' ≡ run.input → Reports run usage_report
-reports_usage run None none is same = let P : Option Command → Type 0 = λ found. ReportsOn found run usage_report in subst P is (refl, same)
+pub reports_usage : (run : Run) (found : Option Command) → ((command : Command) → found ≡ Some command → ⊥) → found ≡ command_of run.words → run.input' ≡ run.input → Reports run (spec.Faulty fault.Usage)
+reports_usage run None none is same =
+    let P : Option Command → Type 0 = λ found. ReportsOn found run (spec.Faulty fault.Usage) in
+    subst P is (refl, same)
 reports_usage run (Some command) none is same = absurd (none command refl)
 
--- the report that was made
-pub made_by : (command : Command) (bytes items : List ℕ) (one report : made.Report) → bytes ≡ items → one ≡ report → ReportOn command bytes (defined_report one) → ReportOn command items (defined_report report)
-made_by command bytes items one report same is on =
-    let P : List ℕ → Type 0 = λ b. ReportOn command b (defined_report report) in
-    let Q : made.Report → Type 0 = λ r. ReportOn command bytes (defined_report r) in
-    subst P same (subst Q is on)
+some_command : (run : Run) (command : Command) → Some command ≡ command_of run.words → IsSome (command_of run.words)
+some_command run command is = let P : Option Command → Type 0 = λ found. IsSome found in subst P is (search rules)
 
--- a run ends by a whole report, whether its machine stopped or not
-pub whole_ends : (run : Run) (stopped : Bool) → Reported run (whole_status stopped) → EndsBy run (whole_status stopped)
-whole_ends run true reported = reported
-whole_ends run false reported = reported
+-- what was taken where memory was wanting after it
+pub nothing_written : (run : Run) (command : Command) (bytes : List ℕ) → Some command ≡ command_of run.words → TakesWhole (reads command) run.input run.input' bytes → run.outputs.out' ≡ run.outputs.out → run.outputs.err' ≡ run.outputs.err → WroteNothing run
+nothing_written run command bytes is takes out err = by (reads command) takes
+  where
+    by : (reading : Bool) → TakesWhole reading run.input run.input' bytes → WroteNothing run
+    by true whole = record { command = some_command run command is; bytes = bytes; within = whole.within; empty = 1; one = omega arith; took = whole.took; out = out; err = err }
+    by false (same, none) =
+        let took : Took run.input run.input' [] 0 = rw same (took_from run.input run.input [] (took_none run.input)) in
+        record { command = some_command run command is; bytes = []; within = omega arith; empty = 0; one = omega arith; took = took; out = out; err = err }

@@ -1,5 +1,3 @@
-pub mod Dumps
 pub mod Ends
 pub mod Loading
-pub mod RowTexts
-pub mod Writing
+pub mod Uniqueness

@@ -3,4 +3,4 @@ pub use Rattle.report_defs.specs.Commands
 pub use Rattle.report_defs.specs.Report
 pub mod Run
 pub mod Made
-pub mod Lines
+pub mod Laws

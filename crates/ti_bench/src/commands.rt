@@ -3,5 +3,27 @@
 mod exec;
 mod gasm;
 
-pub(crate) use exec::exec;
-pub(crate) use gasm::gasm;
+ghost use Rattle.std.specs.Prelude.{◌≤◌, length, IfOk};
+ghost use Rattle.report_defs.specs.Report as spec;
+ghost use Rattle.ti_bench.specs.Made.{defined_report};
+
+use crate::commands::exec::exec;
+use crate::commands::gasm::gasm;
+use crate::report::Report;
+use report_defs::Command;
+use std::alloc::{AllocError, Global};
+
+/// What a command reports on an input that is not too large.
+pub(crate) fn make_report(
+    alloc: Global,
+    command: Command,
+    input: &[u8],
+) -> Result<Report, AllocError>
+    requires { length input.now ≤ spec.largest_input }
+    ensures { IfOk result (λ report. spec.ReportOn command input.now (defined_report report)) }
+{
+    match command {
+        Command::Gasm => gasm(alloc, input),
+        Command::Exec { limit } => exec(alloc, limit, input),
+    }
+}

@@ -1,64 +1,72 @@
 //! The lines that standard error gets.
 
-ghost use Rattle.std.specs.Prelude.{◌≡◌, IfOk};
-ghost use Rattle.std.specs.String.{string_bytes};
+ghost use Rattle.std.specs.Prelude.{◌≡◌, ◌≤◌, length};
 ghost use Rattle.report_defs.specs.FaultLine as spec;
 
-use gpl_asm::GplCause;
+use gpl_defs::GplCause;
+use report_defs::Fault;
 use source_defs::TextError;
-use std::alloc::{AllocError, Global};
+use trace_dump::{Line, append, append_count};
 
 /// How the program is called. The commands that are not built yet stand in it too.
+const USAGE: &[u8] =
+    b"usage: ti_bench asm|link|dis ADDR|exec N|gasm|gdis ADDR|interp|run N|trace N|demo K\n";
+
+/// The line of a fault.
 #[tactic(auto, unfolding(report_defs::specs::FaultLine::usage_line))]
-pub(crate) fn usage_line() -> &'static [u8]
-    ensures { result.now ≡ spec.usage_line }
+pub(crate) fn fault_line(fault: Fault) -> Line
+    ensures { result.items ≡ spec.fault_line fault }
 {
-    b"usage: ti_bench asm|link|dis ADDR|exec N|gasm|gdis ADDR|interp|run N|trace N|demo K\n"
-}
-
-/// What is said of an input that is too large.
-#[tactic(auto, unfolding(report_defs::specs::FaultLine::too_large_line))]
-pub(crate) fn too_large_line() -> &'static [u8]
-    ensures { result.now ≡ spec.too_large_line }
-{
-    b"too large\n"
-}
-
-/// What is said of a program that runs past the end of memory.
-#[tactic(auto, unfolding(report_defs::specs::FaultLine::past_end_line))]
-pub(crate) fn past_end_line(alloc: Global) -> Result<String, AllocError>
-    ensures { IfOk result (λ text. string_bytes text ≡ spec.past_end_line) }
-{
-    String::from_str(alloc, "past the end of memory\n")
-}
-
-/// What is said of a refused line of a GPL source.
-pub(crate) fn gpl_refusal_line(
-    alloc: Global,
-    line: u32,
-    cause: GplCause,
-) -> Result<String, AllocError>
-    ensures { IfOk result (λ text. string_bytes text ≡ spec.refusal_line (record { line = line; cause = cause })) }
-{
-    let text = gpl_cause_text(cause);
-    format!(in alloc; "line {line}: {text}\n")
-}
-
-fn gpl_cause_text(cause: GplCause) -> &'static str
-    ensures { result.now ≡ spec.gpl_cause_text cause }
-{
-    match cause {
-        GplCause::Text(error) => text_error_text(error),
-        GplCause::NotBuilt => "not built",
-        GplCause::GromFull => "out of room",
+    match fault {
+        Fault::Usage => line_of(USAGE),
+        Fault::TooLarge => line_of(b"too large\n"),
+        Fault::PastEnd => line_of(b"past the end of memory\n"),
+        Fault::Gpl { line, cause } => refusal_line(line, gpl_cause_text(cause)),
     }
 }
 
-fn text_error_text(error: TextError) -> &'static str
-    ensures { result.now ≡ spec.text_error_text error }
+/// A line of these bytes.
+fn line_of(bytes: &[u8]) -> Line
+    requires { length bytes.now ≤ 128 }
+    ensures { result.items ≡ bytes.now }
+{
+    let mut line = Line::new();
+    append(&mut line, bytes);
+    line
+}
+
+/// What is said of a refused line, by its number from 1.
+#[tactic(auto, using(std::proofs::Common::append_assoc), unfolding(report_defs::specs::FaultLine::refusal_line))]
+fn refusal_line(number: u32, text: &[u8]) -> Line
+    requires { length text.now ≤ 64 }
+    ensures { result.items ≡ spec.refusal_line number text.now }
+{
+    let mut line = Line::new();
+    append(&mut line, b"line ");
+    append_count(&mut line, u64::from(number));
+    append(&mut line, b": ");
+    append(&mut line, text);
+    line.push(b'\n');
+    line
+}
+
+fn gpl_cause_text(cause: GplCause) -> &'static [u8]
+    ensures text { result.now ≡ spec.gpl_cause_text cause }
+    ensures short { length result.now ≤ 64 }
+{
+    match cause {
+        GplCause::Text(error) => text_error_text(error),
+        GplCause::NotBuilt => b"not built",
+        GplCause::GromFull => b"out of room",
+    }
+}
+
+fn text_error_text(error: TextError) -> &'static [u8]
+    ensures text { result.now ≡ spec.text_error_text error }
+    ensures short { length result.now ≤ 64 }
 {
     match error {
-        TextError::LineTooLong => "line too long",
-        TextError::BadLabel => "bad label",
+        TextError::LineTooLong => b"line too long",
+        TextError::BadLabel => b"bad label",
     }
 }

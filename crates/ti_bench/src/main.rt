@@ -4,13 +4,11 @@
 mod bench;
 mod command;
 mod commands;
-mod dump;
 mod fault_line;
-mod put;
+mod input;
 mod report;
 #[cfg(test)]
 mod tests;
-mod text;
 mod words;
 
 use crate::bench::bench;
@@ -23,26 +21,31 @@ use std::env::Env;
 use std::io::{BufWriter, ErrorKind, Write};
 use std::process::ExitCode;
 
-/// Runs the command that the words of the command line say, over the standard streams.
+/// Runs the command that the words of the command line say, over the standard streams. Standard output is buffered, where
+/// there is memory for that: so words that are no command never meet want of memory.
 fn main(rt: HostRuntime) -> ExitCode {
-    let alloc = rt.alloc();
     let Ok(words) = command_words(&rt) else {
         return ExitCode::from(Status::Memory as u8);
     };
-    let Ok(mut output) = BufWriter::new(alloc, rt.stdout()) else {
-        return ExitCode::from(Status::Memory as u8);
+    let Ok(mut output) = BufWriter::new(rt.alloc(), rt.stdout()) else {
+        return ExitCode::from(run(&rt, &words, rt.stdout()) as u8);
     };
-    let status = bench(
-        alloc,
-        &words,
-        &mut StdSource::new(rt.stdin()),
-        &mut StdSink::new(&mut output),
-        &mut StdSink::new(rt.stderr()),
-    );
+    let status = run(&rt, &words, &mut output);
     match output.flush() {
         Ok(()) => ExitCode::from(status as u8),
         Err(_) => ExitCode::from(Status::WriteFault as u8),
     }
+}
+
+/// Runs the command that the words say, with its report to `output`.
+fn run<W: Write + Drop>(rt: &HostRuntime, words: &Words, output: W) -> Status {
+    bench(
+        rt.alloc(),
+        words,
+        &mut StdSource::new(rt.stdin()),
+        &mut StdSink::new(output),
+        &mut StdSink::new(rt.stderr()),
+    )
 }
 
 /// The words behind the program's name; or the one word `?`, which is no command, where they cannot be had, as where one

@@ -1,52 +1,145 @@
-//! What a command reports on its input.
+//! A report, and how it is written.
 
-ghost use Rattle.std.specs.Prelude.{◌≡◌, ◌≤◌, length, IfOk};
+ghost use Rattle.std.specs.Prelude.{◌≡◌, ◌≤◌, [], ◌++◌, length, codes};
+ghost use Rattle.source_defs.specs.Digits.{marked_word};
+ghost use Rattle.bench_io.specs.Written.{Written};
+ghost use Rattle.report_defs.specs.Exec as runs;
+ghost use Rattle.report_defs.specs.FaultLine as faults;
 ghost use Rattle.report_defs.specs.Report as spec;
-ghost use Rattle.ti_bench.specs.Made.{defined_report, whole_status};
+ghost use Rattle.ti_bench.specs.Made.{defined_report};
+ghost use Rattle.ti_bench.specs.Run.{WrittenReport, EndsWith};
 
-use crate::commands::{exec, gasm};
+use crate::fault_line::fault_line;
+use bench_io::{Failed, Sink, put_piece};
+use console_defs::RunEnd;
 use gpl_forms::GromImage;
-use report_defs::{Command, Status};
-use std::alloc::{AllocError, Global};
+use report_defs::{Fault, Status};
+use tms_step::Machine;
+use trace_dump::{Line, append, append_word, dump};
 
-/// A report, made and not yet written.
+/// A report, made and not yet written. Nothing that is written takes memory.
 #[derive(Drop)]
 pub(crate) enum Report {
-    /// An image, whose bytes go to standard output.
+    /// An image, whose bytes go to standard output by one call.
     Image(GromImage),
-    /// Lines, which go to standard output one by one.
-    Lines {
-        /// All the lines.
-        text: String,
-        /// Whether the machine that they show stopped at a word or at a port.
-        stopped: bool,
+    /// A run of the machine, whose end and whose dump go to standard output line by line.
+    Run {
+        /// What ended the run.
+        ending: RunEnd,
+        /// The machine that it left.
+        machine: Machine,
     },
-    /// A fault line, which goes to standard error.
-    Fault(String),
+    /// A fault, whose line goes to standard error.
+    Fault(Fault),
 }
 
-/// What a command reports on an input that is not too large.
-pub(crate) fn make_report(
-    alloc: Global,
-    command: Command,
-    input: &[u8],
-) -> Result<Report, AllocError>
-    requires { length input.now ≤ spec.largest_input }
-    ensures { IfOk result (λ report. spec.ReportOn command input.now (defined_report report)) }
-{
-    match command {
-        Command::Gasm => gasm(alloc, input),
-        Command::Exec { limit } => exec(alloc, limit, input),
+impl Report {
+    /// Writes the report, and gives the status that the program ends with: the report's own, or a write fault.
+    #[tactic(auto, using(crate::proofs::Ends::ends_done, crate::proofs::Ends::ends_missed))]
+    pub(crate) fn finish<O: Sink, E: Sink>(&self, out: &mut O, err: &mut E) -> Status
+        ensures { EndsWith (record {
+          out = O.state out.old;
+          out' = O.state out.new;
+          err = E.state err.old;
+          err' = E.state err.new;
+        }) (defined_report self.now) result }
+    {
+        match self.write(out, err) {
+            Ok(()) => self.status(),
+            Err(Failed) => Status::WriteFault,
+        }
+    }
+
+    /// Writes the report to the one output that it goes to.
+    fn write<O: Sink, E: Sink>(&self, out: &mut O, err: &mut E) -> Result<(), Failed>
+        ensures { WrittenReport result (record {
+          out = O.state out.old;
+          out' = O.state out.new;
+          err = E.state err.old;
+          err' = E.state err.new;
+        }) (defined_report self.now) }
+    {
+        match self {
+            Report::Image(image) => put_image(out, image.written()),
+            Report::Run { ending, machine } => put_run(out, *ending, machine),
+            Report::Fault(fault) => put_piece(err, fault_line(*fault).as_slice()),
+        }
+    }
+
+    /// The status of the report.
+    fn status(&self) -> Status
+        ensures { result ≡ spec.status_of (defined_report self.now) }
+    {
+        match self {
+            Report::Image(_) => Status::Done,
+            Report::Run { ending, .. } => end_status(*ending),
+            Report::Fault(fault) => fault_status(*fault),
+        }
     }
 }
 
-/// The status of a whole report, by whether its machine stopped.
-pub(crate) fn whole_status(stopped: bool) -> Status
-    ensures { result ≡ whole_status stopped }
+/// Writes bytes by one call, or by none where there are none.
+#[tactic(auto, using(bench_io::proofs::Writing::wrote_none))]
+fn put_image<O: Sink>(out: &mut O, bytes: &[u8]) -> Result<(), Failed>
+    ensures { Written result (O.state out.old) (O.state out.new) (spec.one_piece bytes.now) }
 {
-    if stopped {
-        Status::Stopped
-    } else {
-        Status::Done
+    if bytes.is_empty() {
+        return Ok(());
+    }
+    put_piece(out, bytes)
+}
+
+/// Writes how a run ended, and the machine that it left.
+fn put_run<O: Sink>(out: &mut O, ending: RunEnd, machine: &Machine) -> Result<(), Failed>
+    ensures { Written result (O.state out.old) (O.state out.new) (runs.exec_lines ending machine.now) }
+{
+    put_piece(out, end_line(ending).as_slice())?;
+    dump(machine, out)
+}
+
+/// The line that says how a run ended.
+fn end_line(ending: RunEnd) -> Line
+    ensures { result.items ≡ runs.end_line ending }
+{
+    let mut line = Line::new();
+    match ending {
+        RunEnd::Limit => append(&mut line, b"end limit\n"),
+        RunEnd::SelfJump => append(&mut line, b"end self jump\n"),
+        RunEnd::Refused(address) => append_stop(&mut line, b"end refused ", address),
+        RunEnd::Port(address) => append_stop(&mut line, b"end port ", address),
+        RunEnd::Reached => append(&mut line, b"end reached\n"),
+    }
+    line
+}
+
+/// Appends words, an address and a line feed to an empty line.
+#[tactic(auto, using(std::proofs::Common::append_assoc))]
+fn append_stop(line: &mut Line, words: &[u8], address: u16)
+    requires empty { line.old.items ≡ [] }
+    requires short { length words.now ≤ 20 }
+    ensures { line.new.items ≡ words.now ++ (marked_word address ++ codes "\n") }
+{
+    append(line, words);
+    append_word(line, address);
+    line.push(b'\n');
+}
+
+/// The status of a run's report: a machine that stopped has its own.
+fn end_status(ending: RunEnd) -> Status
+    ensures { result ≡ runs.end_status ending }
+{
+    match ending {
+        RunEnd::Refused(_) | RunEnd::Port(_) => Status::Stopped,
+        RunEnd::Limit | RunEnd::SelfJump | RunEnd::Reached => Status::Done,
+    }
+}
+
+/// The status of a fault.
+fn fault_status(fault: Fault) -> Status
+    ensures { result ≡ faults.fault_status fault }
+{
+    match fault {
+        Fault::Usage => Status::Usage,
+        Fault::TooLarge | Fault::PastEnd | Fault::Gpl { .. } => Status::Refused,
     }
 }

@@ -1,22 +1,17 @@
 //! `exec`: raw bytes, executed from >A000 on.
 
-ghost use Rattle.std.specs.Prelude.{◌≡◌, ◌<◌, ◌≤◌, ◌++◌, ℕ, [], length, codes, None, IfOk, OnOk};
-ghost use Rattle.std.specs.String.{string_bytes};
+ghost use Rattle.std.specs.Prelude.{◌≡◌, ◌<◌, ◌≤◌, ◌^◌, ℕ, [], length, None, IfOk};
 ghost use Rattle.console_defs.specs.Bytes.{HoldsZeros};
 ghost use Rattle.console_defs.specs.Runs.{IsRun};
-ghost use Rattle.report_defs.specs.Numbers.{marked_word};
 ghost use Rattle.report_defs.specs.Report as spec;
 ghost use Rattle.report_defs.specs.Exec as runs;
-ghost use Rattle.ti_bench.specs.Made.{defined_report, whole_status};
+ghost use Rattle.ti_bench.specs.Made.{defined_report};
 
-use crate::dump::push_dump;
-use crate::fault_line::past_end_line;
 use crate::report::Report;
-use crate::text::push_word;
 use console_bus::Bus;
 use console_defs::RunEnd;
 use grom_counter::Grom;
-use report_defs::Command;
+use report_defs::{Command, Fault};
 use std::alloc::{AllocError, Global};
 use std::marker::Brand;
 use std::sync::ledger::{Blank, Ledger};
@@ -31,22 +26,16 @@ pub(crate) fn exec(alloc: Global, limit: u32, input: &[u8]) -> Result<Report, Al
     ensures { IfOk result (λ report. spec.AcceptedReport (Command.Exec limit) input.now (defined_report report)) }
 {
     if input.len() > LARGEST_PROGRAM {
-        return Ok(Report::Fault(past_end_line(alloc)?));
+        return Ok(Report::Fault(Fault::PastEnd));
     }
     let mut bus = new_bus(alloc)?;
     load(&mut bus, input);
     let mut machine = Machine::new(bus, 0x83E0, 0xA000);
     let ending = run::<Brand>(&mut machine, u64::from(limit), Blank::new(1));
-    let mut text = String::new(alloc);
-    push_end(&mut text, ending)?;
-    push_dump(&mut text, &machine)?;
-    Ok(Report::Lines {
-        text,
-        stopped: is_stopped(ending),
-    })
+    Ok(Report::Run { ending, machine })
 }
 
-/// Executes up to so many instructions.
+/// Executes up to so many instructions on a machine that has executed none.
 fn run<L: Ledger>(machine: &mut Machine, limit: u64, blank: Blank) -> RunEnd
     requires name { blank.name ≡ L.name }
     requires parts { blank.parts ≡ L.parts }
@@ -83,34 +72,4 @@ fn load(bus: &mut Bus, input: &[u8])
     for (offset, &byte) in input.iter().enumerate() {
         bus.write_byte(0xA000 + offset as u16, byte);
     }
-}
-
-/// Appends the line that says how a run ended.
-fn push_end(text: &mut String, ending: RunEnd) -> Result<(), AllocError>
-    ensures { OnOk result (string_bytes text.new ≡ string_bytes text.old ++ runs.end_text ending) }
-{
-    match ending {
-        RunEnd::Limit => text.push_str("end limit\n")?,
-        RunEnd::SelfJump => text.push_str("end self jump\n")?,
-        RunEnd::Refused(address) => push_stop(text, "end refused ", address)?,
-        RunEnd::Port(address) => push_stop(text, "end port ", address)?,
-        RunEnd::Reached => text.push_str("end reached\n")?,
-    }
-    Ok(())
-}
-
-fn push_stop(text: &mut String, words: &str, address: u16) -> Result<(), AllocError>
-    ensures { OnOk result (string_bytes text.new ≡ string_bytes text.old ++ (words.now ++ (marked_word address ++ codes "\n"))) }
-{
-    text.push_str(words)?;
-    push_word(text, address)?;
-    text.push('\n')?;
-    Ok(())
-}
-
-/// Whether a run ended by a stop of the machine.
-fn is_stopped(ending: RunEnd) -> bool
-    ensures { whole_status result ≡ runs.end_status ending }
-{
-    matches!(ending, RunEnd::Refused(_) | RunEnd::Port(_))
 }

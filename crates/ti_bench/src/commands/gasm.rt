@@ -4,10 +4,9 @@ ghost use Rattle.std.specs.Prelude.{◌≤◌, length, IfOk};
 ghost use Rattle.report_defs.specs.Report as spec;
 ghost use Rattle.ti_bench.specs.Made.{defined_report};
 
-use crate::fault_line::gpl_refusal_line;
 use crate::report::Report;
 use gpl_asm::{GplError, gpl_assemble};
-use report_defs::Command;
+use report_defs::{Command, Fault};
 use std::alloc::{AllocError, Global};
 
 /// The image of a GPL source, or its first refused line.
@@ -17,9 +16,7 @@ pub(crate) fn gasm(alloc: Global, input: &[u8]) -> Result<Report, AllocError>
 {
     match gpl_assemble(alloc, input) {
         Ok(program) => Ok(Report::Image(program.image)),
-        Err(GplError::At { line, cause }) => {
-            Ok(Report::Fault(gpl_refusal_line(alloc, line, cause)?))
-        }
+        Err(GplError::At { line, cause }) => Ok(Report::Fault(Fault::Gpl { line, cause })),
         Err(GplError::Memory) => Err(AllocError),
     }
 }

@@ -1,0 +1,22 @@
+-- Pieces that are written to a sink one after the other, each by one call of `put`, up to the first call that fails.
+use Rattle.std.specs.Prelude.{◌≡◌, ℕ, ◌<◌, ◌≤◌, List, length, Result, Ok, Err}
+use Rattle.std.specs.List.{concat}
+use Rattle.count_defs.specs.Counts.{raised, Rose}
+use Rattle.bench_io.specs.Stream.{SinkState, Grew, GrewByPrefix}
+
+-- a sink got all of the pieces
+pub record Wrote (before after : SinkState) (pieces : List (List ℕ)) : Type 0 where
+  pub held : Grew before.held after.held (concat pieces)
+  pub puts : after.puts ≡ raised before.puts (length pieces)
+  pub faults : before.faults ≤ after.faults
+
+-- a sink failed at one of the pieces: it got a front of them all, and its count of faults rose
+pub record Missed (before after : SinkState) (pieces : List (List ℕ)) : Type 0 where
+  pub held : GrewByPrefix before.held after.held (concat pieces)
+  pub puts : (calls : ℕ) × (0 < calls) × (calls ≤ length pieces) × (after.puts ≡ raised before.puts calls)
+  pub rose : Rose before.faults after.faults
+
+-- what came of the writing, by its answer
+abbrev pub Written : {T E : Type 0} → Result T E → SinkState → SinkState → List (List ℕ) → Type 0
+Written (Ok done) before after pieces = Wrote before after pieces
+Written (Err error) before after pieces = Missed before after pieces

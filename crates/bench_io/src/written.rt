@@ -1,0 +1,15 @@
+ghost use Rattle.std.specs.Prelude.{[], ◌∷◌};
+ghost use Rattle.bench_io.specs.Written.{Written};
+
+use crate::{Failed, Sink};
+
+/// Writes one piece, as a line, by one call.
+///
+/// # Errors
+/// As [`Sink::put`].
+#[tactic(auto, using(crate::proofs::Writing::wrote_one, crate::proofs::Writing::missed_one))]
+pub fn put_piece<K: Sink>(sink: &mut K, piece: &[u8]) -> Result<(), Failed>
+    ensures { Written result (K.state sink.old) (K.state sink.new) (piece.now ∷ []) }
+{
+    sink.put(piece)
+}

@@ -1,0 +1,21 @@
+//! Why a fault line stands in the place of a report.
+
+use gpl_defs::GplCause;
+
+/// What a fault line says.
+#[derive(Clone, Copy, Debug, PartialEq, Eq)]
+pub enum Fault {
+    /// The words of the command line are no command.
+    Usage,
+    /// The input has more than 1,048,576 bytes.
+    TooLarge,
+    /// A program of raw bytes has more than 24,576 bytes, and so runs past >FFFF.
+    PastEnd,
+    /// A line of a GPL source is refused.
+    Gpl {
+        /// The line's number, from 1.
+        line: u32,
+        /// Why it is refused.
+        cause: GplCause,
+    },
+}
