@@ -1,13 +1,13 @@
 //! `exec`: raw bytes, executed from >A000 on.
 
-ghost use Rattle.std.specs.Prelude.{◌≡◌, ◌<◌, ◌≤◌, ◌^◌, ℕ, [], length, None, IfOk};
-ghost use Rattle.console_defs.specs.Bytes.{HoldsZeros};
+ghost use Rattle.std.specs.Prelude.{◌<◌, ◌≤◌, ℕ, [], length, None, IfOk};
 ghost use Rattle.console_defs.specs.Runs.{IsRun};
 ghost use Rattle.report_defs.specs.Report as spec;
 ghost use Rattle.report_defs.specs.Exec as runs;
 ghost use Rattle.ti_bench.specs.Made.{defined_report};
 
 use crate::report::Report;
+use byte_lists::zeros;
 use console_bus::Bus;
 use console_defs::RunEnd;
 use grom_counter::Grom;
@@ -54,13 +54,6 @@ fn new_bus(alloc: Global) -> Result<Bus, AllocError>
     let vdp = Vdp::new(alloc)?;
     let grom = Grom::new(alloc, image.as_slice())?;
     Bus::new(alloc, vdp, grom)
-}
-
-/// So many bytes of 0.
-fn zeros(alloc: Global, count: usize) -> Result<Vec<u8>, AllocError>
-    ensures { IfOk result (λ bytes. HoldsZeros count bytes.items) }
-{
-    vec![in alloc; 0u8; count]
 }
 
 /// Writes a program from >A000 on.
