@@ -1,8 +1,8 @@
 -- The words of the command line.
-use Rattle.std.specs.Prelude.{ℕ, ◌==◌, Bool, true, ◌&&◌, nat_eq, nat_lt, if◌then◌else◌, List, [], ◌∷◌, length, slice_index, codes, Option, Some, None}
+use Rattle.std.specs.Prelude.{ℕ, ◌==◌, Bool, true, ◌&&◌, nat_eq, nat_lt, nat_le, if◌then◌else◌, List, [], ◌∷◌, length, slice_index, codes, Option, Some, None}
 use Rattle.std.specs.Option.{option_map}
 use Rattle.std.specs.Cmp.Lexicographic.{pointwise}
-use Rattle.source_defs.specs.Numbers.{decimal_up_to}
+use Rattle.source_defs.specs.Numbers.{all_digits, value_after}
 use Rattle.report_defs.specs.declared.command.Command.{Command}
 use Rattle.report_defs.specs.declared.command.Command.TheVariants.{Gasm, Exec}
 
@@ -15,7 +15,11 @@ has_leading_zero word = nat_lt 1 (length word) && (slice_index word 0 == 0x30)
 
 -- Profile: a number is decimal digits without a leading zero, up to a limit.
 abbrev pub number_word : ℕ → List ℕ → Option ℕ
-number_word limit word = if has_leading_zero word then None else decimal_up_to limit word
+number_word limit word =
+    if has_leading_zero word then None
+    else if nat_lt 0 (length word) && all_digits word && nat_le (value_after 10 0 word) limit
+    then Some (value_after 10 0 word)
+    else None
 
 -- Profile: exec makes at most 10,000,000 instructions.
 abbrev pub most_instructions : ℕ
