@@ -1,6 +1,6 @@
 //! `exec`: raw bytes, executed from >A000 on.
 
-ghost use Rattle.std.specs.Prelude.{◌<◌, ◌≤◌, ℕ, [], length, None, IfOk};
+ghost use Rattle.std.specs.Prelude.{◌≡◌, ◌<◌, ◌≤◌, ℕ, [], length, None, IfOk};
 ghost use Rattle.console_defs.specs.Runs.{IsRun};
 ghost use Rattle.report_defs.specs.Report as spec;
 ghost use Rattle.report_defs.specs.Exec as runs;
