@@ -1,8 +1,10 @@
 //! Source text: its lines, the fields of a line, names, and the tokens and values of expressions.
 #![tactic(auto)]
 
+mod arithmetic;
 mod characters;
 mod digits;
+mod evaluate;
 mod laws;
 mod line_fields;
 mod line_iter;
@@ -11,10 +13,12 @@ mod numbers;
 mod places;
 mod scan;
 mod split;
+mod symbols;
 #[cfg(test)]
 mod tests;
 mod text;
 mod token;
+mod value;
 mod words;
 
 pub use crate::characters::{is_blank, is_line_feed, is_printed};
@@ -26,7 +30,9 @@ pub use crate::name::Name;
 pub use crate::numbers::{decimal_up_to, number};
 pub use crate::scan::tokens;
 pub use crate::split::fields;
+pub use crate::symbols::{DefineError, Symbols};
 pub use crate::text::lines;
 pub use crate::token::{Token, TokenKind};
+pub use crate::value::Value;
 pub use crate::words::is_word;
 pub use source_defs::{ExprError, Line, Span, TextError};

@@ -6,3 +6,5 @@ pub mod FieldLaws
 pub mod NumberLaws
 mod ExpressionRows
 pub mod TokenLaws
+pub mod CharacterLaws
+pub mod SymbolLaws
