@@ -15,7 +15,7 @@ use Rattle.std.specs.Map.{lookup}
 use Rattle.source_defs.specs.Expression as defined
 use Rattle.source_defs.specs.Symbols.{Names, registers}
 use Rattle.source_defs.proofs.SymbolLaws.{found}
-use Rattle.asm_text.specs.declared.value.Value.{Value}
+use Rattle.asm_text.specs.declared.values.Value.{Value}
 use Rattle.asm_text.specs.GivenValues.{defined_value}
 use Rattle.asm_text.specs.Kept.{defined_entry, names_of}
 
@@ -80,9 +80,9 @@ module _ (old new : BTreeMap (List ℕ) Value) (name : List ℕ) (value : Value)
       let no_register : found name registers ≡ None = none_both _ _ (sym (get_kept old.entries name) ∙ none) in
       same_map nat_list_cmp_total (slice_cmp-IsAntisymmetric nat_cmp-IsAntisymmetric) _ _
       (λ asked.
-        get_kept new.entries asked
-        ∙ (ap (λ kept. or_else (found asked registers) (option_map defined_value kept)) (updates.0 asked)
-        ∙ (same_at _ asked refl no_register
-        ∙ (ap (λ b. cond b (Some (defined_value value)) (or_else (found asked registers) (option_map defined_value (tree.get (slice_cmp nat_cmp) old asked)))) ((eq_by_cmp_equiv nat_list_cmp_total).symm name asked)
-        ∙ (ap (cond (eq_by_cmp (slice_cmp nat_cmp) asked name) (Some (defined_value value))) (sym (get_kept old.entries asked))
-        ∙ sym (get-insert nat_list_cmp_total (names_of old.entries) name (defined_value value) asked))))))
+      get_kept new.entries asked
+      ∙ (ap (λ kept. or_else (found asked registers) (option_map defined_value kept)) (updates.0 asked)
+      ∙ (same_at _ asked refl no_register
+      ∙ (ap (λ b. cond b (Some (defined_value value)) (or_else (found asked registers) (option_map defined_value (tree.get (slice_cmp nat_cmp) old asked)))) ((eq_by_cmp_equiv nat_list_cmp_total).symm name asked)
+      ∙ (ap (cond (eq_by_cmp (slice_cmp nat_cmp) asked name) (Some (defined_value value))) (sym (get_kept old.entries asked))
+      ∙ sym (get-insert nat_list_cmp_total (names_of old.entries) name (defined_value value) asked))))))

@@ -4,7 +4,7 @@ ghost use Rattle.std.specs.Prelude.{◌≡◌, ◌≢◌, ◌≤◌};
 ghost use Rattle.source_defs.specs.Expression as spec;
 ghost use Rattle.asm_text.specs.GivenValues.{defined_value, defined_value_answer};
 
-use crate::value::Value;
+use crate::values::Value;
 use source_defs::ExprError;
 
 /// Two values, joined by an operator. Anything but `+`, `-` and `*` divides.
@@ -24,9 +24,8 @@ fn sum(a: Value, b: Value) -> Result<Value, ExprError>
 {
     match (a, b) {
         (Value::Absolute(a), Value::Absolute(b)) => Ok(Value::Absolute(a.wrapping_add(b))),
-        (Value::Absolute(a), Value::Relocatable(b)) | (Value::Relocatable(a), Value::Absolute(b)) => {
-            Ok(Value::Relocatable(a.wrapping_add(b)))
-        }
+        (Value::Absolute(a), Value::Relocatable(b)) | (Value::Relocatable(a), Value::Absolute(b)) =>
+            { Ok(Value::Relocatable(a.wrapping_add(b))) }
         _ => Err(ExprError::BadRelocation),
     }
 }
@@ -35,9 +34,8 @@ fn difference(a: Value, b: Value) -> Result<Value, ExprError>
     ensures { defined_value_answer result ≡ spec.difference (defined_value a) (defined_value b) }
 {
     match (a, b) {
-        (Value::Absolute(a), Value::Absolute(b)) | (Value::Relocatable(a), Value::Relocatable(b)) => {
-            Ok(Value::Absolute(a.wrapping_sub(b)))
-        }
+        (Value::Absolute(a), Value::Absolute(b)) | (Value::Relocatable(a), Value::Relocatable(b)) =>
+            { Ok(Value::Absolute(a.wrapping_sub(b))) }
         (Value::Relocatable(a), Value::Absolute(b)) => Ok(Value::Relocatable(a.wrapping_sub(b))),
         _ => Err(ExprError::BadRelocation),
     }

@@ -1,4 +1,4 @@
-//! The value of tokens.
+//! The value of a term.
 
 ghost use Rattle.std.specs.Prelude.{◌≡◌};
 ghost use Rattle.std.specs.Option.{option_map};
@@ -12,7 +12,7 @@ ghost use Rattle.asm_text.specs.GivenValues.{defined_value, defined_value_answer
 use crate::name::Name;
 use crate::symbols::Symbols;
 use crate::token::{Token, TokenKind};
-use crate::value::Value;
+use crate::values::Value;
 use source_defs::ExprError;
 
 /// What stands between the quotes of a text.
@@ -52,17 +52,20 @@ fn text_value(quoted: &[u8]) -> Result<Value, ExprError>
 }
 
 /// The value of a term.
-fn term_value(token: &Token, line: &[u8], symbols: &Symbols, here: Value) -> Result<Value, ExprError>
+pub(crate) fn term_value(
+    token: &Token,
+    line: &[u8],
+    symbols: &Symbols,
+    here: &Value,
+) -> Result<Value, ExprError>
     requires { IsInside line.now token.now.span }
-    ensures {
-        defined_value_answer result
-            ≡ spec.term_value (look_up symbols.now) (defined_value here) line.now (defined_token token.now)
-    }
+    ensures { defined_value_answer result
+        ≡ spec.term_value (look_up symbols.now) (defined_value here.now) line.now (defined_token token.now) }
 {
     match &token.kind {
         TokenKind::Number(number) => Ok(Value::Absolute(*number)),
         TokenKind::Name(name) => known_value(symbols, name),
-        TokenKind::Here => Ok(here),
+        TokenKind::Here => Ok(*here),
         TokenKind::Text => text_value(&line[token.span.start..token.span.end]),
         TokenKind::Sign(_) => Err(ExprError::BadToken),
     }

@@ -11,7 +11,7 @@ ghost use Rattle.source_defs.specs.Expression.{Absolute};
 ghost use Rattle.asm_text.specs.GivenValues.{defined_value};
 
 use crate::name::Name;
-use crate::value::Value;
+use crate::values::Value;
 use std::alloc::Global;
 use std::collections::BTreeMap;
 use std::marker::Model;

@@ -1,9 +1,10 @@
 -- The characters of a quoted text, one after the other.
-use Rattle.std.proofs.Common.{◌≡◌, ℕ, ◌<◌, Bool, true, false, not, ◌&&◌, List, [], ◌∷◌, length, get_or, drop, refl, eqb, arith, ◌∙◌}
+use Rattle.std.proofs.Common.{◌≡◌, ℕ, ◌+◌, ◌*◌, ◌<◌, ◌≤◌, Bool, true, false, not, ◌&&◌, List, [], ◌∷◌, length, get_or, drop, Ok, Err, ap, refl, eqb, arith, ◌∙◌}
 use Rattle.std.proofs.lemmas.Bool.Decides.{nat_tests}
 use Rattle.std.specs.Prelude.{Option, Some, None, ◌==◌, if◌then◌else◌}
 use Rattle.source_defs.specs.Characters.{is_quote}
-use Rattle.source_defs.specs.Expression.{characters_behind}
+use Rattle.source_defs.specs.Expression.{Absolute, characters_behind, characters_value}
+use Rattle.source_defs.specs.declared.causes.ExprError.TheVariants.{BadToken}
 
 -- the first character, where two quotes are one, and what stands behind it
 abbrev pub first_character : List ℕ → Option (ℕ × List ℕ)
@@ -59,3 +60,24 @@ characters_left text byte bytes e = rw e (left byte bytes)
         by : (b : Bool) → is_quote byte ≡ b → (first : ℕ) × ((others : List ℕ) × (characters_behind false (byte ∷ bytes) ≡ first ∷ others))
         by true e = (byte, (characters_behind true bytes, rw e refl))
         by false e = (byte, (characters_behind false bytes, rw e refl))
+
+-- the value of no character, of one, of two, and of more
+pub value_none : (text : List ℕ) → first_character text ≡ None → characters_value (characters_behind false text) ≡ Err BadToken
+value_none text e = ap characters_value (characters_none text e)
+
+pub value_one : (text : List ℕ) (low : ℕ) (others : List ℕ) → first_character text ≡ Some (low, others)
+    → first_character others ≡ None → characters_value (characters_behind false text) ≡ Ok (Absolute low)
+value_one text low others e f =
+    ap characters_value (characters_some text low others e ∙ ap (λ behind. low ∷ behind) (characters_none others f))
+
+pub value_two : (text : List ℕ) (high : ℕ) (others : List ℕ) (low : ℕ) → first_character text ≡ Some (high, others)
+    → first_character others ≡ Some (low, []) → characters_value (characters_behind false text) ≡ Ok (Absolute (high * 256 + low))
+value_two text high others low e f =
+    ap characters_value (characters_some text high others e ∙ ap (λ behind. high ∷ behind) (characters_some others low [] f))
+
+pub value_more : (text : List ℕ) (first : ℕ) (others : List ℕ) (second : ℕ) (more : List ℕ) → first_character text ≡ Some (first, others)
+    → first_character others ≡ Some (second, more) → 1 ≤ length more → characters_value (characters_behind false text) ≡ Err BadToken
+value_more text first others second [] e f some = absurd (omega arith)
+value_more text first others second (byte ∷ bytes) e f some =
+    let left = characters_left (byte ∷ bytes) byte bytes refl in
+    ap characters_value (characters_some text first others e ∙ ap (λ behind. first ∷ behind) (characters_some others second (byte ∷ bytes) f ∙ ap (λ behind. second ∷ behind) left.1.1))

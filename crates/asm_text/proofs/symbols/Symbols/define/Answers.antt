@@ -10,7 +10,7 @@ returns-clause-defined c =
     elim c.match-insert.branch [
       | in-Ok w ↦
           let none : get c.args.self.now c.args.name ≡ None =
-              sym c.get.ensures ∙ none_of c.get.result (sym c.is_some.ensures ∙ c.if-is_some.false) in
+          sym c.get.ensures ∙ none_of c.get.result (sym c.is_some.ensures ∙ c.if-is_some.false) in
           rw w.result-is
           (define_kept c.self.inside.defined c.insert.new.self c.args.name c.args.value w.in-Ok.ensures.updates
           (ap (λ names. get names c.args.name) c.self.view_is ∙ none)
