@@ -1,5 +1,7 @@
 -- What `tokens` gives, in the terms of the definitions.
-use Rattle.std.specs.Prelude.{Result, Ok, Err}
+use Rattle.std.specs.Prelude.{ℕ, List, Result, Ok, Err}
+use Rattle.std.specs.List.{AllByRecursion}
+use Rattle.source_defs.specs.Lines.{IsInside}
 use Rattle.source_defs.specs.declared.causes.ExprError.{ExprError}
 use Rattle.source_defs.specs.Tokens as defined
 use Rattle.asm_text.specs.declared.token.Token.{Token}
@@ -21,3 +23,7 @@ defined_token token = record { kind = defined_kind token.kind; span = token.span
 abbrev pub defined_token_answer : Result Token ExprError → Result defined.Token ExprError
 defined_token_answer (Ok token) = Ok (defined_token token)
 defined_token_answer (Err cause) = Err cause
+
+-- each token lies inside a line
+abbrev pub TokensLieInside : List ℕ → List Token → Type 0
+TokensLieInside line tokens = AllByRecursion (λ token. IsInside line token.span) tokens

@@ -9,5 +9,8 @@ pub use Rattle.source_defs.specs.FieldLaw
 pub use Rattle.source_defs.specs.Tokens
 pub use Rattle.source_defs.specs.TokenLaw
 pub mod GivenFields
+pub use Rattle.source_defs.specs.Expression
 pub mod GivenTokens
+pub mod GivenValues
+pub mod Kept
 pub mod Padding

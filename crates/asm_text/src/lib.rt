@@ -1,8 +1,11 @@
 //! Source text: its lines, the fields of a line, names, and the tokens and values of expressions.
 #![tactic(auto)]
 
+mod arithmetic;
 mod characters;
 mod digits;
+mod evaluate;
+mod fold;
 mod laws;
 mod line_fields;
 mod line_iter;
@@ -13,14 +16,17 @@ mod operand_iter;
 mod places;
 mod scan;
 mod split;
+mod symbols;
 #[cfg(test)]
 mod tests;
 mod text;
 mod token;
+mod values;
 mod words;
 
 pub use crate::characters::{is_blank, is_comma, is_line_feed, is_printed, is_quote};
 pub use crate::digits::{byte_digits, word_digits};
+pub use crate::fold::value;
 pub use crate::laws::{fields_of_a_line, least_places, lines_of_a_text};
 pub use crate::line_fields::Fields;
 pub use crate::line_iter::Lines;
@@ -30,7 +36,9 @@ pub use crate::operand_field::operands;
 pub use crate::operand_iter::Operands;
 pub use crate::scan::tokens;
 pub use crate::split::fields;
+pub use crate::symbols::{DefineError, Symbols};
 pub use crate::text::lines;
 pub use crate::token::{Token, TokenKind};
+pub use crate::values::Value;
 pub use crate::words::is_word;
 pub use source_defs::{ExprError, Line, Span, TextError};

@@ -120,14 +120,11 @@ pub(crate) fn name_end(text: &[u8], from: usize) -> usize
 }
 
 /// The end of a quoted text that starts at a place, or `None` where it is not closed.
-#[tactic(auto, using(source_defs::proofs::LeastLaws::leasts, source_defs::proofs::LeastLaws::least_bounds,
-    source_defs::proofs::Quotes::quoting))]
+#[tactic(auto, using(source_defs::proofs::LeastLaws::leasts, source_defs::proofs::LeastLaws::least_bounds, source_defs::proofs::Quotes::quoting))]
 pub(crate) fn text_end(text: &[u8], start: usize) -> Option<usize>
     requires { start ≤ length text.now }
-    ensures {
-        result ≡ (if in_quotes text.now start (tokens.text_end text.now start)
-            then None else Some (tokens.text_end text.now start))
-    }
+    ensures { result ≡ (if in_quotes text.now start (tokens.text_end text.now start)
+        then None else Some (tokens.text_end text.now start)) }
 {
     let mut quoted = false;
     for at in start..text.len() {

@@ -7,3 +7,5 @@ pub mod NumberLaws
 pub mod OperandSteps
 mod ExpressionRows
 pub mod TokenLaws
+pub mod CharacterLaws
+pub mod SymbolLaws

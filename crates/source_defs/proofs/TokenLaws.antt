@@ -144,7 +144,7 @@ list_same x y e = cc
 by_left : (b : Bool) (left : ℕ) (text : List ℕ) (at : ℕ) (found : List Token) → nat_lt at (length text) ≡ b
     → at ≤ length text → length text ≤ at + suc left
     → ((at' : ℕ) (found' : List Token) → at' ≤ length text → length text ≤ at' + left
-      → tokens_from left text at' ≡ Ok found' → Follow text at' found')
+    → tokens_from left text at' ≡ Ok found' → Follow text at' found')
     → cond b (token_at text at >>= (λ token. tokens_from left text token.span.end >>= (λ others. Ok (token ∷ others)))) (Ok []) ≡ Ok found
     → Follow text at found
 by_left true left text at found test le enough again e =

@@ -3,7 +3,7 @@
 -- Editor/Assembler manual, "Expressions": an optional minus sign and a term, then operators with terms, which are taken
 -- from left to right without precedence.
 -- Profile: the first refusal from the left is the expression's, and a term's own refusal stands before that of joining it.
-use Rattle.std.specs.Prelude.{ℕ, ◌+◌, ◌-◌, ◌*◌, ◌/◌, ◌%◌, ◌==◌, Bool, true, false, not, ◌&&◌, nat_le, if◌then◌else◌, List, [], ◌∷◌, length, take, drop, Option, Some, None, Result, Ok, Err}
+use Rattle.std.specs.Prelude.{ℕ, ◌+◌, ◌-◌, ◌*◌, ◌/◌, ◌%◌, ◌==◌, Bool, true, false, not, ◌&&◌, nat_le, if◌then◌else◌, List, [], ◌∷◌, length, slice_range, Option, Some, None, Result, Ok, Err}
 use Rattle.source_defs.specs.declared.causes.ExprError.{ExprError}
 use Rattle.source_defs.specs.declared.causes.ExprError.TheVariants.{BadToken, UnknownName, BadRelocation, DivideByZero}
 use Rattle.source_defs.specs.Refusals.{◌>>=◌}
@@ -98,9 +98,13 @@ characters_behind quote (byte ∷ bytes) =
     let others = characters_behind (is_quote byte && not quote) bytes in
     if is_quote byte && quote then others else byte ∷ others
 
+-- what stands between the quotes of a text
+abbrev pub between_quotes : List ℕ → List ℕ
+between_quotes quoted = slice_range quoted 1 (length quoted - 1)
+
 -- the characters of a quoted text
 abbrev pub characters : List ℕ → List ℕ
-characters quoted = characters_behind true (take (length quoted - 1) quoted)
+characters quoted = characters_behind false (between_quotes quoted)
 
 -- Editor/Assembler manual, "Constants": one or two characters; one character stands in the low byte.
 abbrev pub characters_value : List ℕ → Result Value ExprError

@@ -10,5 +10,6 @@ pub mod Tokens
 pub mod TokenLaw
 pub mod Expression
 pub mod Operands
+pub mod Symbols
 pub mod LineLaw
 pub mod FieldLaw

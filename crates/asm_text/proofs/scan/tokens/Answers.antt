@@ -17,15 +17,15 @@ returns-in_err-token-clause-cause c =
     let i = c.loop-start.invariant in
     let p = err_from_is_err_and c.from_residual.result c.from_residual.ensures.1 in
     let bad =
-        tokens_bad c.args.text.now c.loop-start.start i.0 (map defined_token c.loop-start.found.items) c.in_err-token.field-0.0
-        c.loop-start-test.true i.1 (sym c.in_err-token.ensures) in
+    tokens_bad c.args.text.now c.loop-start.start i.0 (map defined_token c.loop-start.found.items) c.in_err-token.field-0.0
+    c.loop-start-test.true i.1 (sym c.in_err-token.ensures) in
     rw (p.1, p.2) (λ _. sym i.3 ∙ bad)
 
 pub loop-start-smaller : goal.loop-start-smaller
 loop-start-smaller c =
     let goes =
-        token_goes c.args.text.now c.loop-start.start c.loop-start-test.true (defined_token c.in_ok-token.token)
-        (sym c.in_ok-token.ensures) in
+    token_goes c.args.text.now c.loop-start.start c.loop-start-test.true (defined_token c.in_ok-token.token)
+    (sym c.in_ok-token.ensures) in
     let more : c.loop-start.start < c.in_ok-token.token.span.end = goes.more in
     let lt : c.loop-start.start < length c.args.text.now = c.loop-start-test.true in
     omega (arith, more, lt)
@@ -42,11 +42,11 @@ loop-start-preserved c =
     let enough : length text ≤ start + i.0 = i.1 in
     let ok : is_ok c.extend_from_slice.result ≡ true = c.is_err.ensures.negation ∙ ap not c.if-is_err.false in
     let kept : c.extend_from_slice.new.self.items ≡ c.loop-start.found.items ++ token ∷ [] =
-        rw ok at c.extend_from_slice.ensures.items in
+    rw ok at c.extend_from_slice.ensures.items in
     let longer : map defined_token c.extend_from_slice.new.self.items ≡ front ++ defined_token token ∷ [] =
-        ap (map defined_token) kept ∙ map-append defined_token c.loop-start.found.items (token ∷ []) in
+    ap (map defined_token) kept ∙ map-append defined_token c.loop-start.found.items (token ∷ []) in
     let step =
-        tokens_more text start i.0 front (defined_token token) c.loop-start-test.true enough (sym c.in_ok-token.ensures) in
+    tokens_more text start i.0 front (defined_token token) c.loop-start-test.true enough (sym c.in_ok-token.ensures) in
     (i.0 - 1, omega arith, goes.within, rw longer (sym step ∙ i.3))
 
 pub returns-clause-found : goal.returns-clause-found

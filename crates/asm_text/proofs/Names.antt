@@ -1,0 +1,88 @@
+-- What the names that are kept stand for.
+use Rattle.std.proofs.Common.{◌≡◌, ℕ, Bool, true, false, cond, List, [], ◌∷◌, ◌++◌, Some, None, refl, sym, ap, ◌∙◌}
+use Rattle.std.specs.Prelude.{Option, map, is_some}
+use Rattle.std.specs.Option.{option_map}
+use Rattle.std.specs.Ordering.{nat_cmp, eq_by_cmp, is_eq}
+use Rattle.std.specs.declared.cmp.Ordering.{Ordering}
+use Rattle.std.specs.declared.cmp.Ordering.TheVariants.{Less, Equal, Greater}
+use Rattle.std.specs.FinMap.Entries.{find_tied}
+use Rattle.std.specs.Cmp.{eq_by_cmp_equiv}
+use Rattle.std.specs.Cmp.Lexicographic.{slice_cmp, nat_list_cmp_total}
+use Rattle.std.specs.FinMap.{find, from_entries, get, get-from_entries, get-insert, insert, same_map, slice_cmp-IsAntisymmetric, nat_cmp-IsAntisymmetric}
+use Rattle.std.specs.BTreeMap.{BTreeMap, is_at}
+use Rattle.std.specs.BTreeMap as tree
+use Rattle.std.specs.Map.{lookup}
+use Rattle.source_defs.specs.Expression as defined
+use Rattle.source_defs.specs.Symbols.{Names, registers}
+use Rattle.source_defs.proofs.SymbolLaws.{found}
+use Rattle.asm_text.specs.declared.values.Value.{Value}
+use Rattle.asm_text.specs.GivenValues.{defined_value}
+use Rattle.asm_text.specs.Kept.{defined_entry, names_of}
+
+equal_of : (r : Ordering) → is_eq r ≡ true → r ≡ Equal
+equal_of Less e = cc
+equal_of Equal e = refl
+equal_of Greater e = cc
+
+-- the first of two that is there
+abbrev pub or_else : Option defined.Value → Option defined.Value → Option defined.Value
+or_else (Some value) other = Some value
+or_else None other = other
+
+either : (b : Bool) (value : defined.Value) (first second : Option defined.Value) → cond b (Some value) (or_else first second) ≡ or_else (cond b (Some value) first) second
+either true value first second = refl
+either false value first second = refl
+
+found-append : (name : List ℕ) (front behind : List (List ℕ × defined.Value)) → found name (front ++ behind) ≡ or_else (found name front) (found name behind)
+found-append name [] behind = refl
+found-append name (entry ∷ front) behind =
+    ap (cond (eq_by_cmp (slice_cmp nat_cmp) name entry.0) (Some entry.1)) (found-append name front behind)
+    ∙ either (eq_by_cmp (slice_cmp nat_cmp) name entry.0) entry.1 (found name front) (found name behind)
+
+mapped : (b : Bool) (value : Value) (other : Option Value) → cond b (Some (defined_value value)) (option_map defined_value other) ≡ option_map defined_value (cond b (Some value) other)
+mapped true value other = refl
+mapped false value other = refl
+
+found-map : (name : List ℕ) (entries : List (List ℕ × Value)) → found name (map defined_entry entries) ≡ option_map defined_value (lookup (is_at (slice_cmp nat_cmp name)) entries)
+found-map name [] = refl
+found-map name (entry ∷ entries) =
+    ap (cond (eq_by_cmp (slice_cmp nat_cmp) name entry.0) (Some (defined_value entry.1))) (found-map name entries)
+    ∙ mapped (eq_by_cmp (slice_cmp nat_cmp) name entry.0) entry.1 (lookup (is_at (slice_cmp nat_cmp name)) entries)
+
+-- a name is a register, or what is kept for it
+pub get_kept : (entries : List (List ℕ × Value)) (name : List ℕ) → get (names_of entries) name ≡ or_else (found name registers) (option_map defined_value (lookup (is_at (slice_cmp nat_cmp name)) entries))
+get_kept entries name =
+    get-from_entries nat_list_cmp_total (registers ++ map defined_entry entries) name
+    ∙ (found-append name registers (map defined_entry entries) ∙ ap (or_else (found name registers)) (found-map name entries))
+
+none_both : (first second : Option defined.Value) → or_else first second ≡ None → first ≡ None
+none_both (Some value) second e = cc
+none_both None second e = refl
+
+-- nothing is there
+pub none_of : (kept : Option Value) → is_some kept ≡ false → option_map defined_value kept ≡ None
+none_of (Some value) e = cc
+none_of None e = refl
+
+module _ (old new : BTreeMap (List ℕ) Value) (name : List ℕ) (value : Value) where
+  same_at : (b : Bool) (asked : List ℕ) → eq_by_cmp (slice_cmp nat_cmp) name asked ≡ b → found name registers ≡ None
+      → or_else (found asked registers) (option_map defined_value (cond b (Some value) (tree.get (slice_cmp nat_cmp) old asked)))
+      ≡ cond b (Some (defined_value value)) (or_else (found asked registers) (option_map defined_value (tree.get (slice_cmp nat_cmp) old asked)))
+  same_at true asked tied none =
+      let other : found asked registers ≡ None = find_tied (slice_cmp nat_cmp) nat_list_cmp_total name asked (equal_of _ tied) registers ∙ none in
+      rw other refl
+  same_at false asked tied none = refl
+
+  -- a name that stood for nothing is defined
+  pub define_kept : tree.Updates (slice_cmp nat_cmp) old new name (Some value) → get (names_of old.entries) name ≡ None
+      → names_of new.entries ≡ insert (names_of old.entries) name (defined_value value)
+  define_kept updates none =
+      let no_register : found name registers ≡ None = none_both _ _ (sym (get_kept old.entries name) ∙ none) in
+      same_map nat_list_cmp_total (slice_cmp-IsAntisymmetric nat_cmp-IsAntisymmetric) _ _
+      (λ asked.
+      get_kept new.entries asked
+      ∙ (ap (λ kept. or_else (found asked registers) (option_map defined_value kept)) (updates.0 asked)
+      ∙ (same_at _ asked refl no_register
+      ∙ (ap (λ b. cond b (Some (defined_value value)) (or_else (found asked registers) (option_map defined_value (tree.get (slice_cmp nat_cmp) old asked)))) ((eq_by_cmp_equiv nat_list_cmp_total).symm name asked)
+      ∙ (ap (cond (eq_by_cmp (slice_cmp nat_cmp) asked name) (Some (defined_value value))) (sym (get_kept old.entries asked))
+      ∙ sym (get-insert nat_list_cmp_total (names_of old.entries) name (defined_value value) asked))))))

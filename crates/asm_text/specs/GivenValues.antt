@@ -1,0 +1,23 @@
+-- What `value` gives, in the terms of the definitions.
+use Rattle.std.specs.Prelude.{⊤, List, ℕ, Result, Ok, Err}
+use Rattle.source_defs.specs.declared.causes.ExprError.{ExprError}
+use Rattle.source_defs.specs.Expression as defined
+use Rattle.asm_text.specs.declared.values.Value.{Value}
+use Rattle.asm_text.specs.declared.values.Value.TheVariants.{Absolute, Relocatable, External}
+
+-- a value, with the name seen as its bytes
+abbrev pub defined_value : Value → defined.Value
+defined_value (Absolute number) = defined.Absolute number
+defined_value (Relocatable place) = defined.Relocatable place
+defined_value (External name) = defined.External name
+
+-- the definition's answer
+abbrev pub defined_value_answer : Result Value ExprError → Result defined.Value ExprError
+defined_value_answer (Ok value) = Ok (defined_value value)
+defined_value_answer (Err cause) = Err cause
+
+-- a place in a line is a number, and no external name
+abbrev pub IsNotExternal : Value → Type 0
+IsNotExternal (Absolute number) = ⊤
+IsNotExternal (Relocatable place) = ⊤
+IsNotExternal (External name) = ⊥

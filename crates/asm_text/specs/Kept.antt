@@ -1,0 +1,14 @@
+-- The names that `Symbols` keeps.
+use Rattle.std.specs.Prelude.{ℕ, List, ◌++◌, map}
+use Rattle.std.specs.FinMap.{from_entries}
+use Rattle.source_defs.specs.Symbols.{Names, registers}
+use Rattle.asm_text.specs.declared.values.Value.{Value}
+use Rattle.asm_text.specs.GivenValues.{defined_value}
+
+-- an entry, with its value seen as the definitions see it
+abbrev pub defined_entry : List ℕ × Value → List ℕ × Rattle.source_defs.specs.Expression.Value
+defined_entry entry = (entry.0, defined_value entry.1)
+
+-- the registers and the entries
+abbrev pub names_of : List (List ℕ × Value) → Names
+names_of entries = from_entries (registers ++ map defined_entry entries)

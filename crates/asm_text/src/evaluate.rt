@@ -1,0 +1,82 @@
+//! The value of a term.
+
+ghost use Rattle.std.specs.Prelude.{◌≡◌};
+ghost use Rattle.std.specs.Option.{option_map};
+ghost use Rattle.source_defs.specs.Lines.{IsInside};
+ghost use Rattle.source_defs.specs.Expression as spec;
+ghost use Rattle.source_defs.specs.Symbols.{look_up};
+ghost use Rattle.source_defs.proofs.CharacterLaws.{first_character};
+ghost use Rattle.asm_text.specs.GivenTokens.{defined_token};
+ghost use Rattle.asm_text.specs.GivenValues.{defined_value, defined_value_answer};
+
+use crate::name::Name;
+use crate::symbols::Symbols;
+use crate::token::{Token, TokenKind};
+use crate::values::Value;
+use source_defs::ExprError;
+
+/// What stands between the quotes of a text.
+fn between_quotes(quoted: &[u8]) -> &[u8]
+    ensures { result.now ≡ spec.between_quotes quoted.now }
+{
+    if quoted.len() < 2 {
+        &[]
+    } else {
+        &quoted[1..quoted.len() - 1]
+    }
+}
+
+/// The first character of a text, where two quotes are one, and what stands behind it.
+fn first_character(text: &[u8]) -> Option<(u8, &[u8])>
+    ensures { option_map (λ found. (found.0, found.1.now)) result ≡ first_character text.now }
+{
+    match text {
+        [] => None,
+        [b'\'', b'\'', others @ ..] => Some((b'\'', others)),
+        [first, others @ ..] => Some((*first, others)),
+    }
+}
+
+/// The value of a quoted text: one or two characters, one character in the low byte.
+fn text_value(quoted: &[u8]) -> Result<Value, ExprError>
+    ensures { defined_value_answer result ≡ spec.characters_value (spec.characters quoted.now) }
+{
+    let Some((first, others)) = first_character(between_quotes(quoted)) else {
+        return Err(ExprError::BadToken);
+    };
+    match first_character(others) {
+        None => Ok(Value::Absolute(u16::from(first))),
+        Some((second, [])) => Ok(Value::Absolute(u16::from(first) * 256 + u16::from(second))),
+        Some(_) => Err(ExprError::BadToken),
+    }
+}
+
+/// The value of a term.
+pub(crate) fn term_value(
+    token: &Token,
+    line: &[u8],
+    symbols: &Symbols,
+    here: &Value,
+) -> Result<Value, ExprError>
+    requires { IsInside line.now token.now.span }
+    ensures { defined_value_answer result
+        ≡ spec.term_value (look_up symbols.now) (defined_value here.now) line.now (defined_token token.now) }
+{
+    match &token.kind {
+        TokenKind::Number(number) => Ok(Value::Absolute(*number)),
+        TokenKind::Name(name) => known_value(symbols, name),
+        TokenKind::Here => Ok(*here),
+        TokenKind::Text => text_value(&line[token.span.start..token.span.end]),
+        TokenKind::Sign(_) => Err(ExprError::BadToken),
+    }
+}
+
+/// The value of a name.
+fn known_value(symbols: &Symbols, name: &Name) -> Result<Value, ExprError>
+    ensures { defined_value_answer result ≡ spec.known_value (look_up symbols.now name.now) }
+{
+    match symbols.get(name) {
+        Some(value) => Ok(value),
+        None => Err(ExprError::UnknownName),
+    }
+}

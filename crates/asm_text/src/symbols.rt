@@ -1,0 +1,112 @@
+//! The names of a source and their values.
+
+ghost use Rattle.std.specs.Prelude.{◌≡◌, ◌↔◌, ◌<◌, ◌≤◌, None, IsSome, OnOk, OnErr, IfSome};
+ghost use Rattle.std.specs.Prelude.{nat_eq, Err};
+ghost use Rattle.std.specs.Ordering.{nat_cmp};
+ghost use Rattle.std.specs.Cmp.Lexicographic.{pointwise, slice_cmp};
+ghost use Rattle.std.specs.FinMap.{insert, get, find};
+ghost use Rattle.std.specs.Option.{option_map};
+ghost use Rattle.source_defs.specs.Symbols as spec;
+ghost use Rattle.source_defs.specs.Expression.{Absolute};
+ghost use Rattle.asm_text.specs.GivenValues.{defined_value};
+
+use crate::name::Name;
+use crate::values::Value;
+use std::alloc::Global;
+use std::collections::BTreeMap;
+use std::marker::Model;
+
+/// Why a name is not defined.
+#[derive(Clone, Copy, Debug, PartialEq, Eq)]
+pub enum DefineError {
+    /// The name stands for something already.
+    Duplicate,
+    /// Memory was wanting.
+    Memory,
+}
+
+/// The names of a source, each with its value. R0 to R15 stand for 0 to 15 from the start.
+///
+/// Contracts see it as the finite map from names to values.
+#[derive(Drop)]
+pub struct Symbols {
+    // The names that were defined; no register is one of them.
+    defined: BTreeMap<Name, Value>,
+}
+
+impl Model for Symbols {
+    ghost use Rattle.std.specs.FinMap.{code};
+    ghost use Rattle.std.specs.Coded.{coded_list, coded_ℕ};
+    ghost use Rattle.source_defs.specs.Symbols.{Names, value_code};
+    ghost use Rattle.asm_text.specs.Kept.{names_of};
+
+    ghost Value = { Names };
+
+    ghost coded = { code (coded_list coded_ℕ) value_code };
+
+    ghost view = { λ symbols. names_of symbols.defined.entries };
+}
+
+impl Symbols {
+    /// The registers and no other name. It takes no memory.
+    pub fn new(alloc: Global) -> Symbols
+        ensures { result ≡ spec.predefined }
+    {
+        Symbols {
+            defined: BTreeMap::new(alloc),
+        }
+    }
+
+    /// Defines a name that stands for nothing yet.
+    ///
+    /// # Errors
+    /// `Duplicate` comes exactly where the name stands for something already, and `Memory` is want of memory. After an
+    /// error all is as before.
+    pub fn define(&mut self, name: Name, value: Value) -> Result<(), DefineError>
+        ensures defined { OnOk result (self.new ≡ insert self.old name (defined_value value)) }
+        ensures duplicate { (result ≡ Err DefineError.Duplicate) ↔ IsSome (get self.old name) }
+        ensures unchanged { OnErr result (self.new ≡ self.old) }
+    {
+        if self.get(&name).is_some() {
+            return Err(DefineError::Duplicate);
+        }
+        match self.defined.insert(name, value) {
+            Ok(_) => Ok(()),
+            Err(_) => Err(DefineError::Memory),
+        }
+    }
+
+    /// What a name stands for.
+    pub fn get(&self, name: &Name) -> Option<Value>
+        ensures { option_map defined_value result ≡ get self.now name.now }
+    {
+        match register_number(name.as_bytes()) {
+            Some(number) => Some(Value::Absolute(number)),
+            None => self.defined.get(name).copied(),
+        }
+    }
+}
+
+/// The number of the register that a name is.
+fn register_number(name: &[u8]) -> Option<u16>
+    ensures { option_map Absolute result ≡ find (slice_cmp nat_cmp) name.now spec.registers }
+{
+    for number in 0..16 {
+        if is_register(name, number) {
+            return Some(number);
+        }
+    }
+    None
+}
+
+/// Whether a name is R with a number.
+fn is_register(name: &[u8], number: u16) -> bool
+    requires { number < 16 }
+    ensures { result ≡ pointwise nat_eq name.now (spec.register_name number) }
+{
+    if number < 10 {
+        name == [b'R', b'0' + number as u8].as_slice()
+    } else {
+        name == [b'R', b'1', b'0' + (number - 10) as u8].as_slice()
+    }
+}
