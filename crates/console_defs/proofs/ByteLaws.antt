@@ -5,4 +5,5 @@ use Rattle.console_defs.specs.Bytes.{HoldsZeros}
 
 -- So many zeros are a list of zeros.
 pub replicated_zeros : (count : ℕ) → HoldsZeros count (replicate count 0)
-replicated_zeros count = record { size = Prim.grind (arith, common_steps); zeros = λ at. Prim.grind (arith, common_steps) }
+replicated_zeros count =
+    record { size = Prim.grind (arith, common_steps); zeros = λ at. Prim.grind (arith, common_steps) }

@@ -32,7 +32,8 @@ use Rattle.console_defs.specs.Instructions.{instr_at, operation_of, word_of, Has
 
 -- the code has no bit that the mask does not fix, and is a word
 abbrev is_under_mask : Operation → Bool
-is_under_mask operation = eqb (bit_and (code_of operation) (mask_of operation)) (code_of operation) && nat_lt (code_of operation) 65536
+is_under_mask operation =
+    eqb (bit_and (code_of operation) (mask_of operation)) (code_of operation) && nat_lt (code_of operation) 65536
 
 -- some word could belong to both rows
 abbrev could_share : Operation → Operation → Bool
@@ -124,7 +125,9 @@ has_row (Bare LREX) = (68, omega arith, refl)
 shared : (word : ℕ) (a b : Operation) → bit_and word (mask_of a) ≡ code_of a → bit_and word (mask_of b) ≡ code_of b →
     bit_and (code_of a) (mask_of b) ≡ bit_and (code_of b) (mask_of a)
 shared word a b in_a in_b =
-    rw (← in_a, ← in_b, and_assoc (mask_of b) word (mask_of a), and_assoc (mask_of a) word (mask_of b), and_comm (mask_of a) (mask_of b)) refl
+    rw
+    (← in_a, ← in_b, and_assoc (mask_of b) word (mask_of a), and_assoc (mask_of a) word (mask_of b), and_comm (mask_of a) (mask_of b))
+    refl
 
 eqb_is : (m n : ℕ) (b : Bool) → eqb m n ≡ b → m ≡ n → b ≡ true
 eqb_is m n true e same = refl
@@ -134,7 +137,8 @@ eqb_is m n false e same = grind (arith, nat_tests)
 pub first_row_meets : (rows : List Operation) (word : ℕ) (operation : Operation) →
     first_row rows word ≡ Some operation → bit_and word (mask_of operation) ≡ code_of operation
 first_row_meets [] word operation e = absurd (cc)
-first_row_meets (row ∷ rows) word operation e = by (first_row_meets rows word operation) (eqb (bit_and word (mask_of row)) (code_of row)) refl e
+first_row_meets (row ∷ rows) word operation e =
+    by (first_row_meets rows word operation) (eqb (bit_and word (mask_of row)) (code_of row)) refl e
   where
     by : (first_row rows word ≡ Some operation → bit_and word (mask_of operation) ≡ code_of operation) → (b : Bool) →
         eqb (bit_and word (mask_of row)) (code_of row) ≡ b →
@@ -160,7 +164,8 @@ passes : (test : Operation → Bool) (rows : List Operation) (operation : Operat
     k < length rows → get_or rows k operation ≡ operation → test operation ≡ true
 passes test [] operation k all lt at = absurd (omega arith)
 passes test (row ∷ rows) operation zero all lt at = ap test (sym at) ∙ left_of (test row) (list_all test rows) all
-passes test (row ∷ rows) operation (suc k) all lt at = passes test rows operation k (right_of (test row) (list_all test rows) all) (omega arith) at
+passes test (row ∷ rows) operation (suc k) all lt at =
+    passes test rows operation k (right_of (test row) (list_all test rows) all) (omega arith) at
 
 front : (b : Bool) (row : Operation) (rest : Option Operation) → b ≡ true →
     (elim b as (λ _. Option Operation) [ true ↦ Some row | false ↦ rest ]) ≡ Some row
@@ -174,19 +179,25 @@ first_row_at : (rows : List Operation) (word : ℕ) (operation : Operation) (k :
 first_row_at [] word operation k apart lt at meets = absurd (omega arith)
 first_row_at (row ∷ rows) word operation zero apart lt at meets =
     let meets_row : bit_and word (mask_of row) ≡ code_of row = rw at meets in
-    front (eqb (bit_and word (mask_of row)) (code_of row)) row (first_row rows word) (eqb_is (bit_and word (mask_of row)) (code_of row) _ refl meets_row)
+    front (eqb (bit_and word (mask_of row)) (code_of row)) row (first_row rows word)
+    (eqb_is (bit_and word (mask_of row)) (code_of row) _ refl meets_row)
     ∙ ap Some at
 first_row_at (row ∷ rows) word operation (suc k) apart lt at meets =
-    by (first_row_at rows word operation k (right_of (list_all (λ other. not (could_share row other)) rows) (all_apart rows) apart) (omega arith) at meets) (eqb (bit_and word (mask_of row)) (code_of row)) refl
+    by
+    (first_row_at rows word operation k (right_of (list_all (λ other. not (could_share row other)) rows) (all_apart rows) apart) (omega arith) at meets)
+    (eqb (bit_and word (mask_of row)) (code_of row)) refl
   where
     no_share : not (could_share row operation) ≡ true
-    no_share = passes (λ other. not (could_share row other)) rows operation k (left_of (list_all (λ other. not (could_share row other)) rows) (all_apart rows) apart) (omega arith) at
+    no_share =
+        passes (λ other. not (could_share row other)) rows operation k
+        (left_of (list_all (λ other. not (could_share row other)) rows) (all_apart rows) apart) (omega arith) at
 
     by : first_row rows word ≡ Some operation → (b : Bool) → eqb (bit_and word (mask_of row)) (code_of row) ≡ b →
         (elim b as (λ _. Option Operation) [ true ↦ Some row | false ↦ first_row rows word ]) ≡ Some operation
     by rest true test =
         let meets_row : bit_and word (mask_of row) ≡ code_of row = grind (arith, nat_tests) in
-        absurd (not_true (could_share row operation) no_share (eqb_is _ _ (could_share row operation) refl (shared word row operation meets_row meets)))
+        absurd
+        (not_true (could_share row operation) no_share (eqb_is _ _ (could_share row operation) refl (shared word row operation meets_row meets)))
     by rest false test = rest
 
 -- the row that a word meets is the one that is found
@@ -223,7 +234,8 @@ meets-has_code (Shift op) word lt meets = sym meets ∙ and_high_mask 16 8 (omeg
 meets-has_code (One op) word lt meets = sym meets ∙ and_high_mask 16 6 (omega arith) word lt
 meets-has_code (Jump op) word lt meets = sym meets ∙ and_high_mask 16 8 (omega arith) word lt
 meets-has_code (Imm op) word lt meets = sym meets ∙ and_high_mask 16 4 (omega arith) word lt
-meets-has_code (Bare op) word lt meets = let high = and_high_mask 16 0 (omega arith) word lt in omega (arith, meets, high)
+meets-has_code (Bare op) word lt meets =
+    let high = and_high_mask 16 0 (omega arith) word lt in omega (arith, meets, high)
 
 pub operation_at-has_code : (operation : Operation) (word : ℕ) → word < 65536 → HasCode operation word →
     operation_at word ≡ Some operation
@@ -338,7 +350,8 @@ word_of-operands_at (Bare op) word lt meets =
 -- a row that is found, with its operands, has the word again
 pub word_of-found : (operation : Operation) (word : ℕ) → word < 65536 → operation_at word ≡ Some operation →
     word_of (operands_at operation word) ≡ word
-word_of-found operation word lt found = word_of-operands_at operation word lt (first_row_meets operations word operation found)
+word_of-found operation word lt found =
+    word_of-operands_at operation word lt (first_row_meets operations word operation found)
 
 -- the decoded instruction is encoded as the word again
 pub instr_at-encoded : (word : ℕ) → word < 65536 → IfSome (instr_at word) (λ instr. word_of instr ≡ word)
@@ -419,9 +432,11 @@ word_meets (instr.Two op byte dst src) room signed code = (high-12 _ _ code.fits
 word_meets (instr.Reg op d src) room signed code = (high-10 _ _ code.fits code.under (omega arith)).1
 word_meets (instr.Shift op count w) room signed code = (high-8 _ _ code.fits code.under (omega arith)).1
 word_meets (instr.One op at) room signed code = (high-6 _ _ code.fits code.under (omega arith)).1
-word_meets (instr.Jump op disp) room signed code = (high-8 _ (cast_unsigned w8 disp) code.fits code.under (omega (arith, ints))).1
+word_meets (instr.Jump op disp) room signed code =
+    (high-8 _ (cast_unsigned w8 disp) code.fits code.under (omega (arith, ints))).1
 word_meets (instr.Imm op w) room signed code = (high-4 _ _ code.fits code.under room).1
-word_meets (instr.Bare op) room signed code = let e : code_of (Bare op) + 0 ≡ code_of (Bare op) = omega arith in rw e code.under
+word_meets (instr.Bare op) room signed code =
+    let e : code_of (Bare op) + 0 ≡ code_of (Bare op) = omega arith in rw e code.under
 
 same_place : (place : Place) (mode reg : ℕ) → mode ≡ place.mode → reg ≡ place.reg →
     ◌≡◌ {A = Place} (record { mode = mode; reg = reg }) place
@@ -432,13 +447,19 @@ operands_at-word_of : (instr : Instr) → HasRoom instr → HasSignedByte instr 
     operands_at (operation_of instr) (word_of instr) ≡ instr
 operands_at-word_of (instr.Two op byte dst src) room signed code =
     let high = (high-12 _ 0 code.fits code.under (omega arith)).0 in
-    let destination = same_place dst (word_of (instr.Two op byte dst src) / 1024 % 4) (word_of (instr.Two op byte dst src) / 64 % 16) (omega arith) (omega arith) in
-    let source = same_place src (word_of (instr.Two op byte dst src) / 16 % 4) (word_of (instr.Two op byte dst src) % 16) (omega arith) (omega arith) in
+    let destination =
+    same_place dst (word_of (instr.Two op byte dst src) / 1024 % 4) (word_of (instr.Two op byte dst src) / 64 % 16)
+    (omega arith) (omega arith) in
+    let source =
+    same_place src (word_of (instr.Two op byte dst src) / 16 % 4) (word_of (instr.Two op byte dst src) % 16)
+    (omega arith) (omega arith) in
     λ i. instr.Two op byte (destination i) (source i)
 operands_at-word_of (instr.Reg op d src) room signed code =
     let high = (high-10 _ 0 code.fits code.under (omega arith)).0 in
     let number : word_of (instr.Reg op d src) / 64 % 16 ≡ d = omega arith in
-    let source = same_place src (word_of (instr.Reg op d src) / 16 % 4) (word_of (instr.Reg op d src) % 16) (omega arith) (omega arith) in
+    let source =
+    same_place src (word_of (instr.Reg op d src) / 16 % 4) (word_of (instr.Reg op d src) % 16) (omega arith)
+    (omega arith) in
     λ i. instr.Reg op (number i) (source i)
 operands_at-word_of (instr.Shift op count w) room signed code =
     let high = (high-8 _ 0 code.fits code.under (omega arith)).0 in
@@ -447,7 +468,8 @@ operands_at-word_of (instr.Shift op count w) room signed code =
     λ i. instr.Shift op (number i) (register i)
 operands_at-word_of (instr.One op at) room signed code =
     let high = (high-6 _ 0 code.fits code.under (omega arith)).0 in
-    let source = same_place at (word_of (instr.One op at) / 16 % 4) (word_of (instr.One op at) % 16) (omega arith) (omega arith) in
+    let source =
+    same_place at (word_of (instr.One op at) / 16 % 4) (word_of (instr.One op at) % 16) (omega arith) (omega arith) in
     λ i. instr.One op (source i)
 operands_at-word_of (instr.Jump op disp) room signed code =
     let high = (high-8 _ 0 code.fits code.under (omega arith)).0 in

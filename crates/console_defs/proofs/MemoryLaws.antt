@@ -49,7 +49,8 @@ region_by_tests rom low gap scratchpad ports address =
                   | false ↦
                       elim scratchpad [
                         | true ↦ Scratchpad (address % 256)
-                        | false ↦ elim ports [ true ↦ port_region (port_at address) | false ↦ HighExpansion (address - 0xA000) ]
+                        | false ↦ elim ports
+                            [ true ↦ port_region (port_at address) | false ↦ HighExpansion (address - 0xA000) ]
                       ]
                 ]
           ]
@@ -71,9 +72,12 @@ region_scratchpad address from below = grind arith
 
 pub region_ports : (address : ℕ) → 0x8400 ≤ address → address < 0xA000 → region address ≡ port_region (port_at address)
 region_ports address from below =
-    let by_tests : region address ≡ region_by_tests (nat_lt address 0x2000) (nat_lt address 0x4000) (nat_lt address 0x8000) (nat_lt address 0x8400) (nat_lt address 0xA000) address = refl in
+    let by_tests : region address ≡ region_by_tests (nat_lt address 0x2000) (nat_lt address 0x4000) (nat_lt address 0x8000) (nat_lt address 0x8400) (nat_lt address 0xA000) address =
+    refl in
     by_tests
-    ∙ rw (not_below 0x2000 address (omega arith), not_below 0x4000 address (omega arith), not_below 0x8000 address (omega arith), not_below 0x8400 address from, lt-ltb address 0xA000 below) refl
+    ∙ rw
+    (not_below 0x2000 address (omega arith), not_below 0x4000 address (omega arith), not_below 0x8000 address (omega arith), not_below 0x8400 address from, lt-ltb address 0xA000 below)
+    refl
 
 pub region_high : (address : ℕ) → 0xA000 ≤ address → region address ≡ HighExpansion (address - 0xA000)
 region_high address from = grind arith
@@ -99,7 +103,8 @@ region_beside address =
     (λ from_8400.
     below_or_not at 0xA000
     (λ below.
-    rw (region_ports at from_8400 below, region_ports (at + 1) (omega arith) (omega arith), odd_is_no_port address) (beside_port (port_at at)))
+    rw (region_ports at from_8400 below, region_ports (at + 1) (omega arith) (omega arith), odd_is_no_port address)
+    (beside_port (port_at at)))
     (λ from_A000.
     rw (region_high at from_A000, region_high (at + 1) (omega arith)) (ap HighExpansion (omega arith)))))))
 

@@ -27,7 +27,8 @@ more-positive false x y first none twice was = by (eqb (y / 32768 % 2) first) re
 more-negative : (changed : Bool) (x y m n p first : ℕ) → first ≡ 1 → x + m ≡ 65536 * p → y ≡ 2 * x → n ≡ 2 * m → 0 < m →
     changed ≡ nat_lt 32768 m → (changed || not (eqb (y / 32768 % 2) first)) ≡ nat_lt 32768 n
 more-negative true x y m n p first one whole twice twice_m some was = grind (arith, nat_tests)
-more-negative false x y m n p first one whole twice twice_m some was = by (grind (arith, nat_tests)) (eqb (y / 32768 % 2) first) refl
+more-negative false x y m n p first one whole twice twice_m some was =
+    by (grind (arith, nat_tests)) (eqb (y / 32768 % 2) first) refl
   where
     by : m ≤ 32768 → (same : Bool) → eqb (y / 32768 % 2) first ≡ same → not same ≡ nat_lt 32768 n
     by small true e =
@@ -42,7 +43,8 @@ more-negative false x y m n p first one whole twice twice_m some was = by (grind
 sign_changes-positive : (word k : ℕ) → word < 32768 → sign_changes word k ≡ nat_le 32768 (word * 2 ^ k)
 sign_changes-positive word zero lt = grind (arith, nat_tests)
 sign_changes-positive word (suc k) lt =
-    more-positive (sign_changes word k) (word * 2 ^ k) (word * 2 ^ suc k) (sign_after word 0) (omega arith) (doubled word k) (sign_changes-positive word k lt)
+    more-positive (sign_changes word k) (word * 2 ^ k) (word * 2 ^ suc k) (sign_after word 0) (omega arith)
+    (doubled word k) (sign_changes-positive word k lt)
 
 sign_changes-negative : (word k : ℕ) → 32768 ≤ word → word < 65536 → sign_changes word k
     ≡ nat_lt 32768 ((65536 - word) * 2 ^ k)
@@ -50,7 +52,9 @@ sign_changes-negative word zero from lt = grind (arith, nat_tests)
 sign_changes-negative word (suc k) from lt =
     let split = λ (e : word + (65536 - word) ≡ 65536). sym (add-mul word (65536 - word) (2 ^ k))
     ∙ ap (λ n. n * 2 ^ k) e in
-    more-negative (sign_changes word k) (word * 2 ^ k) (word * 2 ^ suc k) ((65536 - word) * 2 ^ k) ((65536 - word) * 2 ^ suc k) (2 ^ k) (sign_after word 0) (omega arith) (split (omega arith)) (doubled word k) (doubled (65536 - word) k) (mul-pos (omega arith) (pow_pos k)) (sign_changes-negative word k from lt)
+    more-negative (sign_changes word k) (word * 2 ^ k) (word * 2 ^ suc k) ((65536 - word) * 2 ^ k)
+    ((65536 - word) * 2 ^ suc k) (2 ^ k) (sign_after word 0) (omega arith) (split (omega arith)) (doubled word k)
+    (doubled (65536 - word) k) (mul-pos (omega arith) (pow_pos k)) (sign_changes-negative word k from lt)
 
 leaves_range-negative : (m : ℕ) → leaves_range Word (neg_ℤ (pos m)) ≡ nat_lt 32768 m
 leaves_range-negative zero = refl
@@ -68,4 +72,5 @@ shift_overflows-sign_changes word count lt = by (nat_lt word 32768) refl
         let from : 32768 ≤ word = grind (arith, nat_tests) in
         let negative : pos word -ℤ pos 65536 ≡ negsuc (65535 - word) = omega (arith, ints) in
         let magnitude : suc (65535 - word) ≡ 65536 - word = omega arith in
-        rw negative (rw magnitude (leaves_range-negative ((65536 - word) * 2 ^ count) ∙ sym (sign_changes-negative word count from lt)))
+        rw negative
+        (rw magnitude (leaves_range-negative ((65536 - word) * 2 ^ count) ∙ sym (sign_changes-negative word count from lt)))

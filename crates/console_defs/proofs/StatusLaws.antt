@@ -55,7 +55,13 @@ status_at-status_word status room =
     let is_ov = test-bit_of status.flags.ov (status_word status / 0x0800 % 2) (omega arith) in
     let is_op = test-bit_of status.op (status_word status / 0x0400 % 2) (omega arith) in
     let is_rest : status_word status % 1024 ≡ status.rest = omega arith in
-    λ i. record { flags = record { lgt = is_lgt i; agt = is_agt i; eq = is_eq i; c = is_c i; ov = is_ov i }; op = is_op i; rest = is_rest i }
+    λ i. record {
+      flags =
+          record { lgt = is_lgt i; agt = is_agt i; eq = is_eq i; c = is_c i; ov = is_ov i };
+      op = is_op i;
+      rest = is_rest
+          i;
+    }
 
 -- under a name that a crate above can give to its tactic
 pub ruleset status_again = (status_at-status_word)

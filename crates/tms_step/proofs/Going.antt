@@ -51,7 +51,13 @@ equal m n false e same = absurd (grind (arith, nat_tests))
 pub run_reached : (stop : Option ℕ) (limit made : ℕ) (x y : MachineState) → Going stop limit made x y →
     is_reached stop y.cpu.pc ≡ true → IsRun stop limit made x run.Reached y
 run_reached stop limit made x y going reached =
-    record { ends = end_here stop limit made x y going ∙ ap (λ (test : Bool). by_tests test (eqb made limit) (end_of_step (machine_step y).0)) reached; first = going.first; left = going.left }
+    record {
+      ends =
+          end_here stop limit made x y going
+          ∙ ap (λ (test : Bool). by_tests test (eqb made limit) (end_of_step (machine_step y).0)) reached;
+      first = going.first;
+      left = going.left;
+    }
 
 pub run_limit : (stop : Option ℕ) (limit made : ℕ) (x y : MachineState) → Going stop limit made x y → made ≡ limit →
     is_reached stop y.cpu.pc ≡ false → IsRun stop limit made x run.Limit y
@@ -79,7 +85,8 @@ end_step : (stop : Option ℕ) (limit made : ℕ) (x y : MachineState) → Going
 end_step stop limit made x y going lt reached =
     end_here stop limit made x y going
     ∙ ap (λ (test : Bool). by_tests test (eqb made limit) (end_of_step (machine_step y).0)) reached
-    ∙ ap (λ (test : Bool). by_tests false test (end_of_step (machine_step y).0)) (unequal made limit (eqb made limit) refl lt)
+    ∙ ap (λ (test : Bool). by_tests false test (end_of_step (machine_step y).0))
+    (unequal made limit (eqb made limit) refl lt)
 
 after_more : (made : ℕ) (x y z : MachineState) → y ≡ after made x → z ≡ (machine_step y).1 → z ≡ after (made + 1) x
 after_more made x y z left stepped = rw (add-one) (stepped ∙ ap (λ (c : MachineState). (machine_step c).1) left)
@@ -93,7 +100,8 @@ first_more : (stop : Option ℕ) (limit made word : ℕ) (x y : MachineState) �
     is_reached stop y.cpu.pc ≡ false → (machine_step y).0 ≡ Done word → (before : ℕ) → before < made + 1 →
     end_at stop limit before x ≡ None
 first_more stop limit made word x y going lt reached e =
-    below_more (λ before. end_at stop limit before x ≡ None) made going.first (end_step stop limit made x y going lt reached ∙ ap end_of_step e)
+    below_more (λ before. end_at stop limit before x ≡ None) made going.first
+    (end_step stop limit made x y going lt reached ∙ ap end_of_step e)
 
 goes_on : (word : ℕ) (test : Bool) → eqb word 0x10FF ≡ test →
     (elim test as (λ _. Option RunEnd) [ true ↦ Some run.SelfJump | false ↦ None ]) ≡ None → test ≡ false
@@ -108,7 +116,13 @@ going_more stop limit made x y z going lt reached ends stepped = by (machine_ste
   where
     by : (end : StepEnd) → (machine_step y).0 ≡ end → end_of_turn end ≡ None → Going stop limit (made + 1) x z
     by (Done word) e none =
-        record { left = after_more made x y z going.left stepped; first = first_more stop limit made word x y going lt reached e; fresh = jumped_more made x y (Done word) going.left e ∙ goes_on word (eqb word 0x10FF) refl none }
+        record {
+          left =
+              after_more made x y z going.left stepped;
+          first = first_more stop limit made word x y going lt reached e;
+          fresh = jumped_more made x y (Done word) going.left e
+              ∙ goes_on word (eqb word 0x10FF) refl none;
+        }
     by (Refused address) e none = absurd (cc)
     by (Port address) e none = absurd (cc)
 
@@ -165,8 +179,26 @@ run_ended stop limit made x y z ending going lt reached ends stepped = by (machi
         IsRun stop limit (made + ticks_of end) x ending z
     by (Done word) e some =
         let jump = jumps word ending (eqb word 0x10FF) some in
-        record { ends = ap (λ (test : Bool). by_jump test (end_before stop limit (made + 1) (after (made + 1) x))) (jumped_more made x y (Done word) going.left e ∙ jump.0) ∙ jump.1; first = first_more stop limit made word x y going lt reached e; left = after_more made x y z going.left stepped }
+        record {
+          ends =
+              ap (λ (test : Bool). by_jump test (end_before stop limit (made + 1) (after (made + 1) x))) (jumped_more made x y (Done word) going.left e ∙ jump.0)
+              ∙ jump.1;
+          first = first_more stop limit made word x y going lt reached e;
+          left = after_more made x y z going.left stepped;
+        }
     by (Refused address) e some =
-        rw none (record { ends = end_step stop limit made x y going lt reached ∙ ap end_of_step e ∙ some; first = going.first; left = stepped ∙ refused_same y address e ∙ going.left })
+        rw none (record {
+          ends =
+              end_step stop limit made x y going lt reached ∙ ap end_of_step e ∙ some;
+          first = going.first;
+          left = stepped
+              ∙ refused_same y address e ∙ going.left;
+        })
     by (Port address) e some =
-        rw none (record { ends = end_step stop limit made x y going lt reached ∙ ap end_of_step e ∙ some; first = going.first; left = stepped ∙ port_same y address e ∙ going.left })
+        rw none (record {
+          ends =
+              end_step stop limit made x y going lt reached ∙ ap end_of_step e ∙ some;
+          first = going.first;
+          left = stepped
+              ∙ port_same y address e ∙ going.left;
+        })

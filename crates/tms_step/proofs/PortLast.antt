@@ -36,18 +36,24 @@ given a b e = cc
 -- a word that is written leaves the ports
 keeps_in : (place : Region) (m left : Memory) (address word : ℕ) → word_written_in place m address word ≡ Gives left →
     (left.vdp ≡ m.vdp) × (left.grom ≡ m.grom)
-keeps_in (Rom at) m left address word e = let same = given m left e in (ap (λ (n : Memory). n.vdp) (sym same), ap (λ (n : Memory). n.grom) (sym same))
-keeps_in (LowExpansion at) m left address word e = let same = given _ left e in (ap (λ (n : Memory). n.vdp) (sym same), ap (λ (n : Memory). n.grom) (sym same))
-keeps_in (HighExpansion at) m left address word e = let same = given _ left e in (ap (λ (n : Memory). n.vdp) (sym same), ap (λ (n : Memory). n.grom) (sym same))
-keeps_in (Scratchpad at) m left address word e = let same = given _ left e in (ap (λ (n : Memory). n.vdp) (sym same), ap (λ (n : Memory). n.grom) (sym same))
+keeps_in (Rom at) m left address word e =
+    let same = given m left e in (ap (λ (n : Memory). n.vdp) (sym same), ap (λ (n : Memory). n.grom) (sym same))
+keeps_in (LowExpansion at) m left address word e =
+    let same = given _ left e in (ap (λ (n : Memory). n.vdp) (sym same), ap (λ (n : Memory). n.grom) (sym same))
+keeps_in (HighExpansion at) m left address word e =
+    let same = given _ left e in (ap (λ (n : Memory). n.vdp) (sym same), ap (λ (n : Memory). n.grom) (sym same))
+keeps_in (Scratchpad at) m left address word e =
+    let same = given _ left e in (ap (λ (n : Memory). n.vdp) (sym same), ap (λ (n : Memory). n.grom) (sym same))
 keeps_in (PortOf port) m left address word e = absurd (cc)
-keeps_in Unmapped m left address word e = let same = given m left e in (ap (λ (n : Memory). n.vdp) (sym same), ap (λ (n : Memory). n.grom) (sym same))
+keeps_in Unmapped m left address word e =
+    let same = given m left e in (ap (λ (n : Memory). n.vdp) (sym same), ap (λ (n : Memory). n.grom) (sym same))
 
 -- a word that is read, beside the state after it
 abbrev beside : Answer ℕ → Cpu Memory → Answer (ℕ × Cpu Memory)
 beside word x = word >>= λ w. Gives (w, x)
 
-module _ (a : VdpState → VdpState) (b : GromState → GromState) (k : ℕ × Cpu Memory → VdpState → GromState → Answer (Cpu Memory)) where
+module _ (a : VdpState → VdpState) (b : GromState → GromState)
+    (k : ℕ × Cpu Memory → VdpState → GromState → Answer (Cpu Memory)) where
   -- the state where the ports have gone on
   abbrev moved : Cpu Memory → Cpu Memory
   moved x = record x { memory = with_ports x.memory (a x.memory.vdp) (b x.memory.grom) }
@@ -77,10 +83,12 @@ module _ (a : VdpState → VdpState) (b : GromState → GromState) (k : ℕ × C
   index_past : (x : Cpu Memory) (number : ℕ) → index_of Memory console (moved x) number
       ≡ index_of Memory console x number
   index_past x number =
-      ap (λ (word : Answer ℕ). elim (eqb number 0) as (λ _. Answer ℕ) [ true ↦ Gives 0 | false ↦ word ]) (read_past x (register_address Memory console x number))
+      ap (λ (word : Answer ℕ). elim (eqb number 0) as (λ _. Answer ℕ) [ true ↦ Gives 0 | false ↦ word ])
+      (read_past x (register_address Memory console x number))
 
   indexed : (x : Cpu Memory) (number : ℕ) (word : Answer ℕ) →
-      before x (beside word (moved x) >>= λ base. index_of Memory console base.1 number >>= λ i. Gives (plus base.0 i, base.1))
+      before x
+      (beside word (moved x) >>= λ base. index_of Memory console base.1 number >>= λ i. Gives (plus base.0 i, base.1))
       ≡ after (beside word x >>= λ base. index_of Memory console base.1 number >>= λ i. Gives (plus base.0 i, base.1))
   indexed x number (Gives word) =
       ap (λ (index : Answer ℕ). before x (index >>= λ i. Gives (plus word i, moved x))) (index_past x number)
@@ -92,7 +100,8 @@ module _ (a : VdpState → VdpState) (b : GromState → GromState) (k : ℕ × C
       before x (with_word Memory console (moved x) place word >>= λ y. Gives (address, y))
       ≡ after (with_word Memory console x place word >>= λ y. Gives (address, y))
   grown x address place word =
-      ap (λ (written : Answer Memory). before x ((written >>= λ memory. Gives (record (moved x) { memory = memory })) >>= λ y. Gives (address, y))) (word_written_past_ports x.memory (a x.memory.vdp) (b x.memory.grom) place word)
+      ap (λ (written : Answer Memory). before x ((written >>= λ memory. Gives (record (moved x) { memory = memory })) >>= λ y. Gives (address, y)))
+      (word_written_past_ports x.memory (a x.memory.vdp) (b x.memory.grom) place word)
       ∙ by (word_written x.memory place word) refl
     where
       by : (written : Answer Memory) → word_written x.memory place word ≡ written →
@@ -100,7 +109,8 @@ module _ (a : VdpState → VdpState) (b : GromState → GromState) (k : ℕ × C
           ≡ after ((written >>= λ memory. Gives (record x { memory = memory })) >>= λ y. Gives (address, y))
       by (Gives left) e =
           let kept = keeps_in (region (even place)) x.memory left (even place) word e in
-          ap (λ (ports : VdpState × GromState). k (address, record x { memory = with_ports left (a ports.0) (b ports.1) }) ports.0 ports.1) (λ i. (sym kept.0 i, sym kept.1 i))
+          ap (λ (ports : VdpState × GromState). k (address, record x { memory = with_ports left (a ports.0) (b ports.1) }) ports.0 ports.1)
+          (λ i. (sym kept.0 i, sym kept.1 i))
       by (AtPort port) e = refl
       by NoInstruction e = refl
 
@@ -117,20 +127,29 @@ module _ (a : VdpState → VdpState) (b : GromState → GromState) (k : ℕ × C
       ≡ after (operand Memory console mode width number x)
   operand_past Register width number x = refl
   operand_past Indirect width number x =
-      ap (λ (word : Answer ℕ). before x (word >>= λ w. Gives (w, moved x))) (read_past x (register_address Memory console x number))
+      ap (λ (word : Answer ℕ). before x (word >>= λ w. Gives (w, moved x)))
+      (read_past x (register_address Memory console x number))
       ∙ indirect x (word_read x.memory (register_address Memory console x number))
   operand_past Symbolic width number x =
       let on : Cpu Memory = record x { pc = plus x.pc 2 } in
-      ap (λ (word : Answer ℕ). before on (beside word (moved on) >>= λ base. index_of Memory console base.1 number >>= λ i. Gives (plus base.0 i, base.1))) (read_past x x.pc)
+      ap
+      (λ (word : Answer ℕ). before on (beside word (moved on) >>= λ base. index_of Memory console base.1 number >>= λ i. Gives (plus base.0 i, base.1)))
+      (read_past x x.pc)
       ∙ indexed on number (word_read x.memory x.pc)
   operand_past Increment width number x =
-      ap (λ (word : Answer ℕ). before x (word >>= λ w. with_word Memory console (moved x) (register_address Memory console x number) (plus w (size_of width)) >>= λ y. Gives (w, y))) (read_past x (register_address Memory console x number))
-      ∙ incremented x (register_address Memory console x number) (size_of width) (word_read x.memory (register_address Memory console x number))
+      ap
+      (λ (word : Answer ℕ). before x (word >>= λ w. with_word Memory console (moved x) (register_address Memory console x number) (plus w (size_of width)) >>= λ y. Gives (w, y)))
+      (read_past x (register_address Memory console x number))
+      ∙ incremented x (register_address Memory console x number) (size_of width)
+      (word_read x.memory (register_address Memory console x number))
 
 -- what follows a byte in a region, before a destination is derived and after it
 abbrev byte_first : Region → TwoOp → Place → Cpu Memory → Answer (Cpu Memory)
 byte_first place op dst x =
-    operand Memory console (mode_of dst.mode) Byte dst.reg (record x { memory = (byte_read_in place x.memory).1 }) >>= λ d. two Memory console op Byte (byte_read_in place x.memory).0 d.0 d.1
+    operand Memory console (mode_of dst.mode) Byte dst.reg (record x {
+      memory =
+          (byte_read_in place x.memory).1;
+    }) >>= λ d. two Memory console op Byte (byte_read_in place x.memory).0 d.0 d.1
 
 abbrev byte_last : Region → TwoOp → Place → Cpu Memory → Answer (Cpu Memory)
 byte_last place op dst x =
@@ -146,7 +165,8 @@ past_port : (port : Port) (op : TwoOp) (dst : Place) (x : Cpu Memory) →
     ≡ after (vdp_after port x.memory) (grom_after port x.memory) (then_two port x.memory op)
     (operand Memory console (mode_of dst.mode) Byte dst.reg x)
 past_port port op dst x =
-    operand_past (vdp_after port x.memory) (grom_after port x.memory) (then_two port x.memory op) (mode_of dst.mode) Byte dst.reg x
+    operand_past (vdp_after port x.memory) (grom_after port x.memory) (then_two port x.memory op) (mode_of dst.mode)
+    Byte dst.reg x
 
 last_at : (port : Port) (op : TwoOp) (dst : Place) (x : Cpu Memory) →
     byte_first (PortOf port) op dst x ≡ byte_last (PortOf port) op dst x

@@ -62,7 +62,8 @@ write_over-undone x y address word old is read wrote = by (word_written x.memory
         SameButPc x (put_back (Some (record { address = address; word = old })) y)
     by (Gives memory) e w =
         let left : y ≡ record x { memory = memory } = given y (record x { memory = memory }) w in
-        let back : word_written memory address old ≡ Gives x.memory = written_back x.memory memory address word old is read e in
+        let back : word_written memory address old ≡ Gives x.memory =
+        written_back x.memory memory address word old is read e in
         rw left (record { same = ap (λ (a : Answer Memory). record x { memory = taken a memory }) back })
     by (AtPort address) e w = absurd (cc)
     by NoInstruction e w = absurd (cc)
@@ -76,5 +77,7 @@ taken_left (Err stop) old new answer is same = rw (← is) (sym same)
 -- What was put back stays so where the program counter alone has gone on.
 pub put_back_later : (kept : Option Kept) (old middle later : Cpu Memory) → SameButPc middle later →
     SameButPc old (put_back kept middle) → SameButPc old (put_back kept later)
-put_back_later None old middle later then first = record { same = rw (← first.same) (ap (λ (x : Cpu Memory). record x { pc = old.pc }) then.same) }
-put_back_later (Some kept) old middle later then first = record { same = ap (λ (x : Cpu Memory). record (put_back (Some kept) x) { pc = old.pc }) then.same ∙ first.same }
+put_back_later None old middle later then first =
+    record { same = rw (← first.same) (ap (λ (x : Cpu Memory). record x { pc = old.pc }) then.same) }
+put_back_later (Some kept) old middle later then first =
+    record { same = ap (λ (x : Cpu Memory). record (put_back (Some kept) x) { pc = old.pc }) then.same ∙ first.same }

@@ -31,19 +31,29 @@ loop-made-init g c = (going_start c.args.stop c.args.limit c.args.self.now, omeg
 pub returns-then-is_reached-clause-run : goal.returns-then-is_reached-clause-run
 returns-then-is_reached-clause-run g c =
     let number : c.loop-made.steps - c.args.steps.now ≡ c.loop-made._made = omega arith in
-    let reached = reached_is c.args.stop c.pc.result c.loop-made.self.cpu.pc c.is_reached.result true c.pc.ensures.value c.is_reached.ensures c.if-is_reached.true in
-    rw number (run_reached c.args.stop c.args.limit c.loop-made._made c.args.self.now c.loop-made.self c.loop-made.invariant.0 reached)
+    let reached =
+    reached_is c.args.stop c.pc.result c.loop-made.self.cpu.pc c.is_reached.result true c.pc.ensures.value
+    c.is_reached.ensures c.if-is_reached.true in
+    rw number
+    (run_reached c.args.stop c.args.limit c.loop-made._made c.args.self.now c.loop-made.self c.loop-made.invariant.0 reached)
 
 pub returns-in-Some-clause-run : goal.returns-in-Some-clause-run
 returns-in-Some-clause-run g c =
-    let number : c.turn.new.steps - c.args.steps.now ≡ c.loop-made._made + ticks_of (machine_step c.loop-made.self).0 = risen c.args.steps.now c.loop-made.steps c.turn.new.steps c.loop-made._made (ticks_of (machine_step c.loop-made.self).0) c.loop-made.invariant.1 c.turn.ensures.ticks in
-    let reached = reached_is c.args.stop c.pc.result c.loop-made.self.cpu.pc c.is_reached.result false c.pc.ensures.value c.is_reached.ensures c.if-is_reached.false in
-    rw number (run_ended c.args.stop c.args.limit c.loop-made._made c.args.self.now c.loop-made.self c.turn.new.self c.in-Some.end c.loop-made.invariant.0 c.loop-made-test.true reached (sym c.turn.ensures.end ∙ c.in-Some.is) c.turn.ensures.step)
+    let number : c.turn.new.steps - c.args.steps.now ≡ c.loop-made._made + ticks_of (machine_step c.loop-made.self).0 =
+    risen c.args.steps.now c.loop-made.steps c.turn.new.steps c.loop-made._made
+    (ticks_of (machine_step c.loop-made.self).0) c.loop-made.invariant.1 c.turn.ensures.ticks in
+    let reached =
+    reached_is c.args.stop c.pc.result c.loop-made.self.cpu.pc c.is_reached.result false c.pc.ensures.value
+    c.is_reached.ensures c.if-is_reached.false in
+    rw number
+    (run_ended c.args.stop c.args.limit c.loop-made._made c.args.self.now c.loop-made.self c.turn.new.self c.in-Some.end c.loop-made.invariant.0 c.loop-made-test.true reached (sym c.turn.ensures.end ∙ c.in-Some.is) c.turn.ensures.step)
 
 pub loop-made-preserved : goal.loop-made-preserved
 loop-made-preserved g c =
     let none : end_of_turn (machine_step c.loop-made.self).0 ≡ None = sym c.turn.ensures.end ∙ c.in_default.is in
-    let reached = reached_is c.args.stop c.pc.result c.loop-made.self.cpu.pc c.is_reached.result false c.pc.ensures.value c.is_reached.ensures c.if-is_reached.false in
+    let reached =
+    reached_is c.args.stop c.pc.result c.loop-made.self.cpu.pc c.is_reached.result false c.pc.ensures.value
+    c.is_reached.ensures c.if-is_reached.false in
     let one = one_tick (machine_step c.loop-made.self).0 none in
     (going_more c.args.stop c.args.limit c.loop-made._made c.args.self.now c.loop-made.self c.turn.new.self c.loop-made.invariant.0 c.loop-made-test.true reached none c.turn.ensures.step, steps_more c.args.steps.now c.loop-made.steps c.turn.new.steps c.loop-made._made (ticks_of (machine_step c.loop-made.self).0) c.loop-made.invariant.1 c.turn.ensures.ticks one)
 
@@ -54,4 +64,5 @@ returns-clause-run g c =
     let at = c.loop-made.self in
     let told : c.end_at_limit.result ≡ end_at_limit c.args.stop at.cpu.pc =
     c.end_at_limit.ensures ∙ ap (end_at_limit c.args.stop) c.pc-2.ensures.value in
-    rw (number, told) (run_at_limit c.args.stop c.args.limit c.loop-made._made c.args.self.now at c.loop-made.invariant.0 all)
+    rw (number, told)
+    (run_at_limit c.args.stop c.args.limit c.loop-made._made c.args.self.now at c.loop-made.invariant.0 all)
