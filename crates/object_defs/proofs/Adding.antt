@@ -8,14 +8,14 @@ use Rattle.object_defs.specs.declared.spot.Spot.{Spot}
 use Rattle.object_defs.specs.declared.spot.Spot.TheVariants.{Absolute, Relocatable}
 use Rattle.object_defs.specs.declared.spot.Piece.{Piece}
 use Rattle.object_defs.specs.declared.causes.TagCause.{TagCause}
-use Rattle.object_defs.specs.Modules.{Module, Definition, Reference, number_of, moved, even, same_spot, StandsEven}
-use Rattle.object_defs.specs.Digits.{padded, checksum}
+use Rattle.object_defs.specs.Modules.{Definition, Reference, number_of, moved, even, same_spot, StandsEven}
+use Rattle.object_defs.specs.Digits.{padded}
 use Rattle.object_defs.specs.Tags.{tag_of}
-use Rattle.object_defs.specs.Groups.{Group, Header, Entry, Referred, Defined, Address, Word, FoundGroup, Whole, found_with, found_at, group_size, ends_line, groups_from}
-use Rattle.object_defs.specs.Running.{OpenModule, opened, begun, more, Kept, with_current, kept_with, kept_groups}
+use Rattle.object_defs.specs.Groups.{Group, Entry, Referred, Defined, Address, Word, Whole, found_with, found_at, group_size, ends_line, groups_from}
+use Rattle.object_defs.specs.Running.{OpenModule, more, Kept, with_current, kept_with, kept_groups}
 use Rattle.object_defs.specs.Writing.{word_text, address_text, definition_text, reference_text, entry_text, Placed, item_text}
 use Rattle.object_defs.specs.Laws.{FitsSpot, FitsPiece, FitsDefinition, FitsReference}
-use Rattle.object_defs.proofs.FieldsAgain.{number_again, module_name_again, symbol_again, digits_length, kept_length}
+use Rattle.object_defs.proofs.FieldsAgain.{number_again, symbol_again, digits_length, kept_length}
 
 -- what the rest of a line leads to, behind the characters before it
 abbrev pub leads : Kept → List ℕ → List ℕ → Result Kept TagCause

@@ -1,5 +1,5 @@
 -- A reader that keeps a load address reads what is defined.
-use Rattle.std.proofs.Common.{◌≡◌, ℕ, ◌+◌, ◌*◌, ◌%◌, Bool, true, false, cond, List, [], ◌∷◌, ◌++◌, length, Option, Some, None, Result, Ok, Err, refl, sym, ap, ◌∙◌, arith}
+use Rattle.std.proofs.Common.{◌≡◌, ℕ, ◌+◌, ◌*◌, ◌%◌, Bool, true, false, List, [], ◌∷◌, length, Option, Some, None, Result, Ok, Err, refl, sym, ap, ◌∙◌, arith}
 use Rattle.source_defs.specs.Refusals.{Refusal, ◌>>=◌, at_line}
 use Rattle.object_defs.specs.declared.spot.Spot.{Spot}
 use Rattle.object_defs.specs.declared.spot.Spot.TheVariants.{Absolute, Relocatable}
@@ -7,8 +7,8 @@ use Rattle.object_defs.specs.declared.causes.TagCause.{TagCause}
 use Rattle.object_defs.specs.declared.tag.Tag.{Tag}
 use Rattle.object_defs.specs.Modules.{Module, moved}
 use Rattle.object_defs.specs.Fields.{all_blank}
-use Rattle.object_defs.specs.Groups.{Group, Header, Entry, Referred, Defined, Sum, IgnoredSum, Address, Word, EndOfLine, EndOfModule, FoundGroup, Whole, Broken, tag_of_group, groups_from, groups_of}
-use Rattle.object_defs.specs.Reading.{last_address, words_since, place_behind, module_of, stands, stands_first, stands_behind, Found, nothing_found, added, with_group, with_groups, NumberedLine, with_lines, last_number, ended, text_lines, read}
+use Rattle.object_defs.specs.Groups.{Group, Header, Entry, Referred, Defined, Sum, IgnoredSum, Address, Word, EndOfLine, EndOfModule, FoundGroup, Whole, Broken, tag_of_group, groups_from}
+use Rattle.object_defs.specs.Reading.{last_address, words_since, place_behind, module_of, stands_first, stands_behind, Found, nothing_found, added, with_group, with_groups, NumberedLine, with_lines, last_number, ended, text_lines, read}
 use Rattle.object_defs.specs.Running.{OpenModule, first_of, grown, more, begun, Kept, nothing_kept, kept_with, kept_groups, kept_line, kept_lines, finished}
 
 -- ---- what is kept of some groups

@@ -1,27 +1,23 @@
 -- The written text of a module reads as that module alone.
-use Rattle.std.proofs.Common.{◌≡◌, ℕ, ◌+◌, ◌-◌, ◌/◌, ◌%◌, ◌<◌, ◌≤◌, Bool, true, false, cond, eqb, List, [], ◌∷◌, ◌++◌, length, take, replicate, Option, Some, None, Result, Ok, refl, sym, ap, ◌∙◌, subst, append_assoc, append-nil, length-append, eq-eqb, arith}
+use Rattle.std.proofs.Common.{◌≡◌, ℕ, ◌+◌, ◌-◌, ◌/◌, ◌%◌, ◌<◌, ◌≤◌, Bool, true, false, cond, eqb, List, [], ◌∷◌, ◌++◌, length, replicate, Option, Some, None, Ok, refl, sym, ap, ◌∙◌, subst, append_assoc, append-nil, length-append, eq-eqb, arith}
 use Rattle.std.specs.Prelude.{map, sum, nat_lt, nat_le, ◌&&◌, ◌||◌, ◌==◌, not, if◌then◌else◌}
 use Rattle.std.specs.List.{list_all, AllByRecursion}
 use Rattle.std.proofs.lemmas.Bool.Decides.{nat_tests}
-use Rattle.std.proofs.lemmas.List.{take_at}
 use Rattle.source_defs.specs.Characters.{is_blank, is_line_feed}
 use Rattle.source_defs.specs.Lines.{lines}
 use Rattle.source_defs.proofs.LineSteps.{lines_from_end}
 use Rattle.object_defs.specs.declared.spot.Spot.{Spot}
-use Rattle.object_defs.specs.declared.spot.Spot.TheVariants as spots
 use Rattle.object_defs.specs.declared.spot.Piece.{Piece}
-use Rattle.object_defs.specs.declared.causes.TagCause.{TagCause}
 use Rattle.object_defs.specs.declared.tag.Tag.TheVariants as tags
 use Rattle.object_defs.specs.Modules.{Module, Definition, Reference, HasText, StandsEven, moved, all_name_characters}
 use Rattle.source_defs.specs.Digits.{word_digits}
-use Rattle.source_defs.specs.Refusals.{Refusal}
 use Rattle.object_defs.specs.Digits.{decimal, padded, checksum}
 use Rattle.object_defs.specs.Tags.{tag_of}
 use Rattle.object_defs.specs.Writing.{group, header_text, definition_text, reference_text, Item, Group, Placed, items_of, entry_items, Line, empty_line, item_text, with_item, summed, numbered, line_text, last_line_text, number_after, written_from, written}
 use Rattle.object_defs.specs.Fields.{all_blank}
-use Rattle.object_defs.specs.Groups.{Header, Sum, FoundGroup, Whole, found_with, found_at, groups_from}
-use Rattle.object_defs.specs.Reading.{NumberedLine, numbered_line, has_line_feed, text_lines, read}
-use Rattle.object_defs.specs.Running.{OpenModule, opened, begun, more, Kept, nothing_kept, with_current, with_ended, kept_with, kept_groups, kept_line, kept_lines}
+use Rattle.object_defs.specs.Groups.{Header, Sum, Whole, found_with, found_at, groups_from}
+use Rattle.object_defs.specs.Reading.{NumberedLine, numbered_line, has_line_feed}
+use Rattle.object_defs.specs.Running.{OpenModule, opened, begun, more, Kept, nothing_kept, with_current, kept_groups, kept_line, kept_lines}
 use Rattle.object_defs.specs.Laws.{FitsSpot, FitsPiece, FitsDefinition, FitsReference, IsModule, WrittenModulesAreRead}
 use Rattle.object_defs.proofs.FieldsAgain.{number_again, module_name_again, digits_length}
 use Rattle.object_defs.proofs.Adding.{leads, Adds, group_adds, with_piece, piece_adds, with_def, definition_adds, with_ref, reference_adds, with_entry_at, entry_adds}

@@ -32,6 +32,7 @@ pub data FoundGroup : Type 0 where
   Whole : (character : ℕ) → Group → FoundGroup
   Broken : (character : ℕ) → Option Tag → TagCause → FoundGroup
 
+-- the tag that a group begins with
 abbrev pub tag_of_group : Group → Tag
 tag_of_group (Header size name) = tags.Header
 tag_of_group (Entry at) = tags.Entry (kind_of at)
@@ -49,6 +50,7 @@ abbrev pub tag_found : FoundGroup → Option Tag
 tag_found (Whole character group) = Some (tag_of_group group)
 tag_found (Broken character tag cause) = tag
 
+-- the character in the place of a tag
 abbrev pub character_found : FoundGroup → ℕ
 character_found (Whole character group) = character
 character_found (Broken character tag cause) = character
@@ -88,16 +90,17 @@ group_of computed character (tags.Word kind) behind = number_at behind >>= λ nu
 group_of computed character tags.EndOfLine behind = Ok EndOfLine
 group_of computed character tags.EndOfModule behind = Ok EndOfModule
 
+-- the group, or why there is none
 abbrev pub found_as : ℕ → Tag → Result Group TagCause → FoundGroup
 found_as character tag (Ok group) = Whole character group
 found_as character tag (Err cause) = Broken character (Some tag) cause
 
--- what stands in the place of a group
+-- what stands in the place of a group, by its tag
 unfoldable pub found_with : ℕ → ℕ → Option Tag → List ℕ → FoundGroup
 found_with computed character None behind = Broken character None (BadTag character)
 found_with computed character (Some tag) behind = found_as character tag (group_of computed character tag behind)
 
--- The checksum is that of the line's characters from the first through the group's tag.
+-- What stands in the place of a group. The checksum is that of the line's characters from the first through the group's tag.
 abbrev pub found_at : List ℕ → ℕ → List ℕ → FoundGroup
 found_at before character behind =
     found_with (checksum (before ++ character ∷ [])) character (tag_at (length before) character) behind
@@ -126,6 +129,7 @@ abbrev pub ends_line : FoundGroup → Bool
 ends_line (Whole character group) = is_last group
 ends_line (Broken character tag cause) = true
 
+-- how many characters stand behind the tag
 abbrev pub size_found : FoundGroup → ℕ
 size_found (Whole character group) = group_size group
 size_found (Broken character tag cause) = 0

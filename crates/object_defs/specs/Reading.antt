@@ -1,7 +1,7 @@
 -- The second step of reading: the modules that the groups of a text give, or its first bad place.
 --
 -- Editor/Assembler manual, "Tagged object code".
-use Rattle.std.specs.Prelude.{ℕ, zero, suc, ◌+◌, ◌*◌, ◌/◌, ◌%◌, ◌==◌, Bool, not, ◌&&◌, nat_lt, nat_le, if◌then◌else◌, List, [], ◌∷◌, ◌++◌, length, map, slice_range, Option, Some, None, is_some, Result, Ok, Err}
+use Rattle.std.specs.Prelude.{ℕ, ◌+◌, ◌*◌, ◌/◌, ◌%◌, ◌==◌, Bool, not, ◌&&◌, nat_lt, nat_le, if◌then◌else◌, List, [], ◌∷◌, ◌++◌, length, map, slice_range, Option, Some, None, is_some, Result, Ok, Err}
 use Rattle.std.specs.List.{list_any, range_with_len}
 use Rattle.source_defs.specs.declared.text.Line.{Line}
 use Rattle.source_defs.specs.Characters.{is_line_feed}
@@ -39,11 +39,13 @@ words_since (_ ∷ before) = words_since before
 abbrev pub place_behind : List Group → Spot
 place_behind before = moved (last_address before) (2 * words_since before)
 
+-- the words at their places, in order
 abbrev pub pieces_of : List Group → List Piece
 pieces_of [] = []
 pieces_of (Word word ∷ before) = pieces_of before ++ record { at = place_behind before; word = word } ∷ []
 pieces_of (_ ∷ before) = pieces_of before
 
+-- the names that the module defines, and those that it needs, in order
 abbrev pub defs_of : List Group → List Definition
 defs_of [] = []
 defs_of (Defined definition ∷ before) = defs_of before ++ definition ∷ []
@@ -54,11 +56,13 @@ refs_of [] = []
 refs_of (Referred reference ∷ before) = refs_of before ++ reference ∷ []
 refs_of (_ ∷ before) = refs_of before
 
+-- where the module is entered, if a group says so
 abbrev pub entry_of : List Group → Option Spot
 entry_of [] = None
 entry_of (Entry at ∷ before) = Some at
 entry_of (_ ∷ before) = entry_of before
 
+-- the length of the relocatable code and the name, which the first group says
 abbrev pub size_of : List Group → ℕ
 size_of [] = 0
 size_of (Header size name ∷ before) = size
@@ -69,6 +73,7 @@ name_of [] = []
 name_of (Header size name ∷ before) = name
 name_of (_ ∷ before) = name_of before
 
+-- what the groups of a module say
 abbrev pub module_of : List Group → Module
 module_of groups =
     record {
@@ -116,6 +121,7 @@ pub record Found : Type 0 where
 abbrev pub nothing_found : Found
 nothing_found = record { modules = []; current = [] }
 
+-- the groups with one more, or the module that it ends
 abbrev pub added : Found → Group → Found
 added found EndOfModule = record { modules = found.modules ++ module_of found.current ∷ []; current = [] }
 added found group = record found { current = group ∷ found.current }
@@ -127,14 +133,17 @@ with_group found at = do
   group ← group_found at
   Ok (added found group)
 
+-- the groups of a line, up to the first that is refused
 abbrev pub with_groups : Found → List FoundGroup → Result Found TagCause
 with_groups found [] = Ok found
 with_groups found (group ∷ groups) = with_group found group >>= λ found. with_groups found groups
 
+-- a line or a record of a text
 pub record NumberedLine : Type 0 where
   pub number : ℕ
   pub text : List ℕ
 
+-- the lines of a text, up to the first that is refused, by its number
 abbrev pub with_lines : Found → List NumberedLine → Result Found (Refusal TagCause)
 with_lines found [] = Ok found
 with_lines found (line ∷ lines) =
@@ -153,9 +162,6 @@ ended last modules (group ∷ groups) = Err (record { line = last; cause = NoEnd
 
 -- The lines of a text.
 
-abbrev pub columns : ℕ
-columns = 80
-
 abbrev pub has_line_feed : List ℕ → Bool
 has_line_feed text = list_any is_line_feed text
 
@@ -163,6 +169,7 @@ has_line_feed text = list_any is_line_feed text
 abbrev pub is_records : List ℕ → Bool
 is_records text = not (has_line_feed text) && (nat_lt 0 (length text) && (length text % 80 == 0))
 
+-- records count from 1
 abbrev pub record_at : List ℕ → ℕ → NumberedLine
 record_at text k = record { number = k + 1; text = slice_range text (80 * k) (80 * k + 80) }
 
@@ -172,6 +179,7 @@ records text = map (record_at text) (range_with_len 0 (length text / 80))
 abbrev pub numbered_line : List ℕ → Line → NumberedLine
 numbered_line text line = record { number = line.number; text = part text line.span }
 
+-- the lines or the records of a text
 abbrev pub text_lines : List ℕ → List NumberedLine
 text_lines text = if is_records text then records text else map (numbered_line text) (lines text)
 

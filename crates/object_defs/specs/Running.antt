@@ -6,7 +6,6 @@ use Rattle.object_defs.specs.declared.spot.Spot.{Spot}
 use Rattle.object_defs.specs.declared.spot.Spot.TheVariants.{Relocatable}
 use Rattle.object_defs.specs.declared.causes.TagCause.{TagCause}
 use Rattle.object_defs.specs.declared.causes.TagCause.TheVariants.{BadTag, NoEnd}
-use Rattle.object_defs.specs.declared.tag.Tag.{Tag}
 use Rattle.object_defs.specs.Modules.{Module, moved, even}
 use Rattle.object_defs.specs.Fields.{all_blank}
 use Rattle.object_defs.specs.Groups.{Group, Header, Entry, Referred, Defined, Sum, IgnoredSum, Address, Word, EndOfLine, EndOfModule, FoundGroup, Whole, Broken, tag_found, character_found, group_found, groups_from}

@@ -1,12 +1,11 @@
 //! The text of the groups.
 
-ghost use Rattle.std.specs.Prelude.{◌≡◌, ◌≤◌, ◌<◌, ◌+◌, ◌++◌, length, replicate};
+ghost use Rattle.std.specs.Prelude.{◌≡◌, ◌≤◌, ◌<◌, ◌+◌, ◌++◌, true, length, replicate};
 ghost use Rattle.object_defs.specs.Digits as digits;
 ghost use Rattle.object_defs.specs.Modules as modules;
 ghost use Rattle.object_defs.specs.Writing as writing;
 ghost use Rattle.object_defs.specs.Laws.{FitsSpot, FitsDefinition, FitsReference};
 ghost use Rattle.object_tags.specs.Seen.{defined_def, defined_ref};
-ghost use Rattle.std.specs.Prelude.{true};
 
 use crate::module_name::ModuleName;
 use crate::parts::{Def, Ref};

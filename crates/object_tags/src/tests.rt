@@ -1,12 +1,12 @@
 //! Modules and texts, worked out by the format's rules.
 
-ghost use Rattle.std.specs.Prelude.{◌≡◌, IfOk};
+ghost use Rattle.std.specs.Prelude.{◌≡◌, true};
+ghost use Rattle.std.specs.List.{AllByRecursion};
+ghost use Rattle.object_defs.specs.Modules.{HasText, StandsEven};
+ghost use Rattle.object_tags.specs.Seen.{defined_module};
 
-use crate::{
-    Def, Defs, Module, ModuleName, Piece, Pieces, Ref, Refs, Spot, TagCause, TagError,
-    read_modules, write_module,
-};
-use asm_text::Name;
+use crate::spots::number_of;
+use crate::{Module, Piece, Spot, TagCause, TagError, read_modules, write_module};
 use std::alloc::{AllocError, Global};
 use std::test::Fail;
 
@@ -100,6 +100,9 @@ const READ: &[(&[u8], usize, &[Piece])] = &[
     ),
     (b"", 0, &[]),
 ];
+
+/// Texts of one module, as they are written.
+const WRITTEN: &[&[u8]] = &[FOUR_WORDS, BOTH_KINDS, ELEVEN_WORDS];
 
 /// Texts, and the line and cause of their first bad place.
 const REFUSED: &[(&[u8], u32, TagCause)] = &[
@@ -206,76 +209,54 @@ fn refuses_damaged_lines(rt: HostRuntime) -> Result<(), Fail> {
     Ok(())
 }
 
-/// Words as the list of a module.
-fn pieces_of(alloc: Global, words: &[Piece]) -> Result<Pieces, AllocError>
-    ensures { IfOk result (λ pieces. pieces ≡ words.now) }
+/// Whether a text has one module, and that is written as this text.
+fn is_written(alloc: Global, text: &[u8]) -> bool {
+    if text.len() > 1000 {
+        return false;
+    }
+    match read_modules(alloc, text) {
+        Ok(modules) => match modules.as_slice() {
+            [module] => has_text(module) && writes(alloc, module, text),
+            _ => false,
+        },
+        Err(_) => false,
+    }
+}
+
+fn writes(alloc: Global, module: &Module, text: &[u8]) -> bool
+    requires { HasText (defined_module «module».now) }
 {
-    let mut pieces = Pieces::new(alloc);
+    match write_module(alloc, module) {
+        Ok(written) => written.as_slice() == text,
+        Err(_) => false,
+    }
+}
+
+/// Whether a module passes no limit, and its words stand at even places.
+fn has_text(module: &Module) -> bool
+    ensures { result ≡ true → HasText (defined_module «module».now) }
+{
+    module.defs.as_slice().len() <= 256
+        && module.refs.as_slice().len() <= 256
+        && module.pieces.as_slice().len() <= 32_768
+        && stand_even(module.pieces.as_slice())
+}
+
+fn stand_even(words: &[Piece]) -> bool
+    ensures { result ≡ true → AllByRecursion StandsEven words.now }
+{
     for word in words {
-        pieces.push(*word)?;
+        if number_of(word.at) % 2 != 0 {
+            return false;
+        }
     }
-    Ok(pieces)
-}
-
-/// Whether the module of four words is written as its text.
-fn writes_four(alloc: Global) -> Result<bool, AllocError> {
-    let Some(name) = ModuleName::read(b"        ") else {
-        return Ok(false);
-    };
-    let module = Module {
-        name,
-        size: 8,
-        pieces: pieces_of(alloc, FOUR)?,
-        defs: Defs::new(alloc),
-        refs: Refs::new(alloc),
-        entry: None,
-    };
-    Ok(write_module(alloc, &module)?.as_slice() == FOUR_WORDS)
-}
-
-/// A DEF by its name.
-fn def(name: &[u8], value: Spot) -> Option<Def> {
-    Name::read(name).map(|name| Def { name, value })
-}
-
-/// A REF by its name.
-fn reference(name: &[u8], last: Spot) -> Option<Ref> {
-    Name::read(name).map(|name| Ref { name, last })
-}
-
-/// Whether the module with both kinds of each group is written as its text.
-fn writes_both_kinds(alloc: Global) -> Result<bool, AllocError> {
-    let Some(name) = ModuleName::read(b"TWO MODS") else {
-        return Ok(false);
-    };
-    let mut defs = Defs::new(alloc);
-    let mut refs = Refs::new(alloc);
-    if let Some(first) = def(b"A", Spot::Relocatable(2)) {
-        defs.push(first)?;
-    }
-    if let Some(second) = def(b"LONGER", Spot::Absolute(0x3FFF)) {
-        defs.push(second)?;
-    }
-    if let Some(used) = reference(b"EXTERN", Spot::Relocatable(2)) {
-        refs.push(used)?;
-    }
-    if let Some(unused) = reference(b"X", Spot::Absolute(0)) {
-        refs.push(unused)?;
-    }
-    let module = Module {
-        name,
-        size: 0x10,
-        pieces: pieces_of(alloc, BOTH)?,
-        defs,
-        refs,
-        entry: Some(Spot::Relocatable(10)),
-    };
-    Ok(write_module(alloc, &module)?.as_slice() == BOTH_KINDS)
+    true
 }
 
 #[test]
 fn writes_modules(rt: HostRuntime) -> Result<(), Fail> {
-    assert!(rt; writes_four(rt.alloc())?);
-    assert!(rt; writes_both_kinds(rt.alloc())?);
+    for &text in WRITTEN {
+        assert!(rt; is_written(rt.alloc(), text), "{}", text.len());
+    }
     Ok(())
 }

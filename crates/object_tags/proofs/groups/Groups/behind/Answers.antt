@@ -1,4 +1,4 @@
-use Rattle.std.proofs.Common.{◌≡◌, ◌+◌, ◌%◌, ◌≤◌, length, take, drop, sum, refl, arith, length-drop}
+use Rattle.std.proofs.Common.{◌≡◌, ◌+◌, ◌%◌, ◌≤◌, length, take, drop, sum}
 use Rattle.object_tags.proofs.GroupSteps.{groups_behind, sum_behind, passed_within}
 use Rattle.object_tags.proofs.groups.Groups.behind.Goals as goal
 

@@ -1,4 +1,4 @@
-use Rattle.std.proofs.Common.{◌≡◌, ℕ, ◌+◌, ◌%◌, ◌<◌, ◌≤◌, cond, true, false, List, [], ◌∷◌, ◌++◌, take, drop, length, get_or, refl, sym, ap, ◌∙◌, arith, rules}
+use Rattle.std.proofs.Common.{◌≡◌, ◌+◌, ◌%◌, ◌<◌, ◌≤◌, cond, List, [], ◌∷◌, ◌++◌, take, drop, length, get_or, refl, sym, ap, ◌∙◌, arith, rules}
 use Rattle.object_defs.specs.Digits.{complement, checksum}
 use Rattle.object_defs.specs.Groups.{FoundGroup, tag_at, found_with, ends_line, size_found, groups_from}
 use Rattle.object_tags.specs.SeenGroups.{defined_found}
