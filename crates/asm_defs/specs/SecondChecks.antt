@@ -159,18 +159,23 @@ abbrev pub displaced : Option ℤ → Result Ready FormError
 displaced (Some disp) = Ok (Displaced disp)
 displaced None = Err JumpTooFar
 
+abbrev pub indexed : Value → ℕ → Result Ready FormError
+indexed value number = if is_index number then Ok (Located (record { mode = 2; reg = number }) (Some value)) else Err BadOperand
+
+abbrev pub bit : ℕ → Result Ready FormError
+bit number = if is_displacement number then Ok (Displaced (cast_signed w16 number)) else Err BadOperand
+
 -- An operand of the line at a place, held against its range.
 abbrev pub ranged : Value → Operand → Result Ready FormError
 ranged here (InRegister number) = by_register 0 number
 ranged here (ByRegister number) = by_register 1 number
 ranged here (Growing number) = by_register 3 number
 ranged here (AtAddress value) = Ok (Located (record { mode = 2; reg = 0 }) (Some value))
-ranged here (AtIndexed value number) =
-    if is_index number then Ok (Located (record { mode = 2; reg = number }) (Some value)) else Err BadOperand
+ranged here (AtIndexed value number) = indexed value number
 ranged here (Number number) = do
   count ← below_sixteen number
   Ok (Counted count)
-ranged here (Bit number) = if is_displacement number then Ok (Displaced (cast_signed w16 number)) else Err BadOperand
+ranged here (Bit number) = bit number
 ranged here (To target) = displaced (displacement_to (number_in here + 2) target)
 ranged here (Following value) = Ok (Followed value)
 

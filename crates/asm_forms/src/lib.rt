@@ -7,9 +7,11 @@ mod mnemonics;
 mod operands_text;
 mod operations;
 mod print;
+mod ranges;
 mod sizes;
 mod slots;
 mod text;
 mod up_to_two;
+mod values;
 
 pub use print::print_instr;

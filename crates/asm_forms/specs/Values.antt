@@ -1,0 +1,32 @@
+-- The operands that the code values, as the definitions have them.
+use Rattle.std.specs.Prelude.{ℕ, List, [], ◌∷◌, Option, Result, Ok, Err}
+use Rattle.std.specs.Option.{option_map}
+use Rattle.source_defs.specs.Expression as expression
+use Rattle.asm_text.specs.GivenValues.{defined_value}
+use Rattle.asm_defs.specs.declared.causes.FormError.{FormError}
+use Rattle.asm_defs.specs.SecondChecks as spec
+use Rattle.asm_forms.specs.declared.values.Operand.{Operand}
+use Rattle.asm_forms.specs.declared.values.Operand.TheVariants.{InRegister, ByRegister, Growing, AtAddress, AtIndexed, Number, Bit, To, Following}
+use Rattle.asm_forms.specs.declared.ranges.Ready.{Ready}
+use Rattle.asm_forms.specs.declared.ranges.Ready.TheVariants.{Located, Counted, Displaced, Followed}
+
+abbrev pub defined_operand : Operand → spec.Operand
+defined_operand (InRegister number) = spec.InRegister number
+defined_operand (ByRegister number) = spec.ByRegister number
+defined_operand (Growing number) = spec.Growing number
+defined_operand (AtAddress value) = spec.AtAddress (defined_value value)
+defined_operand (AtIndexed value number) = spec.AtIndexed (defined_value value) number
+defined_operand (Number number) = spec.Number number
+defined_operand (Bit number) = spec.Bit number
+defined_operand (To target) = spec.To target
+defined_operand (Following value) = spec.Following (defined_value value)
+
+abbrev pub defined_ready : Ready → spec.Ready
+defined_ready (Located place following) = spec.Located place (option_map defined_value following)
+defined_ready (Counted number) = spec.Counted number
+defined_ready (Displaced disp) = spec.Displaced disp
+defined_ready (Followed value) = spec.Followed (defined_value value)
+
+abbrev pub ready_answer : Result Ready FormError → Result spec.Ready FormError
+ready_answer (Ok ready) = Ok (defined_ready ready)
+ready_answer (Err cause) = Err cause

@@ -1,0 +1,108 @@
+//! The operands of a line, held against their ranges.
+
+ghost use Rattle.std.specs.Prelude.{◌≡◌, ◌<◌, ◌+◌};
+ghost use Rattle.asm_text.specs.GivenValues.{defined_value};
+ghost use Rattle.asm_defs.specs.SecondChecks as spec;
+ghost use Rattle.asm_forms.specs.Values.{defined_operand, ready_answer};
+
+use crate::values::Operand;
+use asm_defs::FormError;
+use asm_text::Value;
+use console_defs::Place;
+
+/// An operand whose values are in their ranges.
+#[derive(Clone, Copy, Debug)]
+pub(crate) enum Ready {
+    /// A place, with the word that follows, where one does.
+    Located(Place, Option<Value>),
+    /// A register or a count.
+    Counted(u8),
+    /// The displacement of a jump or of a bit.
+    Displaced(i8),
+    /// A word that follows.
+    Followed(Value),
+}
+
+/// An operand of a line at a place, held against its range.
+pub(crate) fn ranged(here: Value, operand: Operand) -> Result<Ready, FormError>
+    ensures { ready_answer result ≡ spec.ranged (defined_value here) (defined_operand operand) }
+{
+    match operand {
+        Operand::InRegister(number) => by_register(0, number),
+        Operand::ByRegister(number) => by_register(1, number),
+        Operand::Growing(number) => by_register(3, number),
+        Operand::AtAddress(value) => Ok(Ready::Located(Place { mode: 2, reg: 0 }, Some(value))),
+        Operand::AtIndexed(value, number) => indexed(value, number),
+        Operand::Number(number) => {
+            let count = below_sixteen(number)?;
+            Ok(Ready::Counted(count))
+        }
+        Operand::Bit(number) => bit(number),
+        Operand::To(target) => jump(number_in(here), target),
+        Operand::Following(value) => Ok(Ready::Followed(value)),
+    }
+}
+
+fn by_register(mode: u8, number: u16) -> Result<Ready, FormError>
+    requires { mode < 4 }
+    ensures { ready_answer result ≡ spec.by_register mode number }
+{
+    let reg = below_sixteen(number)?;
+    Ok(Ready::Located(Place { mode, reg }, None))
+}
+
+fn below_sixteen(number: u16) -> Result<u8, FormError>
+    ensures { result ≡ spec.below_sixteen number }
+{
+    if number < 16 {
+        Ok(number as u8)
+    } else {
+        Err(FormError::BadOperand)
+    }
+}
+
+/// An address with an index register, which is not register 0.
+fn indexed(value: Value, number: u16) -> Result<Ready, FormError>
+    ensures { ready_answer result ≡ spec.indexed (defined_value value) number }
+{
+    if 0 < number && number < 16 {
+        let reg = number as u8;
+        Ok(Ready::Located(Place { mode: 2, reg }, Some(value)))
+    } else {
+        Err(FormError::BadOperand)
+    }
+}
+
+/// The displacement of a bit, a signed byte.
+fn bit(number: u16) -> Result<Ready, FormError>
+    ensures { ready_answer result ≡ spec.bit number }
+{
+    let disp = number.cast_signed();
+    if -128 <= disp && disp < 128 {
+        Ok(Ready::Displaced(disp as i8))
+    } else {
+        Err(FormError::BadOperand)
+    }
+}
+
+/// The displacement of a jump from a line at a place.
+fn jump(here: u16, target: u16) -> Result<Ready, FormError>
+    ensures { ready_answer result ≡ spec.displaced (spec.displacement_to (here + 2) target) }
+{
+    let distance = i32::from(target) - i32::from(here) - 2;
+    if distance % 2 == 0 && -256 <= distance && distance <= 254 {
+        Ok(Ready::Displaced((distance / 2) as i8))
+    } else {
+        Err(FormError::JumpTooFar)
+    }
+}
+
+/// The number of a value that is no external name, without its kind.
+fn number_in(value: Value) -> u16
+    ensures { result ≡ spec.number_in (defined_value value) }
+{
+    match value {
+        Value::Absolute(number) | Value::Relocatable(number) => number,
+        Value::External(_) => 0,
+    }
+}

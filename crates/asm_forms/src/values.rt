@@ -1,0 +1,204 @@
+//! The values of the operands of a line, from the left.
+
+ghost use Rattle.std.specs.Prelude.{◌≡◌, ◌≢◌, Err, IfErr};
+ghost use Rattle.source_defs.specs.Expression.{expression};
+ghost use Rattle.source_defs.specs.Symbols.{look_up};
+ghost use Rattle.asm_text.specs.GivenValues.{defined_value, IsNotExternal};
+ghost use Rattle.asm_defs.specs.SecondChecks as spec;
+ghost use Rattle.asm_forms.specs.Answers.{Gives};
+ghost use Rattle.asm_forms.specs.Answers.{refused as refused_as};
+ghost use Rattle.asm_forms.specs.Forms.{defined_form};
+ghost use Rattle.asm_forms.specs.UpToTwo.{items_of, slots_in};
+ghost use Rattle.asm_forms.specs.Values.{defined_operand};
+
+use crate::forms::Form;
+use crate::up_to_two::UpToTwo;
+use asm_defs::{FormError, Slot};
+use asm_text::{ExprError, Symbols, Value, tokens, value};
+use std::alloc::Global;
+
+/// An operand with its values, not yet held against their ranges.
+#[derive(Clone, Copy, Debug)]
+pub(crate) enum Operand {
+    /// `R`.
+    InRegister(u16),
+    /// `*R`.
+    ByRegister(u16),
+    /// `*R+`.
+    Growing(u16),
+    /// `@e`.
+    AtAddress(Value),
+    /// `@e(R)`.
+    AtIndexed(Value, u16),
+    /// A register or a count.
+    Number(u16),
+    /// The displacement of a bit.
+    Bit(u16),
+    /// The target of a jump.
+    To(u16),
+    /// A word that follows.
+    Following(Value),
+}
+
+/// Where a line stands: the names that it sees, and its place.
+#[derive(Clone, Copy)]
+pub(crate) struct Scope<'a> {
+    pub(crate) alloc: Global,
+    pub(crate) symbols: &'a Symbols,
+    pub(crate) here: Value,
+}
+
+impl Scope<'_> {
+    /// The values of as many operands as there are slots.
+    pub(crate) fn all_valued(
+        &self,
+        slots: UpToTwo<Slot>,
+        forms: UpToTwo<Form<'_>>,
+    ) -> Result<UpToTwo<Operand>, FormError>
+        requires { IsNotExternal self.now.here }
+        ensures { Gives (items_of defined_operand) result
+            (spec.all_valued (look_up self.now.symbols.now) (defined_value self.now.here) (slots_in slots) (items_of defined_form forms)) }
+    {
+        match (slots, forms) {
+            (UpToTwo::One(slot), UpToTwo::One(form)) => {
+                let operand = self.valued(slot, form)?;
+                Ok(UpToTwo::One(operand))
+            }
+            (UpToTwo::Two(slot, other), UpToTwo::Two(form, next)) => {
+                let operand = self.valued(slot, form)?;
+                let second = self.valued(other, next)?;
+                Ok(UpToTwo::Two(operand, second))
+            }
+            (UpToTwo::One(slot), UpToTwo::Two(form, _)) => {
+                let operand = self.valued(slot, form)?;
+                Ok(UpToTwo::One(operand))
+            }
+            (UpToTwo::Two(slot, _), UpToTwo::One(form)) => {
+                let operand = self.valued(slot, form)?;
+                Ok(UpToTwo::One(operand))
+            }
+            (UpToTwo::None, _) | (_, UpToTwo::None) => Ok(UpToTwo::None),
+        }
+    }
+
+    /// The values of an operand in its slot.
+    fn valued(&self, slot: Slot, form: Form<'_>) -> Result<Operand, FormError>
+        requires { IsNotExternal self.now.here }
+        ensures { Gives defined_operand result
+            (spec.valued (look_up self.now.symbols.now) (defined_value self.now.here) slot (defined_form form)) }
+    {
+        match slot {
+            Slot::General => self.placed(form),
+            Slot::Register | Slot::Count => {
+                let number = self.number_of(text_in(form))?;
+                Ok(Operand::Number(number))
+            }
+            Slot::Displacement => {
+                let number = self.number_of(text_in(form))?;
+                Ok(Operand::Bit(number))
+            }
+            Slot::Immediate => {
+                let value = self.value_of(text_in(form))?;
+                Ok(Operand::Following(value))
+            }
+            Slot::Target => {
+                let value = self.value_of(text_in(form))?;
+                let target = target_in(self.here, value)?;
+                Ok(Operand::To(target))
+            }
+        }
+    }
+
+    /// The values of an operand in any mode.
+    fn placed(&self, form: Form<'_>) -> Result<Operand, FormError>
+        requires { IsNotExternal self.now.here }
+        ensures { Gives defined_operand result
+            (spec.placed (look_up self.now.symbols.now) (defined_value self.now.here) (defined_form form)) }
+    {
+        match form {
+            Form::Plain(text) => {
+                let register = self.number_of(text)?;
+                Ok(Operand::InRegister(register))
+            }
+            Form::Indirect(text) => {
+                let register = self.number_of(text)?;
+                Ok(Operand::ByRegister(register))
+            }
+            Form::Increment(text) => {
+                let register = self.number_of(text)?;
+                Ok(Operand::Growing(register))
+            }
+            Form::Symbolic(text) => {
+                let address = self.value_of(text)?;
+                Ok(Operand::AtAddress(address))
+            }
+            Form::Indexed(text, index) => {
+                let address = self.value_of(text)?;
+                let register = self.number_of(index)?;
+                Ok(Operand::AtIndexed(address, register))
+            }
+        }
+    }
+
+    /// The value of an expression that has to be absolute.
+    fn number_of(&self, text: &[u8]) -> Result<u16, FormError>
+        requires { IsNotExternal self.now.here }
+        ensures { Gives (λ number. number) result
+            (spec.number_of (look_up self.now.symbols.now) (defined_value self.now.here) text.now) }
+    {
+        match self.value_of(text)? {
+            Value::Absolute(number) => Ok(number),
+            Value::Relocatable(_) | Value::External(_) => Err(FormError::Expr(ExprError::BadRelocation)),
+        }
+    }
+
+    /// The value of an expression.
+    fn value_of(&self, text: &[u8]) -> Result<Value, FormError>
+        requires { IsNotExternal self.now.here }
+        ensures { Gives defined_value result
+            (spec.value_of (look_up self.now.symbols.now) (defined_value self.now.here) text.now) }
+    {
+        let found = match tokens(self.alloc, text) {
+            Ok(found) => found,
+            Err(cause) => return Err(refused(cause)),
+        };
+        match value(found.as_slice(), text, self.symbols, self.here) {
+            Ok(value) => Ok(value),
+            Err(cause) => Err(refused(cause)),
+        }
+    }
+}
+
+/// The text of an expression alone.
+fn text_in(form: Form<'_>) -> &[u8]
+    ensures { result.now ≡ spec.text_in (defined_form form) }
+{
+    match form {
+        Form::Plain(text)
+        | Form::Indirect(text)
+        | Form::Increment(text)
+        | Form::Symbolic(text)
+        | Form::Indexed(text, _) => text,
+    }
+}
+
+/// The target of a jump, which is of the kind of the jump's place.
+fn target_in(here: Value, target: Value) -> Result<u16, FormError>
+    ensures { result ≡ spec.as_form (spec.target_in (defined_value here) (defined_value target)) }
+{
+    match (here, target) {
+        (Value::Absolute(_), Value::Absolute(target))
+        | (Value::Relocatable(_), Value::Relocatable(target)) => Ok(target),
+        _ => Err(FormError::Expr(ExprError::BadRelocation)),
+    }
+}
+
+/// What the refusal of an expression is in a line.
+fn refused(cause: ExprError) -> FormError
+    ensures { result ≡ refused_as cause }
+{
+    match cause {
+        ExprError::Memory => FormError::Memory,
+        cause => FormError::Expr(cause),
+    }
+}
