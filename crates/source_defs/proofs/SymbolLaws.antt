@@ -1,12 +1,12 @@
 -- Registers, one after the other, and names that are defined behind others.
-use Rattle.std.proofs.Common.{◌≡◌, ℕ, suc, ◌+◌, ◌-◌, ◌<◌, Bool, true, false, cond, List, [], ◌∷◌, ◌++◌, Some, None, refl, sym, ap, ◌∙◌, arith}
+use Rattle.std.proofs.Common.{◌≡◌, ℕ, suc, ◌+◌, ◌-◌, ◌<◌, true, false, cond, List, Some, refl, ◌∙◌, arith}
 use Rattle.std.specs.Prelude.{Option, nat_eq, map}
 use Rattle.std.specs.List.{range_with_len}
-use Rattle.std.specs.Ordering.{nat_cmp, eq_by_cmp}
-use Rattle.std.specs.Cmp.Lexicographic.{pointwise, slice_cmp, nat_list_cmp_total, texts_ties}
-use Rattle.std.specs.FinMap.{find, from_entries, get, get-from_entries, get-insert, insert, same_map, slice_cmp-IsAntisymmetric, nat_cmp-IsAntisymmetric}
+use Rattle.std.specs.Ordering.{nat_cmp}
+use Rattle.std.specs.Cmp.Lexicographic.{pointwise, slice_cmp, texts_ties}
+use Rattle.std.specs.FinMap.{find}
 use Rattle.source_defs.specs.Expression.{Value, Absolute}
-use Rattle.source_defs.specs.Symbols.{Names, register_name, registers}
+use Rattle.source_defs.specs.Symbols.{register_name, registers}
 
 abbrev pub row : ℕ → List ℕ × Value
 row number = (register_name number, Absolute number)
