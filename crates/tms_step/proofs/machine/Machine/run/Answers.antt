@@ -1,5 +1,5 @@
 use Rattle.std.proofs.Common.{◌≡◌, ◌+◌, ◌-◌, ℕ, Bool, true, false, refl, sym, ap, ◌∙◌, arith, Option, None}
-use Rattle.console_defs.specs.Machine.{MachineState, machine_step}
+use Rattle.console_defs.specs.Machine.{machine_step}
 use Rattle.console_defs.specs.Runs.{is_reached}
 use Rattle.console_defs.specs.declared.ends.StepEnd.{StepEnd}
 use Rattle.console_defs.specs.declared.ends.StepEnd.TheVariants.{Done, Refused, Port}
