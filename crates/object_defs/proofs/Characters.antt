@@ -14,14 +14,7 @@ use Rattle.source_defs.specs.Digits.{word_digits}
 use Rattle.object_defs.specs.Digits.{decimal, padded, checksum}
 use Rattle.object_defs.specs.Tags.{tag_character, kind_of}
 use Rattle.object_defs.specs.Writing.{group, word_text, address_text, definition_text, reference_text, entry_text, header_text, Placed, item_text, summed}
-
-and_right : (a b : Bool) → (a && b) ≡ true → b ≡ true
-and_right true b h = h
-and_right false b h = cc
-
-and_left : (a b : Bool) → (a && b) ≡ true → a ≡ true
-and_left true b h = refl
-and_left false b h = h
+use Rattle.object_defs.proofs.Conjunctions.{and_left, and_right}
 
 pub behind_each_other : (a b : List ℕ) → all_name_characters a ≡ true → all_name_characters b ≡ true → all_name_characters (a ++ b) ≡ true
 behind_each_other [] b p q = q

@@ -1,5 +1,5 @@
 -- Fields that were written are read again.
-use Rattle.std.proofs.Common.{◌≡◌, ℕ, zero, suc, ◌+◌, ◌-◌, ◌*◌, ◌/◌, ◌%◌, ◌<◌, ◌≤◌, Bool, true, false, List, [], ◌∷◌, ◌++◌, length, take, drop, replicate, Ok, refl, ◌∙◌, length-append, arith}
+use Rattle.std.proofs.Common.{◌≡◌, ℕ, zero, suc, ◌+◌, ◌-◌, ◌*◌, ◌/◌, ◌%◌, ◌<◌, ◌≤◌, true, false, List, [], ◌∷◌, ◌++◌, length, take, drop, replicate, Ok, refl, ◌∙◌, length-append, arith}
 use Rattle.std.specs.Prelude.{nat_lt, nat_le, ◌&&◌, ◌==◌}
 use Rattle.std.proofs.lemmas.Bool.Decides.{nat_tests}
 use Rattle.std.proofs.lemmas.List.{take_at, drop_at, length-replicate}
@@ -10,6 +10,7 @@ use Rattle.object_defs.specs.Modules.{all_name_characters, is_module_name}
 use Rattle.source_defs.specs.Digits.{word_digits}
 use Rattle.object_defs.specs.Digits.{padded}
 use Rattle.object_defs.specs.Fields.{number_at, module_name_at, symbol_at, all_blank, without_blanks}
+use Rattle.object_defs.proofs.Conjunctions.{and_left, and_right}
 
 digit_is : (v : ℕ) → v < 16 → is_hexadecimal_digit (hexadecimal_digit v) ≡ true
 digit_is v lt = grind (arith, nat_tests)
@@ -34,14 +35,6 @@ digits_length n = refl
 
 printed_no_blank : (c : ℕ) → is_printed c ≡ true → is_blank c ≡ false
 printed_no_blank c h = grind (arith, nat_tests)
-
-and_left : (a b : Bool) → (a && b) ≡ true → a ≡ true
-and_left true b h = refl
-and_left false b h = h
-
-and_right : (a b : Bool) → (a && b) ≡ true → b ≡ true
-and_right true b h = h
-and_right false b h = cc
 
 blanks : (k : ℕ) → all_blank (replicate k 0x20) ≡ true
 blanks zero = refl

@@ -1,6 +1,6 @@
 -- The first of the lines that are left of a text.
-use Rattle.std.proofs.Common.{◌≡◌, ℕ, ◌+◌, ◌-◌, ◌<◌, ◌≤◌, Bool, true, false, List, [], ◌∷◌, ◌++◌, length, get_or, drop, refl, sym, ap, ◌∙◌, subst, append_assoc, length-append, arith}
-use Rattle.std.specs.Prelude.{map, nat_lt, ◌&&◌, slice_range}
+use Rattle.std.proofs.Common.{◌≡◌, ℕ, ◌+◌, ◌-◌, ◌<◌, ◌≤◌, true, false, List, [], ◌∷◌, ◌++◌, length, get_or, drop, refl, sym, ap, ◌∙◌, subst, append_assoc, length-append, arith}
+use Rattle.std.specs.Prelude.{map, nat_lt, slice_range}
 use Rattle.std.proofs.lemmas.Bool.Decides.{nat_tests}
 use Rattle.std.proofs.lemmas.List.{get_or_at, take_at, drop_at}
 use Rattle.source_defs.specs.Characters.{is_line_feed, is_carriage_return}
@@ -9,14 +9,7 @@ use Rattle.source_defs.proofs.LeastLaws.{least_place_step}
 use Rattle.source_defs.proofs.LineSteps.{lines_from_step}
 use Rattle.object_defs.specs.Modules.{is_name_character, all_name_characters}
 use Rattle.object_defs.specs.Reading.{NumberedLine, numbered_line}
-
-and_left : (a b : Bool) → (a && b) ≡ true → a ≡ true
-and_left true b h = refl
-and_left false b h = h
-
-and_right : (a b : Bool) → (a && b) ≡ true → b ≡ true
-and_right true b h = h
-and_right false b h = cc
+use Rattle.object_defs.proofs.Conjunctions.{and_left, and_right}
 
 no_feed : (c : ℕ) → is_name_character c ≡ true → is_line_feed c ≡ false
 no_feed c h = grind (arith, nat_tests)

@@ -1,3 +1,4 @@
+pub mod Conjunctions
 pub mod Running
 pub mod FieldsAgain
 pub mod Characters

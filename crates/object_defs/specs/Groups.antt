@@ -10,7 +10,7 @@ use Rattle.object_defs.specs.declared.tag.Tag.{Tag}
 use Rattle.object_defs.specs.declared.tag.Tag.TheVariants as tags
 use Rattle.object_defs.specs.Modules.{Definition, Reference}
 use Rattle.object_defs.specs.Digits.{checksum}
-use Rattle.object_defs.specs.Tags.{tag_of, kind_of, spot}
+use Rattle.object_defs.specs.Tags.{tag_character, tag_of, kind_of, spot}
 use Rattle.object_defs.specs.Fields.{number_at, module_name_at, symbol_at, all_blank}
 
 -- a group: what its tag and its fields say
@@ -62,7 +62,7 @@ group_found (Broken character tag cause) = Err cause
 
 -- The tag that a character is at a place of its line, from 0. What ends a module stands first.
 abbrev pub tag_at : ℕ → ℕ → Option Tag
-tag_at place character = if (character == 0x3A) && not (place == 0) then None else tag_of character
+tag_at place character = if (character == tag_character tags.EndOfModule) && not (place == 0) then None else tag_of character
 
 -- a checksum, against the one that is computed
 abbrev pub compared : ℕ → ℕ → Result Group TagCause
