@@ -49,6 +49,15 @@ target_in (Absolute here) (Absolute target) = Ok target
 target_in (Relocatable here) (Relocatable target) = Ok target
 target_in here value = Err BadRelocation
 
+-- the text of an expression alone
+abbrev pub text_in : Form → List ℕ
+text_in (Plain text) = text
+text_in (Indirect text) = text
+text_in (Increment text) = text
+text_in (Symbolic text) = text
+text_in (Indexed text index) = text
+
+-- by what each name stands for, and the place of the line
 module _ (look : List ℕ → Option Value) (here : Value) where
   abbrev pub value_of : List ℕ → Result Value FormError
   value_of text = as_form (expression look here text)
@@ -76,14 +85,6 @@ module _ (look : List ℕ → Option Value) (here : Value) where
     address ← value_of text
     register ← number_of index
     Ok (AtIndexed address register)
-
-  -- the text of an expression alone
-  abbrev pub text_in : Form → List ℕ
-  text_in (Plain text) = text
-  text_in (Indirect text) = text
-  text_in (Increment text) = text
-  text_in (Symbolic text) = text
-  text_in (Indexed text index) = text
 
   abbrev pub valued : Slot → Form → Result Operand FormError
   valued General form = placed form

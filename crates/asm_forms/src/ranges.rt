@@ -89,11 +89,40 @@ fn bit(number: u16) -> Result<Ready, FormError>
 fn jump(here: u16, target: u16) -> Result<Ready, FormError>
     ensures { ready_answer result ≡ spec.displaced (spec.displacement_to (here + 2) target) }
 {
-    let distance = i32::from(target) - i32::from(here) - 2;
-    if distance % 2 == 0 && -256 <= distance && distance <= 254 {
-        Ok(Ready::Displaced((distance / 2) as i8))
+    match displacement_to(u32::from(here) + 2, u32::from(target)) {
+        Some(disp) => Ok(Ready::Displaced(disp)),
+        None => Err(FormError::JumpTooFar),
+    }
+}
+
+/// How many words stand from the next instruction to a target, which may be before it.
+fn displacement_to(next: u32, target: u32) -> Option<i8>
+    ensures { result ≡ spec.displacement_to next target }
+{
+    if next <= target {
+        forward(target - next)
     } else {
-        Err(FormError::JumpTooFar)
+        backward(next - target)
+    }
+}
+
+fn forward(bytes: u32) -> Option<i8>
+    ensures { result ≡ spec.forward bytes }
+{
+    if bytes % 2 == 0 && bytes <= 254 {
+        Some((bytes / 2) as i8)
+    } else {
+        None
+    }
+}
+
+fn backward(bytes: u32) -> Option<i8>
+    ensures { result ≡ spec.backward bytes }
+{
+    if bytes % 2 == 0 && bytes <= 256 {
+        Some(-((bytes / 2) as i16) as i8)
+    } else {
+        None
     }
 }
 

@@ -57,7 +57,7 @@ impl Scope<'_> {
     ) -> Result<UpToTwo<Operand>, FormError>
         requires { IsNotExternal self.now.here }
         ensures { Gives (items_of defined_operand) result
-            (spec.all_valued (look_up self.now.symbols.now) (defined_value self.now.here) (slots_in slots) (items_of defined_form forms)) }
+            (spec.all_valued (look_up self.now.symbols.now) (defined_value self.now.here) (slots_in slots) (items_of defined_form forms.entry)) }
     {
         match (slots, forms) {
             (UpToTwo::One(slot), UpToTwo::One(form)) => {
@@ -85,7 +85,7 @@ impl Scope<'_> {
     fn valued(&self, slot: Slot, form: Form<'_>) -> Result<Operand, FormError>
         requires { IsNotExternal self.now.here }
         ensures { Gives defined_operand result
-            (spec.valued (look_up self.now.symbols.now) (defined_value self.now.here) slot (defined_form form)) }
+            (spec.valued (look_up self.now.symbols.now) (defined_value self.now.here) slot (defined_form form.entry)) }
     {
         match slot {
             Slot::General => self.placed(form),
@@ -113,7 +113,7 @@ impl Scope<'_> {
     fn placed(&self, form: Form<'_>) -> Result<Operand, FormError>
         requires { IsNotExternal self.now.here }
         ensures { Gives defined_operand result
-            (spec.placed (look_up self.now.symbols.now) (defined_value self.now.here) (defined_form form)) }
+            (spec.placed (look_up self.now.symbols.now) (defined_value self.now.here) (defined_form form.entry)) }
     {
         match form {
             Form::Plain(text) => {
@@ -171,7 +171,7 @@ impl Scope<'_> {
 
 /// The text of an expression alone.
 fn text_in(form: Form<'_>) -> &[u8]
-    ensures { result.now ≡ spec.text_in (defined_form form) }
+    ensures { result.now ≡ spec.text_in (defined_form form.entry) }
 {
     match form {
         Form::Plain(text)
