@@ -1,10 +1,14 @@
 -- The operands that the code values, as the definitions have them.
-use Rattle.std.specs.Prelude.{ℕ, List, [], ◌∷◌, Option, Result, Ok, Err}
+use Rattle.std.specs.Prelude.{ℕ, ◌<◌, ⊤, List, [], ◌∷◌, Option, Result, Ok, Err}
 use Rattle.std.specs.Option.{option_map}
 use Rattle.source_defs.specs.Expression as expression
 use Rattle.asm_text.specs.GivenValues.{defined_value}
 use Rattle.asm_defs.specs.declared.causes.FormError.{FormError}
 use Rattle.asm_defs.specs.SecondChecks as spec
+use Rattle.console_defs.specs.Instructions.{IsPlace}
+use Rattle.asm_forms.specs.UpToTwo.{items_of}
+use Rattle.asm_forms.specs.declared.up_to_two.UpToTwo.{UpToTwo}
+use Rattle.asm_forms.specs.declared.up_to_two.UpToTwo.TheVariants.{None, One, Two}
 use Rattle.asm_forms.specs.declared.values.Operand.{Operand}
 use Rattle.asm_forms.specs.declared.values.Operand.TheVariants.{InRegister, ByRegister, Growing, AtAddress, AtIndexed, Number, Bit, To, Following}
 use Rattle.asm_forms.specs.declared.ranges.Ready.{Ready}
@@ -30,3 +34,19 @@ defined_ready (Followed value) = spec.Followed (defined_value value)
 abbrev pub ready_answer : Result Ready FormError → Result spec.Ready FormError
 ready_answer (Ok ready) = Ok (defined_ready ready)
 ready_answer (Err cause) = Err cause
+
+abbrev pub readies_answer : Result (UpToTwo Ready) FormError → Result (List spec.Ready) FormError
+readies_answer (Ok readies) = Ok (items_of defined_ready readies)
+readies_answer (Err cause) = Err cause
+
+-- the parts of an instruction have room in its word
+abbrev pub IsReady : Ready → Type 0
+IsReady (Located place following) = IsPlace place
+IsReady (Counted number) = number < 16
+IsReady (Displaced disp) = ⊤
+IsReady (Followed value) = ⊤
+
+abbrev pub AllReady : UpToTwo Ready → Type 0
+AllReady None = ⊤
+AllReady (One ready) = IsReady ready
+AllReady (Two first second) = IsReady first × IsReady second

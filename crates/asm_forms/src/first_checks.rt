@@ -1,10 +1,10 @@
 //! The first checks of an instruction line: its operation, the number of its operands, and their forms.
 
-ghost use Rattle.std.specs.Prelude.{◌≡◌, Ok, Err, IfOk, IfErr};
+ghost use Rattle.std.specs.Prelude.{◌≡◌, ◌≤◌, Ok, Err, IfOk, IfErr};
 ghost use Rattle.asm_defs.specs.FirstChecks as spec;
-ghost use Rattle.asm_forms.specs.Forms.{form_answer, one_of, two_of, both_forms};
-ghost use Rattle.asm_forms.specs.UpToTwo.{slots_in};
-ghost use Rattle.asm_forms.specs.Skeletons.{forms_answer, skeleton_answer};
+ghost use Rattle.asm_forms.specs.Forms.{defined_form, form_answer, one_of, two_of, both_forms};
+ghost use Rattle.asm_forms.specs.UpToTwo.{items_of, slots_in};
+ghost use Rattle.asm_forms.specs.Skeletons.{defined_skeleton, forms_answer, skeleton_answer};
 
 use crate::forms::{Form, form_of};
 use crate::mnemonics::mnemonic;
@@ -121,4 +121,42 @@ fn is_mode_sign(byte: u8) -> bool
     ensures { result ≡ spec.is_mode_sign byte }
 {
     byte == b'*' || byte == b'@'
+}
+
+/// How many bytes the words of a line take.
+pub(crate) fn size_in(skeleton: &Skeleton<'_>) -> u16
+    ensures { result ≡ spec.size_of (defined_skeleton skeleton.now) }
+{
+    match skeleton {
+        Skeleton::Word(_) => 2,
+        Skeleton::Instruction(operation, forms) => {
+            2 * (1 + all_following(slots_of(*operation), forms))
+        }
+    }
+}
+
+/// How many words follow for the operands of a line.
+fn all_following(slots: UpToTwo<Slot>, forms: &UpToTwo<Form<'_>>) -> u16
+    ensures words { result ≡ spec.all_following (slots_in slots) (items_of defined_form forms.now) }
+    ensures most { result ≤ 2 }
+{
+    match (slots, forms) {
+        (UpToTwo::One(slot), UpToTwo::One(form) | UpToTwo::Two(form, _))
+        | (UpToTwo::Two(slot, _), UpToTwo::One(form)) => following(slot, form),
+        (UpToTwo::Two(slot, other), UpToTwo::Two(form, next)) => {
+            following(slot, form) + following(other, next)
+        }
+        (UpToTwo::None, _) | (_, UpToTwo::None) => 0,
+    }
+}
+
+/// How many words follow for an operand.
+fn following(slot: Slot, form: &Form<'_>) -> u16
+    ensures words { result ≡ spec.following slot (defined_form form.now) }
+    ensures most { result ≤ 1 }
+{
+    match (slot, form) {
+        (Slot::Immediate, _) | (Slot::General, Form::Symbolic(_) | Form::Indexed(..)) => 1,
+        _ => 0,
+    }
 }

@@ -3,9 +3,12 @@
 
 mod first_checks;
 mod forms;
+mod instruction;
 mod mnemonics;
 mod operands_text;
 mod operations;
+mod parse;
+mod placed;
 mod print;
 mod ranges;
 mod sizes;
@@ -14,4 +17,7 @@ mod text;
 mod up_to_two;
 mod values;
 
+pub use asm_defs::FormError;
+pub use parse::{parse_instr, size_of};
+pub use placed::{Placed, Word};
 pub use print::print_instr;

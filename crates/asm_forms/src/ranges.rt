@@ -1,10 +1,12 @@
 //! The operands of a line, held against their ranges.
 
-ghost use Rattle.std.specs.Prelude.{◌≡◌, ◌<◌, ◌+◌};
+ghost use Rattle.std.specs.Prelude.{◌≡◌, ◌<◌, ◌+◌, IfOk};
 ghost use Rattle.asm_text.specs.GivenValues.{defined_value};
 ghost use Rattle.asm_defs.specs.SecondChecks as spec;
-ghost use Rattle.asm_forms.specs.Values.{defined_operand, ready_answer};
+ghost use Rattle.asm_forms.specs.UpToTwo.{items_of};
+ghost use Rattle.asm_forms.specs.Values.{defined_operand, ready_answer, readies_answer, IsReady, AllReady};
 
+use crate::up_to_two::UpToTwo;
 use crate::values::Operand;
 use asm_defs::FormError;
 use asm_text::Value;
@@ -23,9 +25,32 @@ pub(crate) enum Ready {
     Followed(Value),
 }
 
+/// The operands of a line at a place, held against their ranges.
+pub(crate) fn all_ranged(
+    here: &Value,
+    operands: UpToTwo<Operand>,
+) -> Result<UpToTwo<Ready>, FormError>
+    ensures value { readies_answer result ≡ spec.all_ranged (defined_value here.now) (items_of defined_operand operands) }
+    ensures ready { IfOk result AllReady }
+{
+    match operands {
+        UpToTwo::None => Ok(UpToTwo::None),
+        UpToTwo::One(operand) => {
+            let ready = ranged(here, operand)?;
+            Ok(UpToTwo::One(ready))
+        }
+        UpToTwo::Two(first, second) => {
+            let ready = ranged(here, first)?;
+            let next = ranged(here, second)?;
+            Ok(UpToTwo::Two(ready, next))
+        }
+    }
+}
+
 /// An operand of a line at a place, held against its range.
-pub(crate) fn ranged(here: Value, operand: Operand) -> Result<Ready, FormError>
-    ensures { ready_answer result ≡ spec.ranged (defined_value here) (defined_operand operand) }
+fn ranged(here: &Value, operand: Operand) -> Result<Ready, FormError>
+    ensures value { ready_answer result ≡ spec.ranged (defined_value here.now) (defined_operand operand) }
+    ensures ready { IfOk result IsReady }
 {
     match operand {
         Operand::InRegister(number) => by_register(0, number),
@@ -45,14 +70,16 @@ pub(crate) fn ranged(here: Value, operand: Operand) -> Result<Ready, FormError>
 
 fn by_register(mode: u8, number: u16) -> Result<Ready, FormError>
     requires { mode < 4 }
-    ensures { ready_answer result ≡ spec.by_register mode number }
+    ensures value { ready_answer result ≡ spec.by_register mode number }
+    ensures ready { IfOk result IsReady }
 {
     let reg = below_sixteen(number)?;
     Ok(Ready::Located(Place { mode, reg }, None))
 }
 
 fn below_sixteen(number: u16) -> Result<u8, FormError>
-    ensures { result ≡ spec.below_sixteen number }
+    ensures value { result ≡ spec.below_sixteen number }
+    ensures ready { IfOk result (λ count. count < 16) }
 {
     if number < 16 {
         Ok(number as u8)
@@ -63,7 +90,8 @@ fn below_sixteen(number: u16) -> Result<u8, FormError>
 
 /// An address with an index register, which is not register 0.
 fn indexed(value: Value, number: u16) -> Result<Ready, FormError>
-    ensures { ready_answer result ≡ spec.indexed (defined_value value) number }
+    ensures value { ready_answer result ≡ spec.indexed (defined_value value) number }
+    ensures ready { IfOk result IsReady }
 {
     if 0 < number && number < 16 {
         let reg = number as u8;
@@ -75,7 +103,8 @@ fn indexed(value: Value, number: u16) -> Result<Ready, FormError>
 
 /// The displacement of a bit, a signed byte.
 fn bit(number: u16) -> Result<Ready, FormError>
-    ensures { ready_answer result ≡ spec.bit number }
+    ensures value { ready_answer result ≡ spec.bit number }
+    ensures ready { IfOk result IsReady }
 {
     let disp = number.cast_signed();
     if -128 <= disp && disp < 128 {
@@ -87,7 +116,8 @@ fn bit(number: u16) -> Result<Ready, FormError>
 
 /// The displacement of a jump from a line at a place.
 fn jump(here: u16, target: u16) -> Result<Ready, FormError>
-    ensures { ready_answer result ≡ spec.displaced (spec.displacement_to (here + 2) target) }
+    ensures value { ready_answer result ≡ spec.displaced (spec.displacement_to (here + 2) target) }
+    ensures ready { IfOk result IsReady }
 {
     match displacement_to(u32::from(here) + 2, u32::from(target)) {
         Some(disp) => Ok(Ready::Displaced(disp)),
@@ -127,11 +157,11 @@ fn backward(bytes: u32) -> Option<i8>
 }
 
 /// The number of a value that is no external name, without its kind.
-fn number_in(value: Value) -> u16
-    ensures { result ≡ spec.number_in (defined_value value) }
+fn number_in(value: &Value) -> u16
+    ensures { result ≡ spec.number_in (defined_value value.now) }
 {
     match value {
-        Value::Absolute(number) | Value::Relocatable(number) => number,
+        Value::Absolute(number) | Value::Relocatable(number) => *number,
         Value::External(_) => 0,
     }
 }

@@ -3,6 +3,7 @@ pub mod Quotes
 pub mod LineSteps
 pub mod LineLaws
 pub mod FieldLaws
+pub mod FieldPlaces
 pub mod NumberLaws
 pub mod OperandSteps
 mod ExpressionRows

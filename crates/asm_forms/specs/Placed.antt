@@ -1,0 +1,35 @@
+-- The words that the code places, as the definitions have them.
+use Rattle.std.specs.Prelude.{List, [], ◌∷◌, map, Result, Ok, Err}
+use Rattle.source_defs.specs.Refusals.{◌>>=◌}
+use Rattle.asm_defs.specs.declared.causes.FormError.{FormError}
+use Rattle.source_defs.specs.Expression as expression
+use Rattle.console_defs.specs.Instructions.{word_of}
+use Rattle.console_defs.specs.declared.instruction.Operation.{Operation}
+use Rattle.asm_defs.specs.SecondChecks.{Operand, Ready, all_ranged, instruction_of, all_following}
+use Rattle.asm_forms.specs.declared.placed.Word.{Word}
+use Rattle.asm_forms.specs.declared.placed.Word.TheVariants.{Plain, Relocatable, External}
+use Rattle.asm_forms.specs.declared.placed.Placed.{Placed}
+
+abbrev pub defined_word : Word → expression.Value
+defined_word (Plain word) = expression.Absolute word
+defined_word (Relocatable place) = expression.Relocatable place
+defined_word (External name) = expression.External name
+
+abbrev pub defined_words : List Word → List expression.Value
+defined_words words = map defined_word words
+
+abbrev pub words_in : Placed → List expression.Value
+words_in placed = defined_words placed.words.items
+
+abbrev pub words_of : Operation → List Ready → List expression.Value
+words_of operation readies = expression.Absolute (word_of (instruction_of operation readies)) ∷ all_following readies
+
+-- the words of an operation with operands, where these are in their ranges
+abbrev pub placed_of : expression.Value → Operation → List Operand → Result (List expression.Value) FormError
+placed_of here operation operands = do
+  readies ← all_ranged here operands
+  Ok (words_of operation readies)
+
+abbrev pub placed_answer : Result Placed FormError → Result (List expression.Value) FormError
+placed_answer (Ok placed) = Ok (words_in placed)
+placed_answer (Err cause) = Err cause

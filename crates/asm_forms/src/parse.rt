@@ -1,0 +1,93 @@
+//! Instruction lines: their size by the first checks, and their words by the second.
+
+ghost use Rattle.std.specs.Prelude.{◌≡◌, Ok, IsSome, IsOk};
+ghost use Rattle.source_defs.specs.Fields as lines;
+ghost use Rattle.source_defs.specs.Symbols.{look_up};
+ghost use Rattle.asm_text.specs.GivenFields.{defined_fields};
+ghost use Rattle.asm_text.specs.GivenValues.{defined_value, IsNotExternal};
+ghost use Rattle.asm_defs.specs.FirstChecks as first;
+ghost use Rattle.asm_defs.specs.SecondChecks as second;
+ghost use Rattle.asm_forms.specs.Answers.{Gives};
+ghost use Rattle.asm_forms.specs.Lines.{operation_in, operands_in, line_words};
+ghost use Rattle.asm_forms.specs.Placed.{words_in};
+ghost use Rattle.asm_forms.specs.Skeletons.{defined_skeleton, skeleton_answer};
+
+use crate::first_checks::{Skeleton, first_checks, size_in};
+use crate::placed::{Placed, in_range_words, one_word};
+use crate::slots::slots_of;
+use crate::values::Scope;
+use asm_defs::FormError;
+use asm_text::{Fields, Symbols, Value};
+use std::alloc::Global;
+
+/// The second checks of a line of which the first checks left this, and its words.
+#[tactic(auto, unfolding(asm_defs::specs::SecondChecks::second_checks))]
+fn second_checks(scope: &Scope<'_>, skeleton: Skeleton<'_>) -> Result<Placed, FormError>
+    requires { IsNotExternal scope.now.here }
+    ensures { Gives words_in result
+        (second.second_checks (look_up scope.now.symbols.now) (defined_value scope.now.here) (defined_skeleton skeleton.entry)) }
+{
+    match skeleton {
+        Skeleton::Word(word) => Ok(one_word(word)),
+        Skeleton::Instruction(operation, forms) => {
+            let operands = scope.all_valued(slots_of(operation), forms)?;
+            in_range_words(&scope.here, operation, operands)
+        }
+    }
+}
+
+/// How many bytes the words of an instruction line take: 2, 4 or 6. The fields are those of the line. It never wants memory.
+///
+/// # Errors
+/// The first checks: `UnknownOperation`, then `OperandCount`, then `BadOperand` for the first operand that is empty or has a form
+/// that its place does not allow (Editor/Assembler manual, "Assembly Language Instructions").
+pub fn size_of(_alloc: Global, line: &[u8], fields: &Fields) -> Result<u16, FormError>
+    requires read { lines.fields line.now ≡ Ok (defined_fields fields.now) }
+    requires operation { IsSome fields.now.operation }
+    ensures { result ≡ first.line_size (operation_in line.now fields.now) (operands_in line.now fields.now) }
+{
+    let skeleton = line_checks(line, fields)?;
+    Ok(size_in(&skeleton))
+}
+
+/// The words of an instruction line at the place `here`, of which `size_of` refuses nothing; the fields are those of the line.
+///
+/// # Errors
+/// The second checks: first the values from the left, each `Expr` with the expression's refusal, then the ranges: `BadOperand`, and
+/// `JumpTooFar` for a jump. `Memory` is want of memory, and `Expr` never carries it.
+pub fn parse_instr(
+    alloc: Global,
+    line: &[u8],
+    fields: &Fields,
+    symbols: &Symbols,
+    here: Value,
+) -> Result<Placed, FormError>
+    requires read { lines.fields line.now ≡ Ok (defined_fields fields.now) }
+    requires operation { IsSome fields.now.operation }
+    requires sized { IsOk (first.line_size (operation_in line.now fields.now) (operands_in line.now fields.now)) }
+    requires here { IsNotExternal here }
+    ensures { Gives words_in result (line_words (look_up symbols.now) (defined_value here) (operation_in line.now fields.now) (operands_in line.now fields.now)) }
+{
+    let skeleton = line_checks(line, fields)?;
+    let scope = Scope {
+        alloc,
+        symbols,
+        here,
+    };
+    second_checks(&scope, skeleton)
+}
+
+/// The first checks of a line with an operation.
+#[tactic(auto, using(source_defs::proofs::FieldPlaces::fields_lie_inside))]
+fn line_checks<'a>(line: &'a [u8], fields: &Fields) -> Result<Skeleton<'a>, FormError>
+    requires read { lines.fields line.now ≡ Ok (defined_fields fields.now) }
+    requires operation { IsSome fields.now.operation }
+    ensures { skeleton_answer result ≡ first.first_checks (operation_in line.now fields.now) (operands_in line.now fields.now) }
+{
+    let operation = fields.operation.unwrap();
+    let operands = fields.operands;
+    first_checks(
+        &line[operation.start..operation.end],
+        &line[operands.start..operands.end],
+    )
+}
