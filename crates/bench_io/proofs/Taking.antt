@@ -1,5 +1,5 @@
 -- Calls of `take`, one after the other.
-use Rattle.std.proofs.Common.{◌≡◌, ℕ, zero, suc, ◌+◌, ◌<◌, ◌≤◌, List, [], ◌++◌, length, take, Option, Some, None, sym, refl, ap, ◌∙◌, append_assoc, length-append, arith}
+use Rattle.std.proofs.Common.{◌≡◌, ℕ, ◌+◌, ◌<◌, ◌≤◌, List, [], ◌++◌, length, take, Option, Some, None, sym, refl, ap, ◌∙◌, append_assoc, length-append, arith}
 use Rattle.std.specs.Option.{option_map}
 use Rattle.count_defs.specs.Counts.{raised, Rose}
 use Rattle.bench_io.specs.Stream.{SourceState, Gave, empty_calls}

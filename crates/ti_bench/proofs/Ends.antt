@@ -1,9 +1,9 @@
 -- How a run ends by its report.
-use Rattle.std.proofs.Common.{◌≡◌, ℕ, zero, ◌≤◌, List, [], length, Option, Some, None, Ok, Err, Bool, true, false, refl, sym, subst, arith, rules}
+use Rattle.std.proofs.Common.{◌≡◌, ℕ, ◌≤◌, List, [], length, Option, Some, None, Ok, Err, Bool, true, false, refl, sym, subst, arith, rules}
 use Rattle.std.specs.Prelude.{nat_lt, IsSome}
 use Rattle.std.proofs.lemmas.Bool.Decides.{nat_tests}
 use Rattle.bench_io.specs.Stream.{SourceState}
-use Rattle.bench_io.specs.ReadAll.{Took, ReadWhole, GaveUp}
+use Rattle.bench_io.specs.ReadAll.{Took, GaveUp}
 use Rattle.bench_io.specs.declared.failed.Failed.{Failed}
 use Rattle.bench_io.specs.declared.whole.ReadError.TheVariants as error
 use Rattle.bench_io.proofs.Taking.{took_none, took_from}

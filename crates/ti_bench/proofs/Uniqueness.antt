@@ -11,7 +11,7 @@ use Rattle.report_defs.specs.declared.status.Status.TheVariants as status
 use Rattle.report_defs.specs.Commands.{command_of, reads}
 use Rattle.report_defs.specs.Report.{Report, Whole, Faulty, status_of, largest_input, AcceptedReport, ReportOn}
 use Rattle.report_defs.proofs.OneReport.{one_report}
-use Rattle.ti_bench.specs.Run.{Outputs, Run, ReadsInput, Reads, ReportsOn, Reports, WroteReport, MissedReport, EndsWith, EndsBy}
+use Rattle.ti_bench.specs.Run.{Run, ReadsInput, Reads, ReportsOn, Reports, WroteReport, MissedReport, EndsBy}
 use Rattle.ti_bench.specs.Laws.{HasNoFault, read_of, Completeness, BeginAlike, OneAnswer, LawsOfRuns}
 
 -- a report on bytes that were taken is one on all bytes of the input

@@ -1,7 +1,5 @@
-use Rattle.std.proofs.Common.{◌≡◌, ◌≤◌, ◌+◌, ◌/◌, ◌-◌, length, sym, arith}
-use Rattle.std.specs.List.{flat_map, range_with_len}
+use Rattle.std.proofs.Common.{◌≡◌, ◌≤◌, ◌+◌, ◌/◌, length, arith}
 use Rattle.std.proofs.lemmas.Result.{err_from_is_err_and}
-use Rattle.bench_io.specs.Written.{Wrote}
 use Rattle.bench_io.proofs.Writing.{wrote_more, missed_more, missed_early}
 use Rattle.report_defs.specs.Rows.{row_lines, rows_lines}
 use Rattle.trace_dump.proofs.Ranges.{more, all_split}
