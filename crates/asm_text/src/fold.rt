@@ -19,9 +19,10 @@ use source_defs::ExprError;
 /// without precedence (Editor/Assembler manual, "Expressions"). `$` stands for `here`. It takes no memory.
 ///
 /// # Errors
-/// The first refusal from the left, and a term's own before that of joining it: `BadToken` for a token out of its place,
-/// a missing term and a text that is not one or two characters; `UnknownName` for a name that stands for nothing;
-/// `BadRelocation` for values that are joined in a way that their kinds do not allow; `DivideByZero`. `Memory` never comes.
+/// The first refusal from the left, and a term's own before that of joining it. `BadToken`: a token out of its place, a
+/// missing term, or a text that is not one or two characters. `UnknownName`: a name that stands for nothing.
+/// `BadRelocation`: values that are joined in a way that their kinds do not allow. `DivideByZero`: a division by 0.
+/// `TooLarge` and `Memory` never come.
 #[tactic(auto, using(crate::proofs::Inside::tokens_lie_inside))]
 pub fn value(
     tokens: &[Token],

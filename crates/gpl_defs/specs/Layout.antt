@@ -1,7 +1,7 @@
 -- Where the lines of a GPL source are placed, and the image that they make.
 --
--- Profile: each line is judged by the statements of the lines before it, of which the nearest stands first, and the first
--- refused line is the source's refusal.
+-- Profile: each line is judged by the statements of the lines before it, of which the nearest stands first, and the
+-- first refused line is the source's refusal.
 use Rattle.std.specs.Prelude.{◌≡◌, ℕ, ◌+◌, ◌==◌, Bool, true, false, nat_lt, if◌then◌else◌, List, [], ◌∷◌, ◌++◌, length, Option, Some, None, Result, Ok, Err}
 use Rattle.std.specs.FinMap.{empty}
 use Rattle.source_defs.specs.declared.text.Line.{Line}

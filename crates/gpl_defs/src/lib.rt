@@ -1,4 +1,5 @@
-//! GPL, the language of the console's GROM: its instructions and their bytes, its sources, and the image that they make.
+//! GPL, the language of the console's GROM: its instructions and their bytes, its sources, and the image that they
+//! make.
 #![tactic(auto)]
 
 mod causes;

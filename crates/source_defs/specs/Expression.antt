@@ -2,7 +2,8 @@
 --
 -- Editor/Assembler manual, "Expressions": an optional minus sign and a term, then operators with terms, which are taken
 -- from left to right without precedence.
--- Profile: the first refusal from the left is the expression's, and a term's own refusal stands before that of joining it.
+-- Profile: the first refusal from the left is the expression's, and a term's own refusal stands before that of joining
+-- it.
 use Rattle.std.specs.Prelude.{ℕ, ◌+◌, ◌-◌, ◌*◌, ◌/◌, ◌%◌, ◌==◌, Bool, false, not, ◌&&◌, nat_le, if◌then◌else◌, List, [], ◌∷◌, length, slice_range, Option, Some, None, Result, Ok, Err}
 use Rattle.source_defs.specs.declared.causes.ExprError.{ExprError}
 use Rattle.source_defs.specs.declared.causes.ExprError.TheVariants.{BadToken, UnknownName, BadRelocation, DivideByZero}
@@ -51,8 +52,8 @@ sum (Relocatable a) (Relocatable b) = Err BadRelocation
 sum (Relocatable a) (External name) = Err BadRelocation
 sum (External name) b = Err BadRelocation
 
--- Editor/Assembler manual, "Expressions": a relocatable value less an absolute one is relocatable, and less a relocatable
--- one it is absolute.
+-- Editor/Assembler manual, "Expressions": a relocatable value less an absolute one is relocatable, and less a
+-- relocatable one it is absolute.
 abbrev pub difference : Value → Value → Result Value ExprError
 difference (Absolute a) (Absolute b) = Ok (Absolute (to_word (a + 0x10000 - b)))
 difference (Relocatable a) (Absolute b) = Ok (Relocatable (to_word (a + 0x10000 - b)))

@@ -20,4 +20,5 @@ pub record IsLeastPlace (p : ℕ → Bool) (bytes : List ℕ) (from place : ℕ)
 -- the law, which is proved
 abbrev pub LeastPlacesAreLeast : Type 0
 LeastPlacesAreLeast =
-    (p : ℕ → Bool) (bytes : List ℕ) (from : ℕ) → from ≤ length bytes → IsLeastPlace p bytes from (least_place p bytes from)
+    (p : ℕ → Bool) (bytes : List ℕ) (from : ℕ) → from ≤ length bytes →
+    IsLeastPlace p bytes from (least_place p bytes from)

@@ -1,10 +1,10 @@
-use Rattle.std.proofs.Common.{◌≡◌, ◌<◌, ◌≤◌, ◌+◌, ◌-◌, ◌++◌, ◌∷◌, [], ℕ, true, not, Ok, Err, length, refl, sym, ap, ◌∙◌, arith}
+use Rattle.std.proofs.Common.{◌≡◌, ◌<◌, ◌≤◌, ◌+◌, ◌-◌, ◌++◌, ◌∷◌, [], true, not, length, sym, ap, ◌∙◌, arith}
 use Rattle.std.specs.Prelude.{map}
 use Rattle.std.specs.Result.{is_ok}
 use Rattle.std.proofs.lemmas.List.{map-append}
 use Rattle.std.proofs.lemmas.Result.{err_from_is_err_and}
-use Rattle.source_defs.specs.Tokens.{token_at, tokens_from, tokens}
-use Rattle.source_defs.proofs.TokenLaws.{token_goes, behind, behind_none, tokens_bad, tokens_more, tokens_end, tokens_follow}
+use Rattle.source_defs.specs.Tokens.{tokens}
+use Rattle.source_defs.proofs.TokenLaws.{token_goes, behind_none, tokens_bad, tokens_more, tokens_end, tokens_follow}
 use Rattle.asm_text.specs.GivenTokens.{defined_token}
 use Rattle.asm_text.proofs.scan.tokens.Goals as goal
 

@@ -1,4 +1,4 @@
-use Rattle.std.proofs.Common.{◌≡◌, sym, ap, ◌∙◌, arith}
+use Rattle.std.proofs.Common.{◌≡◌, ◌<◌, sym, ap, ◌∙◌, arith}
 use Rattle.source_defs.proofs.SymbolLaws.{found, registers_all, register_here, register_later}
 use Rattle.asm_text.proofs.symbols.register_number.Goals as goal
 
@@ -7,12 +7,14 @@ loop-number-init c = ap (found c.args.name.now) registers_all
 
 pub loop-number-preserved : goal.loop-number-preserved
 loop-number-preserved c =
-    sym (register_later c.args.name.now c.loop-number.number c.loop-number-test.true (sym c.is_register.ensures ∙ c.if-is_register.false))
+    let below : c.loop-number.number < 16 = omega arith in
+    sym (register_later c.args.name.now c.loop-number.number below (sym c.is_register.ensures ∙ c.if-is_register.false))
     ∙ c.loop-number.invariant
 
 pub returns-then-is_register : goal.returns-then-is_register
 returns-then-is_register c =
-    sym (register_here c.args.name.now c.loop-number.number c.loop-number-test.true (sym c.is_register.ensures ∙ c.if-is_register.true))
+    let below : c.loop-number.number < 16 = omega arith in
+    sym (register_here c.args.name.now c.loop-number.number below (sym c.is_register.ensures ∙ c.if-is_register.true))
     ∙ c.loop-number.invariant
 
 pub returns : goal.returns

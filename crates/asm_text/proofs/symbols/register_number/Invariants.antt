@@ -1,4 +1,4 @@
-use Rattle.std.proofs.Common.{◌≡◌, ◌≤◌}
+use Rattle.std.proofs.Common.{◌≡◌}
 use Rattle.source_defs.specs.Symbols.{registers}
 use Rattle.source_defs.proofs.SymbolLaws.{registers_from, found}
 use Rattle.asm_text.proofs.symbols.register_number.Given as goal

@@ -1,4 +1,4 @@
-use Rattle.std.proofs.Common.{◌≡◌, ◌∷◌, Ok, sym, ap, ◌∙◌}
+use Rattle.std.proofs.Common.{◌∷◌, Ok, sym, ap, ◌∙◌}
 use Rattle.source_defs.specs.Refusals.{◌>>=◌}
 use Rattle.source_defs.specs.Lines.{LinesLieInside}
 use Rattle.gpl_defs.specs.Layout.{statements_from, image_of_lines}
