@@ -1,7 +1,8 @@
 -- The operands that the code values, as the definitions have them.
 use Rattle.std.specs.Prelude.{ℕ, ◌<◌, ⊤, List, [], ◌∷◌, Option, Result, Ok, Err}
-use Rattle.std.specs.Option.{option_map}
 use Rattle.source_defs.specs.Expression as expression
+use Rattle.std.specs.declared.option.Option.TheVariants as option
+use Rattle.asm_text.specs.declared.values.Value.{Value}
 use Rattle.asm_text.specs.GivenValues.{defined_value}
 use Rattle.asm_defs.specs.declared.causes.FormError.{FormError}
 use Rattle.asm_defs.specs.SecondChecks as spec
@@ -12,7 +13,7 @@ use Rattle.asm_forms.specs.declared.up_to_two.UpToTwo.TheVariants.{None, One, Tw
 use Rattle.asm_forms.specs.declared.values.Operand.{Operand}
 use Rattle.asm_forms.specs.declared.values.Operand.TheVariants.{InRegister, ByRegister, Growing, AtAddress, AtIndexed, Number, Bit, To, Following}
 use Rattle.asm_forms.specs.declared.ranges.Ready.{Ready}
-use Rattle.asm_forms.specs.declared.ranges.Ready.TheVariants.{Located, Counted, Displaced, Followed}
+use Rattle.asm_forms.specs.declared.ranges.Ready.TheVariants.{Located, Addressed, Counted, Displaced, Followed}
 
 abbrev pub defined_operand : Operand → spec.Operand
 defined_operand (InRegister number) = spec.InRegister number
@@ -25,8 +26,16 @@ defined_operand (Bit number) = spec.Bit number
 defined_operand (To target) = spec.To target
 defined_operand (Following value) = spec.Following (defined_value value)
 
+-- the word that follows an operand, where one does
+abbrev pub no_word : Option expression.Value
+no_word = option.None
+
+abbrev pub with_word : Value → Option expression.Value
+with_word value = option.Some (defined_value value)
+
 abbrev pub defined_ready : Ready → spec.Ready
-defined_ready (Located place following) = spec.Located place (option_map defined_value following)
+defined_ready (Located place) = spec.Located place no_word
+defined_ready (Addressed place value) = spec.Located place (with_word value)
 defined_ready (Counted number) = spec.Counted number
 defined_ready (Displaced disp) = spec.Displaced disp
 defined_ready (Followed value) = spec.Followed (defined_value value)
@@ -41,7 +50,8 @@ readies_answer (Err cause) = Err cause
 
 -- the parts of an instruction have room in its word
 abbrev pub IsReady : Ready → Type 0
-IsReady (Located place following) = IsPlace place
+IsReady (Located place) = IsPlace place
+IsReady (Addressed place value) = IsPlace place
 IsReady (Counted number) = number < 16
 IsReady (Displaced disp) = ⊤
 IsReady (Followed value) = ⊤

@@ -113,7 +113,7 @@ fn place_in(ready: &Ready) -> Place
     ensures room { IsPlace result }
 {
     match ready {
-        Ready::Located(place, _) => *place,
+        Ready::Located(place) | Ready::Addressed(place, _) => *place,
         Ready::Counted(_) | Ready::Displaced(_) | Ready::Followed(_) => Place { mode: 0, reg: 0 },
     }
 }
@@ -125,6 +125,9 @@ fn count_in(ready: &Ready) -> u8
 {
     match ready {
         Ready::Counted(number) => *number,
-        Ready::Located(..) | Ready::Displaced(_) | Ready::Followed(_) => 0,
+        Ready::Located(_)
+        | Ready::Addressed(..)
+        | Ready::Displaced(_)
+        | Ready::Followed(_) => 0,
     }
 }

@@ -2,6 +2,7 @@
 
 ghost use Rattle.std.specs.Prelude.{◌≡◌, Ok, IsSome, IsOk};
 ghost use Rattle.source_defs.specs.Fields as lines;
+ghost use Rattle.source_defs.specs.Lines.{IsInside, part};
 ghost use Rattle.source_defs.specs.Symbols.{look_up};
 ghost use Rattle.asm_text.specs.GivenFields.{defined_fields};
 ghost use Rattle.asm_text.specs.GivenValues.{defined_value, IsNotExternal};
@@ -17,7 +18,7 @@ use crate::placed::{Placed, in_range_words, one_word};
 use crate::slots::slots_of;
 use crate::values::Scope;
 use asm_defs::FormError;
-use asm_text::{Fields, Symbols, Value};
+use asm_text::{Fields, Span, Symbols, Value};
 use std::alloc::Global;
 
 /// The second checks of a line of which the first checks left this, and its words.
@@ -78,16 +79,20 @@ pub fn parse_instr(
 }
 
 /// The first checks of a line with an operation.
-#[tactic(auto, using(source_defs::proofs::FieldPlaces::fields_lie_inside))]
 fn line_checks<'a>(line: &'a [u8], fields: &Fields) -> Result<Skeleton<'a>, FormError>
     requires read { lines.fields line.now ≡ Ok (defined_fields fields.now) }
     requires operation { IsSome fields.now.operation }
     ensures { skeleton_answer result ≡ first.first_checks (operation_in line.now fields.now) (operands_in line.now fields.now) }
 {
     let operation = fields.operation.unwrap();
-    let operands = fields.operands;
-    first_checks(
-        &line[operation.start..operation.end],
-        &line[operands.start..operands.end],
-    )
+    let field = part(line, fields.operands);
+    first_checks(part(line, operation), field)
+}
+
+/// A part of a line.
+fn part(line: &[u8], span: Span) -> &[u8]
+    requires { IsInside line.now span }
+    ensures { result.now ≡ part line.now span }
+{
+    &line[span.start..span.end]
 }

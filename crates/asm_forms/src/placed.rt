@@ -92,8 +92,8 @@ fn push_following(words: &mut ArrayVec<Word, 3>, ready: &Ready)
     ensures size { array_vec_len words.new ≤ array_vec_len words.old + 1 }
 {
     match ready {
-        Ready::Located(_, Some(value)) | Ready::Followed(value) => words.push(word_of(value)),
-        Ready::Located(_, None) | Ready::Counted(_) | Ready::Displaced(_) => {}
+        Ready::Addressed(_, value) | Ready::Followed(value) => words.push(word_of(value)),
+        Ready::Located(_) | Ready::Counted(_) | Ready::Displaced(_) => {}
     }
 }
 

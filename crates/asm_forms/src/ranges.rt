@@ -15,8 +15,10 @@ use console_defs::Place;
 /// An operand whose values are in their ranges.
 #[derive(Clone, Copy, Debug)]
 pub(crate) enum Ready {
-    /// A place, with the word that follows, where one does.
-    Located(Place, Option<Value>),
+    /// A place without a word that follows.
+    Located(Place),
+    /// A place with the word that follows, its address.
+    Addressed(Place, Value),
     /// A register or a count.
     Counted(u8),
     /// The displacement of a jump or of a bit.
@@ -56,7 +58,7 @@ fn ranged(here: &Value, operand: Operand) -> Result<Ready, FormError>
         Operand::InRegister(number) => by_register(0, number),
         Operand::ByRegister(number) => by_register(1, number),
         Operand::Growing(number) => by_register(3, number),
-        Operand::AtAddress(value) => Ok(Ready::Located(Place { mode: 2, reg: 0 }, Some(value))),
+        Operand::AtAddress(value) => Ok(Ready::Addressed(Place { mode: 2, reg: 0 }, value)),
         Operand::AtIndexed(value, number) => indexed(value, number),
         Operand::Number(number) => {
             let count = below_sixteen(number)?;
@@ -74,7 +76,7 @@ fn by_register(mode: u8, number: u16) -> Result<Ready, FormError>
     ensures ready { IfOk result IsReady }
 {
     let reg = below_sixteen(number)?;
-    Ok(Ready::Located(Place { mode, reg }, None))
+    Ok(Ready::Located(Place { mode, reg }))
 }
 
 fn below_sixteen(number: u16) -> Result<u8, FormError>
@@ -95,7 +97,7 @@ fn indexed(value: Value, number: u16) -> Result<Ready, FormError>
 {
     if 0 < number && number < 16 {
         let reg = number as u8;
-        Ok(Ready::Located(Place { mode: 2, reg }, Some(value)))
+        Ok(Ready::Addressed(Place { mode: 2, reg }, value))
     } else {
         Err(FormError::BadOperand)
     }
