@@ -11,11 +11,39 @@ use Rattle.console_defs.specs.declared.instruction.ShiftOp.{ShiftOp}
 use Rattle.console_defs.specs.declared.instruction.ShiftOp.TheVariants.{SRA, SRL, SLA, SRC}
 use Rattle.console_defs.specs.declared.instruction.OneOp.{OneOp}
 use Rattle.console_defs.specs.declared.instruction.OneOp.TheVariants.{
-  BLWP, B, X, CLR, NEG, INV, INC, INCT, DEC, DECT, BL, SWPB, SETO, ABS,
+  BLWP,
+  B,
+  X,
+  CLR,
+  NEG,
+  INV,
+  INC,
+  INCT,
+  DEC,
+  DECT,
+  BL,
+  SWPB,
+  SETO,
+  ABS,
 }
 use Rattle.console_defs.specs.declared.instruction.JumpOp.{JumpOp}
 use Rattle.console_defs.specs.declared.instruction.JumpOp.TheVariants.{
-  JMP, JLT, JLE, JEQ, JHE, JGT, JNE, JNC, JOC, JNO, JL, JH, JOP, SBO, SBZ, TB,
+  JMP,
+  JLT,
+  JLE,
+  JEQ,
+  JHE,
+  JGT,
+  JNE,
+  JNC,
+  JOC,
+  JNO,
+  JL,
+  JH,
+  JOP,
+  SBO,
+  SBZ,
+  TB,
 }
 use Rattle.console_defs.specs.declared.instruction.ImmOp.{ImmOp}
 use Rattle.console_defs.specs.declared.instruction.ImmOp.TheVariants.{LI, AI, ANDI, ORI, CI, STWP, STST}

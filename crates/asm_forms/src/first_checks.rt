@@ -26,10 +26,7 @@ pub(crate) enum Skeleton<'a> {
 
 /// The first checks of an operation field and an operand field.
 #[tactic(auto, unfolding(asm_defs::specs::FirstChecks::first_checks))]
-pub(crate) fn first_checks<'a>(
-    operation: &[u8],
-    field: &'a [u8],
-) -> Result<Skeleton<'a>, FormError>
+pub(crate) fn first_checks<'a>(operation: &[u8], field: &'a [u8]) -> Result<Skeleton<'a>, FormError>
     ensures { skeleton_answer result ≡ spec.first_checks operation.now field.now }
 {
     match mnemonic(operation) {

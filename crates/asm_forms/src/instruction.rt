@@ -125,9 +125,6 @@ fn count_in(ready: &Ready) -> u8
 {
     match ready {
         Ready::Counted(number) => *number,
-        Ready::Located(_)
-        | Ready::Addressed(..)
-        | Ready::Displaced(_)
-        | Ready::Followed(_) => 0,
+        Ready::Located(_) | Ready::Addressed(..) | Ready::Displaced(_) | Ready::Followed(_) => 0,
     }
 }

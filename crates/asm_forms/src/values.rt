@@ -148,7 +148,9 @@ impl Scope<'_> {
     {
         match self.value_of(text)? {
             Value::Absolute(number) => Ok(number),
-            Value::Relocatable(_) | Value::External(_) => Err(FormError::Expr(ExprError::BadRelocation)),
+            Value::Relocatable(_) | Value::External(_) => Err(FormError::Expr(
+                ExprError::BadRelocation,
+            )),
         }
     }
 

@@ -40,8 +40,8 @@ none_inside line = record { operation = tt; operands = record { in_order = omega
 
 inside_by : (long comment blank name : Bool) (line : List ℕ) (found : Fields) (label : Option (List ℕ))
     → cond long (Err LineTooLong)
-      (cond comment (Ok no_fields)
-        (cond blank (Ok (fields_after line None 0)) (cond name (Ok (fields_after line label (word_end line 0))) (Err BadLabel))))
+    (cond comment (Ok no_fields)
+    (cond blank (Ok (fields_after line None 0)) (cond name (Ok (fields_after line label (word_end line 0))) (Err BadLabel))))
     ≡ Ok found
     → LieInside line found
 inside_by true comment blank name line found label is = cc
