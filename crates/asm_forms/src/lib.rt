@@ -13,8 +13,6 @@ mod print;
 mod ranges;
 mod sizes;
 mod slots;
-#[cfg(test)]
-mod tests;
 mod text;
 mod up_to_two;
 mod values;

@@ -17,8 +17,6 @@ mod places;
 mod scan;
 mod split;
 mod symbols;
-#[cfg(test)]
-mod tests;
 mod text;
 mod token;
 mod values;

@@ -19,5 +19,3 @@ pub use steady::{SteadySink, SteadySource};
 pub use whole::{ReadError, read_all};
 pub use written::put_piece;
 
-#[cfg(test)]
-mod tests;

@@ -2,8 +2,6 @@
 #![tactic(auto)]
 
 mod bus;
-#[cfg(test)]
-mod tests;
 
 pub use bus::{Bus, is_port};
 pub use console_defs::PortStop;

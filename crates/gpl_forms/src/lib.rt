@@ -2,8 +2,6 @@
 #![tactic(auto)]
 
 mod image;
-#[cfg(test)]
-mod tests;
 mod write;
 
 pub use gpl_defs::{GplInstr, PlainOp};

@@ -2,7 +2,5 @@
 #![tactic(auto)]
 
 mod grom;
-#[cfg(test)]
-mod tests;
 
 pub use grom::{Grom, next_in_grom};

@@ -16,8 +16,6 @@ mod read;
 mod reader;
 mod spots;
 mod tags;
-#[cfg(test)]
-mod tests;
 mod write;
 mod writer;
 

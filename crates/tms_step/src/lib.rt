@@ -11,8 +11,6 @@ mod one;
 mod operand;
 mod reg;
 mod result;
-#[cfg(test)]
-mod row_tests;
 mod run;
 mod shift;
 mod status;
@@ -20,8 +18,6 @@ mod step;
 mod steps;
 mod stop;
 mod stored;
-#[cfg(test)]
-mod tests;
 mod two;
 mod writes;
 

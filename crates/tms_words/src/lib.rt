@@ -6,8 +6,6 @@ mod decoding;
 mod encoding;
 mod multiply;
 mod shift;
-#[cfg(test)]
-mod tests;
 mod words;
 
 pub use bytes::{abs8, add8, compare8, neg8, odd8, sub8};

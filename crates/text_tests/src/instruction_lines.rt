@@ -1,7 +1,7 @@
 //! Instruction lines and their words, worked out from the manual's formats.
 
-use crate::{FormError, Placed, Word, parse_instr, print_instr, size_of};
-use FormError::{BadOperand, Expr, JumpTooFar, OperandCount, UnknownOperation};
+use asm_forms::FormError::{BadOperand, Expr, JumpTooFar, OperandCount, UnknownOperation};
+use asm_forms::{FormError, Placed, Word, parse_instr, print_instr, size_of};
 use asm_text::ExprError::{BadRelocation, BadToken, DivideByZero, TooLarge, UnknownName};
 use asm_text::{Symbols, Value, fields};
 use std::alloc::Global;
@@ -136,7 +136,8 @@ const REFUSED_SECOND: &[(&str, FormError)] = &[
 /// Whether a line is read as words, none of them relocatable or external, and its size is theirs.
 fn reads_as(alloc: Global, line: &[u8], words: &[u16]) -> bool {
     match read(alloc, line) {
-        Some(Ok((size, placed))) => usize::from(size) == 2 * words.len() && are_words(&placed, words),
+        Some(Ok((size, placed))) => usize::from(size) == 2 * words.len()
+            && are_words(&placed, words),
         _ => false,
     }
 }
@@ -202,6 +203,9 @@ fn refuses_lines_by_their_first_fault(rt: HostRuntime) {
         assert!(rt; refuses_first(rt.alloc(), line.as_bytes(), cause), "{line}");
     }
     for &(line, cause) in REFUSED_SECOND {
-        assert!(rt; refuses_second(rt.alloc(), line.as_bytes(), cause), "{line}");
+        assert!(rt;
+            refuses_second(rt.alloc(), line.as_bytes(), cause),
+            "{line}"
+        );
     }
 }

@@ -5,8 +5,7 @@ ghost use Rattle.std.specs.List.{AllByRecursion};
 ghost use Rattle.object_defs.specs.Modules.{HasText, StandsEven};
 ghost use Rattle.object_tags.specs.Seen.{defined_module};
 
-use crate::spots::number_of;
-use crate::{Module, Piece, Spot, TagCause, TagError, read_modules, write_module};
+use object_tags::{Module, Piece, Spot, TagCause, TagError, read_modules, write_module};
 use std::alloc::{AllocError, Global};
 use std::test::Fail;
 
@@ -246,7 +245,8 @@ fn stand_even(words: &[Piece]) -> bool
     ensures { result ≡ true → AllByRecursion StandsEven words.now }
 {
     for word in words {
-        if number_of(word.at) % 2 != 0 {
+        let (Spot::Absolute(number) | Spot::Relocatable(number)) = word.at;
+        if number % 2 != 0 {
             return false;
         }
     }

@@ -2,13 +2,13 @@
 
 ghost use Rattle.std.specs.Prelude.{◌≡◌, ◌<◌, ◌≤◌, length};
 
-use crate::{Machine, RunEnd, Steps};
 use console_bus::Bus;
 use grom_counter::Grom;
 use std::alloc::{AllocError, Global};
 use std::marker::Brand;
 use std::sync::ledger::{Blank, Ledger};
 use std::test::Fail;
+use tms_step::{Machine, RunEnd, Steps};
 use vdp_ports::Vdp;
 
 /// A machine with the workspace at >83E0 and the words from >A000 on, where it begins. Extended operation 2 has its

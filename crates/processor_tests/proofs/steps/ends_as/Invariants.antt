@@ -1,4 +1,4 @@
-use Rattle.tms_step.proofs.tests.ends_as.Given as goal
+use Rattle.processor_tests.proofs.steps.ends_as.Given as goal
 
 abbrev pub ghosts-run : goal.ghosts-run
 ghosts-run a = record { name = a.blank.name; parts = a.blank.parts }

@@ -1,4 +1,7 @@
-use super::*;
+use bench_io::{
+    Failed, MemSink, MemSource, ReadError, Sink, Source, StdSink, StdSource, SteadySink,
+    SteadySource, put_piece, read_all,
+};
 use std::alloc::{AllocError, Global};
 use std::io;
 use std::io::{ErrorKind, Read, Write};

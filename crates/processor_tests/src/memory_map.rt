@@ -1,6 +1,6 @@
 //! The memory map, worked out by hand.
 
-use crate::{Bus, PortStop, is_port};
+use console_bus::{Bus, PortStop, is_port};
 use grom_counter::Grom;
 use std::alloc::{AllocError, Global};
 use std::test::Fail;

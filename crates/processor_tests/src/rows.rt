@@ -2,11 +2,11 @@
 
 ghost use Rattle.std.specs.Prelude.{◌<◌};
 
-use crate::{Machine, StepEnd};
 use console_bus::Bus;
 use grom_counter::Grom;
 use std::alloc::{AllocError, Global};
 use std::test::Fail;
+use tms_step::{Machine, StepEnd};
 use vdp_ports::Vdp;
 
 /// A machine at the words from >A002 on, with the workspace at >2000, registers 0 to 3 and a status: a return from a

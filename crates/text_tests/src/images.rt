@@ -1,6 +1,6 @@
 //! What an image shows after some writes, and the byte of an instruction.
 
-use crate::{GplInstr, GromImage, PlainOp, write_instr};
+use gpl_forms::{GplInstr, GromImage, PlainOp, write_instr};
 use std::test::Fail;
 
 /// Writes, each with the written bytes after it, the lowest of their addresses first.

@@ -2,7 +2,7 @@
 
 ghost use Rattle.std.specs.Prelude.{◌<◌, ◌^◌, length};
 
-use crate::{
+use asm_text::{
     DefineError, ExprError, Name, Symbols, TextError, Value, fields, is_word, lines, tokens, value,
 };
 use std::alloc::Global;

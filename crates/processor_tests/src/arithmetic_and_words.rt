@@ -1,11 +1,11 @@
 //! Results, status bits and instruction words that were worked out from the manual.
 
-use crate::{
+use tms_words::ShiftOp::{SLA, SRA, SRC, SRL};
+use tms_words::{
     BareOp, Flags, ImmOp, Instr, JumpOp, OneOp, Out8, Out16, Place, RegOp, ShiftOp, TwoOp, abs8,
     abs16, add8, add16, compare8, compare16, decode, div16, encode, mul16, neg8, neg16, odd8,
     shift16, sub8, sub16,
 };
-use ShiftOp::{SLA, SRA, SRC, SRL};
 
 /// An operation of arithmetic.
 #[derive(Clone, Copy, Debug)]

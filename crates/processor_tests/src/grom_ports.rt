@@ -1,7 +1,7 @@
 //! Cases of the three ports, worked out by hand from their rules.
 
-use crate::tests::Access::{ReadAddress, ReadData, WriteAddress};
-use crate::{Grom, next_in_grom};
+use crate::grom_ports::Access::{ReadAddress, ReadData, WriteAddress};
+use grom_counter::{Grom, next_in_grom};
 use std::alloc::{AllocError, Global};
 use std::test::Fail;
 

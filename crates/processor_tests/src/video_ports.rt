@@ -1,9 +1,9 @@
 //! Cases of the four ports, worked out by hand from their rules.
 
-use crate::Vdp;
-use crate::tests::Access::{ReadData, ReadStatus, WriteAddress, WriteData};
+use crate::video_ports::Access::{ReadData, ReadStatus, WriteAddress, WriteData};
 use std::alloc::{AllocError, Global};
 use std::test::Fail;
+use vdp_ports::Vdp;
 
 /// An access to a port; a read has the byte that it is to give.
 #[derive(Clone, Copy)]

@@ -1,0 +1,14 @@
+//! Cases of lines, expressions, instruction lines, object text, images and streams, worked out by hand. The crate holds tests
+//! alone, so that the crates below it are proved once.
+#![tactic(auto)]
+
+#[cfg(test)]
+mod expressions;
+#[cfg(test)]
+mod images;
+#[cfg(test)]
+mod instruction_lines;
+#[cfg(test)]
+mod object_text;
+#[cfg(test)]
+mod streams;
