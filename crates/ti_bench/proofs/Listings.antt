@@ -44,15 +44,22 @@ word_of (suc n) (a ∷ b ∷ rest) lt =
     let f : 2 * suc n + 1 ≡ suc (suc (2 * n + 1)) = omega arith in
     rw (f, e) (word_of n rest (omega arith))
 
--- the first three words are all of them, where there are fewer
-pub front_three : (count : ℕ) (bytes : List ℕ) → count ≡ min (length bytes / 2) 3 → take count (words_in bytes) ≡ take 3 (words_in bytes)
-front_three count bytes is = by (nat_lt 3 (length bytes / 2)) refl
-  where
-    by : (many : Bool) → nat_lt 3 (length bytes / 2) ≡ many → take count (words_in bytes) ≡ take 3 (words_in bytes)
-    by true above = let e : count ≡ 3 = grind (arith, nat_tests) in ap (λ n. take n (words_in bytes)) e
-    by false below =
-        let few : length bytes / 2 ≤ 3 = grind (arith, nat_tests) in
-        take_all count (words_in bytes) (omega (arith, words_length bytes)) ∙ sym (take_all 3 (words_in bytes) (omega (arith, words_length bytes)))
+-- there is no word behind them
+pub no_word : (number : ℕ) (bytes : List ℕ) → length bytes ≤ 2 * number + 1 → get_or (words_in bytes) number 0 ≡ 0
+no_word number [] le = refl
+no_word number (a ∷ []) le = refl
+no_word zero (a ∷ b ∷ rest) le = absurd (omega arith)
+no_word (suc n) (a ∷ b ∷ rest) le = no_word n rest (omega arith)
+
+-- the first three words, of which there may be fewer
+front_three : (words : List ℕ) → take (min (length words) 3) (get_or words 0 0 ∷ get_or words 1 0 ∷ get_or words 2 0 ∷ []) ≡ take 3 words
+front_three [] = refl
+front_three (a ∷ []) = refl
+front_three (a ∷ b ∷ []) = refl
+front_three (a ∷ b ∷ c ∷ rest) = let e : min (length (a ∷ b ∷ c ∷ rest)) 3 ≡ 3 = omega arith in rw e refl
+
+pub three_words : (bytes : List ℕ) (count a b c : ℕ) → count ≡ min (length bytes / 2) 3 → a ≡ get_or (words_in bytes) 0 0 → b ≡ get_or (words_in bytes) 1 0 → c ≡ get_or (words_in bytes) 2 0 → take count (a ∷ b ∷ c ∷ []) ≡ take 3 (words_in bytes)
+three_words bytes count a b c is p q r = rw (is, p, q, r, ← words_length bytes) (front_three (words_in bytes))
 
 -- the words that belong to an instruction before them have no line of their own
 skipped : (n at : ℕ) (words : List ℕ) → lines_from at n words ≡ lines_from (at + 2 * n) 0 (drop n words)

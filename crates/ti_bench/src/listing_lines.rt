@@ -6,7 +6,7 @@ ghost use Rattle.asm_defs.specs.Printed.{printed};
 ghost use Rattle.bench_io.specs.Written.{Written};
 ghost use Rattle.report_defs.specs.Listing as spec;
 
-use arrayvec::{ArrayString, ArrayVec};
+use arrayvec::ArrayString;
 use asm_forms::print_instr;
 use asm_text::byte_digits;
 use bench_io::{Failed, Sink, put_piece};
@@ -35,28 +35,30 @@ pub(crate) fn put_instructions<O: Sink>(at: u16, bytes: &[u8], out: &mut O) -> R
       Written result (O.state out.old) (O.state out.new) (spec.lines_from at 0 (spec.words_in bytes.now))
     }
 {
+    let mut line = Line::new();
     let mut place = 0;
     while place + 1 < bytes.len() {
-        let (line, count) = front_line(&bytes[place..], at + place as u16);
+        let count = make_front_line(&mut line, &bytes[place..], at + place as u16);
         put_piece(out, line.as_slice())?;
         place += 2 * usize::from(count);
     }
     Ok(())
 }
 
-/// The line of the instruction at the front of some bytes, or of DATA with their first word; and how many words it has.
+/// Makes the line of the instruction at the front of some bytes, or of DATA with their first word, whatever the line held;
+/// and says how many words it has.
 #[tactic(auto, using(std::proofs::Common::append_assoc))]
-fn front_line(bytes: &[u8], at: u16) -> (Line, u8)
+fn make_front_line(line: &mut Line, bytes: &[u8], at: u16) -> u8
     requires { 1 < length bytes.now }
-    ensures line { result.0.items ≡ spec.listing_line (printed (spec.words_in bytes.now) at).text }
-    ensures count { result.1 ≡ (printed (spec.words_in bytes.now) at).count }
+    ensures line { line.new.items ≡ spec.listing_line (printed (spec.words_in bytes.now) at).text }
+    ensures count { result ≡ (printed (spec.words_in bytes.now) at).count }
 {
     let (text, count) = front_text(bytes, at);
-    let mut line = Line::new();
-    append(&mut line, MARGIN);
-    append(&mut line, text.as_bytes());
+    line.clear();
+    append(line, MARGIN);
+    append(line, text.as_bytes());
     line.push(b'\n');
-    (line, count)
+    count
 }
 
 /// The text of the instruction at the front of some bytes, or of DATA with their first word; and how many words it has.
@@ -65,26 +67,19 @@ fn front_text(bytes: &[u8], at: u16) -> (ArrayString<64>, u8)
     ensures text { result.0.bytes ≡ (printed (spec.words_in bytes.now) at).text }
     ensures count { result.1 ≡ (printed (spec.words_in bytes.now) at).count }
 {
-    print_instr(front_words(bytes).as_slice(), at)
+    let words = [word_at(bytes, 0), word_at(bytes, 1), word_at(bytes, 2)];
+    print_instr(&words[..(bytes.len() / 2).min(3)], at)
 }
 
-/// The first words that bytes hold, three at most.
-fn front_words(bytes: &[u8]) -> ArrayVec<u16, 3>
-    ensures { result.items ≡ take 3 (spec.words_in bytes.now) }
-{
-    let mut words = ArrayVec::new();
-    for number in 0..(bytes.len() / 2).min(3) {
-        words.push(word_at(bytes, number));
-    }
-    words
-}
-
-/// The word with a number, from 0, of the words that bytes hold.
-#[tactic(auto, using(crate::proofs::Listings::word_of))]
+/// The word with a number, from 0, of the words that bytes hold; or 0 behind them.
+#[tactic(auto, using(crate::proofs::Listings::word_of, crate::proofs::Listings::no_word))]
 fn word_at(bytes: &[u8], number: usize) -> u16
-    requires { 2 * number + 1 < length bytes.now }
+    requires { number ≤ 2 }
     ensures { result ≡ slice_index (spec.words_in bytes.now) number }
 {
+    if 2 * number + 1 >= bytes.len() {
+        return 0;
+    }
     256 * u16::from(bytes[2 * number]) + u16::from(bytes[2 * number + 1])
 }
 
