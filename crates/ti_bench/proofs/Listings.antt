@@ -133,7 +133,7 @@ listed_missed at place bytes a b c some listed missed =
     let all = listed.rest ∙ ap (λ lines. listed.lines ++ lines) (next_line at place bytes some) in
     rw all
     (missed_more a b c listed.lines (listing_line front.text ∷ lines_from (at + (place + 2 * front.count)) 0 (words_in (drop (place + 2 * front.count) bytes))) listed.wrote
-      (missed_early b c (listing_line front.text ∷ []) (lines_from (at + (place + 2 * front.count)) 0 (words_in (drop (place + 2 * front.count) bytes))) missed))
+    (missed_early b c (listing_line front.text ∷ []) (lines_from (at + (place + 2 * front.count)) 0 (words_in (drop (place + 2 * front.count) bytes))) missed))
 
 few_words : (at : ℕ) (bytes : List ℕ) → length bytes ≤ 1 → lines_from at 0 (words_in bytes) ≡ []
 few_words at [] few = refl

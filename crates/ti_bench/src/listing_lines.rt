@@ -6,7 +6,6 @@ ghost use Rattle.asm_defs.specs.Printed.{printed};
 ghost use Rattle.bench_io.specs.Written.{Written};
 ghost use Rattle.report_defs.specs.Listing as spec;
 
-use arrayvec::ArrayString;
 use asm_forms::print_instr;
 use asm_text::byte_digits;
 use bench_io::{Failed, Sink, put_piece};
@@ -31,9 +30,7 @@ pub(crate) fn origin_line(at: u16) -> Line
 #[tactic(auto, using(bench_io::proofs::Writing::wrote_none))]
 pub(crate) fn put_instructions<O: Sink>(at: u16, bytes: &[u8], out: &mut O) -> Result<(), Failed>
     requires { at + length bytes.now ≤ 65536 }
-    ensures {
-      Written result (O.state out.old) (O.state out.new) (spec.lines_from at 0 (spec.words_in bytes.now))
-    }
+    ensures { Written result (O.state out.old) (O.state out.new) (spec.lines_from at 0 (spec.words_in bytes.now)) }
 {
     let mut line = Line::new();
     let mut place = 0;
@@ -47,28 +44,18 @@ pub(crate) fn put_instructions<O: Sink>(at: u16, bytes: &[u8], out: &mut O) -> R
 
 /// Makes the line of the instruction at the front of some bytes, or of DATA with their first word, whatever the line held;
 /// and says how many words it has.
-#[tactic(auto, using(std::proofs::Common::append_assoc))]
 fn make_front_line(line: &mut Line, bytes: &[u8], at: u16) -> u8
     requires { 1 < length bytes.now }
     ensures line { line.new.items ≡ spec.listing_line (printed (spec.words_in bytes.now) at).text }
     ensures count { result ≡ (printed (spec.words_in bytes.now) at).count }
 {
-    let (text, count) = front_text(bytes, at);
+    let words = [word_at(bytes, 0), word_at(bytes, 1), word_at(bytes, 2)];
+    let (text, count) = print_instr(&words[..(bytes.len() / 2).min(3)], at);
     line.clear();
     append(line, MARGIN);
     append(line, text.as_bytes());
     line.push(b'\n');
     count
-}
-
-/// The text of the instruction at the front of some bytes, or of DATA with their first word; and how many words it has.
-fn front_text(bytes: &[u8], at: u16) -> (ArrayString<64>, u8)
-    requires { 1 < length bytes.now }
-    ensures text { result.0.bytes ≡ (printed (spec.words_in bytes.now) at).text }
-    ensures count { result.1 ≡ (printed (spec.words_in bytes.now) at).count }
-{
-    let words = [word_at(bytes, 0), word_at(bytes, 1), word_at(bytes, 2)];
-    print_instr(&words[..(bytes.len() / 2).min(3)], at)
 }
 
 /// The word with a number, from 0, of the words that bytes hold; or 0 behind them.

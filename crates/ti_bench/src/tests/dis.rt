@@ -37,17 +37,27 @@ fn lists(alloc: Global, at: &[u8], bytes: &[u8], listing: &[u8]) -> Result<bool,
         expected.extend_from_slice(b"       ")?;
         expected.extend_from_slice(line)?;
     }
-    Ok(ended.status == Status::Done
-        && ended.out.bytes() == expected.as_slice()
-        && ended.err.bytes().is_empty())
+    Ok(
+        ended.status == Status::Done
+            && ended.out.bytes() == expected.as_slice()
+            && ended.err.bytes().is_empty(),
+    )
 }
 
 /// Whether three bytes from >FFFE on are refused.
 fn refuses_past_the_end(alloc: Global) -> Result<bool, AllocError> {
-    let ended = run(alloc, &[b"dis", b"FFFE"], b"\x00\x00\x00".to_vec(alloc)?, &[], &[])?;
-    Ok(ended.status == Status::Refused
-        && ended.out.bytes().is_empty()
-        && ended.err.bytes() == b"past the end of memory\n".as_slice())
+    let ended = run(
+        alloc,
+        &[b"dis", b"FFFE"],
+        b"\x00\x00\x00".to_vec(alloc)?,
+        &[],
+        &[],
+    )?;
+    Ok(
+        ended.status == Status::Refused
+            && ended.out.bytes().is_empty()
+            && ended.err.bytes() == b"past the end of memory\n".as_slice(),
+    )
 }
 
 #[test]

@@ -15,7 +15,7 @@ returns-in_err-put_piece g c =
     let missed = rw (c.as_slice.ensures.value, c.origin_line.ensures) at c.in_err-put_piece.ensures in
     rw p.1
     (missed_early _ _ (listing_line (codes "AORG " ++ marked_word at) ∷ [])
-      (lines_from at 0 (words_in bytes) ++ (odd_byte_lines bytes ++ listing_line (codes "END") ∷ [])) missed)
+    (lines_from at 0 (words_in bytes) ++ (odd_byte_lines bytes ++ listing_line (codes "END") ∷ [])) missed)
 
 pub returns-in_err-put_instructions : goal.returns-in_err-put_instructions
 unfolding memory_listing
@@ -28,7 +28,7 @@ returns-in_err-put_instructions g c =
     let missed = rw c.as_slice-bytes.ensures.value at c.in_err-put_instructions.ensures in
     rw p.1
     (missed_more _ _ _ (listing_line (codes "AORG " ++ marked_word at) ∷ []) _ wrote
-      (missed_early _ _ (lines_from at 0 (words_in bytes)) (odd_byte_lines bytes ++ listing_line (codes "END") ∷ []) missed))
+    (missed_early _ _ (lines_from at 0 (words_in bytes)) (odd_byte_lines bytes ++ listing_line (codes "END") ∷ []) missed))
 
 pub returns-in_err-put_odd_byte : goal.returns-in_err-put_odd_byte
 unfolding memory_listing
@@ -42,8 +42,8 @@ returns-in_err-put_odd_byte g c =
     let missed = rw c.as_slice-bytes.ensures.value at c.in_err-put_odd_byte.ensures in
     rw p.1
     (missed_more _ _ _ (listing_line (codes "AORG " ++ marked_word at) ∷ []) _ wrote
-      (missed_more _ _ _ (lines_from at 0 (words_in bytes)) _ words
-        (missed_early _ _ (odd_byte_lines bytes) (listing_line (codes "END") ∷ []) missed)))
+    (missed_more _ _ _ (lines_from at 0 (words_in bytes)) _ words
+    (missed_early _ _ (odd_byte_lines bytes) (listing_line (codes "END") ∷ []) missed)))
 
 pub returns : goal.returns
 unfolding memory_listing
@@ -55,4 +55,4 @@ returns g c =
     let odd = rw c.as_slice-bytes.ensures.value at c.in_ok-put_odd_byte.ensures in
     written_more _ _ _ _ (listing_line (codes "AORG " ++ marked_word at) ∷ []) _ wrote
     (written_more _ _ _ _ (lines_from at 0 (words_in bytes)) _ words
-      (written_more _ _ _ _ (odd_byte_lines bytes) (listing_line (codes "END") ∷ []) odd c.put_piece-2.ensures))
+    (written_more _ _ _ _ (odd_byte_lines bytes) (listing_line (codes "END") ∷ []) odd c.put_piece-2.ensures))
