@@ -29,7 +29,7 @@ pub use crate::laws::{fields_of_a_line, least_places, lines_of_a_text};
 pub use crate::line_fields::Fields;
 pub use crate::line_iter::Lines;
 pub use crate::name::Name;
-pub use crate::numbers::{decimal_up_to, number};
+pub use crate::numbers::{decimal_up_to, hexadecimal_number, number};
 pub use crate::operand_field::operands;
 pub use crate::operand_iter::Operands;
 pub use crate::scan::tokens;

@@ -36,8 +36,8 @@ pub fn decimal_up_to(digits: &[u8], limit: u32) -> Option<u32>
     Some(value)
 }
 
-/// The number of one to four hexadecimal digits.
-pub(crate) fn hexadecimal_number(digits: &[u8]) -> Option<u16>
+/// The number of one to four hexadecimal digits, each of either case.
+pub fn hexadecimal_number(digits: &[u8]) -> Option<u16>
     ensures { result ≡ spec.hexadecimal_number digits.now }
 {
     if digits.is_empty() || digits.len() > 4 {

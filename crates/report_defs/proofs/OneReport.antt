@@ -10,7 +10,7 @@ use Rattle.console_defs.specs.Machine.{MachineState, new_machine}
 use Rattle.console_defs.specs.Runs.{IsRun, end_at, after}
 use Rattle.console_defs.specs.declared.ends.RunEnd.{RunEnd}
 use Rattle.report_defs.specs.declared.command.Command.{Command}
-use Rattle.report_defs.specs.declared.command.Command.TheVariants.{Gasm, Exec}
+use Rattle.report_defs.specs.declared.command.Command.TheVariants.{Gasm, Dis, Exec}
 use Rattle.report_defs.specs.Exec.{HoldsProgram, IsStart, Executes, exec_lines, end_status}
 use Rattle.report_defs.specs.declared.fault.Fault.TheVariants.{TooLarge, PastEnd}
 use Rattle.report_defs.specs.Report.{Report, Whole, Faulty, ReportsRun, AcceptedReport, largest_input, largest_program}
@@ -92,6 +92,7 @@ one_by false fault first second Other one p q = one first second p q
 
 one_accepted : (command : Command) (input : List ℕ) (first second : Report) → AcceptedReport command input first → AcceptedReport command input second → first ≡ second
 one_accepted Gasm input first second p q = p ∙ sym q
+one_accepted (Dis at) input first second p q = p ∙ sym q
 one_accepted (Exec limit) input first second p q =
     one_by (nat_lt largest_program (length input)) (Faulty PastEnd) first second (ReportsRun limit input) (one_run_report limit input) p q
 

@@ -1,10 +1,10 @@
 -- The words of the command line.
-use Rattle.std.specs.Prelude.{ℕ, ◌==◌, Bool, true, ◌&&◌, nat_eq, nat_lt, nat_le, if◌then◌else◌, List, [], ◌∷◌, length, slice_index, codes, Option, Some, None}
-use Rattle.std.specs.Option.{option_map}
+use Rattle.std.specs.Prelude.{ℕ, ◌==◌, ◌%◌, Bool, true, ◌&&◌, nat_eq, nat_lt, nat_le, if◌then◌else◌, List, [], ◌∷◌, length, slice_index, codes, Option, Some, None}
+use Rattle.std.specs.Option.{option_map, option_and_then}
 use Rattle.std.specs.Cmp.Lexicographic.{pointwise}
-use Rattle.source_defs.specs.Numbers.{all_digits, value_after}
+use Rattle.source_defs.specs.Numbers.{all_digits, value_after, hexadecimal_number}
 use Rattle.report_defs.specs.declared.command.Command.{Command}
-use Rattle.report_defs.specs.declared.command.Command.TheVariants.{Gasm, Exec}
+use Rattle.report_defs.specs.declared.command.Command.TheVariants.{Gasm, Dis, Exec}
 
 abbrev pub same_word : List ℕ → List ℕ → Bool
 same_word word name = pointwise nat_eq word name
@@ -28,14 +28,29 @@ most_instructions = 10000000
 abbrev pub exec_command : List ℕ → Option Command
 exec_command word = option_map Exec (number_word most_instructions word)
 
+-- Profile: an address is four hexadecimal digits of either case.
+abbrev pub address_word : List ℕ → Option ℕ
+address_word word = if length word == 4 then hexadecimal_number word else None
+
+-- Profile: a listing of memory begins at an even address.
+abbrev pub dis_at : ℕ → Option Command
+dis_at address = if address % 2 == 0 then Some (Dis address) else None
+
+abbrev pub dis_command : List ℕ → Option Command
+dis_command word = option_and_then dis_at (address_word word)
+
 -- Profile: words in any other shape are no command.
 abbrev pub command_of : List (List ℕ) → Option Command
 command_of [] = None
 command_of (name ∷ []) = if same_word name (codes "gasm") then Some Gasm else None
-command_of (name ∷ word ∷ []) = if same_word name (codes "exec") then exec_command word else None
+command_of (name ∷ word ∷ []) =
+    if same_word name (codes "exec") then exec_command word
+    else if same_word name (codes "dis") then dis_command word
+    else None
 command_of (name ∷ word ∷ next ∷ others) = None
 
 -- Profile: each command reads its input.
 abbrev pub reads : Command → Bool
 reads Gasm = true
+reads (Dis at) = true
 reads (Exec limit) = true

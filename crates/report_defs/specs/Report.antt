@@ -1,5 +1,5 @@
 -- What a command reports on its input.
-use Rattle.std.specs.Prelude.{◌≡◌, ℕ, nat_lt, List, [], ◌∷◌, length, Result, Ok, Err, MatchBool}
+use Rattle.std.specs.Prelude.{◌≡◌, ℕ, ◌+◌, nat_lt, if◌then◌else◌, List, [], ◌∷◌, length, Result, Ok, Err, MatchBool}
 use Rattle.console_defs.specs.Machine.{MachineState}
 use Rattle.console_defs.specs.declared.ends.RunEnd.{RunEnd}
 use Rattle.source_defs.specs.Refusals.{Refusal}
@@ -7,12 +7,13 @@ use Rattle.gpl_defs.specs.declared.causes.GplCause.{GplCause}
 use Rattle.gpl_defs.specs.Image.{Image, written_bytes}
 use Rattle.gpl_defs.specs.Layout.{image_of_source}
 use Rattle.report_defs.specs.declared.command.Command.{Command}
-use Rattle.report_defs.specs.declared.command.Command.TheVariants.{Gasm, Exec}
+use Rattle.report_defs.specs.declared.command.Command.TheVariants.{Gasm, Dis, Exec}
 use Rattle.report_defs.specs.declared.status.Status.{Status}
 use Rattle.report_defs.specs.declared.status.Status.TheVariants.{Done}
 use Rattle.report_defs.specs.declared.fault.Fault.{Fault}
 use Rattle.report_defs.specs.declared.fault.Fault.TheVariants.{TooLarge, PastEnd, Gpl}
 use Rattle.report_defs.specs.FaultLine.{fault_status}
+use Rattle.report_defs.specs.Listing.{memory_listing}
 use Rattle.report_defs.specs.Exec.{Executes, exec_lines, end_status}
 
 -- The pieces that standard output gets, each by one write, with the status; or the fault whose line standard error
@@ -39,6 +40,12 @@ abbrev pub gasm_report : Result Image (Refusal GplCause) → Report
 gasm_report (Ok image) = Whole Done (one_piece (written_bytes image))
 gasm_report (Err refused) = Faulty (Gpl refused.line refused.cause)
 
+-- The report of dis is the listing of its input from an address on.
+-- Profile: an input that runs past >FFFF is refused.
+abbrev pub dis_report : ℕ → List ℕ → Report
+dis_report at input =
+    if nat_lt 65536 (at + length input) then Faulty PastEnd else Whole Done (memory_listing at input)
+
 -- the report of a run of the machine
 pub record ReportsRun (limit : ℕ) (input : List ℕ) (report : Report) : Type 0 where
   pub ending : RunEnd
@@ -52,6 +59,7 @@ largest_program = 24576
 
 abbrev pub AcceptedReport : Command → List ℕ → Report → Type 0
 AcceptedReport Gasm input report = report ≡ gasm_report (image_of_source input)
+AcceptedReport (Dis at) input report = report ≡ dis_report at input
 AcceptedReport (Exec limit) input report =
     MatchBool (nat_lt largest_program (length input)) (report ≡ Faulty PastEnd) (ReportsRun limit input report)
 

@@ -22,6 +22,7 @@ use Rattle.ti_bench.specs.Run.{Outputs, Run, ReadsInput, Reads, TakesWhole, Repo
 -- a report that was written ends by its status
 written_ends : (o : Outputs) (report : Report) → WroteReport o (defined_report report) → EndsWith o (defined_report report) (spec.status_of (defined_report report))
 written_ends o (made.Image image) wrote = (refl, wrote)
+written_ends o (made.Listing listing) wrote = (refl, wrote)
 written_ends o (made.Run Reached machine) wrote = (refl, wrote)
 written_ends o (made.Run Limit machine) wrote = (refl, wrote)
 written_ends o (made.Run (Refused address) machine) wrote = (refl, wrote)

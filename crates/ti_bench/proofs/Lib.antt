@@ -1,3 +1,4 @@
+pub mod Listings
 pub mod Ends
 pub mod Loading
 pub mod Uniqueness

@@ -48,7 +48,7 @@ pub fn bench<S: Source, O: Sink, E: Sink>(
         Err(ReadError::Fault) => return Status::ReadFault,
         Err(ReadError::Memory) => return Status::Memory,
     };
-    match make_report(alloc, command, bytes.as_slice()) {
+    match make_report(alloc, command, bytes) {
         Ok(report) => report.finish(out, err),
         Err(AllocError) => Status::Memory,
     }

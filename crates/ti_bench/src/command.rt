@@ -4,7 +4,7 @@ ghost use Rattle.std.specs.Prelude.{◌≡◌, ◌≤◌};
 ghost use Rattle.report_defs.specs.Commands as spec;
 
 use crate::words::Words;
-use asm_text::decimal_up_to;
+use asm_text::{decimal_up_to, hexadecimal_number};
 use report_defs::Command;
 
 /// The most instructions that `exec` makes.
@@ -20,8 +20,30 @@ pub(crate) fn read_command(words: &Words) -> Option<Command>
             let limit = number_word(limit.as_slice(), MOST_INSTRUCTIONS)?;
             Some(Command::Exec { limit })
         }
+        [name, address] if name.as_slice() == b"dis".as_slice() => dis_at(address.as_slice()),
         _ => None,
     }
+}
+
+/// The command `dis` with an address, where that is an even one.
+fn dis_at(word: &[u8]) -> Option<Command>
+    ensures { result ≡ spec.dis_command word.now }
+{
+    let at = address_word(word)?;
+    if at % 2 != 0 {
+        return None;
+    }
+    Some(Command::Dis { at })
+}
+
+/// The address that a word spells by four hexadecimal digits of either case.
+fn address_word(word: &[u8]) -> Option<u16>
+    ensures { result ≡ spec.address_word word.now }
+{
+    if word.len() != 4 {
+        return None;
+    }
+    hexadecimal_number(word)
 }
 
 /// The number that a word spells by decimal digits without a leading zero, where it is not above a limit.

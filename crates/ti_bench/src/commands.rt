@@ -1,12 +1,14 @@
 //! The commands, each by its report.
 
+mod dis;
 mod exec;
 mod gasm;
 
-ghost use Rattle.std.specs.Prelude.{◌≤◌, length, IfOk};
+ghost use Rattle.std.specs.Prelude.{◌≤◌, vec_len, IfOk};
 ghost use Rattle.report_defs.specs.Report as spec;
 ghost use Rattle.ti_bench.specs.Made.{defined_report};
 
+use crate::commands::dis::dis;
 use crate::commands::exec::exec;
 use crate::commands::gasm::gasm;
 use crate::report::Report;
@@ -17,13 +19,14 @@ use std::alloc::{AllocError, Global};
 pub(crate) fn make_report(
     alloc: Global,
     command: Command,
-    input: &[u8],
+    input: Vec<u8>,
 ) -> Result<Report, AllocError>
-    requires { length input.now ≤ spec.largest_input }
-    ensures { IfOk result (λ report. spec.ReportOn command input.now (defined_report report)) }
+    requires { vec_len input ≤ spec.largest_input }
+    ensures { IfOk result (λ report. spec.ReportOn command input.items (defined_report report)) }
 {
     match command {
-        Command::Gasm => gasm(alloc, input),
-        Command::Exec { limit } => exec(alloc, limit, input),
+        Command::Gasm => gasm(alloc, input.as_slice()),
+        Command::Dis { at } => Ok(dis(at, input)),
+        Command::Exec { limit } => exec(alloc, limit, input.as_slice()),
     }
 }

@@ -6,6 +6,8 @@ mod command;
 mod commands;
 mod fault_line;
 mod input;
+mod listing;
+mod listing_lines;
 mod report;
 #[cfg(test)]
 mod tests;

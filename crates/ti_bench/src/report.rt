@@ -10,6 +10,7 @@ ghost use Rattle.ti_bench.specs.Made.{defined_report};
 ghost use Rattle.ti_bench.specs.Run.{WrittenReport, EndsWith};
 
 use crate::fault_line::fault_line;
+use crate::listing::Listing;
 use bench_io::{Failed, Sink, put_piece};
 use console_defs::RunEnd;
 use gpl_forms::GromImage;
@@ -22,6 +23,8 @@ use trace_dump::{Line, append, append_word, dump};
 pub(crate) enum Report {
     /// An image, whose bytes go to standard output by one call.
     Image(GromImage),
+    /// Raw bytes in memory, whose listing goes to standard output line by line.
+    Listing(Listing),
     /// A run of the machine, whose end and whose dump go to standard output line by line.
     Run {
         /// What ended the run.
@@ -61,6 +64,7 @@ impl Report {
     {
         match self {
             Report::Image(image) => put_image(out, image.written()),
+            Report::Listing(listing) => listing.write(out),
             Report::Run { ending, machine } => put_run(out, *ending, machine),
             Report::Fault(fault) => put_piece(err, fault_line(*fault).as_slice()),
         }
@@ -71,7 +75,7 @@ impl Report {
         ensures { result ≡ spec.status_of (defined_report self.now) }
     {
         match self {
-            Report::Image(_) => Status::Done,
+            Report::Image(_) | Report::Listing(_) => Status::Done,
             Report::Run { ending, .. } => end_status(*ending),
             Report::Fault(fault) => fault_status(*fault),
         }

@@ -53,6 +53,6 @@ returns-in-Ok-make_report-clause-ends g c =
     } in
     let bytes = c.in-Ok.bytes.items in
     let report = defined_report c.in-Ok-make_report.report in
-    let on : ReportOn command bytes report = rw c.as_slice.ensures.value at c.in-Ok-make_report.ensures in
+    let on : ReportOn command bytes report = c.in-Ok-make_report.ensures in
     let read : ReportsOn (Some command) run report = (bytes, reads_whole (reads command) run.input run.input' bytes c.in-Ok.ensures.ok, on) in
     by_report run report finish.result (reports_by run command report c.in-Some.ensures read) finish.ensures

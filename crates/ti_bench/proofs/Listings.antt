@@ -1,0 +1,171 @@
+-- The lines of a listing, one after the other.
+use Rattle.std.proofs.Common.{◌≡◌, ℕ, zero, suc, ◌+◌, ◌-◌, ◌*◌, ◌/◌, ◌%◌, ◌<◌, ◌≤◌, List, [], ◌∷◌, ◌++◌, length, min, take, take_all, drop, get_or, Bool, true, false, refl, sym, ap, ◌∙◌, append_assoc, append-nil, drop-drop, length-drop, arith}
+use Rattle.std.specs.Prelude.{codes, nat_lt}
+use Rattle.std.proofs.lemmas.Bool.Decides.{nat_tests}
+use Rattle.bench_io.specs.Stream.{SinkState}
+use Rattle.bench_io.specs.Written.{Wrote, Missed}
+use Rattle.bench_io.proofs.Writing.{wrote_none, wrote_more, missed_more, missed_early}
+use Rattle.source_defs.specs.Digits.{marked_byte}
+use Rattle.console_defs.specs.Words.{join}
+use Rattle.asm_defs.specs.Printed.{printed}
+use Rattle.asm_defs.proofs.Windows.{count_within}
+use Rattle.report_defs.specs.Listing.{listing_line, words_in, lines_from, odd_byte_lines}
+
+abbrev nothing : List ℕ
+nothing = []
+
+drop_none : (n : ℕ) → drop n nothing ≡ nothing
+drop_none zero = refl
+drop_none (suc n) = refl
+
+-- two bytes fewer are one word less
+pub words_behind : (n : ℕ) (bytes : List ℕ) → words_in (drop (2 * n) bytes) ≡ drop n (words_in bytes)
+words_behind zero bytes = refl
+words_behind (suc n) [] = ap words_in (drop_none (2 * suc n)) ∙ sym (drop_none (suc n))
+words_behind (suc n) (a ∷ []) =
+    let e : 2 * suc n ≡ suc (suc (2 * n)) = omega arith in
+    rw e (ap words_in (drop_none (suc (2 * n))) ∙ sym (drop_none (suc n)))
+words_behind (suc n) (a ∷ b ∷ rest) =
+    let e : 2 * suc n ≡ suc (suc (2 * n)) = omega arith in
+    rw e (words_behind n rest)
+
+pub words_length : (bytes : List ℕ) → length (words_in bytes) ≡ length bytes / 2
+words_length [] = refl
+words_length (a ∷ []) = refl
+words_length (a ∷ b ∷ rest) = let e = words_length rest in omega arith
+
+-- the word with a number
+pub word_of : (number : ℕ) (bytes : List ℕ) → 2 * number + 1 < length bytes → get_or (words_in bytes) number 0 ≡ join (get_or bytes (2 * number) 0) (get_or bytes (2 * number + 1) 0)
+word_of number [] lt = absurd (omega arith)
+word_of number (a ∷ []) lt = absurd (omega arith)
+word_of zero (a ∷ b ∷ rest) lt = refl
+word_of (suc n) (a ∷ b ∷ rest) lt =
+    let e : 2 * suc n ≡ suc (suc (2 * n)) = omega arith in
+    let f : 2 * suc n + 1 ≡ suc (suc (2 * n + 1)) = omega arith in
+    rw (f, e) (word_of n rest (omega arith))
+
+-- there is no word behind them
+pub no_word : (number : ℕ) (bytes : List ℕ) → length bytes ≤ 2 * number + 1 → get_or (words_in bytes) number 0 ≡ 0
+no_word number [] le = refl
+no_word number (a ∷ []) le = refl
+no_word zero (a ∷ b ∷ rest) le = absurd (omega arith)
+no_word (suc n) (a ∷ b ∷ rest) le = no_word n rest (omega arith)
+
+-- the first three words, of which there may be fewer
+front_three : (words : List ℕ) → take (min (length words) 3) (get_or words 0 0 ∷ get_or words 1 0 ∷ get_or words 2 0 ∷ []) ≡ take 3 words
+front_three [] = refl
+front_three (a ∷ []) = refl
+front_three (a ∷ b ∷ []) = refl
+front_three (a ∷ b ∷ c ∷ rest) = let e : min (length (a ∷ b ∷ c ∷ rest)) 3 ≡ 3 = omega arith in rw e refl
+
+pub three_words : (bytes : List ℕ) (count a b c : ℕ) → count ≡ min (length bytes / 2) 3 → a ≡ get_or (words_in bytes) 0 0 → b ≡ get_or (words_in bytes) 1 0 → c ≡ get_or (words_in bytes) 2 0 → take count (a ∷ b ∷ c ∷ []) ≡ take 3 (words_in bytes)
+three_words bytes count a b c is p q r = rw (is, p, q, r, ← words_length bytes) (front_three (words_in bytes))
+
+-- the words that belong to an instruction before them have no line of their own
+skipped : (n at : ℕ) (words : List ℕ) → lines_from at n words ≡ lines_from (at + 2 * n) 0 (drop n words)
+skipped zero at words = ap (λ a. lines_from a 0 words) (omega arith)
+skipped (suc n) at [] = refl
+skipped (suc n) at (word ∷ words) = skipped n (at + 2) words ∙ ap (λ a. lines_from a 0 (drop n words)) (omega arith)
+
+-- the line of the instruction at the front of some words, and then the lines of those behind it
+front_words : (at word : ℕ) (words : List ℕ) → let front = printed (word ∷ words) at in lines_from at 0 (word ∷ words) ≡ listing_line front.text ∷ lines_from (at + 2 * front.count) 0 (drop front.count (word ∷ words))
+front_words at word words = by (printed (word ∷ words) at).count (count_within word words at).0
+  where
+    by : (count : ℕ) → 1 ≤ count → listing_line (printed (word ∷ words) at).text ∷ lines_from (at + 2) (count - 1) words ≡ listing_line (printed (word ∷ words) at).text ∷ lines_from (at + 2 * count) 0 (drop count (word ∷ words))
+    by zero some = absurd (omega arith)
+    by (suc n) some =
+        let e : suc n - 1 ≡ n = omega arith in
+        rw e (ap (λ lines. listing_line (printed (word ∷ words) at).text ∷ lines) (skipped n (at + 2) words ∙ ap (λ a. lines_from a 0 (drop n words)) (omega arith)))
+
+-- the same of the words that bytes hold
+pub front_bytes : (at : ℕ) (bytes : List ℕ) → 1 < length bytes → let front = printed (words_in bytes) at in lines_from at 0 (words_in bytes) ≡ listing_line front.text ∷ lines_from (at + 2 * front.count) 0 (words_in (drop (2 * front.count) bytes))
+front_bytes at [] some = absurd (omega arith)
+front_bytes at (a ∷ []) some = absurd (omega arith)
+front_bytes at (a ∷ b ∷ rest) some =
+    let front = printed (words_in (a ∷ b ∷ rest)) at in
+    front_words at (join a b) (words_in rest)
+    ∙ ap (λ words. listing_line front.text ∷ lines_from (at + 2 * front.count) 0 words) (sym (words_behind front.count (a ∷ b ∷ rest)))
+
+-- an instruction has one word at least, and no byte that is not there
+pub front_count : (at : ℕ) (bytes : List ℕ) → 1 < length bytes → let front = printed (words_in bytes) at in 1 ≤ front.count × 2 * front.count ≤ length bytes
+front_count at [] some = absurd (omega arith)
+front_count at (a ∷ []) some = absurd (omega arith)
+front_count at (a ∷ b ∷ rest) some =
+    let within = count_within (join a b) (words_in rest) at in
+    (within.0, omega (arith, within.1, words_length (a ∷ b ∷ rest)))
+
+-- the lines up to a place were written, and the others are those of the bytes from there on
+pub record Listed (at : ℕ) (bytes : List ℕ) (place : ℕ) (before after : SinkState) : Type 0 where
+  pub lines : List (List ℕ)
+  pub wrote : Wrote before after lines
+  pub rest : lines_from at 0 (words_in bytes) ≡ lines ++ lines_from (at + place) 0 (words_in (drop place bytes))
+
+pub listed_none : (at : ℕ) (bytes : List ℕ) (state : SinkState) → Listed at bytes 0 state state
+listed_none at bytes state = record {
+  lines = [];
+  wrote = wrote_none state;
+  rest = ap (λ a. lines_from a 0 (words_in bytes)) (omega arith);
+}
+
+-- the rest of the lines begin with the line of the instruction at the place
+next_line : (at place : ℕ) (bytes : List ℕ) → place + 1 < length bytes → let front = printed (words_in (drop place bytes)) (at + place) in lines_from (at + place) 0 (words_in (drop place bytes)) ≡ listing_line front.text ∷ lines_from (at + (place + 2 * front.count)) 0 (words_in (drop (place + 2 * front.count) bytes))
+next_line at place bytes some =
+    let front = printed (words_in (drop place bytes)) (at + place) in
+    front_bytes (at + place) (drop place bytes) (omega (arith, length-drop place bytes))
+    ∙ ap (λ a. listing_line front.text ∷ lines_from a 0 (words_in (drop (2 * front.count) (drop place bytes)))) (omega arith)
+    ∙ ap (λ bytes. listing_line front.text ∷ lines_from (at + (place + 2 * front.count)) 0 (words_in bytes)) (drop-drop (2 * front.count) place bytes)
+
+pub listed_more : (at place count : ℕ) (bytes : List ℕ) (a b c : SinkState) → place + 1 < length bytes → let front = printed (words_in (drop place bytes)) (at + place) in count ≡ front.count → Listed at bytes place a b → Wrote b c (listing_line front.text ∷ []) → Listed at bytes (place + 2 * count) a c
+listed_more at place count bytes a b c some is listed wrote =
+    let front = printed (words_in (drop place bytes)) (at + place) in
+    rw is
+    (record {
+      lines = listed.lines ++ (listing_line front.text ∷ []);
+      wrote = wrote_more a b c listed.lines (listing_line front.text ∷ []) listed.wrote wrote;
+      rest = listed.rest ∙ (ap (λ lines. listed.lines ++ lines) (next_line at place bytes some)
+          ∙ sym (append_assoc listed.lines (listing_line front.text ∷ []) _));
+    })
+
+-- the line at the place could not be written
+pub listed_missed : (at place : ℕ) (bytes : List ℕ) (a b c : SinkState) → place + 1 < length bytes → let front = printed (words_in (drop place bytes)) (at + place) in Listed at bytes place a b → Missed b c (listing_line front.text ∷ []) → Missed a c (lines_from at 0 (words_in bytes))
+listed_missed at place bytes a b c some listed missed =
+    let front = printed (words_in (drop place bytes)) (at + place) in
+    let all = listed.rest ∙ ap (λ lines. listed.lines ++ lines) (next_line at place bytes some) in
+    rw all
+    (missed_more a b c listed.lines (listing_line front.text ∷ lines_from (at + (place + 2 * front.count)) 0 (words_in (drop (place + 2 * front.count) bytes))) listed.wrote
+    (missed_early b c (listing_line front.text ∷ []) (lines_from (at + (place + 2 * front.count)) 0 (words_in (drop (place + 2 * front.count) bytes))) missed))
+
+few_words : (at : ℕ) (bytes : List ℕ) → length bytes ≤ 1 → lines_from at 0 (words_in bytes) ≡ []
+few_words at [] few = refl
+few_words at (a ∷ []) few = refl
+few_words at (a ∷ b ∷ rest) few = absurd (omega arith)
+
+-- no word is left
+pub listed_all : (at place : ℕ) (bytes : List ℕ) (a b : SinkState) → length bytes ≤ place + 1 → Listed at bytes place a b → Wrote a b (lines_from at 0 (words_in bytes))
+listed_all at place bytes a b few listed =
+    let none = few_words (at + place) (drop place bytes) (omega (arith, length-drop place bytes)) in
+    let all = listed.rest ∙ (ap (λ lines. listed.lines ++ lines) none ∙ append-nil listed.lines) in
+    rw all listed.wrote
+
+-- a last odd byte has a line of its own
+pub odd_none : (bytes : List ℕ) → length bytes % 2 ≡ 0 → odd_byte_lines bytes ≡ []
+odd_none [] even = refl
+odd_none (a ∷ []) even = absurd (omega arith)
+odd_none (a ∷ b ∷ rest) even = odd_none rest (omega arith)
+
+pub odd_last : (bytes : List ℕ) → length bytes % 2 ≡ 1 → odd_byte_lines bytes ≡ listing_line (codes "BYTE " ++ marked_byte (get_or bytes (length bytes - 1) 0)) ∷ []
+odd_last [] odd = absurd (omega arith)
+odd_last (a ∷ []) odd = refl
+odd_last (a ∷ b ∷ rest) odd =
+    let e : length (a ∷ b ∷ rest) - 1 ≡ suc (suc (length rest - 1)) = omega arith in
+    rw e (odd_last rest (omega arith))
+
+-- the place goes on, and not past the end
+pub place_count : (at place count : ℕ) (bytes : List ℕ) → place + 1 < length bytes → count ≡ (printed (words_in (drop place bytes)) (at + place)).count → place < place + 2 * count × place + 2 * count ≤ length bytes
+place_count at place number bytes some is =
+    let count = front_count (at + place) (drop place bytes) (omega (arith, length-drop place bytes)) in
+    (omega (arith, is, count.0), omega (arith, is, count.1, length-drop place bytes))
+
+-- the bytes from a place to the end
+pub behind : (place : ℕ) (bytes : List ℕ) → take (length bytes - place) (drop place bytes) ≡ drop place bytes
+behind place bytes = take_all (length bytes - place) (drop place bytes) (omega (arith, length-drop place bytes))

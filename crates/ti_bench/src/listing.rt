@@ -1,0 +1,38 @@
+//! Raw bytes in memory, listed as assembler source.
+
+ghost use Rattle.std.specs.Prelude.{◌≡◌, ◌+◌, ◌≤◌, vec_len};
+ghost use Rattle.bench_io.specs.Written.{Written};
+ghost use Rattle.report_defs.specs.Listing as spec;
+
+use crate::listing_lines::{origin_line, put_instructions, put_odd_byte};
+use bench_io::{Failed, Sink, put_piece};
+
+/// Raw bytes that stand in memory from an address on, and end at >FFFF or before.
+#[derive(Drop)]
+pub(crate) struct Listing {
+    at: u16,
+    bytes: Vec<u8>,
+    ghost within: { at + vec_len bytes ≤ 65536 },
+}
+
+impl Listing {
+    /// These bytes from this address on.
+    pub(crate) fn new(at: u16, bytes: Vec<u8>) -> Self
+        requires { at + vec_len bytes ≤ 65536 }
+        ensures at { result.at ≡ at }
+        ensures bytes { result.bytes ≡ bytes }
+    {
+        Listing { at, bytes }
+    }
+
+    /// Writes the listing, line by line. No memory is taken.
+    pub(crate) fn write<O: Sink>(&self, out: &mut O) -> Result<(), Failed>
+        ensures { Written result (O.state out.old) (O.state out.new) (spec.memory_listing self.now.at self.now.bytes.items) }
+    {
+        let bytes = self.bytes.as_slice();
+        put_piece(out, origin_line(self.at).as_slice())?;
+        put_instructions(self.at, bytes, out)?;
+        put_odd_byte(bytes, out)?;
+        put_piece(out, b"       END\n")
+    }
+}
