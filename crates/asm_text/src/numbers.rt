@@ -3,17 +3,6 @@
 ghost use Rattle.std.specs.Prelude.{◌≡◌, ◌≤◌, ◌<◌, if◌then◌else◌, Some, None, IfSome};
 ghost use Rattle.source_defs.specs.Numbers as spec;
 
-/// The number that a text spells: a decimal one, or `>` and a hexadecimal one.
-#[tactic(auto, unfolding(source_defs::specs::Numbers::number))]
-pub fn number(text: &[u8]) -> Option<u16>
-    ensures { result ≡ spec.number text.now }
-{
-    match text.split_first() {
-        Some((b'>', digits)) => hexadecimal_number(digits),
-        _ => Some(decimal_up_to(text, 65535)? as u16),
-    }
-}
-
 /// The number of decimal digits, where it is not above a limit. It may have zeros in front.
 pub fn decimal_up_to(digits: &[u8], limit: u32) -> Option<u32>
     requires { limit ≤ 10000000 }

@@ -4,6 +4,7 @@ ghost use Rattle.std.specs.Prelude.{◌≡◌, ◌≤◌, ◌<◌, ◌+◌, leng
 ghost use Rattle.std.specs.Option.{option_map};
 ghost use Rattle.std.specs.List.{position, position_or_len};
 ghost use Rattle.source_defs.specs.Numbers as spec;
+ghost use Rattle.source_defs.specs.SoleNumbers as sole;
 
 use arrayvec::ArrayVec;
 use asm_text::number;
@@ -12,7 +13,7 @@ use asm_text::number;
 #[tactic(auto, using(source_defs::proofs::NumberLaws::numbers_none, source_defs::proofs::NumberLaws::numbers_last, source_defs::proofs::NumberLaws::numbers_more))]
 pub(crate) fn numbers(field: &[u8]) -> Option<ArrayVec<u16, 128>>
     requires { length field.now ≤ 256 }
-    ensures { option_map (λ numbers. numbers.items) result ≡ spec.numbers field.now }
+    ensures { option_map (λ numbers. numbers.items) result ≡ sole.numbers field.now }
 {
     let mut numbers = ArrayVec::new();
     let mut rest = field;

@@ -4,7 +4,7 @@ ghost use Rattle.std.specs.Prelude.{◌≡◌, ◌≤◌, ◌*◌, true, length,
 ghost use Rattle.std.specs.List.{flat_map};
 ghost use Rattle.source_defs.specs.Lines.{part};
 ghost use Rattle.gpl_defs.specs.Statements as spec;
-ghost use Rattle.source_defs.specs.Numbers as defined;
+ghost use Rattle.source_defs.specs.SoleNumbers as defined;
 ghost use Rattle.asm_text.specs.GivenFields.{defined_fields, FieldsLieInside};
 ghost use Rattle.gpl_defs.specs.Bytes.{bytes_of};
 ghost use Rattle.gpl_asm.specs.Answers.{defined_answer, IsAligned};

@@ -9,7 +9,7 @@ use Rattle.source_defs.specs.declared.causes.TextError.{TextError}
 use Rattle.source_defs.specs.Lines.{part}
 use Rattle.source_defs.specs.Fields.{Fields, fields}
 use Rattle.source_defs.specs.Names.{is_word}
-use Rattle.source_defs.specs.Numbers.{numbers}
+use Rattle.source_defs.specs.SoleNumbers.{numbers}
 use Rattle.gpl_defs.specs.declared.causes.GplCause.{GplCause}
 use Rattle.gpl_defs.specs.declared.causes.GplCause.TheVariants.{Text, NotBuilt}
 use Rattle.gpl_defs.specs.declared.instruction.GplInstr.TheVariants.{Plain}

@@ -9,7 +9,9 @@ use Rattle.std.proofs.lemmas.List.Sums.{fails_before_first, prefix_len-le-length
 use Rattle.std.proofs.Math.Seq.{take-length}
 use Rattle.std.proofs.lemmas.Bool.{ltb-true}
 use Rattle.std.proofs.lemmas.Bool.Decides.{nat_tests}
-use Rattle.source_defs.specs.Numbers.{digit_value, value_after, all_digits, decimal_up_to, number, is_comma, numbers_of, numbers}
+use Rattle.source_defs.specs.Numbers.{digit_value, value_after, all_digits, decimal_up_to, is_comma}
+use Rattle.source_defs.specs.Tokens.{token_at}
+use Rattle.source_defs.specs.SoleNumbers.{number, numbers_of, numbers}
 
 -- more digits make no less
 pub value_after-ge : (value : ℕ) (digits : List ℕ) → value ≤ value_after 10 value digits
@@ -73,7 +75,7 @@ numbers_more front field value lt e = rw (more_split field lt, e) (joined front 
 
 -- a number has a character
 pub number_written : (field : List ℕ) (value : ℕ) → number field ≡ Some value → 0 < length field
-unfolding number
+unfolding number token_at
 number_written [] value e = cc
 number_written (byte ∷ bytes) value e = omega arith
 

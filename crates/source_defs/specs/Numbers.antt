@@ -44,19 +44,5 @@ hexadecimal_number digits =
     then Some (value_after 16 0 digits)
     else None
 
--- Editor/Assembler manual, "Constants": hexadecimal digits stand behind the sign >.
-unfoldable pub number : List ℕ → Option ℕ
-number text = if slice_index text 0 == 0x3E then hexadecimal_number (drop 1 text) else decimal_number text
-
 abbrev pub is_comma : ℕ → Bool
 is_comma byte = byte == 0x2C
-
--- the numbers of texts that all are one
-abbrev pub numbers_of : List (List ℕ) → Option (List ℕ)
-numbers_of [] = Some []
-numbers_of (text ∷ texts) =
-    option_and_then (λ first. option_map (λ others. first ∷ others) (numbers_of texts)) (number text)
-
--- the numbers of a field, with a comma between two of them
-unfoldable pub numbers : List ℕ → Option (List ℕ)
-numbers field = numbers_of (slice_split is_comma field)

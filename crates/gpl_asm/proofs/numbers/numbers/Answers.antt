@@ -1,6 +1,7 @@
 use Rattle.std.proofs.Common.{◌≡◌, ◌<◌, ◌≤◌, Some, length, take, sym, ◌∙◌, lit<, arith, length-take, length-drop, length-append}
 use Rattle.std.specs.List.{position_or_len}
-use Rattle.source_defs.specs.Numbers.{number, is_comma}
+use Rattle.source_defs.specs.Numbers.{is_comma}
+use Rattle.source_defs.specs.SoleNumbers.{number}
 use Rattle.source_defs.proofs.NumberLaws.{number_written, numbers_more, place_le}
 use Rattle.gpl_asm.proofs.numbers.numbers.Goals as goal
 

@@ -1,5 +1,5 @@
 use Rattle.std.proofs.Common.{◌≡◌, ◌≤◌, ◌+◌, ◌*◌, length}
-use Rattle.source_defs.specs.Numbers.{numbers}
+use Rattle.source_defs.specs.SoleNumbers.{numbers}
 use Rattle.source_defs.proofs.NumberLaws.{numbers_behind}
 use Rattle.gpl_asm.proofs.numbers.numbers.Given as goal
 
