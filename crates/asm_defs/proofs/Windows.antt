@@ -1,15 +1,14 @@
 -- The text of an instruction comes of three words at most.
-use Rattle.std.proofs.Common.{◌≡◌, ℕ, zero, suc, ◌+◌, ◌≤◌, List, [], ◌∷◌, ◌++◌, length, take, refl, ap, ◌∙◌, arith, Bool, true, false}
-use Rattle.std.specs.Prelude.{◌==◌, nat_le, if◌then◌else◌, slice_index, codes, Option, Some, None}
+use Rattle.std.proofs.Common.{◌≡◌, ℕ, zero, suc, ◌+◌, ◌≤◌, List, [], ◌∷◌, length, take, refl, ap, arith, Bool, true, false}
+use Rattle.std.specs.Prelude.{◌==◌, nat_le, if◌then◌else◌, slice_index, Option, Some, None}
 use Rattle.std.proofs.lemmas.Bool.Decides.{nat_tests}
-use Rattle.source_defs.specs.Digits.{marked_word}
 use Rattle.console_defs.specs.Instructions.{instr_at, operation_of}
 use Rattle.console_defs.specs.declared.instruction.Place.{Place}
 use Rattle.console_defs.specs.declared.instruction.Instr.{Instr}
 use Rattle.console_defs.specs.declared.instruction.Instr.TheVariants.{Two, Reg, Shift, One, Jump, Imm, Bare}
 use Rattle.asm_defs.specs.Operations.{name_of}
 use Rattle.asm_defs.specs.Operands.{following_words, has_immediate, has_value, one_if, words_of}
-use Rattle.asm_defs.specs.Printed.{Printed, printed, printed_where, operands_text, operand_text, two_texts, with_operands}
+use Rattle.asm_defs.specs.Printed.{printed, printed_where, operands_text, operand_text, two_texts, with_operands}
 
 following_few : (place : Place) → following_words place ≤ 1
 following_few place = by (place.mode == 2)

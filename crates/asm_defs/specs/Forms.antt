@@ -1,5 +1,5 @@
 -- The forms of operands.
-use Rattle.std.specs.Prelude.{ℕ, ◌+◌, ◌-◌, ◌==◌, Bool, not, ◌&&◌, ◌||◌, nat_lt, if◌then◌else◌, List, [], ◌∷◌, length, slice_index, slice_range, take, drop}
+use Rattle.std.specs.Prelude.{ℕ, ◌+◌, ◌-◌, ◌==◌, Bool, not, ◌&&◌, nat_lt, if◌then◌else◌, List, length, slice_index, slice_range, take, drop}
 use Rattle.source_defs.specs.Least.{least_place}
 use Rattle.source_defs.specs.Fields.{in_quotes}
 

@@ -3,13 +3,9 @@ use Rattle.std.specs.Prelude.{ℕ, true, false, find, if◌then◌else◌, List,
 use Rattle.std.specs.Option.{option_map}
 use Rattle.source_defs.specs.Names.{is_word}
 use Rattle.console_defs.specs.Instructions.{operations}
-use Rattle.console_defs.specs.declared.instruction.TwoOp.{TwoOp}
 use Rattle.console_defs.specs.declared.instruction.TwoOp.TheVariants.{SZC, S, C, A, MOV, SOC}
-use Rattle.console_defs.specs.declared.instruction.RegOp.{RegOp}
 use Rattle.console_defs.specs.declared.instruction.RegOp.TheVariants.{COC, CZC, XOR, XOP, LDCR, STCR, MPY, DIV}
-use Rattle.console_defs.specs.declared.instruction.ShiftOp.{ShiftOp}
 use Rattle.console_defs.specs.declared.instruction.ShiftOp.TheVariants.{SRA, SRL, SLA, SRC}
-use Rattle.console_defs.specs.declared.instruction.OneOp.{OneOp}
 use Rattle.console_defs.specs.declared.instruction.OneOp.TheVariants.{
   BLWP,
   B,
@@ -26,7 +22,6 @@ use Rattle.console_defs.specs.declared.instruction.OneOp.TheVariants.{
   SETO,
   ABS,
 }
-use Rattle.console_defs.specs.declared.instruction.JumpOp.{JumpOp}
 use Rattle.console_defs.specs.declared.instruction.JumpOp.TheVariants.{
   JMP,
   JLT,
@@ -45,9 +40,7 @@ use Rattle.console_defs.specs.declared.instruction.JumpOp.TheVariants.{
   SBZ,
   TB,
 }
-use Rattle.console_defs.specs.declared.instruction.ImmOp.{ImmOp}
 use Rattle.console_defs.specs.declared.instruction.ImmOp.TheVariants.{LI, AI, ANDI, ORI, CI, STWP, STST}
-use Rattle.console_defs.specs.declared.instruction.BareOp.{BareOp}
 use Rattle.console_defs.specs.declared.instruction.BareOp.TheVariants.{LWPI, LIMI, IDLE, RSET, RTWP, CKON, CKOF, LREX}
 use Rattle.console_defs.specs.declared.instruction.Operation.{Operation}
 use Rattle.console_defs.specs.declared.instruction.Operation.TheVariants.{Two, Reg, Shift, One, Jump, Imm, Bare}

@@ -2,7 +2,7 @@
 --
 -- Profile: registers are R0 to R15, values and addresses hexadecimal words, a jump names its target's address; counts, the
 -- number of an extended operation and the displacement of a bit are decimal.
-use Rattle.std.specs.Prelude.{ℕ, ℤ, pos, negsuc, suc, ◌+◌, ◌≤◌, ◌==◌, nat_le, if◌then◌else◌, List, [], ◌∷◌, ◌++◌, length, slice_index, codes, Option, Some, None}
+use Rattle.std.specs.Prelude.{ℕ, ℤ, pos, negsuc, suc, ◌+◌, ◌==◌, nat_le, if◌then◌else◌, List, ◌∷◌, ◌++◌, length, slice_index, codes, Option, Some, None}
 use Rattle.std.specs.Fmt.{decimal}
 use Rattle.source_defs.specs.Digits.{marked_word}
 use Rattle.console_defs.specs.Words.{plus}
@@ -10,7 +10,7 @@ use Rattle.console_defs.specs.Instructions.{instr_at, operation_of}
 use Rattle.console_defs.specs.forms.Jump.{jump_target}
 use Rattle.console_defs.specs.declared.instruction.Place.{Place}
 use Rattle.console_defs.specs.declared.instruction.RegOp.{RegOp}
-use Rattle.console_defs.specs.declared.instruction.RegOp.TheVariants.{COC, CZC, XOR, XOP, LDCR, STCR, MPY, DIV}
+use Rattle.console_defs.specs.declared.instruction.RegOp.TheVariants.{XOP, LDCR, STCR}
 use Rattle.console_defs.specs.declared.instruction.JumpOp.{JumpOp}
 use Rattle.console_defs.specs.declared.instruction.JumpOp.TheVariants.{SBO, SBZ, TB}
 use Rattle.console_defs.specs.declared.instruction.Instr.{Instr}

@@ -1,5 +1,5 @@
 -- The words that the code places, as the definitions have them.
-use Rattle.std.specs.Prelude.{List, [], ◌∷◌, map, Result, Ok, Err}
+use Rattle.std.specs.Prelude.{List, ◌∷◌, map, Result, Ok, Err}
 use Rattle.source_defs.specs.Refusals.{◌>>=◌}
 use Rattle.asm_defs.specs.declared.causes.FormError.{FormError}
 use Rattle.source_defs.specs.Expression as expression

@@ -46,10 +46,12 @@ pub fn number(text: &[u8]) -> Option<u16>
         return None;
     }
     match token_at(text, 0) {
-        Ok(Token {
-            kind: TokenKind::Number(number),
-            span,
-        }) if span.end == text.len() => Some(number),
+        Ok(
+            Token {
+                kind: TokenKind::Number(number),
+                span,
+            },
+        ) if span.end == text.len() => Some(number),
         _ => None,
     }
 }

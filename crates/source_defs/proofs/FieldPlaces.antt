@@ -6,7 +6,7 @@ use Rattle.source_defs.specs.declared.causes.TextError.TheVariants.{LineTooLong,
 use Rattle.source_defs.specs.Lines.{IsInside}
 use Rattle.source_defs.specs.Characters.{is_blank, upper_case}
 use Rattle.source_defs.specs.Names.{is_name}
-use Rattle.source_defs.specs.Fields.{Fields, fields, longest_line, is_comment, label_field, fields_after, no_fields, word_start, word_end, operand_end}
+use Rattle.source_defs.specs.Fields.{Fields, fields, longest_line, is_comment, label_field, fields_after, no_fields, word_start, word_end}
 use Rattle.source_defs.proofs.LeastLaws.{least_place-ge, least_place-le}
 
 -- the operation, where there is one, and the operand field lie inside a line

@@ -1,7 +1,6 @@
 -- The numbers of source text.
-use Rattle.std.specs.Prelude.{ℕ, ◌+◌, ◌-◌, ◌*◌, ◌==◌, Bool, ◌&&◌, ◌||◌, nat_lt, nat_le, if◌then◌else◌, List, [], ◌∷◌, length, drop, fold, slice_index, Option, Some, None}
-use Rattle.std.specs.List.{list_all, slice_split}
-use Rattle.std.specs.Option.{option_map, option_and_then}
+use Rattle.std.specs.Prelude.{ℕ, ◌+◌, ◌-◌, ◌*◌, ◌==◌, Bool, ◌&&◌, ◌||◌, nat_lt, nat_le, if◌then◌else◌, List, length, fold, Option, Some, None}
+use Rattle.std.specs.List.{list_all}
 use Rattle.source_defs.specs.Characters.{is_digit, upper_case}
 
 -- 0 to 9, A to F, or a to f

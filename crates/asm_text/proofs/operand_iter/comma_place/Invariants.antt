@@ -1,7 +1,5 @@
 use Rattle.std.proofs.Common.{◌≡◌}
-use Rattle.source_defs.specs.Least.{least_place}
 use Rattle.source_defs.specs.Fields.{in_quotes}
-use Rattle.source_defs.specs.Operands.{parts_operands}
 use Rattle.source_defs.proofs.OperandSteps.{comma_place}
 use Rattle.asm_text.proofs.operand_iter.comma_place.Given as goal
 
