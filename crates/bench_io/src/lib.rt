@@ -18,4 +18,3 @@ pub use std_io::{StdSink, StdSource};
 pub use steady::{SteadySink, SteadySource};
 pub use whole::{ReadError, read_all};
 pub use written::put_piece;
-
