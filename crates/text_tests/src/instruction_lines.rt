@@ -197,6 +197,21 @@ fn reads_and_prints_every_operation(rt: HostRuntime) {
     }
 }
 
+/// Whether a first word is printed with no more words than stand there: up to three of them, and alone as one.
+fn has_its_words(first: u16) -> bool {
+    let (text, count) = print_instr(&[first, 0, 0], HERE);
+    let (alone, one) = print_instr(&[first], HERE);
+    matches!(count, 1..=3)
+        && !text.is_empty()
+        && one == 1
+        && (count == 1) == (text.as_str() == alone.as_str())
+}
+
+#[test]
+fn prints_every_first_word(rt: HostRuntime) {
+    assert!(rt; (0..=u16::MAX).all(has_its_words));
+}
+
 #[test]
 fn refuses_lines_by_their_first_fault(rt: HostRuntime) {
     for &(line, cause) in REFUSED_FIRST {
