@@ -67,7 +67,8 @@ pub fn parse_instr(
     requires operation { IsSome fields.now.operation }
     requires sized { IsOk (first.line_size (operation_in line.now fields.now) (operands_in line.now fields.now)) }
     requires here { IsNotExternal here }
-    ensures { Gives words_in result (line_words (look_up symbols.now) (defined_value here) (operation_in line.now fields.now) (operands_in line.now fields.now)) }
+    ensures { Gives words_in result
+        (line_words (look_up symbols.now) (defined_value here) (operation_in line.now fields.now) (operands_in line.now fields.now)) }
 {
     let skeleton = line_checks(line, fields)?;
     let scope = Scope {
