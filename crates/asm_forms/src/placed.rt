@@ -32,6 +32,9 @@ pub enum Word {
 }
 
 impl Default for Word {
+    ghost is_default = { λ word. defined_word word ≡ Absolute 0 };
+
+    /// The word 0.
     fn default() -> Self {
         Word::Plain(0)
     }

