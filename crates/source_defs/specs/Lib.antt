@@ -12,5 +12,6 @@ pub mod TokenLaw
 pub mod Expression
 pub mod Operands
 pub mod Symbols
+pub mod Layout
 pub mod LineLaw
 pub mod FieldLaw

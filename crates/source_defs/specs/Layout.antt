@@ -1,0 +1,95 @@
+-- Where the lines of a source are placed, for any assembler.
+--
+-- The first checks judge a line by the lines before it, of which the nearest stands first. The second checks are made
+-- only where the first refuse no line, and see the names of all lines.
+use Rattle.std.specs.Prelude.{ℕ, ◌+◌, if◌then◌else◌, Bool, List, [], ◌∷◌, map, Option, Some, None, Result, Ok}
+use Rattle.std.specs.FinMap.{insert}
+use Rattle.source_defs.specs.Refusals.{Refusal, ◌>>=◌, at_line}
+use Rattle.source_defs.specs.Expression.{Value}
+use Rattle.source_defs.specs.Symbols.{Names}
+use Rattle.source_defs.specs.Lines.{part, lines}
+
+-- What a line comes to by its first checks: its number; the location that it sets, if it sets one; the bytes that are
+-- left free before it, so that it stands at an even place; its size; the names that it defines; what it says; and
+-- whether the source ends with it.
+pub record Laid (P S : Type 0) : Type 0 where
+  pub number : ℕ
+  pub origin : Option P
+  pub gap : ℕ
+  pub size : ℕ
+  pub names : List (List ℕ × Value)
+  pub statement : S
+  pub last : Bool
+
+-- the location that a line sets, or the one that stands
+abbrev pub set_or : {P : Type 0} → Option P → P → P
+set_or (Some origin) before = origin
+set_or None before = before
+
+-- no bytes behind the location that a line sets, or those before
+abbrev pub none_or : {P : Type 0} → Option P → ℕ → ℕ
+none_or (Some origin) bytes = 0
+none_or None bytes = bytes
+
+-- lines by the location at which their source starts, and the location some bytes behind one
+module _ {P S : Type 0} (start : P) (behind : P → ℕ → P) where
+  -- the location that the last origin line sets
+  abbrev pub origin : List (Laid P S) → P
+  origin [] = start
+  origin (line ∷ before) = set_or line.origin (origin before)
+
+  -- the sizes of the lines since then, with the bytes that are left free
+  abbrev pub since : List (Laid P S) → ℕ
+  since [] = 0
+  since (line ∷ before) = none_or line.origin (since before) + (line.gap + line.size)
+
+  -- The location behind the lines: the last origin and the sizes since.
+  abbrev pub location : List (Laid P S) → P
+  location before = behind (origin before) (since before)
+
+  -- the place of a line behind others
+  abbrev pub place : List (Laid P S) → Laid P S → P
+  place before line = behind (location before) line.gap
+
+-- names with some more
+abbrev pub with_names : Names → List (List ℕ × Value) → Names
+with_names names [] = names
+with_names names (entry ∷ entries) = with_names (insert names entry.0 entry.1) entries
+
+-- the names of the lines, beside those that stand for something from the start
+abbrev pub names_of : {P S : Type 0} → Names → List (Laid P S) → Names
+names_of predefined [] = predefined
+names_of predefined (line ∷ before) = with_names (names_of predefined before) line.names
+
+-- the texts of lines, each with its number from a number on
+abbrev pub numbered : ℕ → List (List ℕ) → List (ℕ × List ℕ)
+numbered number [] = []
+numbered number (text ∷ texts) = (number, text) ∷ numbered (number + 1) texts
+
+-- the lines of a source by their numbers
+abbrev pub line_texts : List ℕ → List (ℕ × List ℕ)
+line_texts source = map (λ line. (line.number, part source line.span)) (lines source)
+
+-- lines by the first checks, which see the lines before, the number of a line and its text
+module _ {P S C : Type 0} (check : List (Laid P S) → ℕ → List ℕ → Result (Laid P S) C) where
+  -- Lines behind others, or the first that the checks refuse. Profile: lines after the one that ends the source are not
+  -- read.
+  abbrev pub laid_behind : List (Laid P S) → List (ℕ × List ℕ) → Result (List (Laid P S)) (Refusal C)
+  laid_behind before [] = Ok before
+  laid_behind before (line ∷ lines) = do
+    found ← at_line line.0 (check before line.0 line.1)
+    if found.last then Ok (found ∷ before) else laid_behind (found ∷ before) lines
+
+  -- the lines of a source, or the first that is refused
+  abbrev pub laid : List (ℕ × List ℕ) → Result (List (Laid P S)) (Refusal C)
+  laid lines = laid_behind [] lines
+
+-- lines by the second checks, which see what the lines before came to, those lines, and the line
+module _ {P S A C : Type 0} (settle : List (Laid P S) → List A → Laid P S → Result A C) where
+  -- what the lines come to, or the first that the checks refuse
+  abbrev pub settled : List (Laid P S) → Result (List A) (Refusal C)
+  settled [] = Ok []
+  settled (line ∷ before) = do
+    earlier ← settled before
+    found ← at_line line.number (settle before earlier line)
+    Ok (found ∷ earlier)
