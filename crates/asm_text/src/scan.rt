@@ -9,7 +9,7 @@ ghost use Rattle.asm_text.specs.GivenTokens.{defined_kind, defined_token, define
 use crate::characters::{is_letter, is_quote};
 use crate::numbers::{decimal_up_to, hexadecimal_number};
 use crate::places::{digits_end, hexadecimal_end, name_end, text_end};
-use crate::split::label;
+use crate::split::upper_case_name;
 use crate::token::{Token, TokenKind};
 use source_defs::{ExprError, Span};
 use std::alloc::Global;
@@ -121,7 +121,7 @@ fn name_token(text: &[u8], start: usize) -> Result<Token, ExprError>
     ensures { defined_token_answer result ≡ spec.name_token text.now start }
 {
     let end = name_end(text, start);
-    match label(&text[start..end]) {
+    match upper_case_name(&text[start..end]) {
         Some(name) => Ok(token_to(TokenKind::Name(name), start, end)),
         None => Err(ExprError::BadToken),
     }

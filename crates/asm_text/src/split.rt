@@ -44,7 +44,7 @@ pub fn fields(line: &[u8]) -> Result<Fields, TextError>
         return Ok(fields_after(line, None, 0));
     }
     let end = word_end(line, 0);
-    match label(&line[..end]) {
+    match upper_case_name(&line[..end]) {
         Some(name) => Ok(fields_after(line, Some(name), end)),
         None => Err(TextError::BadLabel),
     }
@@ -83,7 +83,7 @@ fn fields_after(line: &[u8], label: Option<Name>, from: usize) -> Fields
 
 /// The name that a text is, in upper case.
 #[tactic(auto, using(source_defs::proofs::FieldLaws::upper_case_kept, source_defs::proofs::FieldLaws::upper_case_name))]
-pub(crate) fn label(field: &[u8]) -> Option<Name>
+pub fn upper_case_name(field: &[u8]) -> Option<Name>
     ensures value { result ≡ (if is_name field.now then Some (map upper_case field.now) else None) }
     ensures names { IfSome result IsUpperCaseName }
 {

@@ -21,8 +21,8 @@ fn same_letters(text: &[u8], word: &[u8]) -> bool
         .all(|(&byte, &letter)| upper_case(byte) == letter)
 }
 
-/// Whether a text is a letter and up to five letters or digits.
-pub(crate) fn is_name(text: &[u8]) -> bool
+/// Whether a text is a letter and up to five letters or digits (Editor/Assembler manual, "Symbols").
+pub fn is_name(text: &[u8]) -> bool
     ensures { result ≡ spec.is_name text.now }
 {
     !text.is_empty()

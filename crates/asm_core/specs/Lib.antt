@@ -1,0 +1,10 @@
+pub use Rattle.source_defs.specs.Layout
+pub use Rattle.module_defs.specs.Directives
+pub use Rattle.module_defs.specs.Statements
+pub use Rattle.module_defs.specs.Locations
+pub use Rattle.module_defs.specs.FirstChecks
+pub use Rattle.module_defs.specs.SecondChecks
+pub use Rattle.module_defs.specs.Memory
+pub use Rattle.module_defs.specs.Modules
+pub mod Answers
+pub mod Defined

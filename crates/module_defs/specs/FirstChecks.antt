@@ -1,0 +1,207 @@
+-- The first checks of a line, by the lines before it.
+--
+-- Profile: they stand in this order. The line's length and its label; a label that stands for something already; the
+-- operation, the number of its operands and their forms; a name of REF that stands for something already; the values
+-- that move locations; a location past the end of its part, and too many names; a bad directive.
+use Rattle.std.specs.Prelude.{ℕ, ◌+◌, ◌*◌, ◌==◌, Bool, true, false, not, ◌&&◌, ◌||◌, nat_le, nat_eq, if◌then◌else◌, List, [], ◌∷◌, ◌++◌, length, map, is_some, Option, Some, None, Result, Ok, Err}
+use Rattle.std.specs.Cmp.Lexicographic.{pointwise}
+use Rattle.std.specs.FinMap.{get}
+use Rattle.source_defs.specs.Refusals.{◌>>=◌}
+use Rattle.source_defs.specs.declared.causes.ExprError.{ExprError}
+use Rattle.source_defs.specs.declared.causes.ExprError.TheVariants.{BadRelocation}
+use Rattle.source_defs.specs.Expression.{Value, Absolute, Relocatable, External, expression, characters}
+use Rattle.source_defs.specs.Fields.{fields}
+use Rattle.source_defs.specs.Symbols.{Names, look_up, predefined}
+use Rattle.source_defs.specs.Layout.{names_of}
+use Rattle.object_defs.specs.Modules.{most_names, all_name_characters}
+use Rattle.asm_defs.specs.SecondChecks.{absolute}
+use Rattle.module_defs.specs.declared.causes.AsmCause.{AsmCause}
+use Rattle.module_defs.specs.declared.causes.AsmCause.TheVariants.{Expr, DuplicateLabel, BadDirective, Overflow}
+use Rattle.module_defs.specs.declared.location.Location.{Location}
+use Rattle.module_defs.specs.declared.location.Part.TheVariants as part
+use Rattle.module_defs.specs.Statements.{Statement, Nothing, Instruction, Aorg, Rorg, Dorg, Bss, Bes, Even, Equ, Data, Byte, Text, Def, Ref, Idt, Titl, End, statement_in, as_text, is_quoted}
+use Rattle.module_defs.specs.Locations.{Line, location, reached, behind, to_even, value_of, is_in_part}
+
+-- a value, unless something speaks against it
+abbrev pub unless : {A : Type 0} → Bool → AsmCause → A → Result A AsmCause
+unless true cause value = Err cause
+unless false cause value = Ok value
+
+-- an expression's refusal is one of the line
+abbrev pub as_expr : {A : Type 0} → Result A ExprError → Result A AsmCause
+as_expr (Ok value) = Ok value
+as_expr (Err error) = Err (Expr error)
+
+-- the names of the lines before
+abbrev pub names : List Line → Names
+names before = names_of predefined before
+
+abbrev pub is_known : Names → List ℕ → Bool
+is_known known name = is_some (get known name)
+
+abbrev pub any_known : Names → List (List ℕ) → Bool
+any_known known [] = false
+any_known known (name ∷ names) = is_known known name || any_known known names
+
+abbrev pub same_name : List ℕ → List ℕ → Bool
+same_name a b = pointwise nat_eq a b
+
+abbrev pub is_among : List ℕ → List (List ℕ) → Bool
+is_among name [] = false
+is_among name (other ∷ others) = same_name name other || is_among name others
+
+-- one of some names stands among earlier ones, or twice among them
+abbrev pub repeats : List (List ℕ) → List (List ℕ) → Bool
+repeats earlier [] = false
+repeats earlier (name ∷ names) = is_among name earlier || is_among name names || repeats earlier names
+
+-- the label, where the line has one
+abbrev pub label_in : Option (List ℕ) → List (List ℕ)
+label_in None = []
+label_in (Some name) = name ∷ []
+
+-- the names that a line says others define, and those that it defines for others
+abbrev pub refs_in : Statement → List (List ℕ)
+refs_in (Ref names) = names
+refs_in _ = []
+
+abbrev pub defs_in : Statement → List (List ℕ)
+defs_in (Def names) = names
+defs_in _ = []
+
+-- those of the lines, in their order
+abbrev pub refs : List Line → List (List ℕ)
+refs [] = []
+refs (line ∷ before) = refs before ++ refs_in line.statement
+
+abbrev pub defs : List Line → List (List ℕ)
+defs [] = []
+defs (line ∷ before) = defs before ++ defs_in line.statement
+
+-- Profile: a name of REF stands for something already where a line before defines it, or its line does, or REF names it
+-- twice.
+abbrev pub is_taken : Names → Option (List ℕ) → List (List ℕ) → Bool
+is_taken known label names = any_known known names || repeats (label_in label) names
+
+-- what a line does to the location: the location that it sets, the bytes that it leaves free, its size, and what its label
+-- stands for
+pub record Move : Type 0 where
+  pub origin : Option Location
+  pub gap : ℕ
+  pub size : ℕ
+  pub label : Value
+
+abbrev pub stays_at : Location → ℕ → Move
+stays_at here size = record { origin = None; gap = 0; size = size; label = value_of here }
+
+-- Editor/Assembler manual, "Word Boundary": an instruction and DATA stand at an even place, and so does their label.
+abbrev pub stays_even : Location → ℕ → Move
+stays_even here size =
+    record { origin = None; gap = to_even here; size = size; label = value_of (behind here (to_even here)) }
+
+-- Editor/Assembler manual, "Absolute Origin", "Relocatable Origin", "Dummy Origin": the label is the new location.
+abbrev pub set_to : Location → Move
+set_to location = record { origin = Some location; gap = 0; size = 0; label = value_of location }
+
+-- Editor/Assembler manual, "Block Ending with Symbol": the label is the location behind the block.
+abbrev pub ends_block : Location → ℕ → Move
+ends_block here size = record { origin = None; gap = 0; size = size; label = value_of (behind here size) }
+
+abbrev pub equals : Value → Move
+equals value = record { origin = None; gap = 0; size = 0; label = value }
+
+-- Profile: RORG takes the number of an absolute or a relocatable value.
+abbrev pub number_in : Value → Result ℕ ExprError
+number_in (Absolute number) = Ok number
+number_in (Relocatable number) = Ok number
+number_in (External name) = Err BadRelocation
+
+-- Profile: EQU takes no external value.
+abbrev pub known_here : Value → Result Value ExprError
+known_here (Absolute number) = Ok (Absolute number)
+known_here (Relocatable number) = Ok (Relocatable number)
+known_here (External name) = Err BadRelocation
+
+-- by the names of the lines before, the highest relocatable location reached, and the line's location
+module _ (known : Names) (reached : ℕ) (here : Location) where
+  abbrev pub value : List ℕ → Result Value ExprError
+  value text = expression (look_up known) (value_of here) text
+
+  abbrev pub absolute_in : List ℕ → Result ℕ ExprError
+  absolute_in text = value text >>= absolute
+
+  -- What a line does to the location. Editor/Assembler manual, "Assembler Directives".
+  abbrev pub move : Statement → Result Move ExprError
+  move Nothing = Ok (stays_at here 0)
+  move (Instruction size operation field) = Ok (stays_even here size)
+  move (Aorg text) = absolute_in text >>= λ number. Ok (set_to (record { part = part.Absolute; number = number }))
+  move (Rorg None) = Ok (set_to (record { part = part.Relocatable; number = reached }))
+  move (Rorg (Some text)) =
+      value text >>= number_in >>= λ number. Ok (set_to (record { part = part.Relocatable; number = number }))
+  move (Dorg text) = absolute_in text >>= λ number. Ok (set_to (record { part = part.Dummy; number = number }))
+  move (Bss text) = absolute_in text >>= λ size. Ok (stays_at here size)
+  move (Bes text) = absolute_in text >>= λ size. Ok (ends_block here size)
+  move Even = Ok (stays_even here 0)
+  move (Equ text) = value text >>= known_here >>= λ value. Ok (equals value)
+  move (Data texts) = Ok (stays_even here (2 * length texts))
+  move (Byte texts) = Ok (stays_at here (length texts))
+  move (Text quoted) = Ok (stays_at here (length (characters quoted)))
+  move (Def names) = Ok (stays_at here 0)
+  move (Ref names) = Ok (stays_at here 0)
+  move (Idt text) = Ok (stays_at here 0)
+  move (Titl text) = Ok (stays_at here 0)
+  move (End text) = Ok (stays_at here 0)
+
+abbrev pub is_end : Statement → Bool
+is_end (End text) = true
+is_end _ = false
+
+-- the names that a line defines: its label, and the names of REF
+abbrev pub label_entry : Option (List ℕ) → Value → List (List ℕ × Value)
+label_entry None value = []
+label_entry (Some name) value = (name, value) ∷ []
+
+abbrev pub external_entries : List (List ℕ) → List (List ℕ × Value)
+external_entries names = map (λ name. (name, External name)) names
+
+-- a line with its label, its statement and its move
+abbrev pub line_of : ℕ → Option (List ℕ) → Statement → Move → Line
+line_of number label statement move =
+    record {
+      number = number;
+      origin = move.origin;
+      gap = move.gap;
+      size = move.size;
+      names = label_entry label move.label ++ external_entries (refs_in statement);
+      statement = statement;
+      last = is_end statement;
+    }
+
+-- Profile: a location past the end of its part, the 257th name of DEF, or the 257th name of REF.
+abbrev pub is_too_far : List Line → Bool
+is_too_far lines =
+    not (is_in_part (location lines)) || not (nat_le (length (defs lines)) most_names)
+    || not (nat_le (length (refs lines)) most_names)
+
+-- Profile: a module's name is a quoted text of at most eight characters from >20 to >7E.
+abbrev pub is_title : List ℕ → Bool
+is_title text = nat_le (length (characters text)) 8 && all_name_characters (characters text)
+
+-- a directive that cannot stand as it is
+abbrev pub is_bad : List Line → Option (List ℕ) → Statement → Bool
+is_bad before None (Equ text) = true
+is_bad before label (Idt text) = not (is_quoted text && is_title text)
+is_bad before label (Titl text) = not (is_quoted text)
+is_bad before label (Def names) = repeats (defs before) names
+is_bad before label _ = false
+
+-- what a line comes to behind others
+unfoldable pub check : List Line → ℕ → List ℕ → Result Line AsmCause
+check before number text = do
+  found ← as_text (fields text)
+  label ← unless (any_known (names before) (label_in found.label)) DuplicateLabel found.label
+  statement ← statement_in text found
+  statement ← unless (is_taken (names before) label (refs_in statement)) DuplicateLabel statement
+  move ← as_expr (move (names before) (reached before) (location before) statement)
+  line ← unless (is_too_far (line_of number label statement move ∷ before)) Overflow (line_of number label statement move)
+  unless (is_bad before label statement) BadDirective line

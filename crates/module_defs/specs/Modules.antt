@@ -1,0 +1,87 @@
+-- The module of a source.
+use Rattle.std.specs.Prelude.{◌≡◌, ℕ, not, nat_le, List, [], ◌∷◌, ◌++◌, length, map, replicate, ◌-◌, Option, Some, None, Result, Ok, Err}
+use Rattle.source_defs.specs.Refusals.{Refusal, ◌>>=◌}
+use Rattle.source_defs.specs.Expression.{Value, Absolute, Relocatable, External, characters}
+use Rattle.source_defs.specs.Symbols.{Names, look_up}
+use Rattle.source_defs.specs.Layout.{laid, settled, numbered, line_texts}
+use Rattle.object_defs.specs.declared.spot.Spot.{Spot}
+use Rattle.object_defs.specs.declared.spot.Spot.TheVariants as spot
+use Rattle.object_defs.specs.Modules.{Module, Definition, Reference, most_words}
+use Rattle.module_defs.specs.declared.causes.AsmCause.{AsmCause}
+use Rattle.module_defs.specs.declared.causes.AsmCause.TheVariants.{Overflow, Overlap}
+use Rattle.module_defs.specs.Statements.{Statement, Idt}
+use Rattle.module_defs.specs.Locations.{Line, place, reached}
+use Rattle.module_defs.specs.FirstChecks.{check, names, refs, defs, unless}
+use Rattle.module_defs.specs.SecondChecks.{Outcome, Nothing, Words, Bytes, Entry, outcome}
+use Rattle.module_defs.specs.Memory.{Settled, word_count, overlaps, references_of, pieces}
+
+-- The second checks of a line behind others, by all names. Profile: its values and their ranges come first, then the
+-- 32,769th word, then a byte that was placed before.
+abbrev pub settle : Names → List Line → List Settled → Line → Result Settled AsmCause
+settle known before earlier line = do
+  found ← outcome (look_up known) (place before line) line.statement
+  settled ← Ok (record { at = place before line; outcome = found })
+  settled ← unless (not (nat_le (word_count (settled ∷ earlier)) most_words)) Overflow settled
+  unless (overlaps earlier settled) Overlap settled
+
+-- Editor/Assembler manual, "Program Identifier". Profile: a later name replaces an earlier one, and blanks fill it up.
+abbrev pub title_by : List ℕ → Statement → List ℕ
+title_by title (Idt text) = characters text ++ replicate (8 - length (characters text)) 0x20
+title_by title _ = title
+
+abbrev pub title : List Line → List ℕ
+title [] = replicate 8 0x20
+title (line ∷ before) = title_by (title before) line.statement
+
+-- the spot that a name stands for
+abbrev pub spot_of : Option Value → Spot
+spot_of (Some (Absolute number)) = spot.Absolute number
+spot_of (Some (Relocatable number)) = spot.Relocatable number
+spot_of _ = spot.Absolute 0
+
+-- the entry that END gives
+abbrev pub entry_by : Option Spot → Outcome → Option Spot
+entry_by entry (Entry found) = Some found
+entry_by entry Nothing = entry
+entry_by entry (Words words) = entry
+entry_by entry (Bytes bytes) = entry
+
+abbrev pub entry : List Settled → Option Spot
+entry [] = None
+entry (line ∷ before) = entry_by (entry before) line.outcome
+
+-- a name of REF before its first use
+abbrev pub unused : List ℕ → Reference
+unused name = record { name = name; last = spot.Absolute 0 }
+
+-- The module of lines that no check refuses.
+abbrev pub module_by : List Line → List Settled → Module
+module_by lines settled =
+    let references = map unused (refs lines) in
+    record {
+      name = title lines;
+      size = reached lines;
+      pieces = pieces references settled;
+      defs = map (λ name. record { name = name; value = spot_of (look_up (names lines) name) }) (defs lines);
+      refs = references_of references settled;
+      entry = entry settled;
+    }
+
+abbrev pub module_behind : List Line → Result Module (Refusal AsmCause)
+module_behind lines = do
+  found ← settled (settle (names lines)) lines
+  Ok (module_by lines found)
+
+-- the module of numbered lines, or the first that is refused: by the first checks, else by the second
+abbrev pub module_of : List (ℕ × List ℕ) → Result Module (Refusal AsmCause)
+module_of lines = do
+  found ← laid check lines
+  module_behind found
+
+-- the module of some lines, which count from 1
+abbrev pub module_of_lines : List (List ℕ) → Result Module (Refusal AsmCause)
+module_of_lines lines = module_of (numbered 1 lines)
+
+-- the module of a source
+abbrev pub module_of_source : List ℕ → Result Module (Refusal AsmCause)
+module_of_source source = module_of (line_texts source)

@@ -1,0 +1,115 @@
+-- The second checks of a line: the values of its operands from the left, then their ranges; and what it places.
+use Rattle.std.specs.Prelude.{ℕ, ◌+◌, ◌%◌, ◌==◌, Bool, false, nat_le, if◌then◌else◌, List, [], ◌∷◌, Option, Some, None, Result, Ok, Err}
+use Rattle.source_defs.specs.Refusals.{◌>>=◌}
+use Rattle.source_defs.specs.declared.causes.ExprError.{ExprError}
+use Rattle.source_defs.specs.declared.causes.ExprError.TheVariants.{BadRelocation}
+use Rattle.source_defs.specs.Expression.{Value, Absolute, Relocatable, External, expression, known_value, characters}
+use Rattle.object_defs.specs.declared.spot.Spot.{Spot}
+use Rattle.object_defs.specs.declared.spot.Spot.TheVariants as spot
+use Rattle.asm_defs.specs.declared.causes.FormError.TheVariants.{BadOperand}
+use Rattle.asm_defs.specs.FirstChecks.{first_checks}
+use Rattle.asm_defs.specs.SecondChecks.{absolute, second_checks}
+use Rattle.module_defs.specs.declared.causes.AsmCause.{AsmCause}
+use Rattle.module_defs.specs.declared.causes.AsmCause.TheVariants.{Form, Expr, BadDirective}
+use Rattle.module_defs.specs.declared.location.Location.{Location}
+use Rattle.module_defs.specs.declared.location.Part.{Part}
+use Rattle.module_defs.specs.declared.location.Part.TheVariants as part
+use Rattle.module_defs.specs.Statements.{Statement, Instruction, Data, Byte, Text, Def, End, as_form}
+use Rattle.module_defs.specs.FirstChecks.{as_expr}
+use Rattle.module_defs.specs.Locations.{behind, value_of}
+
+-- what a line places, or the entry that it gives
+pub data Outcome : Type 0 where
+  Nothing : Outcome
+  Words : List Value → Outcome
+  Bytes : List ℕ → Outcome
+  Entry : Spot → Outcome
+
+-- Editor/Assembler manual, "Initialize Byte". Profile: a byte is from -128 to 255.
+abbrev pub byte_of : ℕ → Result ℕ AsmCause
+byte_of number =
+    if nat_le number 0xFF then Ok number else if nat_le 0xFF80 number then Ok (number % 256) else Err (Form BadOperand)
+
+abbrev pub bytes_of : List ℕ → Result (List ℕ) AsmCause
+bytes_of [] = Ok []
+bytes_of (number ∷ numbers) = do
+  byte ← byte_of number
+  bytes ← bytes_of numbers
+  Ok (byte ∷ bytes)
+
+-- absolute place 0
+abbrev pub is_first_by : Part → ℕ → Bool
+is_first_by part.Absolute number = number == 0
+is_first_by part.Relocatable number = false
+is_first_by part.Dummy number = false
+
+-- Profile: no external name is used at absolute place 0, since that place ends the chain of its uses.
+abbrev pub used_at : Location → Value → Result Value ExprError
+used_at at (External name) = if is_first_by at.part at.number then Err BadRelocation else Ok (External name)
+used_at at (Absolute number) = Ok (Absolute number)
+used_at at (Relocatable number) = Ok (Relocatable number)
+
+-- Editor/Assembler manual, "Program End": the entry. Profile: it is no external value.
+abbrev pub entry_at : Value → Result Spot ExprError
+entry_at (Absolute number) = Ok (spot.Absolute number)
+entry_at (Relocatable number) = Ok (spot.Relocatable number)
+entry_at (External name) = Err BadRelocation
+
+-- Profile: DEF defines no name of REF.
+abbrev pub defined_here : Value → Result Value AsmCause
+defined_here (External name) = Err BadDirective
+defined_here (Absolute number) = Ok (Absolute number)
+defined_here (Relocatable number) = Ok (Relocatable number)
+
+-- by what each name stands for, and the place of the line
+module _ (look : List ℕ → Option Value) (at : Location) where
+  abbrev pub value : List ℕ → Result Value ExprError
+  value text = expression look (value_of at) text
+
+  -- the values of DATA, of which the first stands at a place
+  abbrev pub data_values : Location → List (List ℕ) → Result (List Value) ExprError
+  data_values place [] = Ok []
+  data_values place (text ∷ texts) = do
+    first ← value text
+    first ← used_at place first
+    others ← data_values (behind place 2) texts
+    Ok (first ∷ others)
+
+  -- the values of BYTE
+  abbrev pub byte_values : List (List ℕ) → Result (List ℕ) ExprError
+  byte_values [] = Ok []
+  byte_values (text ∷ texts) = do
+    first ← value text
+    first ← absolute first
+    others ← byte_values texts
+    Ok (first ∷ others)
+
+  -- the values of the names of DEF
+  abbrev pub def_values : List (List ℕ) → Result (List Value) AsmCause
+  def_values [] = Ok []
+  def_values (name ∷ names) = do
+    first ← as_expr (known_value (look name))
+    first ← defined_here first
+    others ← def_values names
+    Ok (first ∷ others)
+
+  -- what a line comes to, or why the second checks refuse it
+  unfoldable pub outcome : Statement → Result Outcome AsmCause
+  outcome (Instruction size operation field) = do
+    words ← as_form (first_checks operation field >>= λ skeleton. second_checks look (value_of at) skeleton)
+    Ok (Words words)
+  outcome (Data texts) = do
+    words ← as_expr (data_values at texts)
+    Ok (Words words)
+  outcome (Byte texts) = do
+    numbers ← as_expr (byte_values texts)
+    bytes ← bytes_of numbers
+    Ok (Bytes bytes)
+  outcome (Text quoted) = Ok (Bytes (characters quoted))
+  outcome (Def names) = do
+    values ← def_values names
+    Ok Nothing
+  outcome (End (Some text)) = do
+    entry ← as_expr (value text >>= entry_at)
+    Ok (Entry entry)
+  outcome _ = Ok Nothing

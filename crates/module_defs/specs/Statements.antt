@@ -1,0 +1,146 @@
+-- What a line says: its operation with as many operands as it takes, in their forms.
+use Rattle.std.specs.Prelude.{ℕ, ◌<◌, ◌-◌, ◌%◌, ◌==◌, Bool, true, false, not, ◌&&◌, ◌||◌, nat_lt, if◌then◌else◌, List, [], ◌∷◌, length, slice_index, map, Option, Some, None, Result, Ok, Err}
+use Rattle.std.specs.List.{list_all}
+use Rattle.source_defs.specs.declared.text.Span.{Span}
+use Rattle.source_defs.specs.declared.causes.TextError.{TextError}
+use Rattle.source_defs.specs.Refusals.{◌>>=◌}
+use Rattle.source_defs.specs.Characters.{is_quote, upper_case}
+use Rattle.source_defs.specs.Lines.{part}
+use Rattle.source_defs.specs.Names.{is_name}
+use Rattle.source_defs.specs.Fields.{Fields, fields, in_quotes}
+use Rattle.asm_defs.specs.declared.causes.FormError.{FormError}
+use Rattle.asm_defs.specs.declared.causes.FormError.TheVariants.{OperandCount, BadOperand}
+use Rattle.asm_defs.specs.FirstChecks.{line_size, operand_texts}
+use Rattle.module_defs.specs.declared.causes.AsmCause.{AsmCause}
+use Rattle.module_defs.specs.declared.causes.AsmCause.TheVariants as cause
+use Rattle.module_defs.specs.declared.directive.Directive.{Directive}
+use Rattle.module_defs.specs.declared.directive.Directive.TheVariants as named
+use Rattle.module_defs.specs.Directives.{directive}
+
+-- What a line says: nothing; an instruction of a size, by its operation field and its operand field; or a directive with
+-- its operands.
+pub data Statement : Type 0 where
+  Nothing : Statement
+  Instruction : ℕ → List ℕ → List ℕ → Statement
+  Aorg : List ℕ → Statement
+  Rorg : Option (List ℕ) → Statement
+  Dorg : List ℕ → Statement
+  Bss : List ℕ → Statement
+  Bes : List ℕ → Statement
+  Even : Statement
+  Equ : List ℕ → Statement
+  Data : List (List ℕ) → Statement
+  Byte : List (List ℕ) → Statement
+  Text : List ℕ → Statement
+  Def : List (List ℕ) → Statement
+  Ref : List (List ℕ) → Statement
+  Idt : List ℕ → Statement
+  Titl : List ℕ → Statement
+  End : Option (List ℕ) → Statement
+
+-- a refusal by the rule of instruction lines
+abbrev pub as_form : {A : Type 0} → Result A FormError → Result A AsmCause
+as_form (Ok value) = Ok value
+as_form (Err error) = Err (cause.Form error)
+
+abbrev pub is_empty : List ℕ → Bool
+is_empty [] = true
+is_empty (byte ∷ bytes) = false
+
+-- Profile: an empty operand is refused for its form.
+abbrev pub written : List ℕ → Result (List ℕ) FormError
+written [] = Err BadOperand
+written (byte ∷ bytes) = Ok (byte ∷ bytes)
+
+-- the one operand
+abbrev pub one_of : List (List ℕ) → Result (List ℕ) FormError
+one_of [] = Err OperandCount
+one_of (text ∷ []) = written text
+one_of (first ∷ second ∷ others) = Err OperandCount
+
+-- the operand, where there is one
+abbrev pub at_most_one_of : List (List ℕ) → Result (Option (List ℕ)) FormError
+at_most_one_of [] = Ok None
+at_most_one_of (text ∷ []) = do
+  text ← written text
+  Ok (Some text)
+at_most_one_of (first ∷ second ∷ others) = Err OperandCount
+
+abbrev pub all_written : List (List ℕ) → Bool
+all_written texts = list_all (λ text. not (is_empty text)) texts
+
+-- one operand or more
+abbrev pub some_of : List (List ℕ) → Result (List (List ℕ)) FormError
+some_of [] = Err OperandCount
+some_of (text ∷ texts) = if all_written (text ∷ texts) then Ok (text ∷ texts) else Err BadOperand
+
+abbrev pub all_names : List (List ℕ) → Bool
+all_names texts = list_all is_name texts
+
+-- names in upper case
+abbrev pub upper_names : List (List ℕ) → List (List ℕ)
+upper_names texts = map (λ text. map upper_case text) texts
+
+-- Profile: an operand of DEF or REF that is no name is refused for its form. Its letters are taken as upper case.
+abbrev pub names_in : List (List ℕ) → Result (List (List ℕ)) FormError
+names_in [] = Err OperandCount
+names_in (text ∷ texts) = if all_names (text ∷ texts) then Ok (upper_names (text ∷ texts)) else Err BadOperand
+
+-- whether what follows ends with the quote that closes a text; a quote that may be that one came just before
+abbrev pub closes : Bool → List ℕ → Bool
+closes quote [] = quote
+closes quote (byte ∷ bytes) = if is_quote byte then closes (not quote) bytes else not quote && closes false bytes
+
+-- a text in quotes, where two quotes inside it are one
+abbrev pub is_quoted : List ℕ → Bool
+is_quoted [] = false
+is_quoted (byte ∷ bytes) = is_quote byte && closes false bytes
+
+-- Profile: an operand of TEXT that is no quoted text is refused for its form.
+abbrev pub quoted : List ℕ → Result (List ℕ) FormError
+quoted text = if is_quoted text then Ok text else Err BadOperand
+
+-- a directive with its operands
+abbrev pub directive_statement : Directive → List (List ℕ) → Result Statement FormError
+directive_statement named.Aorg texts = one_of texts >>= λ text. Ok (Aorg text)
+directive_statement named.Rorg texts = at_most_one_of texts >>= λ text. Ok (Rorg text)
+directive_statement named.Dorg texts = one_of texts >>= λ text. Ok (Dorg text)
+directive_statement named.Bss texts = one_of texts >>= λ text. Ok (Bss text)
+directive_statement named.Bes texts = one_of texts >>= λ text. Ok (Bes text)
+directive_statement named.Even texts = Ok Even
+directive_statement named.Equ texts = one_of texts >>= λ text. Ok (Equ text)
+directive_statement named.Data texts = some_of texts >>= λ texts. Ok (Data texts)
+directive_statement named.Byte texts = some_of texts >>= λ texts. Ok (Byte texts)
+directive_statement named.Text texts = one_of texts >>= λ text. quoted text >>= λ text. Ok (Text text)
+directive_statement named.Def texts = names_in texts >>= λ names. Ok (Def names)
+directive_statement named.Ref texts = names_in texts >>= λ names. Ok (Ref names)
+directive_statement named.Idt texts = one_of texts >>= λ text. Ok (Idt text)
+directive_statement named.Titl texts = one_of texts >>= λ text. Ok (Titl text)
+directive_statement named.Quiet texts = Ok Nothing
+directive_statement named.End texts = at_most_one_of texts >>= λ text. Ok (End text)
+
+abbrev pub instruction_statement : List ℕ → List ℕ → Result Statement FormError
+instruction_statement operation field = do
+  size ← line_size operation field
+  Ok (Instruction size operation field)
+
+abbrev pub statement_by : Option Directive → List ℕ → List ℕ → Result Statement FormError
+statement_by (Some found) operation field = directive_statement found (operand_texts field)
+statement_by None operation field = instruction_statement operation field
+
+-- the statement of an operation field and an operand field: the operation, then the number of operands, then their forms
+abbrev pub operation_statement : List ℕ → List ℕ → Result Statement AsmCause
+operation_statement operation field = as_form (statement_by (directive operation) operation field)
+
+abbrev pub statement_at : List ℕ → Option Span → Span → Result Statement AsmCause
+statement_at line None operands = Ok Nothing
+statement_at line (Some operation) operands = operation_statement (part line operation) (part line operands)
+
+-- what a line with its fields says
+unfoldable pub statement_in : List ℕ → Fields → Result Statement AsmCause
+statement_in line found = statement_at line found.operation found.operands
+
+-- a line that has no fields is refused for the cause that it has none
+abbrev pub as_text : {A : Type 0} → Result A TextError → Result A AsmCause
+as_text (Ok value) = Ok value
+as_text (Err error) = Err (cause.Text error)
