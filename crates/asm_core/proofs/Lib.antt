@@ -1,1 +1,5 @@
 pub mod Failures
+pub mod OperandCounts
+pub mod Padding
+pub mod Listed
+pub mod Instructions

@@ -40,3 +40,9 @@ form_failure error = Refused (Form error)
 abbrev pub seen : {A B E : Type 0} → (A → B) → Result A E → Result B E
 seen see (Ok value) = Ok (see value)
 seen see (Err error) = Err error
+
+-- the value of an expression, as the definitions have it; or want of memory
+abbrev pub Yields : {A B : Type 0} → (A → B) → Result A ExprError → Result B ExprError → Type 0
+Yields see (Ok value) defined = defined ≡ Ok (see value)
+Yields see (Err expr.Memory) defined = ⊤
+Yields see (Err error) defined = defined ≡ Err error

@@ -8,3 +8,6 @@ pub use Rattle.module_defs.specs.Memory
 pub use Rattle.module_defs.specs.Modules
 pub mod Answers
 pub mod Defined
+pub mod Moves
+pub mod Checks
+pub mod Outcomes

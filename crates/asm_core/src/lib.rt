@@ -1,7 +1,13 @@
 //! The assembler: the module that a source stands for.
 #![tactic(auto)]
 
+mod characters;
 mod directives;
 mod failure;
+mod first_checks;
+mod moves;
+mod names;
 mod operand_lists;
+mod second_checks;
 mod statement;
+mod values;

@@ -1,6 +1,6 @@
 //! The operands of a directive, by how many it takes.
 
-ghost use Rattle.std.specs.Prelude.{◌≡◌, false};
+ghost use Rattle.std.specs.Prelude.{◌≡◌, ◌≤◌, true, false, length, IfOk};
 ghost use Rattle.std.specs.Option.{option_map};
 ghost use Rattle.source_defs.specs.Lines.{part};
 ghost use Rattle.asm_defs.specs.FirstChecks.{operand_texts};
@@ -12,7 +12,8 @@ use asm_text::{is_name, is_quote, operands};
 
 /// The one operand of a field.
 pub(crate) fn one_of(field: &[u8]) -> Result<&[u8], FormError>
-    ensures { seen (λ text. text.now) result ≡ spec.one_of (operand_texts field.now) }
+    ensures text { seen (λ text. text.now) result ≡ spec.one_of (operand_texts field.now) }
+    ensures part { IfOk result (λ text. length text.now ≤ length field.now) }
 {
     let mut parts = operands(field);
     let (Some(only), None) = (parts.next(), parts.next()) else {
@@ -48,7 +49,8 @@ fn written(text: &[u8]) -> Result<&[u8], FormError>
 
 /// A text in quotes.
 pub(crate) fn quoted(text: &[u8]) -> Result<&[u8], FormError>
-    ensures { seen (λ found. found.now) result ≡ spec.quoted text.now }
+    ensures text { seen (λ found. found.now) result ≡ spec.quoted text.now }
+    ensures same { IfOk result (λ found. found.now ≡ text.now) }
 {
     if is_quoted(text) {
         Ok(text)
@@ -84,7 +86,8 @@ fn closes(text: &[u8]) -> bool
 
 /// A field of one operand or more, none of which is empty.
 pub(crate) fn some_of(field: &[u8]) -> Result<&[u8], FormError>
-    ensures { seen (λ found. operand_texts found.now) result ≡ spec.some_of (operand_texts field.now) }
+    ensures texts { seen (λ found. operand_texts found.now) result ≡ spec.some_of (operand_texts field.now) }
+    ensures same { IfOk result (λ found. found.now ≡ field.now) }
 {
     if operands(field).next().is_none() {
         return Err(FormError::OperandCount);
@@ -109,7 +112,8 @@ fn all_written(field: &[u8]) -> bool
 
 /// A field of one name or more.
 pub(crate) fn names_of(field: &[u8]) -> Result<&[u8], FormError>
-    ensures { seen (λ found. spec.upper_names (operand_texts found.now)) result ≡ spec.names_in (operand_texts field.now) }
+    ensures names { seen (λ found. spec.upper_names (operand_texts found.now)) result ≡ spec.names_in (operand_texts field.now) }
+    ensures all { IfOk result (λ found. spec.all_names (operand_texts found.now) ≡ true) }
 {
     if operands(field).next().is_none() {
         return Err(FormError::OperandCount);

@@ -1,13 +1,14 @@
 //! What a line says.
 
-ghost use Rattle.std.specs.Prelude.{◌≡◌, Ok, Some};
+ghost use Rattle.std.specs.Prelude.{◌≤◌, length, IfOk, ◌≡◌, Ok, Some};
 ghost use Rattle.source_defs.specs.Fields as lines;
 ghost use Rattle.source_defs.specs.Lines.{IsInside, part};
 ghost use Rattle.asm_text.specs.GivenFields.{defined_fields, FieldsLieInside};
 ghost use Rattle.asm_defs.specs.FirstChecks.{operand_texts};
 ghost use Rattle.module_defs.specs.Statements as spec;
 ghost use Rattle.asm_core.specs.Answers.{Gives, seen};
-ghost use Rattle.asm_core.specs.Defined.{defined_statement};
+ghost use Rattle.asm_core.specs.Defined.{defined_statement, IsDirective, IsInstructionOf, NamesOnly};
+ghost use Rattle.asm_core.specs.Moves.{MovesLittle};
 
 use crate::directives::directive;
 use crate::failure::{Failure, form_failure};
@@ -66,7 +67,11 @@ pub(crate) fn statement_in<'a>(
 ) -> Result<Statement<'a>, Failure>
     requires read { lines.fields line.now ≡ Ok (defined_fields fields.now) }
     requires inside { FieldsLieInside line.now fields.now }
-    ensures { Gives defined_statement result (spec.statement_in line.now (defined_fields fields.now)) }
+    requires length { length line.now ≤ 256 }
+    ensures said { Gives defined_statement result (spec.statement_in line.now (defined_fields fields.now)) }
+    ensures little { IfOk result MovesLittle }
+    ensures names { IfOk result NamesOnly }
+    ensures instruction { IfOk result (IsInstructionOf line.now fields.now) }
 {
     match fields.operation {
         None => Ok(Statement::Nothing),
@@ -96,7 +101,11 @@ pub(crate) fn part(line: &[u8], span: Span) -> &[u8]
 
 /// A directive with its operands.
 fn directive_statement(found: Directive, field: &[u8]) -> Result<Statement<'_>, FormError>
-    ensures { seen defined_statement result ≡ spec.directive_statement found (operand_texts field.now) }
+    requires { length field.now ≤ 256 }
+    ensures said { seen defined_statement result ≡ spec.directive_statement found (operand_texts field.now) }
+    ensures little { IfOk result MovesLittle }
+    ensures names { IfOk result NamesOnly }
+    ensures directive { IfOk result IsDirective }
 {
     match found {
         Directive::Aorg => Ok(Statement::Aorg(one_of(field)?)),

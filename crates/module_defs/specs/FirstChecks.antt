@@ -3,7 +3,8 @@
 -- Profile: they stand in this order. The line's length and its label; a label that stands for something already; the
 -- operation, the number of its operands and their forms; a name of REF that stands for something already; the values
 -- that move locations; a location past the end of its part, and too many names; a bad directive.
-use Rattle.std.specs.Prelude.{ℕ, ◌+◌, ◌*◌, ◌==◌, Bool, true, false, not, ◌&&◌, ◌||◌, nat_le, nat_eq, if◌then◌else◌, List, [], ◌∷◌, ◌++◌, length, map, is_some, Option, Some, None, Result, Ok, Err}
+use Rattle.std.specs.Prelude.{ℕ, ◌+◌, ◌*◌, Bool, true, false, not, ◌&&◌, ◌||◌, nat_le, nat_eq, List, [], ◌∷◌, ◌++◌, length, map, is_some, Option, Some, None, Result, Ok, Err}
+use Rattle.std.specs.List.{list_any}
 use Rattle.std.specs.Cmp.Lexicographic.{pointwise}
 use Rattle.std.specs.FinMap.{get}
 use Rattle.source_defs.specs.Refusals.{◌>>=◌}
@@ -12,8 +13,9 @@ use Rattle.source_defs.specs.declared.causes.ExprError.TheVariants.{BadRelocatio
 use Rattle.source_defs.specs.Expression.{Value, Absolute, Relocatable, External, expression, characters}
 use Rattle.source_defs.specs.Fields.{fields}
 use Rattle.source_defs.specs.Symbols.{Names, look_up, predefined}
-use Rattle.source_defs.specs.Layout.{names_of}
-use Rattle.object_defs.specs.Modules.{most_names, all_name_characters}
+use Rattle.source_defs.specs.Layout.{names_of, set_or}
+use Rattle.object_defs.specs.Modules.{most_names, is_module_name}
+use Rattle.object_defs.specs.Digits.{padded}
 use Rattle.asm_defs.specs.SecondChecks.{absolute}
 use Rattle.module_defs.specs.declared.causes.AsmCause.{AsmCause}
 use Rattle.module_defs.specs.declared.causes.AsmCause.TheVariants.{Expr, DuplicateLabel, BadDirective, Overflow}
@@ -40,15 +42,13 @@ abbrev pub is_known : Names → List ℕ → Bool
 is_known known name = is_some (get known name)
 
 abbrev pub any_known : Names → List (List ℕ) → Bool
-any_known known [] = false
-any_known known (name ∷ names) = is_known known name || any_known known names
+any_known known names = list_any (is_known known) names
 
 abbrev pub same_name : List ℕ → List ℕ → Bool
 same_name a b = pointwise nat_eq a b
 
 abbrev pub is_among : List ℕ → List (List ℕ) → Bool
-is_among name [] = false
-is_among name (other ∷ others) = same_name name other || is_among name others
+is_among name others = list_any (λ other. same_name other name) others
 
 -- one of some names stands among earlier ones, or twice among them
 abbrev pub repeats : List (List ℕ) → List (List ℕ) → Bool
@@ -122,35 +122,36 @@ known_here (Absolute number) = Ok (Absolute number)
 known_here (Relocatable number) = Ok (Relocatable number)
 known_here (External name) = Err BadRelocation
 
--- by the names of the lines before, the highest relocatable location reached, and the line's location
-module _ (known : Names) (reached : ℕ) (here : Location) where
+-- by the names of the lines before and the line's location
+module _ (known : Names) (here : Location) where
   abbrev pub value : List ℕ → Result Value ExprError
   value text = expression (look_up known) (value_of here) text
 
   abbrev pub absolute_in : List ℕ → Result ℕ ExprError
   absolute_in text = value text >>= absolute
 
-  -- What a line does to the location. Editor/Assembler manual, "Assembler Directives".
-  abbrev pub move : Statement → Result Move ExprError
-  move Nothing = Ok (stays_at here 0)
-  move (Instruction size operation field) = Ok (stays_even here size)
-  move (Aorg text) = absolute_in text >>= λ number. Ok (set_to (record { part = part.Absolute; number = number }))
-  move (Rorg None) = Ok (set_to (record { part = part.Relocatable; number = reached }))
-  move (Rorg (Some text)) =
+  -- What a line does to the location, where a relocatable one is the highest reached so far. Editor/Assembler manual,
+  -- "Assembler Directives".
+  abbrev pub move : ℕ → Statement → Result Move ExprError
+  move reached Nothing = Ok (stays_at here 0)
+  move reached (Instruction size operation field) = Ok (stays_even here size)
+  move reached (Aorg text) = absolute_in text >>= λ number. Ok (set_to (record { part = part.Absolute; number = number }))
+  move reached (Rorg None) = Ok (set_to (record { part = part.Relocatable; number = reached }))
+  move reached (Rorg (Some text)) =
       value text >>= number_in >>= λ number. Ok (set_to (record { part = part.Relocatable; number = number }))
-  move (Dorg text) = absolute_in text >>= λ number. Ok (set_to (record { part = part.Dummy; number = number }))
-  move (Bss text) = absolute_in text >>= λ size. Ok (stays_at here size)
-  move (Bes text) = absolute_in text >>= λ size. Ok (ends_block here size)
-  move Even = Ok (stays_even here 0)
-  move (Equ text) = value text >>= known_here >>= λ value. Ok (equals value)
-  move (Data texts) = Ok (stays_even here (2 * length texts))
-  move (Byte texts) = Ok (stays_at here (length texts))
-  move (Text quoted) = Ok (stays_at here (length (characters quoted)))
-  move (Def names) = Ok (stays_at here 0)
-  move (Ref names) = Ok (stays_at here 0)
-  move (Idt text) = Ok (stays_at here 0)
-  move (Titl text) = Ok (stays_at here 0)
-  move (End text) = Ok (stays_at here 0)
+  move reached (Dorg text) = absolute_in text >>= λ number. Ok (set_to (record { part = part.Dummy; number = number }))
+  move reached (Bss text) = absolute_in text >>= λ size. Ok (stays_at here size)
+  move reached (Bes text) = absolute_in text >>= λ size. Ok (ends_block here size)
+  move reached Even = Ok (stays_even here 0)
+  move reached (Equ text) = value text >>= known_here >>= λ value. Ok (equals value)
+  move reached (Data texts) = Ok (stays_even here (2 * length texts))
+  move reached (Byte texts) = Ok (stays_at here (length texts))
+  move reached (Text quoted) = Ok (stays_at here (length (characters quoted)))
+  move reached (Def names) = Ok (stays_at here 0)
+  move reached (Ref names) = Ok (stays_at here 0)
+  move reached (Idt text) = Ok (stays_at here 0)
+  move reached (Titl text) = Ok (stays_at here 0)
+  move reached (End text) = Ok (stays_at here 0)
 
 abbrev pub is_end : Statement → Bool
 is_end (End text) = true
@@ -164,44 +165,105 @@ label_entry (Some name) value = (name, value) ∷ []
 abbrev pub external_entries : List (List ℕ) → List (List ℕ × Value)
 external_entries names = map (λ name. (name, External name)) names
 
--- a line with its label, its statement and its move
-abbrev pub line_of : ℕ → Option (List ℕ) → Statement → Move → Line
-line_of number label statement move =
+-- what is known of the lines before a line
+pub record Before : Type 0 where
+  pub names : Names
+  pub location : Location
+  pub reached : ℕ
+  pub defs : List (List ℕ)
+  pub refs : List (List ℕ)
+
+abbrev pub known_of : List Line → Before
+known_of before =
     record {
-      number = number;
-      origin = move.origin;
-      gap = move.gap;
-      size = move.size;
-      names = label_entry label move.label ++ external_entries (refs_in statement);
-      statement = statement;
-      last = is_end statement;
+      names = names before;
+      location = location before;
+      reached = reached before;
+      defs = defs before;
+      refs = refs before;
     }
 
--- Profile: a location past the end of its part, the 257th name of DEF, or the 257th name of REF.
-abbrev pub is_too_far : List Line → Bool
-is_too_far lines =
-    not (is_in_part (location lines)) || not (nat_le (length (defs lines)) most_names)
-    || not (nat_le (length (refs lines)) most_names)
+-- the location behind a line
+abbrev pub location_behind : Location → Move → Location
+location_behind here move = behind (set_or move.origin here) (move.gap + move.size)
 
--- Profile: a module's name is a quoted text of at most eight characters from >20 to >7E.
+abbrev pub has_too_many : List (List ℕ) → List (List ℕ) → Bool
+has_too_many before names = not (nat_le (length before + length names) most_names)
+
+-- Profile: the 257th name of DEF, or the 257th name of REF, is too much.
+abbrev pub lists_too_many : Before → Statement → Bool
+lists_too_many before (Def names) = has_too_many before.defs names
+lists_too_many before (Ref names) = has_too_many before.refs names
+lists_too_many before _ = false
+
+-- Profile: and so is a location past the end of its part.
+abbrev pub is_too_far : Before → Statement → Move → Bool
+is_too_far before statement move =
+    not (is_in_part (location_behind before.location move)) || lists_too_many before statement
+
+-- the module's name that a quoted text gives, filled up with blanks
+abbrev pub title_in : List ℕ → List ℕ
+title_in text = padded 8 (characters text)
+
+-- Profile: a module's name is at most eight characters from >20 to >7E.
 abbrev pub is_title : List ℕ → Bool
-is_title text = nat_le (length (characters text)) 8 && all_name_characters (characters text)
+is_title text = is_module_name (title_in text)
 
 -- a directive that cannot stand as it is
-abbrev pub is_bad : List Line → Option (List ℕ) → Statement → Bool
+abbrev pub is_bad : Before → Option (List ℕ) → Statement → Bool
 is_bad before None (Equ text) = true
 is_bad before label (Idt text) = not (is_quoted text && is_title text)
 is_bad before label (Titl text) = not (is_quoted text)
-is_bad before label (Def names) = repeats (defs before) names
+is_bad before label (Def names) = repeats before.defs names
 is_bad before label _ = false
 
+-- a label with what its line says
+pub record Said : Type 0 where
+  pub label : Option (List ℕ)
+  pub statement : Statement
+
+-- what the first checks leave of a line
+pub record Checked : Type 0 where
+  pub label : Option (List ℕ)
+  pub statement : Statement
+  pub move : Move
+
+-- by what is known of the lines before
+module _ (before : Before) where
+  -- what a line says, whose names are new
+  unfoldable pub said : List ℕ → Result Said AsmCause
+  said text = do
+    found ← as_text (fields text)
+    label ← unless (any_known before.names (label_in found.label)) DuplicateLabel found.label
+    statement ← statement_in text found
+    unless (is_taken before.names label (refs_in statement)) DuplicateLabel (record { label = label; statement = statement })
+
+  -- where it leads
+  unfoldable pub moved : Said → Result Checked AsmCause
+  moved line = do
+    move ← as_expr (move before.names before.location before.reached line.statement)
+    move ← unless (is_too_far before line.statement move) Overflow move
+    unless (is_bad before line.label line.statement) BadDirective
+      (record { label = line.label; statement = line.statement; move = move })
+
+  -- a line by the first checks
+  abbrev pub checked : List ℕ → Result Checked AsmCause
+  checked text = said text >>= moved
+
+abbrev pub line_of : ℕ → Checked → Line
+line_of number checked =
+    record {
+      number = number;
+      origin = checked.move.origin;
+      gap = checked.move.gap;
+      size = checked.move.size;
+      names = label_entry checked.label checked.move.label ++ external_entries (refs_in checked.statement);
+      statement = checked.statement;
+      last = is_end checked.statement;
+    }
+
 -- what a line comes to behind others
-unfoldable pub check : List Line → ℕ → List ℕ → Result Line AsmCause
+abbrev pub check : List Line → ℕ → List ℕ → Result Line AsmCause
 check before number text = do
-  found ← as_text (fields text)
-  label ← unless (any_known (names before) (label_in found.label)) DuplicateLabel found.label
-  statement ← statement_in text found
-  statement ← unless (is_taken (names before) label (refs_in statement)) DuplicateLabel statement
-  move ← as_expr (move (names before) (reached before) (location before) statement)
-  line ← unless (is_too_far (line_of number label statement move ∷ before)) Overflow (line_of number label statement move)
-  unless (is_bad before label statement) BadDirective line
+  found ← checked (known_of before) text
+  Ok (line_of number found)

@@ -1,5 +1,5 @@
 -- The locations of a module.
-use Rattle.std.specs.Prelude.{ℕ, ◌+◌, ◌%◌, Bool, nat_le, if◌then◌else◌, max, List, [], ◌∷◌}
+use Rattle.std.specs.Prelude.{ℕ, ◌+◌, ◌%◌, Bool, nat_le, max, List, [], ◌∷◌}
 use Rattle.source_defs.specs.Expression.{Value, Absolute, Relocatable, to_word}
 use Rattle.source_defs.specs.Layout as layout
 use Rattle.source_defs.specs.Layout.{Laid}

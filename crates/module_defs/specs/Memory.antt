@@ -1,5 +1,5 @@
 -- What the lines place: bytes, and words of which some hold the chains of the uses of external names.
-use Rattle.std.specs.Prelude.{ℕ, ◌+◌, ◌-◌, ◌*◌, ◌==◌, Bool, true, false, ◌&&◌, ◌||◌, nat_le, nat_lt, if◌then◌else◌, List, [], ◌∷◌, ◌++◌, length, slice_get, map, count_by, flat_map, Option, Some, None}
+use Rattle.std.specs.Prelude.{ℕ, ◌+◌, ◌-◌, ◌*◌, Bool, true, false, ◌&&◌, ◌||◌, nat_le, nat_lt, if◌then◌else◌, List, [], ◌∷◌, ◌++◌, length, slice_get, map, count_by, flat_map, Option, Some, None}
 use Rattle.std.specs.List.{range_with_len}
 use Rattle.source_defs.specs.Expression.{Value, Absolute, Relocatable, External}
 use Rattle.object_defs.specs.declared.spot.Spot.{Spot}

@@ -1,17 +1,18 @@
 -- The module of a source.
-use Rattle.std.specs.Prelude.{◌≡◌, ℕ, not, nat_le, List, [], ◌∷◌, ◌++◌, length, map, replicate, ◌-◌, Option, Some, None, Result, Ok, Err}
+use Rattle.std.specs.Prelude.{ℕ, not, nat_le, List, [], ◌∷◌, map, Option, Some, None, Result, Ok}
 use Rattle.source_defs.specs.Refusals.{Refusal, ◌>>=◌}
-use Rattle.source_defs.specs.Expression.{Value, Absolute, Relocatable, External, characters}
+use Rattle.source_defs.specs.Expression.{Value, Absolute, Relocatable}
 use Rattle.source_defs.specs.Symbols.{Names, look_up}
 use Rattle.source_defs.specs.Layout.{laid, settled, numbered, line_texts}
 use Rattle.object_defs.specs.declared.spot.Spot.{Spot}
 use Rattle.object_defs.specs.declared.spot.Spot.TheVariants as spot
-use Rattle.object_defs.specs.Modules.{Module, Definition, Reference, most_words}
+use Rattle.object_defs.specs.Digits.{padded}
+use Rattle.object_defs.specs.Modules.{Module, Reference, most_words}
 use Rattle.module_defs.specs.declared.causes.AsmCause.{AsmCause}
 use Rattle.module_defs.specs.declared.causes.AsmCause.TheVariants.{Overflow, Overlap}
 use Rattle.module_defs.specs.Statements.{Statement, Idt}
 use Rattle.module_defs.specs.Locations.{Line, place, reached}
-use Rattle.module_defs.specs.FirstChecks.{check, names, refs, defs, unless}
+use Rattle.module_defs.specs.FirstChecks.{check, title_in, names, refs, defs, unless}
 use Rattle.module_defs.specs.SecondChecks.{Outcome, Nothing, Words, Bytes, Entry, outcome}
 use Rattle.module_defs.specs.Memory.{Settled, word_count, overlaps, references_of, pieces}
 
@@ -26,11 +27,11 @@ settle known before earlier line = do
 
 -- Editor/Assembler manual, "Program Identifier". Profile: a later name replaces an earlier one, and blanks fill it up.
 abbrev pub title_by : List ℕ → Statement → List ℕ
-title_by title (Idt text) = characters text ++ replicate (8 - length (characters text)) 0x20
+title_by title (Idt text) = title_in text
 title_by title _ = title
 
 abbrev pub title : List Line → List ℕ
-title [] = replicate 8 0x20
+title [] = padded 8 []
 title (line ∷ before) = title_by (title before) line.statement
 
 -- the spot that a name stands for

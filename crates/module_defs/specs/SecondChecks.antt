@@ -1,5 +1,5 @@
 -- The second checks of a line: the values of its operands from the left, then their ranges; and what it places.
-use Rattle.std.specs.Prelude.{ℕ, ◌+◌, ◌%◌, ◌==◌, Bool, false, nat_le, if◌then◌else◌, List, [], ◌∷◌, Option, Some, None, Result, Ok, Err}
+use Rattle.std.specs.Prelude.{ℕ, ◌%◌, ◌==◌, Bool, false, nat_le, if◌then◌else◌, List, [], ◌∷◌, Option, Some, Result, Ok, Err}
 use Rattle.source_defs.specs.Refusals.{◌>>=◌}
 use Rattle.source_defs.specs.declared.causes.ExprError.{ExprError}
 use Rattle.source_defs.specs.declared.causes.ExprError.TheVariants.{BadRelocation}
@@ -10,7 +10,7 @@ use Rattle.asm_defs.specs.declared.causes.FormError.TheVariants.{BadOperand}
 use Rattle.asm_defs.specs.FirstChecks.{first_checks}
 use Rattle.asm_defs.specs.SecondChecks.{absolute, second_checks}
 use Rattle.module_defs.specs.declared.causes.AsmCause.{AsmCause}
-use Rattle.module_defs.specs.declared.causes.AsmCause.TheVariants.{Form, Expr, BadDirective}
+use Rattle.module_defs.specs.declared.causes.AsmCause.TheVariants.{Form, BadDirective}
 use Rattle.module_defs.specs.declared.location.Location.{Location}
 use Rattle.module_defs.specs.declared.location.Part.{Part}
 use Rattle.module_defs.specs.declared.location.Part.TheVariants as part
@@ -66,38 +66,49 @@ module _ (look : List ℕ → Option Value) (at : Location) where
   abbrev pub value : List ℕ → Result Value ExprError
   value text = expression look (value_of at) text
 
+  -- a value of DATA, whose word stands at a place
+  abbrev pub word_in : Location → List ℕ → Result Value ExprError
+  word_in place text = value text >>= used_at place
+
   -- the values of DATA, of which the first stands at a place
   abbrev pub data_values : Location → List (List ℕ) → Result (List Value) ExprError
   data_values place [] = Ok []
   data_values place (text ∷ texts) = do
-    first ← value text
-    first ← used_at place first
+    first ← word_in place text
     others ← data_values (behind place 2) texts
     Ok (first ∷ others)
+
+  abbrev pub absolute_in : List ℕ → Result ℕ ExprError
+  absolute_in text = value text >>= absolute
 
   -- the values of BYTE
   abbrev pub byte_values : List (List ℕ) → Result (List ℕ) ExprError
   byte_values [] = Ok []
   byte_values (text ∷ texts) = do
-    first ← value text
-    first ← absolute first
+    first ← absolute_in text
     others ← byte_values texts
     Ok (first ∷ others)
 
-  -- the values of the names of DEF
-  abbrev pub def_values : List (List ℕ) → Result (List Value) AsmCause
-  def_values [] = Ok []
-  def_values (name ∷ names) = do
-    first ← as_expr (known_value (look name))
-    first ← defined_here first
-    others ← def_values names
-    Ok (first ∷ others)
+  -- the names of DEF stand for something here
+  abbrev pub defs_known : List (List ℕ) → Result Outcome AsmCause
+  defs_known [] = Ok Nothing
+  defs_known (name ∷ names) = do
+    value ← as_expr (known_value (look name))
+    value ← defined_here value
+    defs_known names
+
+  abbrev pub entry_in : List ℕ → Result Spot ExprError
+  entry_in text = value text >>= entry_at
+
+  -- the words of an instruction
+  abbrev pub instruction_outcome : List ℕ → List ℕ → Result Outcome AsmCause
+  instruction_outcome operation field = do
+    words ← as_form (first_checks operation field >>= λ skeleton. second_checks look (value_of at) skeleton)
+    Ok (Words words)
 
   -- what a line comes to, or why the second checks refuse it
   unfoldable pub outcome : Statement → Result Outcome AsmCause
-  outcome (Instruction size operation field) = do
-    words ← as_form (first_checks operation field >>= λ skeleton. second_checks look (value_of at) skeleton)
-    Ok (Words words)
+  outcome (Instruction size operation field) = instruction_outcome operation field
   outcome (Data texts) = do
     words ← as_expr (data_values at texts)
     Ok (Words words)
@@ -106,10 +117,8 @@ module _ (look : List ℕ → Option Value) (at : Location) where
     bytes ← bytes_of numbers
     Ok (Bytes bytes)
   outcome (Text quoted) = Ok (Bytes (characters quoted))
-  outcome (Def names) = do
-    values ← def_values names
-    Ok Nothing
+  outcome (Def names) = defs_known names
   outcome (End (Some text)) = do
-    entry ← as_expr (value text >>= entry_at)
+    entry ← as_expr (entry_in text)
     Ok (Entry entry)
   outcome _ = Ok Nothing

@@ -1,5 +1,5 @@
 -- What a line says: its operation with as many operands as it takes, in their forms.
-use Rattle.std.specs.Prelude.{ℕ, ◌<◌, ◌-◌, ◌%◌, ◌==◌, Bool, true, false, not, ◌&&◌, ◌||◌, nat_lt, if◌then◌else◌, List, [], ◌∷◌, length, slice_index, map, Option, Some, None, Result, Ok, Err}
+use Rattle.std.specs.Prelude.{ℕ, Bool, true, false, not, ◌&&◌, if◌then◌else◌, List, [], ◌∷◌, map, Option, Some, None, Result, Ok, Err}
 use Rattle.std.specs.List.{list_all}
 use Rattle.source_defs.specs.declared.text.Span.{Span}
 use Rattle.source_defs.specs.declared.causes.TextError.{TextError}
@@ -7,7 +7,7 @@ use Rattle.source_defs.specs.Refusals.{◌>>=◌}
 use Rattle.source_defs.specs.Characters.{is_quote, upper_case}
 use Rattle.source_defs.specs.Lines.{part}
 use Rattle.source_defs.specs.Names.{is_name}
-use Rattle.source_defs.specs.Fields.{Fields, fields, in_quotes}
+use Rattle.source_defs.specs.Fields.{Fields}
 use Rattle.asm_defs.specs.declared.causes.FormError.{FormError}
 use Rattle.asm_defs.specs.declared.causes.FormError.TheVariants.{OperandCount, BadOperand}
 use Rattle.asm_defs.specs.FirstChecks.{line_size, operand_texts}

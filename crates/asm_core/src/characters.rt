@@ -1,0 +1,83 @@
+//! The characters of a quoted text.
+
+ghost use Rattle.std.specs.Prelude.{◌≡◌, ◌≤◌, ◌<◌, Some, None, if◌then◌else◌, length, IfOk, IfSome};
+ghost use Rattle.source_defs.specs.Expression as spec;
+ghost use Rattle.std.specs.Option.{IfNone};
+ghost use Rattle.module_defs.specs.FirstChecks.{is_title, title_in};
+
+use arrayvec::ArrayVec;
+use asm_text::is_quote;
+use object_tags::ModuleName;
+use std::alloc::{AllocError, Global};
+
+/// How many characters a quoted text has, where two quotes in it are one.
+pub(crate) fn character_count(quoted: &[u8]) -> usize
+    ensures count { result ≡ length (spec.characters quoted.now) }
+    ensures most { result ≤ length quoted.now }
+{
+    let mut count = 0;
+    let mut quote = false;
+    for &byte in between_quotes(quoted) {
+        quote = is_quote(byte) && !quote;
+        if quote || !is_quote(byte) {
+            count += 1;
+        }
+    }
+    count
+}
+
+/// The characters of a quoted text, where two quotes in it are one.
+pub(crate) fn characters(alloc: Global, quoted: &[u8]) -> Result<Vec<u8>, AllocError>
+    ensures { IfOk result (λ characters. characters.items ≡ spec.characters quoted.now) }
+{
+    let mut characters = Vec::new(alloc);
+    let mut quote = false;
+    for &byte in between_quotes(quoted) {
+        quote = is_quote(byte) && !quote;
+        if quote || !is_quote(byte) {
+            characters.push(byte)?;
+        }
+    }
+    Ok(characters)
+}
+
+/// The module's name that a quoted text gives, filled up with blanks; none where the text is no name of a module.
+pub(crate) fn title_in(quoted: &[u8]) -> Option<ModuleName>
+    ensures { result ≡ (if is_title quoted.now then Some (title_in quoted.now) else None) }
+{
+    let mut name = first_eight(quoted)?;
+    while !name.is_full() {
+        name.push(b' ');
+    }
+    ModuleName::read(name.as_slice())
+}
+
+/// The characters of a quoted text of at most eight.
+fn first_eight(quoted: &[u8]) -> Option<ArrayVec<u8, 8>>
+    ensures some { IfSome result (λ characters. characters.items ≡ spec.characters quoted.now) }
+    ensures none { IfNone result (8 < length (spec.characters quoted.now)) }
+{
+    let mut characters = ArrayVec::new();
+    let mut quote = false;
+    for &byte in between_quotes(quoted) {
+        quote = is_quote(byte) && !quote;
+        if quote || !is_quote(byte) {
+            if characters.is_full() {
+                return None;
+            }
+            characters.push(byte);
+        }
+    }
+    Some(characters)
+}
+
+/// What stands between the quotes of a text.
+fn between_quotes(quoted: &[u8]) -> &[u8]
+    ensures { result.now ≡ spec.between_quotes quoted.now }
+{
+    if quoted.len() < 2 {
+        &[]
+    } else {
+        &quoted[1..quoted.len() - 1]
+    }
+}

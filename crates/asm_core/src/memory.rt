@@ -1,0 +1,1 @@
+//! The bytes and words that the lines place.

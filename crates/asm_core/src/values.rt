@@ -1,0 +1,51 @@
+//! The values of a line.
+
+ghost use Rattle.std.specs.Prelude.{◌≡◌};
+ghost use Rattle.asm_text.specs.GivenValues.{defined_value, IsNotExternal};
+ghost use Rattle.module_defs.specs.FirstChecks.{value, absolute_in};
+ghost use Rattle.module_defs.specs.Locations as spec;
+ghost use Rattle.asm_core.specs.Answers.{Yields};
+
+use asm_text::{ExprError, Symbols, Value, tokens, value};
+use module_defs::{Location, Part};
+use std::alloc::Global;
+
+/// The names that a line sees, and its place.
+#[derive(Clone, Copy)]
+pub(crate) struct Scope<'a> {
+    pub(crate) alloc: Global,
+    pub(crate) symbols: &'a Symbols,
+    pub(crate) at: Location,
+}
+
+impl Scope<'_> {
+    /// The value of an expression.
+    pub(crate) fn value_of(&self, text: &[u8]) -> Result<Value, ExprError>
+        ensures { Yields defined_value result (value self.now.symbols.now self.now.at text.now) }
+    {
+        let found = tokens(self.alloc, text)?;
+        value(found.as_slice(), text, self.symbols, value_at(self.at))
+    }
+
+    /// The value of an expression that has to be absolute.
+    pub(crate) fn absolute_of(&self, text: &[u8]) -> Result<u16, ExprError>
+        ensures { Yields (λ number. number) result (absolute_in self.now.symbols.now self.now.at text.now) }
+    {
+        match self.value_of(text)? {
+            Value::Absolute(number) => Ok(number),
+            Value::Relocatable(_) | Value::External(_) => Err(ExprError::BadRelocation),
+        }
+    }
+}
+
+/// What a label at a place stands for.
+pub(crate) fn value_at(at: Location) -> Value
+    ensures value { defined_value result ≡ spec.value_of at }
+    ensures known { IsNotExternal result }
+{
+    let number = (at.number % 0x10000) as u16;
+    match at.part {
+        Part::Relocatable => Value::Relocatable(number),
+        Part::Absolute | Part::Dummy => Value::Absolute(number),
+    }
+}
