@@ -3,3 +3,4 @@ pub mod OperandCounts
 pub mod Padding
 pub mod Listed
 pub mod Instructions
+pub mod TableLaws

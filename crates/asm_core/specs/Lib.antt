@@ -11,3 +11,5 @@ pub mod Defined
 pub mod Moves
 pub mod Checks
 pub mod Outcomes
+pub mod Tables
+pub mod Holding

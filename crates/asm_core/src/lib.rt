@@ -5,6 +5,7 @@ mod characters;
 mod directives;
 mod failure;
 mod first_checks;
+mod memory;
 mod moves;
 mod names;
 mod operand_lists;

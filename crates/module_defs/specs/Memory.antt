@@ -1,6 +1,5 @@
 -- What the lines place: bytes, and words of which some hold the chains of the uses of external names.
-use Rattle.std.specs.Prelude.{ℕ, ◌+◌, ◌-◌, ◌*◌, Bool, true, false, ◌&&◌, ◌||◌, nat_le, nat_lt, if◌then◌else◌, List, [], ◌∷◌, ◌++◌, length, slice_get, map, count_by, flat_map, Option, Some, None}
-use Rattle.std.specs.List.{range_with_len}
+use Rattle.std.specs.Prelude.{ℕ, ◌+◌, ◌-◌, ◌*◌, Bool, true, false, ◌&&◌, ◌||◌, nat_le, nat_lt, if◌then◌else◌, List, [], ◌∷◌, ◌++◌, length, slice_get, map, Option, Some, None, zero, suc}
 use Rattle.source_defs.specs.Expression.{Value, Absolute, Relocatable, External}
 use Rattle.object_defs.specs.declared.spot.Spot.{Spot}
 use Rattle.object_defs.specs.declared.spot.Spot.TheVariants as spot
@@ -57,25 +56,34 @@ is_placed (line ∷ before) part p = covers line part p || is_placed before part
 abbrev pub is_word : List Settled → Part → ℕ → Bool
 is_word lines part w = is_placed lines part (2 * w) || is_placed lines part (2 * w + 1)
 
--- the numbers of the words of a part
-unfoldable pub word_numbers : List ℕ
-word_numbers = range_with_len 0 32768
+-- how many words a part has
+unfoldable pub part_words : ℕ
+part_words = 32768
+
+abbrev pub one_if : Bool → ℕ
+one_if true = 1
+one_if false = 0
+
+-- how many of some numbers have a property, and whether one has; they count from the first on
+abbrev pub count_from : (ℕ → Bool) → ℕ → ℕ → ℕ
+count_from has first zero = 0
+count_from has first (suc count) = one_if (has first) + count_from has (first + 1) count
+
+abbrev pub any_from : (ℕ → Bool) → ℕ → ℕ → Bool
+any_from has first zero = false
+any_from has first (suc count) = has first || any_from has (first + 1) count
 
 -- how many words of a part are placed
 abbrev pub words_in : List Settled → Part → ℕ
-words_in lines part = count_by (is_word lines part) word_numbers
+words_in lines part = count_from (is_word lines part) 0 part_words
 
 -- how many words are placed
 abbrev pub word_count : List Settled → ℕ
 word_count lines = words_in lines part.Relocatable + words_in lines part.Absolute
 
--- some byte of those from a place on was placed
-abbrev pub any_placed : List Settled → Part → ℕ → ℕ → Bool
-any_placed lines part from count = nat_lt 0 (count_by (is_placed lines part) (range_with_len from count))
-
 -- a byte that a line places was placed before
 abbrev pub overlaps : List Settled → Settled → Bool
-overlaps before line = any_placed before line.at.part line.at.number (bytes_in line.outcome)
+overlaps before line = any_from (is_placed before line.at.part) line.at.number (bytes_in line.outcome)
 
 -- the place of the last use of a name so far; absolute 0 before the first
 abbrev pub last_use : List Reference → List ℕ → Spot
@@ -161,9 +169,14 @@ abbrev pub pieces_at : (ℕ → Option Content) → Part → ℕ → List Piece
 pieces_at content part w =
     map (λ word. record { at = spot_by part (2 * w); word = word }) (joined (content (2 * w)) (content (2 * w + 1)))
 
+-- the placed words among some, by their numbers from the first on
+abbrev pub pieces_from : (ℕ → Option Content) → Part → ℕ → ℕ → List Piece
+pieces_from content part first zero = []
+pieces_from content part first (suc count) = pieces_at content part first ++ pieces_from content part (first + 1) count
+
 -- the words of a part, in order of their places
 abbrev pub pieces_in : (ℕ → Option Content) → Part → List Piece
-pieces_in content part = flat_map (pieces_at content part) word_numbers
+pieces_in content part = pieces_from content part 0 part_words
 
 -- Profile: a module's words are its relocatable ones in order of their places, then its absolute ones.
 abbrev pub pieces : List Reference → List Settled → List Piece

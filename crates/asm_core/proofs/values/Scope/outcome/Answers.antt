@@ -1,6 +1,4 @@
-use Rattle.std.proofs.Common.{◌≡◌}
 use Rattle.source_defs.specs.Symbols.{look_up}
-use Rattle.asm_core.specs.Defined.{IsInstructionOf}
 use Rattle.asm_core.proofs.Instructions.{instruction_given}
 use Rattle.asm_core.proofs.values.Scope.outcome.Goals as goal
 
