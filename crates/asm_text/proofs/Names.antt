@@ -8,7 +8,7 @@ use Rattle.std.specs.declared.cmp.Ordering.TheVariants.{Less, Equal, Greater}
 use Rattle.std.specs.FinMap.Entries.{find_tied}
 use Rattle.std.specs.Cmp.{eq_by_cmp_equiv}
 use Rattle.std.specs.Cmp.Lexicographic.{slice_cmp, nat_list_cmp_total}
-use Rattle.std.specs.FinMap.{get, get-from_entries, get-insert, insert, same_map, slice_cmp-IsAntisymmetric, nat_cmp-IsAntisymmetric}
+use Rattle.std.specs.FinMap.{get, get-from_entries, get-insert, get-remove, insert, remove, same_map, slice_cmp-IsAntisymmetric, nat_cmp-IsAntisymmetric}
 use Rattle.std.specs.BTreeMap.{BTreeMap, is_at}
 use Rattle.std.specs.BTreeMap as tree
 use Rattle.std.specs.Map.{lookup}
@@ -86,3 +86,25 @@ module _ (old new : BTreeMap (List ℕ) Value) (name : List ℕ) (value : Value)
       ∙ (ap (λ b. cond b (Some (defined_value value)) (or_else (found asked registers) (option_map defined_value (tree.get (slice_cmp nat_cmp) old asked)))) ((eq_by_cmp_equiv nat_list_cmp_total).symm name asked)
       ∙ (ap (cond (eq_by_cmp (slice_cmp nat_cmp) asked name) (Some (defined_value value))) (sym (get_kept old.entries asked))
       ∙ sym (get-insert nat_list_cmp_total (names_of old.entries) name (defined_value value) asked))))))
+
+module _ (old new : BTreeMap (List ℕ) Value) (name : List ℕ) where
+  removed_at : (b : Bool) (asked : List ℕ) → eq_by_cmp (slice_cmp nat_cmp) name asked ≡ b → found name registers ≡ None
+      → or_else (found asked registers) (option_map defined_value (cond b None (tree.get (slice_cmp nat_cmp) old asked)))
+      ≡ cond b None (or_else (found asked registers) (option_map defined_value (tree.get (slice_cmp nat_cmp) old asked)))
+  removed_at true asked tied none =
+      let other : found asked registers ≡ None = find_tied (slice_cmp nat_cmp) nat_list_cmp_total name asked (equal_of _ tied) registers ∙ none in
+      rw other refl
+  removed_at false asked tied none = refl
+
+  -- a name that is no register is taken out
+  pub remove_kept : tree.Updates (slice_cmp nat_cmp) old new name None → found name registers ≡ None
+      → names_of new.entries ≡ remove (names_of old.entries) name
+  remove_kept updates none =
+      same_map nat_list_cmp_total (slice_cmp-IsAntisymmetric nat_cmp-IsAntisymmetric) _ _
+      (λ asked.
+      get_kept new.entries asked
+      ∙ (ap (λ kept. or_else (found asked registers) (option_map defined_value kept)) (updates.0 asked)
+      ∙ (removed_at _ asked refl none
+      ∙ (ap (λ b. cond b None (or_else (found asked registers) (option_map defined_value (tree.get (slice_cmp nat_cmp) old asked)))) ((eq_by_cmp_equiv nat_list_cmp_total).symm name asked)
+      ∙ (ap (cond (eq_by_cmp (slice_cmp nat_cmp) asked name) None) (sym (get_kept old.entries asked))
+      ∙ sym (get-remove nat_list_cmp_total (names_of old.entries) name asked))))))

@@ -4,7 +4,7 @@ ghost use Rattle.std.specs.Prelude.{◌≡◌, ◌↔◌, ◌<◌, ◌≤◌, No
 ghost use Rattle.std.specs.Prelude.{nat_eq, Err};
 ghost use Rattle.std.specs.Ordering.{nat_cmp};
 ghost use Rattle.std.specs.Cmp.Lexicographic.{pointwise, slice_cmp};
-ghost use Rattle.std.specs.FinMap.{insert, get, find};
+ghost use Rattle.std.specs.FinMap.{insert, get, find, remove};
 ghost use Rattle.std.specs.Option.{option_map};
 ghost use Rattle.source_defs.specs.Symbols as spec;
 ghost use Rattle.source_defs.specs.Expression.{Absolute};
@@ -74,6 +74,15 @@ impl Symbols {
             Ok(_) => Ok(()),
             Err(_) => Err(DefineError::Memory),
         }
+    }
+
+    /// Takes a name out, which is no register, and answers what it stood for. All other names stay. It takes no memory.
+    pub fn remove(&mut self, name: &Name) -> Option<Value>
+        requires { find (slice_cmp nat_cmp) name.now spec.registers ≡ None }
+        ensures was { option_map defined_value result ≡ get self.old name.now }
+        ensures removed { self.new ≡ remove self.old name.now }
+    {
+        self.defined.remove(name)
     }
 
     /// What a name stands for.
