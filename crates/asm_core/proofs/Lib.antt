@@ -4,3 +4,4 @@ pub mod Padding
 pub mod Listed
 pub mod Instructions
 pub mod TableLaws
+pub mod ReferenceLaws

@@ -2,6 +2,7 @@
 #![tactic(auto)]
 
 mod characters;
+mod contents;
 mod directives;
 mod failure;
 mod first_checks;
@@ -9,6 +10,7 @@ mod memory;
 mod moves;
 mod names;
 mod operand_lists;
+mod references;
 mod second_checks;
 mod statement;
 mod values;

@@ -33,20 +33,20 @@ all_operand_words (operand ∷ operands) = operand_words operand + all_operand_w
 abbrev ready_words : Ready → ℕ
 ready_words ready = length (following_in ready)
 
-abbrev value_or : {B E : Type 0} → B → Result B E → B
+abbrev pub value_or : {B E : Type 0} → B → Result B E → B
 value_or other (Ok value) = value
 value_or other (Err error) = other
 
 -- what an answer counts, where each value that it may be made of counts so
-given : {A B E : Type 0} (count : B → ℕ) (n : ℕ) (answer : Result A E) (make : A → Result B E) (made : B)
+pub given : {A B E : Type 0} (count : B → ℕ) (n : ℕ) (answer : Result A E) (make : A → Result B E) (made : B)
     → (answer >>= make) ≡ Ok made → ((value : A) → answer ≡ Ok value → make value ≡ Ok made → count made ≡ n) → count made ≡ n
 given count n (Ok value) make made e each = each value refl e
 given count n (Err error) make made e each = cc e
 
-abbrev same_answer : {B E : Type 0} → Result B E → Result B E → Type 0
+abbrev pub same_answer : {B E : Type 0} → Result B E → Result B E → Type 0
 same_answer a b = a ≡ b
 
-is_ok : {B E : Type 0} (count : B → ℕ) (n : ℕ) (value made : B) → same_answer {B = B} {E = E} (Ok value) (Ok made) → count value ≡ n → count made ≡ n
+pub is_ok : {B E : Type 0} (count : B → ℕ) (n : ℕ) (value made : B) → same_answer {B = B} {E = E} (Ok value) (Ok made) → count value ≡ n → count made ≡ n
 is_ok count n value made e counts = sym (ap (λ answer. count (value_or value answer)) e) ∙ counts
 
 module _ (look : List ℕ → Option Value) (here : Value) where

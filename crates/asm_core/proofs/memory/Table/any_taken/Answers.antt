@@ -1,4 +1,4 @@
-use Rattle.std.proofs.Common.{◌≡◌, sym, ap, ◌∙◌, arith}
+use Rattle.std.proofs.Common.{sym, ◌∙◌, arith}
 use Rattle.asm_core.specs.Tables.{is_taken}
 use Rattle.asm_core.proofs.TableLaws.{any_later}
 use Rattle.asm_core.proofs.memory.Table.any_taken.Goals as goal

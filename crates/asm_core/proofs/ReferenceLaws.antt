@@ -1,0 +1,20 @@
+-- What the last uses become behind one more.
+use Rattle.std.proofs.Common.{◌≡◌, ℕ, zero, suc, ◌<◌, true, List, [], ◌∷◌, ◌++◌, length, get_or, set, take, drop, refl, sym, subst, ap, arith}
+use Rattle.std.specs.Prelude.{map}
+use Rattle.object_defs.specs.declared.spot.Spot.{Spot}
+use Rattle.object_tags.specs.declared.parts.Ref.{Ref}
+use Rattle.object_tags.specs.Seen.{defined_ref}
+use Rattle.module_defs.specs.FirstChecks.{same_name}
+use Rattle.module_defs.specs.Memory.{with_use}
+
+pub used_at : (references : List Ref) (index : ℕ) (name : List ℕ) (at : Spot) (seen found : Ref) → index < length references
+    → seen ≡ get_or references index seen → found ≡ get_or references index found → same_name seen.name name ≡ true
+    → map defined_ref (take index references) ++ with_use (map defined_ref (drop index references)) name at
+    ≡ map defined_ref (set references index (record { name = found.name; last = at }))
+used_at [] index name at seen found lt is was same = absurd (omega (arith, lt))
+used_at (first ∷ others) zero name at seen found lt is was same =
+    let here : same_name first.name name ≡ true = subst (λ (reference : Ref). same_name reference.name name ≡ true) is same in
+    let kept : first.name ≡ found.name = ap (λ (reference : Ref). reference.name) (sym was) in
+    rw here (ap (λ kept. record { name = kept; last = at } ∷ map defined_ref others) kept)
+used_at (first ∷ others) (suc index) name at seen found lt is was same =
+    ap (λ rest. defined_ref first ∷ rest) (used_at others index name at seen found (omega (arith, lt)) is was same)

@@ -1,0 +1,100 @@
+//! The bytes of what a line comes to.
+
+ghost use Rattle.std.specs.Prelude.{◌≡◌, ◌≤◌, ◌+◌, ◌*◌, map, true, length, IfOk, OnOk};
+ghost use Rattle.object_tags.specs.Seen.{defined_ref};
+ghost use Rattle.asm_forms.specs.Placed.{defined_word, defined_words};
+ghost use Rattle.module_defs.specs.Memory as spec;
+ghost use Rattle.module_defs.specs.declared.content.Content.TheVariants.{Byte};
+ghost use Rattle.asm_core.specs.Outcomes.{defined_outcome};
+
+use crate::references::use_name;
+use crate::second_checks::Outcome;
+use asm_forms::Word;
+use module_defs::{Content, Location, Part};
+use object_defs::Spot;
+use object_tags::Ref;
+use std::alloc::{AllocError, Global};
+
+/// The bytes that a line places at a place, with the last uses of the names that others define.
+pub(crate) fn contents(
+    alloc: Global,
+    references: &mut Vec<Ref>,
+    at: Location,
+    outcome: &Outcome,
+) -> Result<Vec<Content>, AllocError>
+    requires placed { spec.is_placed_in at.part ≡ true }
+    requires within { at.number + spec.bytes_in (defined_outcome outcome.now) ≤ 65536 }
+    ensures contents { OnOk result (IfOk result (λ contents. contents.items
+        ≡ spec.contents_by at (map defined_ref references.old.items) (defined_outcome outcome.now))) }
+    ensures uses { OnOk result (map defined_ref references.new.items
+        ≡ spec.behind_by at (map defined_ref references.old.items) (defined_outcome outcome.now)) }
+{
+    match outcome {
+        Outcome::Words(words) => word_contents(alloc, references, at, words.as_slice()),
+        Outcome::Bytes(bytes) => byte_contents(alloc, bytes.as_slice()),
+        Outcome::Nothing | Outcome::Entry(_) => Ok(Vec::new(alloc)),
+    }
+}
+
+/// The bytes of bytes.
+fn byte_contents(alloc: Global, bytes: &[u8]) -> Result<Vec<Content>, AllocError>
+    ensures { IfOk result (λ contents. contents.items ≡ map Byte bytes.now) }
+{
+    let mut contents = Vec::new(alloc);
+    let mut rest = bytes;
+    while let [byte, others @ ..] = rest {
+        contents.push(Content::Byte(*byte))?;
+        rest = others;
+    }
+    Ok(contents)
+}
+
+/// The bytes of words, of which the first stands at a place.
+fn word_contents(
+    alloc: Global,
+    references: &mut Vec<Ref>,
+    at: Location,
+    words: &[Word],
+) -> Result<Vec<Content>, AllocError>
+    requires { at.number + 2 * length words.now ≤ 65536 }
+    ensures contents { OnOk result (IfOk result (λ contents. contents.items
+        ≡ spec.word_contents at.part (map defined_ref references.old.items) at.number (defined_words words.now))) }
+    ensures uses { OnOk result (map defined_ref references.new.items
+        ≡ spec.behind_words at.part (map defined_ref references.old.items) at.number (defined_words words.now)) }
+{
+    let mut contents = Vec::new(alloc);
+    let mut place = at.number;
+    let mut rest = words;
+    while let [word, others @ ..] = rest {
+        let spot = spot_of(references, spot_at(at.part, place), word);
+        contents.push(Content::First(spot))?;
+        contents.push(Content::Second)?;
+        place += 2;
+        rest = others;
+    }
+    Ok(contents)
+}
+
+/// What stands in a word at a place.
+fn spot_of(references: &mut Vec<Ref>, at: Spot, word: &Word) -> Spot
+    ensures spot { result ≡ spec.word_of (map defined_ref references.old.items) (defined_word word.now) }
+    ensures uses { map defined_ref references.new.items
+        ≡ spec.behind_word (map defined_ref references.old.items) at (defined_word word.now) }
+{
+    match word {
+        Word::Plain(number) => Spot::Absolute(*number),
+        Word::Relocatable(number) => Spot::Relocatable(*number),
+        Word::External(name) => use_name(references, name, at),
+    }
+}
+
+/// The spot of a place in a part.
+pub(crate) fn spot_at(part: Part, number: u32) -> Spot
+    requires { number ≤ 65535 }
+    ensures { result ≡ spec.spot_by part number }
+{
+    match part {
+        Part::Relocatable => Spot::Relocatable(number as u16),
+        Part::Absolute | Part::Dummy => Spot::Absolute(number as u16),
+    }
+}
