@@ -1,5 +1,5 @@
 -- What an instruction comes to, by the fields of its line.
-use Rattle.std.proofs.Common.{◌≡◌, ℕ, List, sym}
+use Rattle.std.proofs.Common.{ℕ, List}
 use Rattle.std.specs.Prelude.{Option, Result}
 use Rattle.source_defs.specs.Expression.{Value}
 use Rattle.asm_text.specs.declared.line_fields.Fields.{Fields}
@@ -8,7 +8,7 @@ use Rattle.module_defs.specs.declared.location.Location.{Location}
 use Rattle.module_defs.specs.Statements as said
 use Rattle.module_defs.specs.SecondChecks as spec
 use Rattle.asm_core.specs.Answers.{Gives}
-use Rattle.asm_core.specs.Defined.{defined_statement, IsInstructionOf, HasSize}
+use Rattle.asm_core.specs.Defined.{HasSize}
 use Rattle.asm_core.specs.Outcomes.{defined_outcome}
 use Rattle.asm_core.specs.declared.failure.Failure.{Failure}
 use Rattle.asm_core.specs.declared.second_checks.Outcome.{Outcome}

@@ -5,3 +5,5 @@ pub mod Listed
 pub mod Instructions
 pub mod TableLaws
 pub mod ReferenceLaws
+pub mod HoldingLaws
+pub mod RoomLaws

@@ -1,12 +1,12 @@
 -- A field has no more operands than places.
-use Rattle.std.proofs.Common.{◌≡◌, ℕ, ◌+◌, ◌-◌, ◌≤◌, List, [], ◌∷◌, ◌++◌, length, arith, length-append}
-use Rattle.std.specs.Prelude.{map, filter, count_by, min}
+use Rattle.std.proofs.Common.{ℕ, ◌+◌, ◌-◌, ◌≤◌, List, [], ◌∷◌, ◌++◌, length, arith, length-append}
+use Rattle.std.specs.Prelude.{map}
 use Rattle.std.specs.List.{range_with_len, zip}
 use Rattle.std.proofs.lemmas.List.{length-map}
 use Rattle.std.proofs.lemmas.List.Sums.{length-filter, count_by-le-length}
 use Rattle.std.proofs.lemmas.List.FromFn.{length-range_with_len}
 use Rattle.source_defs.specs.declared.text.Span.{Span}
-use Rattle.source_defs.specs.Lines.{part, bounds_between}
+use Rattle.source_defs.specs.Lines.{bounds_between}
 use Rattle.source_defs.specs.Operands.{operands, operands_from, comma_places, parts_operands}
 
 commas_le : (field : List ℕ) → length (comma_places field 0) ≤ length field

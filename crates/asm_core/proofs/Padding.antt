@@ -1,5 +1,5 @@
 -- A name with one more blank.
-use Rattle.std.proofs.Common.{◌≡◌, ℕ, suc, ◌+◌, ◌-◌, ◌<◌, List, [], ◌∷◌, ◌++◌, length, sym, ap, ◌∙◌, arith, length-append, append_assoc}
+use Rattle.std.proofs.Common.{◌≡◌, ℕ, suc, ◌-◌, ◌<◌, List, [], ◌∷◌, ◌++◌, length, arith, length-append, append_assoc}
 use Rattle.std.specs.Prelude.{replicate}
 use Rattle.object_defs.specs.Digits.{padded}
 

@@ -1,5 +1,5 @@
 -- What the last uses become behind one more.
-use Rattle.std.proofs.Common.{◌≡◌, ℕ, zero, suc, ◌<◌, true, List, [], ◌∷◌, ◌++◌, length, get_or, set, take, drop, refl, sym, subst, ap, arith}
+use Rattle.std.proofs.Common.{◌≡◌, ℕ, zero, suc, ◌<◌, true, List, [], ◌∷◌, ◌++◌, length, get_or, set, take, drop, sym, subst, ap, arith}
 use Rattle.std.specs.Prelude.{map}
 use Rattle.object_defs.specs.declared.spot.Spot.{Spot}
 use Rattle.object_tags.specs.declared.parts.Ref.{Ref}

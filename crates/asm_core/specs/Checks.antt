@@ -1,5 +1,5 @@
 -- What the first checks of the code find, as the definitions have it.
-use Rattle.std.specs.Prelude.{◌≡◌, ◌≤◌, ℕ, Bool, true, false, List, []}
+use Rattle.std.specs.Prelude.{◌≡◌, ◌≤◌, ℕ, true, List, []}
 use Rattle.module_defs.specs.Locations.{is_in_part}
 use Rattle.module_defs.specs.FirstChecks as spec
 use Rattle.asm_core.specs.Defined.{defined_statement}

@@ -13,3 +13,4 @@ pub mod Checks
 pub mod Outcomes
 pub mod Tables
 pub mod Holding
+pub mod Images

@@ -3,7 +3,7 @@ use Rattle.std.specs.Prelude.{◌+◌, ◌≤◌, ⊤, length, IfSome}
 use Rattle.asm_text.specs.GivenValues.{defined_value}
 use Rattle.module_defs.specs.FirstChecks as spec
 use Rattle.asm_core.specs.declared.statement.Statement.{Statement}
-use Rattle.asm_core.specs.declared.statement.Statement.TheVariants.{Instruction, Data, Byte, Text}
+use Rattle.asm_core.specs.declared.statement.Statement.TheVariants.{Data, Byte, Text}
 use Rattle.asm_core.specs.declared.moves.Move.{Move}
 
 abbrev pub defined_move : Move → spec.Move

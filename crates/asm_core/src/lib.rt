@@ -6,6 +6,7 @@ mod contents;
 mod directives;
 mod failure;
 mod first_checks;
+mod image;
 mod memory;
 mod moves;
 mod names;

@@ -31,8 +31,19 @@ impl Table {
         })
     }
 
+    /// Puts bytes, of which the first comes to a place, and answers whether one was put there before.
+    pub(crate) fn overlay(&mut self, from: usize, contents: &[Content]) -> bool
+        requires { from + length contents.now ≤ 65536 }
+        ensures before { result ≡ any_from (is_taken self.old.cells.items) from (length contents.now) }
+        ensures put { self.new.cells.items ≡ put_from self.old.cells.items from contents.now }
+    {
+        let overlaps = self.any_taken(from, contents.len());
+        self.put_all(from, contents);
+        overlaps
+    }
+
     /// Whether one of some bytes from a place on was put.
-    pub(crate) fn any_taken(&self, from: usize, count: usize) -> bool
+    fn any_taken(&self, from: usize, count: usize) -> bool
         requires { from + count ≤ 65536 }
         ensures { result ≡ any_from (is_taken self.now.cells.items) from count }
     {
@@ -45,7 +56,7 @@ impl Table {
     }
 
     /// Puts bytes, of which the first comes to a place.
-    pub(crate) fn put_all(&mut self, from: usize, contents: &[Content])
+    fn put_all(&mut self, from: usize, contents: &[Content])
         requires { from + length contents.now ≤ 65536 }
         ensures { self.new.cells.items ≡ put_from self.old.cells.items from contents.now }
     {

@@ -1,5 +1,5 @@
 -- The module of a source.
-use Rattle.std.specs.Prelude.{ℕ, not, nat_le, List, [], ◌∷◌, map, Option, Some, None, Result, Ok}
+use Rattle.std.specs.Prelude.{ℕ, nat_lt, if◌then◌else◌, List, [], ◌∷◌, map, Option, Some, None, Result, Ok, Err}
 use Rattle.source_defs.specs.Refusals.{Refusal, ◌>>=◌}
 use Rattle.source_defs.specs.Expression.{Value, Absolute, Relocatable}
 use Rattle.source_defs.specs.Symbols.{Names, look_up}
@@ -16,14 +16,19 @@ use Rattle.module_defs.specs.FirstChecks.{check, title_in, names, refs, defs, un
 use Rattle.module_defs.specs.SecondChecks.{Outcome, Nothing, Words, Bytes, Entry, outcome}
 use Rattle.module_defs.specs.Memory.{Settled, word_count, overlaps, references_of, pieces}
 
--- The second checks of a line behind others, by all names. Profile: its values and their ranges come first, then the
--- 32,769th word, then a byte that was placed before.
+-- Whether what a line places has room behind others. Profile: the 32,769th word comes first, then a byte that was placed
+-- before.
+abbrev pub with_room : List Settled → Settled → Result Settled AsmCause
+with_room earlier line =
+    if nat_lt most_words (word_count (line ∷ earlier)) then Err Overflow
+    else if overlaps earlier line then Err Overlap
+    else Ok line
+
+-- The second checks of a line behind others, by all names: its values and their ranges, then its room.
 abbrev pub settle : Names → List Line → List Settled → Line → Result Settled AsmCause
 settle known before earlier line = do
   found ← outcome (look_up known) (place before line) line.statement
-  settled ← Ok (record { at = place before line; outcome = found })
-  settled ← unless (not (nat_le (word_count (settled ∷ earlier)) most_words)) Overflow settled
-  unless (overlaps earlier settled) Overlap settled
+  with_room earlier (record { at = place before line; outcome = found })
 
 -- Editor/Assembler manual, "Program Identifier". Profile: a later name replaces an earlier one, and blanks fill it up.
 abbrev pub title_by : List ℕ → Statement → List ℕ
