@@ -7,3 +7,4 @@ pub mod TableLaws
 pub mod ReferenceLaws
 pub mod HoldingLaws
 pub mod RoomLaws
+pub mod WaitingLaws

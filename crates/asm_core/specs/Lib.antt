@@ -14,3 +14,4 @@ pub mod Outcomes
 pub mod Tables
 pub mod Holding
 pub mod Images
+pub mod Waiting

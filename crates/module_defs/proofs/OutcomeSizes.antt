@@ -1,13 +1,12 @@
 -- What a line comes to fills the size that it says.
-use Rattle.std.proofs.Common.{◌≡◌, ℕ, ◌+◌, ◌*◌, List, [], ◌∷◌, Some, None, Ok, Err, length, refl, sym, ap, ◌∙◌, arith}
+use Rattle.std.proofs.Common.{◌≡◌, ℕ, ◌*◌, List, [], ◌∷◌, Some, None, Ok, Err, length, refl, ◌∙◌, arith}
 use Rattle.std.specs.Prelude.{Option, Result, ⊤}
 use Rattle.source_defs.specs.Refusals.{◌>>=◌}
 use Rattle.source_defs.specs.declared.causes.ExprError.{ExprError}
-use Rattle.source_defs.specs.Expression.{Value, Absolute, Relocatable, External, characters, known_value}
+use Rattle.source_defs.specs.Expression.{Value, characters, known_value}
 use Rattle.asm_defs.specs.declared.causes.FormError.{FormError}
 use Rattle.asm_defs.specs.FirstChecks.{Skeleton, first_checks, line_size, size_of}
 use Rattle.asm_defs.specs.SecondChecks.{second_checks}
-use Rattle.module_defs.specs.declared.causes.AsmCause.{AsmCause}
 use Rattle.module_defs.specs.declared.location.Location.{Location}
 use Rattle.module_defs.specs.Statements as said
 use Rattle.module_defs.specs.Statements.{Statement, Instruction, Aorg, Rorg, Dorg, Bss, Bes, Even, Equ, Data, Byte, Text, Def, Ref, Idt, Titl, End, as_form}

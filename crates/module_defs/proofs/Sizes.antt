@@ -1,10 +1,9 @@
 -- The second checks of an instruction give as many bytes as the first checks say.
-use Rattle.std.proofs.Common.{◌≡◌, ℕ, ◌+◌, ◌*◌, Bool, true, false, List, [], ◌∷◌, ◌++◌, Some, None, Ok, Err, length, refl, sym, ap, ◌∙◌, arith, length-append}
+use Rattle.std.proofs.Common.{◌≡◌, ℕ, ◌+◌, ◌*◌, Bool, true, false, List, [], ◌∷◌, Some, None, Ok, Err, length, refl, sym, ap, ◌∙◌, arith, length-append}
 use Rattle.std.specs.Prelude.{Option, Result, if◌then◌else◌}
 use Rattle.source_defs.specs.Refusals.{◌>>=◌}
 use Rattle.source_defs.specs.Expression.{Value}
 use Rattle.std.specs.Int.{w16, cast_signed}
-use Rattle.asm_defs.specs.declared.causes.FormError.{FormError}
 use Rattle.asm_defs.specs.declared.causes.FormError.TheVariants.{BadOperand}
 use Rattle.asm_defs.specs.declared.slot.Slot.{Slot}
 use Rattle.asm_defs.specs.declared.slot.Slot.TheVariants.{General, Register, Count, Immediate, Target, Displacement}
@@ -12,7 +11,7 @@ use Rattle.asm_defs.specs.Forms.{Form, Plain, Indirect, Increment, Symbolic, Ind
 use Rattle.asm_defs.specs.Operands.{slots_of}
 use Rattle.asm_defs.specs.FirstChecks as first
 use Rattle.asm_defs.specs.FirstChecks.{Skeleton, Word, Instruction, following, form_words}
-use Rattle.asm_defs.specs.SecondChecks.{Operand, InRegister, ByRegister, Growing, AtAddress, AtIndexed, Number, Bit, To, Following, Ready, Located, Counted, Displaced, Followed, value_of, number_of, text_in, as_form, target_in, placed, valued, all_valued, ranged, all_ranged, by_register, below_sixteen, indexed, bit, displaced, displacement_to, number_in, is_index, is_displacement, following_in, all_following, instruction_of, second_checks}
+use Rattle.asm_defs.specs.SecondChecks.{Operand, InRegister, ByRegister, Growing, AtAddress, AtIndexed, Number, Bit, To, Following, Ready, Located, Displaced, value_of, number_of, text_in, as_form, target_in, placed, valued, all_valued, ranged, all_ranged, below_sixteen, displaced, displacement_to, number_in, is_index, is_displacement, following_in, all_following, second_checks}
 
 -- how many words follow for an operand
 abbrev operand_words : Operand → ℕ

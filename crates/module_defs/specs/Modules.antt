@@ -10,9 +10,10 @@ use Rattle.object_defs.specs.Digits.{padded}
 use Rattle.object_defs.specs.Modules.{Module, Reference, most_words}
 use Rattle.module_defs.specs.declared.causes.AsmCause.{AsmCause}
 use Rattle.module_defs.specs.declared.causes.AsmCause.TheVariants.{Overflow, Overlap}
+use Rattle.module_defs.specs.declared.location.Location.{Location}
 use Rattle.module_defs.specs.Statements.{Statement, Idt}
 use Rattle.module_defs.specs.Locations.{Line, place, reached}
-use Rattle.module_defs.specs.FirstChecks.{check, title_in, names, refs, defs, unless}
+use Rattle.module_defs.specs.FirstChecks.{check, title_in, names, refs, defs}
 use Rattle.module_defs.specs.SecondChecks.{Outcome, Nothing, Words, Bytes, Entry, outcome}
 use Rattle.module_defs.specs.Memory.{Settled, word_count, overlaps, references_of, pieces}
 
@@ -24,11 +25,14 @@ with_room earlier line =
     else if overlaps earlier line then Err Overlap
     else Ok line
 
--- The second checks of a line behind others, by all names: its values and their ranges, then its room.
+-- The second checks of what a line says at a place behind others, by all names: its values and their ranges, then its room.
+abbrev pub settle_at : Names → Location → Statement → List Settled → Result Settled AsmCause
+settle_at known at statement earlier = do
+  found ← outcome (look_up known) at statement
+  with_room earlier (record { at = at; outcome = found })
+
 abbrev pub settle : Names → List Line → List Settled → Line → Result Settled AsmCause
-settle known before earlier line = do
-  found ← outcome (look_up known) (place before line) line.statement
-  with_room earlier (record { at = place before line; outcome = found })
+settle known before earlier line = settle_at known (place before line) line.statement earlier
 
 -- Editor/Assembler manual, "Program Identifier". Profile: a later name replaces an earlier one, and blanks fill it up.
 abbrev pub title_by : List ℕ → Statement → List ℕ

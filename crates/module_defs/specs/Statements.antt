@@ -7,7 +7,7 @@ use Rattle.source_defs.specs.Refusals.{◌>>=◌}
 use Rattle.source_defs.specs.Characters.{is_quote, upper_case}
 use Rattle.source_defs.specs.Lines.{part}
 use Rattle.source_defs.specs.Names.{is_name}
-use Rattle.source_defs.specs.Fields.{Fields}
+use Rattle.source_defs.specs.Fields.{Fields, fields}
 use Rattle.asm_defs.specs.declared.causes.FormError.{FormError}
 use Rattle.asm_defs.specs.declared.causes.FormError.TheVariants.{OperandCount, BadOperand}
 use Rattle.asm_defs.specs.FirstChecks.{line_size, operand_texts}
@@ -144,3 +144,9 @@ statement_in line found = statement_at line found.operation found.operands
 abbrev pub as_text : {A : Type 0} → Result A TextError → Result A AsmCause
 as_text (Ok value) = Ok value
 as_text (Err error) = Err (cause.Text error)
+
+-- what a line says
+abbrev pub said_of : List ℕ → Result Statement AsmCause
+said_of line = do
+  found ← as_text (fields line)
+  statement_in line found

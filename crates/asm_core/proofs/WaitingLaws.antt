@@ -1,0 +1,13 @@
+-- What waits has room in its part.
+use Rattle.std.proofs.Common.{◌≡◌, ℕ, ◌+◌, ◌≤◌, List, Ok, arith}
+use Rattle.std.specs.Prelude.{Option}
+use Rattle.source_defs.specs.Expression.{Value}
+use Rattle.module_defs.specs.declared.location.Location.{Location}
+use Rattle.module_defs.specs.Statements.{Statement}
+use Rattle.module_defs.specs.SecondChecks.{Outcome, outcome}
+use Rattle.module_defs.specs.Memory.{bytes_in}
+use Rattle.module_defs.proofs.OutcomeSizes.{size_said, IsSized, outcome_size}
+
+pub within_room : (look : List ℕ → Option Value) (at : Location) (statement : Statement) (found : Outcome) → IsSized statement
+    → outcome look at statement ≡ Ok found → at.number + size_said statement ≤ 65536 → at.number + bytes_in found ≤ 65536
+within_room look at statement found sized e le = omega (arith, outcome_size look at statement found sized e, le)
