@@ -8,3 +8,4 @@ pub mod ReferenceLaws
 pub mod HoldingLaws
 pub mod RoomLaws
 pub mod WaitingLaws
+pub mod NameLaws

@@ -1,6 +1,7 @@
 -- What waits has room in its part.
-use Rattle.std.proofs.Common.{◌≡◌, ℕ, ◌+◌, ◌≤◌, List, Ok, arith}
-use Rattle.std.specs.Prelude.{Option}
+use Rattle.std.proofs.Common.{◌≡◌, ℕ, ◌+◌, ◌≤◌, true, List, Ok, arith}
+use Rattle.std.proofs.lemmas.Bool.Decides.{nat_tests}
+use Rattle.std.specs.Prelude.{Option, nat_le}
 use Rattle.source_defs.specs.Expression.{Value}
 use Rattle.module_defs.specs.declared.location.Location.{Location}
 use Rattle.module_defs.specs.Statements.{Statement}
@@ -9,5 +10,5 @@ use Rattle.module_defs.specs.Memory.{bytes_in}
 use Rattle.module_defs.proofs.OutcomeSizes.{size_said, IsSized, outcome_size}
 
 pub within_room : (look : List ℕ → Option Value) (at : Location) (statement : Statement) (found : Outcome) → IsSized statement
-    → outcome look at statement ≡ Ok found → at.number + size_said statement ≤ 65536 → at.number + bytes_in found ≤ 65536
-within_room look at statement found sized e le = omega (arith, outcome_size look at statement found sized e, le)
+    → outcome look at statement ≡ Ok found → nat_le (at.number + size_said statement) 65536 ≡ true → at.number + bytes_in found ≤ 65536
+within_room look at statement found sized e le = grind (arith, nat_tests, outcome_size look at statement found sized e, le)

@@ -14,4 +14,5 @@ pub mod Outcomes
 pub mod Tables
 pub mod Holding
 pub mod Images
+pub mod Held
 pub mod Waiting

@@ -1,27 +1,17 @@
 -- Lines that wait for the names of the lines behind them.
-use Rattle.std.specs.Prelude.{◌≡◌, ◌+◌, ◌≤◌, ℕ, List, ◌∷◌, Result, Ok, Err}
+use Rattle.std.specs.Prelude.{◌≡◌, List, ◌∷◌, Result, Ok, Err}
 use Rattle.source_defs.specs.Refusals.{◌>>=◌}
 use Rattle.source_defs.specs.Symbols.{Names}
 use Rattle.object_defs.specs.Modules.{Reference}
 use Rattle.module_defs.specs.declared.causes.AsmCause.{AsmCause}
-use Rattle.module_defs.specs.declared.location.Location.{Location}
-use Rattle.module_defs.specs.Statements.{Statement, said_of}
+use Rattle.module_defs.specs.Statements.{said_of}
 use Rattle.module_defs.specs.Memory.{Settled}
 use Rattle.module_defs.specs.Modules.{settle_at}
-use Rattle.module_defs.proofs.OutcomeSizes.{size_said}
 use Rattle.asm_core.specs.Answers.{Fails}
 use Rattle.asm_core.specs.Images.{IsImage}
 use Rattle.asm_core.specs.declared.failure.Failure.{Failure}
 use Rattle.asm_core.specs.declared.image.Image.{Image}
 use Rattle.asm_core.specs.declared.pending.Pending.{Pending}
-
--- a line says something, which ends before its part does
-abbrev pub IsWaitingBy : Location → Result Statement AsmCause → Type 0
-IsWaitingBy at (Ok statement) = at.number + size_said statement ≤ 65536
-IsWaitingBy at (Err cause) = ⊥
-
-abbrev pub IsWaiting : Pending → Type 0
-IsWaiting pending = IsWaitingBy pending.at (said_of pending.text.items)
 
 -- what the second checks say of it
 abbrev pub answer_to : Names → Pending → List Settled → Result Settled AsmCause

@@ -3,7 +3,9 @@
 
 mod characters;
 mod contents;
+mod define;
 mod directives;
+mod error;
 mod failure;
 mod first_checks;
 mod image;

@@ -4,7 +4,7 @@ ghost use Rattle.std.specs.Prelude.{List};
 ghost use Rattle.object_defs.specs.Modules.{Reference};
 ghost use Rattle.module_defs.specs.Memory as spec;
 ghost use Rattle.asm_core.specs.Images.{IsImage};
-ghost use Rattle.asm_core.specs.Waiting.{IsWaiting, Settles};
+ghost use Rattle.asm_core.specs.Waiting.{Settles};
 
 use crate::failure::Failure;
 use crate::image::Image;
@@ -18,7 +18,6 @@ impl Image {
     /// Places a line behind others by all names, or says why the second checks refuse it.
     #[tactic(auto, using(crate::proofs::WaitingLaws::within_room))]
     pub(crate) fn settle(&mut self, symbols: &Symbols, pending: &Pending) -> Result<(), Failure>
-        requires { IsWaiting pending.now }
         ensures { (unused : List Reference) (earlier : List spec.Settled) → IsImage unused earlier self.old →
             Settles unused earlier symbols.now pending.now result self.new }
     {

@@ -55,7 +55,7 @@ get_kept entries name =
     get-from_entries nat_list_cmp_total (registers ++ map defined_entry entries) name
     ∙ (found-append name registers (map defined_entry entries) ∙ ap (or_else (found name registers)) (found-map name entries))
 
-none_both : (first second : Option defined.Value) → or_else first second ≡ None → first ≡ None
+pub none_both : (first second : Option defined.Value) → or_else first second ≡ None → first ≡ None
 none_both (Some value) second e = cc
 none_both None second e = refl
 

@@ -64,6 +64,7 @@ impl Symbols {
     /// error all is as before.
     pub fn define(&mut self, name: Name, value: Value) -> Result<(), DefineError>
         ensures defined { OnOk result (self.new ≡ insert self.old name (defined_value value)) }
+        ensures no_register { OnOk result (find (slice_cmp nat_cmp) name spec.registers ≡ None) }
         ensures duplicate { (result ≡ Err DefineError.Duplicate) ↔ IsSome (get self.old name) }
         ensures unchanged { OnErr result (self.new ≡ self.old) }
     {

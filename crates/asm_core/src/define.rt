@@ -1,0 +1,70 @@
+//! The names that a line defines.
+
+ghost use Rattle.std.specs.Prelude.{◌≡◌, None, OnOk, OnErr};
+ghost use Rattle.std.specs.FinMap.{find, get, insert};
+ghost use Rattle.std.specs.Ordering.{nat_cmp};
+ghost use Rattle.std.specs.Cmp.Lexicographic.{slice_cmp};
+ghost use Rattle.source_defs.specs.Symbols.{registers};
+ghost use Rattle.source_defs.specs.Layout.{with_names};
+ghost use Rattle.asm_text.specs.GivenValues.{defined_value};
+ghost use Rattle.module_defs.specs.FirstChecks.{label_entry, external_entries};
+
+use asm_text::{DefineError, Name, Symbols, Value};
+use std::alloc::AllocError;
+
+/// Defines a label and names of REF, of which none stands for anything yet. Where memory is wanting none is defined.
+#[tactic(auto, using(crate::proofs::NameLaws::taken_back))]
+pub(crate) fn define_line(
+    symbols: &mut Symbols,
+    label: Option<Name>,
+    value: Value,
+    refs: &[Name],
+) -> Result<(), AllocError>
+    ensures defined { OnOk result (symbols.new
+        ≡ with_names (with_names symbols.old (label_entry label (defined_value value))) (external_entries refs.now)) }
+    ensures unchanged { OnErr result (symbols.new ≡ symbols.old) }
+{
+    let Some(name) = label else {
+        return define_refs(symbols, refs);
+    };
+    define(symbols, name, value)?;
+    match define_refs(symbols, refs) {
+        Ok(()) => Ok(()),
+        Err(error) => {
+            symbols.remove(&name);
+            Err(error)
+        }
+    }
+}
+
+/// Defines names of REF, of which none stands for anything yet. Where memory is wanting none is defined.
+#[tactic(auto, using(crate::proofs::NameLaws::taken_back))]
+fn define_refs(symbols: &mut Symbols, refs: &[Name]) -> Result<(), AllocError>
+    ensures defined { OnOk result (symbols.new ≡ with_names symbols.old (external_entries refs.now)) }
+    ensures unchanged { OnErr result (symbols.new ≡ symbols.old) }
+{
+    let [name, others @ ..] = refs else {
+        return Ok(());
+    };
+    define(symbols, *name, Value::External(*name))?;
+    match define_refs(symbols, others) {
+        Ok(()) => Ok(()),
+        Err(error) => {
+            symbols.remove(name);
+            Err(error)
+        }
+    }
+}
+
+/// Defines a name that stands for nothing yet.
+fn define(symbols: &mut Symbols, name: Name, value: Value) -> Result<(), AllocError>
+    ensures defined { OnOk result (symbols.new ≡ insert symbols.old name (defined_value value)) }
+    ensures fresh { OnOk result (get symbols.old name ≡ None) }
+    ensures no_register { OnOk result (find (slice_cmp nat_cmp) name registers ≡ None) }
+    ensures unchanged { OnErr result (symbols.new ≡ symbols.old) }
+{
+    match symbols.define(name, value) {
+        Ok(()) => Ok(()),
+        Err(DefineError::Duplicate | DefineError::Memory) => Err(AllocError),
+    }
+}
