@@ -9,3 +9,4 @@ pub mod HoldingLaws
 pub mod RoomLaws
 pub mod WaitingLaws
 pub mod NameLaws
+pub mod HeldLaws

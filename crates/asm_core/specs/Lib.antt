@@ -16,3 +16,5 @@ pub mod Holding
 pub mod Images
 pub mod Held
 pub mod Waiting
+pub mod Keeping
+pub mod Building

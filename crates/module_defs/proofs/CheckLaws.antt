@@ -1,12 +1,11 @@
 -- What the first checks know of a line that they let through.
-use Rattle.std.proofs.Common.{◌≡◌, ℕ, ◌+◌, ◌*◌, ◌≤◌, Bool, true, false, not, ◌||◌, List, Some, None, Ok, Err, length, refl, sym, ap, subst, ◌∙◌, arith}
-use Rattle.std.specs.Prelude.{Option, Result, nat_le, ◌⊎◌}
+use Rattle.std.proofs.Common.{◌≡◌, ℕ, ◌+◌, ◌≤◌, Bool, true, false, not, ◌||◌, List, Some, None, Ok, Err, refl, ap, subst, ◌∙◌, arith}
+use Rattle.std.specs.Prelude.{Option, Result, nat_le, ◌⊎◌, ◌&&◌, ⊤}
 use Rattle.std.proofs.Common.{inl, inr}
 use Rattle.source_defs.specs.declared.causes.ExprError.{ExprError}
 use Rattle.module_defs.specs.declared.causes.AsmCause.TheVariants.{DuplicateLabel, Overflow, BadDirective}
 use Rattle.std.proofs.lemmas.Bool.Decides.{nat_tests}
 use Rattle.source_defs.specs.Refusals.{◌>>=◌}
-use Rattle.source_defs.specs.Expression.{characters}
 use Rattle.source_defs.specs.Fields.{fields}
 use Rattle.source_defs.specs.Symbols.{Names}
 use Rattle.source_defs.specs.Layout.{set_or}
@@ -14,9 +13,9 @@ use Rattle.module_defs.specs.declared.causes.AsmCause.{AsmCause}
 use Rattle.module_defs.specs.declared.location.Part.{Part}
 use Rattle.module_defs.specs.declared.location.Part.TheVariants as part
 use Rattle.module_defs.specs.declared.location.Location.{Location}
-use Rattle.module_defs.specs.Statements.{Statement, Nothing, Instruction, Aorg, Rorg, Dorg, Bss, Bes, Even, Equ, Data, Byte, Text, Def, Ref, Idt, Titl, End, said_of, statement_in, as_text}
+use Rattle.module_defs.specs.Statements.{Statement, Nothing, Instruction, Aorg, Rorg, Dorg, Bss, Bes, Even, Equ, Data, Byte, Text, Def, Ref, Idt, Titl, End, is_quoted, said_of, statement_in, as_text}
 use Rattle.module_defs.specs.Locations.{behind, is_in_part, limit}
-use Rattle.module_defs.specs.FirstChecks.{Before, Said, Checked, Move, unless, any_known, label_in, is_taken, refs_in, said, moved, checked, move, as_expr, is_too_far, lists_too_many, is_bad, location_behind, absolute_in, value, number_in, known_here}
+use Rattle.module_defs.specs.FirstChecks.{Before, Said, Checked, Move, unless, any_known, label_in, is_taken, refs_in, said, moved, checked, move, as_expr, is_too_far, lists_too_many, is_bad, is_title, location_behind, absolute_in, value, number_in, known_here}
 use Rattle.module_defs.proofs.OutcomeSizes.{size_said}
 
 -- a value that an answer is made of
@@ -79,7 +78,37 @@ expr_bound : {A : Type 0} (answer : Result A ExprError) (found : A) → as_expr 
 expr_bound (Ok value) found e = cc e
 expr_bound (Err error) found e = cc e
 
+-- the name that IDT gives is that of a module
+abbrev pub IsTitled : Statement → Type 0
+IsTitled (Idt text) = is_title text ≡ true
+IsTitled _ = ⊤
+
+both : (a b : Bool) → not (a && b) ≡ false → b ≡ true
+both true true e = refl
+both true false e = cc e
+both false b e = cc e
+
 module _ (before : Before) where
+  titled_by : (label : Option (List ℕ)) (statement : Statement) → is_bad before label statement ≡ false → IsTitled statement
+  titled_by None (Idt text) fine = both (is_quoted text) (is_title text) fine
+  titled_by (Some name) (Idt text) fine = both (is_quoted text) (is_title text) fine
+  titled_by label Nothing fine = tt
+  titled_by label (Instruction size operation field) fine = tt
+  titled_by label (Aorg text) fine = tt
+  titled_by label (Rorg text) fine = tt
+  titled_by label (Dorg text) fine = tt
+  titled_by label (Bss text) fine = tt
+  titled_by label (Bes text) fine = tt
+  titled_by label Even fine = tt
+  titled_by label (Equ text) fine = tt
+  titled_by label (Data texts) fine = tt
+  titled_by label (Byte texts) fine = tt
+  titled_by label (Text quoted) fine = tt
+  titled_by label (Def names) fine = tt
+  titled_by label (Ref names) fine = tt
+  titled_by label (Titl text) fine = tt
+  titled_by label (End text) fine = tt
+
   -- what the first checks let through is what the line says
   said_is : (text : List ℕ) (found : Said) → said before text ≡ Ok found → said_of text ≡ Ok found.statement
   unfolding said
@@ -91,10 +120,15 @@ module _ (before : Before) where
       let same : c.0 ≡ found.statement = ap (λ (line : Said). line.statement) d.1 in
       ap (λ answer. answer >>= statement_in text) a.1 ∙ (c.1 ∙ ap Ok same)
 
+  -- a module's name is one
+  named_is : (line : Said) → is_bad before line.label line.statement ≡ false → IsTitled line.statement
+  named_is line fine = titled_by line.label line.statement fine
+
   -- and where it leads lies in its part
   record Leads (line : Said) (found : Checked) : Type 0 where
     statement : line.statement ≡ found.statement
     fits : Fits found.statement found.move
+    titled : IsTitled found.statement
     within : is_in_part (location_behind before.location found.move) ≡ true
 
   not_false : (a b : Bool) → (not a || b) ≡ false → a ≡ true
@@ -115,6 +149,7 @@ module _ (before : Before) where
       record {
         statement = said_same;
         fits = subst (λ statement. Fits statement found.move) said_same (subst (Fits line.statement) move_same fits);
+        titled = subst IsTitled said_same (named_is line d.0);
         within = subst (λ move. is_in_part (location_behind before.location move) ≡ true) move_same stays;
       }
 
@@ -145,3 +180,8 @@ module _ (before : Before) where
   checked_within text found e =
       let a = bound (said before text) _ found e in
       (moved_is a.0 found a.2).within
+
+  pub checked_titled : (text : List ℕ) (found : Checked) → checked before text ≡ Ok found → IsTitled found.statement
+  checked_titled text found e =
+      let a = bound (said before text) _ found e in
+      (moved_is a.0 found a.2).titled

@@ -1,0 +1,58 @@
+-- What a builder keeps of a line.
+use Rattle.std.specs.Prelude.{◌≡◌, List, [], ◌∷◌, ◌++◌, length, take}
+use Rattle.source_defs.specs.Symbols.{Names}
+use Rattle.source_defs.specs.Layout.{with_names}
+use Rattle.asm_text.specs.GivenValues.{defined_value}
+use Rattle.module_defs.specs.FirstChecks.{Before, label_entry, external_entries, defs_in, refs_in}
+use Rattle.asm_core.specs.Defined.{defined_statement}
+use Rattle.asm_core.specs.declared.first_checks.Checked.{Checked}
+use Rattle.asm_core.specs.declared.lines.AsmLines.{AsmLines}
+use Rattle.asm_core.specs.declared.pending.Pending.{Pending}
+
+-- what a builder knows of the lines that it has taken
+abbrev pub known_in : AsmLines → Before
+known_in builder =
+    record {
+      names = builder.symbols;
+      location = builder.location;
+      reached = builder.reached;
+      defs = builder.defs.items;
+      refs = builder.refs.items;
+    }
+
+-- names with those of a line
+abbrev pub names_with : Names → Checked → Names
+names_with names checked =
+    with_names (with_names names (label_entry checked.said.label (defined_value checked.moved.label)))
+    (external_entries (refs_in (defined_statement checked.said.statement)))
+
+-- the line is kept with its names
+pub record Keeps (old : AsmLines) (pending : Pending) (checked : Checked) (new : AsmLines) : Type 0 where
+  pub waits : new.pending.items ≡ old.pending.items ++ pending ∷ []
+  pub defs : new.defs.items ≡ old.defs.items ++ defs_in (defined_statement checked.said.statement)
+  pub refs : new.refs.items ≡ old.refs.items ++ refs_in (defined_statement checked.said.statement)
+  pub names : new.symbols ≡ names_with old.symbols checked
+
+pub record SameLists (old new : AsmLines) : Type 0 where
+  pub waits : new.pending.items ≡ old.pending.items
+  pub defs : new.defs.items ≡ old.defs.items
+  pub refs : new.refs.items ≡ old.refs.items
+
+-- nothing is kept of the line
+pub record IsUnchanged (old new : AsmLines) : Type 0 where
+  pub lists : SameLists old new
+  pub names : new.symbols ≡ old.symbols
+
+-- the lists begin as before
+pub record StartsAs (old new : AsmLines) : Type 0 where
+  pub waits : take (length old.pending.items) new.pending.items ≡ old.pending.items
+  pub defs : take (length old.defs.items) new.defs.items ≡ old.defs.items
+  pub refs : take (length old.refs.items) new.refs.items ≡ old.refs.items
+
+-- the location and the rest are as before
+pub record StandsStill (old new : AsmLines) : Type 0 where
+  pub location : new.location ≡ old.location
+  pub reached : new.reached ≡ old.reached
+  pub title : new.title ≡ old.title
+  pub taken : new.taken ≡ old.taken
+  pub ended : new.ended ≡ old.ended
