@@ -10,3 +10,4 @@ pub mod RoomLaws
 pub mod WaitingLaws
 pub mod NameLaws
 pub mod HeldLaws
+pub mod LineLaws

@@ -1,0 +1,51 @@
+-- A builder behind one line more.
+use Rattle.std.proofs.Common.{◌≡◌, ℕ, suc, ◌+◌, List, [], ◌∷◌, ◌++◌, Some, None, Ok, length, refl, sym, ap, ◌∙◌, arith}
+use Rattle.std.specs.Prelude.{Option}
+use Rattle.std.specs.FinMap.{insert}
+use Rattle.source_defs.specs.Expression.{Value}
+use Rattle.source_defs.specs.Symbols.{Names, predefined}
+use Rattle.source_defs.specs.Layout.{with_names, set_or, none_or, origin, since}
+use Rattle.module_defs.specs.declared.location.Location.{Location}
+use Rattle.module_defs.specs.Locations.{Line, start, behind, location}
+use Rattle.module_defs.specs.FirstChecks.{Before, Checked, names, defs, refs, known_of, line_of, location_behind, label_entry, external_entries, refs_in}
+use Rattle.asm_core.specs.declared.lines.AsmLines.{AsmLines}
+use Rattle.asm_core.specs.declared.pending.Pending.{Pending}
+use Rattle.asm_core.specs.Keeping.{known_in}
+use Rattle.asm_core.specs.Building.{behind_lines, IsOf, Wait, IsBehind}
+
+-- the location behind a line
+location_by : (set : Option Location) (from : Location) (bytes more : ℕ)
+    → behind (set_or set from) (none_or set bytes + more) ≡ behind (set_or set (behind from bytes)) more
+location_by (Some origin) from bytes more = ap (λ number. record { part = origin.part; number = origin.number + number }) (omega arith)
+location_by None from bytes more =
+    let same : from.number + (bytes + more) ≡ from.number + bytes + more = omega arith in
+    ap (λ number. record { part = from.part; number = number }) same
+
+pub location_more : (number : ℕ) (found : Checked) (lines : List Line) → location (line_of number found ∷ lines) ≡ location_behind (location lines) found.move
+location_more number found lines =
+    location_by found.move.origin (origin start behind lines) (since start behind lines) (found.move.gap + found.move.size)
+
+with_more : (first second : List (List ℕ × Value)) (known : Names) → with_names known (first ++ second) ≡ with_names (with_names known first) second
+with_more [] second known = refl
+with_more (entry ∷ first) second known = with_more first second (insert known entry.0 entry.1)
+
+pub names_more : (number : ℕ) (found : Checked) (lines : List Line)
+    → names (line_of number found ∷ lines)
+    ≡ with_names (with_names (names lines) (label_entry found.label found.move.label)) (external_entries (refs_in found.statement))
+names_more number found lines = with_more (label_entry found.label found.move.label) (external_entries (refs_in found.statement)) (names lines)
+
+pub behind_more : (before order : List Line) (line : Line) → behind_lines before (order ++ line ∷ []) ≡ line ∷ behind_lines before order
+behind_more before [] line = refl
+behind_more before (first ∷ order) line = behind_more (first ∷ before) order line
+
+pub wait_more : (before order : List Line) (waiting : List Pending) (line : Line) (pending : Pending) → Wait before order waiting
+    → IsOf (behind_lines before order) line pending → Wait before (order ++ line ∷ []) (waiting ++ pending ∷ [])
+wait_more before [] [] line pending wait is = (is, tt)
+wait_more before [] (other ∷ waiting) line pending wait is = absurd wait
+wait_more before (first ∷ order) [] line pending wait is = absurd wait
+wait_more before (first ∷ order) (other ∷ waiting) line pending wait is =
+    (wait.0, wait_more (first ∷ before) order waiting line pending wait.1 is)
+
+-- what the builder knows
+pub known_same : (lines : List Line) (builder : AsmLines) → IsBehind lines builder → known_in builder ≡ known_of lines
+known_same lines builder is = rw (is.names, is.location, is.reached, is.defs, is.refs) refl
