@@ -11,3 +11,5 @@ pub mod WaitingLaws
 pub mod NameLaws
 pub mod HeldLaws
 pub mod LineLaws
+pub mod PieceLaws
+pub mod SettleLaws

@@ -18,3 +18,4 @@ pub mod Held
 pub mod Waiting
 pub mod Keeping
 pub mod Building
+pub mod Finishing

@@ -3,6 +3,11 @@ use Rattle.std.specs.Prelude.{ℕ, List, ◌++◌, Option, Some, None, Result, O
 use Rattle.source_defs.specs.Refusals.{◌>>=◌}
 use Rattle.source_defs.specs.Expression.{Value, known_value}
 use Rattle.asm_defs.specs.declared.causes.FormError.TheVariants.{BadOperand}
+use Rattle.std.specs.Option.{option_map}
+use Rattle.object_defs.specs.declared.spot.Spot.{Spot}
+use Rattle.asm_text.specs.declared.values.Value.{Value as CodeValue}
+use Rattle.asm_text.specs.GivenValues.{defined_value}
+use Rattle.module_defs.specs.Modules.{spot_of}
 use Rattle.asm_forms.specs.Placed.{defined_words}
 use Rattle.module_defs.specs.declared.causes.AsmCause.{AsmCause}
 use Rattle.module_defs.specs.declared.causes.AsmCause.TheVariants.{Form}
@@ -29,3 +34,7 @@ known_answer found = as_expr (known_value found) >>= λ value. spec.defined_here
 abbrev pub after : {A E : Type 0} → List A → Result (List A) E → Result (List A) E
 after front (Ok items) = Ok (front ++ items)
 after front (Err error) = Err error
+
+-- the spot that a name stands for
+abbrev pub defined_spot : Option CodeValue → Spot
+defined_spot found = spot_of (option_map defined_value found)

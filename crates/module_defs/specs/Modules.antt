@@ -7,7 +7,7 @@ use Rattle.source_defs.specs.Layout.{laid, settled, numbered, line_texts}
 use Rattle.object_defs.specs.declared.spot.Spot.{Spot}
 use Rattle.object_defs.specs.declared.spot.Spot.TheVariants as spot
 use Rattle.object_defs.specs.Digits.{padded}
-use Rattle.object_defs.specs.Modules.{Module, Reference, most_words}
+use Rattle.object_defs.specs.Modules.{Module, Definition, Reference, most_words}
 use Rattle.module_defs.specs.declared.causes.AsmCause.{AsmCause}
 use Rattle.module_defs.specs.declared.causes.AsmCause.TheVariants.{Overflow, Overlap}
 use Rattle.module_defs.specs.declared.location.Location.{Location}
@@ -49,6 +49,10 @@ spot_of (Some (Absolute number)) = spot.Absolute number
 spot_of (Some (Relocatable number)) = spot.Relocatable number
 spot_of _ = spot.Absolute 0
 
+-- a name of DEF with what it stands for
+abbrev pub definition_in : Names → List ℕ → Definition
+definition_in known name = record { name = name; value = spot_of (look_up known name) }
+
 -- the entry that END gives
 abbrev pub entry_by : Option Spot → Outcome → Option Spot
 entry_by entry (Entry found) = Some found
@@ -72,7 +76,7 @@ module_by lines settled =
       name = title lines;
       size = reached lines;
       pieces = pieces references settled;
-      defs = map (λ name. record { name = name; value = spot_of (look_up (names lines) name) }) (defs lines);
+      defs = map (definition_in (names lines)) (defs lines);
       refs = references_of references settled;
       entry = entry settled;
     }
