@@ -1,5 +1,5 @@
 -- What a builder keeps of the lines that it has taken.
-use Rattle.std.specs.Prelude.{◌≡◌, ⊤, ℕ, ◌+◌, Bool, false, ◌||◌, List, [], ◌∷◌, length, Result, Ok, Err}
+use Rattle.std.specs.Prelude.{◌≡◌, ⊤, ℕ, ◌+◌, Bool, false, ◌||◌, List, [], ◌∷◌, length, Result, Ok, Err, ◌<◌, ◌-◌, ◌^◌}
 use Rattle.source_defs.specs.Refusals.{Refusal}
 use Rattle.source_defs.specs.Layout.{laid, numbered}
 use Rattle.module_defs.specs.declared.causes.AsmCause.{AsmCause}
@@ -63,6 +63,16 @@ Takes lines text (Err (error.At number cause)) builder =
 Takes lines text (Err error.Memory) builder = IsBehind lines builder
 
 -- The meaning of a builder: the texts of the lines that it has taken.
-abbrev pub HasTaken : List (List ℕ) → AsmLines → Type 0
-HasTaken texts builder =
-    (lines : List Line) × (laid check (numbered 1 texts) ≡ Ok lines) × IsBehind lines builder
+pub record HasTaken (texts : List (List ℕ)) (builder : AsmLines) : Type 0 where
+  pub lines : List Line
+  pub laid : laid check (numbered 1 texts) ≡ Ok lines
+  pub all : length lines ≡ length texts
+  pub behind : IsBehind lines builder
+
+-- no line that it has taken ends the source
+abbrev pub IsOpen : AsmLines → Type 0
+IsOpen builder = builder.ended ≡ false
+
+-- it has taken fewer lines than can be counted
+abbrev pub CanCount : AsmLines → Type 0
+CanCount builder = builder.taken < 2 ^ 32 - 1

@@ -1,8 +1,8 @@
 -- What a builder ends with.
-use Rattle.std.specs.Prelude.{◌≡◌, ⊤, List, Result, Ok, Err}
+use Rattle.std.specs.Prelude.{◌≡◌, ⊤, ℕ, List, [], ◌∷◌, ◌++◌, Result, Ok, Err}
 use Rattle.source_defs.specs.Refusals.{Refusal}
 use Rattle.source_defs.specs.Symbols.{Names}
-use Rattle.source_defs.specs.Layout.{settled}
+use Rattle.source_defs.specs.Layout.{settled, laid, numbered}
 use Rattle.source_defs.specs.declared.causes.ExprError.TheVariants as expr
 use Rattle.asm_defs.specs.declared.causes.FormError.TheVariants as form
 use Rattle.object_defs.specs.Modules as object
@@ -14,6 +14,9 @@ use Rattle.module_defs.specs.declared.causes.AsmCause.TheVariants as cause
 use Rattle.module_defs.specs.Locations.{Line}
 use Rattle.module_defs.specs.Memory.{Settled}
 use Rattle.module_defs.specs.Modules.{settle}
+use Rattle.module_defs.specs.FirstChecks.{check}
+use Rattle.asm_core.specs.Building.{HasTaken}
+use Rattle.asm_core.specs.declared.lines.AsmLines.{AsmLines}
 use Rattle.asm_core.specs.Images.{IsImage}
 use Rattle.asm_core.specs.declared.error.AsmError.{AsmError}
 use Rattle.asm_core.specs.declared.error.AsmError.TheVariants.{At, Memory}
@@ -37,3 +40,9 @@ SettlesAll unused lines known (Err error) image = RefusesAt error (settled (sett
 abbrev pub GivesModule : Result Module AsmError → Result object.Module (Refusal AsmCause) → Type 0
 GivesModule (Ok found) defined = defined ≡ Ok (defined_module found)
 GivesModule (Err error) defined = RefusesAt error defined
+
+-- a line was taken behind others, or the first checks refuse it there
+abbrev pub TakesText : {A : Type 0} → List (List ℕ) → List ℕ → Result A AsmError → AsmLines → Type 0
+TakesText texts text (Ok _) builder = HasTaken (texts ++ text ∷ []) builder
+TakesText texts text (Err error) builder =
+    RefusesAt error (laid check (numbered 1 (texts ++ text ∷ []))) × HasTaken texts builder

@@ -93,15 +93,17 @@ impl Image {
         match at.part {
             Part::Relocatable => {
                 let contents = contents(self.alloc, &mut self.references, at, outcome)?;
-                Ok(self
-                    .relocatable
-                    .overlay(at.number as usize, contents.as_slice()))
+                Ok(
+                    self.relocatable
+                        .overlay(at.number as usize, contents.as_slice()),
+                )
             }
             Part::Absolute => {
                 let contents = contents(self.alloc, &mut self.references, at, outcome)?;
-                Ok(self
-                    .absolute
-                    .overlay(at.number as usize, contents.as_slice()))
+                Ok(
+                    self.absolute
+                        .overlay(at.number as usize, contents.as_slice()),
+                )
             }
             Part::Dummy => Ok(false),
         }

@@ -115,12 +115,8 @@ impl AsmLines {
         ensures still { StandsStill self.old self.new }
     {
         match checked.said.statement {
-            Statement::Def(_) => self
-                .defs
-                .extend_from_slice(checked.said.listed.as_slice()),
-            Statement::Ref(_) => self
-                .refs
-                .extend_from_slice(checked.said.listed.as_slice()),
+            Statement::Def(_) => self.defs.extend_from_slice(checked.said.listed.as_slice()),
+            Statement::Ref(_) => self.refs.extend_from_slice(checked.said.listed.as_slice()),
             _ => Ok(()),
         }
     }

@@ -1,6 +1,7 @@
 //! The assembler: the module that a source stands for.
 #![tactic(auto)]
 
+mod calls;
 mod characters;
 mod contents;
 mod define;
@@ -21,6 +22,12 @@ mod pieces;
 mod references;
 mod second_checks;
 mod settle;
+mod source;
 mod statement;
 mod take;
 mod values;
+
+pub use crate::error::AsmError;
+pub use crate::lines::AsmLines;
+pub use crate::source::assemble;
+pub use module_defs::AsmCause;

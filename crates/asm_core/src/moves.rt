@@ -42,7 +42,10 @@ impl Scope<'_> {
             Statement::Dorg(text) => Ok(set_to(Part::Dummy, u32::from(self.absolute_of(text)?))),
             Statement::Rorg(None) => Ok(set_to(Part::Relocatable, reached)),
             Statement::Rorg(Some(text)) => {
-                Ok(set_to(Part::Relocatable, u32::from(number_in(self.value_of(text)?)?)))
+                Ok(set_to(
+                    Part::Relocatable,
+                    u32::from(number_in(self.value_of(text)?)?),
+                ))
             }
             Statement::Bss(text) => Ok(stays_at(self.at, u32::from(self.absolute_of(text)?))),
             Statement::Bes(text) => Ok(ends_block(self.at, u32::from(self.absolute_of(text)?))),

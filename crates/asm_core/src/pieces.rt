@@ -60,10 +60,7 @@ fn joined(high: Option<Content>, low: Option<Content>) -> Option<Spot>
     match (high, low) {
         (None, None) => None,
         (Some(Content::First(word)), _) => Some(word),
-        (high, low) => Some(Spot::Absolute(u16::from_be_bytes([
-            byte_in(high),
-            byte_in(low),
-        ]))),
+        (high, low) => Some(Spot::Absolute(u16::from_be_bytes([byte_in(high), byte_in(low)]))),
     }
 }
 

@@ -12,8 +12,12 @@ use Rattle.asm_core.proofs.image.Image.put.Goals as goal
 pub overlay-requires : goal.overlay-requires
 overlay-requires c =
     let outcome = defined_outcome c.args.outcome.now in
-    omega (arith, c.requires, ap length (c.as_slice.ensures.value ∙ c.in_ok-contents-in-Relocatable.ensures.contents),
-    contents_length c.args.at (map defined_ref c.args.self.now.references.items) outcome)
+    omega (
+      arith,
+      c.requires,
+      ap length (c.as_slice.ensures.value ∙ c.in_ok-contents-in-Relocatable.ensures.contents),
+      contents_length c.args.at (map defined_ref c.args.self.now.references.items) outcome,
+    )
 
 pub returns-in_ok-contents-in-Relocatable-clause-put : goal.returns-in_ok-contents-in-Relocatable-clause-put
 returns-in_ok-contents-in-Relocatable-clause-put c = λ unused earlier is.
@@ -28,9 +32,9 @@ returns-in_ok-contents-in-Relocatable-clause-put c = λ unused earlier is.
     let same : same_part at.part part.Relocatable ≡ true = ap (λ (found : Part). same_part found part.Relocatable) c.in-Relocatable.is in
     let apart : same_part at.part part.Absolute ≡ false = ap (λ (found : Part). same_part found part.Absolute) c.in-Relocatable.is in (
       c.overlay.ensures.before
-      ∙ (any_is unused earlier part.Relocatable old is.placed.relocatable at.number (length c.as_slice.result.now)
-      ∙ (ap (any_from (is_placed earlier part.Relocatable) at.number) size
-      ∙ ap (λ (found : Part). any_from (is_placed earlier found) at.number (bytes_in outcome)) (sym c.in-Relocatable.is))),
+          ∙ (any_is unused earlier part.Relocatable old is.placed.relocatable at.number (length c.as_slice.result.now)
+          ∙ (ap (any_from (is_placed earlier part.Relocatable) at.number) size
+          ∙ ap (λ (found : Part). any_from (is_placed earlier found) at.number (bytes_in outcome)) (sym c.in-Relocatable.is))),
       record {
         relocatable = λ p.
             ap (λ cells. cell cells p) (c.overlay.ensures.put ∙ ap (put_from old at.number) put)
@@ -43,8 +47,12 @@ returns-in_ok-contents-in-Relocatable-clause-put c = λ unused earlier is.
 pub overlay-requires-in-Absolute : goal.overlay-requires-in-Absolute
 overlay-requires-in-Absolute c =
     let outcome = defined_outcome c.args.outcome.now in
-    omega (arith, c.requires, ap length (c.as_slice-in-Absolute.ensures.value ∙ c.in_ok-contents-in-Absolute.ensures.contents),
-    contents_length c.args.at (map defined_ref c.args.self.now.references.items) outcome)
+    omega (
+      arith,
+      c.requires,
+      ap length (c.as_slice-in-Absolute.ensures.value ∙ c.in_ok-contents-in-Absolute.ensures.contents),
+      contents_length c.args.at (map defined_ref c.args.self.now.references.items) outcome,
+    )
 
 pub returns-in_ok-contents-in-Absolute-clause-put : goal.returns-in_ok-contents-in-Absolute-clause-put
 returns-in_ok-contents-in-Absolute-clause-put c = λ unused earlier is.
@@ -59,9 +67,9 @@ returns-in_ok-contents-in-Absolute-clause-put c = λ unused earlier is.
     let same : same_part at.part part.Absolute ≡ true = ap (λ (found : Part). same_part found part.Absolute) c.in-Absolute.is in
     let apart : same_part at.part part.Relocatable ≡ false = ap (λ (found : Part). same_part found part.Relocatable) c.in-Absolute.is in (
       c.overlay-in-Absolute.ensures.before
-      ∙ (any_is unused earlier part.Absolute old is.placed.absolute at.number (length c.as_slice-in-Absolute.result.now)
-      ∙ (ap (any_from (is_placed earlier part.Absolute) at.number) size
-      ∙ ap (λ (found : Part). any_from (is_placed earlier found) at.number (bytes_in outcome)) (sym c.in-Absolute.is))),
+          ∙ (any_is unused earlier part.Absolute old is.placed.absolute at.number (length c.as_slice-in-Absolute.result.now)
+          ∙ (ap (any_from (is_placed earlier part.Absolute) at.number) size
+          ∙ ap (λ (found : Part). any_from (is_placed earlier found) at.number (bytes_in outcome)) (sym c.in-Absolute.is))),
       record {
         absolute = λ p.
             ap (λ cells. cell cells p) (c.overlay-in-Absolute.ensures.put ∙ ap (put_from old at.number) put)

@@ -13,13 +13,23 @@ use Rattle.asm_core.proofs.image.Image.room.Goals as goal
 counted : (unused : List Reference) (lines : List Settled) (image : Image) → IsPlaced unused lines image
     → word_count lines ≡ image.relocatable.words + image.absolute.words
 counted unused lines image is =
-    omega (arith, words_are unused lines part.Relocatable image.relocatable.cells.items is.relocatable,
-    words_are unused lines part.Absolute image.absolute.cells.items is.absolute, image.relocatable.counted, image.absolute.counted)
+    omega (
+      arith,
+      words_are unused lines part.Relocatable image.relocatable.cells.items is.relocatable,
+      words_are unused lines part.Absolute image.absolute.cells.items is.absolute,
+      image.relocatable.counted,
+      image.absolute.counted,
+    )
 
 pub overflow_add-self : goal.overflow_add-self
 overflow_add-self c =
-    omega (arith, words_most c.args.self.now.relocatable.cells.items, words_most c.args.self.now.absolute.cells.items,
-    c.args.self.now.relocatable.counted, c.args.self.now.absolute.counted)
+    omega (
+      arith,
+      words_most c.args.self.now.relocatable.cells.items,
+      words_most c.args.self.now.absolute.cells.items,
+      c.args.self.now.relocatable.counted,
+      c.args.self.now.absolute.counted,
+    )
 
 pub returns-then-self-gt-MOST_WORDS : goal.returns-then-self-gt-MOST_WORDS
 returns-then-self-gt-MOST_WORDS c = λ unused earlier line is over.

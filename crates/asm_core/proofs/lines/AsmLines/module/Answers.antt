@@ -1,11 +1,10 @@
-use Rattle.std.proofs.Common.{◌≡◌, [], Ok, List, sym, ap, subst, ◌∙◌}
+use Rattle.std.proofs.Common.{[], Ok, List, sym, ap, subst, ◌∙◌}
 use Rattle.std.specs.Prelude.{map}
 use Rattle.source_defs.specs.Refusals.{◌>>=◌}
 use Rattle.source_defs.specs.Symbols.{Names}
 use Rattle.source_defs.specs.Layout.{settled}
-use Rattle.module_defs.specs.FirstChecks.{names, refs}
+use Rattle.module_defs.specs.FirstChecks.{refs}
 use Rattle.module_defs.specs.Locations.{Line}
-use Rattle.module_defs.specs.Memory.{Settled}
 use Rattle.module_defs.specs.Modules.{unused, settle, module_by}
 use Rattle.asm_core.specs.declared.image.Image.{Image}
 use Rattle.asm_core.specs.declared.lines.AsmLines.{AsmLines}

@@ -1,4 +1,4 @@
-use Rattle.std.proofs.Common.{◌≡◌, ◌++◌, ℕ, List, refl, sym, ap, ◌∙◌}
+use Rattle.std.proofs.Common.{◌≡◌, ◌++◌, ℕ, refl, ap, ◌∙◌}
 use Rattle.std.specs.Prelude.{map, Option}
 use Rattle.source_defs.specs.Symbols.{Names}
 use Rattle.object_tags.specs.Seen.{defined_ref, defined_def}

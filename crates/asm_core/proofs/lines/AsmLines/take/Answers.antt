@@ -65,8 +65,8 @@ returns c = λ lines is.
           order ++ line ∷ [],
           ap (λ lines. line ∷ lines) is.waiting.1 ∙ sym (behind_more [] order line),
           subst (Wait [] (order ++ line ∷ [])) (sym (went.kept.lists.waits ∙ keeps.waits))
-          (wait_more [] order c.args.self.now.pending.items line waits is.waiting.2
-          (subst (λ before. IsOf before line waits) is.waiting.1 is_of)),
+              (wait_more [] order c.args.self.now.pending.items line waits is.waiting.2
+              (subst (λ before. IsOf before line waits) is.waiting.1 is_of)),
         );
       },
     )

@@ -30,5 +30,5 @@ loop-span-preserved c =
       inside = inside.1;
       room = omega (arith, ap length c.in-Some.ensures.steps, i.room, ap (λ place. place.number) c.behind-place.ensures);
       so_far = rw (longer, c.behind-place.ensures) (sym more
-      ∙ (ap (λ spans. after front (data_values look at c.loop-span.place (map (part field) spans))) (sym c.in-Some.ensures.steps) ∙ i.so_far));
+          ∙ (ap (λ spans. after front (data_values look at c.loop-span.place (map (part field) spans))) (sym c.in-Some.ensures.steps) ∙ i.so_far));
     }

@@ -1,0 +1,85 @@
+//! The calls of a builder.
+
+ghost use Rattle.std.specs.Prelude.{◌≡◌, ◌↔◌, ℕ, false, List, [], length};
+ghost use Rattle.module_defs.specs.Modules.{module_of_lines, title};
+ghost use Rattle.asm_core.specs.Building.{HasTaken, IsOpen, CanCount, has_ended};
+ghost use Rattle.asm_core.specs.Finishing.{TakesText, GivesModule};
+
+use crate::error::AsmError;
+use crate::lines::AsmLines;
+use asm_text::Symbols;
+use module_defs::{Location, Part};
+use object_tags::{Module, ModuleName};
+use std::alloc::Global;
+
+impl AsmLines {
+    /// A builder that has taken no line. It takes no memory.
+    pub fn new(alloc: Global) -> AsmLines
+        ensures none { HasTaken [] result }
+        ensures open { IsOpen result }
+        ensures count { CanCount result }
+    {
+        AsmLines {
+            alloc,
+            symbols: Symbols::new(alloc),
+            location: Location {
+                part: Part::Relocatable,
+                number: 0,
+            },
+            reached: 0,
+            title: blank_title(),
+            defs: Vec::new(alloc),
+            refs: Vec::new(alloc),
+            pending: Vec::new(alloc),
+            taken: 0,
+            ended: false,
+        }
+    }
+
+    /// Takes a line behind those that were taken. It is given without its line feed, and no line that ends the source was
+    /// taken before.
+    ///
+    /// # Errors
+    /// `At` comes exactly where the first checks refuse the line there, and carries its number, which is the number of lines
+    /// taken plus 1. `Memory` is want of memory. After an error the builder is as before.
+    pub fn line(&mut self, line: &[u8]) -> Result<(), AsmError>
+        requires open { IsOpen self.old }
+        requires count { CanCount self.old }
+        ensures { (texts : List (List ℕ)) → HasTaken texts self.old → TakesText texts line.now result self.new }
+    {
+        self.take(line)
+    }
+
+    /// Whether a line that ends the source was taken.
+    pub fn is_ended(&self) -> bool
+        ensures open { (result ≡ false) ↔ IsOpen self.now }
+        ensures ended { (texts : List (List ℕ)) → (taken : HasTaken texts self.now) → result ≡ has_ended taken.lines }
+    {
+        self.ended
+    }
+
+    /// How many lines were taken.
+    pub fn taken(&self) -> u32
+        ensures { (texts : List (List ℕ)) → HasTaken texts self.now → result ≡ length texts }
+    {
+        self.taken
+    }
+
+    /// The module of the lines that were taken.
+    ///
+    /// # Errors
+    /// `At` carries the first line that the second checks refuse, and comes exactly where there is one. `Memory` is want of
+    /// memory. After an error the lines are given up.
+    pub fn finish(self) -> Result<Module, AsmError>
+        ensures { (texts : List (List ℕ)) → HasTaken texts self → GivesModule result (module_of_lines texts) }
+    {
+        self.module()
+    }
+}
+
+/// The module's name of a source that gives none: blanks.
+fn blank_title() -> ModuleName
+    ensures { result ≡ title [] }
+{
+    ModuleName::read(b"        ").unwrap()
+}
