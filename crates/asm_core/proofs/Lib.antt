@@ -13,3 +13,4 @@ pub mod HeldLaws
 pub mod LineLaws
 pub mod PieceLaws
 pub mod SettleLaws
+pub mod TakenLaws
