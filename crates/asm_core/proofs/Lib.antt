@@ -14,3 +14,4 @@ pub mod LineLaws
 pub mod PieceLaws
 pub mod SettleLaws
 pub mod TakenLaws
+pub mod SourceLaws

@@ -1,0 +1,94 @@
+use Rattle.std.proofs.Common.{◌≡◌, ◌+◌, ◌||◌, true, false, ℕ, List, [], ◌∷◌, Ok, length, refl, sym, ap, subst, ◌∙◌, arith}
+use Rattle.source_defs.specs.declared.text.Line.{Line as TextLine}
+use Rattle.source_defs.specs.Refusals.{◌>>=◌}
+use Rattle.source_defs.specs.Lines.{LinesLieInside}
+use Rattle.source_defs.specs.Layout.{laid, laid_behind, line_texts}
+use Rattle.module_defs.specs.Locations.{Line}
+use Rattle.module_defs.specs.FirstChecks.{check}
+use Rattle.module_defs.specs.Modules.{module_behind}
+use Rattle.std.specs.Prelude.{Result}
+use Rattle.source_defs.specs.Refusals.{Refusal}
+use Rattle.module_defs.specs.declared.causes.AsmCause.{AsmCause}
+use Rattle.asm_core.specs.Building.{IsBehind, has_ended}
+use Rattle.asm_core.specs.Finishing.{GivesModule}
+use Rattle.asm_core.proofs.SettleLaws.{refuses_on}
+use Rattle.asm_core.proofs.SourceLaws.{IsNumbered, lines_numbered, texts_of, refused_there, ends_there, goes_on, first_of_two, none_of_two}
+use Rattle.asm_core.proofs.source.assemble.Goals as goal
+use Rattle.asm_core.proofs.source.assemble.Goals.{in-None, in-Some+in-Ok+then-builder}
+
+pub loop-line-init : goal.loop-line-init
+loop-line-init c =
+    let none = c.new-builder.ensures.none in
+    let empty : [] ≡ none.lines = cc none.laid in
+    let text = c.args.text.now in
+    let all = c.into_iter-line-iterator.ensures.into_iter_gives ∙ c.lines-line-items.ensures.all in (
+      [],
+      subst (λ lines. IsBehind lines c.new-builder.result) (sym empty) none.behind,
+      c.new-builder.ensures.open,
+      subst (LinesLieInside text) (sym c.into_iter-line-iterator.ensures.into_iter_gives) c.lines-line-items.ensures.inside,
+      subst (IsNumbered 1) (sym all) (lines_numbered text),
+      ap (λ lines. laid_behind check [] (texts_of text lines)) all,
+    )
+
+-- the lines that are left, from their first on
+abbrev left_from : List ℕ → List Line → List TextLine → Result (List Line) (Refusal AsmCause)
+left_from text before lines = laid_behind check before (texts_of text lines)
+
+pub loop-line-preserved : goal.loop-line-preserved
+loop-line-preserved c =
+    let i = c.loop-line.invariant in
+    let text = c.args.text.now in
+    let before = i.0 in
+    let line = c.in-Some.line in
+    let next = c.next.new.self in
+    let steps = c.in-Some.ensures.steps in
+    let inside : LinesLieInside text (line ∷ next) = subst (LinesLieInside text) steps i.3 in
+    let numbered : IsNumbered (length before + 1) (line ∷ next) = subst (IsNumbered (length before + 1)) steps i.4 in
+    let taken = c.in-Ok.ensures before i.1 in
+    let last = none_of_two taken.0.last (has_ended before) (sym taken.2.ended ∙ c.if-builder.false) in
+    let count : length before + 1 + 1 ≡ length (taken.0 ∷ before) + 1 = omega arith in (
+      taken.0 ∷ before,
+      taken.2,
+      c.if-builder.false,
+      inside.1,
+      subst (λ number. IsNumbered number next) count numbered.1,
+      sym (goes_on text before line next numbered.0 taken.0 taken.1 last) ∙ (ap (left_from text before) (sym steps) ∙ i.5),
+    )
+
+pub returns-in-Err : goal.returns-in-Err
+returns-in-Err c =
+    let i = c.loop-line.invariant in
+    let text = c.args.text.now in
+    let before = i.0 in
+    let line = c.in-Some.line in
+    let next = c.next.new.self in
+    let steps = c.in-Some.ensures.steps in
+    let numbered : IsNumbered (length before + 1) (line ∷ next) = subst (IsNumbered (length before + 1)) steps i.4 in
+    let refused = refused_there text before line next numbered.0 c.in-Err.error c.take.new.self (c.in-Err.ensures before i.1) in
+    refuses_on c.in-Err.error (left_from text before (line ∷ next)) _
+    (λ refusal e. ap (λ answer. answer >>= module_behind) (sym i.5 ∙ (ap (left_from text before) steps ∙ e)))
+    refused
+
+pub returns : goal.returns
+returns c =
+    let i = c.loop-line.invariant in
+    let text = c.args.text.now in
+    let before = i.0 in
+    elim c.match-next.branch [
+      | in-None w ↦
+          let whole : Ok before ≡ laid check (line_texts text) = ap (left_from text before) (sym w.in-None.ensures.steps.0) ∙ i.5 in
+          subst (GivesModule c.module.result) (ap (λ answer. answer >>= module_behind) whole)
+          (c.module.ensures before (subst (IsBehind before) (sym w.builder-is) i.1))
+      | in-Some+in-Ok+then-builder w ↦
+          let line = w.in-Some.line in
+          let next = c.next.new.self in
+          let steps = w.in-Some.ensures.steps in
+          let numbered : IsNumbered (length before + 1) (line ∷ next) = subst (IsNumbered (length before + 1)) steps i.4 in
+          let taken = w.in-Ok.ensures before i.1 in
+          let last =
+          first_of_two taken.0.last (has_ended before) (sym taken.2.ended ∙ w.if-builder.true) (sym i.1.ended ∙ i.2) in
+          let whole : Ok (taken.0 ∷ before) ≡ laid check (line_texts text) =
+          sym (ends_there text before line next numbered.0 taken.0 taken.1 last) ∙ (ap (left_from text before) (sym steps) ∙ i.5) in
+          subst (GivesModule c.module.result) (ap (λ answer. answer >>= module_behind) whole)
+          (c.module.ensures (taken.0 ∷ before) (subst (IsBehind (taken.0 ∷ before)) (sym w.builder-is) taken.2))
+    ]
