@@ -86,8 +86,8 @@ module _ (texts : List (List ℕ)) (text : List ℕ) (builder new : AsmLines) (t
   takes_text (Err Memory) takes = (tt, record { lines = taken.lines; laid = taken.laid; all = taken.all; behind = takes })
   takes_text (Err (At number cause)) takes = (
     refuses_by (Refused cause) number (check taken.lines count text) (laid check (numbered 1 (texts ++ text ∷ []))) takes.1
-    (λ refused e.
-    whole_is ∙ (ap (λ answer. at_line count answer >>= λ line. Ok (line ∷ taken.lines)) e
-    ∙ ap (λ number. Err (record { line = number; cause = refused })) (sym takes.0))),
+        (λ refused e.
+        whole_is ∙ (ap (λ answer. at_line count answer >>= λ line. Ok (line ∷ taken.lines)) e
+        ∙ ap (λ number. Err (record { line = number; cause = refused })) (sym takes.0))),
     record { lines = taken.lines; laid = taken.laid; all = taken.all; behind = takes.2 },
   )
