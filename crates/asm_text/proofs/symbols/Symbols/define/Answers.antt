@@ -1,3 +1,4 @@
+use Rattle.std.proofs.Common.{rules}
 use Rattle.std.proofs.Common.{◌≡◌, None, sym, ap, ◌∙◌}
 use Rattle.std.specs.FinMap.{get, insert}
 use Rattle.asm_text.specs.GivenValues.{defined_value}
@@ -17,3 +18,6 @@ returns-clause-defined c =
           ∙ ap (λ names. insert names c.args.name (defined_value c.args.value)) c.self.view_is)
       | in-Err w ↦ rw w.result-is tt
     ]
+
+pub returns-clause-duplicate : goal.returns-clause-duplicate
+returns-clause-duplicate c = search rules
