@@ -44,8 +44,8 @@ pub gave_more : (a b c : Option (List ℕ)) (x y : List ℕ) → Gave a b x → 
 gave_more a b None x y h k = h ∙ ap (option_map (λ rest. x ++ rest)) k
 gave_more a b (Some rest) x y h k = h ∙ (ap (option_map (λ r. x ++ r)) k ∙ ap Some (sym (append_assoc x y rest)))
 
-pub took_nothing : (s : SourceState) → Took s s [] 0
-took_nothing s = record {
+pub took_none : (s : SourceState) → Took s s [] 0
+took_none s = record {
   told = gave_none s.left;
   number = sym (raised-zero s.taken);
   made = (0, omega arith, sym (raised-zero s.calls));
