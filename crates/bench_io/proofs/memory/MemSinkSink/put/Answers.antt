@@ -1,5 +1,4 @@
 use Rattle.std.proofs.Common.{rules}
-use Rattle.std.proofs.Common.{rules}
 use Rattle.bench_io.proofs.memory.MemSinkSink.put.Goals as goal
 
 pub returns-then-contains-clause-fails : goal.returns-then-contains-clause-fails

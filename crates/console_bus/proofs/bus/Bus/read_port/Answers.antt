@@ -1,5 +1,4 @@
 use Rattle.std.proofs.Common.{rules}
-use Rattle.std.proofs.Common.{rules}
 use Rattle.console_bus.proofs.bus.Bus.read_port.Goals as goal
 
 pub returns-in-38914 : goal.returns-in-38914

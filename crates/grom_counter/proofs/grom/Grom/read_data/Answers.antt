@@ -1,5 +1,4 @@
 use Rattle.std.proofs.Common.{rules}
-use Rattle.std.proofs.Common.{rules}
 use Rattle.grom_counter.proofs.grom.Grom.read_data.Goals as goal
 
 pub returns : goal.returns

@@ -1,6 +1,4 @@
 use Rattle.std.proofs.Common.{rules}
-use Rattle.std.proofs.Common.{rules}
-use Rattle.std.proofs.Common.{rules}
 use Rattle.vdp_ports.proofs.vdp.Vdp.end_pair.Goals as goal
 
 pub returns-in-2 : goal.returns-in-2
