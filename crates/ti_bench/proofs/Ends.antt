@@ -6,7 +6,7 @@ use Rattle.bench_io.specs.Stream.{SourceState}
 use Rattle.bench_io.specs.ReadAll.{Took, GaveUp}
 use Rattle.bench_io.specs.declared.failed.Failed.{Failed}
 use Rattle.bench_io.specs.declared.whole.ReadError.TheVariants as error
-use Rattle.bench_io.proofs.Taking.{took_none, took_from}
+use Rattle.bench_io.proofs.Taking.{took_none}
 use Rattle.console_defs.specs.declared.ends.RunEnd.TheVariants.{Reached, Limit, Refused, Port, SelfJump}
 use Rattle.report_defs.specs.declared.command.Command.{Command}
 use Rattle.report_defs.specs.declared.fault.Fault.TheVariants as fault
@@ -99,5 +99,5 @@ nothing_written run command bytes is takes out err = by (reads command) takes
     by : (reading : Bool) → TakesWhole reading run.input run.input' bytes → WroteNothing run
     by true whole = record { command = some_command run command is; bytes = bytes; within = whole.within; empty = 1; one = omega arith; took = whole.took; out = out; err = err }
     by false (same, none) =
-        let took : Took run.input run.input' [] 0 = rw same (took_from run.input run.input [] (took_none run.input)) in
+        let took : Took run.input run.input' [] 0 = rw same (took_none run.input) in
         record { command = some_command run command is; bytes = []; within = omega arith; empty = 0; one = omega arith; took = took; out = out; err = err }

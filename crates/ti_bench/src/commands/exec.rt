@@ -28,11 +28,28 @@ pub(crate) fn exec(alloc: Global, limit: u32, input: &[u8]) -> Result<Report, Al
     if input.len() > LARGEST_PROGRAM {
         return Ok(Report::Fault(Fault::PastEnd));
     }
+    let (ending, machine) = execute(alloc, limit, input)?;
+    Ok(Report::Run { ending, machine })
+}
+
+/// Executes up to so many instructions of a program: what ended them, and the machine after them.
+fn execute(alloc: Global, limit: u32, input: &[u8]) -> Result<(RunEnd, Machine), AllocError>
+    requires { length input.now ≤ 24576 }
+    ensures { IfOk result (λ run. runs.Executes limit input.now run.0 run.1) }
+{
+    let mut machine = start(alloc, input)?;
+    let ending = run::<Brand>(&mut machine, u64::from(limit), Blank::new(1));
+    Ok((ending, machine))
+}
+
+/// A machine that begins at >A000 with a program there, and with its workspace at >83E0.
+fn start(alloc: Global, input: &[u8]) -> Result<Machine, AllocError>
+    requires { length input.now ≤ 24576 }
+    ensures { IfOk result (λ machine. runs.IsStart input.now machine) }
+{
     let mut bus = new_bus(alloc)?;
     load(&mut bus, input);
-    let mut machine = Machine::new(bus, 0x83E0, 0xA000);
-    let ending = run::<Brand>(&mut machine, u64::from(limit), Blank::new(1));
-    Ok(Report::Run { ending, machine })
+    Ok(Machine::new(bus, 0x83E0, 0xA000))
 }
 
 /// Executes up to so many instructions on a machine that has executed none.
