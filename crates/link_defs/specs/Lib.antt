@@ -1,0 +1,5 @@
+pub mod Causes
+pub mod Placing
+pub mod First
+pub mod Chains
+pub mod LinkedMemory

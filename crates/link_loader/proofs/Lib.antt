@@ -1,0 +1,9 @@
+pub mod First
+pub mod KeptNames
+pub mod Words
+pub mod Refusals
+pub mod Uses
+pub mod Pairs
+pub mod Steps
+pub mod Filled
+pub mod Shown
