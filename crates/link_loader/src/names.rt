@@ -1,6 +1,7 @@
 //! The names that modules define and need.
 
-ghost use Rattle.std.specs.Prelude.{◌≡◌, List, ℕ};
+ghost use Rattle.std.specs.Prelude.{◌≡◌, List, ℕ, is_some};
+ghost use Rattle.std.specs.BTreeMap as tree;
 ghost use Rattle.std.specs.Ordering.{nat_cmp};
 ghost use Rattle.std.specs.Cmp.Lexicographic.{slice_cmp};
 ghost use Rattle.link_defs.specs.Causes as causes;
@@ -20,7 +21,7 @@ pub(crate) fn define(alloc: Global, defs: &[(Name, u16)]) -> Result<BTreeMap<Nam
 {
     let mut names = BTreeMap::new(alloc);
     for def in defs {
-        if names.contains_key(&def.0) {
+        if is_defined(&names, &def.0) {
             return Err(LinkError::DuplicateDef(def.0));
         }
         names.insert(def.0, def.1)?;
@@ -37,9 +38,16 @@ pub(crate) fn check_names(
         (unless (λ ref. causes.Unresolved ref.0) (first (spec.is_unresolved defs) refs.now)) }
 {
     for reference in refs {
-        if !names.contains_key(&reference.0) {
+        if !is_defined(names, &reference.0) {
             return Err(LinkError::Unresolved(reference.0));
         }
     }
     Ok(())
+}
+
+/// Whether a name is defined.
+fn is_defined(names: &BTreeMap<Name, u16>, name: &Name) -> bool
+    ensures { result ≡ is_some (tree.get (slice_cmp nat_cmp) names.now name.now) }
+{
+    names.contains_key(name)
 }
