@@ -13,7 +13,7 @@ use Rattle.link_loader.specs.Tables.{pairs_from, replaced}
 use Rattle.link_loader.specs.Holds.{cell, HoldsWords, HoldsUses, value_or_0}
 use Rattle.link_loader.proofs.Pairs.{pairs_sorted, find_pairs}
 
-tied : (a b : ℕ) → eq_by_cmp nat_cmp a b ≡ true → a ≡ b
+pub tied : (a b : ℕ) → eq_by_cmp nat_cmp a b ≡ true → a ≡ b
 tied a b e = by (nat_cmp a b) refl
   where
     by : (r : Ordering) → nat_cmp a b ≡ r → a ≡ b

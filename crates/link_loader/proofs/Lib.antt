@@ -7,3 +7,4 @@ pub mod Pairs
 pub mod Steps
 pub mod Filled
 pub mod Shown
+pub mod Inside

@@ -1,6 +1,6 @@
 -- The pairs of a table, as the entries of a map.
-use Rattle.std.proofs.Common.{◌≡◌, ℕ, zero, suc, ◌+◌, ◌<◌, Bool, true, false, cond, List, [], ◌∷◌, refl, ap, ◌∙◌, arith, Option, Some, None, T}
-use Rattle.std.specs.Prelude.{◌==◌, nat_lt, ◌&&◌}
+use Rattle.std.proofs.Common.{◌≡◌, ℕ, zero, suc, ◌+◌, ◌<◌, Bool, true, false, cond, List, [], ◌∷◌, refl, ap, ◌∙◌, arith, Option, Some, None, T, length, get_or}
+use Rattle.std.specs.Prelude.{◌==◌, nat_lt, ◌&&◌, IsSome}
 use Rattle.std.specs.Ordering.{nat_cmp, is_lt}
 use Rattle.std.specs.FinMap.{find, is_sorted}
 use Rattle.std.specs.FinMap.Entries.{below_all}
@@ -51,3 +51,14 @@ find_from at (suc k) (Some word ∷ cells) =
 -- what is found among the pairs is what the table has
 pub find_pairs : (q : ℕ) (cells : List (Option ℕ)) → find nat_cmp q (pairs_from 0 cells) ≡ word_in cells q
 find_pairs q cells = let e : 0 + q ≡ q = omega arith in rw e at (find_from 0 q cells)
+
+-- the address of a pair has a word
+pub pairs_have : (at k : ℕ) (cells : List (Option ℕ)) (d : ℕ × ℕ) → k < length (pairs_from at cells) → (j : ℕ) × ((get_or (pairs_from at cells) k d).0 ≡ at + j) × IsSome (word_in cells j)
+pairs_have at k [] d lt = absurd (omega (arith, lt))
+pairs_have at k (None ∷ cells) d lt =
+    let there = pairs_have (at + 1) k cells d lt in
+    (suc there.0, there.1 ∙ omega arith, there.2)
+pairs_have at zero (Some word ∷ cells) d lt = (0, omega arith, refl)
+pairs_have at (suc k) (Some word ∷ cells) d lt =
+    let there = pairs_have (at + 1) k cells d (omega arith) in
+    (suc there.0, there.1 ∙ omega arith, there.2)

@@ -1,7 +1,8 @@
 //! Linked memory.
 
-ghost use Rattle.std.specs.Prelude.{◌≡◌, ℕ, List, length};
-ghost use Rattle.link_loader.specs.Tables.{pairs_from};
+ghost use Rattle.std.specs.Prelude.{◌≡◌, ℕ, true, IsSome};
+ghost use Rattle.link_defs.specs.LinkedMemory.{is_loadable};
+ghost use Rattle.link_loader.specs.Tables.{pairs_from, word_in};
 
 use crate::table::Table;
 use asm_text::Name;
@@ -18,4 +19,5 @@ pub struct Linked {
     /// Where the program is entered.
     pub(crate) entry: u16,
     ghost listed: { pairs.items ≡ pairs_from 0 words.cells.items },
+    ghost loadable: { (at : ℕ) → IsSome (word_in words.cells.items at) → is_loadable at ≡ true },
 }

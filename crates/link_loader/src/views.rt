@@ -1,8 +1,9 @@
 //! What linked memory shows.
 
-ghost use Rattle.std.specs.Prelude.{◌≡◌, ◌<◌, ◌==◌, Some};
+ghost use Rattle.std.specs.Prelude.{◌≡◌, ◌<◌, ◌==◌, true, Some};
 ghost use Rattle.std.specs.List.{slice_get};
 ghost use Rattle.std.specs.FinMap.{get, len, entries};
+ghost use Rattle.link_defs.specs.LinkedMemory.{is_loadable};
 ghost use Rattle.link_loader.specs.View.{defined_linked};
 
 use crate::linked::Linked;
@@ -47,7 +48,8 @@ impl Linked {
     /// An address and the word there, by their number in order of address, from 0.
     pub fn pair(&self, index: usize) -> (u16, u16)
         requires { index < len (defined_linked self.now).words }
-        ensures { slice_get (entries (defined_linked self.now).words) index ≡ Some result }
+        ensures pair { slice_get (entries (defined_linked self.now).words) index ≡ Some result }
+        ensures loadable { is_loadable result.0 ≡ true }
     {
         self.pairs[index]
     }
