@@ -3,3 +3,4 @@ pub mod Placing
 pub mod First
 pub mod Chains
 pub mod LinkedMemory
+pub mod Laws

@@ -8,3 +8,5 @@ pub mod Steps
 pub mod Filled
 pub mod Shown
 pub mod Inside
+pub mod Chained
+pub mod Placed

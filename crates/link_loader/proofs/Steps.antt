@@ -30,19 +30,19 @@ memory_of defs words uses entry =
 
 module _ (defs : List (List ℕ × ℕ)) (words : List (ℕ × ℕ)) (refs : List (List ℕ × ℕ)) (entries : List ℕ) where
   -- what is left to do behind each check
-  abbrev behind_known : Uses → Result LinkedMemory LinkCause
+  abbrev pub behind_known : Uses → Result LinkedMemory LinkCause
   behind_known uses = first_entry entries >>= λ entry. Ok (memory_of defs words uses entry)
 
-  abbrev behind_uses : Uses → Result LinkedMemory LinkCause
+  abbrev pub behind_uses : Uses → Result LinkedMemory LinkCause
   behind_uses uses = names_known defs refs >>= λ known. behind_known uses
 
-  abbrev behind_alone : Result LinkedMemory LinkCause
+  abbrev pub behind_alone : Result LinkedMemory LinkCause
   behind_alone = uses_of words [] refs >>= λ uses. behind_uses uses
 
-  abbrev behind_inside : Result LinkedMemory LinkCause
+  abbrev pub behind_inside : Result LinkedMemory LinkCause
   behind_inside = places_alone words >>= λ alone. behind_alone
 
-  abbrev behind_apart : Result LinkedMemory LinkCause
+  abbrev pub behind_apart : Result LinkedMemory LinkCause
   behind_apart = places_inside words >>= λ inside. behind_inside
 
   pub refused_names : (error : LinkError) → Refuses error (names_apart defs) → Refuses error (linked_parts defs words refs entries)

@@ -3,6 +3,7 @@
 
 mod chains;
 mod error;
+mod laws;
 mod linked;
 mod load;
 mod names;
@@ -12,5 +13,6 @@ mod table;
 mod views;
 
 pub use error::LinkError;
+pub use laws::{chains_are_followed, placed_words_are_held};
 pub use linked::Linked;
 pub use load::link;
