@@ -32,12 +32,7 @@ pub fn load_machine(
 }
 
 /// A memory that holds the linked words and one more.
-fn load_memory(
-    alloc: Global,
-    linked: &Linked,
-    grom: &[u8],
-    first: u16,
-) -> Result<Bus, AllocError>
+fn load_memory(alloc: Global, linked: &Linked, grom: &[u8], first: u16) -> Result<Bus, AllocError>
     requires { length grom.now ≡ 65536 }
     ensures { IfOk result (IsLoaded (defined_linked linked.now) grom.now first) }
 {

@@ -4,7 +4,6 @@ use Rattle.source_defs.specs.Refusals.{Refusal}
 use Rattle.object_defs.specs.declared.causes.TagCause.{TagCause}
 use Rattle.object_defs.specs.Modules.{Module}
 use Rattle.object_defs.specs.Reading.{read}
-use Rattle.link_defs.specs.Causes.{LinkCause}
 use Rattle.link_defs.specs.LinkedMemory.{LinkedMemory, linked}
 use Rattle.report_defs.specs.ObjectFaults.{tag_line, link_line}
 

@@ -1,5 +1,4 @@
-use Rattle.std.proofs.Common.{◌≡◌, ◌≤◌, ◌∙◌, sym, ap, arith, length, drop, ◌+◌}
-use Rattle.std.specs.Ordering.{nat_cmp}
+use Rattle.std.proofs.Common.{◌≤◌, ◌∙◌, sym, ap, arith, length, drop, ◌+◌}
 use Rattle.std.specs.FinMap.{entries, len-entries}
 use Rattle.std.proofs.Math.ListN.{drop_of_length-le}
 use Rattle.load_defs.specs.Loaded.{with_words}
