@@ -108,6 +108,21 @@ fn module_65_is_refused(alloc: Global) -> Result<bool, AllocError> {
     )
 }
 
+/// A module whose REF name no module defines.
+const MODULE_ONE: &str = "00008        A0000B0000C0000BC060C000230006FOO   200007F57CF\n:\n";
+
+/// Whether each front of a module is refused.
+fn each_front_is_refused(alloc: Global) -> Result<bool, AllocError> {
+    for end in 0..MODULE_ONE.len() {
+        let front = &MODULE_ONE.as_bytes()[..end];
+        let ended = run(alloc, &[b"link"], front.to_vec(alloc)?, &[], &[])?;
+        if ended.status != Status::Refused {
+            return Ok(false);
+        }
+    }
+    Ok(true)
+}
+
 #[test]
 fn an_object_text_is_linked_or_refused(rt: HostRuntime) -> Result<(), Fail> {
     for &(text, out) in LINKED {
@@ -123,5 +138,6 @@ fn an_object_text_is_linked_or_refused(rt: HostRuntime) -> Result<(), Fail> {
         );
     }
     assert!(rt; module_65_is_refused(rt.alloc())?);
+    assert!(rt; each_front_is_refused(rt.alloc())?);
     Ok(())
 }
