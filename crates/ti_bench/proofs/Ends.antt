@@ -28,6 +28,8 @@ written_ends o (made.Run Limit machine) wrote = (refl, wrote)
 written_ends o (made.Run (Refused address) machine) wrote = (refl, wrote)
 written_ends o (made.Run (Port address) machine) wrote = (refl, wrote)
 written_ends o (made.Run SelfJump machine) wrote = (refl, wrote)
+written_ends o (made.Memory linked) wrote = (refl, wrote)
+written_ends o (made.Refused line) wrote = (refl, wrote)
 written_ends o (made.Fault fault.Usage) wrote = (refl, wrote)
 written_ends o (made.Fault fault.TooLarge) wrote = (refl, wrote)
 written_ends o (made.Fault fault.PastEnd) wrote = (refl, wrote)
@@ -36,6 +38,7 @@ written_ends o (made.Fault (fault.Gpl line cause)) wrote = (refl, wrote)
 wrote_report : (o : Outputs) (report : spec.Report) (done : Unit {0}) → WrittenReport {E = Failed} (Ok done) o report → WroteReport o report
 wrote_report o (spec.Whole status pieces) done written = written
 wrote_report o (spec.Faulty fault) done written = written
+wrote_report o (spec.Rejected line) done written = written
 
 pub ends_done : (o : Outputs) (report : Report) (done : Unit {0}) (s : Status) → WrittenReport {E = Failed} (Ok done) o (defined_report report) → s ≡ spec.status_of (defined_report report) → EndsWith o (defined_report report) s
 ends_done o report done s written is =
@@ -46,6 +49,7 @@ ends_done o report done s written is =
 pub ends_missed : (o : Outputs) (report : spec.Report) (error : Failed) → WrittenReport {T = Unit {0}} (Err error) o report → EndsWith o report status.WriteFault
 ends_missed o (spec.Whole status pieces) error written = written
 ends_missed o (spec.Faulty fault) error written = written
+ends_missed o (spec.Rejected line) error written = written
 
 -- a run ends as the writing of its report
 pub by_report : (run : Run) (report : spec.Report) (s : Status) → Reports run report → EndsWith run.outputs report s → EndsBy run s
