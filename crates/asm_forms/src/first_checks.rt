@@ -16,7 +16,7 @@ use console_defs::Operation;
 use source_defs::Span;
 
 /// What the first checks leave of a line.
-#[derive(Clone, Copy, Debug)]
+#[derive(Clone, Copy)]
 pub(crate) enum Skeleton<'a> {
     /// A word that has a name of its own.
     Word(u16),

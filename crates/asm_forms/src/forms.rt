@@ -8,7 +8,7 @@ ghost use Rattle.asm_forms.specs.Forms.{defined_form};
 use asm_text::is_quote;
 
 /// How an operand is written, by the texts of its expressions (Editor/Assembler manual, "Addressing Modes").
-#[derive(Clone, Copy, Debug)]
+#[derive(Clone, Copy)]
 pub(crate) enum Form<'a> {
     /// An expression alone.
     Plain(&'a [u8]),

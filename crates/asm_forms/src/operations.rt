@@ -1,7 +1,8 @@
 //! The operations by their names.
 
-ghost use Rattle.std.specs.Prelude.{◌≡◌, ◌≤◌, length};
+ghost use Rattle.std.specs.Prelude.{◌≡◌, ◌≤◌, false, length, true};
 ghost use Rattle.console_defs.specs.Instructions.{operation_of};
+ghost use Rattle.console_defs.specs.declared.instruction.Operation.TheVariants.{Two, Reg, Shift, One, Jump, Imm, Bare};
 ghost use Rattle.asm_defs.specs.Operations as spec;
 
 use console_defs::{BareOp, ImmOp, Instr, JumpOp, OneOp, Operation, RegOp, ShiftOp, TwoOp};
@@ -85,75 +86,155 @@ pub(crate) fn name_of(operation: Operation) -> &'static str
     ensures size { length result.now ≤ 4 }
 {
     match operation {
-        Operation::Two(TwoOp::SZC, false) => "SZC",
-        Operation::Two(TwoOp::SZC, true) => "SZCB",
-        Operation::Two(TwoOp::S, false) => "S",
-        Operation::Two(TwoOp::S, true) => "SB",
-        Operation::Two(TwoOp::C, false) => "C",
-        Operation::Two(TwoOp::C, true) => "CB",
-        Operation::Two(TwoOp::A, false) => "A",
-        Operation::Two(TwoOp::A, true) => "AB",
-        Operation::Two(TwoOp::MOV, false) => "MOV",
-        Operation::Two(TwoOp::MOV, true) => "MOVB",
-        Operation::Two(TwoOp::SOC, false) => "SOC",
-        Operation::Two(TwoOp::SOC, true) => "SOCB",
-        Operation::Reg(RegOp::COC) => "COC",
-        Operation::Reg(RegOp::CZC) => "CZC",
-        Operation::Reg(RegOp::XOR) => "XOR",
-        Operation::Reg(RegOp::XOP) => "XOP",
-        Operation::Reg(RegOp::LDCR) => "LDCR",
-        Operation::Reg(RegOp::STCR) => "STCR",
-        Operation::Reg(RegOp::MPY) => "MPY",
-        Operation::Reg(RegOp::DIV) => "DIV",
-        Operation::Shift(ShiftOp::SRA) => "SRA",
-        Operation::Shift(ShiftOp::SRL) => "SRL",
-        Operation::Shift(ShiftOp::SLA) => "SLA",
-        Operation::Shift(ShiftOp::SRC) => "SRC",
-        Operation::One(OneOp::BLWP) => "BLWP",
-        Operation::One(OneOp::B) => "B",
-        Operation::One(OneOp::X) => "X",
-        Operation::One(OneOp::CLR) => "CLR",
-        Operation::One(OneOp::NEG) => "NEG",
-        Operation::One(OneOp::INV) => "INV",
-        Operation::One(OneOp::INC) => "INC",
-        Operation::One(OneOp::INCT) => "INCT",
-        Operation::One(OneOp::DEC) => "DEC",
-        Operation::One(OneOp::DECT) => "DECT",
-        Operation::One(OneOp::BL) => "BL",
-        Operation::One(OneOp::SWPB) => "SWPB",
-        Operation::One(OneOp::SETO) => "SETO",
-        Operation::One(OneOp::ABS) => "ABS",
-        Operation::Jump(JumpOp::JMP) => "JMP",
-        Operation::Jump(JumpOp::JLT) => "JLT",
-        Operation::Jump(JumpOp::JLE) => "JLE",
-        Operation::Jump(JumpOp::JEQ) => "JEQ",
-        Operation::Jump(JumpOp::JHE) => "JHE",
-        Operation::Jump(JumpOp::JGT) => "JGT",
-        Operation::Jump(JumpOp::JNE) => "JNE",
-        Operation::Jump(JumpOp::JNC) => "JNC",
-        Operation::Jump(JumpOp::JOC) => "JOC",
-        Operation::Jump(JumpOp::JNO) => "JNO",
-        Operation::Jump(JumpOp::JL) => "JL",
-        Operation::Jump(JumpOp::JH) => "JH",
-        Operation::Jump(JumpOp::JOP) => "JOP",
-        Operation::Jump(JumpOp::SBO) => "SBO",
-        Operation::Jump(JumpOp::SBZ) => "SBZ",
-        Operation::Jump(JumpOp::TB) => "TB",
-        Operation::Imm(ImmOp::LI) => "LI",
-        Operation::Imm(ImmOp::AI) => "AI",
-        Operation::Imm(ImmOp::ANDI) => "ANDI",
-        Operation::Imm(ImmOp::ORI) => "ORI",
-        Operation::Imm(ImmOp::CI) => "CI",
-        Operation::Imm(ImmOp::STWP) => "STWP",
-        Operation::Imm(ImmOp::STST) => "STST",
-        Operation::Bare(BareOp::LWPI) => "LWPI",
-        Operation::Bare(BareOp::LIMI) => "LIMI",
-        Operation::Bare(BareOp::IDLE) => "IDLE",
-        Operation::Bare(BareOp::RSET) => "RSET",
-        Operation::Bare(BareOp::RTWP) => "RTWP",
-        Operation::Bare(BareOp::CKON) => "CKON",
-        Operation::Bare(BareOp::CKOF) => "CKOF",
-        Operation::Bare(BareOp::LREX) => "LREX",
+        Operation::Two(op, false) => word_name(op),
+        Operation::Two(op, true) => byte_name(op),
+        Operation::Reg(op) => register_name(op),
+        Operation::Shift(op) => shift_name(op),
+        Operation::One(op) => one_name(op),
+        Operation::Jump(op) => jump_name(op),
+        Operation::Imm(op) => immediate_name(op),
+        Operation::Bare(op) => bare_name(op),
+    }
+}
+
+/// The name of an operation on two words.
+fn word_name(op: TwoOp) -> &'static str
+    ensures name { result.now ≡ spec.name_of (Two op false) }
+    ensures size { length result.now ≤ 4 }
+{
+    match op {
+        TwoOp::SZC => "SZC",
+        TwoOp::S => "S",
+        TwoOp::C => "C",
+        TwoOp::A => "A",
+        TwoOp::MOV => "MOV",
+        TwoOp::SOC => "SOC",
+    }
+}
+
+/// The name of an operation on two bytes.
+fn byte_name(op: TwoOp) -> &'static str
+    ensures name { result.now ≡ spec.name_of (Two op true) }
+    ensures size { length result.now ≤ 4 }
+{
+    match op {
+        TwoOp::SZC => "SZCB",
+        TwoOp::S => "SB",
+        TwoOp::C => "CB",
+        TwoOp::A => "AB",
+        TwoOp::MOV => "MOVB",
+        TwoOp::SOC => "SOCB",
+    }
+}
+
+/// The name of an operation on a register.
+fn register_name(op: RegOp) -> &'static str
+    ensures name { result.now ≡ spec.name_of (Reg op) }
+    ensures size { length result.now ≤ 4 }
+{
+    match op {
+        RegOp::COC => "COC",
+        RegOp::CZC => "CZC",
+        RegOp::XOR => "XOR",
+        RegOp::XOP => "XOP",
+        RegOp::LDCR => "LDCR",
+        RegOp::STCR => "STCR",
+        RegOp::MPY => "MPY",
+        RegOp::DIV => "DIV",
+    }
+}
+
+/// The name of a shift.
+fn shift_name(op: ShiftOp) -> &'static str
+    ensures name { result.now ≡ spec.name_of (Shift op) }
+    ensures size { length result.now ≤ 4 }
+{
+    match op {
+        ShiftOp::SRA => "SRA",
+        ShiftOp::SRL => "SRL",
+        ShiftOp::SLA => "SLA",
+        ShiftOp::SRC => "SRC",
+    }
+}
+
+/// The name of an operation on one operand.
+fn one_name(op: OneOp) -> &'static str
+    ensures name { result.now ≡ spec.name_of (One op) }
+    ensures size { length result.now ≤ 4 }
+{
+    match op {
+        OneOp::BLWP => "BLWP",
+        OneOp::B => "B",
+        OneOp::X => "X",
+        OneOp::CLR => "CLR",
+        OneOp::NEG => "NEG",
+        OneOp::INV => "INV",
+        OneOp::INC => "INC",
+        OneOp::INCT => "INCT",
+        OneOp::DEC => "DEC",
+        OneOp::DECT => "DECT",
+        OneOp::BL => "BL",
+        OneOp::SWPB => "SWPB",
+        OneOp::SETO => "SETO",
+        OneOp::ABS => "ABS",
+    }
+}
+
+/// The name of a jump, or of an operation on a bit.
+fn jump_name(op: JumpOp) -> &'static str
+    ensures name { result.now ≡ spec.name_of (Jump op) }
+    ensures size { length result.now ≤ 4 }
+{
+    match op {
+        JumpOp::JMP => "JMP",
+        JumpOp::JLT => "JLT",
+        JumpOp::JLE => "JLE",
+        JumpOp::JEQ => "JEQ",
+        JumpOp::JHE => "JHE",
+        JumpOp::JGT => "JGT",
+        JumpOp::JNE => "JNE",
+        JumpOp::JNC => "JNC",
+        JumpOp::JOC => "JOC",
+        JumpOp::JNO => "JNO",
+        JumpOp::JL => "JL",
+        JumpOp::JH => "JH",
+        JumpOp::JOP => "JOP",
+        JumpOp::SBO => "SBO",
+        JumpOp::SBZ => "SBZ",
+        JumpOp::TB => "TB",
+    }
+}
+
+/// The name of an operation on a register with a word that follows or a word of the processor.
+fn immediate_name(op: ImmOp) -> &'static str
+    ensures name { result.now ≡ spec.name_of (Imm op) }
+    ensures size { length result.now ≤ 4 }
+{
+    match op {
+        ImmOp::LI => "LI",
+        ImmOp::AI => "AI",
+        ImmOp::ANDI => "ANDI",
+        ImmOp::ORI => "ORI",
+        ImmOp::CI => "CI",
+        ImmOp::STWP => "STWP",
+        ImmOp::STST => "STST",
+    }
+}
+
+/// The name of an operation without a register or a place.
+fn bare_name(op: BareOp) -> &'static str
+    ensures name { result.now ≡ spec.name_of (Bare op) }
+    ensures size { length result.now ≤ 4 }
+{
+    match op {
+        BareOp::LWPI => "LWPI",
+        BareOp::LIMI => "LIMI",
+        BareOp::IDLE => "IDLE",
+        BareOp::RSET => "RSET",
+        BareOp::RTWP => "RTWP",
+        BareOp::CKON => "CKON",
+        BareOp::CKOF => "CKOF",
+        BareOp::LREX => "LREX",
     }
 }
 

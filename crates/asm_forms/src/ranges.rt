@@ -13,7 +13,7 @@ use asm_text::Value;
 use console_defs::Place;
 
 /// An operand whose values are in their ranges.
-#[derive(Clone, Copy, Debug)]
+#[derive(Clone, Copy)]
 pub(crate) enum Ready {
     /// A place without a word that follows.
     Located(Place),

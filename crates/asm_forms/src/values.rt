@@ -18,7 +18,7 @@ use asm_text::{ExprError, Symbols, Value, tokens, value};
 use std::alloc::Global;
 
 /// An operand with its values, not yet held against their ranges.
-#[derive(Clone, Copy, Debug)]
+#[derive(Clone, Copy)]
 pub(crate) enum Operand {
     /// `R`.
     InRegister(u16),

@@ -1,26 +1,39 @@
 -- Calls of `take`, one after the other.
-use Rattle.std.proofs.Common.{◌≡◌, ℕ, ◌+◌, ◌<◌, ◌≤◌, List, [], ◌++◌, length, take, Option, Some, None, sym, refl, ap, ◌∙◌, append_assoc, length-append, arith}
+use Rattle.std.proofs.Common.{
+  ◌≡◌,
+  ℕ,
+  ◌+◌,
+  ◌-◌,
+  ◌<◌,
+  ◌≤◌,
+  List,
+  [],
+  ◌++◌,
+  length,
+  take,
+  Option,
+  Some,
+  None,
+  sym,
+  refl,
+  ap,
+  ◌∙◌,
+  append_assoc,
+  append-nil,
+  length-append,
+  length-take,
+  arith,
+}
 use Rattle.std.specs.Option.{option_map}
 use Rattle.count_defs.specs.Counts.{raised, Rose}
 use Rattle.bench_io.specs.Stream.{SourceState, Gave, empty_calls}
 use Rattle.bench_io.specs.ReadAll.{Took}
-
--- A source before and after some calls, each of which took a byte or more.
-pub record TookEach (before after : SourceState) (bytes : List ℕ) : Type 0 where
-  pub told : Gave before.left after.left bytes
-  pub number : after.taken ≡ raised before.taken (length bytes)
-  pub made : (calls : ℕ) × (calls ≤ length bytes) × (after.calls ≡ raised before.calls calls)
-  pub none : after.empty ≡ before.empty
-  pub faults : before.faults ≤ after.faults
 
 pub raised-raised : (count a b : ℕ) → raised (raised count a) b ≡ raised count (a + b)
 raised-raised count a b = omega arith
 
 pub raised-zero : (count : ℕ) → raised count 0 ≡ count
 raised-zero count = omega arith
-
-pub raised_by_none : (count by : ℕ) → by ≡ 0 → raised count by ≡ count
-raised_by_none count by none = omega arith
 
 -- no bytes are given by no calls
 pub gave_none : (left : Option (List ℕ)) → Gave left left []
@@ -31,57 +44,87 @@ pub gave_more : (a b c : Option (List ℕ)) (x y : List ℕ) → Gave a b x → 
 gave_more a b None x y h k = h ∙ ap (option_map (λ rest. x ++ rest)) k
 gave_more a b (Some rest) x y h k = h ∙ (ap (option_map (λ r. x ++ r)) k ∙ ap Some (sym (append_assoc x y rest)))
 
-pub took_none : (s : SourceState) → TookEach s s []
+pub took_none : (s : SourceState) → Took s s [] 0
 took_none s = record {
   told = gave_none s.left;
   number = sym (raised-zero s.taken);
   made = (0, omega arith, sym (raised-zero s.calls));
-  none = refl;
+  none = sym (raised-zero s.empty);
   faults = omega arith;
 }
 
-pub took_from : (a b : SourceState) (x : List ℕ) → TookEach a b x → Took a b x 0
-took_from a b x h = record {
-  told = h.told;
-  number = h.number;
-  made = (h.made.0, omega (arith, h.made.1), h.made.2);
-  none = h.none ∙ sym (raised-zero a.empty);
-  faults = h.faults;
+-- one call that gave the front of a buffer
+pub took_once : (a b : SourceState) (count : ℕ) (buffer : List ℕ)
+    → count ≤ length buffer
+    → Gave a.left b.left (take count buffer)
+    → b.calls ≡ raised a.calls 1
+    → b.taken ≡ raised a.taken count
+    → b.empty ≡ raised a.empty (empty_calls count)
+    → a.faults ≤ b.faults
+    → Took a b (take count buffer) (empty_calls count)
+took_once a b count buffer within gave calls taken empty faults =
+    let size : length (take count buffer) ≡ count = simp length-take (omega arith) in
+    record {
+      told = gave;
+      number = rw size taken;
+      made = (1, omega (arith, size), calls);
+      none = empty;
+      faults = faults;
+    }
+
+-- one call that failed
+pub failed_once : (a b : SourceState)
+    → b.left ≡ a.left
+    → b.calls ≡ raised a.calls 1
+    → b.taken ≡ a.taken
+    → b.empty ≡ raised a.empty 1
+    → a.faults ≤ b.faults
+    → Took a b [] 1
+failed_once a b left calls taken empty faults = record {
+  told = rw left (gave_none a.left);
+  number = taken ∙ sym (raised-zero a.taken);
+  made = (1, omega arith, calls);
+  none = empty;
+  faults = faults;
 }
 
--- one more call, which gave some bytes
-pub took_more : (a b c : SourceState) (x y : List ℕ) (count : ℕ) → TookEach a b x → length y ≡ count → 0 < count → Gave b.left c.left y → c.taken ≡ raised b.taken count → c.calls ≡ raised b.calls 1 → c.empty ≡ raised b.empty (empty_calls count) → b.faults ≤ c.faults → TookEach a c (x ++ y)
-took_more a b c x y count h len some gave taken calls empty faults = record {
-  told = gave_more a.left b.left c.left x y h.told gave;
-  number = taken ∙ (ap (λ n. raised n count) h.number ∙ (raised-raised a.taken (length x) count ∙ ap (raised a.taken) (ap (λ n. length x + n) (sym len) ∙ sym (length-append x y))));
-  made = (h.made.0 + 1, omega (arith, length-append x y, h.made.1), calls ∙ (ap (λ n. raised n 1) h.made.2 ∙ raised-raised a.calls h.made.0 1));
-  none = empty ∙ (raised_by_none b.empty (empty_calls count) (omega arith) ∙ h.none);
-  faults = omega (arith, h.faults);
+-- calls after calls
+pub took_then : (a b c : SourceState) (x y : List ℕ) (m n : ℕ) → Took a b x m → Took b c y n → Took a c (x ++ y) (m + n)
+took_then a b c x y m n first then = record {
+  told = gave_more a.left b.left c.left x y first.told then.told;
+  number =
+      then.number
+      ∙ (ap (λ count. raised count (length y)) first.number
+      ∙ (raised-raised a.taken (length x) (length y) ∙ ap (raised a.taken) (sym (length-append x y))));
+  made = (
+    first.made.0 + then.made.0,
+    omega (arith, length-append x y, first.made.1, then.made.1),
+    then.made.2 ∙ (ap (λ count. raised count then.made.0) first.made.2 ∙ raised-raised a.calls first.made.0 then.made.0),
+  );
+  none = then.none ∙ (ap (λ count. raised count n) first.none ∙ raised-raised a.empty m n);
+  faults = omega (arith, first.faults, then.faults);
 }
 
--- a source that gave the empty list has left what it had
-pub gave_nothing : (a b : Option (List ℕ)) → Gave a b [] → a ≡ b
-gave_nothing a None h = h
-gave_nothing a (Some rest) h = h
+took_as : (a b : SourceState) (x y : List ℕ) (m n : ℕ) → x ≡ y → m ≡ n → Took a b x m → Took a b y n
+took_as a b x y m n bytes empty took = rw (sym bytes, sym empty) took
 
 -- a last call, which gave no byte
-pub took_last : (a b c : SourceState) (x : List ℕ) → TookEach a b x → b.left ≡ c.left → c.taken ≡ b.taken → c.calls ≡ raised b.calls 1 → c.empty ≡ raised b.empty 1 → b.faults ≤ c.faults → Took a c x 1
-took_last a b c x h left taken calls empty faults = record {
-  told = h.told ∙ ap (option_map (λ rest. x ++ rest)) left;
-  number = taken ∙ h.number;
-  made = (h.made.0 + 1, omega (arith, h.made.1), calls ∙ (ap (λ n. raised n 1) h.made.2 ∙ raised-raised a.calls h.made.0 1));
-  none = empty ∙ ap (λ n. raised n 1) h.none;
-  faults = omega (arith, h.faults);
-}
+pub took_last : (a b c : SourceState) (x y : List ℕ) (n : ℕ) → y ≡ [] → n ≡ 1 → Took a b x 0 → Took b c y n → Took a c x 1
+took_last a b c x y n nothing one before last =
+    let bytes : x ++ y ≡ x = rw nothing (append-nil x) in
+    took_as a c (x ++ y) x (0 + n) 1 bytes (omega arith) (took_then a b c x y 0 n before last)
 
--- a call after calls that each took a byte or more is no later than the call after the last byte
-pub few_calls : (a b : SourceState) (now : ℕ) (x : List ℕ) (limit : ℕ) → TookEach a b x → length x ≤ limit → now ≡ raised b.calls 1 → (count : ℕ) × (count ≤ limit + 1) × (now ≡ raised a.calls count)
-few_calls a b now x limit h short calls =
-    (h.made.0 + 1, omega (arith, h.made.1), calls ∙ (ap (λ n. raised n 1) h.made.2 ∙ raised-raised a.calls h.made.0 1))
+-- one more call, which gave some bytes
+pub took_more : (a b c : SourceState) (x y : List ℕ) (n : ℕ) → n ≡ 0 → Took a b x 0 → Took b c y n → Took a c (x ++ y) 0
+took_more a b c x y n some before more =
+    took_as a c (x ++ y) (x ++ y) (0 + n) 0 refl (omega arith) (took_then a b c x y 0 n before more)
 
--- what a call that gave no byte leaves
-pub gave_none_by : (a b : Option (List ℕ)) (count : ℕ) (buffer : List ℕ) → count ≡ 0 → Gave a b (take count buffer) → a ≡ b
-gave_none_by a b count buffer none h = gave_nothing a b (rw none at h)
+-- so few calls were made
+pub few_calls : (a b : SourceState) (x : List ℕ) (n limit : ℕ)
+    → Took a b x n
+    → length x + n ≤ limit + 1
+    → (count : ℕ) × (count ≤ limit + 1) × (b.calls ≡ raised a.calls count)
+few_calls a b x n limit took few = (took.made.0, omega (arith, took.made.1), took.made.2)
 
 -- what rose in the last call rose since the first
 pub rose_since : (a b c : ℕ) → a ≤ b → Rose b c → Rose a c

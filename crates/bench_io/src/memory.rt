@@ -1,4 +1,5 @@
-ghost use Rattle.std.specs.Prelude.{◌≡◌, ◌⊎◌, ◌↔◌, ◌<◌, ◌≤◌, ◌+◌, ◌-◌, min, ℕ, List, [], ◌++◌, length, take, drop, vec_len, vec_capacity, Option, Some, IsErr, IfOk, OnOk, OnErr, Contains};
+ghost use Rattle.std.specs.Prelude.{◌≡◌, ◌⊎◌, ◌↔◌, ◌<◌, ◌≤◌, ◌+◌, ◌-◌, min, ℕ, List, [], ◌++◌, length, take, drop, vec_len, vec_capacity, Option};
+ghost use Rattle.std.specs.Prelude.{Some, IsErr, IfOk, OnOk, OnErr, Contains};
 ghost use Rattle.count_defs.specs.Counts.{raised, Rose};
 ghost use Rattle.bench_io.specs.Stream.{empty_calls};
 
@@ -23,7 +24,14 @@ impl Model for MemSource {
 
     ghost Value = { Supply };
 
-    ghost view = { λ s. record { left = drop s.position s.bytes.items; calls = s.calls; taken = s.position; empty = s.empty; fails = s.fails.items; faults = s.faults } };
+    ghost view = { λ s. record {
+      left = drop s.position s.bytes.items;
+      calls = s.calls;
+      taken = s.position;
+      empty = s.empty;
+      fails = s.fails.items;
+      faults = s.faults;
+    } };
 
     ghost invariant = { λ s. s.position ≤ vec_len s.bytes };
 }

@@ -1,6 +1,7 @@
-ghost use Rattle.std.specs.Prelude.{◌≡◌, ◌<◌, ◌≤◌, ◌+◌, ℕ, IfOk, IfErr};
-ghost use Rattle.count_defs.specs.Counts.{raised};
-ghost use Rattle.bench_io.specs.ReadAll.{ReadWhole, GaveUp};
+ghost use Rattle.std.specs.Prelude.{◌≡◌, ◌<◌, ◌≤◌, ◌+◌, ℕ, [], length, take, IfOk, IfErr, OnErr};
+ghost use Rattle.count_defs.specs.Counts.{raised, Rose};
+ghost use Rattle.bench_io.specs.ReadAll.{ReadWhole, GaveUp, Took};
+ghost use Rattle.bench_io.specs.Stream.{IsAtEnd, empty_calls};
 ghost use Rattle.bench_io.specs.declared.whole.ReadError.TheVariants.{Fault, Memory};
 
 use crate::{Failed, Source};
@@ -62,7 +63,7 @@ pub fn read_all<S: Source>(
     let mut buffer = [0; PIECE];
     loop {
         let room = PIECE.min(limit + 1 - bytes.len());
-        let count = source.take(&mut buffer[..room])?;
+        let count = take_once(source, &mut buffer[..room])?;
         if count == 0 {
             return Ok(bytes);
         }
@@ -71,4 +72,17 @@ pub fn read_all<S: Source>(
         }
         bytes.extend_from_slice(&buffer[..count])?;
     }
+}
+
+/// One call of `take`.
+#[tactic(auto, using(crate::proofs::Taking::took_once, crate::proofs::Taking::failed_once))]
+fn take_once<S: Source>(source: &mut S, buffer: &mut [u8]) -> Result<usize, Failed>
+    requires { 0 < length buffer.old }
+    ensures within { IfOk result (λ count. count ≤ length buffer.old) }
+    ensures end { IfOk result (λ count. count ≡ 0 → IsAtEnd (S.state source.new).left) }
+    ensures took { IfOk result (λ count. Took (S.state source.old) (S.state source.new) (take count buffer.new) (empty_calls count)) }
+    ensures failed { OnErr result (Took (S.state source.old) (S.state source.new) [] 1) }
+    ensures cause { OnErr result (Rose (S.state source.old).faults (S.state source.new).faults) }
+{
+    source.take(buffer)
 }

@@ -18,6 +18,4 @@ pub fn zeros(alloc: Global, count: usize) -> Result<Vec<u8>, AllocError>
 #[inline]
 pub fn holds_bytes(bytes: &[u8])
     ensures { (at : ℕ) → slice_index bytes.now at < 256 }
-{
-    let _count = bytes.len();
-}
+{}

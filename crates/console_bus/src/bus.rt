@@ -4,7 +4,9 @@ ghost use Rattle.std.specs.Prelude.{◌≡◌, ◌<◌, ◌≤◌, ℕ, ◌+◌,
 ghost use Rattle.console_defs.specs.Words.{high, low, join, even};
 ghost use Rattle.console_defs.specs.Bytes.{HoldsBytes, HoldsZeros, word_in, with_word_in};
 ghost use Rattle.console_defs.specs.Accesses.{answer_of, written_by};
-ghost use Rattle.console_defs.specs.Memory.{IsMemory, IsNewMemory, IsLoadable, port_at, port_region, is_port_address, region, port_read, port_written, byte_read_in, byte_read, byte_written_in, byte_written, word_read_in, word_read, word_written_in, word_written, two_bytes_read, two_bytes_written, word_placed, cell_set};
+ghost use Rattle.console_defs.specs.Memory.{IsMemory, IsNewMemory, IsLoadable, port_at, port_region, is_port_address, region, port_read};
+ghost use Rattle.console_defs.specs.Memory.{port_written, byte_read_in, byte_read, byte_written_in, byte_written, word_read_in, word_read};
+ghost use Rattle.console_defs.specs.Memory.{word_written_in, word_written, two_bytes_read, two_bytes_written, word_placed, cell_set};
 
 use byte_lists::{holds_bytes, zeros};
 use console_defs::PortStop;
@@ -37,7 +39,14 @@ impl Model for Bus {
 
     ghost Value = { Memory };
 
-    ghost view = { λ b. record { scratchpad = b.scratchpad; low_expansion = b.low_expansion.items; high_expansion = b.high_expansion.items; rom = b.rom.items; vdp = b.vdp; grom = b.grom } };
+    ghost view = { λ b. record {
+      scratchpad = b.scratchpad;
+      low_expansion = b.low_expansion.items;
+      high_expansion = b.high_expansion.items;
+      rom = b.rom.items;
+      vdp = b.vdp;
+      grom = b.grom;
+    } };
 
     ghost invariant = { λ b. (length b.low_expansion.items ≡ 8192) × (length b.high_expansion.items ≡ 24576) × (length b.rom.items ≡ 8192) };
 }

@@ -10,7 +10,7 @@ use arrayvec::ArrayVec;
 use asm_text::number;
 
 /// The numbers of an operand field, with a comma between two of them, or `None` where one of its parts is no number.
-#[tactic(auto, using(source_defs::proofs::NumberLaws::numbers_none, source_defs::proofs::NumberLaws::numbers_last, source_defs::proofs::NumberLaws::numbers_more))]
+#[tactic(auto, using(crate::proofs::NumberSteps::number_steps))]
 pub(crate) fn numbers(field: &[u8]) -> Option<ArrayVec<u16, 128>>
     requires { length field.now ≤ 256 }
     ensures { option_map (λ numbers. numbers.items) result ≡ sole.numbers field.now }

@@ -1,7 +1,34 @@
 -- The second step of reading: the modules that the groups of a text give, or its first bad place.
 --
 -- Editor/Assembler manual, "Tagged object code".
-use Rattle.std.specs.Prelude.{ℕ, ◌+◌, ◌*◌, ◌/◌, ◌%◌, ◌==◌, Bool, not, ◌&&◌, nat_lt, nat_le, if◌then◌else◌, List, [], ◌∷◌, ◌++◌, length, map, slice_range, Option, Some, None, is_some, Result, Ok, Err}
+use Rattle.std.specs.Prelude.{
+  ℕ,
+  ◌+◌,
+  ◌*◌,
+  ◌/◌,
+  ◌%◌,
+  ◌==◌,
+  Bool,
+  not,
+  ◌&&◌,
+  nat_lt,
+  nat_le,
+  if◌then◌else◌,
+  List,
+  [],
+  ◌∷◌,
+  ◌++◌,
+  length,
+  map,
+  slice_range,
+  Option,
+  Some,
+  None,
+  is_some,
+  Result,
+  Ok,
+  Err,
+}
 use Rattle.std.specs.List.{list_any, range_with_len}
 use Rattle.source_defs.specs.declared.text.Line.{Line}
 use Rattle.source_defs.specs.Characters.{is_line_feed}
@@ -16,7 +43,21 @@ use Rattle.object_defs.specs.declared.tag.Tag.{Tag}
 use Rattle.object_defs.specs.declared.tag.Tag.TheVariants as tags
 use Rattle.object_defs.specs.Modules.{Module, Definition, Reference, moved, even, most_modules, most_words, most_names}
 use Rattle.object_defs.specs.Fields.{all_blank}
-use Rattle.object_defs.specs.Groups.{Group, Header, Entry, Referred, Defined, Address, Word, EndOfModule, FoundGroup, tag_found, character_found, group_found, groups_of}
+use Rattle.object_defs.specs.Groups.{
+  Group,
+  Header,
+  Entry,
+  Referred,
+  Defined,
+  Address,
+  Word,
+  EndOfModule,
+  FoundGroup,
+  tag_found,
+  character_found,
+  group_found,
+  groups_of,
+}
 
 -- A module from its groups, of which the nearest stands first.
 

@@ -1,9 +1,9 @@
 //! The modules of the lines so far.
 
-ghost use Rattle.std.specs.Prelude.{◌≡◌, ◌<◌, ◌^◌, length, []};
+ghost use Rattle.std.specs.Prelude.{◌≡◌, ◌<◌, ◌^◌, length, [], false, None, Some};
 ghost use Rattle.object_defs.specs.Groups.{groups_from};
 ghost use Rattle.object_defs.specs.Running as running;
-ghost use Rattle.object_tags.specs.Answers.{Leaves, Gives, defined_modules};
+ghost use Rattle.object_tags.specs.Answers.{Leaves, Gives, defined_modules, defined_open};
 ghost use Rattle.object_tags.specs.Reads.{kept_of, TakesLine};
 ghost use Rattle.object_tags.specs.SeenGroups.{defined_found};
 
@@ -82,15 +82,28 @@ impl Reader {
         ensures { Leaves result (kept_of self.new) (running.kept_with (kept_of self.old) (defined_found found)) }
     {
         match self.current.take() {
-            None => {
-                self.current = Some(OpenModule::begin(alloc, self.modules.len(), found)?);
-            }
-            Some(module) if found.ends_module() => self.modules.push(module.found)?,
-            Some(mut module) => {
-                module.take_group(found)?;
-                self.current = Some(module);
-            }
+            None => self.begin(alloc, found),
+            Some(module) if found.ends_module() => Ok(self.modules.push(module.found)?),
+            Some(module) => self.go_on(module, found),
         }
+    }
+
+    /// Takes a group where no module has begun.
+    fn begin(&mut self, alloc: Global, found: FoundGroup) -> Result<(), Failure>
+        ensures { Leaves result (kept_of self.new) (running.kept_by None (kept_of self.old) (defined_found found)) }
+    {
+        let module = OpenModule::begin(alloc, self.modules.len(), found)?;
+        self.current = Some(module);
+        Ok(())
+    }
+
+    /// Takes a group of a module that it does not end.
+    fn go_on(&mut self, mut begun: OpenModule, found: FoundGroup) -> Result<(), Failure>
+        requires { running.ends_module (defined_found found) ≡ false }
+        ensures { Leaves result (kept_of self.new) (running.kept_by (Some (defined_open begun)) (kept_of self.old) (defined_found found)) }
+    {
+        begun.take_group(found)?;
+        self.current = Some(begun);
         Ok(())
     }
 

@@ -1,19 +1,23 @@
 -- There is one report on each command and input.
-use Rattle.std.proofs.Common.{◌≡◌, ℕ, suc, ◌-◌, List, [], ◌∷◌, ◌++◌, length, refl, sym, ap, ◌∙◌, subst, arith, Option, Some, None, Bool, true, false}
-use Rattle.std.specs.Prelude.{MatchBool, nat_lt}
+use Rattle.std.proofs.Common.{◌≡◌, ℕ, suc, ◌-◌, List, [], ◌∷◌, length, refl, sym, ap, ◌∙◌, subst, arith, Option, Some, None, Bool, true, false}
+use Rattle.std.specs.Prelude.{MatchBool, nat_lt, Result, Ok, Err}
 use Rattle.std.proofs.lemmas.Bool.Decides.{nat_tests}
 use Rattle.console_defs.specs.Bytes.{HoldsZeros}
 use Rattle.console_defs.specs.Vdp.{VdpState, IsNewVdp}
-use Rattle.console_defs.specs.Grom.{new_grom}
-use Rattle.console_defs.specs.Memory.{Memory}
+use Rattle.std.specs.FinMap.{entries}
+use Rattle.console_defs.specs.Grom.{GromState, new_grom}
+use Rattle.console_defs.specs.Memory.{Memory, IsNewMemory}
+use Rattle.link_defs.specs.LinkedMemory.{LinkedMemory}
+use Rattle.load_defs.specs.Loaded.{IsLoaded, with_words, with_first_word}
+use Rattle.report_defs.specs.ObjectInput.{linked_input}
 use Rattle.console_defs.specs.Machine.{MachineState, new_machine}
 use Rattle.console_defs.specs.Runs.{IsRun, end_at, after}
 use Rattle.console_defs.specs.declared.ends.RunEnd.{RunEnd}
 use Rattle.report_defs.specs.declared.command.Command.{Command}
-use Rattle.report_defs.specs.declared.command.Command.TheVariants.{Gasm, Dis, Exec}
-use Rattle.report_defs.specs.Exec.{HoldsProgram, IsStart, Executes, exec_lines, end_status}
-use Rattle.report_defs.specs.declared.fault.Fault.TheVariants.{TooLarge, PastEnd}
-use Rattle.report_defs.specs.Report.{Report, Whole, Faulty, ReportsRun, AcceptedReport, largest_input, largest_program}
+use Rattle.report_defs.specs.declared.command.Command.TheVariants.{Gasm, Dis, Link, Exec}
+use Rattle.report_defs.specs.Exec.{IsStart, Executes, exec_lines, end_status}
+use Rattle.report_defs.specs.declared.fault.Fault.TheVariants.{TooLarge}
+use Rattle.report_defs.specs.Report.{Report, Whole, Faulty, ReportsRun, ExecReport, AcceptedReport, largest_input}
 use Rattle.report_defs.specs.Laws.{OneReport}
 
 -- zeros are one list
@@ -35,23 +39,29 @@ one_vdp a b p q =
     ∙ ap (λ fetched. record b { fetched = fetched; held = a.held }) (p.fetched ∙ sym q.fetched)
     ∙ ap (λ held. record b { held = held }) (p.held ∙ sym q.held)
 
--- one memory holds a program
-one_memory : (input : List ℕ) (a b : Memory) → HoldsProgram a input → HoldsProgram b input → a ≡ b
-one_memory input a b p q =
-    let high : a.high_expansion ≡ b.high_expansion =
-    p.high_expansion.2 ∙ ap (λ rest. input ++ rest) (one_zeros (24576 - length input) (24576 - length input) p.high_expansion.0 q.high_expansion.0 refl p.high_expansion.1 q.high_expansion.1) ∙ sym q.high_expansion.2 in
-    let grom : a.grom ≡ b.grom =
-    p.grom.2 ∙ ap new_grom (one_zeros 65536 65536 p.grom.0 q.grom.0 refl p.grom.1 q.grom.1) ∙ sym q.grom.2 in
+-- one memory is a new one
+one_new : (a b : Memory) (vdp_a vdp_b : VdpState) (grom_a grom_b : GromState) → vdp_a ≡ vdp_b → grom_a ≡ grom_b → IsNewMemory a vdp_a grom_a → IsNewMemory b vdp_b grom_b → a ≡ b
+one_new a b vdp_a vdp_b grom_a grom_b vdp grom p q =
     ap (λ scratchpad. record a { scratchpad = scratchpad }) (one_zeros 256 256 a.scratchpad b.scratchpad refl p.scratchpad q.scratchpad)
     ∙ ap (λ low. record a { scratchpad = b.scratchpad; low_expansion = low }) (one_zeros 8192 8192 a.low_expansion b.low_expansion refl p.low_expansion q.low_expansion)
-    ∙ ap (λ high. record a { scratchpad = b.scratchpad; low_expansion = b.low_expansion; high_expansion = high }) high
+    ∙ ap (λ high. record a { scratchpad = b.scratchpad; low_expansion = b.low_expansion; high_expansion = high }) (one_zeros 24576 24576 a.high_expansion b.high_expansion refl p.high_expansion q.high_expansion)
     ∙ ap (λ rom. record b { rom = rom; vdp = a.vdp; grom = a.grom }) (one_zeros 8192 8192 a.rom b.rom refl p.rom q.rom)
-    ∙ ap (λ vdp. record b { vdp = vdp; grom = a.grom }) (one_vdp a.vdp b.vdp p.vdp q.vdp)
-    ∙ ap (λ grom. record b { grom = grom }) grom
+    ∙ ap (λ v. record b { vdp = v; grom = a.grom }) (p.vdp_given ∙ vdp ∙ sym q.vdp_given)
+    ∙ ap (λ g. record b { grom = g }) (p.grom_given ∙ grom ∙ sym q.grom_given)
 
-one_start : (input : List ℕ) (a b : MachineState) → IsStart input a → IsStart input b → a ≡ b
-one_start input a b p q =
-    p.machine ∙ ap (λ memory. new_machine memory 0x83E0 0xA000) (one_memory input a.cpu.memory b.cpu.memory p.program q.program) ∙ sym q.machine
+-- one memory is loaded
+one_memory : (linked : LinkedMemory) (image_a image_b : List ℕ) (a b : Memory) → image_a ≡ image_b → IsLoaded linked image_a 0 a → IsLoaded linked image_b 0 b → a ≡ b
+one_memory linked image_a image_b a b image p q =
+    let empty : p.empty ≡ q.empty =
+    one_new p.empty q.empty p.vdp q.vdp (new_grom image_a) (new_grom image_b) (one_vdp p.vdp q.vdp p.new_vdp q.new_vdp) (ap new_grom image) p.new_memory q.new_memory in
+    p.loaded ∙ ap (λ memory. with_words (entries linked.words) (with_first_word 0 memory)) empty ∙ sym q.loaded
+
+one_start : (linked : LinkedMemory) (a b : MachineState) → IsStart linked a → IsStart linked b → a ≡ b
+one_start linked a b p q =
+    let image : p.image ≡ q.image = one_zeros 65536 65536 p.image q.image refl p.zeros q.zeros in
+    p.machine.machine
+    ∙ ap (λ memory. new_machine memory 0x83E0 linked.entry) (one_memory linked p.image q.image a.cpu.memory b.cpu.memory image p.machine.memory q.machine.memory)
+    ∙ sym q.machine.machine
 
 some_apart : (e : RunEnd) (end : Option RunEnd) → end ≡ Some e → end ≡ None → ⊥
 some_apart e end is none = absurd (cc)
@@ -73,16 +83,16 @@ same_run stop limit m n x y z e f same p q =
     (some_one e f (sym p.ends ∙ ap (λ made. end_at stop limit made x) same ∙ q.ends), p.left ∙ ap (λ made. after made x) same ∙ sym q.left)
 
 -- one end and one machine come of a program
-one_execution : (limit : ℕ) (input : List ℕ) (e f : RunEnd) (left right : MachineState) → Executes limit input e left → Executes limit input f right → (e ≡ f) × (left ≡ right)
-one_execution limit input e f left right p q =
-    let start : p.start ≡ q.start = one_start input p.start q.start p.is_start q.is_start in
+one_execution : (limit : ℕ) (linked : LinkedMemory) (e f : RunEnd) (left right : MachineState) → Executes limit linked e left → Executes limit linked f right → (e ≡ f) × (left ≡ right)
+one_execution limit linked e f left right p q =
+    let start : p.start ≡ q.start = one_start linked p.start q.start p.is_start q.is_start in
     let run : IsRun None limit q.made p.start f right = subst (λ s. IsRun None limit q.made s f right) (sym start) q.run in
     let made : p.made ≡ q.made = one_number None limit p.made q.made p.start left right e f p.run run in
     same_run None limit p.made q.made p.start left right e f made p.run run
 
-one_run_report : (limit : ℕ) (input : List ℕ) (first second : Report) → ReportsRun limit input first → ReportsRun limit input second → first ≡ second
-one_run_report limit input first second p q =
-    let same = one_execution limit input p.ending q.ending p.left q.left p.executes q.executes in
+one_run_report : (limit : ℕ) (linked : LinkedMemory) (first second : Report) → ReportsRun limit linked first → ReportsRun limit linked second → first ≡ second
+one_run_report limit linked first second p q =
+    let same = one_execution limit linked p.ending q.ending p.left q.left p.executes q.executes in
     p.is ∙ ap (λ ending. Whole (end_status ending) (exec_lines ending p.left)) same.0 ∙ ap (λ left. Whole (end_status q.ending) (exec_lines q.ending left)) same.1 ∙ sym q.is
 
 -- by a test, one fault or one of other reports
@@ -90,11 +100,15 @@ one_by : (test : Bool) (fault first second : Report) (Other : Report → Type 0)
 one_by true fault first second Other one p q = p ∙ sym q
 one_by false fault first second Other one p q = one first second p q
 
+one_exec : (limit : ℕ) (linked : Result LinkedMemory (List ℕ)) (first second : Report) → ExecReport limit linked first → ExecReport limit linked second → first ≡ second
+one_exec limit (Ok linked) first second p q = one_run_report limit linked first second p q
+one_exec limit (Err line) first second p q = p ∙ sym q
+
 one_accepted : (command : Command) (input : List ℕ) (first second : Report) → AcceptedReport command input first → AcceptedReport command input second → first ≡ second
 one_accepted Gasm input first second p q = p ∙ sym q
 one_accepted (Dis at) input first second p q = p ∙ sym q
-one_accepted (Exec limit) input first second p q =
-    one_by (nat_lt largest_program (length input)) (Faulty PastEnd) first second (ReportsRun limit input) (one_run_report limit input) p q
+one_accepted Link input first second p q = p ∙ sym q
+one_accepted (Exec limit) input first second p q = one_exec limit (linked_input input) first second p q
 
 pub one_report : OneReport
 one_report command input first second p q =

@@ -4,5 +4,8 @@ pub mod Commands
 pub mod Dump
 pub mod Exec
 pub mod Listing
+pub mod ObjectFaults
+pub mod ObjectInput
+pub mod MemoryListing
 pub mod Report
 pub mod Laws

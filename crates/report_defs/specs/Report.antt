@@ -7,24 +7,29 @@ use Rattle.gpl_defs.specs.declared.causes.GplCause.{GplCause}
 use Rattle.gpl_defs.specs.Image.{Image, written_bytes}
 use Rattle.gpl_defs.specs.Layout.{image_of_source}
 use Rattle.report_defs.specs.declared.command.Command.{Command}
-use Rattle.report_defs.specs.declared.command.Command.TheVariants.{Gasm, Dis, Exec}
+use Rattle.report_defs.specs.declared.command.Command.TheVariants.{Gasm, Dis, Link, Exec}
 use Rattle.report_defs.specs.declared.status.Status.{Status}
-use Rattle.report_defs.specs.declared.status.Status.TheVariants.{Done}
+use Rattle.report_defs.specs.declared.status.Status.TheVariants.{Done, Refused}
 use Rattle.report_defs.specs.declared.fault.Fault.{Fault}
 use Rattle.report_defs.specs.declared.fault.Fault.TheVariants.{TooLarge, PastEnd, Gpl}
 use Rattle.report_defs.specs.FaultLine.{fault_status}
 use Rattle.report_defs.specs.Listing.{memory_listing}
+use Rattle.link_defs.specs.LinkedMemory.{LinkedMemory}
+use Rattle.report_defs.specs.MemoryListing.{linked_lines}
+use Rattle.report_defs.specs.ObjectInput.{linked_input}
 use Rattle.report_defs.specs.Exec.{Executes, exec_lines, end_status}
 
--- The pieces that standard output gets, each by one write, with the status; or the fault whose line standard error
--- gets.
+-- The pieces that standard output gets, each by one write, with the status; or the fault whose line standard error gets; or
+-- the line itself, of an input that is refused.
 pub data Report : Type 0 where
   Whole : Status → List (List ℕ) → Report
   Faulty : Fault → Report
+  Rejected : (line : List ℕ) → Report
 
 abbrev pub status_of : Report → Status
 status_of (Whole status pieces) = status
 status_of (Faulty fault) = fault_status fault
+status_of (Rejected line) = Refused
 
 -- Profile: an input has at most 1,048,576 bytes.
 abbrev pub largest_input : ℕ
@@ -46,22 +51,28 @@ abbrev pub dis_report : ℕ → List ℕ → Report
 dis_report at input =
     if nat_lt 65536 (at + length input) then Faulty PastEnd else Whole Done (memory_listing at input)
 
+-- Profile: the report of link is the listing of the linked memory.
+abbrev pub link_report : Result LinkedMemory (List ℕ) → Report
+link_report (Ok linked) = Whole Done (linked_lines linked)
+link_report (Err line) = Rejected line
+
 -- the report of a run of the machine
-pub record ReportsRun (limit : ℕ) (input : List ℕ) (report : Report) : Type 0 where
+pub record ReportsRun (limit : ℕ) (linked : LinkedMemory) (report : Report) : Type 0 where
   pub ending : RunEnd
   pub left : MachineState
-  pub executes : Executes limit input ending left
+  pub executes : Executes limit linked ending left
   pub is : report ≡ Whole (end_status ending) (exec_lines ending left)
 
--- Profile: a program of raw bytes has room from >A000 to >FFFF.
-abbrev pub largest_program : ℕ
-largest_program = 24576
+-- the report of exec, by the linked memory of its input
+abbrev pub ExecReport : ℕ → Result LinkedMemory (List ℕ) → Report → Type 0
+ExecReport limit (Ok linked) report = ReportsRun limit linked report
+ExecReport limit (Err line) report = report ≡ Rejected line
 
 abbrev pub AcceptedReport : Command → List ℕ → Report → Type 0
 AcceptedReport Gasm input report = report ≡ gasm_report (image_of_source input)
 AcceptedReport (Dis at) input report = report ≡ dis_report at input
-AcceptedReport (Exec limit) input report =
-    MatchBool (nat_lt largest_program (length input)) (report ≡ Faulty PastEnd) (ReportsRun limit input report)
+AcceptedReport Link input report = report ≡ link_report (linked_input input)
+AcceptedReport (Exec limit) input report = ExecReport limit (linked_input input) report
 
 -- Whatever else holds, an input is refused that is too large.
 abbrev pub ReportOn : Command → List ℕ → Report → Type 0

@@ -10,7 +10,9 @@ pub enum Command {
         /// The address of the first byte, which is even.
         at: u16,
     },
-    /// `exec N`: places raw bytes from >A000 on and executes up to so many instructions from there.
+    /// `link`: places and links the modules of an object text, and lists the memory.
+    Link,
+    /// `exec N`: links the modules of an object text and executes up to so many instructions from the entry.
     Exec {
         /// The most instructions, up to 10,000,000.
         limit: u32,

@@ -9,7 +9,7 @@ pub enum Fault {
     Usage,
     /// The input has more than 1,048,576 bytes.
     TooLarge,
-    /// Raw bytes run past >FFFF: those of `dis` from its address on, or those of `exec`, which are more than 24,576.
+    /// The raw bytes of `dis` run past >FFFF from its address on.
     PastEnd,
     /// A line of a GPL source is refused.
     Gpl {

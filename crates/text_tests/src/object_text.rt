@@ -11,19 +11,25 @@ use std::test::Fail;
 
 /// A module of four words.
 const FOUR_WORDS: &[u8] =
-    b"00008        A0000B0201B1234BA081B045B7F886F                                0001\n:                                                                           0002\n";
+    b"00008        A0000B0201B1234BA081B045B7F886F                                0001\n\
+      :                                                                           0002\n";
 
 /// The same in records of 80 characters.
 const FOUR_WORDS_IN_RECORDS: &[u8] =
-    b"00008        A0000B0201B1234BA081B045B7F886F                                0001:                                                                           0002";
+    b"00008        A0000B0201B1234BA081B045B7F886F                                0001\
+      :                                                                           0002";
 
 /// A module with both kinds of each group.
 const BOTH_KINDS: &[u8] =
-    b"00010TWO MODSA0000B0201C12349A000BA081B045B50002A     63FFFLONGER7F15BF     0001\n30002EXTERN40000X     2000A7FA0FF                                           0002\n:                                                                           0003\n";
+    b"00010TWO MODSA0000B0201C12349A000BA081B045B50002A     63FFFLONGER7F15BF     0001\n\
+      30002EXTERN40000X     2000A7FA0FF                                           0002\n\
+      :                                                                           0003\n";
 
 /// A module whose eleventh word does not fit in the first line.
 const ELEVEN_WORDS: &[u8] =
-    b"00016        A0000B0000B0001B0002B0003B0004B0005B0006B0007B0008B00097F290F  0001\nA0014B000A7FDB0F                                                            0002\n:                                                                           0003\n";
+    b"00016        A0000B0000B0001B0002B0003B0004B0005B0006B0007B0008B00097F290F  0001\n\
+      A0014B000A7FDB0F                                                            0002\n\
+      :                                                                           0003\n";
 
 /// A word at a place.
 macro_rules! word {

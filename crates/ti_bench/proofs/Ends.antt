@@ -6,7 +6,7 @@ use Rattle.bench_io.specs.Stream.{SourceState}
 use Rattle.bench_io.specs.ReadAll.{Took, GaveUp}
 use Rattle.bench_io.specs.declared.failed.Failed.{Failed}
 use Rattle.bench_io.specs.declared.whole.ReadError.TheVariants as error
-use Rattle.bench_io.proofs.Taking.{took_none, took_from}
+use Rattle.bench_io.proofs.Taking.{took_none}
 use Rattle.console_defs.specs.declared.ends.RunEnd.TheVariants.{Reached, Limit, Refused, Port, SelfJump}
 use Rattle.report_defs.specs.declared.command.Command.{Command}
 use Rattle.report_defs.specs.declared.fault.Fault.TheVariants as fault
@@ -28,6 +28,8 @@ written_ends o (made.Run Limit machine) wrote = (refl, wrote)
 written_ends o (made.Run (Refused address) machine) wrote = (refl, wrote)
 written_ends o (made.Run (Port address) machine) wrote = (refl, wrote)
 written_ends o (made.Run SelfJump machine) wrote = (refl, wrote)
+written_ends o (made.Memory linked) wrote = (refl, wrote)
+written_ends o (made.Refused line) wrote = (refl, wrote)
 written_ends o (made.Fault fault.Usage) wrote = (refl, wrote)
 written_ends o (made.Fault fault.TooLarge) wrote = (refl, wrote)
 written_ends o (made.Fault fault.PastEnd) wrote = (refl, wrote)
@@ -36,6 +38,7 @@ written_ends o (made.Fault (fault.Gpl line cause)) wrote = (refl, wrote)
 wrote_report : (o : Outputs) (report : spec.Report) (done : Unit {0}) → WrittenReport {E = Failed} (Ok done) o report → WroteReport o report
 wrote_report o (spec.Whole status pieces) done written = written
 wrote_report o (spec.Faulty fault) done written = written
+wrote_report o (spec.Rejected line) done written = written
 
 pub ends_done : (o : Outputs) (report : Report) (done : Unit {0}) (s : Status) → WrittenReport {E = Failed} (Ok done) o (defined_report report) → s ≡ spec.status_of (defined_report report) → EndsWith o (defined_report report) s
 ends_done o report done s written is =
@@ -46,6 +49,7 @@ ends_done o report done s written is =
 pub ends_missed : (o : Outputs) (report : spec.Report) (error : Failed) → WrittenReport {T = Unit {0}} (Err error) o report → EndsWith o report status.WriteFault
 ends_missed o (spec.Whole status pieces) error written = written
 ends_missed o (spec.Faulty fault) error written = written
+ends_missed o (spec.Rejected line) error written = written
 
 -- a run ends as the writing of its report
 pub by_report : (run : Run) (report : spec.Report) (s : Status) → Reports run report → EndsWith run.outputs report s → EndsBy run s
@@ -99,5 +103,5 @@ nothing_written run command bytes is takes out err = by (reads command) takes
     by : (reading : Bool) → TakesWhole reading run.input run.input' bytes → WroteNothing run
     by true whole = record { command = some_command run command is; bytes = bytes; within = whole.within; empty = 1; one = omega arith; took = whole.took; out = out; err = err }
     by false (same, none) =
-        let took : Took run.input run.input' [] 0 = rw same (took_from run.input run.input [] (took_none run.input)) in
+        let took : Took run.input run.input' [] 0 = rw same (took_none run.input) in
         record { command = some_command run command is; bytes = []; within = omega arith; empty = 0; one = omega arith; took = took; out = out; err = err }

@@ -1,4 +1,5 @@
 pub mod Listings
 pub mod Ends
-pub mod Loading
 pub mod Uniqueness
+pub mod ModuleCount
+pub mod Told

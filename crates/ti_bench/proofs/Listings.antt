@@ -1,7 +1,6 @@
 -- The lines of a listing, one after the other.
-use Rattle.std.proofs.Common.{◌≡◌, ℕ, zero, suc, ◌+◌, ◌-◌, ◌*◌, ◌/◌, ◌%◌, ◌<◌, ◌≤◌, List, [], ◌∷◌, ◌++◌, length, min, take, take_all, drop, get_or, Bool, true, false, refl, sym, ap, ◌∙◌, append_assoc, append-nil, drop-drop, length-drop, arith}
-use Rattle.std.specs.Prelude.{codes, nat_lt}
-use Rattle.std.proofs.lemmas.Bool.Decides.{nat_tests}
+use Rattle.std.proofs.Common.{◌≡◌, ℕ, zero, suc, ◌+◌, ◌-◌, ◌*◌, ◌/◌, ◌%◌, ◌<◌, ◌≤◌, List, [], ◌∷◌, ◌++◌, length, min, take, take_all, drop, get_or, refl, sym, ap, ◌∙◌, append_assoc, append-nil, drop-drop, length-drop, arith}
+use Rattle.std.specs.Prelude.{codes}
 use Rattle.bench_io.specs.Stream.{SinkState}
 use Rattle.bench_io.specs.Written.{Wrote, Missed}
 use Rattle.bench_io.proofs.Writing.{wrote_none, wrote_more, missed_more, missed_early}

@@ -9,7 +9,7 @@ use Rattle.report_defs.specs.declared.fault.Fault.TheVariants.{TooLarge}
 use Rattle.report_defs.specs.declared.status.Status.{Status}
 use Rattle.report_defs.specs.declared.status.Status.TheVariants as status
 use Rattle.report_defs.specs.Commands.{command_of, reads}
-use Rattle.report_defs.specs.Report.{Report, Whole, Faulty, status_of, largest_input, AcceptedReport, ReportOn}
+use Rattle.report_defs.specs.Report.{Report, Whole, Faulty, Rejected, status_of, largest_input, AcceptedReport, ReportOn}
 use Rattle.report_defs.proofs.OneReport.{one_report}
 use Rattle.ti_bench.specs.Run.{Run, ReadsInput, Reads, ReportsOn, Reports, WroteReport, MissedReport, EndsBy}
 use Rattle.ti_bench.specs.Laws.{HasNoFault, read_of, Completeness, BeginAlike, OneAnswer, LawsOfRuns}
@@ -50,6 +50,7 @@ on_input run command input report told (bytes, reading, on) = by (reads command)
 no_miss : (run : Run) (report : Report) → HasNoFault run → MissedReport run.outputs report → ⊥
 no_miss run (Whole status pieces) none missed = none.out missed.0.rose
 no_miss run (Faulty fault) none missed = none.err missed.0.rose
+no_miss run (Rejected line) none missed = none.err missed.0.rose
 
 -- a run in which no count rose wrote its report
 reported : (run : Run) (s : Status) → EndsBy run s → HasNoFault run → s ≢ status.Memory → (report : Report) × Reports run report × (s ≡ status_of report) × WroteReport run.outputs report

@@ -3,6 +3,8 @@ use Rattle.gpl_defs.specs.Image.{written_bytes}
 use Rattle.report_defs.specs.declared.status.Status.TheVariants.{Done}
 use Rattle.report_defs.specs.Listing.{memory_listing}
 use Rattle.report_defs.specs.Exec.{exec_lines, end_status}
+use Rattle.report_defs.specs.MemoryListing.{linked_lines}
+use Rattle.link_loader.specs.View.{defined_linked}
 use Rattle.report_defs.specs.Report as spec
 use Rattle.ti_bench.specs.declared.report.Report.{Report}
 use Rattle.ti_bench.specs.declared.report.Report.TheVariants as made
@@ -12,4 +14,6 @@ abbrev pub defined_report : Report → spec.Report
 defined_report (made.Image image) = spec.Whole Done (spec.one_piece (written_bytes image))
 defined_report (made.Listing listing) = spec.Whole Done (memory_listing listing.at listing.bytes.items)
 defined_report (made.Run ending machine) = spec.Whole (end_status ending) (exec_lines ending machine)
+defined_report (made.Memory linked) = spec.Whole Done (linked_lines (defined_linked linked))
+defined_report (made.Refused line) = spec.Rejected line.items
 defined_report (made.Fault fault) = spec.Faulty fault

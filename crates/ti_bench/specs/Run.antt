@@ -10,7 +10,7 @@ use Rattle.report_defs.specs.declared.status.Status.TheVariants.{Done, Refused, 
 use Rattle.report_defs.specs.declared.fault.Fault.TheVariants as fault
 use Rattle.report_defs.specs.FaultLine.{fault_line}
 use Rattle.report_defs.specs.Commands.{command_of, reads}
-use Rattle.report_defs.specs.Report.{Report, Whole, Faulty, status_of, largest_input, ReportOn}
+use Rattle.report_defs.specs.Report.{Report, Whole, Faulty, Rejected, status_of, largest_input, ReportOn}
 
 -- the output and the error output before and after the run
 pub record Outputs : Type 0 where
@@ -59,16 +59,19 @@ Reports run report = ReportsOn (command_of run.words) run report
 abbrev pub WroteReport : Outputs → Report → Type 0
 WroteReport o (Whole status pieces) = Wrote o.out o.out' pieces × (o.err' ≡ o.err)
 WroteReport o (Faulty fault) = Wrote o.err o.err' (fault_line fault ∷ []) × (o.out' ≡ o.out)
+WroteReport o (Rejected line) = Wrote o.err o.err' (line ∷ []) × (o.out' ≡ o.out)
 
 -- the output that the report goes to failed: it grew by a front of what it was to get
 abbrev pub MissedReport : Outputs → Report → Type 0
 MissedReport o (Whole status pieces) = Missed o.out o.out' pieces × (o.err' ≡ o.err)
 MissedReport o (Faulty fault) = Missed o.err o.err' (fault_line fault ∷ []) × (o.out' ≡ o.out)
+MissedReport o (Rejected line) = Missed o.err o.err' (line ∷ []) × (o.out' ≡ o.out)
 
 -- what came of the writing, by its answer
 abbrev pub WrittenReport : {T E : Type 0} → Result T E → Outputs → Report → Type 0
 WrittenReport result o (Whole status pieces) = Written result o.out o.out' pieces × (o.err' ≡ o.err)
 WrittenReport result o (Faulty fault) = Written result o.err o.err' (fault_line fault ∷ []) × (o.out' ≡ o.out)
+WrittenReport result o (Rejected line) = Written result o.err o.err' (line ∷ []) × (o.out' ≡ o.out)
 
 -- how the writing of a report ends: by its own status where it was written, else by a write fault
 abbrev pub EndsWith : Outputs → Report → Status → Type 0

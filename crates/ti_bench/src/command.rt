@@ -16,6 +16,7 @@ pub(crate) fn read_command(words: &Words) -> Option<Command>
 {
     match words.as_slice() {
         [name] if name.as_slice() == b"gasm".as_slice() => Some(Command::Gasm),
+        [name] if name.as_slice() == b"link".as_slice() => Some(Command::Link),
         [name, limit] if name.as_slice() == b"exec".as_slice() => {
             let limit = number_word(limit.as_slice(), MOST_INSTRUCTIONS)?;
             Some(Command::Exec { limit })

@@ -3,6 +3,7 @@
 mod dis;
 mod exec;
 mod gasm;
+mod link;
 
 ghost use Rattle.std.specs.Prelude.{◌≤◌, vec_len, IfOk};
 ghost use Rattle.report_defs.specs.Report as spec;
@@ -11,6 +12,7 @@ ghost use Rattle.ti_bench.specs.Made.{defined_report};
 use crate::commands::dis::dis;
 use crate::commands::exec::exec;
 use crate::commands::gasm::gasm;
+use crate::commands::link::link;
 use crate::report::Report;
 use report_defs::Command;
 use std::alloc::{AllocError, Global};
@@ -27,6 +29,7 @@ pub(crate) fn make_report(
     match command {
         Command::Gasm => gasm(alloc, input.as_slice()),
         Command::Dis { at } => Ok(dis(at, input)),
+        Command::Link => link(alloc, input.as_slice()),
         Command::Exec { limit } => exec(alloc, limit, input.as_slice()),
     }
 }

@@ -8,6 +8,7 @@ mod fault_line;
 mod input;
 mod listing;
 mod listing_lines;
+mod object_input;
 mod report;
 #[cfg(test)]
 mod tests;

@@ -14,6 +14,8 @@ use crate::listing::Listing;
 use bench_io::{Failed, Sink, put_piece};
 use console_defs::RunEnd;
 use gpl_forms::GromImage;
+use link_loader::Linked;
+use memory_listing::put_memory;
 use report_defs::{Fault, Status};
 use tms_step::Machine;
 use trace_dump::{Line, append, append_word, dump};
@@ -32,6 +34,10 @@ pub(crate) enum Report {
         /// The machine that it left.
         machine: Machine,
     },
+    /// Linked memory, whose listing goes to standard output line by line.
+    Memory(Linked),
+    /// The line of an input that is refused, which goes to standard error.
+    Refused(Line),
     /// A fault, whose line goes to standard error.
     Fault(Fault),
 }
@@ -66,6 +72,8 @@ impl Report {
             Report::Image(image) => put_image(out, image.written()),
             Report::Listing(listing) => listing.write(out),
             Report::Run { ending, machine } => put_run(out, *ending, machine),
+            Report::Memory(linked) => put_memory(linked, out),
+            Report::Refused(line) => put_piece(err, line.as_slice()),
             Report::Fault(fault) => put_piece(err, fault_line(*fault).as_slice()),
         }
     }
@@ -75,7 +83,8 @@ impl Report {
         ensures { result ≡ spec.status_of (defined_report self.now) }
     {
         match self {
-            Report::Image(_) | Report::Listing(_) => Status::Done,
+            Report::Image(_) | Report::Listing(_) | Report::Memory(_) => Status::Done,
+            Report::Refused(_) => Status::Refused,
             Report::Run { ending, .. } => end_status(*ending),
             Report::Fault(fault) => fault_status(*fault),
         }

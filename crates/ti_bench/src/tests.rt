@@ -3,5 +3,6 @@
 mod dis;
 mod exec;
 mod gasm;
+mod link;
 mod run;
 mod statuses;

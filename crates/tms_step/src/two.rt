@@ -5,6 +5,7 @@ ghost use Rattle.console_defs.specs.Flags.{modulus, width_of};
 ghost use Rattle.console_defs.specs.Instructions.{IsPlace};
 ghost use Rattle.console_defs.specs.Memory.{Memory, console, is_port_address};
 ghost use Rattle.console_defs.specs.forms.Two.{two, two_operands};
+ghost use Rattle.console_defs.specs.declared.instruction.TwoOp.TheVariants.{MOV};
 ghost use Rattle.tms_step.specs.Stops.{left_by};
 ghost use Rattle.tms_step.specs.Undo.{SameButPc};
 ghost use Rattle.tms_step.specs.Parts.{from_source, from_port, two_from_port, is_arithmetic, is_bitwise};
@@ -104,12 +105,22 @@ impl Cpu {
         ensures stopped { OnErr result (self.new ≡ self.old) }
     {
         if op == TwoOp::MOV {
-            self.stored_by_result(byte, address, source)
+            self.moved(byte, source, address)
         } else if is_arithmetic(op) {
             self.arithmetic(op, byte, source, address)
         } else {
             self.bitwise(op, byte, source, address)
         }
+    }
+
+    /// A source is stored at an address, and what stands there is not read.
+    #[inline(always)]
+    fn moved(&mut self, byte: bool, source: u16, address: u16) -> Result<(), Stop>
+        requires { source < modulus (width_of byte) }
+        ensures value { left_by result (λ _. self.new) ≡ two Memory console MOV (width_of byte) source address self.old }
+        ensures stopped { OnErr result (self.new ≡ self.old) }
+    {
+        self.stored_by_result(byte, address, source)
     }
 
     /// A sum, a difference or a comparison of a source and the destination at an address.

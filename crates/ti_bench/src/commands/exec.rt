@@ -1,38 +1,63 @@
-//! `exec`: raw bytes, executed from >A000 on.
+//! `exec`: linked memory, executed from its entry on.
 
-ghost use Rattle.std.specs.Prelude.{◌≡◌, ◌<◌, ◌≤◌, ℕ, [], length, None, IfOk};
+ghost use Rattle.std.specs.Prelude.{◌≡◌, ◌<◌, ◌≤◌, ℕ, length, None, IfOk};
 ghost use Rattle.console_defs.specs.Runs.{IsRun};
-ghost use Rattle.report_defs.specs.Report as spec;
+ghost use Rattle.link_loader.specs.View.{defined_linked};
 ghost use Rattle.report_defs.specs.Exec as runs;
+ghost use Rattle.report_defs.specs.Report as spec;
 ghost use Rattle.ti_bench.specs.Made.{defined_report};
 
+use crate::object_input::{LinkedInput, link_input};
 use crate::report::Report;
 use byte_lists::zeros;
-use console_bus::Bus;
 use console_defs::RunEnd;
-use grom_counter::Grom;
-use report_defs::{Command, Fault};
+use link_loader::Linked;
+use machine_load::load_machine;
+use report_defs::Command;
 use std::alloc::{AllocError, Global};
 use std::marker::Brand;
 use std::sync::ledger::{Blank, Ledger};
 use tms_step::{Machine, Steps};
-use vdp_ports::Vdp;
 
-/// The most bytes of a program: from >A000 to >FFFF.
-const LARGEST_PROGRAM: usize = 24576;
+/// Where the workspace of a program begins.
+const WORKSPACE: u16 = 0x83E0;
 
-/// The report of up to `limit` instructions of a program of raw bytes.
+/// How many bytes the GROMs have.
+const GROM_SIZE: usize = 65536;
+
+/// The report of up to `limit` instructions of the linked memory of an object text, from its entry on.
 pub(crate) fn exec(alloc: Global, limit: u32, input: &[u8]) -> Result<Report, AllocError>
+    requires { length input.now ≤ spec.largest_input }
     ensures { IfOk result (λ report. spec.AcceptedReport (Command.Exec limit) input.now (defined_report report)) }
 {
-    if input.len() > LARGEST_PROGRAM {
-        return Ok(Report::Fault(Fault::PastEnd));
+    match link_input(alloc, input)? {
+        LinkedInput::Linked(linked) => execute(alloc, limit, &linked),
+        LinkedInput::Refused(line) => Ok(Report::Refused(line)),
     }
-    let mut bus = new_bus(alloc)?;
-    load(&mut bus, input);
-    let mut machine = Machine::new(bus, 0x83E0, 0xA000);
+}
+
+/// The report of up to `limit` instructions of linked memory, from its entry on.
+fn execute(alloc: Global, limit: u32, linked: &Linked) -> Result<Report, AllocError>
+    ensures { IfOk result (λ report. spec.ReportsRun limit (defined_linked linked.now) (defined_report report)) }
+{
+    let mut machine = start(alloc, linked)?;
     let ending = run::<Brand>(&mut machine, u64::from(limit), Blank::new(1));
     Ok(Report::Run { ending, machine })
+}
+
+/// A machine at the entry of linked memory.
+fn start(alloc: Global, linked: &Linked) -> Result<Machine, AllocError>
+    ensures { IfOk result (λ machine. runs.IsStart (defined_linked linked.now) machine) }
+{
+    let image = zeros(alloc, GROM_SIZE)?;
+    load_machine(
+        alloc,
+        linked,
+        image.as_slice(),
+        WORKSPACE,
+        linked.entry(),
+        0,
+    )
 }
 
 /// Executes up to so many instructions on a machine that has executed none.
@@ -44,25 +69,4 @@ fn run<L: Ledger>(machine: &mut Machine, limit: u64, blank: Blank) -> RunEnd
 {
     let mut steps = Steps::<L>::new(blank);
     machine.run_to(None, limit, &mut steps)
-}
-
-/// A console in which all is 0.
-fn new_bus(alloc: Global) -> Result<Bus, AllocError>
-    ensures { IfOk result (λ bus. runs.HoldsProgram bus []) }
-{
-    let image = zeros(alloc, 65536)?;
-    let vdp = Vdp::new(alloc)?;
-    let grom = Grom::new(alloc, image.as_slice())?;
-    Bus::new(alloc, vdp, grom)
-}
-
-/// Writes a program from >A000 on.
-fn load(bus: &mut Bus, input: &[u8])
-    requires empty { runs.HoldsProgram bus.old [] }
-    requires room { length input.now ≤ 24576 }
-    ensures { runs.HoldsProgram bus.new input.now }
-{
-    for (offset, &byte) in input.iter().enumerate() {
-        bus.write_byte(0xA000 + offset as u16, byte);
-    }
 }

@@ -1,15 +1,15 @@
-//! Programs of raw bytes and what `exec` reports.
+//! Object texts and what `exec` reports of them.
 
 use super::run::run;
 use report_defs::Status;
 use std::alloc::{AllocError, Global};
 use std::test::Fail;
 
-/// The most instructions, a program, its status, and the lines of its report.
+/// The most instructions, an object text, its status, and the lines of its report.
 const PROGRAMS: &[(&[u8], &[u8], Status, &[&str])] = &[
     (
         b"10",
-        b"\x02\x01\x7F\xFF\x02\x02\x00\x01\xA0\x42\x10\xFF",
+        b"0000C        A0000B0201B7FFFB0202B0001BA042B10FF20000F\n:\n",
         Status::Done,
         &[
             "end self jump",
@@ -30,7 +30,7 @@ const PROGRAMS: &[(&[u8], &[u8], Status, &[&str])] = &[
     ),
     (
         b"3",
-        b"\x02\x01\x7F\xFF\x02\x02\x00\x01\xA0\x42\x10\xFF",
+        b"0000C        A0000B0201B7FFFB0202B0001BA042B10FF20000F\n:\n",
         Status::Done,
         &[
             "end limit",
@@ -51,7 +51,7 @@ const PROGRAMS: &[(&[u8], &[u8], Status, &[&str])] = &[
     ),
     (
         b"1",
-        b"",
+        b"00000        A000020000F\n:\n",
         Status::Stopped,
         &[
             "end refused >A000",
@@ -70,7 +70,7 @@ const PROGRAMS: &[(&[u8], &[u8], Status, &[&str])] = &[
     ),
     (
         b"0",
-        b"",
+        b"00000        A000020000F\n:\n",
         Status::Done,
         &[
             "end limit",
@@ -89,7 +89,7 @@ const PROGRAMS: &[(&[u8], &[u8], Status, &[&str])] = &[
     ),
     (
         b"5",
-        b"\xC0\x60\x88\x00",
+        b"00004        A0000BC060B880020000F\n:\n",
         Status::Stopped,
         &[
             "end port >8800",
@@ -108,7 +108,7 @@ const PROGRAMS: &[(&[u8], &[u8], Status, &[&str])] = &[
     ),
     (
         b"5",
-        b"\x02\x01\x12\x34\xC8\x01\x80\x10\x10\xFF",
+        b"0000A        A0000B0201B1234BC801B8010B10FF20000F\n:\n",
         Status::Done,
         &[
             "end self jump",
@@ -131,7 +131,7 @@ const PROGRAMS: &[(&[u8], &[u8], Status, &[&str])] = &[
     ),
     (
         b"9",
-        b"\x10",
+        b"00002        A0000B100020000F\n:\n",
         Status::Stopped,
         &[
             "end refused >A002",
@@ -151,7 +151,7 @@ const PROGRAMS: &[(&[u8], &[u8], Status, &[&str])] = &[
     // LWPI >8800; JMP $
     (
         b"5",
-        b"\x02\xE0\x88\x00\x10\xFF",
+        b"00006        A0000B02E0B8800B10FF20000F\n:\n",
         Status::Done,
         &[
             "end self jump",
@@ -170,7 +170,7 @@ const PROGRAMS: &[(&[u8], &[u8], Status, &[&str])] = &[
     // a byte of video memory, the GROM address and a video register are written by bytes
     (
         b"99",
-        b"\x02\x01\x00\x40\xD8\x01\x8C\x02\x06\xC1\xD8\x01\x8C\x02\x02\x02\xAB\xCD\xD8\x02\x8C\x00\xD8\x02\x9C\x02\x06\xC2\xD8\x02\x9C\x02\x02\x01\xE0\x81\xD8\x01\x8C\x02\x06\xC1\xD8\x01\x8C\x02\x10\xFF",
+        b"00030        A0000B0201B0040BD801B8C02B06C1BD801B8C02B0202BABCDF\nBD802B8C00BD802B9C02B06C2BD802B9C02B0201BE081BD801B8C02B06C1BD801F\nB8C02B10FF20000F\n:\n",
         Status::Done,
         &[
             "end self jump",
@@ -219,33 +219,10 @@ fn reports(
     )
 }
 
-/// How many bytes of 0, how they are answered, and what is said of them: there is room for 24,576 bytes, and then the last
-/// word of memory is refused.
-const SIZES: &[(usize, Status, &[u8])] = &[
-    (24576, Status::Stopped, b""),
-    (24577, Status::Refused, b"past the end of memory\n"),
-    (1048577, Status::Refused, b"too large\n"),
-];
-
-/// Whether so many bytes of 0 are answered so.
-fn size_ends(alloc: Global, size: usize, status: Status, err: &[u8]) -> Result<bool, AllocError> {
-    let ended = run(
-        alloc,
-        &[b"exec", b"2"],
-        vec![in alloc; 0u8; size]?,
-        &[],
-        &[],
-    )?;
-    Ok(
-        ended.status == status
-            && ended.err.bytes() == err
-            && ended.out.bytes().is_empty() == (status == Status::Refused),
-    )
-}
-
 /// Whether two lines have been written where the third write fails.
 fn two_lines_then_a_fault(alloc: Global) -> Result<bool, AllocError> {
-    let ended = run(alloc, &[b"exec", b"1"], Vec::new(alloc), &[], &[2])?;
+    let program = b"00000        20000F\n:\n".to_vec(alloc)?;
+    let ended = run(alloc, &[b"exec", b"1"], program, &[], &[2])?;
     Ok(
         ended.status == Status::WriteFault
             && ended.out.bytes() == b"end refused >A000\npad\n".as_slice(),
@@ -253,15 +230,12 @@ fn two_lines_then_a_fault(alloc: Global) -> Result<bool, AllocError> {
 }
 
 #[test]
-fn a_program_is_run_and_shown(rt: HostRuntime) -> Result<(), Fail> {
+fn an_object_text_is_executed_and_shown(rt: HostRuntime) -> Result<(), Fail> {
     for &(limit, program, status, lines) in PROGRAMS {
         assert!(rt;
             reports(rt.alloc(), limit, program, status, lines)?,
             "{program:?}"
         );
-    }
-    for &(size, status, err) in SIZES {
-        assert!(rt; size_ends(rt.alloc(), size, status, err)?, "{size} bytes");
     }
     assert!(rt; two_lines_then_a_fault(rt.alloc())?);
     Ok(())

@@ -1,4 +1,4 @@
-use Rattle.std.proofs.Common.{◌≡◌, ap, ◌∙◌, ◌++◌, arith}
+use Rattle.std.proofs.Common.{ap, ◌∙◌, ◌++◌, arith}
 use Rattle.std.specs.Prelude.{codes}
 use Rattle.asm_defs.specs.Printed.{printed}
 use Rattle.asm_defs.proofs.Windows.{printed_window}

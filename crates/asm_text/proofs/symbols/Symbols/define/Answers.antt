@@ -1,3 +1,4 @@
+use Rattle.std.proofs.Common.{rules}
 use Rattle.std.proofs.Common.{◌≡◌, None, sym, ap, ◌∙◌}
 use Rattle.std.specs.FinMap.{get, insert}
 use Rattle.asm_text.specs.GivenValues.{defined_value}
@@ -30,3 +31,6 @@ returns-clause-no_register c =
           rw w.result-is free
       | in-Err w ↦ rw w.result-is tt
     ]
+
+pub returns-clause-duplicate : goal.returns-clause-duplicate
+returns-clause-duplicate c = search rules

@@ -1,0 +1,5 @@
+use Rattle.std.proofs.Common.{rules}
+use Rattle.grom_counter.proofs.grom.Grom.read_data.Goals as goal
+
+pub returns : goal.returns
+returns c = search rules

@@ -1,0 +1,6 @@
+pub mod Causes
+pub mod Placing
+pub mod First
+pub mod Chains
+pub mod LinkedMemory
+pub mod Laws

@@ -1,0 +1,22 @@
+-- The first item of a list, one by one.
+use Rattle.std.proofs.Common.{◌≡◌, ℕ, ◌+◌, ◌<◌, Bool, true, false, length, take, drop, get_or, List, refl, sym, ◌∙◌, Some, None}
+use Rattle.std.specs.Prelude.{if◌then◌else◌}
+use Rattle.std.proofs.lemmas.List.{take_more, drop_more}
+use Rattle.link_defs.specs.First.{first_behind}
+
+module _ {X : Type 0} (test : List X → X → Bool) (items : List X) (i : ℕ) (d : X) (lt : i < length items) where
+  -- one item more
+  behind_step : first_behind test (take i items) (drop i items) ≡ (if test (take i items) (get_or items i d) then Some (get_or items i d) else first_behind test (take (i + 1) items) (drop (i + 1) items))
+  behind_step = rw (drop_more items i d lt, take_more items i d lt) refl
+
+  -- an item that the test does not pick
+  pub passes : test (take i items) (get_or items i d) ≡ false → first_behind test (take i items) (drop i items) ≡ first_behind test (take (i + 1) items) (drop (i + 1) items)
+  passes e = behind_step ∙ rw e refl
+
+  -- where none is picked, the test does not pick the item
+  pub not_picked : first_behind test (take i items) (drop i items) ≡ None → test (take i items) (get_or items i d) ≡ false
+  not_picked none = by (test (take i items) (get_or items i d)) refl
+    where
+      by : (b : Bool) → test (take i items) (get_or items i d) ≡ b → b ≡ false
+      by false e = refl
+      by true e = let some = rw e at (sym behind_step ∙ none) in cc

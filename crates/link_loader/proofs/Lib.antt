@@ -1,0 +1,12 @@
+pub mod First
+pub mod KeptNames
+pub mod Words
+pub mod Refusals
+pub mod Uses
+pub mod Pairs
+pub mod Steps
+pub mod Filled
+pub mod Shown
+pub mod Inside
+pub mod Chained
+pub mod Placed

@@ -1,0 +1,45 @@
+-- Words by their addresses.
+use Rattle.std.proofs.Common.{◌≡◌, ℕ, zero, suc, ◌+◌, ◌<◌, Bool, true, false, cond, length, take, get_or, List, replicate, refl, sym, ap, ◌∙◌, arith, Option, Some, None}
+use Rattle.std.specs.Prelude.{◌==◌, nat_lt, is_some, if◌then◌else◌}
+use Rattle.std.proofs.lemmas.Bool.Decides.{nat_tests}
+use Rattle.std.specs.Ordering.{nat_cmp, eq_by_cmp}
+use Rattle.std.specs.Cmp.{nat_cmp_total}
+use Rattle.std.specs.FinMap.{find}
+use Rattle.std.specs.FinMap.Entries.{find-append}
+use Rattle.std.proofs.lemmas.List.{take_more}
+use Rattle.link_loader.specs.declared.table.Table.{Table}
+use Rattle.link_loader.specs.Tables.{word_in}
+use Rattle.link_loader.specs.Holds.{cell, HoldsWords}
+
+-- places without a word have none at any address
+pub none_anywhere : (count at : ℕ) → word_in (replicate count None) at ≡ None
+none_anywhere zero at = refl
+none_anywhere (suc count) zero = refl
+none_anywhere (suc count) (suc at) = none_anywhere count at
+
+-- addresses tie where they are equal
+pub ties : (a b : ℕ) → eq_by_cmp nat_cmp a b ≡ (a == b)
+ties a b = by (nat_lt a b) (a == b) refl refl
+  where
+    by : (below same : Bool) → nat_lt a b ≡ below → (a == b) ≡ same → eq_by_cmp nat_cmp a b ≡ (a == b)
+    by true true p q = absurd (grind (arith, nat_tests))
+    by true false p q = rw (p, q) refl
+    by false true p q = rw (p, q) refl
+    by false false p q = rw (p, q) refl
+
+-- no word where none is found
+pub none_found : (found : Option ℕ) → is_some found ≡ false → found ≡ None
+none_found (Some word) e = cc
+none_found None e = refl
+
+-- one word more, at an address that has none
+pub word_loaded : (old new : Table) (words : List (ℕ × ℕ)) (i : ℕ) (d : ℕ × ℕ) → i < length words
+    → HoldsWords old (take i words) → cell old (get_or words i d).0 ≡ None
+    → ((q : ℕ) → cell new q ≡ (if q == (get_or words i d).0 then Some (get_or words i d).1 else cell old q))
+    → HoldsWords new (take (i + 1) words)
+word_loaded old new words i d lt holds none put at =
+    put at
+    ∙ (rw (holds at) refl
+    ∙ (ap (λ b. cond b (Some (get_or words i d).1) (find nat_cmp at (take i words))) (sym (ties at (get_or words i d).0))
+    ∙ (sym (find-append nat_cmp nat_cmp_total (take i words) (get_or words i d).0 (get_or words i d).1 at (sym (holds (get_or words i d).0) ∙ none))
+    ∙ ap (find nat_cmp at) (sym (take_more words i d lt)))))

@@ -1,0 +1,5 @@
+pub mod Tables
+pub mod Answers
+pub mod Holds
+pub mod Parts
+pub mod View

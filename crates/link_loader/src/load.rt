@@ -1,0 +1,60 @@
+//! Linking.
+
+ghost use Rattle.std.specs.Prelude.{◌≡◌, ◌≤◌, vec_len};
+ghost use Rattle.link_defs.specs.LinkedMemory as spec;
+ghost use Rattle.link_loader.specs.Answers.{Gives};
+ghost use Rattle.link_loader.specs.Parts.{defined_modules};
+ghost use Rattle.link_loader.specs.View.{defined_linked};
+
+use crate::chains::follow;
+use crate::error::LinkError;
+use crate::linked::Linked;
+use crate::names::{check_names, define};
+use crate::parts::Parts;
+use crate::places::{check_places, load};
+use object_tags::Module;
+use std::alloc::Global;
+
+/// Places up to 1,024 modules in memory, one behind the other, and links them: every use of a REF name becomes the value
+/// of its DEF.
+///
+/// # Errors
+/// The causes come in the order of `LinkError`, each for all modules before the next. Of one cause the first place in
+/// the order of the modules and of their lists is told. `Memory` is want of memory.
+pub fn link(alloc: Global, modules: &Vec<Module>) -> Result<Linked, LinkError>
+    requires { vec_len modules.now ≤ 1024 }
+    ensures { Gives defined_linked result (spec.linked (defined_modules modules.now.items)) }
+{
+    link_parts(alloc, Parts::of(alloc, modules)?)
+}
+
+/// Links what modules say.
+fn link_parts(alloc: Global, parts: Parts) -> Result<Linked, LinkError>
+    ensures { Gives defined_linked result
+        (spec.linked_parts parts.defs.items parts.words.items parts.refs.items parts.entries.items) }
+{
+    let names = define(alloc, parts.defs.as_slice())?;
+    check_places(parts.words.as_slice())?;
+    let mut words = load(alloc, parts.words.as_slice())?;
+    let uses = follow(alloc, parts.refs.as_slice(), &names, &words)?;
+    check_names(&names, parts.refs.as_slice())?;
+    let entry = first_entry(parts.entries.as_slice())?;
+    words.replace(&uses);
+    let pairs = words.pairs(alloc)?;
+    Ok(Linked {
+        words,
+        pairs,
+        names: parts.defs,
+        entry,
+    })
+}
+
+/// The entry of the first module that has one.
+fn first_entry(entries: &[u16]) -> Result<u16, LinkError>
+    ensures { Gives (λ entry. entry) result (spec.first_entry entries.now) }
+{
+    match entries {
+        [entry, ..] => Ok(*entry),
+        [] => Err(LinkError::NoEntry),
+    }
+}

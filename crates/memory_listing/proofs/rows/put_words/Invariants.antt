@@ -1,0 +1,12 @@
+use Rattle.std.proofs.Common.{drop}
+use Rattle.std.specs.FinMap.{entries}
+use Rattle.report_defs.specs.MemoryListing.{rows_from}
+use Rattle.link_loader.specs.View.{defined_linked}
+use Rattle.memory_listing.proofs.Progress.{Listed}
+use Rattle.memory_listing.proofs.rows.put_words.Given as goal
+
+-- the rows that are left
+abbrev pub invariant-loop-index : goal.invariant-loop-index
+invariant-loop-index g l =
+    let state = g.O.Sink.state in
+    Listed (state l.fn.out) (state l.out) (rows_from 0 (entries (defined_linked l.linked).words)) (rows_from l.belonging (drop l.index (entries (defined_linked l.linked).words)))
