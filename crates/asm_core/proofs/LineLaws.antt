@@ -1,13 +1,13 @@
 -- A builder behind one line more.
-use Rattle.std.proofs.Common.{◌≡◌, ℕ, suc, ◌+◌, List, [], ◌∷◌, ◌++◌, Some, None, Ok, length, refl, sym, ap, ◌∙◌, arith}
+use Rattle.std.proofs.Common.{◌≡◌, ℕ, ◌+◌, List, [], ◌∷◌, ◌++◌, Some, None, refl, ap, arith}
 use Rattle.std.specs.Prelude.{Option}
 use Rattle.std.specs.FinMap.{insert}
 use Rattle.source_defs.specs.Expression.{Value}
-use Rattle.source_defs.specs.Symbols.{Names, predefined}
+use Rattle.source_defs.specs.Symbols.{Names}
 use Rattle.source_defs.specs.Layout.{with_names, set_or, none_or, origin, since}
 use Rattle.module_defs.specs.declared.location.Location.{Location}
 use Rattle.module_defs.specs.Locations.{Line, start, behind, location}
-use Rattle.module_defs.specs.FirstChecks.{Before, Checked, names, defs, refs, known_of, line_of, location_behind, label_entry, external_entries, refs_in}
+use Rattle.module_defs.specs.FirstChecks.{Checked, names, known_of, line_of, location_behind, label_entry, external_entries, refs_in}
 use Rattle.asm_core.specs.declared.lines.AsmLines.{AsmLines}
 use Rattle.asm_core.specs.declared.pending.Pending.{Pending}
 use Rattle.asm_core.specs.Keeping.{known_in}

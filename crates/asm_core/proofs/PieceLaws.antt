@@ -1,5 +1,5 @@
 -- The placed words among some.
-use Rattle.std.proofs.Common.{◌≡◌, ℕ, zero, suc, ◌+◌, ◌*◌, ◌<◌, List, [], ◌++◌, refl, sym, ap, ◌∙◌, arith}
+use Rattle.std.proofs.Common.{◌≡◌, ℕ, zero, suc, ◌+◌, ◌*◌, List, [], ◌++◌, refl, ap, ◌∙◌}
 use Rattle.std.specs.Prelude.{Option, map}
 use Rattle.object_defs.specs.declared.spot.Piece.{Piece}
 use Rattle.module_defs.specs.declared.content.Content.{Content}

@@ -1,13 +1,12 @@
 -- Lines that are settled one after the other.
-use Rattle.std.proofs.Common.{◌≡◌, ℕ, List, [], ◌∷◌, Ok, Err, refl, sym, ap, ◌∙◌}
+use Rattle.std.proofs.Common.{◌≡◌, ℕ, List, [], ◌∷◌, Ok, Err, refl, ap, ◌∙◌}
 use Rattle.std.specs.Prelude.{Result}
-use Rattle.source_defs.specs.Refusals.{Refusal, ◌>>=◌, at_line}
+use Rattle.source_defs.specs.Refusals.{Refusal, ◌>>=◌}
 use Rattle.source_defs.specs.Symbols.{Names}
 use Rattle.source_defs.specs.Layout.{settled}
 use Rattle.module_defs.specs.declared.causes.AsmCause.{AsmCause}
 use Rattle.module_defs.specs.declared.location.Location.{Location}
-use Rattle.module_defs.specs.Statements.{Statement}
-use Rattle.module_defs.specs.Locations.{Line, place}
+use Rattle.module_defs.specs.Locations.{Line}
 use Rattle.module_defs.specs.Memory.{Settled}
 use Rattle.module_defs.specs.Modules.{settle, settle_at}
 use Rattle.asm_core.specs.declared.pending.Pending.{Pending}

@@ -1,22 +1,21 @@
 -- The lines of a source, one after the other.
-use Rattle.std.proofs.Common.{◌≡◌, ℕ, ◌+◌, Bool, true, false, ◌||◌, List, [], ◌∷◌, Ok, Err, length, refl, sym, ap, subst, ◌∙◌}
-use Rattle.std.specs.Prelude.{Result, map, if◌then◌else◌, ⊤}
+use Rattle.std.proofs.Common.{◌≡◌, ℕ, ◌+◌, Bool, true, false, ◌||◌, List, [], ◌∷◌, Ok, Err, length, refl, sym, ap, ◌∙◌}
+use Rattle.std.specs.Prelude.{Result, map, ⊤}
 use Rattle.source_defs.specs.declared.text.Line.{Line as TextLine}
 use Rattle.source_defs.specs.declared.text.Span.{Span}
 use Rattle.source_defs.specs.Lines.{part, lines, lines_from, numbered_from}
-use Rattle.source_defs.specs.Refusals.{Refusal, ◌>>=◌, at_line}
-use Rattle.source_defs.specs.Layout.{laid, laid_behind, line_texts}
+use Rattle.source_defs.specs.Refusals.{Refusal}
+use Rattle.source_defs.specs.Layout.{laid_behind}
 use Rattle.module_defs.specs.declared.causes.AsmCause.{AsmCause}
 use Rattle.module_defs.specs.Locations.{Line}
 use Rattle.module_defs.specs.FirstChecks.{check}
-use Rattle.module_defs.specs.Modules.{module_behind, module_of_source}
-use Rattle.asm_core.specs.Building.{has_ended, Takes}
+use Rattle.asm_core.specs.Building.{Takes}
 use Rattle.asm_core.specs.Finishing.{RefusesAt}
 use Rattle.asm_core.specs.declared.error.AsmError.{AsmError}
 use Rattle.asm_core.specs.declared.error.AsmError.TheVariants.{At, Memory}
 use Rattle.asm_core.specs.declared.failure.Failure.TheVariants.{Refused}
 use Rattle.asm_core.specs.declared.lines.AsmLines.{AsmLines}
-use Rattle.asm_core.proofs.SettleLaws.{refuses_by, refuses_on}
+use Rattle.asm_core.proofs.SettleLaws.{refuses_by}
 
 -- lines that count from a number on
 abbrev pub IsNumbered : ℕ → List TextLine → Type 0

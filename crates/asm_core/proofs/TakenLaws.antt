@@ -1,16 +1,14 @@
 -- Lines that are taken one after the other.
-use Rattle.std.proofs.Common.{◌≡◌, ℕ, suc, ◌+◌, Bool, true, false, ◌||◌, cond, List, [], ◌∷◌, ◌++◌, Ok, Err, length, refl, sym, ap, subst, ◌∙◌, arith, length-append}
-use Rattle.std.specs.Prelude.{Result, map, if◌then◌else◌, ⊤}
-use Rattle.source_defs.specs.declared.text.Line.{Line as TextLine}
-use Rattle.source_defs.specs.declared.text.Span.{Span}
-use Rattle.source_defs.specs.Lines.{part, lines, lines_from, numbered_from}
+use Rattle.std.proofs.Common.{◌≡◌, ℕ, ◌+◌, Bool, true, false, ◌||◌, List, [], ◌∷◌, ◌++◌, Ok, Err, length, refl, sym, ap, ◌∙◌, arith, length-append}
+use Rattle.std.specs.Prelude.{Result, if◌then◌else◌}
+use Rattle.source_defs.specs.Lines.{lines}
 use Rattle.source_defs.specs.Refusals.{Refusal, ◌>>=◌, at_line}
-use Rattle.source_defs.specs.Layout.{laid, laid_behind, numbered, line_texts}
+use Rattle.source_defs.specs.Layout.{laid, laid_behind, numbered}
 use Rattle.module_defs.specs.declared.causes.AsmCause.{AsmCause}
 use Rattle.module_defs.specs.Locations.{Line}
 use Rattle.module_defs.specs.FirstChecks.{check}
-use Rattle.asm_core.specs.Building.{has_ended, Takes, HasTaken, refusal_at}
-use Rattle.asm_core.specs.Finishing.{TakesText, RefusesAt}
+use Rattle.asm_core.specs.Building.{has_ended, Takes, HasTaken}
+use Rattle.asm_core.specs.Finishing.{TakesText}
 use Rattle.asm_core.specs.declared.error.AsmError.{AsmError}
 use Rattle.asm_core.specs.declared.error.AsmError.TheVariants.{At, Memory}
 use Rattle.asm_core.specs.declared.failure.Failure.TheVariants.{Refused}

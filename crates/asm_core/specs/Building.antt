@@ -1,8 +1,6 @@
 -- What a builder keeps of the lines that it has taken.
 use Rattle.std.specs.Prelude.{◌≡◌, ⊤, ℕ, ◌+◌, Bool, false, ◌||◌, List, [], ◌∷◌, length, Result, Ok, Err, ◌<◌, ◌-◌, ◌^◌}
-use Rattle.source_defs.specs.Refusals.{Refusal}
 use Rattle.source_defs.specs.Layout.{laid, numbered}
-use Rattle.module_defs.specs.declared.causes.AsmCause.{AsmCause}
 use Rattle.module_defs.specs.Statements.{said_of}
 use Rattle.module_defs.specs.Locations.{Line, location, place, reached}
 use Rattle.module_defs.specs.FirstChecks.{names, defs, refs, check}

@@ -244,7 +244,7 @@ module _ (before : Before) where
     move ← as_expr (move before.names before.location before.reached line.statement)
     move ← unless (is_too_far before line.statement move) Overflow move
     unless (is_bad before line.label line.statement) BadDirective
-      (record { label = line.label; statement = line.statement; move = move })
+        (record { label = line.label; statement = line.statement; move = move })
 
   -- a line by the first checks
   abbrev pub checked : List ℕ → Result Checked AsmCause
