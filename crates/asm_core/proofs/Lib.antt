@@ -15,3 +15,4 @@ pub mod PieceLaws
 pub mod SettleLaws
 pub mod TakenLaws
 pub mod SourceLaws
+pub mod TextLaws

@@ -96,7 +96,7 @@ pub words_most : (cells : List (Option Content)) → words_taken cells ≤ 32768
 unfolding words_taken part_words
 words_most cells = count_le (is_taken_word cells) 0 32768
 
-count_none : (f : ℕ → Bool) (from n : ℕ) → ((w : ℕ) → f w ≡ false) → count_from f from n ≡ 0
+pub count_none : (f : ℕ → Bool) (from n : ℕ) → ((w : ℕ) → f w ≡ false) → count_from f from n ≡ 0
 count_none f from zero free = refl
 count_none f from (suc n) free = omega (arith, ap one_if (free from), count_none f (from + 1) n free)
 

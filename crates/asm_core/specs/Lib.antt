@@ -19,3 +19,4 @@ pub mod Waiting
 pub mod Keeping
 pub mod Building
 pub mod Finishing
+pub mod Laws

@@ -12,6 +12,7 @@ mod finish;
 mod first_checks;
 mod image;
 mod keep;
+mod laws;
 mod lines;
 mod memory;
 mod moves;
@@ -28,6 +29,7 @@ mod take;
 mod values;
 
 pub use crate::error::AsmError;
+pub use crate::laws::modules_have_texts;
 pub use crate::lines::AsmLines;
 pub use crate::source::assemble;
 pub use module_defs::AsmCause;

@@ -19,7 +19,7 @@ use Rattle.module_defs.specs.FirstChecks.{Before, Said, Checked, Move, unless, a
 use Rattle.module_defs.proofs.OutcomeSizes.{size_said}
 
 -- a value that an answer is made of
-bound : {A B E : Type 0} (answer : Result A E) (make : A → Result B E) (made : B) → (answer >>= make) ≡ Ok made
+pub bound : {A B E : Type 0} (answer : Result A E) (make : A → Result B E) (made : B) → (answer >>= make) ≡ Ok made
     → (value : A) × (answer ≡ Ok value) × (make value ≡ Ok made)
 bound (Ok value) make made e = (value, refl, e)
 bound (Err error) make made e = cc e
@@ -129,11 +129,16 @@ module _ (before : Before) where
     statement : line.statement ≡ found.statement
     fits : Fits found.statement found.move
     titled : IsTitled found.statement
+    few : lists_too_many before found.statement ≡ false
     within : is_in_part (location_behind before.location found.move) ≡ true
 
   not_false : (a b : Bool) → (not a || b) ≡ false → a ≡ true
   not_false true b e = refl
   not_false false b e = cc e
+
+  second_false : (a b : Bool) → (not a || b) ≡ false → b ≡ false
+  second_false true b e = e
+  second_false false b e = cc e
 
   moved_is : (line : Said) (found : Checked) → moved before line ≡ Ok found → Leads line found
   unfolding moved
@@ -150,6 +155,8 @@ module _ (before : Before) where
         statement = said_same;
         fits = subst (λ statement. Fits statement found.move) said_same (subst (Fits line.statement) move_same fits);
         titled = subst IsTitled said_same (named_is line d.0);
+        few = subst (λ statement. lists_too_many before statement ≡ false) said_same
+            (second_false (is_in_part (location_behind before.location a.0)) (lists_too_many before line.statement) c.0);
         within = subst (λ move. is_in_part (location_behind before.location move) ≡ true) move_same stays;
       }
 
@@ -185,3 +192,8 @@ module _ (before : Before) where
   checked_titled text found e =
       let a = bound (said before text) _ found e in
       (moved_is a.0 found a.2).titled
+
+  pub checked_few : (text : List ℕ) (found : Checked) → checked before text ≡ Ok found → lists_too_many before found.statement ≡ false
+  checked_few text found e =
+      let a = bound (said before text) _ found e in
+      (moved_is a.0 found a.2).few

@@ -1,0 +1,237 @@
+-- The module of a source has a text.
+use Rattle.std.proofs.Common.{◌≡◌, ℕ, zero, suc, ◌+◌, ◌*◌, ◌%◌, ◌≤◌, Bool, true, false, ◌||◌, List, [], ◌∷◌, ◌++◌, Some, None, Ok, Err, length, refl, ap, subst, ◌∙◌, arith, length-append}
+use Rattle.std.specs.Prelude.{Option, Result, map, is_some, nat_lt, if◌then◌else◌}
+use Rattle.std.specs.List.{AllByRecursion}
+use Rattle.std.proofs.lemmas.Bool.Decides.{nat_tests}
+use Rattle.std.proofs.lemmas.List.{length-map}
+use Rattle.source_defs.specs.Refusals.{at_line}
+use Rattle.source_defs.specs.Symbols.{Names, look_up}
+use Rattle.source_defs.specs.Expression.{Value, Absolute, Relocatable, External}
+use Rattle.source_defs.specs.Layout.{laid, laid_behind, settled}
+use Rattle.object_defs.specs.declared.spot.Spot.{Spot}
+use Rattle.object_defs.specs.declared.spot.Piece.{Piece}
+use Rattle.object_defs.specs.Modules.{Module, Definition, Reference, HasText, StandsEven, number_of}
+use Rattle.module_defs.specs.declared.causes.AsmCause.{AsmCause}
+use Rattle.module_defs.specs.declared.causes.AsmCause.TheVariants.{Overflow, Overlap}
+use Rattle.module_defs.specs.declared.content.Content.{Content}
+use Rattle.module_defs.specs.declared.content.Content.TheVariants.{Byte, First, Second}
+use Rattle.module_defs.specs.declared.location.Part.{Part}
+use Rattle.module_defs.specs.declared.location.Part.TheVariants as part
+use Rattle.module_defs.specs.declared.location.Location.{Location}
+use Rattle.module_defs.specs.Statements.{Statement, Nothing, Instruction, Aorg, Rorg, Dorg, Bss, Bes, Even, Equ, Data, Byte as ByteLine, Text, Def, Ref, Idt, Titl, End}
+use Rattle.module_defs.specs.Locations.{Line, place}
+use Rattle.module_defs.specs.FirstChecks.{check, names, same_name, checked, known_of, line_of, lists_too_many, has_too_many, defs, refs, defs_in, refs_in}
+use Rattle.module_defs.specs.SecondChecks.{Outcome, Words, Bytes, Entry, outcome}
+use Rattle.module_defs.specs.SecondChecks as second
+use Rattle.module_defs.specs.Memory.{Settled, spot_by, joined, pieces_at, pieces_from, pieces_in, content_at, is_word, words_in, word_count, count_from, one_if, part_words, with_use, behind_word, behind_words, behind_by, references_of, is_placed_in, is_placed, overlaps}
+use Rattle.module_defs.specs.Modules.{settle, module_by, module_of, definition_in, unused}
+use Rattle.module_defs.proofs.CheckLaws.{bound, checked_few}
+use Rattle.asm_core.proofs.TableLaws.{count_same, count_none}
+use Rattle.asm_core.proofs.HoldingLaws.{content_some}
+
+-- words stand at even places
+all_append : {A : Type 0} (P : A → Type 0) (first second : List A) → AllByRecursion P first → AllByRecursion P second → AllByRecursion P (first ++ second)
+all_append P [] second all others = others
+all_append P (item ∷ first) second all others = (all.0, all_append P first second all.1 others)
+
+spot_even : (at : Part) (w : ℕ) → number_of (spot_by at (2 * w)) % 2 ≡ 0
+spot_even part.Relocatable w = omega arith
+spot_even part.Absolute w = omega arith
+spot_even part.Dummy w = omega arith
+
+words_even : (at : Part) (w : ℕ) (words : List Spot) → AllByRecursion StandsEven (map (λ word. record { at = spot_by at (2 * w); word = word }) words)
+words_even at w [] = tt
+words_even at w (word ∷ words) = (spot_even at w, words_even at w words)
+
+pieces_even : (content : ℕ → Option Content) (at : Part) (first n : ℕ) → AllByRecursion StandsEven (pieces_from content at first n)
+pieces_even content at first zero = tt
+pieces_even content at first (suc n) =
+    all_append StandsEven (pieces_at content at first) (pieces_from content at (first + 1) n)
+    (words_even at first (joined (content (2 * first)) (content (2 * first + 1)))) (pieces_even content at (first + 1) n)
+
+-- there are as many as words are placed
+joined_length : (high low : Option Content) → length (joined high low) ≡ one_if (is_some high || is_some low)
+joined_length None None = refl
+joined_length None (Some content) = refl
+joined_length (Some (Byte byte)) low = refl
+joined_length (Some (First word)) low = refl
+joined_length (Some Second) low = refl
+
+abbrev has_word : (ℕ → Option Content) → ℕ → Bool
+has_word content w = is_some (content (2 * w)) || is_some (content (2 * w + 1))
+
+pieces_length : (content : ℕ → Option Content) (at : Part) (first n : ℕ) → length (pieces_from content at first n) ≡ count_from (has_word content) first n
+pieces_length content at first zero = refl
+pieces_length content at first (suc n) =
+    let words = joined (content (2 * first)) (content (2 * first + 1)) in
+    omega (
+      arith,
+      length-append (pieces_at content at first) (pieces_from content at (first + 1) n),
+      length-map {B = Piece} words,
+      joined_length (content (2 * first)) (content (2 * first + 1)),
+      pieces_length content at (first + 1) n,
+    )
+
+module _ (start : List Reference) (lines : List Settled) where
+  some_word : (at : Part) (w : ℕ) → has_word (content_at start lines at) w ≡ is_word lines at w
+  some_word at w =
+      ap (λ b. b || is_some (content_at start lines at (2 * w + 1))) (content_some start lines at (2 * w))
+      ∙ ap (λ b. is_placed lines at (2 * w) || b) (content_some start lines at (2 * w + 1))
+
+  pieces_count : (at : Part) → length (pieces_in (content_at start lines at) at) ≡ words_in lines at
+  unfolding part_words
+  pieces_count at =
+      pieces_length (content_at start lines at) at 0 32768
+      ∙ count_same (is_word lines at) (has_word (content_at start lines at)) 0 32768 (λ w le. some_word at w)
+
+-- there are as many last uses as names of REF
+one_more : {A : Type 0} (b : Bool) (first : A) (others : List A) (second : A) (rest : List A) → length rest ≡ length others
+    → length (if b then first ∷ others else second ∷ rest) ≡ suc (length others)
+one_more true first others second rest same = refl
+one_more false first others second rest same = ap suc same
+
+use_length : (references : List Reference) (name : List ℕ) (at : Spot) → length (with_use references name at) ≡ length references
+use_length [] name at = refl
+use_length (reference ∷ references) name at =
+    one_more (same_name reference.name name) (record { name = reference.name; last = at }) references reference (with_use references name at)
+    (use_length references name at)
+
+word_length : (references : List Reference) (at : Spot) (value : Value) → length (behind_word references at value) ≡ length references
+word_length references at (Absolute number) = refl
+word_length references at (Relocatable number) = refl
+word_length references at (External name) = use_length references name at
+
+words_length : (at : Part) (references : List Reference) (from : ℕ) (words : List Value) → length (behind_words at references from words) ≡ length references
+words_length at references from [] = refl
+words_length at references from (word ∷ words) =
+    words_length at (behind_word references (spot_by at from) word) (from + 2) words ∙ word_length references (spot_by at from) word
+
+either_length : (b : Bool) (first second : List Reference) → length first ≡ length second → length (if b then first else second) ≡ length second
+either_length true first second same = same
+either_length false first second same = refl
+
+line_length : (at : Location) (references : List Reference) (outcome : Outcome) → length (behind_by at references outcome) ≡ length references
+line_length at references second.Nothing = refl
+line_length at references (Words words) =
+    either_length (is_placed_in at.part) (behind_words at.part references at.number words) references (words_length at.part references at.number words)
+line_length at references (Bytes bytes) = refl
+line_length at references (Entry entry) = refl
+
+references_length : (start : List Reference) (lines : List Settled) → length (references_of start lines) ≡ length start
+references_length start [] = refl
+references_length start (line ∷ before) = line_length line.at (references_of start before) line.outcome ∙ references_length start before
+
+at_line_is : {A : Type 0} (number : ℕ) (answer : Result A AsmCause) (found : A) → at_line number answer ≡ Ok found → answer ≡ Ok found
+at_line_is number (Ok value) found e = cc e
+at_line_is number (Err refused) found e = cc e
+
+-- no more names are listed than a module may have
+record AtMost (lines : List Line) : Type 0 where
+  defs : length (defs lines) ≤ 256
+  refs : length (refs lines) ≤ 256
+
+record Fits (before : List Line) (statement : Statement) : Type 0 where
+  defs : length (defs before ++ defs_in statement) ≤ 256
+  refs : length (refs before ++ refs_in statement) ≤ 256
+
+few : (before names : List (List ℕ)) → has_too_many before names ≡ false → length (before ++ names) ≤ 256
+few before names e = grind (arith, nat_tests, e, length-append before names)
+
+none_more : (before : List (List ℕ)) → length before ≤ 256 → length (before ++ []) ≤ 256
+none_more before le = omega (arith, le, length-append before [])
+
+fits : (before : List Line) (statement : Statement) → AtMost before → lists_too_many (known_of before) statement ≡ false → Fits before statement
+fits before (Def names) most e = record { defs = few (defs before) names e; refs = none_more (refs before) most.refs }
+fits before (Ref names) most e = record { defs = none_more (defs before) most.defs; refs = few (refs before) names e }
+fits before Nothing most e = record { defs = none_more (defs before) most.defs; refs = none_more (refs before) most.refs }
+fits before (Instruction size operation field) most e = record { defs = none_more (defs before) most.defs; refs = none_more (refs before) most.refs }
+fits before (Aorg text) most e = record { defs = none_more (defs before) most.defs; refs = none_more (refs before) most.refs }
+fits before (Rorg text) most e = record { defs = none_more (defs before) most.defs; refs = none_more (refs before) most.refs }
+fits before (Dorg text) most e = record { defs = none_more (defs before) most.defs; refs = none_more (refs before) most.refs }
+fits before (Bss text) most e = record { defs = none_more (defs before) most.defs; refs = none_more (refs before) most.refs }
+fits before (Bes text) most e = record { defs = none_more (defs before) most.defs; refs = none_more (refs before) most.refs }
+fits before Even most e = record { defs = none_more (defs before) most.defs; refs = none_more (refs before) most.refs }
+fits before (Equ text) most e = record { defs = none_more (defs before) most.defs; refs = none_more (refs before) most.refs }
+fits before (Data texts) most e = record { defs = none_more (defs before) most.defs; refs = none_more (refs before) most.refs }
+fits before (ByteLine texts) most e = record { defs = none_more (defs before) most.defs; refs = none_more (refs before) most.refs }
+fits before (Text quoted) most e = record { defs = none_more (defs before) most.defs; refs = none_more (refs before) most.refs }
+fits before (Idt text) most e = record { defs = none_more (defs before) most.defs; refs = none_more (refs before) most.refs }
+fits before (Titl text) most e = record { defs = none_more (defs before) most.defs; refs = none_more (refs before) most.refs }
+fits before (End text) most e = record { defs = none_more (defs before) most.defs; refs = none_more (refs before) most.refs }
+
+line_most : (before : List Line) (number : ℕ) (text : List ℕ) (line : Line) → AtMost before → check before number text ≡ Ok line → AtMost (line ∷ before)
+line_most before number text line most e =
+    let a = bound (checked (known_of before) text) _ line e in
+    let fit = fits before a.0.statement most (checked_few (known_of before) text a.0 a.1) in
+    let same : line_of number a.0 ≡ line = cc a.2 in
+    subst (λ (found : Line). AtMost (found ∷ before)) same (record { defs = fit.defs; refs = fit.refs })
+
+last_by : (b : Bool) (found : Line) (before lines : List Line) (rest : List (ℕ × List ℕ))
+    → (if b then Ok (found ∷ before) else laid_behind check (found ∷ before) rest) ≡ Ok lines
+    → AtMost (found ∷ before) → (laid_behind check (found ∷ before) rest ≡ Ok lines → AtMost (found ∷ before) → AtMost lines) → AtMost lines
+last_by true found before lines rest e most next =
+    let same : found ∷ before ≡ lines = cc e in
+    subst AtMost same most
+last_by false found before lines rest e most next = next e most
+
+laid_most : (texts : List (ℕ × List ℕ)) (before lines : List Line) → laid_behind check before texts ≡ Ok lines → AtMost before → AtMost lines
+laid_most [] before lines e most =
+    let same : before ≡ lines = cc e in
+    subst AtMost same most
+laid_most (text ∷ texts) before lines e most =
+    let a = bound (at_line text.0 (check before text.0 text.1)) _ lines e in
+    last_by a.0.last a.0 before lines texts a.2 (line_most before text.0 text.1 a.0 most (at_line_is text.0 (check before text.0 text.1) a.0 a.1))
+    (λ f more. laid_most texts (a.0 ∷ before) lines f more)
+
+-- and no more words are placed
+room_by : (full overlap : Bool) (line found : Settled) → (if full then Err Overflow else if overlap then Err Overlap else Ok line) ≡ Ok found
+    → (full ≡ false) × (line ≡ found)
+room_by true overlap line found e = cc e
+room_by false true line found e = cc e
+room_by false false line found e = (refl, cc e)
+
+settled_room : (known : Names) (lines : List Line) (found : List Settled) → settled (settle known) lines ≡ Ok found → word_count found ≤ 32768
+settled_room known [] found e =
+    let same : [] ≡ found = cc e in
+    subst (λ (lines : List Settled). word_count lines ≤ 32768) same
+    (omega (arith, count_none (is_word [] part.Relocatable) 0 part_words (λ w. refl), count_none (is_word [] part.Absolute) 0 part_words (λ w. refl)))
+settled_room known (line ∷ before) found e =
+    let a = bound (settled (settle known) before) _ found e in
+    let b = bound (at_line line.number (settle known before a.0 line)) _ found a.2 in
+    let c = bound (outcome (look_up known) (place before line) line.statement) _ b.0 (at_line_is line.number (settle known before a.0 line) b.0 b.1) in
+    let placed : Settled = record { at = place before line; outcome = c.0 } in
+    let d = room_by (nat_lt 32768 (word_count (placed ∷ a.0))) (overlaps a.0 placed) placed b.0 c.2 in
+    let same : b.0 ∷ a.0 ≡ found = cc b.2 in
+    let room : word_count (placed ∷ a.0) ≤ 32768 = grind (arith, nat_tests, d.0) in
+    subst (λ (lines : List Settled). word_count lines ≤ 32768) same (subst (λ (line : Settled). word_count (line ∷ a.0) ≤ 32768) d.1 room)
+
+-- the module of lines has a text
+all_fit : {A : Type 0} (first second : List A) (n m : ℕ) → length first ≡ n → length second ≡ m → n + m ≤ 32768 → length (first ++ second) ≤ 32768
+all_fit first second n m e f le = omega (arith, e, f, le, length-append first second)
+
+same_fit : (n m : ℕ) → n ≡ m → m ≤ 256 → n ≤ 256
+same_fit n m e le = omega (arith, e, le)
+
+module_text : (lines : List Line) (found : List Settled) → AtMost lines → word_count found ≤ 32768 → HasText (module_by lines found)
+module_text lines found most room =
+    let start = map unused (refs lines) in
+    let relocatable = pieces_in (content_at start found part.Relocatable) part.Relocatable in
+    let absolute = pieces_in (content_at start found part.Absolute) part.Absolute in
+    record {
+      even_places = all_append StandsEven relocatable absolute
+          (pieces_even (content_at start found part.Relocatable) part.Relocatable 0 part_words)
+          (pieces_even (content_at start found part.Absolute) part.Absolute 0 part_words);
+      words = all_fit relocatable absolute (words_in found part.Relocatable) (words_in found part.Absolute)
+          (pieces_count start found part.Relocatable) (pieces_count start found part.Absolute) room;
+      defs = same_fit (length (map (definition_in (names lines)) (defs lines))) (length (defs lines)) (length-map {B = Definition} (defs lines) (definition_in (names lines))) most.defs;
+      refs = same_fit (length (references_of start found)) (length (refs lines))
+          (references_length start found ∙ length-map {B = Reference} (refs lines) unused) most.refs;
+    }
+
+pub module_has_text : (texts : List (ℕ × List ℕ)) (m : Module) → module_of texts ≡ Ok m → HasText m
+module_has_text texts m e =
+    let a = bound (laid check texts) _ m e in
+    let b = bound (settled (settle (names a.0)) a.0) _ m a.2 in
+    let same : module_by a.0 b.0 ≡ m = cc b.2 in
+    subst HasText same
+    (module_text a.0 b.0 (laid_most texts [] a.0 a.1 (record { defs = omega arith; refs = omega arith })) (settled_room (names a.0) a.0 b.0 b.1))
