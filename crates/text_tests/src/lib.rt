@@ -1,5 +1,5 @@
-//! Cases of lines, expressions, instruction lines, object text, images and streams, worked out by hand. The crate holds tests
-//! alone, so that the crates below it are proved once.
+//! Cases of lines, expressions, instruction lines, modules, object text, images and streams, worked out by hand. The crate
+//! holds tests alone, so that the crates below it are proved once.
 #![tactic(auto)]
 
 #[cfg(test)]
@@ -8,6 +8,8 @@ mod expressions;
 mod images;
 #[cfg(test)]
 mod instruction_lines;
+#[cfg(test)]
+mod modules;
 #[cfg(test)]
 mod object_text;
 #[cfg(test)]

@@ -41,6 +41,8 @@ macro_rules! word {
     };
 }
 
+pub(crate) use word;
+
 /// The words of the module of four.
 const FOUR: &[Piece] = &[
     word!(Relocatable 0, Absolute 0x0201),
