@@ -1,6 +1,6 @@
 //! The calls of a builder.
 
-ghost use Rattle.std.specs.Prelude.{◌≡◌, ◌↔◌, ℕ, false, List, [], length};
+ghost use Rattle.std.specs.Prelude.{◌≡◌, ◌↔◌, ◌<◌, ◌-◌, ◌^◌, ℕ, false, List, [], length};
 ghost use Rattle.module_defs.specs.Modules.{module_of_lines, title};
 ghost use Rattle.asm_core.specs.Building.{HasTaken, IsOpen, CanCount, has_ended};
 ghost use Rattle.asm_core.specs.Finishing.{TakesText, GivesModule};
@@ -58,9 +58,10 @@ impl AsmLines {
         self.ended
     }
 
-    /// How many lines were taken.
+    /// How many lines were taken. One more can be taken while they are fewer than 2^32 - 1.
     pub fn taken(&self) -> u32
-        ensures { (texts : List (List ℕ)) → HasTaken texts self.now → result ≡ length texts }
+        ensures taken { (texts : List (List ℕ)) → HasTaken texts self.now → result ≡ length texts }
+        ensures count { (result < 2 ^ 32 - 1) ↔ CanCount self.now }
     {
         self.taken
     }

@@ -124,15 +124,25 @@ fn refuses_sources(rt: HostRuntime) -> Result<(), Fail> {
     Ok(())
 }
 
-#[test]
-fn takes_a_line(rt: HostRuntime) -> Result<(), Fail> {
-    let mut builder = AsmLines::new(rt.alloc());
-    assert!(rt; builder.line(b" DATA Q").is_ok());
-    assert!(rt; builder.taken() == 1 && !builder.is_ended());
+/// A builder that has taken a line whose name is not known yet, and then refuses one.
+fn refuses_a_line(alloc: Global) -> bool {
+    let mut builder = AsmLines::new(alloc);
+    if builder.line(b" DATA Q").is_err() || builder.is_ended() || builder.taken() != 1 {
+        return false;
+    }
+    let cause = AsmCause::Form(FormError::UnknownOperation);
+    if builder.line(b" FOO") != Err(AsmError::At { line: 2, cause }) || builder.taken() != 1 {
+        return false;
+    }
     let cause = AsmCause::Expr(ExprError::UnknownName);
     match builder.finish() {
-        Ok(_) => assert!(rt; false),
-        Err(error) => assert!(rt; error == AsmError::At { line: 1, cause }),
+        Ok(_) => false,
+        Err(error) => error == AsmError::At { line: 1, cause },
     }
+}
+
+#[test]
+fn takes_lines_one_at_a_time(rt: HostRuntime) -> Result<(), Fail> {
+    assert!(rt; refuses_a_line(rt.alloc()));
     Ok(())
 }
