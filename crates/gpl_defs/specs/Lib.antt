@@ -1,4 +1,5 @@
 pub mod Codes
+pub mod Valid
 pub mod Bytes
 pub mod Image
 pub mod Statements
