@@ -49,9 +49,12 @@ abbrev pub address_at : ℕ → List ℕ → ℕ → ℕ × ℕ
 address_at first image at =
     if first % 16 == 15 then word_at image at else (join (first % 16) (slice_index image at), next_in_grom at)
 
+abbrev pub index_by : Bool → List ℕ → ℕ → Option ℕ × ℕ
+index_by true image at = (Some (slice_index image at), next_in_grom at)
+index_by false image at = (None, at)
+
 abbrev pub index_at : ℕ → List ℕ → ℕ → Option ℕ × ℕ
-index_at first image at =
-    if first / 64 % 2 == 1 then (Some (slice_index image at), next_in_grom at) else (None, at)
+index_at first image at = index_by (first / 64 % 2 == 1) image at
 
 abbrev pub with_index : ℕ → ℕ → Option ℕ × ℕ → GplOperand × ℕ
 with_index first address index = (
