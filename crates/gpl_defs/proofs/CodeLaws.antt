@@ -197,3 +197,42 @@ found_at operation code from below =
     let variant : code - (row_of operation).code < (row_of operation).count = omega arith in
     let there : (row_of operation).code + (code - (row_of operation).code) ≡ code = omega arith in
     rw there at (found operation (code - (row_of operation).code) variant)
+
+-- the code bytes of a row are bytes
+
+plain_ends : (op : PlainOp) → (plain_row op).code + (plain_row op).count ≤ 256
+plain_ends RTN = omega arith
+plain_ends _ = omega arith
+
+byte_ends : (op : ByteOp) → (byte_row op).code + (byte_row op).count ≤ 256
+byte_ends RAND = omega arith
+byte_ends _ = omega arith
+
+go_ends : (op : GoOp) → (go_row op).code + (go_row op).count ≤ 256
+go_ends B = omega arith
+go_ends _ = omega arith
+
+branch_ends : (on : Bool) → (branch_row on).code + (branch_row on).count ≤ 256
+branch_ends false = omega arith
+branch_ends true = omega arith
+
+one_ends : (op : OneName) → (one_row op).code + (one_row op).count ≤ 256
+one_ends ABS = omega arith
+one_ends _ = omega arith
+
+two_ends : (op : TwoName) → (two_row op).code + (two_row op).count ≤ 256
+two_ends ADD = omega arith
+two_ends _ = omega arith
+
+move_ends : (kind : MoveKind) → (move_row kind).code + (move_row kind).count ≤ 256
+move_ends GromToMemory = omega arith
+move_ends _ = omega arith
+
+pub row_ends : (operation : GplOperation) → (row_of operation).code + (row_of operation).count ≤ 256
+row_ends (Plain op) = plain_ends op
+row_ends (Byte op) = byte_ends op
+row_ends (Jump op) = go_ends op
+row_ends (Branch on) = branch_ends on
+row_ends (One op) = one_ends op
+row_ends (Two op) = two_ends op
+row_ends (Move kind) = move_ends kind
