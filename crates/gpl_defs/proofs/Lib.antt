@@ -2,5 +2,6 @@ pub mod CodeLaws
 pub mod StandLaws
 pub mod OperandLaws
 pub mod InstrLaws
+pub mod ReadLaws
 pub mod ImageLaws
 pub mod LayoutLaws

@@ -1,0 +1,123 @@
+-- What is read at an address is spelled there.
+use Rattle.std.proofs.Common.{◌≡◌, ℕ, ◌+◌, ◌*◌, ◌/◌, ◌%◌, ◌<◌, ◌≤◌, Bool, true, false, ◌&&◌, ◌||◌, not, eqb, ltb, List, [], ◌∷◌}
+use Rattle.std.proofs.Common.{◌++◌, refl, sym, ap, ◌∙◌, arith, Option, Some, None, length}
+use Rattle.std.specs.Prelude.{◌==◌, if◌then◌else◌, nat_lt, slice_index, IsTrue}
+use Rattle.std.proofs.lemmas.Bool.Decides.{nat_tests}
+use Rattle.console_defs.specs.Words.{high, low, join}
+use Rattle.console_defs.specs.Grom.{next_in_grom}
+use Rattle.gpl_defs.specs.declared.instruction.GplOperand.{GplOperand}
+use Rattle.gpl_defs.specs.declared.instruction.GplSource.{GplSource}
+use Rattle.gpl_defs.specs.declared.instruction.GplSource.TheVariants as source
+use Rattle.gpl_defs.specs.declared.instruction.MoveLength.{MoveLength}
+use Rattle.gpl_defs.specs.declared.instruction.MoveLength.TheVariants as length
+use Rattle.gpl_defs.specs.declared.instruction.MoveTarget.{MoveTarget}
+use Rattle.gpl_defs.specs.declared.instruction.MoveTarget.TheVariants as target
+use Rattle.gpl_defs.specs.declared.instruction.MoveSource.{MoveSource}
+use Rattle.gpl_defs.specs.declared.instruction.MoveSource.TheVariants as from
+use Rattle.gpl_defs.specs.declared.instruction.MoveKind.{MoveKind}
+use Rattle.gpl_defs.specs.declared.instruction.MoveKind.TheVariants.{
+  GromToMemory,
+  GromIndexedToMemory,
+  MemoryToMemory,
+  GromToRegisters,
+}
+use Rattle.gpl_defs.specs.declared.instruction.PlainOp.{PlainOp}
+use Rattle.gpl_defs.specs.declared.instruction.PlainOp.TheVariants.{RTN}
+use Rattle.gpl_defs.specs.declared.instruction.ByteOp.{ByteOp}
+use Rattle.gpl_defs.specs.declared.instruction.ByteOp.TheVariants.{RAND}
+use Rattle.gpl_defs.specs.declared.instruction.GoOp.{GoOp}
+use Rattle.gpl_defs.specs.declared.instruction.GoOp.TheVariants.{B}
+use Rattle.gpl_defs.specs.declared.instruction.OneName.{OneName}
+use Rattle.gpl_defs.specs.declared.instruction.OneName.TheVariants.{FETCH, PUSH}
+use Rattle.gpl_defs.specs.declared.instruction.TwoName.{TwoName}
+use Rattle.gpl_defs.specs.declared.instruction.TwoName.TheVariants.{EX}
+use Rattle.gpl_defs.specs.declared.instruction.GplInstr.{GplInstr}
+use Rattle.gpl_defs.specs.declared.instruction.GplInstr.TheVariants.{Plain, Byte, Jump, Branch, One, Two, Move}
+use Rattle.gpl_defs.specs.declared.instruction.GplOperation.{GplOperation}
+use Rattle.gpl_defs.specs.declared.instruction.GplOperation.TheVariants as operation
+use Rattle.gpl_defs.specs.declared.instruction.GplRead.{GplRead}
+use Rattle.gpl_defs.specs.declared.instruction.GplRead.TheVariants.{Instr, Refused}
+use Rattle.gpl_defs.specs.Codes.{row_of, plain_row, byte_row, go_row, branch_row, one_row, two_row, move_row, operation_at}
+use Rattle.gpl_defs.specs.Valid.{is_valid, is_valid_source, is_valid_move, has_words, has_immediate}
+use Rattle.gpl_defs.specs.Bytes.{one_if, word_bytes, value_bytes, from_bytes, kind_of, operation_of, is_immediate, is_counted}
+use Rattle.gpl_defs.specs.Bytes.{variant_of, code_of}
+use Rattle.gpl_defs.specs.Spellings.{SpellsOperand, SpellsSource, SpellsLength, SpellsTarget, SpellsFrom, SpellsRest, Spells}
+use Rattle.gpl_defs.specs.Spellings.{Stand, Holds, Joined, Means}
+use Rattle.gpl_defs.specs.Reading.{word_at, value_at, source_at, length_at, target_at, from_at, move_at, instr_at, operand_at}
+use Rattle.gpl_defs.specs.Reading.{read_by, reading}
+use Rattle.gpl_defs.specs.Codes.{has_code}
+use Rattle.gpl_defs.specs.Reading.{read_as}
+use Rattle.gpl_defs.proofs.CodeLaws.{rows_fit, row_fits}
+use Rattle.gpl_defs.proofs.StandLaws.{holds_join}
+use Rattle.gpl_defs.proofs.OperandLaws.{operand_read}
+
+module _ (image : List ℕ) (fits : (k : ℕ) → slice_index image k < 256) where
+  word_read : (at : ℕ) → Stand image (word_bytes (word_at image at).0) at (word_at image at).1
+  word_read at =
+      let lt = fits at in
+      let lt_too = fits (next_in_grom at) in
+      let top : high (word_at image at).0 ≡ slice_index image at = omega arith in
+      let below : low (word_at image at).0 ≡ slice_index image (next_in_grom at) = omega arith in
+      (sym top, (sym below, refl))
+
+  value_read : (word : Bool) (at : ℕ) → Stand image (value_bytes word (value_at word image at).0) at (value_at word image at).1
+  value_read true at = word_read at
+  value_read false at = (refl, refl)
+
+  source_read : (immediate word : Bool) (at : ℕ) →
+      Holds (SpellsSource word (source_at immediate word image at).0) image at (source_at immediate word image at).1
+  source_read true word at =
+      record { bytes = value_bytes word (value_at word image at).0; is_kind = refl; stand = value_read word at }
+  source_read false word at = operand_read image at fits
+
+  length_read : (immediate : Bool) (at : ℕ) →
+      Holds (SpellsLength (length_at immediate image at).0) image at (length_at immediate image at).1
+  length_read true at = record { bytes = word_bytes (word_at image at).0; is_kind = refl; stand = word_read at }
+  length_read false at = operand_read image at fits
+
+  target_read : (kind : MoveKind) (at : ℕ) →
+      Holds (SpellsTarget (target_at kind image at).0) image at (target_at kind image at).1
+  target_read GromToRegisters at =
+      record { bytes = slice_index image at ∷ []; is_kind = refl; stand = (refl, refl) }
+  target_read GromToMemory at = operand_read image at fits
+  target_read GromIndexedToMemory at = operand_read image at fits
+  target_read MemoryToMemory at = operand_read image at fits
+
+  from_read : (kind : MoveKind) (at : ℕ) → Holds (SpellsFrom (from_at kind image at).0) image at (from_at kind image at).1
+  from_read MemoryToMemory at = operand_read image at fits
+  from_read GromIndexedToMemory at =
+      let address = word_read at in
+      record {
+        bytes = from_bytes (from_at GromIndexedToMemory image at).0;
+        is_kind = refl;
+        stand = (address.0, (address.1.0, (refl, refl)));
+      }
+  from_read GromToMemory at = record { bytes = word_bytes (word_at image at).0; is_kind = refl; stand = word_read at }
+  from_read GromToRegisters at =
+      record { bytes = word_bytes (word_at image at).0; is_kind = refl; stand = word_read at }
+
+  move_read : (kind : MoveKind) (immediate : Bool) (at : ℕ) →
+      Holds (SpellsRest (move_at kind immediate image at).0) image at (move_at kind immediate image at).1
+  move_read kind immediate at =
+      let count = length_at immediate image at in
+      let to = target_at kind image count.1 in
+      holds_join image at count.1 (move_at kind immediate image at).1 (length_read immediate at)
+      (holds_join image count.1 to.1 (move_at kind immediate image at).1 (target_read kind count.1) (from_read kind to.1))
+
+  rest_read : (operation : GplOperation) (code at : ℕ) →
+      Holds (SpellsRest (instr_at operation code image at).0) image at (instr_at operation code image at).1
+  rest_read (operation.Plain op) code at = record { bytes = []; is_kind = refl; stand = refl }
+  rest_read (operation.Byte op) code at =
+      record { bytes = slice_index image at ∷ []; is_kind = refl; stand = (refl, refl) }
+  rest_read (operation.Jump op) code at =
+      record { bytes = word_bytes (word_at image at).0; is_kind = refl; stand = word_read at }
+  rest_read (operation.Branch on) code at =
+      let lt = fits at in
+      let below : low (join (code % 32) (slice_index image at)) ≡ slice_index image at = omega arith in
+      record { bytes = low (join (code % 32) (slice_index image at)) ∷ []; is_kind = refl; stand = (sym below, refl) }
+  rest_read (operation.One op) code at = operand_read image at fits
+  rest_read (operation.Two op) code at =
+      let dst = operand_at image at in
+      holds_join image at dst.1 (instr_at (operation.Two op) code image at).1 (operand_read image at fits)
+      (source_read (code / 2 % 2 == 1) (code % 2 == 1) dst.1)
+  rest_read (operation.Move kind) code at = move_read kind (code % 2 == 1) at
