@@ -1,5 +1,5 @@
 -- What is read at an address is spelled there.
-use Rattle.std.proofs.Common.{◌≡◌, ℕ, ◌+◌, ◌*◌, ◌/◌, ◌%◌, ◌<◌, ◌≤◌, Bool, true, false, ◌&&◌, ◌||◌, not, eqb, ltb, List, [], ◌∷◌}
+use Rattle.std.proofs.Common.{◌≡◌, ℕ, zero, suc, ◌+◌, ◌*◌, ◌/◌, ◌%◌, ◌<◌, ◌≤◌, Bool, true, false, ◌&&◌, ◌||◌, not, eqb, List, [], ◌∷◌}
 use Rattle.std.proofs.Common.{◌++◌, refl, sym, ap, ◌∙◌, arith, Option, Some, None, length}
 use Rattle.std.specs.Prelude.{◌==◌, if◌then◌else◌, nat_lt, slice_index, IsTrue}
 use Rattle.std.proofs.lemmas.Bool.Decides.{nat_tests}
@@ -121,3 +121,74 @@ module _ (image : List ℕ) (fits : (k : ℕ) → slice_index image k < 256) whe
       holds_join image at dst.1 (instr_at (operation.Two op) code image at).1 (operand_read image at fits)
       (source_read (code / 2 % 2 == 1) (code % 2 == 1) dst.1)
   rest_read (operation.Move kind) code at = move_read kind (code % 2 == 1) at
+
+  -- ---- the code byte that was read is that of the instruction
+
+  bit_is : (n : ℕ) → n < 2 → one_if (n == 1) ≡ n
+  bit_is zero lt = refl
+  bit_is (suc zero) lt = refl
+  bit_is (suc (suc n)) lt = absurd (omega arith)
+
+  immediate_is : (immediate word : Bool) (at : ℕ) → is_immediate (source_at immediate word image at).0 ≡ immediate
+  immediate_is true word at = refl
+  immediate_is false word at = refl
+
+  counted_is : (immediate : Bool) (at : ℕ) → is_counted (length_at immediate image at).0 ≡ immediate
+  counted_is true at = refl
+  counted_is false at = refl
+
+  kind_is : (kind : MoveKind) (at behind : ℕ) → kind_of (target_at kind image at).0 (from_at kind image behind).0 ≡ kind
+  kind_is GromToMemory at behind = refl
+  kind_is GromIndexedToMemory at behind = refl
+  kind_is MemoryToMemory at behind = refl
+  kind_is GromToRegisters at behind = refl
+
+  code_read : (operation : GplOperation) (code at : ℕ) → row_fits (Some operation) code ≡ true →
+      code_of (instr_at operation code image at).0 ≡ code
+  code_read (operation.Plain op) code at fit = grind (arith, nat_tests)
+  code_read (operation.Byte op) code at fit = grind (arith, nat_tests)
+  code_read (operation.Jump op) code at fit = grind (arith, nat_tests)
+  code_read (operation.Branch on) code at fit =
+      let lt = fits at in
+      let top : high (join (code % 32) (slice_index image at)) ≡ code % 32 = omega arith in
+      rw top (grind (arith, nat_tests))
+  code_read (operation.One op) code at fit = rw (bit_is (code % 2) (omega arith)) (grind (arith, nat_tests))
+  code_read (operation.Two op) code at fit =
+      rw (
+        immediate_is (code / 2 % 2 == 1) (code % 2 == 1) (operand_at image at).1,
+        bit_is (code / 2 % 2) (omega arith),
+        bit_is (code % 2) (omega arith),
+      ) (grind (arith, nat_tests))
+  code_read (operation.Move kind) code at fit =
+      let count = length_at (code % 2 == 1) image at in
+      let to = target_at kind image count.1 in
+      rw (kind_is kind count.1 to.1, counted_is (code % 2 == 1) at, bit_is (code % 2) (omega arith))
+      (grind (arith, nat_tests))
+
+  -- ---- what is read is valid
+
+  valid_source : (op : TwoName) (immediate word : Bool) (at : ℕ) → (has_immediate op || not immediate) ≡ true →
+      IsTrue (is_valid_source op word (source_at immediate word image at).0)
+  valid_source op false word at may = refl
+  valid_source op true true at may = grind (arith, nat_tests)
+  valid_source op true false at may = let lt = fits at in grind (arith, nat_tests)
+
+  valid_move : (kind : MoveKind) (at behind : ℕ) →
+      IsTrue (is_valid_move (target_at kind image at).0 (from_at kind image behind).0)
+  valid_move GromToMemory at behind = refl
+  valid_move GromIndexedToMemory at behind = refl
+  valid_move MemoryToMemory at behind = refl
+  valid_move GromToRegisters at behind = refl
+
+  valid_read : (operation : GplOperation) (code at : ℕ) → row_fits (Some operation) code ≡ true →
+      IsTrue (is_valid (instr_at operation code image at).0)
+  valid_read (operation.Plain op) code at fit = refl
+  valid_read (operation.Byte op) code at fit = refl
+  valid_read (operation.Jump op) code at fit = refl
+  valid_read (operation.Branch on) code at fit = let lt = fits at in grind (arith, nat_tests)
+  valid_read (operation.One op) code at fit = grind (arith, nat_tests)
+  valid_read (operation.Two op) code at fit =
+      valid_source op (code / 2 % 2 == 1) (code % 2 == 1) (operand_at image at).1 (grind (arith, nat_tests))
+  valid_read (operation.Move kind) code at fit =
+      let count = length_at (code % 2 == 1) image at in
+      valid_move kind count.1 (target_at kind image count.1).1
