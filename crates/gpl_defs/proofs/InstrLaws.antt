@@ -1,7 +1,7 @@
 -- An instruction is read from each of its spellings, and what is read is spelled there.
-use Rattle.std.proofs.Common.{◌≡◌, ℕ, zero, suc, ◌+◌, ◌*◌, ◌/◌, ◌%◌, ◌<◌, ◌≤◌, Bool, true, false, ◌&&◌, ◌||◌, not, eqb, ltb}
-use Rattle.std.proofs.Common.{List, [], ◌∷◌, ◌++◌, refl, sym, ap, ◌∙◌, arith, Option, Some, None, length}
-use Rattle.std.specs.Prelude.{◌==◌, if◌then◌else◌, nat_lt, slice_index, IsTrue}
+use Rattle.std.proofs.Common.{◌≡◌, ℕ, ◌+◌, ◌*◌, ◌/◌, ◌%◌, ◌<◌, Bool, true, false, ◌||◌, not}
+use Rattle.std.proofs.Common.{List, [], ◌∷◌, refl, ap, ◌∙◌, arith, Some}
+use Rattle.std.specs.Prelude.{◌==◌, slice_index, IsTrue}
 use Rattle.std.proofs.lemmas.Bool.Decides.{nat_tests}
 use Rattle.console_defs.specs.Words.{high, low, join}
 use Rattle.console_defs.specs.Grom.{next_in_grom}
@@ -15,12 +15,7 @@ use Rattle.gpl_defs.specs.declared.instruction.MoveTarget.TheVariants as target
 use Rattle.gpl_defs.specs.declared.instruction.MoveSource.{MoveSource}
 use Rattle.gpl_defs.specs.declared.instruction.MoveSource.TheVariants as from
 use Rattle.gpl_defs.specs.declared.instruction.MoveKind.{MoveKind}
-use Rattle.gpl_defs.specs.declared.instruction.MoveKind.TheVariants.{
-  GromToMemory,
-  GromIndexedToMemory,
-  MemoryToMemory,
-  GromToRegisters,
-}
+use Rattle.gpl_defs.specs.declared.instruction.MoveKind.TheVariants.{GromToMemory}
 use Rattle.gpl_defs.specs.declared.instruction.PlainOp.{PlainOp}
 use Rattle.gpl_defs.specs.declared.instruction.PlainOp.TheVariants.{RTN}
 use Rattle.gpl_defs.specs.declared.instruction.ByteOp.{ByteOp}
@@ -33,21 +28,18 @@ use Rattle.gpl_defs.specs.declared.instruction.TwoName.{TwoName}
 use Rattle.gpl_defs.specs.declared.instruction.TwoName.TheVariants.{EX}
 use Rattle.gpl_defs.specs.declared.instruction.GplInstr.{GplInstr}
 use Rattle.gpl_defs.specs.declared.instruction.GplInstr.TheVariants.{Plain, Byte, Jump, Branch, One, Two, Move}
-use Rattle.gpl_defs.specs.declared.instruction.GplOperation.{GplOperation}
-use Rattle.gpl_defs.specs.declared.instruction.GplOperation.TheVariants as operation
-use Rattle.gpl_defs.specs.declared.instruction.GplRead.{GplRead}
-use Rattle.gpl_defs.specs.declared.instruction.GplRead.TheVariants.{Instr, Refused}
+use Rattle.gpl_defs.specs.declared.instruction.GplRead.TheVariants.{Instr}
 use Rattle.gpl_defs.specs.Codes.{row_of, plain_row, byte_row, go_row, branch_row, one_row, two_row, move_row, operation_at}
-use Rattle.gpl_defs.specs.Valid.{is_valid, is_valid_source, is_valid_move, has_words, has_immediate}
+use Rattle.gpl_defs.specs.Valid.{is_valid, is_valid_source, is_valid_move, has_words}
 use Rattle.gpl_defs.specs.Bytes.{one_if, word_bytes, value_bytes, from_bytes, kind_of, operation_of, is_immediate, is_counted}
 use Rattle.gpl_defs.specs.Bytes.{variant_of, code_of}
-use Rattle.gpl_defs.specs.Spellings.{SpellsOperand, SpellsSource, SpellsLength, SpellsTarget, SpellsFrom, SpellsRest, Spells}
+use Rattle.gpl_defs.specs.Spellings.{SpellsSource, SpellsLength, SpellsTarget, SpellsFrom, SpellsRest}
 use Rattle.gpl_defs.specs.Spellings.{Stand, Holds, Joined, Means}
 use Rattle.gpl_defs.specs.Reading.{word_at, value_at, source_at, length_at, target_at, from_at, move_at, instr_at, operand_at}
-use Rattle.gpl_defs.specs.Reading.{read_by, reading}
+use Rattle.gpl_defs.specs.Reading.{reading}
 use Rattle.gpl_defs.proofs.CodeLaws.{found, rows_fit, row_fits, row_ends}
-use Rattle.gpl_defs.proofs.StandLaws.{holds_join, holds_part}
-use Rattle.gpl_defs.proofs.OperandLaws.{operand_back, operand_read}
+use Rattle.gpl_defs.proofs.StandLaws.{holds_part}
+use Rattle.gpl_defs.proofs.OperandLaws.{operand_back}
 
 -- ---- from the spelling to what is read
 

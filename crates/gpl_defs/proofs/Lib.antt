@@ -3,5 +3,7 @@ pub mod StandLaws
 pub mod OperandLaws
 pub mod InstrLaws
 pub mod ReadLaws
+pub mod ShortLaws
+pub mod MeaningLaws
 pub mod ImageLaws
 pub mod LayoutLaws

@@ -1,17 +1,17 @@
 -- An operand is read from each of its spellings, and what is read is spelled there.
-use Rattle.std.proofs.Common.{◌≡◌, ℕ, zero, suc, ◌+◌, ◌*◌, ◌/◌, ◌%◌, ◌<◌, ◌≤◌, Bool, true, false, ◌&&◌, not, eqb, ltb, List, [], ◌∷◌, ◌++◌}
-use Rattle.std.proofs.Common.{refl, sym, ap, ◌∙◌, arith, Option, Some, None, length}
-use Rattle.std.specs.Prelude.{◌==◌, if◌then◌else◌, nat_lt, slice_index, IsTrue, is_some, is_none}
+use Rattle.std.proofs.Common.{◌≡◌, ℕ, zero, suc, ◌+◌, ◌*◌, ◌/◌, ◌%◌, ◌<◌, ◌≤◌, Bool, true, false, List, [], ◌∷◌}
+use Rattle.std.proofs.Common.{refl, arith, Option, Some, None}
+use Rattle.std.specs.Prelude.{◌==◌, if◌then◌else◌, nat_lt, slice_index, IsTrue, is_some}
 use Rattle.std.proofs.lemmas.Bool.Decides.{nat_tests}
 use Rattle.console_defs.specs.Words.{high, low, join}
 use Rattle.console_defs.specs.Grom.{next_in_grom}
 use Rattle.gpl_defs.specs.declared.instruction.Space.{Space}
 use Rattle.gpl_defs.specs.declared.instruction.Space.TheVariants.{Cpu, Vdp}
 use Rattle.gpl_defs.specs.declared.instruction.GplOperand.{GplOperand}
-use Rattle.gpl_defs.specs.Bytes.{one_if, is_vdp, form_bits, index_bytes, in_twelve_bits, in_sixteen_bits}
-use Rattle.gpl_defs.specs.Bytes.{fits_one_byte, fits_twelve_bits, operand_bytes}
+use Rattle.gpl_defs.specs.Bytes.{one_if, is_vdp, form_bits, index_bytes}
+use Rattle.gpl_defs.specs.Bytes.{fits_one_byte}
 use Rattle.gpl_defs.specs.Spellings.{Spelling, OneByte, TwelveBits, SixteenBits, may_have, spelled, SpellsOperand, Stand, Holds}
-use Rattle.gpl_defs.specs.Reading.{space_of, space_at, address_at, index_by, index_at, with_index, with_address, plain_operand, word_at}
+use Rattle.gpl_defs.specs.Reading.{space_of, address_at, index_by, index_at, with_index, with_address, plain_operand, word_at}
 use Rattle.gpl_defs.specs.Reading.{operand_from, operand_at}
 
 -- the bits of the first byte of an operand, by what it says
@@ -62,8 +62,7 @@ rest_back : (image : List ℕ) (operand : GplOperand) (first top at next : ℕ) 
     Stand image (index_bytes operand.index) at next →
     with_address first image (operand.address, at) ≡ (operand, next)
 rest_back image operand first top at next bits stands =
-    rw
-    (
+    rw (
       index_back image operand.index first at next bits.index_bit stands,
       bits.vdp_bit,
       bits.indirect_bit,
@@ -205,9 +204,9 @@ twelve_read image at from lt second_lt short =
         spelling = TwelveBits;
         allowed = grind (arith, nat_tests);
         is =
-        (let top : high (join (first % 16) second) ≡ first % 16 = omega arith in
-        let below : low (join (first % 16) second) ≡ second = omega arith in
-        rw (top, below, form) refl);
+            (let top : high (join (first % 16) second) ≡ first % 16 = omega arith in
+            let below : low (join (first % 16) second) ≡ second = omega arith in
+            rw (top, below, form) refl);
       };
       stand = (refl, (refl, index_read (first / 64 % 2 == 1) image (next_in_grom (next_in_grom at))));
     }
@@ -228,10 +227,10 @@ sixteen_read image at from lt second_lt third_lt ones =
         spelling = SixteenBits;
         allowed = refl;
         is =
-        (let top : high (join second third) ≡ second = omega arith in
-        let below : low (join second third) ≡ third = omega arith in
-        let sum : form_bits (long image first (join second third) behind) + 15 ≡ first = omega arith in
-        rw (top, below, sum) refl);
+            (let top : high (join second third) ≡ second = omega arith in
+            let below : low (join second third) ≡ third = omega arith in
+            let sum : form_bits (long image first (join second third) behind) + 15 ≡ first = omega arith in
+            rw (top, below, sum) refl);
       };
       stand = (refl, (refl, (refl, index_read (first / 64 % 2 == 1) image behind)));
     }

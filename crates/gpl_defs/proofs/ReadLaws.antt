@@ -1,19 +1,10 @@
 -- What is read at an address is spelled there.
-use Rattle.std.proofs.Common.{◌≡◌, ℕ, zero, suc, ◌+◌, ◌*◌, ◌/◌, ◌%◌, ◌<◌, ◌≤◌, Bool, true, false, ◌&&◌, ◌||◌, not, eqb, List, [], ◌∷◌}
-use Rattle.std.proofs.Common.{◌++◌, refl, sym, ap, ◌∙◌, arith, Option, Some, None, length}
-use Rattle.std.specs.Prelude.{◌==◌, if◌then◌else◌, nat_lt, slice_index, IsTrue}
+use Rattle.std.proofs.Common.{◌≡◌, ℕ, zero, suc, ◌/◌, ◌%◌, ◌<◌, Bool, true, false, ◌||◌, not, List, [], ◌∷◌}
+use Rattle.std.proofs.Common.{refl, sym, ap, arith, Some}
+use Rattle.std.specs.Prelude.{◌==◌, slice_index, IsTrue}
 use Rattle.std.proofs.lemmas.Bool.Decides.{nat_tests}
 use Rattle.console_defs.specs.Words.{high, low, join}
 use Rattle.console_defs.specs.Grom.{next_in_grom}
-use Rattle.gpl_defs.specs.declared.instruction.GplOperand.{GplOperand}
-use Rattle.gpl_defs.specs.declared.instruction.GplSource.{GplSource}
-use Rattle.gpl_defs.specs.declared.instruction.GplSource.TheVariants as source
-use Rattle.gpl_defs.specs.declared.instruction.MoveLength.{MoveLength}
-use Rattle.gpl_defs.specs.declared.instruction.MoveLength.TheVariants as length
-use Rattle.gpl_defs.specs.declared.instruction.MoveTarget.{MoveTarget}
-use Rattle.gpl_defs.specs.declared.instruction.MoveTarget.TheVariants as target
-use Rattle.gpl_defs.specs.declared.instruction.MoveSource.{MoveSource}
-use Rattle.gpl_defs.specs.declared.instruction.MoveSource.TheVariants as from
 use Rattle.gpl_defs.specs.declared.instruction.MoveKind.{MoveKind}
 use Rattle.gpl_defs.specs.declared.instruction.MoveKind.TheVariants.{
   GromToMemory,
@@ -21,33 +12,16 @@ use Rattle.gpl_defs.specs.declared.instruction.MoveKind.TheVariants.{
   MemoryToMemory,
   GromToRegisters,
 }
-use Rattle.gpl_defs.specs.declared.instruction.PlainOp.{PlainOp}
-use Rattle.gpl_defs.specs.declared.instruction.PlainOp.TheVariants.{RTN}
-use Rattle.gpl_defs.specs.declared.instruction.ByteOp.{ByteOp}
-use Rattle.gpl_defs.specs.declared.instruction.ByteOp.TheVariants.{RAND}
-use Rattle.gpl_defs.specs.declared.instruction.GoOp.{GoOp}
-use Rattle.gpl_defs.specs.declared.instruction.GoOp.TheVariants.{B}
-use Rattle.gpl_defs.specs.declared.instruction.OneName.{OneName}
-use Rattle.gpl_defs.specs.declared.instruction.OneName.TheVariants.{FETCH, PUSH}
 use Rattle.gpl_defs.specs.declared.instruction.TwoName.{TwoName}
-use Rattle.gpl_defs.specs.declared.instruction.TwoName.TheVariants.{EX}
-use Rattle.gpl_defs.specs.declared.instruction.GplInstr.{GplInstr}
-use Rattle.gpl_defs.specs.declared.instruction.GplInstr.TheVariants.{Plain, Byte, Jump, Branch, One, Two, Move}
 use Rattle.gpl_defs.specs.declared.instruction.GplOperation.{GplOperation}
 use Rattle.gpl_defs.specs.declared.instruction.GplOperation.TheVariants as operation
-use Rattle.gpl_defs.specs.declared.instruction.GplRead.{GplRead}
-use Rattle.gpl_defs.specs.declared.instruction.GplRead.TheVariants.{Instr, Refused}
-use Rattle.gpl_defs.specs.Codes.{row_of, plain_row, byte_row, go_row, branch_row, one_row, two_row, move_row, operation_at}
-use Rattle.gpl_defs.specs.Valid.{is_valid, is_valid_source, is_valid_move, has_words, has_immediate}
+use Rattle.gpl_defs.specs.Valid.{is_valid, is_valid_source, is_valid_move, has_immediate}
 use Rattle.gpl_defs.specs.Bytes.{one_if, word_bytes, value_bytes, from_bytes, kind_of, operation_of, is_immediate, is_counted}
-use Rattle.gpl_defs.specs.Bytes.{variant_of, code_of}
-use Rattle.gpl_defs.specs.Spellings.{SpellsOperand, SpellsSource, SpellsLength, SpellsTarget, SpellsFrom, SpellsRest, Spells}
-use Rattle.gpl_defs.specs.Spellings.{Stand, Holds, Joined, Means}
+use Rattle.gpl_defs.specs.Bytes.{code_of}
+use Rattle.gpl_defs.specs.Spellings.{SpellsSource, SpellsLength, SpellsTarget, SpellsFrom, SpellsRest}
+use Rattle.gpl_defs.specs.Spellings.{Stand, Holds}
 use Rattle.gpl_defs.specs.Reading.{word_at, value_at, source_at, length_at, target_at, from_at, move_at, instr_at, operand_at}
-use Rattle.gpl_defs.specs.Reading.{read_by, reading}
-use Rattle.gpl_defs.specs.Codes.{has_code}
-use Rattle.gpl_defs.specs.Reading.{read_as}
-use Rattle.gpl_defs.proofs.CodeLaws.{rows_fit, row_fits}
+use Rattle.gpl_defs.proofs.CodeLaws.{row_fits}
 use Rattle.gpl_defs.proofs.StandLaws.{holds_join}
 use Rattle.gpl_defs.proofs.OperandLaws.{operand_read}
 
@@ -104,7 +78,7 @@ module _ (image : List ℕ) (fits : (k : ℕ) → slice_index image k < 256) whe
       holds_join image at count.1 (move_at kind immediate image at).1 (length_read immediate at)
       (holds_join image count.1 to.1 (move_at kind immediate image at).1 (target_read kind count.1) (from_read kind to.1))
 
-  rest_read : (operation : GplOperation) (code at : ℕ) →
+  pub rest_read : (operation : GplOperation) (code at : ℕ) →
       Holds (SpellsRest (instr_at operation code image at).0) image at (instr_at operation code image at).1
   rest_read (operation.Plain op) code at = record { bytes = []; is_kind = refl; stand = refl }
   rest_read (operation.Byte op) code at =
@@ -143,7 +117,7 @@ module _ (image : List ℕ) (fits : (k : ℕ) → slice_index image k < 256) whe
   kind_is MemoryToMemory at behind = refl
   kind_is GromToRegisters at behind = refl
 
-  code_read : (operation : GplOperation) (code at : ℕ) → row_fits (Some operation) code ≡ true →
+  pub code_read : (operation : GplOperation) (code at : ℕ) → row_fits (Some operation) code ≡ true →
       code_of (instr_at operation code image at).0 ≡ code
   code_read (operation.Plain op) code at fit = grind (arith, nat_tests)
   code_read (operation.Byte op) code at fit = grind (arith, nat_tests)
@@ -180,7 +154,7 @@ module _ (image : List ℕ) (fits : (k : ℕ) → slice_index image k < 256) whe
   valid_move MemoryToMemory at behind = refl
   valid_move GromToRegisters at behind = refl
 
-  valid_read : (operation : GplOperation) (code at : ℕ) → row_fits (Some operation) code ≡ true →
+  pub valid_read : (operation : GplOperation) (code at : ℕ) → row_fits (Some operation) code ≡ true →
       IsTrue (is_valid (instr_at operation code image at).0)
   valid_read (operation.Plain op) code at fit = refl
   valid_read (operation.Byte op) code at fit = refl
@@ -192,3 +166,15 @@ module _ (image : List ℕ) (fits : (k : ℕ) → slice_index image k < 256) whe
   valid_read (operation.Move kind) code at fit =
       let count = length_at (code % 2 == 1) image at in
       valid_move kind count.1 (target_at kind image count.1).1
+
+  pub operation_read : (operation : GplOperation) (code at : ℕ) →
+      operation_of (instr_at operation code image at).0 ≡ operation
+  operation_read (operation.Plain op) code at = refl
+  operation_read (operation.Byte op) code at = refl
+  operation_read (operation.Jump op) code at = refl
+  operation_read (operation.Branch on) code at = refl
+  operation_read (operation.One op) code at = refl
+  operation_read (operation.Two op) code at = refl
+  operation_read (operation.Move kind) code at =
+      let count = length_at (code % 2 == 1) image at in
+      ap operation.Move (kind_is kind count.1 (target_at kind image count.1).1)

@@ -1,10 +1,7 @@
 -- Bytes that stand behind one another in a GROM.
-use Rattle.std.proofs.Common.{◌≡◌, ℕ, Bool, true, false, ◌&&◌, eqb, List, [], ◌∷◌, ◌++◌, refl, sym, arith}
-use Rattle.std.specs.Prelude.{◌==◌, slice_index}
-use Rattle.std.proofs.lemmas.Bool.Decides.{nat_tests}
+use Rattle.std.proofs.Common.{ℕ, List, [], ◌∷◌, ◌++◌, refl}
 use Rattle.console_defs.specs.Grom.{next_in_grom}
 use Rattle.gpl_defs.specs.Spellings.{Stand, Holds, Joined}
-use Rattle.gpl_defs.specs.Reading.{stand}
 
 -- bytes behind other bytes, and the address between them
 pub stand_join : (image first second : List ℕ) (at middle next : ℕ) → Stand image first at middle →
