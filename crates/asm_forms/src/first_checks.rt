@@ -60,8 +60,8 @@ fn forms_of<'a>(slots: UpToTwo<Slot>, field: &'a [u8]) -> Result<UpToTwo<Form<'a
 
 /// The one operand of a field that has one.
 fn one_operand(field: &[u8]) -> Result<&[u8], FormError>
-    ensures ok { IfOk result (λ text. Ok text.now ≡ one_of (spec.operand_texts field.now)) }
-    ensures err { IfErr result (λ cause. Err cause ≡ one_of (spec.operand_texts field.now)) }
+    ensures ok { IfOk result (λ text. Ok text.now ≡ one_of (operand_texts field.now)) }
+    ensures err { IfErr result (λ cause. Err cause ≡ one_of (operand_texts field.now)) }
 {
     let mut parts = operands(field);
     let (Some(only), None) = (parts.next(), parts.next()) else {
@@ -72,8 +72,8 @@ fn one_operand(field: &[u8]) -> Result<&[u8], FormError>
 
 /// The two operands of a field that has two.
 fn two_operands(field: &[u8]) -> Result<(&[u8], &[u8]), FormError>
-    ensures ok { IfOk result (λ texts. Ok (texts.0.now, texts.1.now) ≡ two_of (spec.operand_texts field.now)) }
-    ensures err { IfErr result (λ cause. Err cause ≡ two_of (spec.operand_texts field.now)) }
+    ensures ok { IfOk result (λ texts. Ok (texts.0.now, texts.1.now) ≡ two_of (operand_texts field.now)) }
+    ensures err { IfErr result (λ cause. Err cause ≡ two_of (operand_texts field.now)) }
 {
     let mut parts = operands(field);
     let (Some(first), Some(second), None) = (parts.next(), parts.next(), parts.next()) else {

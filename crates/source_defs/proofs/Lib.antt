@@ -6,6 +6,7 @@ pub mod FieldLaws
 pub mod FieldPlaces
 pub mod NumberLaws
 pub mod OperandSteps
+pub mod OperandCounts
 mod ExpressionRows
 pub mod TokenLaws
 pub mod CharacterLaws

@@ -11,6 +11,8 @@ pub mod SoleNumbers
 pub mod TokenLaw
 pub mod Expression
 pub mod Operands
+pub mod OperandLists
+pub mod QuotedTexts
 pub mod Symbols
 pub mod Layout
 pub mod LineLaw

@@ -1,8 +1,8 @@
 use Rattle.std.proofs.Common.{length, ℕ, List, ap, arith}
 use Rattle.std.proofs.lemmas.List.{length-map}
 use Rattle.source_defs.specs.Operands.{operands}
-use Rattle.asm_core.proofs.OperandCounts.{operands_le}
-use Rattle.asm_core.proofs.moves.operand_count.Goals as goal
+use Rattle.source_defs.proofs.OperandCounts.{operands_le}
+use Rattle.asm_text.proofs.operand_lists.operand_count.Goals as goal
 
 pub overflow_add-count : goal.overflow_add-count
 overflow_add-count c =

@@ -1,7 +1,7 @@
 use Rattle.std.proofs.Common.{◌≡◌, ◌-◌, length}
 use Rattle.object_defs.specs.Digits.{padded}
 use Rattle.module_defs.specs.FirstChecks.{title_in}
-use Rattle.asm_core.proofs.characters.title_in.Given as goal
+use Rattle.asm_core.proofs.titles.title_in.Given as goal
 
 -- the blanks that are missing make the name
 abbrev pub invariant-loop-name : goal.invariant-loop-name
