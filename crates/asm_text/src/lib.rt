@@ -15,6 +15,7 @@ mod numbers;
 mod operand_field;
 mod operand_iter;
 mod operand_lists;
+mod parentheses;
 mod places;
 mod quoted_texts;
 mod scan;
@@ -37,6 +38,7 @@ pub use crate::numbers::{decimal_up_to, hexadecimal_number};
 pub use crate::operand_field::operands;
 pub use crate::operand_iter::Operands;
 pub use crate::operand_lists::{at_most_one_of, one_of, operand_count, some_of};
+pub use crate::parentheses::parentheses;
 pub use crate::quoted_texts::{
     between_quotes, character_count, is_quoted, quoted, quoted_characters,
 };

@@ -54,20 +54,20 @@ module _ (look : List ℕ → Option Value) (at : Location) where
 
   -- where MOVE copies to and from, behind its length
   abbrev pub moved : MoveLength → Route → Result GplInstr GplCause
-  moved length (Within target source) = Ok (instr.Move length (target.At target) (from.At source))
-  moved length (ToMemory target address None) = do
+  moved count (Within to place) = Ok (instr.Move count (target.At to) (from.At place))
+  moved count (ToMemory to address None) = do
     start ← value address
-    Ok (instr.Move length (target.At target) (from.Grom start))
-  moved length (ToMemory target address (Some index)) = do
+    Ok (instr.Move count (target.At to) (from.Grom start))
+  moved count (ToMemory to address (Some index)) = do
     start ← value address
     number ← value index
     index ← index_of number
-    Ok (instr.Move length (target.At target) (from.GromIndexed start index))
-  moved length (ToRegisters first address) = do
+    Ok (instr.Move count (target.At to) (from.GromIndexed start index))
+  moved count (ToRegisters first address) = do
     number ← value first
     start ← value address
     register ← register_of number
-    Ok (instr.Move length (target.Register register) (from.Grom start))
+    Ok (instr.Move count (target.Register register) (from.Grom start))
 
   -- the instruction that a skeleton is
   abbrev pub instruction : Skeleton → Result GplInstr GplCause
@@ -88,8 +88,8 @@ module _ (look : List ℕ → Option Value) (at : Location) where
     source ← source_value word source
     Ok (instr.Two op word destination source)
   instruction (Move length route) = do
-    length ← length_value length
-    moved length route
+    count ← length_value length
+    moved count route
 
   -- What a line comes to, or why the second checks refuse it. Profile: BSS places nothing.
   -- Editor/Assembler manual, "Initialize Word", "Initialize Byte", "Initialize Text", "Program End".

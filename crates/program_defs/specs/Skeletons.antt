@@ -170,10 +170,10 @@ length_by_zero (At operand) = counted.At operand
 length_by_zero (Immediate text) = counted.Immediate 0
 
 abbrev pub move_by_zero : MoveLength → Route → GplInstr
-move_by_zero length (Within target source) = instr.Move length (target.At target) (from.At source)
-move_by_zero length (ToMemory target address None) = instr.Move length (target.At target) (from.Grom 0)
-move_by_zero length (ToMemory target address (Some index)) = instr.Move length (target.At target) (from.GromIndexed 0 0)
-move_by_zero length (ToRegisters number address) = instr.Move length (target.Register 0) (from.Grom 0)
+move_by_zero count (Within to place) = instr.Move count (target.At to) (from.At place)
+move_by_zero count (ToMemory to address None) = instr.Move count (target.At to) (from.Grom 0)
+move_by_zero count (ToMemory to address (Some index)) = instr.Move count (target.At to) (from.GromIndexed 0 0)
+move_by_zero count (ToRegisters number address) = instr.Move count (target.Register 0) (from.Grom 0)
 
 abbrev pub instr_by_zero : Skeleton → GplInstr
 instr_by_zero (Plain op) = instr.Plain op

@@ -11,6 +11,7 @@ pub mod SoleNumbers
 pub mod TokenLaw
 pub mod Expression
 pub mod Operands
+pub mod Parentheses
 pub mod OperandLists
 pub mod QuotedTexts
 pub mod Symbols

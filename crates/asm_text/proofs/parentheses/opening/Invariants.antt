@@ -1,8 +1,8 @@
 use Rattle.std.proofs.Common.{◌≡◌}
 use Rattle.source_defs.specs.Least.{least_place}
 use Rattle.source_defs.specs.Fields.{in_quotes}
-use Rattle.asm_defs.specs.Forms.{opens_at, opening}
-use Rattle.asm_forms.proofs.forms.opening.Given as goal
+use Rattle.source_defs.specs.Parentheses.{opens_at, opening}
+use Rattle.asm_text.proofs.parentheses.opening.Given as goal
 
 -- whether a quote is open, and no parenthesis outside quotes stands before
 abbrev pub invariant-loop-at : goal.invariant-loop-at
