@@ -1,5 +1,5 @@
 -- The bytes of an instruction in its shortest spelling.
-use Rattle.std.specs.Prelude.{ℕ, ◌+◌, ◌*◌, ◌/◌, ◌%◌, ◌&&◌, not, Bool, true, false, nat_lt, if◌then◌else◌, List, [], ◌∷◌, ◌++◌}
+use Rattle.std.specs.Prelude.{ℕ, ◌<◌, ◌+◌, ◌*◌, ◌/◌, ◌%◌, ◌&&◌, not, Bool, true, false, nat_lt, if◌then◌else◌, List, [], ◌∷◌, ◌++◌}
 use Rattle.std.specs.Prelude.{Option, Some, None, is_some, is_none}
 use Rattle.console_defs.specs.Words.{high, low}
 use Rattle.gpl_defs.specs.declared.instruction.Space.{Space}
@@ -83,6 +83,12 @@ word_bytes word = high word ∷ low word ∷ []
 abbrev pub value_bytes : Bool → ℕ → List ℕ
 value_bytes true value = word_bytes value
 value_bytes false value = value ∷ []
+
+-- an immediate value of bytes is a byte
+abbrev pub FitsSource : Bool → GplSource → Type 0
+FitsSource true src = Unit {0}
+FitsSource false (source.At operand) = Unit {0}
+FitsSource false (source.Immediate value) = value < 256
 
 abbrev pub source_bytes : Bool → GplSource → List ℕ
 source_bytes word (source.At operand) = operand_bytes operand
