@@ -4,7 +4,7 @@ ghost use Rattle.std.specs.Prelude.{◌≡◌};
 ghost use Rattle.asm_defs.specs.Forms as spec;
 ghost use Rattle.asm_forms.specs.Forms.{defined_form};
 
-use asm_text::parentheses;
+use asm_text::parentheses_at;
 
 /// How an operand is written, by the texts of its expressions (Editor/Assembler manual, "Addressing Modes").
 #[derive(Clone, Copy)]
@@ -47,7 +47,7 @@ fn starred_form(text: &[u8]) -> Form<'_>
 fn symbolic_form(text: &[u8]) -> Form<'_>
     ensures { defined_form result ≡ spec.symbolic_form text.now }
 {
-    match parentheses(text) {
+    match parentheses_at(text) {
         Some(place) => Form::Indexed(&text[..place], &text[place + 1..text.len() - 1]),
         None => Form::Symbolic(text),
     }

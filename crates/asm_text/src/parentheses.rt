@@ -7,9 +7,10 @@ ghost use Rattle.source_defs.specs.Parentheses as spec;
 use crate::characters::is_quote;
 
 /// Where a text ends with a parenthesis that closes outside quotes, the place of the first that opens outside quotes.
-pub fn parentheses(text: &[u8]) -> Option<usize>
+pub fn parentheses_at(text: &[u8]) -> Option<usize>
     ensures place { result ≡ (if spec.has_parentheses text.now then Some (spec.opening text.now) else None) }
     ensures before { IfSome result (λ place. place + 1 < length text.now) }
+    ensures last { IfSome result (λ place. slice_index text.now (spec.last_place text.now) ≡ 0x29) }
 {
     if !closes(text) {
         return None;

@@ -3,6 +3,7 @@
 
 mod codes;
 mod image;
+mod names;
 mod read;
 mod valid;
 mod write;
@@ -10,6 +11,7 @@ mod write;
 pub use gpl_defs::{ByteOp, GoOp, GplInstr, GplOperand, GplOperation, GplRead, GplSource, MoveKind, MoveLength};
 pub use gpl_defs::{MoveSource, MoveTarget, OneName, PlainOp, Space, TwoName};
 pub use image::GromImage;
+pub use names::name_of;
 pub use read::read_instr;
-pub use valid::is_valid;
+pub use valid::{has_immediate, is_valid};
 pub use write::write_instr;

@@ -3,7 +3,7 @@
 -- Profile: they stand in this order. The line's length and its label; a label that stands for something already; the
 -- operation, the number of its operands and their forms; the values that move locations, which are those of EQU, GROM, AORG
 -- and BSS and the addresses and indexes of operands in memory; a location past the end of the GROM; a bad directive.
-use Rattle.std.specs.Prelude.{ℕ, ◌+◌, ◌%◌, ◌==◌, Bool, true, false, not, nat_lt, List, [], ◌∷◌, Option, Some, None, Result, Ok, Err, is_some}
+use Rattle.std.specs.Prelude.{ℕ, ◌%◌, ◌==◌, Bool, true, false, not, nat_lt, List, [], ◌∷◌, Option, Some, None, Result, Ok, Err, is_some}
 use Rattle.std.specs.FinMap.{get}
 use Rattle.source_defs.specs.Refusals.{◌>>=◌}
 use Rattle.source_defs.specs.declared.causes.TextError.{TextError}
@@ -16,7 +16,7 @@ use Rattle.program_defs.specs.declared.causes.GplCause.TheVariants as cause
 use Rattle.program_defs.specs.declared.causes.GplCause.TheVariants.{DuplicateLabel, GromFull, BadDirective}
 use Rattle.program_defs.specs.declared.location.Location.{Location}
 use Rattle.program_defs.specs.Statements.{Statement, Grom, Aorg, Equ, End, statement_at, size_said}
-use Rattle.program_defs.specs.Locations.{Line, location, address_of, origin_of, grom_size}
+use Rattle.program_defs.specs.Locations.{Line, location, address_of, origin_of, grom_size, passes}
 
 -- a value, unless something speaks against it
 abbrev pub unless : {A : Type 0} → Bool → GplCause → A → Result A GplCause
@@ -53,7 +53,7 @@ label_entry (Some name) number = (name, Absolute number) ∷ []
 
 -- Profile: no line leads past the last address of its GROM.
 abbrev pub is_full : Location → Statement → Bool
-is_full here statement = nat_lt (here.grom + grom_size) (here.number + size_said statement)
+is_full here statement = passes here (size_said statement)
 
 -- Profile: EQU has a label, a GROM starts at a multiple of >2000, and AORG sets one of its offsets.
 abbrev pub is_bad : Option (List ℕ) → Statement → Bool

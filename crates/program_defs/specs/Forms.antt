@@ -44,25 +44,17 @@ abbrev pub in_memory : Space → Bool → List ℕ → Form
 in_memory space indirect text =
     InMemory (record { space = space; indirect = indirect; address = address_text text; index = index_text text })
 
-abbrev pub is_letter_v : ℕ → Bool
-is_letter_v byte = upper_case byte == 0x56
-
-abbrev pub is_letter_g : ℕ → Bool
-is_letter_g byte = upper_case byte == 0x47
-
-abbrev pub is_letter_r : ℕ → Bool
-is_letter_r byte = upper_case byte == 0x52
-
--- the form of an operand whose first byte is no sign
-abbrev pub lettered_form : List ℕ → Form
-lettered_form text =
-    let letter = slice_index text 0 in
-    let sign = slice_index text 1 in
-    if is_letter_v letter && is_at sign then in_memory Vdp false (drop 2 text)
-    else if is_letter_v letter && is_star sign then in_memory Vdp true (drop 2 text)
-    else if is_letter_g letter && is_at sign then InGrom (address_text (drop 2 text)) (index_text (drop 2 text))
-    else if is_letter_r letter && is_at sign then Register (drop 2 text)
+-- the form of an operand that begins with a letter, by that letter in upper case, the sign behind it and the rest
+abbrev pub signed_form : List ℕ → ℕ → ℕ → List ℕ → Form
+signed_form text letter sign rest =
+    if (letter == 0x56) && is_at sign then in_memory Vdp false rest
+    else if (letter == 0x56) && is_star sign then in_memory Vdp true rest
+    else if (letter == 0x47) && is_at sign then InGrom (address_text rest) (index_text rest)
+    else if (letter == 0x52) && is_at sign then Register rest
     else Alone text
+
+abbrev pub lettered_form : List ℕ → Form
+lettered_form text = signed_form text (upper_case (slice_index text 0)) (slice_index text 1) (drop 2 text)
 
 -- The form of an operand, by what it begins with: @e and *e lie in the processor's memory, V@e and V*e in the video
 -- processor's, of which *e and V*e go by a pointer; G@e lies in GROM, and R@e is a register.

@@ -1,5 +1,5 @@
 -- The locations of a GPL source.
-use Rattle.std.specs.Prelude.{ℕ, ◌+◌, ◌/◌, ◌%◌, ◌==◌, Bool, if◌then◌else◌, List, Option, Some, None, Result, Ok, Err}
+use Rattle.std.specs.Prelude.{ℕ, ◌+◌, ◌/◌, ◌%◌, ◌==◌, Bool, nat_lt, if◌then◌else◌, List, Option, Some, None, Result, Ok, Err}
 use Rattle.source_defs.specs.Expression.{to_word}
 use Rattle.source_defs.specs.Layout as layout
 use Rattle.source_defs.specs.Layout.{Laid}
@@ -33,6 +33,10 @@ place before line = layout.place start behind before line
 -- What $ and a label stand for. Profile: behind the last address of all it is 0.
 abbrev pub address_of : Location → ℕ
 address_of location = to_word location.number
+
+-- some bytes from a location on pass the last address of its GROM
+abbrev pub passes : Location → ℕ → Bool
+passes here bytes = nat_lt (here.grom + grom_size) (here.number + bytes)
 
 -- The location that a line sets. Profile: GROM sets the first address of a GROM, and AORG an offset in the GROM that was set
 -- last.

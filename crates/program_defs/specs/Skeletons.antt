@@ -96,6 +96,11 @@ abbrev pub text_alone : Form → Result (List ℕ) GplCause
 text_alone (Alone text) = Ok text
 text_alone _ = Err BadOperand
 
+abbrev pub text_of_one : List (List ℕ) → Result (List ℕ) GplCause
+text_of_one texts = do
+  form ← one_form texts
+  text_alone form
+
 -- an answer where something holds, else the refusal of a form
 abbrev pub where_taken : {A : Type 0} → Bool → Result A GplCause → Result A GplCause
 where_taken true answer = answer
@@ -125,40 +130,39 @@ module _ (look : List ℕ → Option Value) (here : ℕ) where
   route_in (Register number) (InGrom address None) = Ok (ToRegisters number address)
   route_in to from = Err BadOperand
 
+  -- a destination and a source
+  abbrev pub two_skeleton : TwoName → Bool → List ℕ → Result Skeleton GplCause
+  two_skeleton op word field = do
+    forms ← two_forms (operand_texts field)
+    where_taken (takes_two op forms.0 forms.1) (do
+      destination ← operand_in forms.0
+      source ← source_in forms.1
+      Ok (Two op word destination source))
+
+  -- a length, a target and a source
+  abbrev pub move_skeleton : List ℕ → Result Skeleton GplCause
+  move_skeleton field = do
+    forms ← move_forms (operand_texts field)
+    where_taken (takes_move forms.length forms.to forms.from) (do
+      length ← source_in forms.length
+      route ← route_in forms.to forms.from
+      Ok (Move length route))
+
   -- The operands of an instruction: how many there are, then their forms, then the addresses of those in memory, from the
   -- left.
   -- GPL Programmer's Guide, the statements: the destination stands first.
   -- Profile: MOVE has its length, its target and its source; an operation without operands ignores the rest of its line.
   abbrev pub skeleton : Mnemonic → List ℕ → Result Skeleton GplCause
   skeleton (named.Plain op) field = Ok (Plain op)
-  skeleton (named.Byte op) field = do
-    form ← one_form (operand_texts field)
-    text ← text_alone form
-    Ok (Byte op text)
-  skeleton (named.Jump op) field = do
-    form ← one_form (operand_texts field)
-    text ← text_alone form
-    Ok (Jump op text)
-  skeleton (named.Branch on) field = do
-    form ← one_form (operand_texts field)
-    text ← text_alone form
-    Ok (Branch on text)
+  skeleton (named.Byte op) field = text_of_one (operand_texts field) >>= λ text. Ok (Byte op text)
+  skeleton (named.Jump op) field = text_of_one (operand_texts field) >>= λ text. Ok (Jump op text)
+  skeleton (named.Branch on) field = text_of_one (operand_texts field) >>= λ text. Ok (Branch on text)
   skeleton (named.One op word) field = do
     form ← one_form (operand_texts field)
     operand ← operand_in form
     Ok (One op word operand)
-  skeleton (named.Two op word) field = do
-    forms ← two_forms (operand_texts field)
-    where_taken (takes_two op forms.0 forms.1) (do
-      destination ← operand_in forms.0
-      source ← source_in forms.1
-      Ok (Two op word destination source))
-  skeleton named.Move field = do
-    forms ← move_forms (operand_texts field)
-    where_taken (takes_move forms.length forms.to forms.from) (do
-      length ← source_in forms.length
-      route ← route_in forms.to forms.from
-      Ok (Move length route))
+  skeleton (named.Two op word) field = two_skeleton op word field
+  skeleton named.Move field = move_skeleton field
 
 -- an instruction that is as long, with 0 for each value that is a text yet
 abbrev pub source_by_zero : Source → GplSource
