@@ -1,5 +1,4 @@
 -- What the code finds in a line, as the definitions have it.
-use Rattle.std.specs.Prelude.{ℕ, List, Option}
 use Rattle.std.specs.Option.{option_map}
 use Rattle.source_defs.specs.Operands.{operand_texts}
 use Rattle.program_defs.specs.Forms as forms

@@ -39,6 +39,15 @@ pub(crate) fn form_of(text: &[u8]) -> Form<'_>
     match text {
         [b'@', rest @ ..] => in_memory(Space::Cpu, false, rest),
         [b'*', rest @ ..] => in_memory(Space::Cpu, true, rest),
+        _ => lettered_form(text),
+    }
+}
+
+/// The form of an operand that begins with no sign.
+fn lettered_form(text: &[u8]) -> Form<'_>
+    ensures { defined_form result ≡ spec.lettered_form text.now }
+{
+    match text {
         [letter, sign, rest @ ..] => signed_form(text, upper_case(*letter), *sign, rest),
         _ => Form::Alone(text),
     }

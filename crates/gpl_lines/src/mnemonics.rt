@@ -1,9 +1,9 @@
 //! The instructions by their names.
 
-ghost use Rattle.std.specs.Prelude.{◌≡◌, ◌∷◌, ◌||◌, find, true, not, IfSome};
+ghost use Rattle.std.specs.Prelude.{◌≡◌, find};
 ghost use Rattle.source_defs.specs.Names.{is_word};
 ghost use Rattle.program_defs.specs.Mnemonics as spec;
-ghost use Rattle.gpl_lines.specs.Validity.{HasForm};
+ghost use Rattle.gpl_defs.specs.Codes.{row_of};
 
 use asm_text::{is_word, upper_case};
 use gpl_defs::{ByteOp, GoOp, GplOperation, OneName, PlainOp, TwoName};

@@ -4,6 +4,7 @@ ghost use Rattle.std.specs.Prelude.{◌≡◌, ◌≤◌, IsTrue, IfOk};
 ghost use Rattle.std.specs.List.{flat_map};
 ghost use Rattle.gpl_defs.specs.Bytes.{word_bytes};
 ghost use Rattle.gpl_defs.specs.Valid.{is_valid};
+ghost use Rattle.gpl_defs.specs.declared.instruction.GplInstr.TheVariants as instr;
 ghost use Rattle.source_defs.specs.Symbols.{look_up};
 ghost use Rattle.program_defs.specs.SecondChecks as spec;
 ghost use Rattle.program_defs.specs.Values as values;
@@ -113,7 +114,7 @@ impl Scope<'_> {
     /// A source.
     fn source(&self, word: bool, source: Source<'_>) -> Result<GplSource, Failure>
         ensures found { Gives (λ source. source) result
-            (spec.source_value (look_up self.now.symbols.now) self.now.at word (defined_source source)) }
+            (spec.source_value (look_up self.now.symbols.now) self.now.at word (defined_source source.entry)) }
     {
         match source {
             Source::At(operand) => Ok(GplSource::At(operand)),
@@ -128,7 +129,7 @@ impl Scope<'_> {
     /// The length of MOVE.
     fn length(&self, length: Source<'_>) -> Result<MoveLength, Failure>
         ensures { Gives (λ length. length) result
-            (spec.length_value (look_up self.now.symbols.now) self.now.at (defined_source length)) }
+            (spec.length_value (look_up self.now.symbols.now) self.now.at (defined_source length.entry)) }
     {
         match length {
             Source::At(operand) => Ok(MoveLength::At(operand)),
@@ -142,7 +143,7 @@ impl Scope<'_> {
     /// MOVE, by its length, and by where it copies to and from.
     fn moved(&self, length: MoveLength, route: Route<'_>) -> Result<GplInstr, Failure>
         ensures found { Gives (λ instr. instr) result
-            (spec.moved (look_up self.now.symbols.now) self.now.at length (defined_route route)) }
+            (spec.moved (look_up self.now.symbols.now) self.now.at length (defined_route route.entry)) }
         ensures valid { IfOk result (λ instr. IsTrue (is_valid instr)) }
     {
         match route {
@@ -169,7 +170,7 @@ impl Scope<'_> {
 
 /// MOVE.
 fn move_instr(length: MoveLength, target: MoveTarget, source: MoveSource) -> GplInstr
-    ensures { result ≡ Rattle.gpl_defs.specs.declared.instruction.GplInstr.TheVariants.Move length target source }
+    ensures { result ≡ instr.Move length target source }
 {
     GplInstr::Move {
         length,

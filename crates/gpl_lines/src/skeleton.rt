@@ -82,7 +82,7 @@ impl Skeleton<'_> {
 }
 
 fn source_by_zero(source: Source<'_>) -> GplSource
-    ensures { result ≡ spec.source_by_zero (defined_source source) }
+    ensures { result ≡ spec.source_by_zero (defined_source source.entry) }
 {
     match source {
         Source::At(operand) => GplSource::At(operand),
@@ -91,7 +91,7 @@ fn source_by_zero(source: Source<'_>) -> GplSource
 }
 
 fn length_by_zero(length: Source<'_>) -> MoveLength
-    ensures { result ≡ spec.length_by_zero (defined_source length) }
+    ensures { result ≡ spec.length_by_zero (defined_source length.entry) }
 {
     match length {
         Source::At(operand) => MoveLength::At(operand),
@@ -100,7 +100,7 @@ fn length_by_zero(length: Source<'_>) -> MoveLength
 }
 
 fn move_by_zero(length: MoveLength, route: Route<'_>) -> GplInstr
-    ensures { result ≡ spec.move_by_zero length (defined_route route) }
+    ensures { result ≡ spec.move_by_zero length (defined_route route.entry) }
 {
     let (target, source) = match route {
         Route::Within(to, from) => (MoveTarget::At(to), MoveSource::At(from)),

@@ -15,7 +15,7 @@ ghost use Rattle.gpl_lines.specs.Defined.{
   defined_two,
   defined_move,
 };
-ghost use Rattle.gpl_lines.specs.Validity.{HasForm, IsValidSkeleton, IsTaken};
+ghost use Rattle.gpl_lines.specs.Validity.{HasForm, IsValidSkeleton};
 
 use crate::failure::Failure;
 use crate::forms::{Form, form_of, takes_move, takes_two};

@@ -5,6 +5,7 @@ ghost use Rattle.asm_text.specs.GivenFields.{defined_fields, FieldsLieInside};
 ghost use Rattle.source_defs.specs.Operands.{operand_texts};
 ghost use Rattle.source_defs.specs.Symbols.{look_up};
 ghost use Rattle.program_defs.specs.Locations.{address_of};
+ghost use Rattle.program_defs.specs.Mnemonics.{mnemonic};
 ghost use Rattle.program_defs.specs.Statements as spec;
 ghost use Rattle.gpl_lines.specs.Answers.{Gives};
 ghost use Rattle.gpl_lines.specs.Defined.{defined_statement};
@@ -101,7 +102,7 @@ impl Scope<'_> {
     fn instruction_statement<'b>(&self, operation: &[u8], field: &'b [u8]) -> Result<Statement<'b>, Failure>
         ensures said { Gives defined_statement result
             (spec.instruction_statement (look_up self.now.symbols.now) (address_of self.now.at)
-            (Rattle.program_defs.specs.Mnemonics.mnemonic operation.now) field.now) }
+            (mnemonic operation.now) field.now) }
         ensures valid { IfOk result IsValid }
     {
         match mnemonic(operation) {

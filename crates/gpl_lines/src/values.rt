@@ -7,7 +7,7 @@ ghost use Rattle.source_defs.specs.Symbols.{look_up};
 ghost use Rattle.program_defs.specs.Locations.{address_of};
 ghost use Rattle.program_defs.specs.Values as spec;
 ghost use Rattle.gpl_lines.specs.Answers.{Gives};
-ghost use Rattle.gpl_lines.specs.Defined.{defined_memory, defined_text};
+ghost use Rattle.gpl_lines.specs.Defined.{defined_memory};
 
 use crate::failure::Failure;
 use crate::forms::Memory;
@@ -81,7 +81,7 @@ impl Scope<'_> {
     /// An index, where an operand has one.
     fn index(&self, text: Option<&[u8]>) -> Result<Option<u8>, Failure>
         ensures { Gives (λ index. index) result
-            (spec.index_value (look_up self.now.symbols.now) (address_of self.now.at) (defined_text text)) }
+            (spec.index_value (look_up self.now.symbols.now) (address_of self.now.at) (option_map (λ text. text.now) text.entry)) }
     {
         match text {
             None => Ok(None),
