@@ -14,6 +14,7 @@ pub mod Operands
 pub mod OperandLists
 pub mod QuotedTexts
 pub mod Symbols
+pub mod Growing
 pub mod Layout
 pub mod LineLaw
 pub mod FieldLaw
