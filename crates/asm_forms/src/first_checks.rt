@@ -1,6 +1,7 @@
 //! The first checks of an instruction line: its operation, the number of its operands, and their forms.
 
 ghost use Rattle.std.specs.Prelude.{◌≡◌, ◌≤◌, Ok, Err, IfOk, IfErr};
+ghost use Rattle.source_defs.specs.Operands.{operand_texts};
 ghost use Rattle.asm_defs.specs.FirstChecks as spec;
 ghost use Rattle.asm_forms.specs.Forms.{defined_form, form_answer, one_of, two_of, both_forms};
 ghost use Rattle.asm_forms.specs.UpToTwo.{items_of, slots_in};

@@ -11,3 +11,4 @@ mod ExpressionRows
 pub mod TokenLaws
 pub mod CharacterLaws
 pub mod SymbolLaws
+pub mod GrowingLaws

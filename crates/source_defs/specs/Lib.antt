@@ -15,6 +15,7 @@ pub mod Parentheses
 pub mod OperandLists
 pub mod QuotedTexts
 pub mod Symbols
+pub mod Growing
 pub mod Layout
 pub mod LineLaw
 pub mod FieldLaw
