@@ -13,6 +13,11 @@ abbrev pub ◌>>=◌ : {A B C : Type 0} → Result A C → (A → Result B C) �
 (Ok value) >>= next = next value
 (Err cause) >>= next = Err cause
 
+-- an answer, with its value seen as something else
+abbrev pub seen : {A B C : Type 0} → (A → B) → Result A C → Result B C
+seen see (Ok value) = Ok (see value)
+seen see (Err cause) = Err cause
+
 -- what a line gives, or its refusal with the line's number
 abbrev pub at_line : {A C : Type 0} → ℕ → Result A C → Result A (Refusal C)
 at_line number (Ok value) = Ok value
