@@ -1,5 +1,6 @@
 //! A line of the listing.
-ghost use Rattle.std.specs.Prelude.{◌≡◌, ◌≤◌, ◌<◌, ◌+◌, length};
+ghost use Rattle.std.specs.Prelude.{◌≡◌, ◌≤◌, ◌<◌, ◌+◌, ◌++◌, codes, length};
+ghost use Rattle.source_defs.specs.Digits.{marked_byte};
 ghost use Rattle.arrayvec.specs.ArrayString.{array_string_len};
 ghost use Rattle.source_defs.specs.ListedLines.{listed};
 ghost use Rattle.listing_defs.specs.Listing as spec;
@@ -7,7 +8,7 @@ ghost use Rattle.listing_defs.specs.Listing as spec;
 use crate::text::instr_text;
 use arrayvec::ArrayString;
 use asm_text::byte_digits;
-use gpl_forms::{GplInstr, GplRead, read_instr, stands, write_instr};
+use gpl_forms::{GplRead, read_instr, stands, write_instr};
 
 /// A line, with room for its line feed.
 pub(crate) type Line = ArrayString<80>;
@@ -32,4 +33,49 @@ pub fn list_line(image: &[u8], at: u16, end: u32) -> (ArrayString<80>, u32)
     line.push_str(MARGIN);
     let size = push_listed(&mut line, image, at, end);
     (line, u32::from(at) + size)
+}
+
+/// Appends what is listed at an address, and says how many bytes it stands for.
+#[tactic(auto, unfolding(listing_defs::specs::Listing::listed_at))]
+fn push_listed(line: &mut Line, image: &[u8], at: u16, end: u32) -> u32
+    requires room { array_string_len line.old ≤ 7 }
+    requires size { length image.now ≡ 65536 }
+    requires before { at < end }
+    requires end { end ≤ 65536 }
+    ensures text { line.new.bytes ≡ line.old.bytes ++ (spec.listed_at image.now at end).text }
+    ensures size { result ≡ (spec.listed_at image.now at end).size }
+    ensures within { at + result ≤ end }
+    ensures some { 0 < result }
+    ensures room { array_string_len line.new < 80 }
+{
+    if let GplRead::Instr { instr, .. } = read_instr(image, at) {
+        let bytes = write_instr(&instr);
+        let size = bytes.len() as u32;
+        if stands(image, bytes.as_slice(), at) && u32::from(at) + size <= end.min(boundary(at)) {
+            line.push_str(instr_text(&instr, at).as_str());
+            return size;
+        }
+    }
+    push_byte_line(line, image[usize::from(at)]);
+    1
+}
+
+/// The first address of the GROM behind an address.
+fn boundary(at: u16) -> u32
+    ensures { result ≡ spec.boundary at }
+{
+    u32::from(at) / 0x2000 * 0x2000 + 0x2000
+}
+
+/// Appends BYTE with a byte.
+#[tactic(auto, using(std::proofs::Common::append_assoc), unfolding(source_defs::specs::Digits::byte_digits))]
+fn push_byte_line(line: &mut Line, byte: u8)
+    requires { array_string_len line.old ≤ 7 }
+    ensures text { line.new.bytes ≡ line.old.bytes ++ (codes "BYTE " ++ marked_byte byte) }
+    ensures size { array_string_len line.new ≤ array_string_len line.old + 8 }
+{
+    let [first, second] = byte_digits(byte);
+    line.push_str("BYTE >");
+    line.push(char::from(first));
+    line.push(char::from(second));
 }

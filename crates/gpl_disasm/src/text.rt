@@ -1,11 +1,12 @@
 //! The text of an instruction.
-ghost use Rattle.std.specs.Prelude.{◌≡◌, ◌≤◌, ◌+◌, ◌++◌, [], IsTrue, length};
+ghost use Rattle.std.specs.Prelude.{◌≡◌, ◌≤◌, ◌+◌, ◌++◌, [], if◌then◌else◌, IsTrue, length};
 ghost use Rattle.arrayvec.specs.ArrayString.{array_string_len};
-ghost use Rattle.gpl_defs.specs.Codes.{Row};
+ghost use Rattle.gpl_defs.specs.Codes.{row_of};
 ghost use Rattle.gpl_defs.specs.Valid.{is_valid};
-ghost use Rattle.program_defs.specs.Mnemonics.{name_of as mnemonic_name};
+ghost use Rattle.program_defs.specs.Mnemonics.{name_of as mnemonic_name, name_of_words};
 ghost use Rattle.source_defs.specs.ListedLines.{with_operands};
 ghost use Rattle.listing_defs.specs.Texts as spec;
+ghost use Rattle.gpl_disasm.specs.Sizes.{most_operands};
 
 use crate::operands::{Text, push_byte, push_from, push_length, push_operand, push_source, push_target, push_word};
 use arrayvec::ArrayString;
@@ -28,37 +29,36 @@ pub fn instr_text(instr: &GplInstr, at: u16) -> ArrayString<52>
 fn push_name(text: &mut Text, instr: &GplInstr)
     requires { text.old.bytes ≡ [] }
     ensures name { text.new.bytes ≡ mnemonic_name (spec.mnemonic_of instr.now) }
-    ensures room { array_string_len text.new + spec.most_operands instr.now ≤ 52 }
+    ensures room { array_string_len text.new + most_operands instr.now ≤ 52 }
 {
     match instr {
         GplInstr::Plain(op) => text.push_str(name_of(GplOperation::Plain(*op))),
         GplInstr::Byte { op, .. } => text.push_str(name_of(GplOperation::Byte(*op))),
         GplInstr::Jump { op, .. } => text.push_str(name_of(GplOperation::Jump(*op))),
         GplInstr::Branch { on, .. } => text.push_str(name_of(GplOperation::Branch(*on))),
-        GplInstr::One { op, word, .. } => push_worded(text, *word, name_of(GplOperation::One(*op))),
-        GplInstr::Two { op, word, .. } => push_worded(text, *word, name_of(GplOperation::Two(*op))),
+        GplInstr::One { op, word, .. } => push_worded(text, *word, GplOperation::One(*op)),
+        GplInstr::Two { op, word, .. } => push_worded(text, *word, GplOperation::Two(*op)),
         GplInstr::Move { .. } => text.push_str("MOVE"),
     }
 }
 
-/// Appends a name of at most five letters to an empty text, behind a D for the form of words.
-fn push_worded(text: &mut Text, word: bool, name: &str)
-    requires empty { text.old.bytes ≡ [] }
-    requires short { length name.now ≤ 5 }
-    ensures name { text.new.bytes ≡ spec.worded word name.now }
+/// Appends the name of an operation to an empty text, behind a D for the form of words.
+fn push_worded(text: &mut Text, word: bool, operation: GplOperation)
+    requires { text.old.bytes ≡ [] }
+    ensures name { text.new.bytes ≡ (if word then name_of_words (row_of operation) else (row_of operation).name) }
     ensures size { array_string_len text.new ≤ 6 }
 {
     if word {
         text.push('D');
     }
-    text.push_str(name);
+    text.push_str(name_of(operation));
 }
 
 /// Appends the operands of an instruction behind a blank, where it has any.
 #[tactic(auto, using(std::proofs::Common::append_assoc))]
 fn push_operands(text: &mut Text, instr: &GplInstr, at: u16)
     requires valid { IsTrue (is_valid instr.now) }
-    requires room { array_string_len text.old + spec.most_operands instr.now ≤ 52 }
+    requires room { array_string_len text.old + most_operands instr.now ≤ 52 }
     ensures { text.new.bytes ≡ with_operands text.old.bytes (spec.operands_text instr.now at) }
 {
     match instr {
