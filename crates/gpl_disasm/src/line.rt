@@ -5,9 +5,9 @@ ghost use Rattle.arrayvec.specs.ArrayString.{array_string_len};
 ghost use Rattle.source_defs.specs.ListedLines.{listed};
 ghost use Rattle.listing_defs.specs.Listing as spec;
 
+use crate::digits::push_byte;
 use crate::text::instr_text;
 use arrayvec::ArrayString;
-use asm_text::byte_digits;
 use gpl_forms::{GplRead, read_instr, stands, write_instr};
 
 /// A line, with room for its line feed.
@@ -68,14 +68,12 @@ fn boundary(at: u16) -> u32
 }
 
 /// Appends BYTE with a byte.
-#[tactic(auto, using(std::proofs::Common::append_assoc), unfolding(source_defs::specs::Digits::byte_digits))]
+#[tactic(auto, using(std::proofs::Common::append_assoc))]
 fn push_byte_line(line: &mut Line, byte: u8)
     requires { array_string_len line.old ≤ 7 }
     ensures text { line.new.bytes ≡ line.old.bytes ++ (codes "BYTE " ++ marked_byte byte) }
     ensures size { array_string_len line.new ≤ array_string_len line.old + 8 }
 {
-    let [first, second] = byte_digits(byte);
-    line.push_str("BYTE >");
-    line.push(char::from(first));
-    line.push(char::from(second));
+    line.push_str("BYTE ");
+    push_byte(line, byte);
 }

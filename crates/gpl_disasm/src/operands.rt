@@ -1,12 +1,11 @@
 //! The operands of an instruction, as text.
 ghost use Rattle.std.specs.Prelude.{◌≡◌, ◌≤◌, ◌<◌, ◌+◌, ◌++◌, length};
 ghost use Rattle.arrayvec.specs.ArrayString.{array_string_len};
-ghost use Rattle.source_defs.specs.Digits.{marked_word, marked_byte};
 ghost use Rattle.gpl_defs.specs.Bytes.{FitsSource};
 ghost use Rattle.listing_defs.specs.Texts as spec;
 
+use crate::digits::{push_byte, push_word};
 use arrayvec::ArrayString;
-use asm_text::{byte_digits, word_digits};
 use gpl_forms::{GplOperand, GplSource, MoveLength, MoveSource, MoveTarget, Space};
 
 /// The text of an instruction.
@@ -14,34 +13,6 @@ pub(crate) type Text = ArrayString<52>;
 
 /// The first address of the scratchpad.
 const SCRATCHPAD: u16 = 0x8300;
-
-/// Appends a word by `>` and its four hexadecimal digits.
-#[tactic(auto, using(std::proofs::Common::append_assoc), unfolding(source_defs::specs::Digits::word_digits))]
-pub(crate) fn push_word(text: &mut Text, word: u16)
-    requires { array_string_len text.old + 5 ≤ 52 }
-    ensures text { text.new.bytes ≡ text.old.bytes ++ marked_word word }
-    ensures size { array_string_len text.new ≡ array_string_len text.old + 5 }
-{
-    let [first, second, third, fourth] = word_digits(word);
-    text.push('>');
-    text.push(char::from(first));
-    text.push(char::from(second));
-    text.push(char::from(third));
-    text.push(char::from(fourth));
-}
-
-/// Appends a byte by `>` and its two hexadecimal digits.
-#[tactic(auto, using(std::proofs::Common::append_assoc), unfolding(source_defs::specs::Digits::byte_digits))]
-pub(crate) fn push_byte(text: &mut Text, byte: u8)
-    requires { array_string_len text.old + 3 ≤ 52 }
-    ensures text { text.new.bytes ≡ text.old.bytes ++ marked_byte byte }
-    ensures size { array_string_len text.new ≡ array_string_len text.old + 3 }
-{
-    let [first, second] = byte_digits(byte);
-    text.push('>');
-    text.push(char::from(first));
-    text.push(char::from(second));
-}
 
 /// Appends an operand in memory.
 #[tactic(auto, using(std::proofs::Common::append_assoc), unfolding(listing_defs::specs::Texts::operand_text))]

@@ -8,7 +8,8 @@ ghost use Rattle.source_defs.specs.ListedLines.{with_operands};
 ghost use Rattle.listing_defs.specs.Texts as spec;
 ghost use Rattle.gpl_disasm.specs.Sizes.{most_operands};
 
-use crate::operands::{Text, push_byte, push_from, push_length, push_operand, push_source, push_target, push_word};
+use crate::digits::{push_byte, push_word};
+use crate::operands::{Text, push_from, push_length, push_operand, push_source, push_target};
 use arrayvec::ArrayString;
 use gpl_forms::{GplInstr, GplOperation, name_of};
 
