@@ -55,7 +55,13 @@ fn put_lines<O: Sink>(image: &[u8], low: u16, high: u32, out: &mut O) -> Result<
 
 /// Writes the line of the byte at an address, behind those for GROM and AORG where it begins a GROM and is not the first, and
 /// gives the address after the bytes that it stands for.
-fn put_entry<O: Sink>(image: &[u8], low: u16, at: u16, high: u32, out: &mut O) -> Result<u32, Failed>
+fn put_entry<O: Sink>(
+    image: &[u8],
+    low: u16,
+    at: u16,
+    high: u32,
+    out: &mut O,
+) -> Result<u32, Failed>
     requires size { length image.now ≡ 65536 }
     requires before { at < high }
     requires end { high ≤ 65536 }
@@ -100,7 +106,12 @@ fn put_line<O: Sink>(image: &[u8], at: u16, high: u32, out: &mut O) -> Result<u3
 fn put_origin<O: Sink>(at: u16, out: &mut O) -> Result<(), Failed>
     ensures { Written result (O.state out.old) (O.state out.new) (spec.origin_lines at) }
 {
-    put_piece(out, named_line("GROM ", at / GROM_SIZE * GROM_SIZE).as_str().as_bytes())?;
+    put_piece(
+        out,
+        named_line("GROM ", at / GROM_SIZE * GROM_SIZE)
+            .as_str()
+            .as_bytes(),
+    )?;
     put_piece(out, named_line("AORG ", at % GROM_SIZE).as_str().as_bytes())
 }
 
