@@ -1,1 +1,6 @@
 pub mod LineSteps
+pub mod Scans
+pub mod DigitLaws
+pub mod OperandLines
+pub mod FormLaws
+pub mod SkeletonLaws
