@@ -4,3 +4,4 @@ pub mod DigitLaws
 pub mod OperandLines
 pub mod FormLaws
 pub mod SkeletonLaws
+pub mod InstructionText

@@ -1,4 +1,4 @@
--- A written instruction is read as that instruction again.
+-- The texts of operands, and their values.
 use Rattle.std.proofs.Common.{◌≡◌, ℕ, zero, suc, ◌+◌, ◌-◌, ◌*◌, ◌/◌, ◌%◌, ◌<◌, ◌≤◌, Bool, true, false, not, cond, ◌&&◌, ◌||◌, eqb}
 use Rattle.std.proofs.Common.{List, [], ◌∷◌, ◌++◌, length, length-append, refl, ap, sym, ◌∙◌, Ok, Err, Option, Some, None, lit≤, arith}
 use Rattle.std.specs.Prelude.{◌==◌, codes, IsTrue, nat_le, nat_lt}
@@ -128,11 +128,11 @@ from_all p a (from.At operand) = operand_all p a operand
 from_all p a (from.Grom address) = rw (a.grom, a.at_sign) (word_passes p address a.digits a.sign)
 from_all p a (from.GromIndexed address index) = rw (a.grom, a.at_sign) (rest_all p a address (Some index))
 
-whole_letters : Alphabet whole
+pub whole_letters : Alphabet whole
 whole_letters = record { digits = refl; sign = refl; at_sign = refl; star = refl; video = refl; opens = refl; closes = refl; grom = refl; register = refl }
 
 -- the texts are not empty
-operand_some : (operand : GplOperand) → 0 < length (operand_text operand)
+pub operand_some : (operand : GplOperand) → 0 < length (operand_text operand)
 unfolding operand_text
 operand_some operand = by operand.space operand.indirect
   where
