@@ -5,3 +5,9 @@ pub mod OperandLines
 pub mod FormLaws
 pub mod SkeletonLaws
 pub mod InstructionText
+pub mod InstructionAgain
+pub mod NameLaws
+pub mod LineTexts
+pub mod FitLaws
+pub mod PlacingLaws
+pub mod StateLaws

@@ -1,0 +1,88 @@
+-- A line that is let through, and what the lines with it come to.
+use Rattle.std.proofs.Common.{◌≡◌, ℕ, zero, suc, ◌+◌, ◌-◌, ◌*◌, ◌/◌, ◌%◌, ◌<◌, ◌≤◌, Bool, true, false, not, ◌&&◌, ◌||◌, eqb, List, [], ◌∷◌, ◌++◌}
+use Rattle.std.proofs.Common.{length, refl, ap, sym, subst, ◌∙◌, ◌⊎◌, inl, inr, Ok, Err, Result, Option, Some, None, arith}
+use Rattle.std.specs.Prelude.{◌==◌, codes, if◌then◌else◌}
+use Rattle.source_defs.specs.declared.text.Span.{Span}
+use Rattle.source_defs.specs.Refusals.{Refusal, ◌>>=◌, at_line}
+use Rattle.source_defs.specs.Symbols.{Names, look_up, predefined}
+use Rattle.source_defs.specs.Expression.{Value}
+use Rattle.source_defs.specs.Layout as layout
+use Rattle.source_defs.specs.Layout.{Laid, laid_behind, settled, numbered}
+use Rattle.gpl_defs.specs.Image.{Image, placed}
+use Rattle.program_defs.specs.declared.causes.GplCause.{GplCause}
+use Rattle.program_defs.specs.declared.location.Location.{Location}
+use Rattle.program_defs.specs.Statements.{Statement, operation_statement, size_said}
+use Rattle.program_defs.specs.Locations.{Line, start, behind, location, place, address_of, origin_of}
+use Rattle.program_defs.specs.FirstChecks.{Checked, checked, check, line_of, names, is_full, is_bad, is_end}
+use Rattle.program_defs.specs.SecondChecks.{Outcome, Bytes, outcome}
+use Rattle.program_defs.specs.Programs.{Settled, image, entry, overlaps, settle, settle_at}
+use Rattle.listing_defs.proofs.LineTexts.{Cut}
+
+-- a line whose statement nothing speaks against is let through by the first checks
+pub checked_as : (known : Names) (here : Location) (line name field : List ℕ) (said : Statement) → Cut line name field →
+    operation_statement (look_up known) (address_of here) name field ≡ Ok said → is_full here said ≡ false →
+    is_bad None said ≡ false → checked known here line ≡ Ok (record { label = None; statement = said })
+unfolding checked
+checked_as known here line name field said cut is full bad =
+    rw (cut.fields_are, cut.name_is, cut.field_is, is, full, bad) refl
+
+-- the location behind a line that sets one, or none
+abbrev pub moved : Option Location → Location → ℕ → Location
+moved None here size = behind here size
+moved (Some origin) here size = behind origin size
+
+same_location : (grom m n : ℕ) → m ≡ n →
+    ◌≡◌ {A = Location} (record { grom = grom; number = m }) (record { grom = grom; number = n })
+same_location grom m n e = rw e refl
+
+location_behind : (line : Line) (before : List Line) (o : Option Location) → line.origin ≡ o → line.gap ≡ 0 →
+    location (line ∷ before) ≡ moved o (location before) line.size
+location_behind line before None e gap =
+    rw (e, gap) (same_location _ _ _ (omega arith))
+location_behind line before (Some origin) e gap =
+    rw (e, gap) (same_location _ _ _ (omega arith))
+
+-- what some lines come to
+pub record Stands (before : List Line) (earlier : List Settled) (at : Location) (bytes : Image) : Type 0 where
+  pub names_are : names before ≡ predefined
+  pub location_is : location before ≡ at
+  pub settled_are : settled (settle predefined) before ≡ Ok earlier
+  pub image_is : image earlier ≡ bytes
+  pub entry_is : entry earlier ≡ None
+
+pub at_first : Stands [] [] start (image [])
+at_first = record { names_are = refl; location_is = refl; settled_are = refl; image_is = refl; entry_is = refl }
+
+-- a line behind others that is let through, with what they then come to
+pub record Taken (before : List Line) (number : ℕ) (text : List ℕ) (last : Bool) (next : Location) (bytes : Image) : Type 0 where
+  pub line : Line
+  pub earlier : List Settled
+  pub check_is : check before number text ≡ Ok line
+  pub last_is : line.last ≡ last
+  pub stands : Stands (line ∷ before) earlier next bytes
+
+here_again : (at : Location) → ◌≡◌ {A = Location} (behind at 0) at
+here_again at = same_location at.grom (at.number + 0) at.number (omega arith)
+
+pub taken : (before : List Line) (earlier : List Settled) (at : Location) (held : Image) (number : ℕ) (text : List ℕ)
+    (said : Statement) (bytes : List ℕ) (o : Option Location) → Stands before earlier at held →
+    checked predefined at text ≡ Ok (record { label = None; statement = said }) →
+    outcome (look_up predefined) at said ≡ Ok (Bytes bytes) → overlaps held at.number bytes ≡ false →
+    origin_of at said ≡ o →
+    Taken before number text (is_end said) (moved o at (size_said said)) (placed held at.number bytes)
+taken before earlier at held number text said bytes o stands first second free origin = record {
+  line = line;
+  earlier = record { at = at.number; outcome = Bytes bytes } ∷ earlier;
+  check_is = rw (stands.names_are, stands.location_is, first) refl;
+  last_is = refl;
+  stands = record {
+    names_are = stands.names_are;
+    location_is = location_behind line before o origin refl ∙ ap (λ here. moved o here (size_said said)) stands.location_is;
+    settled_are = ?;
+    image_is = ap (λ held. placed held at.number bytes) stands.image_is;
+    entry_is = stands.entry_is;
+  };
+}
+  where
+    line : Line
+    line = line_of at number (record { label = None; statement = said })
