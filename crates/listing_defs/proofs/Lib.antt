@@ -11,3 +11,4 @@ pub mod LineTexts
 pub mod FitLaws
 pub mod PlacingLaws
 pub mod StateLaws
+pub mod EntryLaws

@@ -64,6 +64,12 @@ pub record Taken (before : List Line) (number : ℕ) (text : List ℕ) (last : B
 here_again : (at : Location) → ◌≡◌ {A = Location} (behind at 0) at
 here_again at = same_location at.grom (at.number + 0) at.number (omega arith)
 
+settle_here : (earlier : List Settled) (at there : Location) (held : Image) (said : Statement) (bytes : List ℕ) →
+    there ≡ at → image earlier ≡ held → outcome (look_up predefined) at said ≡ Ok (Bytes bytes) →
+    overlaps held at.number bytes ≡ false →
+    settle_at predefined there said earlier ≡ Ok (record { at = at.number; outcome = Bytes bytes })
+settle_here earlier at there held said bytes same is second free = rw (same, second, is, free) refl
+
 pub taken : (before : List Line) (earlier : List Settled) (at : Location) (held : Image) (number : ℕ) (text : List ℕ)
     (said : Statement) (bytes : List ℕ) (o : Option Location) → Stands before earlier at held →
     checked predefined at text ≡ Ok (record { label = None; statement = said }) →
@@ -78,7 +84,7 @@ taken before earlier at held number text said bytes o stands first second free o
   stands = record {
     names_are = stands.names_are;
     location_is = location_behind line before o origin refl ∙ ap (λ here. moved o here (size_said said)) stands.location_is;
-    settled_are = ?;
+    settled_are = rw (stands.settled_are, settled_here) refl;
     image_is = ap (λ held. placed held at.number bytes) stands.image_is;
     entry_is = stands.entry_is;
   };
@@ -86,3 +92,50 @@ taken before earlier at held number text said bytes o stands first second free o
   where
     line : Line
     line = line_of at number (record { label = None; statement = said })
+
+    settled_here : settle predefined before earlier line ≡ Ok (record { at = at.number; outcome = Bytes bytes })
+    settled_here =
+        settle_here earlier at (place before line) held said bytes
+        (ap (λ here. behind here 0) stands.location_is ∙ here_again at) stands.image_is second free
+
+-- lines behind others that are let through to the last, with the image that all come to
+pub record Ends (before : List Line) (number : ℕ) (texts : List (List ℕ)) (bytes : Image) : Type 0 where
+  pub all : List Line
+  pub found : List Settled
+  pub laid_is : laid_behind check before (numbered number texts) ≡ Ok all
+  pub names_are : names all ≡ predefined
+  pub settled_are : settled (settle predefined) all ≡ Ok found
+  pub image_is : image found ≡ bytes
+  pub entry_is : entry found ≡ None
+
+pub ends_last : (before : List Line) (number : ℕ) (text : List ℕ) (next : Location) (bytes : Image) →
+    Taken before number text true next bytes → Ends before number (text ∷ []) bytes
+ends_last before number text next bytes taken = record {
+  all = taken.line ∷ before;
+  found = taken.earlier;
+  laid_is = rw (taken.check_is, taken.last_is) refl;
+  names_are = taken.stands.names_are;
+  settled_are = taken.stands.settled_are;
+  image_is = taken.stands.image_is;
+  entry_is = taken.stands.entry_is;
+}
+
+second : {A : Type 0} (b : Bool) (x y : A) → b ≡ false → (if b then x else y) ≡ y
+second true x y e = absurd (cc)
+second false x y e = refl
+
+pub ends_more : (before : List Line) (number : ℕ) (text : List ℕ) (texts : List (List ℕ)) (next : Location) (bytes whole : Image)
+    (taken : Taken before number text false next bytes) → Ends (taken.line ∷ before) (number + 1) texts whole →
+    Ends before number (text ∷ texts) whole
+ends_more before number text texts next bytes whole taken ends = record {
+  all = ends.all;
+  found = ends.found;
+  laid_is =
+      rw taken.check_is
+      (second taken.line.last (Ok (taken.line ∷ before)) (laid_behind check (taken.line ∷ before) (numbered (number + 1) texts)) taken.last_is
+      ∙ ends.laid_is);
+  names_are = ends.names_are;
+  settled_are = ends.settled_are;
+  image_is = ends.image_is;
+  entry_is = ends.entry_is;
+}

@@ -1,0 +1,182 @@
+-- The lines of a listing are let through, each at its place.
+use Rattle.std.proofs.Common.{◌≡◌, ℕ, zero, suc, ◌+◌, ◌-◌, ◌*◌, ◌/◌, ◌%◌, ◌<◌, ◌≤◌, Bool, true, false, not, ◌&&◌, ◌||◌, eqb, List, [], ◌∷◌, ◌++◌}
+use Rattle.std.proofs.Common.{length, length-append, refl, ap, sym, subst, ◌∙◌, ◌⊎◌, inl, inr, Ok, Err, Result, Option, Some, None, lit≤, arith}
+use Rattle.std.specs.Prelude.{◌==◌, codes, IsTrue, nat_lt}
+use Rattle.std.specs.List.{list_all}
+use Rattle.std.proofs.lemmas.Bool.Decides.{nat_tests}
+use Rattle.source_defs.specs.Digits.{marked_word, marked_byte, word_digits, byte_digits}
+use Rattle.source_defs.specs.ListedLines.{listed, with_operands, two_texts}
+use Rattle.source_defs.specs.Symbols.{look_up, predefined}
+use Rattle.source_defs.specs.Expression.{Value}
+use Rattle.gpl_defs.specs.declared.instruction.Space.{Space}
+use Rattle.gpl_defs.specs.declared.instruction.Space.TheVariants.{Cpu, Vdp}
+use Rattle.gpl_defs.specs.declared.instruction.GplOperand.{GplOperand}
+use Rattle.gpl_defs.specs.declared.instruction.GplSource.{GplSource}
+use Rattle.gpl_defs.specs.declared.instruction.GplSource.TheVariants as source
+use Rattle.gpl_defs.specs.declared.instruction.MoveLength.{MoveLength}
+use Rattle.gpl_defs.specs.declared.instruction.MoveLength.TheVariants as count
+use Rattle.gpl_defs.specs.declared.instruction.MoveTarget.{MoveTarget}
+use Rattle.gpl_defs.specs.declared.instruction.MoveTarget.TheVariants as target
+use Rattle.gpl_defs.specs.declared.instruction.MoveSource.{MoveSource}
+use Rattle.gpl_defs.specs.declared.instruction.MoveSource.TheVariants as from
+use Rattle.gpl_defs.specs.declared.instruction.GplInstr.{GplInstr}
+use Rattle.gpl_defs.specs.declared.instruction.GplInstr.TheVariants as instr
+use Rattle.gpl_defs.specs.Image.{Image, placed}
+use Rattle.gpl_defs.specs.Valid.{is_valid}
+use Rattle.gpl_defs.specs.Bytes.{bytes_of}
+use Rattle.program_defs.specs.declared.directive.Directive.{Directive}
+use Rattle.program_defs.specs.declared.directive.Directive.TheVariants as named
+use Rattle.program_defs.specs.declared.location.Location.{Location}
+use Rattle.program_defs.specs.Directives.{directive}
+use Rattle.program_defs.specs.Mnemonics.{name_of, mnemonic}
+use Rattle.program_defs.specs.Values.{byte_of}
+use Rattle.program_defs.specs.Statements.{Statement, Instruction, Grom, Aorg, Byte, End, operation_statement, size_said}
+use Rattle.program_defs.specs.Locations.{Line, behind, address_of, origin_of, passes, grom_size}
+use Rattle.program_defs.specs.FirstChecks.{checked, is_full, is_bad, is_end}
+use Rattle.program_defs.specs.SecondChecks.{Bytes, outcome}
+use Rattle.program_defs.specs.Programs.{Settled, overlaps}
+use Rattle.listing_defs.specs.Texts.{prefix, index_text, operand_text, source_text, length_text, target_text, from_text, mnemonic_of, operands_text, branch_target, instr_text, shown_address}
+use Rattle.listing_defs.proofs.Scans.{all_both}
+use Rattle.listing_defs.proofs.DigitLaws.{word_passes, byte_passes, word_value, byte_value}
+use Rattle.listing_defs.proofs.OperandLines.{whole, one_text}
+use Rattle.listing_defs.proofs.FormLaws.{rest_of}
+use Rattle.listing_defs.proofs.SkeletonLaws.{Alphabet, InstrFits, operand_all, source_all, length_all, target_all, from_all, operand_some}
+use Rattle.listing_defs.proofs.InstructionText.{left_of, field_of, skeleton_back}
+use Rattle.listing_defs.proofs.InstructionAgain.{InGromOf, size_back, instruction_back}
+use Rattle.listing_defs.proofs.NameLaws.{plain_byte, instr_names}
+use Rattle.listing_defs.proofs.LineTexts.{Cut, Fit, cut_listed, in_line, listed_in_line}
+use Rattle.listing_defs.proofs.StateLaws.{Stands, Taken, checked_as, moved, taken}
+
+-- ---- operands stand in a line
+
+plain_letters : Alphabet plain_byte
+plain_letters = record { digits = refl; sign = refl; at_sign = refl; star = refl; video = refl; opens = refl; closes = refl; grom = refl; register = refl }
+
+operands_plain : (found : GplInstr) (at : ℕ) → list_all plain_byte (field_of (operands_text found at)) ≡ true
+operands_plain (instr.Plain op) at = refl
+operands_plain (instr.Byte op value) at = byte_passes plain_byte value refl refl
+operands_plain (instr.Jump op to) at = word_passes plain_byte to refl refl
+operands_plain (instr.Branch on offset) at = word_passes plain_byte (branch_target at offset) refl refl
+operands_plain (instr.One op word operand) at = operand_all plain_byte plain_letters operand
+operands_plain (instr.Two op word dst src) at =
+    all_both plain_byte (operand_text dst) (0x2C ∷ source_text word src) (operand_all plain_byte plain_letters dst)
+    (source_all plain_byte plain_letters word src)
+operands_plain (instr.Move length to source) at =
+    all_both plain_byte (length_text length) (0x2C ∷ two_texts (target_text to) (from_text source))
+    (length_all plain_byte plain_letters length)
+    (all_both plain_byte (target_text to) (0x2C ∷ from_text source) (target_all plain_byte plain_letters to)
+    (from_all plain_byte plain_letters source))
+
+rest_short : (n : ℕ) (index : Option ℕ) → length (rest_of n index) ≤ 13
+unfolding word_digits
+rest_short n None = lit≤ tt
+rest_short n (Some i) = lit≤ tt
+
+operand_short : (operand : GplOperand) → length (operand_text operand) ≤ 15
+unfolding operand_text
+operand_short operand = by operand.space operand.indirect
+  where
+    by : (space : Space) (indirect : Bool) →
+        length (prefix space indirect ++ rest_of (shown_address operand.space operand.indirect operand.address) operand.index) ≤ 15
+    by Cpu false = let n = rest_short (shown_address operand.space operand.indirect operand.address) operand.index in omega arith
+    by Cpu true = let n = rest_short (shown_address operand.space operand.indirect operand.address) operand.index in omega arith
+    by Vdp false = let n = rest_short (shown_address operand.space operand.indirect operand.address) operand.index in omega arith
+    by Vdp true = let n = rest_short (shown_address operand.space operand.indirect operand.address) operand.index in omega arith
+
+word_short : (n : ℕ) → length (marked_word n) ≤ 15
+unfolding word_digits
+word_short n = lit≤ tt
+
+byte_short : (n : ℕ) → length (marked_byte n) ≤ 15
+unfolding byte_digits
+byte_short n = lit≤ tt
+
+source_short : (word : Bool) (src : GplSource) → length (source_text word src) ≤ 15
+source_short word (source.At operand) = operand_short operand
+source_short true (source.Immediate value) = word_short value
+source_short false (source.Immediate value) = byte_short value
+
+length_short : (counted : MoveLength) → length (length_text counted) ≤ 15
+length_short (count.At operand) = operand_short operand
+length_short (count.Immediate number) = word_short number
+
+target_short : (to : MoveTarget) → length (target_text to) ≤ 15
+unfolding byte_digits
+target_short (target.At operand) = operand_short operand
+target_short (target.Register number) = lit≤ tt
+
+from_short : (source : MoveSource) → length (from_text source) ≤ 15
+unfolding word_digits
+from_short (from.At operand) = operand_short operand
+from_short (from.Grom address) = lit≤ tt
+from_short (from.GromIndexed address index) = lit≤ tt
+
+operands_short : (found : GplInstr) (at : ℕ) → length (field_of (operands_text found at)) ≤ 47
+operands_short (instr.Plain op) at = omega arith
+operands_short (instr.Byte op value) at = let n = byte_short value in omega arith
+operands_short (instr.Jump op to) at = let n = word_short to in omega arith
+operands_short (instr.Branch on offset) at = let n = word_short (branch_target at offset) in omega arith
+operands_short (instr.One op word operand) at = let n = operand_short operand in omega arith
+operands_short (instr.Two op word dst src) at =
+    let n = operand_short dst in
+    let m = source_short word src in
+    rw (length-append (operand_text dst) (0x2C ∷ source_text word src)) (omega arith)
+operands_short (instr.Move counted to source) at =
+    let n = length_short counted in
+    let m = target_short to in
+    let k = from_short source in
+    let s = length-append (length_text counted) (0x2C ∷ two_texts (target_text to) (from_text source)) in
+    let t = length-append (target_text to) (0x2C ∷ from_text source) in
+    omega arith
+
+operands_some : (found : GplInstr) (at : ℕ) →
+    (operands_text found at ≡ None) ⊎ (0 < length (field_of (operands_text found at)))
+operands_some (instr.Plain op) at = inl refl
+operands_some (instr.Byte op value) at = inr (omega arith)
+operands_some (instr.Jump op to) at = inr (omega arith)
+operands_some (instr.Branch on offset) at = inr (omega arith)
+operands_some (instr.One op word operand) at = inr (operand_some operand)
+operands_some (instr.Two op word dst src) at =
+    inr (let s = length-append (operand_text dst) (0x2C ∷ source_text word src) in omega arith)
+operands_some (instr.Move counted to source) at =
+    inr (let s = length-append (length_text counted) (0x2C ∷ two_texts (target_text to) (from_text source)) in omega arith)
+
+instr_fit : (found : GplInstr) (at : ℕ) → IsTrue (is_valid found) →
+    Fit (name_of (mnemonic_of found)) (field_of (operands_text found at))
+instr_fit found at valid =
+    let names = instr_names found valid in
+    record {
+      some = names.some;
+      short = names.short;
+      few = operands_short found at;
+      name_plain = names.plain;
+      field_plain = operands_plain found at;
+    }
+
+pub instr_in_line : (found : GplInstr) (at : ℕ) → IsTrue (is_valid found) →
+    list_all in_line (listed (instr_text found at)) ≡ true
+unfolding instr_text
+instr_in_line found at valid =
+    listed_in_line (name_of (mnemonic_of found)) (operands_text found at) (instr_fit found at valid)
+
+not_full : (here : Location) (said : Statement) → here.number + size_said said ≤ here.grom + 0x2000 → is_full here said ≡ false
+not_full here said le = let test : nat_lt (here.grom + grom_size) (here.number + size_said said) ≡ false = grind (arith, nat_tests) in test
+
+-- an instruction at its place
+pub instr_taken : (before : List Line) (earlier : List Settled) (at : Location) (held : Image) (number : ℕ) (found : GplInstr) →
+    Stands before earlier at held → InGromOf at → IsTrue (is_valid found) → InstrFits found →
+    at.number + length (bytes_of found) ≤ at.grom + 0x2000 → overlaps held at.number (bytes_of found) ≡ false →
+    Taken before number (listed (instr_text found at.number)) false (behind at (length (bytes_of found))) (placed held at.number (bytes_of found))
+unfolding instr_text outcome
+instr_taken before earlier at held number found stands place valid fits within free =
+    let names = instr_names found valid in
+    let text : List ℕ = listed (with_operands (name_of (mnemonic_of found)) (operands_text found at.number)) in
+    let cut = cut_listed (name_of (mnemonic_of found)) (operands_text found at.number) (instr_fit found at.number valid) (operands_some found at.number) in
+    let said : Statement = Instruction (left_of found at.number) in
+    let is : operation_statement (look_up predefined) (address_of at) (name_of (mnemonic_of found)) (field_of (operands_text found at.number)) ≡ Ok said =
+    rw (names.no_directive, names.reads, skeleton_back (look_up predefined) (address_of at) found at.number valid fits) refl in
+    let size : size_said said ≡ length (bytes_of found) = size_back found at.number valid in
+    let first = checked_as predefined at text _ _ said cut is (not_full at said (rw size within)) refl in
+    let second : outcome (look_up predefined) at said ≡ Ok (Bytes (bytes_of found)) =
+    rw (instruction_back (look_up predefined) at found valid fits place) refl in
+    rw size at (taken before earlier at held number text said (bytes_of found) None stands first second free refl)
