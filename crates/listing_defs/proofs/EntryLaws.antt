@@ -1,7 +1,7 @@
 -- The lines of a listing are let through, each at its place.
 use Rattle.std.proofs.Common.{◌≡◌, ℕ, zero, suc, ◌+◌, ◌-◌, ◌*◌, ◌/◌, ◌%◌, ◌<◌, ◌≤◌, Bool, true, false, not, ◌&&◌, ◌||◌, eqb, List, [], ◌∷◌, ◌++◌}
 use Rattle.std.proofs.Common.{length, length-append, refl, ap, sym, subst, ◌∙◌, ◌⊎◌, inl, inr, Ok, Err, Result, Option, Some, None, lit≤, arith}
-use Rattle.std.specs.Prelude.{◌==◌, codes, IsTrue, nat_lt}
+use Rattle.std.specs.Prelude.{◌==◌, codes, IsTrue, nat_lt, nat_le}
 use Rattle.std.specs.List.{list_all}
 use Rattle.std.proofs.lemmas.Bool.Decides.{nat_tests}
 use Rattle.source_defs.specs.Digits.{marked_word, marked_byte, word_digits, byte_digits}
@@ -45,7 +45,7 @@ use Rattle.listing_defs.proofs.InstructionText.{left_of, field_of, skeleton_back
 use Rattle.listing_defs.proofs.InstructionAgain.{InGromOf, size_back, instruction_back}
 use Rattle.listing_defs.proofs.NameLaws.{plain_byte, instr_names}
 use Rattle.listing_defs.proofs.LineTexts.{Cut, Fit, cut_listed, in_line, listed_in_line}
-use Rattle.listing_defs.proofs.StateLaws.{Stands, Taken, checked_as, moved, taken}
+use Rattle.listing_defs.proofs.StateLaws.{Stands, Taken, checked_as, moved, taken, here_again}
 
 -- ---- operands stand in a line
 
@@ -180,3 +180,130 @@ instr_taken before earlier at held number found stands place valid fits within f
     let second : outcome (look_up predefined) at said ≡ Ok (Bytes (bytes_of found)) =
     rw (instruction_back (look_up predefined) at found valid fits place) refl in
     rw size at (taken before earlier at held number text said (bytes_of found) None stands first second free refl)
+
+-- ---- the other lines
+
+at_location : (before : List Line) (number : ℕ) (text : List ℕ) (last : Bool) (here there : Location) (held : Image) →
+    here ≡ there → Taken before number text last here held → Taken before number text last there held
+at_location before number text last here there held same it =
+    let T : Location → Type 0 = λ at. Taken before number text last at held in subst T same it
+
+word_fit : (name : List ℕ) (n : ℕ) → 0 < length name → length name ≤ 6 → list_all plain_byte name ≡ true →
+    Fit name (marked_word n)
+word_fit name n some short plain = record {
+  some = some;
+  short = short;
+  few = (let m = word_short n in omega arith);
+  name_plain = plain;
+  field_plain = word_passes plain_byte n refl refl;
+}
+
+byte_fit : (name : List ℕ) (n : ℕ) → 0 < length name → length name ≤ 6 → list_all plain_byte name ≡ true →
+    Fit name (marked_byte n)
+byte_fit name n some short plain = record {
+  some = some;
+  short = short;
+  few = (let m = byte_short n in omega arith);
+  name_plain = plain;
+  field_plain = byte_passes plain_byte n refl refl;
+}
+
+abbrev byte_text : ℕ → List ℕ
+byte_text b = codes "BYTE " ++ marked_byte b
+
+abbrev grom_text : ℕ → List ℕ
+grom_text e = codes "GROM " ++ marked_word e
+
+abbrev aorg_text : ℕ → List ℕ
+aorg_text e = codes "AORG " ++ marked_word e
+
+pub byte_in_line : (b : ℕ) → list_all in_line (listed (byte_text b)) ≡ true
+byte_in_line b =
+    listed_in_line (codes "BYTE") (Some (marked_byte b)) (byte_fit (codes "BYTE") b (omega arith) (omega arith) refl)
+
+pub grom_in_line : (e : ℕ) → list_all in_line (listed (grom_text e)) ≡ true
+grom_in_line e =
+    listed_in_line (codes "GROM") (Some (marked_word e)) (word_fit (codes "GROM") e (omega arith) (omega arith) refl)
+
+pub aorg_in_line : (e : ℕ) → list_all in_line (listed (aorg_text e)) ≡ true
+aorg_in_line e =
+    listed_in_line (codes "AORG") (Some (marked_word e)) (word_fit (codes "AORG") e (omega arith) (omega arith) refl)
+
+byte_said : (here b : ℕ) →
+    operation_statement (look_up predefined) here (codes "BYTE") (marked_byte b) ≡ Ok (Byte (marked_byte b ∷ []))
+unfolding directive
+byte_said here b = rw (one_text (marked_byte b) (omega arith) (byte_passes whole b refl refl)) refl
+
+grom_said : (here e : ℕ) → e < 65536 →
+    operation_statement (look_up predefined) here (codes "GROM") (marked_word e) ≡ Ok (Grom e)
+unfolding directive
+grom_said here e lt =
+    rw (one_text (marked_word e) (omega arith) (word_passes whole e refl refl), word_value (look_up predefined) here e lt) refl
+
+aorg_said : (here e : ℕ) → e < 65536 →
+    operation_statement (look_up predefined) here (codes "AORG") (marked_word e) ≡ Ok (Aorg e)
+unfolding directive
+aorg_said here e lt =
+    rw (one_text (marked_word e) (omega arith) (word_passes whole e refl refl), word_value (look_up predefined) here e lt) refl
+
+end_said : (here : ℕ) → operation_statement (look_up predefined) here (codes "END") [] ≡ Ok (End None)
+unfolding directive
+end_said here = refl
+
+-- a byte at its place
+pub byte_taken : (before : List Line) (earlier : List Settled) (at : Location) (held : Image) (number b : ℕ) →
+    Stands before earlier at held → b < 256 → at.number + 1 ≤ at.grom + 0x2000 → overlaps held at.number (b ∷ []) ≡ false →
+    Taken before number (listed (byte_text b)) false (behind at 1) (placed held at.number (b ∷ []))
+unfolding outcome
+byte_taken before earlier at held number b stands lt within free =
+    let cut = cut_listed (codes "BYTE") (Some (marked_byte b)) (byte_fit (codes "BYTE") b (omega arith) (omega arith) refl) (inr (omega arith)) in
+    let said : Statement = Byte (marked_byte b ∷ []) in
+    let first = checked_as predefined at (listed (byte_text b)) _ _ said cut (byte_said (address_of at) b) (not_full at said within) refl in
+    let few : nat_le b 0xFF ≡ true = grind (arith, nat_tests) in
+    let second : outcome (look_up predefined) at said ≡ Ok (Bytes (b ∷ [])) =
+    rw (byte_value (look_up predefined) (address_of at) b lt, few) refl in
+    taken before earlier at held number (listed (byte_text b)) said (b ∷ []) None stands first second free refl
+
+-- the line that sets a GROM
+pub grom_taken : (before : List Line) (earlier : List Settled) (at : Location) (held : Image) (number e : ℕ) →
+    Stands before earlier at held → e < 65536 → e % 0x2000 ≡ 0 → at.number ≤ at.grom + 0x2000 →
+    Taken before number (listed (grom_text e)) false (record { grom = e; number = e }) held
+unfolding outcome
+grom_taken before earlier at held number e stands lt even within =
+    let cut = cut_listed (codes "GROM") (Some (marked_word e)) (word_fit (codes "GROM") e (omega arith) (omega arith) refl) (inr (omega arith)) in
+    let said : Statement = Grom e in
+    let whole_e : (e % grom_size == 0) ≡ true = grind (arith, nat_tests) in
+    let bad : is_bad None said ≡ false = rw whole_e refl in
+    let full : is_full at said ≡ false = not_full at said (omega arith) in
+    let first = checked_as predefined at (listed (grom_text e)) _ _ said cut (grom_said (address_of at) e lt) full bad in
+    let it = taken before earlier at held number (listed (grom_text e)) said [] (Some (record { grom = e; number = e })) stands first refl refl refl in
+    at_location before number (listed (grom_text e)) false _ (record { grom = e; number = e }) held (here_again (record { grom = e; number = e })) it
+
+-- the line that sets a place in the GROM
+pub aorg_taken : (before : List Line) (earlier : List Settled) (at : Location) (held : Image) (number e : ℕ) →
+    Stands before earlier at held → e < 0x2000 → at.number ≤ at.grom + 0x2000 →
+    Taken before number (listed (aorg_text e)) false (record { grom = at.grom; number = at.grom + e }) held
+unfolding outcome
+aorg_taken before earlier at held number e stands lt within =
+    let cut = cut_listed (codes "AORG") (Some (marked_word e)) (word_fit (codes "AORG") e (omega arith) (omega arith) refl) (inr (omega arith)) in
+    let said : Statement = Aorg e in
+    let below : nat_lt e grom_size ≡ true = grind (arith, nat_tests) in
+    let bad : is_bad None said ≡ false = rw below refl in
+    let full : is_full at said ≡ false = not_full at said (omega arith) in
+    let first = checked_as predefined at (listed (aorg_text e)) _ _ said cut (aorg_said (address_of at) e (omega arith)) full bad in
+    let there : Location = record { grom = at.grom; number = at.grom + e } in
+    let it = taken before earlier at held number (listed (aorg_text e)) said [] (Some (record { grom = at.grom; number = at.grom + e })) stands first refl refl refl in
+    at_location before number (listed (aorg_text e)) false _ (record { grom = at.grom; number = at.grom + e }) held (here_again (record { grom = at.grom; number = at.grom + e })) it
+
+-- the last line
+pub end_taken : (before : List Line) (earlier : List Settled) (at : Location) (held : Image) (number : ℕ) →
+    Stands before earlier at held → at.number ≤ at.grom + 0x2000 →
+    Taken before number (listed (codes "END")) true (behind at 0) held
+unfolding outcome
+end_taken before earlier at held number stands within =
+    let fit : Fit (codes "END") [] = record { some = omega arith; short = omega arith; few = omega arith; name_plain = refl; field_plain = refl } in
+    let cut = cut_listed (codes "END") None fit (inl refl) in
+    let said : Statement = End None in
+    let full : is_full at said ≡ false = not_full at said (omega arith) in
+    let first = checked_as predefined at (listed (codes "END")) _ _ said cut (end_said (address_of at)) full refl in
+    taken before earlier at held number (listed (codes "END")) said [] None stands first refl refl refl

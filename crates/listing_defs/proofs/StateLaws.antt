@@ -61,7 +61,7 @@ pub record Taken (before : List Line) (number : ℕ) (text : List ℕ) (last : B
   pub last_is : line.last ≡ last
   pub stands : Stands (line ∷ before) earlier next bytes
 
-here_again : (at : Location) → ◌≡◌ {A = Location} (behind at 0) at
+pub here_again : (at : Location) → ◌≡◌ {A = Location} (behind at 0) at
 here_again at = same_location at.grom (at.number + 0) at.number (omega arith)
 
 settle_here : (earlier : List Settled) (at there : Location) (held : Image) (said : Statement) (bytes : List ℕ) →
