@@ -183,7 +183,7 @@ instr_taken before earlier at held number found stands place valid fits within f
 
 -- ---- the other lines
 
-at_location : (before : List Line) (number : ℕ) (text : List ℕ) (last : Bool) (here there : Location) (held : Image) →
+pub at_location : (before : List Line) (number : ℕ) (text : List ℕ) (last : Bool) (here there : Location) (held : Image) →
     here ≡ there → Taken before number text last here held → Taken before number text last there held
 at_location before number text last here there held same it =
     let T : Location → Type 0 = λ at. Taken before number text last at held in subst T same it

@@ -12,3 +12,4 @@ pub mod FitLaws
 pub mod PlacingLaws
 pub mod StateLaws
 pub mod EntryLaws
+pub mod ListingLaw
