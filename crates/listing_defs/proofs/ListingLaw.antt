@@ -1,10 +1,11 @@
 -- What is listed is assembled again.
-use Rattle.std.proofs.Common.{◌≡◌, ℕ, zero, suc, ◌+◌, ◌-◌, ◌*◌, ◌/◌, ◌%◌, ◌<◌, ◌≤◌, Bool, true, false, not, cond, ◌&&◌, ◌||◌, eqb, List, [], ◌∷◌, ◌++◌}
-use Rattle.std.proofs.Common.{length, take, drop, refl, ap, sym, subst, ◌∙◌, ◌⊎◌, inl, inr, Ok, Err, Result, Option, Some, None, min, arith}
+use Rattle.std.proofs.Common.{◌≡◌, ◌≢◌, ℕ, zero, suc, ◌+◌, ◌-◌, ◌*◌, ◌/◌, ◌%◌, ◌<◌, ◌≤◌, Bool, true, false, not, cond, ◌&&◌, ◌||◌, eqb, List, [], ◌∷◌, ◌++◌}
+use Rattle.std.proofs.Common.{append_assoc, length, take, drop, refl, ap, sym, subst, ◌∙◌, ◌⊎◌, inl, inr, Ok, Err, Result, Option, Some, None, min, arith}
 use Rattle.std.specs.Prelude.{◌==◌, codes, IsTrue, nat_lt, nat_le, map, slice_index, slice_range, if◌then◌else◌}
 use Rattle.std.specs.List.{list_all, concat}
 use Rattle.std.specs.FinMap.{empty}
 use Rattle.std.proofs.lemmas.List.{drop_more}
+use Rattle.std.proofs.lemmas.Bool.{cases_eq}
 use Rattle.std.proofs.lemmas.Bool.Decides.{nat_tests}
 use Rattle.console_defs.specs.Bytes.{HoldsBytes}
 use Rattle.source_defs.specs.ListedLines.{listed, listing_line}
@@ -31,9 +32,13 @@ use Rattle.listing_defs.proofs.FitLaws.{read_fits}
 use Rattle.listing_defs.proofs.SkeletonLaws.{InstrFits}
 use Rattle.listing_defs.proofs.InstructionAgain.{InGromOf}
 use Rattle.listing_defs.proofs.PlacingLaws.{placed_behind, placed_free, empty_free, no_overlap, stand_taken, between, between_more, between_size}
-use Rattle.listing_defs.proofs.StateLaws.{Stands, Taken, Ends, at_first, ends_last, ends_more}
+use Rattle.listing_defs.proofs.StateLaws.{Stands, Taken, Ends, at_first, ends_last, ends_more, same_location}
 use Rattle.listing_defs.proofs.EntryLaws.{instr_taken, byte_taken, grom_taken, aorg_taken, end_taken, at_location}
 use Rattle.listing_defs.proofs.EntryLaws.{instr_in_line, byte_in_line, grom_in_line, aorg_in_line}
+
+not_false : (b : Bool) → not b ≡ false → b ≡ true
+not_false true e = refl
+not_false false e = absurd (cc)
 
 -- a place, by the GROM that was set last
 abbrev here : ℕ → ℕ → Location
@@ -119,3 +124,137 @@ module _ (image : List ℕ) (low high : ℕ) (bytes : (k : ℕ) → slice_index 
           Entered image low high grom at before number (listed_by image at high read)
       by (Instr instr next) e = by_test instr next e (is_whole image at high instr) refl
       by (Refused code) e = entered_byte grom at before earlier number stands le before_end in_grom
+
+  -- what is left of the texts, with the last
+  abbrev left_from : ℕ → List (List ℕ)
+  left_from at = texts_from image low high at 0 (high - at) ++ codes "END" ∷ []
+
+  -- the line at a place, and what stands behind it
+  abbrev next_of : ℕ → ℕ
+  next_of at = at + (listed_at image at high).size
+
+  abbrev entry_texts : ℕ → List (List ℕ)
+  entry_texts at = (listed_at image at high).text ∷ left_from (next_of at)
+
+  abbrev whole_image : Image
+  whole_image = placed empty low (between image low high)
+
+  abbrev Goes : ℕ → ℕ → List (List ℕ) → Type 0
+  Goes grom at texts =
+      (before : List Line) (earlier : List Settled) (number : ℕ) →
+      Stands before earlier (here grom at) (placed empty low (between image low at)) →
+      Ends before number (map listed texts) whole_image
+
+  -- from a place where a line may stand, to the end
+  abbrev GoesFrom : ℕ → Type 0
+  GoesFrom at =
+      (grom : ℕ) → grom % 0x2000 ≡ 0 → grom ≤ at → at ≤ grom + 0x2000 → (at ≡ low → at < grom + 0x2000) →
+      Goes grom at (left_from at)
+
+  entry_goes : (grom at : ℕ) → low ≤ at → at < high → grom % 0x2000 ≡ 0 → grom ≤ at → at < grom + 0x2000 →
+      ((next : ℕ) → at < next → next ≤ high → GoesFrom next) →
+      Goes grom at (entry_texts at)
+  entry_goes grom at le before_end whole from in_grom rest before earlier number stands =
+      let e = entered grom at before earlier number stands le before_end whole from in_grom in
+      let next : ℕ = at + (listed_at image at high).size in
+      let some = e.some in
+      let after : at < at + (listed_at image at high).size = omega arith in
+      let go = rest (at + (listed_at image at high).size) after e.within grom whole (omega arith) e.in_grom (λ first. absurd (omega arith)) in
+      ends_more before number (listed (listed_at image at high).text) _ _ _ whole_image e.taken
+      (go (e.taken.line ∷ before) e.taken.earlier (number + 1) e.taken.stands)
+
+  -- GROM and AORG, and what stands behind them
+  origin_goes : (grom at : ℕ) (texts : List (List ℕ)) → at < 65536 → at ≤ grom + 0x2000 →
+      Goes (at / grom_size * grom_size) at texts → Goes grom at (origin_texts at ++ texts)
+  origin_goes grom at texts lt within go before earlier number stands =
+      let g : ℕ = at / grom_size * grom_size in
+      let first = grom_taken before earlier (here grom at) (placed empty low (between image low at)) number (at / grom_size * grom_size) stands (omega arith) (omega arith) within in
+      let second = aorg_taken (first.line ∷ before) first.earlier (here (at / grom_size * grom_size) (at / grom_size * grom_size)) (placed empty low (between image low at)) (number + 1) (at % grom_size) first.stands (omega arith) (omega arith) in
+      let there : ◌≡◌ {A = Location} (here (at / grom_size * grom_size) (at / grom_size * grom_size + at % grom_size)) (here (at / grom_size * grom_size) at) =
+      same_location (at / grom_size * grom_size) (at / grom_size * grom_size + at % grom_size) at (omega arith) in
+      let S : Location → Type 0 = λ loc. Stands (second.line ∷ first.line ∷ before) second.earlier loc (placed empty low (between image low at)) in
+      ends_more before number _ _ _ _ whole_image first
+      (ends_more (first.line ∷ before) (number + 1) _ _ _ _ whole_image second
+      (go (second.line ∷ first.line ∷ before) second.earlier (number + 1 + 1) (subst S there second.stands)))
+
+  step_goes : (test : Bool) (grom at : ℕ) → ((at % grom_size == 0) && not (at == low)) ≡ test → low ≤ at → at < high →
+      grom % 0x2000 ≡ 0 → grom ≤ at → at ≤ grom + 0x2000 → (at ≡ low → at < grom + 0x2000) →
+      ((next : ℕ) → at < next → next ≤ high → GoesFrom next) →
+      Goes grom at ((if test then origin_texts at else []) ++ entry_texts at)
+  step_goes true grom at e le before_end whole from to first rest =
+      let even : at % 0x2000 ≡ 0 = grind (arith, nat_tests) in
+      origin_goes grom at (entry_texts at) (omega arith) to
+      (entry_goes (at / grom_size * grom_size) at le before_end (omega arith) (omega arith) (omega arith) rest)
+  step_goes false grom at e le before_end whole from to first rest =
+      entry_goes grom at le before_end whole from (inside (cases_eq at (grom + 0x2000))) rest
+    where
+      inside : (at ≡ grom + 0x2000) ⊎ (at ≢ grom + 0x2000) → at < grom + 0x2000
+      inside (inr other) = omega arith
+      inside (inl same) =
+          let even : (at % grom_size == 0) ≡ true = (let z : at % 0x2000 ≡ 0 = omega arith in grind (arith, nat_tests)) in
+          let is_low : (at == low) ≡ true = not_false (at == low) (rw even at e) in
+          first (grind (arith, nat_tests))
+
+  -- how far the line at a place goes
+  record Sized (at : ℕ) (line : Listed) : Type 0 where
+    some : 0 < line.size
+    within : at + line.size ≤ high
+
+  sized : (at : ℕ) → at < high → Sized at (listed_at image at high)
+  unfolding listed_at
+  sized at before_end = by (reading image at)
+    where
+      by_test : (instr : GplInstr) (test : Bool) → is_whole image at high instr ≡ test →
+          Sized at (if test then instr_listed instr at else byte_listed image at)
+      by_test instr true e =
+          let ends : nat_le (at + length (bytes_of instr)) (min high (boundary at)) ≡ true = and_right (stand image (bytes_of instr) at) _ e in
+          let short : at + length (bytes_of instr) ≤ min high (boundary at) = grind (arith, nat_tests) in
+          record { some = omega arith; within = omega arith }
+      by_test instr false e = record { some = omega arith; within = omega arith }
+
+      by : (read : GplRead) → Sized at (listed_by image at high read)
+      by (Instr instr next) = by_test instr (is_whole image at high instr) refl
+      by (Refused code) = record { some = omega arith; within = omega arith }
+
+  regroup : (o r e : List (List ℕ)) (t : List ℕ) → ((o ++ (t ∷ [])) ++ r) ++ e ≡ o ++ (t ∷ (r ++ e))
+  regroup o r e t =
+      append_assoc (o ++ (t ∷ [])) r e ∙ append_assoc o (t ∷ []) (r ++ e)
+
+  left_step : (at : ℕ) → at < high → left_from at ≡ origin_texts_at low at ++ entry_texts at
+  left_step at before_end =
+      let s = sized at before_end in
+      let some = s.some in
+      let after : at < next_of at = omega arith in
+      ap (λ texts. texts ++ codes "END" ∷ []) (texts_step image low high at (next_of at) refl after s.within)
+      ∙ regroup (origin_texts_at low at) (texts_from image low high (next_of at) 0 (high - next_of at)) (codes "END" ∷ []) (listed_at image at high).text
+
+  end_goes : (grom at : ℕ) → at ≡ high → at ≤ grom + 0x2000 → Goes grom at (left_from at)
+  end_goes grom at same within before earlier number stands =
+      let it = end_taken before earlier (here grom at) (placed empty low (between image low at)) number stands within in
+      let E : List (List ℕ) → Type 0 = λ texts. Ends before number (map listed (texts ++ codes "END" ∷ [])) whole_image in
+      let I : ℕ → Type 0 = λ end. Ends before number (map listed (codes "END" ∷ [])) (placed empty low (between image low end)) in
+      subst E (sym (texts_end image low high at (omega arith)))
+      (subst I same (ends_last before number (listed (codes "END")) _ _ it))
+
+  goes : (n at : ℕ) → high ≤ at + n → low ≤ at → at ≤ high → GoesFrom at
+  goes zero at fuel le to grom whole from within first = end_goes grom at (omega arith) within
+  goes (suc n) at fuel le to grom whole from within first = by (nat_lt at high) refl (λ next after inside. goes n next (omega arith) (omega arith) inside)
+    where
+      by : (more : Bool) → nat_lt at high ≡ more → ((next : ℕ) → at < next → next ≤ high → GoesFrom next) →
+          Goes grom at (left_from at)
+      by true e rest =
+          let before_end : at < high = grind (arith, nat_tests) in
+          let G : List (List ℕ) → Type 0 = λ texts. Goes grom at texts in
+          subst G (sym (left_step at before_end))
+          (step_goes ((at % grom_size == 0) && not (at == low)) grom at refl le before_end whole from within first rest)
+      by false e rest = end_goes grom at (grind (arith, nat_tests)) within
+
+  -- ---- the whole listing
+
+  all_go : low ≤ high → low < 65536 → Ends [] 1 (map listed (grom_texts image low high)) whole_image
+  all_go order fits =
+      let nothing : low - low ≡ 0 = omega arith in
+      let none : between image low low ≡ [] = ap (λ n. take n (drop low image)) nothing in
+      let S : List ℕ → Type 0 = λ taken. Stands [] [] (here 0x6000 0x6000) (placed empty low taken) in
+      let I : List ℕ → Type 0 = λ taken. Taken [] 1 (listed (codes "END")) false start (placed empty low taken) in
+      ?

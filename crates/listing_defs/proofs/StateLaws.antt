@@ -31,7 +31,7 @@ abbrev pub moved : Option Location → Location → ℕ → Location
 moved None here size = behind here size
 moved (Some origin) here size = behind origin size
 
-same_location : (grom m n : ℕ) → m ≡ n →
+pub same_location : (grom m n : ℕ) → m ≡ n →
     ◌≡◌ {A = Location} (record { grom = grom; number = m }) (record { grom = grom; number = n })
 same_location grom m n e = rw e refl
 
