@@ -164,11 +164,12 @@ module _ (image : List ℕ) (low high : ℕ) (bytes : (k : ℕ) → slice_index 
       (go (e.taken.line ∷ before) e.taken.earlier (number + 1) e.taken.stands)
 
   -- GROM and AORG, and what stands behind them
-  origin_goes : (grom at : ℕ) (texts : List (List ℕ)) → at < 65536 → at ≤ grom + 0x2000 →
-      Goes (at / grom_size * grom_size) at texts → Goes grom at (origin_texts at ++ texts)
-  origin_goes grom at texts lt within go before earlier number stands =
-      let g : ℕ = at / grom_size * grom_size in
-      let first = grom_taken before earlier (here grom at) (placed empty low (between image low at)) number (at / grom_size * grom_size) stands (omega arith) (omega arith) within in
+  origin_from : (loc : Location) (at : ℕ) (texts : List (List ℕ)) → at < 65536 → loc.number ≤ loc.grom + 0x2000 →
+      Goes (at / grom_size * grom_size) at texts → (before : List Line) (earlier : List Settled) (number : ℕ) →
+      Stands before earlier loc (placed empty low (between image low at)) →
+      Ends before number (map listed (origin_texts at ++ texts)) whole_image
+  origin_from loc at texts lt within go before earlier number stands =
+      let first = grom_taken before earlier loc (placed empty low (between image low at)) number (at / grom_size * grom_size) stands (omega arith) (omega arith) within in
       let second = aorg_taken (first.line ∷ before) first.earlier (here (at / grom_size * grom_size) (at / grom_size * grom_size)) (placed empty low (between image low at)) (number + 1) (at % grom_size) first.stands (omega arith) (omega arith) in
       let there : ◌≡◌ {A = Location} (here (at / grom_size * grom_size) (at / grom_size * grom_size + at % grom_size)) (here (at / grom_size * grom_size) at) =
       same_location (at / grom_size * grom_size) (at / grom_size * grom_size + at % grom_size) at (omega arith) in
@@ -183,7 +184,7 @@ module _ (image : List ℕ) (low high : ℕ) (bytes : (k : ℕ) → slice_index 
       Goes grom at ((if test then origin_texts at else []) ++ entry_texts at)
   step_goes true grom at e le before_end whole from to first rest =
       let even : at % 0x2000 ≡ 0 = grind (arith, nat_tests) in
-      origin_goes grom at (entry_texts at) (omega arith) to
+      origin_from (here grom at) at (entry_texts at) (omega arith) to
       (entry_goes (at / grom_size * grom_size) at le before_end (omega arith) (omega arith) (omega arith) rest)
   step_goes false grom at e le before_end whole from to first rest =
       entry_goes grom at le before_end whole from (inside (cases_eq at (grom + 0x2000))) rest
@@ -254,7 +255,81 @@ module _ (image : List ℕ) (low high : ℕ) (bytes : (k : ℕ) → slice_index 
   all_go : low ≤ high → low < 65536 → Ends [] 1 (map listed (grom_texts image low high)) whole_image
   all_go order fits =
       let nothing : low - low ≡ 0 = omega arith in
-      let none : between image low low ≡ [] = ap (λ n. take n (drop low image)) nothing in
-      let S : List ℕ → Type 0 = λ taken. Stands [] [] (here 0x6000 0x6000) (placed empty low taken) in
-      let I : List ℕ → Type 0 = λ taken. Taken [] 1 (listed (codes "END")) false start (placed empty low taken) in
-      ?
+      let none : [] ≡ between image low low = ap (λ n. take n (drop low image)) (sym nothing) in
+      let S : List ℕ → Type 0 = λ taken. Stands [] [] start (placed empty low taken) in
+      origin_from start low (left_from low) fits (omega arith)
+      (goes high low (omega arith) (omega arith) order (low / grom_size * grom_size) (omega arith) (omega arith) (omega arith) (λ first. omega arith))
+      [] [] 1 (subst S none at_first)
+
+  -- ---- no text has a line feed
+
+  abbrev clean : List (List ℕ) → Bool
+  clean texts = list_all (λ text. list_all in_line (listed text)) texts
+
+  clean_both : (xs ys : List (List ℕ)) → clean xs ≡ true → clean ys ≡ true → clean (xs ++ ys) ≡ true
+  clean_both [] ys e f = f
+  clean_both (x ∷ xs) ys e f =
+      rw (and_left (list_all in_line (listed x)) (clean xs) e, clean_both xs ys (and_right (list_all in_line (listed x)) (clean xs) e) f) refl
+
+  clean_origin : (at : ℕ) → clean (origin_texts at) ≡ true
+  clean_origin at = rw (grom_in_line (at / grom_size * grom_size), aorg_in_line (at % grom_size)) refl
+
+  clean_origin_at : (test : Bool) (at : ℕ) → clean (if test then origin_texts at else []) ≡ true
+  clean_origin_at true at = clean_origin at
+  clean_origin_at false at = refl
+
+  clean_listed : (at : ℕ) → list_all in_line (listed (listed_at image at high).text) ≡ true
+  unfolding listed_at
+  clean_listed at = by (reading image at) refl
+    where
+      by_test : (instr : GplInstr) (next : ℕ) → reading image at ≡ Instr instr next → (test : Bool) →
+          list_all in_line (listed ((if test then instr_listed instr at else byte_listed image at).text)) ≡ true
+      by_test instr next read true =
+          let R : GplRead → Type 0 = λ read. IsReadAt image at read in
+          let means : ReadsInstr image at instr next = subst R read (reading_means image at bytes) in
+          instr_in_line instr at means.means.is_kind.valid
+      by_test instr next read false = byte_in_line (slice_index image at)
+
+      by : (read : GplRead) → reading image at ≡ read → list_all in_line (listed (listed_by image at high read).text) ≡ true
+      by (Instr instr next) e = by_test instr next e (is_whole image at high instr)
+      by (Refused code) e = byte_in_line (slice_index image at)
+
+  clean_from : (at belonging left : ℕ) → clean (texts_from image low high at belonging left) ≡ true
+  clean_from at zero zero = refl
+  clean_from at (suc belonging) zero = refl
+  clean_from at (suc belonging) (suc left) = clean_from (at + 1) belonging left
+  clean_from at zero (suc left) =
+      clean_both (origin_texts_at low at) _ (clean_origin_at ((at % grom_size == 0) && not (at == low)) at)
+      (rw (clean_listed at, clean_from (at + 1) ((listed_at image at high).size - 1) left) refl)
+
+  clean_all : clean (grom_texts image low high) ≡ true
+  clean_all =
+      clean_both (origin_texts low) (left_from low) (clean_origin low)
+      (clean_both (texts_from image low high low 0 (high - low)) (codes "END" ∷ []) (clean_from low 0 (high - low)) refl)
+
+clean_lines : (texts : List (List ℕ)) → list_all (λ text. list_all in_line (listed text)) texts ≡ true →
+    list_all (λ line. list_all in_line line) (map listed texts) ≡ true
+clean_lines [] e = refl
+clean_lines (text ∷ texts) e =
+    let first = and_left (list_all in_line (listed text)) (list_all (λ text. list_all in_line (listed text)) texts) e in
+    let rest = clean_lines texts (and_right (list_all in_line (listed text)) (list_all (λ text. list_all in_line (listed text)) texts) e) in
+    rw (first, rest) refl
+
+text_of : (texts : List (List ℕ)) → concat (map listing_line texts) ≡ joined (map listed texts)
+text_of [] = refl
+text_of (text ∷ texts) = ap (λ rest. listing_line text ++ rest) (text_of texts)
+
+-- a source whose lines are let through to the last
+program_is : (texts : List (List ℕ)) (bytes : Image) → Ends [] 1 (map listed texts) bytes →
+    list_all (λ line. list_all in_line line) (map listed texts) ≡ true →
+    program_of_source (joined (map listed texts)) ≡ Ok (record { image = bytes; entry = None; names = predefined })
+program_is texts bytes ends clean =
+    rw (lines_joined (map listed texts) clean, ends.laid_is, ends.names_are, ends.settled_are, ends.image_is, ends.entry_is) refl
+
+-- what is listed is assembled again
+pub listings_come_back : ListingsComeBack
+unfolding grom_listing
+listings_come_back image low high holds fits order top =
+    rw (text_of (grom_texts image low high))
+    (program_is (grom_texts image low high) _ (all_go image low high holds.fits holds.size top order fits)
+    (clean_lines (grom_texts image low high) (clean_all image low high holds.fits holds.size top)))
