@@ -12,3 +12,4 @@ pub mod TokenLaws
 pub mod CharacterLaws
 pub mod SymbolLaws
 pub mod GrowingLaws
+pub mod RefusalLaws
