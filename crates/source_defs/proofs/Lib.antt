@@ -13,3 +13,4 @@ pub mod CharacterLaws
 pub mod SymbolLaws
 pub mod GrowingLaws
 pub mod RefusalLaws
+pub mod LaidLaws

@@ -1,0 +1,65 @@
+//! How what a line comes to is placed.
+
+ghost use Rattle.std.specs.Prelude.{◌≡◌, ◌≤◌, ◌+◌, ℕ, length, Ok, Err};
+ghost use Rattle.gpl_defs.specs.Image.{placed};
+ghost use Rattle.program_defs.specs.declared.causes.GplCause.TheVariants.{Overlap};
+ghost use Rattle.program_defs.specs.Programs.{bytes_in, overlaps};
+ghost use Rattle.gpl_lines.specs.Defined.{defined_outcome};
+ghost use Rattle.gpl_asm.specs.Replay.{Puts};
+
+use gpl_forms::GromImage;
+use gpl_lines::Outcome;
+use program_defs::{GplCause, Location};
+
+/// Places what a line comes to, and gives the entry behind it; or refuses it where a byte of it was placed before.
+pub(crate) fn put(
+    image: &mut GromImage,
+    entry: Option<u16>,
+    at: Location,
+    outcome: &Outcome,
+) -> Result<Option<u16>, GplCause>
+    requires { at.number + length (bytes_in (defined_outcome outcome.now)) ≤ 65536 }
+    ensures { Puts image.old entry at (defined_outcome outcome.now) result image.new }
+{
+    match outcome {
+        Outcome::Bytes(bytes) => {
+            if overlaps(image, at.number, bytes.as_slice()) {
+                return Err(GplCause::Overlap);
+            }
+            put_all(image, at.number, bytes.as_slice());
+            Ok(entry)
+        }
+        Outcome::Entry(address) => Ok(Some(*address)),
+    }
+}
+
+/// Whether one of some bytes from an address on stands where one was placed.
+fn overlaps(image: &GromImage, at: u32, bytes: &[u8]) -> bool
+    requires { at + length bytes.now ≤ 65536 }
+    ensures { result ≡ overlaps image.now at bytes.now }
+{
+    let mut place = at;
+    let mut rest = bytes;
+    while let [_, others @ ..] = rest {
+        if image.is_written(place as u16) {
+            return true;
+        }
+        place += 1;
+        rest = others;
+    }
+    false
+}
+
+/// Puts bytes into an image, the first at an address and the next behind it.
+fn put_all(image: &mut GromImage, at: u32, bytes: &[u8])
+    requires { at + length bytes.now ≤ 65536 }
+    ensures { image.new ≡ placed image.old at bytes.now }
+{
+    let mut place = at;
+    let mut rest = bytes;
+    while let [byte, others @ ..] = rest {
+        image.put(place as u16, *byte);
+        place += 1;
+        rest = others;
+    }
+}
