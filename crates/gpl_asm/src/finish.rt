@@ -40,12 +40,14 @@ impl GplLines {
             mut image,
             ..
         } = self;
-        let entry = settle_all(alloc, &symbols, kept.as_slice(), &mut image)?;
-        Ok(GplProgram {
-            image,
-            entry,
-            names: symbols,
-        })
+        match settle_all(alloc, &symbols, kept.as_slice(), &mut image) {
+            Ok(entry) => Ok(GplProgram {
+                image,
+                entry,
+                names: symbols,
+            }),
+            Err(error) => Err(error),
+        }
     }
 }
 
@@ -56,8 +58,8 @@ fn settle_all(
     kept: &[Kept],
     image: &mut GromImage,
 ) -> Result<Option<u16>, GplError>
-    requires { AllByRecursion (HasRoom symbols.now) kept.now }
-    ensures { Replays symbols.now (record { image = image.old; entry = None }) kept.now result image.new }
+    ensures { AllByRecursion (HasRoom symbols.now) kept.now →
+        Replays symbols.now (record { image = image.old; entry = None }) kept.now result image.new }
 {
     let mut entry = None;
     let mut rest = kept;
@@ -79,8 +81,8 @@ fn settle(
     image: &mut GromImage,
     entry: Option<u16>,
 ) -> Result<Option<u16>, Failure>
-    requires { HasRoom symbols.now line.now }
-    ensures { Settles symbols.now (record { image = image.old; entry = entry }) line.now result image.new }
+    ensures { HasRoom symbols.now line.now →
+        Settles symbols.now (record { image = image.old; entry = entry }) line.now result image.new }
 {
     match &line.rest {
         Rest::Settled(outcome) => Ok(put(image, entry, line.at, outcome)?),

@@ -5,11 +5,12 @@ ghost use Rattle.source_defs.specs.Layout.{with_names};
 ghost use Rattle.source_defs.specs.Symbols.{Names, look_up};
 ghost use Rattle.source_defs.specs.Growing.{Grows};
 ghost use Rattle.program_defs.specs.FirstChecks.{label_entry, said};
-ghost use Rattle.program_defs.specs.SecondChecks.{outcome};
+ghost use Rattle.program_defs.specs.declared.location.Location.{Location};
+ghost use Rattle.program_defs.specs.SecondChecks.{Bytes, outcome};
 ghost use Rattle.program_defs.specs.Growing as growing;
 ghost use Rattle.gpl_lines.specs.Defined.{defined_statement};
 ghost use Rattle.gpl_lines.specs.Validity.{IsValid};
-ghost use Rattle.gpl_asm.specs.Replay.{answer};
+ghost use Rattle.gpl_asm.specs.Replay.{answer, WaitsForSome};
 ghost use Rattle.gpl_asm.specs.Keeping.{kept_of, StandsStill};
 
 use crate::kept::{Kept, Rest};
@@ -20,11 +21,12 @@ use program_defs::GplCause;
 use std::alloc::AllocError;
 
 /// What is left of a line that the first checks let through; none where it comes to nothing.
-#[tactic(auto, using(crate::proofs::RestLaws::rest_laws))]
+#[tactic(auto, using(crate::proofs::RestLaws::open_again, crate::proofs::RestLaws::closed_again))]
 pub(crate) fn rest_of(scope: &Scope<'_>, text: &[u8], statement: &Statement<'_>) -> Result<Option<Rest>, AllocError>
     requires valid { IsValid statement.now }
     requires said { said scope.now.symbols.now scope.now.at text.now ≡ Ok (defined_statement statement.now) }
-    ensures { IfOk result (λ rest. (later : Names) → Grows scope.now.symbols.now later →
+    ensures waits { IfOk result WaitsForSome }
+    ensures answers { IfOk result (λ rest. (later : Names) → Grows scope.now.symbols.now later →
         answer later scope.now.at rest ≡ outcome (look_up later) scope.now.at (defined_statement statement.now)) }
 {
     match scope.outcome(statement) {
@@ -43,7 +45,8 @@ pub(crate) fn rest_of(scope: &Scope<'_>, text: &[u8], statement: &Statement<'_>)
 
 /// What is left of a line that places bytes; none where it places none.
 fn rest_of_bytes(bytes: Vec<u8>) -> Option<Rest>
-    ensures { (later : Names) (at : Rattle.program_defs.specs.declared.location.Location.Location) → answer later at result ≡ Ok (Rattle.program_defs.specs.SecondChecks.Bytes bytes.items) }
+    ensures waits { WaitsForSome result }
+    ensures answers { (later : Names) (at : Location) → answer later at result ≡ Ok (Bytes bytes.items) }
 {
     if bytes.is_empty() {
         return None;

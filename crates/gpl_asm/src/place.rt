@@ -18,8 +18,8 @@ pub(crate) fn put(
     at: Location,
     outcome: &Outcome,
 ) -> Result<Option<u16>, GplCause>
-    requires { at.number + length (bytes_in (defined_outcome outcome.now)) ≤ 65536 }
-    ensures { Puts image.old entry at (defined_outcome outcome.now) result image.new }
+    ensures { at.number + length (bytes_in (defined_outcome outcome.now)) ≤ 65536 →
+        Puts image.old entry at (defined_outcome outcome.now) result image.new }
 {
     match outcome {
         Outcome::Bytes(bytes) => {
@@ -35,16 +35,15 @@ pub(crate) fn put(
 
 /// Whether one of some bytes from an address on stands where one was placed.
 fn overlaps(image: &GromImage, at: u32, bytes: &[u8]) -> bool
-    requires { at + length bytes.now ≤ 65536 }
-    ensures { result ≡ overlaps image.now at bytes.now }
+    ensures { at + length bytes.now ≤ 65536 → result ≡ overlaps image.now at bytes.now }
 {
     let mut place = at;
     let mut rest = bytes;
     while let [_, others @ ..] = rest {
-        if image.is_written(place as u16) {
+        if image.is_written(address(place)) {
             return true;
         }
-        place += 1;
+        place = place.wrapping_add(1);
         rest = others;
     }
     false
@@ -52,14 +51,20 @@ fn overlaps(image: &GromImage, at: u32, bytes: &[u8]) -> bool
 
 /// Puts bytes into an image, the first at an address and the next behind it.
 fn put_all(image: &mut GromImage, at: u32, bytes: &[u8])
-    requires { at + length bytes.now ≤ 65536 }
-    ensures { image.new ≡ placed image.old at bytes.now }
+    ensures { at + length bytes.now ≤ 65536 → image.new ≡ placed image.old at bytes.now }
 {
     let mut place = at;
     let mut rest = bytes;
     while let [byte, others @ ..] = rest {
-        image.put(place as u16, *byte);
-        place += 1;
+        image.put(address(place), *byte);
+        place = place.wrapping_add(1);
         rest = others;
     }
+}
+
+/// A place as an address.
+fn address(place: u32) -> u16
+    ensures { place ≤ 65535 → result ≡ place }
+{
+    (place % 0x10000) as u16
 }

@@ -1,0 +1,6 @@
+pub mod RestLaws
+pub mod ReplayLaws
+pub mod LineLaws
+pub mod TakeLaws
+pub mod FinishLaws
+pub mod TakenLaws

@@ -1,0 +1,15 @@
+pub use Rattle.program_defs.specs.Mnemonics
+pub use Rattle.program_defs.specs.Directives
+pub use Rattle.program_defs.specs.Forms
+pub use Rattle.program_defs.specs.Values
+pub use Rattle.program_defs.specs.Skeletons
+pub use Rattle.program_defs.specs.Statements
+pub use Rattle.program_defs.specs.Locations
+pub use Rattle.program_defs.specs.FirstChecks
+pub use Rattle.program_defs.specs.SecondChecks
+pub use Rattle.program_defs.specs.Programs
+pub mod Errors
+pub mod Replay
+pub mod Keeping
+pub mod Building
+pub mod Finishing
