@@ -1,6 +1,6 @@
 -- The table of codes: each operation with its code bytes and its name.
-use Rattle.std.specs.Prelude.{ℕ, ◌+◌, ◌&&◌, Bool, true, false, nat_le, nat_lt, if◌then◌else◌, List, [], ◌∷◌, ◌++◌, map}
-use Rattle.std.specs.Prelude.{codes, Option, Some, None}
+use Rattle.std.specs.Prelude.{ℕ, ◌+◌, ◌&&◌, Bool, true, false, nat_le, nat_lt, List, [], ◌∷◌, ◌++◌, map}
+use Rattle.std.specs.Prelude.{codes, find, Option}
 use Rattle.gpl_defs.specs.declared.instruction.PlainOp.{PlainOp}
 use Rattle.gpl_defs.specs.declared.instruction.PlainOp.TheVariants.{RTN, RTNC, H, GT, EXIT, CARRY, OVF}
 use Rattle.gpl_defs.specs.declared.instruction.ByteOp.{ByteOp}
@@ -178,11 +178,6 @@ abbrev pub has_code : GplOperation → ℕ → Bool
 has_code operation byte =
     nat_le (row_of operation).code byte && nat_lt byte ((row_of operation).code + (row_of operation).count)
 
-abbrev pub first_operation : List GplOperation → ℕ → Option GplOperation
-first_operation [] byte = None
-first_operation (operation ∷ rest) byte =
-    if has_code operation byte then Some operation else first_operation rest byte
-
 -- The operation of a code byte. A byte that belongs to none is refused.
 abbrev pub operation_at : ℕ → Option GplOperation
-operation_at byte = first_operation operations byte
+operation_at byte = find (λ operation. has_code operation byte) operations

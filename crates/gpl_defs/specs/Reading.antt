@@ -1,5 +1,5 @@
 -- What stands at an address of GROM.
-use Rattle.std.specs.Prelude.{ℕ, ◌+◌, ◌*◌, ◌/◌, ◌%◌, ◌==◌, eqb, ◌&&◌, Bool, true, false, nat_lt, if◌then◌else◌, List, [], ◌∷◌}
+use Rattle.std.specs.Prelude.{◌≡◌, ℕ, ◌/◌, ◌%◌, ◌==◌, ◌&&◌, Bool, true, false, nat_lt, if◌then◌else◌, List, [], ◌∷◌}
 use Rattle.std.specs.Prelude.{slice_index, Option, Some, None}
 use Rattle.console_defs.specs.Words.{join}
 use Rattle.console_defs.specs.Grom.{next_in_grom}
@@ -15,12 +15,7 @@ use Rattle.gpl_defs.specs.declared.instruction.MoveTarget.TheVariants as target
 use Rattle.gpl_defs.specs.declared.instruction.MoveSource.{MoveSource}
 use Rattle.gpl_defs.specs.declared.instruction.MoveSource.TheVariants as from
 use Rattle.gpl_defs.specs.declared.instruction.MoveKind.{MoveKind}
-use Rattle.gpl_defs.specs.declared.instruction.MoveKind.TheVariants.{
-  GromToMemory,
-  GromIndexedToMemory,
-  MemoryToMemory,
-  GromToRegisters,
-}
+use Rattle.gpl_defs.specs.declared.instruction.MoveKind.TheVariants.{GromIndexedToMemory, MemoryToMemory, GromToRegisters}
 use Rattle.gpl_defs.specs.declared.instruction.GplInstr.{GplInstr}
 use Rattle.gpl_defs.specs.declared.instruction.GplInstr.TheVariants.{Plain, Byte, Jump, Branch, One, Two, Move}
 use Rattle.gpl_defs.specs.declared.instruction.GplOperation.{GplOperation}
@@ -28,7 +23,8 @@ use Rattle.gpl_defs.specs.declared.instruction.GplOperation.TheVariants as opera
 use Rattle.gpl_defs.specs.declared.instruction.GplRead.{GplRead}
 use Rattle.gpl_defs.specs.declared.instruction.GplRead.TheVariants.{Instr, Refused}
 use Rattle.gpl_defs.specs.Codes.{operation_at}
-use Rattle.gpl_defs.specs.Bytes.{bytes_of}
+use Rattle.gpl_defs.specs.Bytes.{operation_of, bytes_of}
+use Rattle.gpl_defs.specs.Spellings.{Stand, Means}
 
 -- Each of the following gives what is read from an address on, and the address after its bytes.
 
@@ -49,9 +45,12 @@ abbrev pub address_at : ℕ → List ℕ → ℕ → ℕ × ℕ
 address_at first image at =
     if first % 16 == 15 then word_at image at else (join (first % 16) (slice_index image at), next_in_grom at)
 
+abbrev pub index_by : Bool → List ℕ → ℕ → Option ℕ × ℕ
+index_by true image at = (Some (slice_index image at), next_in_grom at)
+index_by false image at = (None, at)
+
 abbrev pub index_at : ℕ → List ℕ → ℕ → Option ℕ × ℕ
-index_at first image at =
-    if first / 64 % 2 == 1 then (Some (slice_index image at), next_in_grom at) else (None, at)
+index_at first image at = index_by (first / 64 % 2 == 1) image at
 
 abbrev pub with_index : ℕ → ℕ → Option ℕ × ℕ → GplOperand × ℕ
 with_index first address index = (
@@ -149,3 +148,22 @@ is_shortest_by image at (Refused code) = false
 -- whether an instruction stands at an address in its shortest spelling
 abbrev pub is_shortest : List ℕ → ℕ → Bool
 is_shortest image at = is_shortest_by image at (reading image at)
+
+-- an instruction that is read has the code byte there, and is what the bytes there mean
+pub record ReadsInstr (image : List ℕ) (at : ℕ) (instr : GplInstr) (next : ℕ) : Type 0 where
+  pub kept : operation_at (slice_index image at) ≡ Some (operation_of instr)
+  pub means : Means image at instr next
+
+-- a code byte that is refused is the one there, and belongs to no operation
+pub record Refuses (image : List ℕ) (at code : ℕ) : Type 0 where
+  pub there : slice_index image at ≡ code
+  pub refused : operation_at code ≡ None
+
+abbrev pub IsReadAt : List ℕ → ℕ → GplRead → Type 0
+IsReadAt image at (Instr instr next) = ReadsInstr image at instr next
+IsReadAt image at (Refused code) = Refuses image at code
+
+-- wherever these bytes stand, they are read as the instruction
+abbrev pub AreReadAs : GplInstr → List ℕ → Type 0
+AreReadAs instr bytes =
+    (image : List ℕ) (at next : ℕ) → Stand image bytes at next → reading image at ≡ Instr instr next

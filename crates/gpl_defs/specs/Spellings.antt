@@ -1,12 +1,12 @@
 -- The spellings of an instruction, and what the bytes at an address mean.
-use Rattle.std.specs.Prelude.{◌≡◌, ℕ, Bool, true, IsTrue, List, [], ◌∷◌, ◌++◌, slice_index}
+use Rattle.std.specs.Prelude.{◌≡◌, ◌≤◌, ℕ, Bool, true, IsTrue, List, [], ◌∷◌, ◌++◌, length, slice_index}
 use Rattle.console_defs.specs.Words.{low}
 use Rattle.console_defs.specs.Grom.{next_in_grom}
 use Rattle.gpl_defs.specs.declared.instruction.GplOperand.{GplOperand}
 use Rattle.gpl_defs.specs.declared.instruction.GplSource.{GplSource}
 use Rattle.gpl_defs.specs.declared.instruction.GplSource.TheVariants as source
 use Rattle.gpl_defs.specs.declared.instruction.MoveLength.{MoveLength}
-use Rattle.gpl_defs.specs.declared.instruction.MoveLength.TheVariants as length
+use Rattle.gpl_defs.specs.declared.instruction.MoveLength.TheVariants as count
 use Rattle.gpl_defs.specs.declared.instruction.MoveTarget.{MoveTarget}
 use Rattle.gpl_defs.specs.declared.instruction.MoveTarget.TheVariants as target
 use Rattle.gpl_defs.specs.declared.instruction.MoveSource.{MoveSource}
@@ -61,8 +61,8 @@ SpellsSource word (source.At operand) bytes = SpellsOperand operand bytes
 SpellsSource word (source.Immediate value) bytes = bytes ≡ value_bytes word value
 
 abbrev pub SpellsLength : MoveLength → List ℕ → Type 0
-SpellsLength (length.At operand) bytes = SpellsOperand operand bytes
-SpellsLength (length.Immediate count) bytes = bytes ≡ word_bytes count
+SpellsLength (count.At operand) bytes = SpellsOperand operand bytes
+SpellsLength (count.Immediate number) bytes = bytes ≡ word_bytes number
 
 abbrev pub SpellsTarget : MoveTarget → List ℕ → Type 0
 SpellsTarget (target.At operand) bytes = SpellsOperand operand bytes
@@ -107,3 +107,15 @@ pub record Holds (Kind : List ℕ → Type 0) (image : List ℕ) (at next : ℕ)
 -- what the bytes at an address mean: the instruction that they spell, and the address after them
 abbrev pub Means : List ℕ → ℕ → GplInstr → ℕ → Type 0
 Means image at instr next = Holds (Spells instr) image at next
+
+-- the shortest spelling of an instruction: no other has fewer bytes, or as few
+pub record IsShortest (instr : GplInstr) (bytes : List ℕ) : Type 0 where
+  pub spells : Spells instr bytes
+  pub fewest : (other : List ℕ) → Spells instr other → length bytes ≤ length other
+  pub alone : (other : List ℕ) → Spells instr other → length other ≡ length bytes → other ≡ bytes
+
+-- The law, which is proved: what stands at an address means one instruction at most.
+abbrev pub OneMeaning : Type 0
+OneMeaning =
+    (image : List ℕ) (at : ℕ) (instr other : GplInstr) (next behind : ℕ) → Means image at instr next →
+    Means image at other behind → (other ≡ instr) × (behind ≡ next)

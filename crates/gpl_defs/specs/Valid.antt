@@ -1,5 +1,5 @@
 -- Which instructions have bytes at all.
-use Rattle.std.specs.Prelude.{ℕ, ◌&&◌, ◌||◌, not, Bool, true, false, nat_lt}
+use Rattle.std.specs.Prelude.{◌&&◌, ◌||◌, not, Bool, true, false, nat_lt}
 use Rattle.gpl_defs.specs.declared.instruction.OneName.{OneName}
 use Rattle.gpl_defs.specs.declared.instruction.OneName.TheVariants.{FETCH, PUSH}
 use Rattle.gpl_defs.specs.declared.instruction.TwoName.{TwoName}

@@ -1,21 +1,66 @@
 //! The instruction at an address of GROM.
 //!
 //! Each function gives what it reads from an address on, and the address after its bytes.
-ghost use Rattle.std.specs.Prelude.{◌≡◌, ℕ, length, slice_index};
+ghost use Rattle.std.specs.Prelude.{◌≡◌, ℕ, length, slice_index, IsSome};
+ghost use Rattle.gpl_defs.specs.Codes.{operation_at};
 ghost use Rattle.gpl_defs.specs.Reading as spec;
 
 use crate::codes::operation_at;
-use gpl_defs::{GplInstr, GplOperand, GplOperation, GplRead, GplSource, MoveKind, MoveLength, MoveSource, MoveTarget};
-use gpl_defs::Space;
+use crate::write::write_instr;
+use byte_lists::holds_bytes;
+use gpl_defs::{
+    GplInstr, GplOperand, GplOperation, GplRead, GplSource, MoveKind, MoveLength, MoveSource,
+    MoveTarget, Space,
+};
 use grom_counter::next_in_grom;
 
 /// The instruction at an address of 65,536 bytes, in any of its spellings, with the address after it; or the code byte there,
 /// exactly where it is no instruction's. Behind the last address of a GROM comes its first.
 /// GPL Programmer's Guide, the statements.
-#[tactic(auto, unfolding(gpl_defs::specs::Reading::reading))]
 pub fn read_instr(image: &[u8], at: u16) -> GplRead
     requires { length image.now ≡ 65536 }
     ensures value { result ≡ spec.reading image.now at }
+    // an instruction is what the bytes there mean, in the relation of spellings
+    ensures means { spec.IsReadAt image.now at result }
+{
+    holds_bytes(image);
+    read_at(image, at)
+}
+
+/// Whether the instruction at an address of 65,536 bytes, whose code byte is one, stands there in its shortest spelling.
+/// GPL Programmer's Guide, the statements.
+pub fn is_shortest(image: &[u8], at: u16) -> bool
+    requires size { length image.now ≡ 65536 }
+    requires kept { IsSome (operation_at (slice_index image.now at)) }
+    ensures { result ≡ spec.is_shortest image.now at }
+{
+    match read_instr(image, at) {
+        GplRead::Instr { instr, .. } => stands(image, write_instr(&instr).as_slice(), at),
+        GplRead::Refused(_) => false,
+    }
+}
+
+/// Whether bytes stand from an address of 65,536 bytes on, one behind the other in one GROM: behind its last address comes its
+/// first. GPL Programmer's Guide, on the GROM address counter.
+pub fn stands(image: &[u8], bytes: &[u8], at: u16) -> bool
+    requires { length image.now ≡ 65536 }
+    ensures { result ≡ spec.stand image.now bytes.now at }
+{
+    let mut place = at;
+    for byte in bytes {
+        if image[usize::from(place)] != *byte {
+            return false;
+        }
+        place = next_in_grom(place);
+    }
+    true
+}
+
+/// What is read at an address.
+#[tactic(auto, unfolding(gpl_defs::specs::Reading::reading))]
+fn read_at(image: &[u8], at: u16) -> GplRead
+    requires { length image.now ≡ 65536 }
+    ensures { result ≡ spec.reading image.now at }
 {
     let code = image[usize::from(at)];
     match operation_at(code) {
@@ -99,7 +144,10 @@ fn read_target(kind: MoveKind, image: &[u8], at: u16) -> (MoveTarget, u16)
     ensures { result ≡ spec.target_at kind image.now at }
 {
     if let MoveKind::GromToRegisters = kind {
-        (MoveTarget::Register(image[usize::from(at)]), next_in_grom(at))
+        (
+            MoveTarget::Register(image[usize::from(at)]),
+            next_in_grom(at),
+        )
     } else {
         let (operand, next) = read_operand(image, at);
         (MoveTarget::At(operand), next)
@@ -134,7 +182,10 @@ fn read_source(immediate: bool, word: bool, image: &[u8], at: u16) -> (GplSource
         let (value, next) = read_word(image, at);
         (GplSource::Immediate(value), next)
     } else if immediate {
-        (GplSource::Immediate(u16::from(image[usize::from(at)])), next_in_grom(at))
+        (
+            GplSource::Immediate(u16::from(image[usize::from(at)])),
+            next_in_grom(at),
+        )
     } else {
         let (operand, next) = read_operand(image, at);
         (GplSource::At(operand), next)

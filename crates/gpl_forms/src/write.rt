@@ -2,11 +2,16 @@
 ghost use Rattle.std.specs.Prelude.{◌≡◌, ◌+◌, ◌≤◌, ◌++◌, IsTrue, length, is_some};
 ghost use Rattle.arrayvec.specs.ArrayVec.{array_vec_len};
 ghost use Rattle.gpl_defs.specs.Bytes as spec;
-ghost use Rattle.gpl_defs.specs.Valid.{is_valid, is_valid_source};
+ghost use Rattle.gpl_defs.specs.Reading.{AreReadAs};
+ghost use Rattle.gpl_defs.specs.Spellings.{IsShortest};
+ghost use Rattle.gpl_defs.specs.Valid.{is_valid};
 
 use crate::codes::code_of;
 use arrayvec::ArrayVec;
-use gpl_defs::{GplInstr, GplOperand, GplOperation, GplSource, MoveKind, MoveLength, MoveSource, MoveTarget, Space};
+use gpl_defs::{
+    GplInstr, GplOperand, GplOperation, GplSource, MoveKind, MoveLength, MoveSource, MoveTarget,
+    Space,
+};
 
 /// The bytes of an instruction: no instruction has more.
 type Bytes = ArrayVec<u8, 13>;
@@ -16,6 +21,17 @@ type Bytes = ArrayVec<u8, 13>;
 pub fn write_instr(instr: &GplInstr) -> ArrayVec<u8, 13>
     requires { IsTrue (is_valid instr.now) }
     ensures value { result.items ≡ spec.bytes_of instr.now }
+    // of all spellings of the instruction these are the fewest bytes
+    ensures shortest { IsShortest instr.now result.items }
+    ensures read { AreReadAs instr.now result.items }
+{
+    written(instr)
+}
+
+/// The code byte and the operands of a valid instruction.
+fn written(instr: &GplInstr) -> Bytes
+    requires { IsTrue (is_valid instr.now) }
+    ensures { result.items ≡ spec.bytes_of instr.now }
 {
     let mut bytes = Bytes::new();
     bytes.push(code_of(operation_of(instr)) + variant_of(instr));

@@ -14,3 +14,4 @@ pub mod SymbolLaws
 pub mod GrowingLaws
 pub mod RefusalLaws
 pub mod LaidLaws
+pub mod DefinedNames

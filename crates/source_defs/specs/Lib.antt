@@ -19,3 +19,4 @@ pub mod Growing
 pub mod Layout
 pub mod LineLaw
 pub mod FieldLaw
+pub mod ListedLines
