@@ -12,7 +12,7 @@ use link_loader::{LinkError, Linked, link};
 use memory_listing::{link_line, tag_line};
 use object_tags::{Module, TagError, read_modules};
 use std::alloc::{AllocError, Global};
-use trace_dump::Line;
+use report_lines::Line;
 
 /// What an object text gives.
 #[derive(Drop)]
