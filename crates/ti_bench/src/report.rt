@@ -17,8 +17,8 @@ use gpl_forms::GromImage;
 use link_loader::Linked;
 use memory_listing::put_memory;
 use report_defs::{Fault, Status};
-use tms_step::Machine;
 use report_lines::{Line, append, append_word, put_text};
+use tms_step::Machine;
 use trace_dump::dump;
 
 /// A report, made and not yet written. Nothing that is written takes memory.
@@ -87,7 +87,8 @@ impl Report {
         ensures { result ≡ spec.status_of (defined_report self.now) }
     {
         match self {
-            Report::Text(_) | Report::Image(_) | Report::Listing(_) | Report::Memory(_) => Status::Done,
+            Report::Text(_) | Report::Image(_) | Report::Listing(_) | Report::Memory(_) =>
+                Status::Done,
             Report::Refused(_) => Status::Refused,
             Report::Run { ending, .. } => end_status(*ending),
             Report::Fault(fault) => fault_status(*fault),
