@@ -29,6 +29,7 @@ use Rattle.std.specs.Prelude.{
   Ok,
   Err,
 }
+use Rattle.std.specs.Int.{div_ceil}
 use Rattle.std.specs.List.{list_any, range_with_len}
 use Rattle.source_defs.specs.declared.text.Line.{Line}
 use Rattle.source_defs.specs.Characters.{is_line_feed}
@@ -222,7 +223,7 @@ abbrev pub record_at : List ℕ → ℕ → NumberedLine
 record_at text k = record { number = k + 1; text = slice_range text (80 * k) (80 * k + 80) }
 
 abbrev pub records : List ℕ → List NumberedLine
-records text = map (record_at text) (range_with_len 0 ((length text + 79) / 80))
+records text = map (record_at text) (range_with_len 0 (div_ceil (length text) 80))
 
 abbrev pub numbered_line : List ℕ → Line → NumberedLine
 numbered_line text line = record { number = line.number; text = part text line.span }

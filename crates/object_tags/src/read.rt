@@ -2,6 +2,7 @@
 
 ghost use Rattle.std.specs.Prelude.{◌≡◌, ◌<◌, ◌^◌, ◌*◌, ◌+◌, length, map, slice_range};
 ghost use Rattle.source_defs.specs.Lines.{lines as lines_of};
+ghost use Rattle.object_defs.specs.declared.form.TextForm.TheVariants.{Plain};
 ghost use Rattle.object_defs.specs.Reading as reading;
 ghost use Rattle.object_tags.specs.Answers.{Gives, defined_modules};
 ghost use Rattle.object_tags.specs.Reads.{Reads};
@@ -29,7 +30,7 @@ pub fn read_modules(alloc: Global, bytes: &[u8]) -> Result<Vec<Module>, TagError
     ensures { Gives (λ modules. defined_modules modules.items) result (reading.read bytes.now) }
 {
     let mut reader = Reader::new(alloc);
-    take_text(alloc, &mut reader, form_of(bytes), bytes)?;
+    take_text(alloc, &mut reader, bytes)?;
     reader.finish()
 }
 
@@ -43,19 +44,14 @@ fn form_of(text: &[u8]) -> TextForm
     }
 }
 
-/// Reads a whole text of a form.
-fn take_text(
-    alloc: Global,
-    reader: &mut Reader,
-    form: TextForm,
-    text: &[u8],
-) -> Result<(), TagError>
+/// Reads a whole text.
+fn take_text(alloc: Global, reader: &mut Reader, text: &[u8]) -> Result<(), TagError>
     requires { length text.now < 2 ^ 32 }
-    ensures { Reads form result reader.old reader.new (reading.lines_in form text.now) }
+    ensures { Reads (reading.form_of text.now) result reader.old reader.new (reading.text_lines text.now) }
 {
-    match form {
-        TextForm::Plain if !is_records(text) => take_lines(alloc, reader, form, text),
-        _ => take_records(alloc, reader, form, text),
+    match form_of(text) {
+        TextForm::Plain if !is_records(text) => take_lines(alloc, reader, text),
+        form => take_records(alloc, reader, form, text),
     }
 }
 
@@ -96,19 +92,14 @@ fn record_at(text: &[u8], k: usize) -> &[u8]
     front(&text[COLUMNS * k..], COLUMNS)
 }
 
-/// Reads the lines of a text.
-fn take_lines(
-    alloc: Global,
-    reader: &mut Reader,
-    form: TextForm,
-    text: &[u8],
-) -> Result<(), TagError>
+/// Reads the lines of a plain text.
+fn take_lines(alloc: Global, reader: &mut Reader, text: &[u8]) -> Result<(), TagError>
     requires { length text.now < 2 ^ 32 }
-    ensures { Reads form result reader.old reader.new (map (reading.numbered_line text.now) (lines_of text.now)) }
+    ensures { Reads Plain result reader.old reader.new (map (reading.numbered_line text.now) (lines_of text.now)) }
 {
     for line in lines(text) {
         let line_text = &text[line.span.start..line.span.end];
-        reader.take_line(alloc, form, line.number, line_text)?;
+        reader.take_line(alloc, TextForm::Plain, line.number, line_text)?;
     }
     Ok(())
 }
