@@ -1,5 +1,6 @@
 -- What instructions make of the values of their operands.
-use Rattle.std.specs.Prelude.{ℕ, ◌+◌, ◌*◌, ◌/◌, ◌%◌, ◌^◌, ◌==◌, Bool, true, false, ◌&&◌, nat_lt, nat_le, int_lt, int_le, bit_and, if◌then◌else◌}
+use Rattle.std.specs.Prelude.{ℕ, ◌+◌, ◌*◌, ◌/◌, ◌%◌, ◌^◌, ◌==◌, Bool, true, false, ◌&&◌, nat_lt, nat_le, int_lt, int_le}
+use Rattle.std.specs.Prelude.{bit_and, if◌then◌else◌}
 use Rattle.std.specs.Prelude.{Option, Some, None}
 use Rattle.console_defs.specs.declared.flags.Flags.{Flags}
 use Rattle.console_defs.specs.Words.{join}
@@ -20,7 +21,7 @@ use Rattle.console_defs.specs.Flags.{
   absolute_of,
   absolute_flags,
 }
-use Rattle.console_defs.specs.Logic.{complement_of, ones_set, conjunction_of, exclusive_or_of}
+use Rattle.console_defs.specs.Logic.{ones_set, conjunction_of, exclusive_or_of}
 use Rattle.gpl_defs.specs.declared.instruction.TwoName.{TwoName}
 use Rattle.gpl_defs.specs.declared.instruction.TwoName.TheVariants.{
   ADD,
@@ -73,12 +74,16 @@ multiplied width at x y c = with_double width at (x * y) c
 abbrev pub has_quotient : Width → ℕ → ℕ → Bool
 has_quotient width dividend divisor = nat_lt 0 divisor && nat_lt (dividend / divisor) (modulus width)
 
+abbrev pub with_quotient : Width → Place → ℕ → ℕ → Changes → Changes
+with_quotient width at quotient remainder c =
+    with_value width (behind (size_of width) at) remainder (with_value width at quotient c)
+
 -- GPL Programmer's Guide, "Divide": the quotient, and behind it the remainder.
 -- Profile: OVF is cleared; where the quotient does not fit it is set, and nothing else changes.
 abbrev pub divided : Width → Place → ℕ → ℕ → Changes → Changes
 divided width at dividend divisor c =
     if has_quotient width dividend divisor
-    then with_overflow false (with_value width (behind (size_of width) at) (dividend % divisor) (with_value width at (dividend / divisor) c))
+    then with_overflow false (with_quotient width at (dividend / divisor) (dividend % divisor) c)
     else with_overflow true c
 
 -- The bits that come in from the left as a number is shifted to the right: copies of its sign bit, zeros, or copies of

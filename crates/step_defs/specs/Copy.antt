@@ -1,5 +1,5 @@
 -- MOVE: so many bytes go from one place to another. GPL Programmer's Guide, MOVE.
-use Rattle.std.specs.Prelude.{ℕ, zero, suc, ◌+◌, nat_lt, nat_le, if◌then◌else◌, slice_index, Option, Some, None, Result, Ok, Err}
+use Rattle.std.specs.Prelude.{ℕ, zero, suc, ◌+◌, nat_lt, nat_le, if◌then◌else◌, slice_index, Some, Result, Ok, Err}
 use Rattle.console_defs.specs.Flags.{Word}
 use Rattle.console_defs.specs.Grom.{next_in_grom}
 use Rattle.source_defs.specs.Refusals.{◌>>=◌}

@@ -1,7 +1,8 @@
 -- Jumps, the two stacks, and random numbers.
-use Rattle.std.specs.Prelude.{ℕ, ◌+◌, ◌*◌, ◌/◌, ◌%◌, ◌≤◌, Bool, true, false, not, if◌then◌else◌, slice_index, Result, Ok, Err}
+use Rattle.std.specs.Prelude.{ℕ, ◌+◌, ◌*◌, ◌/◌, ◌%◌, Bool, true, false, not, if◌then◌else◌, slice_index, Result, Ok}
+use Rattle.std.specs.Prelude.{Err}
 use Rattle.console_defs.specs.Words.{plus}
-use Rattle.console_defs.specs.Flags.{Byte, Word}
+use Rattle.console_defs.specs.Flags.{Word}
 use Rattle.console_defs.specs.Logic.{swapped}
 use Rattle.console_defs.specs.Grom.{next_in_grom}
 use Rattle.source_defs.specs.Refusals.{◌>>=◌}
@@ -11,7 +12,7 @@ use Rattle.step_defs.specs.declared.reason.Reason.{Reason}
 use Rattle.step_defs.specs.declared.reason.Reason.TheVariants.{Stack}
 use Rattle.step_defs.specs.State.{GplState}
 use Rattle.step_defs.specs.Place.{Place, is_visible, word_at}
-use Rattle.step_defs.specs.Changes.{Changes, condition, with_cell, with_value, with_pc, with_condition}
+use Rattle.step_defs.specs.Changes.{Changes, condition, with_cell, with_byte, with_value, with_pc, with_condition}
 
 -- an address with thirteen bits of its own in the GROM of another. GPL Programmer's Guide, BR and BS.
 abbrev pub in_grom_of : ℕ → ℕ → ℕ
@@ -71,12 +72,17 @@ pushed byte c = do
   top ← on_stack 1 (grown_by 1 (top_of VALUE_STACK c.state))
   Ok (with_cell top byte (with_cell VALUE_STACK top c))
 
+-- the byte at a GROM address goes to an operand, and the address on the stack goes on
+abbrev pub with_byte_from : ℕ → ℕ → Place → Changes → Changes
+with_byte_from address top at c =
+    with_byte at (slice_index c.state.image address) (with_word top (next_in_grom address) c)
+
 -- FETCH takes the byte of GROM at the address on the stack, which goes on. GPL Programmer's Guide, FETCH.
 -- Profile: the address is stored first, then the byte at the operand.
 abbrev pub fetched : Place → Changes → Result Changes Reason
 fetched at c = do
   top ← on_stack 2 (top_of RETURN_STACK c.state)
-  Ok (with_value Byte at (slice_index c.state.image (word_at c.state top)) (with_word top (next_in_grom (word_at c.state top)) c))
+  Ok (with_byte_from (word_at c.state top) top at c)
 
 -- RAND makes the next seed, and of it a number up to a limit. GPL Programmer's Guide, RAND.
 abbrev pub next_seed : ℕ → ℕ

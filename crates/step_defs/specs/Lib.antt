@@ -1,3 +1,4 @@
+pub mod Reasons
 pub mod State
 pub mod Place
 pub mod Changes
@@ -7,3 +8,4 @@ pub mod Copy
 pub mod Built
 pub mod Step
 pub mod Run
+pub mod Laws

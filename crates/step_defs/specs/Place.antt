@@ -1,7 +1,8 @@
 -- Where the operands of an instruction lie, and what stands there.
 --
 -- GPL Programmer's Guide, on the addressing of operands.
-use Rattle.std.specs.Prelude.{ℕ, ◌+◌, ◌%◌, ◌==◌, Bool, true, false, not, ◌&&◌, nat_le, if◌then◌else◌, slice_index, Option, Some, None, Result, Ok, Err}
+use Rattle.std.specs.Prelude.{ℕ, ◌+◌, ◌%◌, ◌==◌, Bool, true, false, not, ◌&&◌, nat_le, if◌then◌else◌, slice_index}
+use Rattle.std.specs.Prelude.{Option, Some, None, Result, Ok, Err}
 use Rattle.console_defs.specs.Words.{join, plus}
 use Rattle.console_defs.specs.Bytes.{word_in}
 use Rattle.console_defs.specs.Flags.{Width, Byte, Word}

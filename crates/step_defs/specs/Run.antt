@@ -1,6 +1,5 @@
 -- Runs of steps.
-use Rattle.std.specs.Prelude.{ℕ, zero, suc, ◌+◌, ◌*◌, List, [], ◌∷◌, length, Option, Some, None, Result, Ok, Err}
-use Rattle.console_defs.specs.Flags.{Word}
+use Rattle.std.specs.Prelude.{ℕ, zero, suc, ◌+◌, ◌*◌, length, Option, Some, None, Result, Ok, Err}
 use Rattle.source_defs.specs.Refusals.{◌>>=◌}
 use Rattle.gpl_defs.specs.declared.instruction.ByteOp.TheVariants.{ALL}
 use Rattle.gpl_defs.specs.declared.instruction.GplInstr.{GplInstr}

@@ -1,5 +1,5 @@
 -- The state that GPL programs see and change.
-use Rattle.std.specs.Prelude.{ℕ, ◌≡◌, ◌<◌, List, replicate, slice_set}
+use Rattle.std.specs.Prelude.{ℕ, ◌<◌, List, replicate, slice_set}
 use Rattle.console_defs.specs.Bytes.{HoldsBytes}
 use Rattle.step_defs.specs.declared.cells.TheConstants.{VISIBLE_CELLS, VALUE_STACK, RETURN_STACK}
 

@@ -1,8 +1,10 @@
 -- The step of GPL.
 --
--- GPL Programmer's Guide, the statements. All checks come before all changes, and all operands are read before anything is
--- stored. A stop leaves the state as it was, so it is a reason and nothing else.
-use Rattle.std.specs.Prelude.{ℕ, ◌+◌, ◌*◌, ◌==◌, Bool, true, false, if◌then◌else◌, List, ◌++◌, replicate, drop, Option, Some, None, Result, Ok, Err}
+-- GPL Programmer's Guide, the statements.
+-- Profile: all checks come before all changes, and all operands are read before anything is stored. A stop leaves the state
+-- as it was, so it is a reason and nothing else.
+use Rattle.std.specs.Prelude.{ℕ, ◌*◌, ◌==◌, Bool, true, false, if◌then◌else◌, List, ◌++◌, replicate, drop, Some, None}
+use Rattle.std.specs.Prelude.{Result, Ok, Err}
 use Rattle.console_defs.specs.Status.{is_set}
 use Rattle.console_defs.specs.Flags.{Width, Byte, Word, size_of}
 use Rattle.console_defs.specs.Logic.{complement_of}
@@ -33,7 +35,8 @@ use Rattle.gpl_defs.specs.declared.instruction.TwoName.TheVariants.{MUL, DIV}
 use Rattle.gpl_defs.specs.declared.instruction.GplSource.{GplSource}
 use Rattle.gpl_defs.specs.declared.instruction.GplSource.TheVariants as source
 use Rattle.gpl_defs.specs.declared.instruction.GplInstr.{GplInstr}
-use Rattle.gpl_defs.specs.declared.instruction.GplInstr.TheVariants.{Plain, Byte as OfByte, Jump, Branch, One, Two, Move}
+use Rattle.gpl_defs.specs.declared.instruction.GplInstr.TheVariants.{Plain, Byte as OfByte, Jump, Branch, One, Two}
+use Rattle.gpl_defs.specs.declared.instruction.GplInstr.TheVariants.{Move}
 use Rattle.gpl_defs.specs.declared.instruction.GplRead.{GplRead}
 use Rattle.gpl_defs.specs.declared.instruction.GplRead.TheVariants.{Instr, Refused}
 use Rattle.gpl_defs.specs.Reading.{reading}
@@ -41,7 +44,8 @@ use Rattle.step_defs.specs.declared.reason.Reason.{Reason}
 use Rattle.step_defs.specs.declared.reason.Reason.TheVariants.{Exit, Opcode}
 use Rattle.step_defs.specs.State.{GplState}
 use Rattle.step_defs.specs.Place.{Place, place_of, value_at}
-use Rattle.step_defs.specs.Changes.{Changes, unchanged, with_pc, with_register, with_value, with_condition, status_of, finished}
+use Rattle.step_defs.specs.Changes.{Changes, unchanged, with_pc, with_register, with_value, with_condition, status_of}
+use Rattle.step_defs.specs.Changes.{finished}
 use Rattle.step_defs.specs.Arithmetic.{Source, added, subtracted, negated, made_absolute, two}
 use Rattle.step_defs.specs.Flow.{in_grom_of, branched, selected, called, returned, pushed, fetched, drawn}
 use Rattle.step_defs.specs.Copy.{moved}

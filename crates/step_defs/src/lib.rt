@@ -1,5 +1,5 @@
-//! The step of GPL: its state, what each instruction does to it, why it stops, and runs of steps. The definitions stand in
-//! `specs/`.
+//! The step of GPL: its state, what each instruction does to it, why it stops, and runs of steps. The definitions stand
+//! in `specs/`.
 #![tactic(auto)]
 
 mod cells;
