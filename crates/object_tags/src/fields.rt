@@ -109,11 +109,7 @@ fn four_digits(digits: &[u8]) -> u16
 /// `BadTag` comes where one of its characters is none of a name, and else `ShortField` where there are fewer than
 /// eight.
 #[tactic(auto, unfolding(object_defs::specs::Fields::module_name_at))]
-pub(crate) fn module_name_at(
-    form: TextForm,
-    tag: u8,
-    fields: &[u8],
-) -> Result<ModuleName, TagCause>
+pub(crate) fn module_name_at(form: TextForm, tag: u8, fields: &[u8]) -> Result<ModuleName, TagCause>
     ensures { result ≡ spec.module_name_at form tag fields.now }
 {
     let name = front(behind(fields, number_size(form)), 8);

@@ -51,13 +51,7 @@ impl<'a> Groups<'a> {
     }
 
     /// The groups of a line from a place on, behind the characters that are left there of the group before them.
-    fn behind(
-        form: TextForm,
-        line: &'a [u8],
-        at: usize,
-        total: u16,
-        left: usize,
-    ) -> Groups<'a>
+    fn behind(form: TextForm, line: &'a [u8], at: usize, total: u16, left: usize) -> Groups<'a>
         requires line { length line.now < 2 ^ 32 }
         requires at { at ≤ length line.now }
         requires total { total ≡ sum (take at line.now) % 65536 }

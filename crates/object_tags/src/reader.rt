@@ -67,12 +67,7 @@ impl Reader {
     }
 
     /// Takes the groups of a line.
-    fn take_groups(
-        &mut self,
-        alloc: Global,
-        form: TextForm,
-        line: &[u8],
-    ) -> Result<(), Failure>
+    fn take_groups(&mut self, alloc: Global, form: TextForm, line: &[u8]) -> Result<(), Failure>
         requires { length line.now < 2 ^ 32 }
         ensures { Leaves result (kept_of self.new)
             (running.kept_groups (kept_of self.old) (groups_from form [] 0 line.now)) }

@@ -72,7 +72,11 @@ const REFUSED: &[(&[u8], u32, TagCause)] = &[
             computed: 0xFD02,
         },
     ),
-    (b"\x01\0\x02        A\0\0B\x10\xFF2\0", 1, TagCause::ShortField),
+    (
+        b"\x01\0\x02        A\0\0B\x10\xFF2\0",
+        1,
+        TagCause::ShortField,
+    ),
     (b"\x01\0\x02        A\0\0B\x10\xFF2\0\0", 1, TagCause::NoEnd),
     (b"\x01", 1, TagCause::ShortField),
     (b"\x01\0", 1, TagCause::ShortField),

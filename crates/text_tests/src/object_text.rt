@@ -135,7 +135,11 @@ const REFUSED: &[(&[u8], u32, TagCause)] = &[
     (b"00000        B0000 F\n:", 1, TagCause::BadTag(b' ')),
     (b"00000        B0000\r", 1, TagCause::BadTag(b'\r')),
     (b"00000        \x010000F\n:", 1, TagCause::BadTag(1)),
-    (b"00000        F\n:\n\x01\0\0        F\n:", 3, TagCause::BadTag(1)),
+    (
+        b"00000        F\n:\n\x01\0\0        F\n:",
+        3,
+        TagCause::BadTag(1),
+    ),
     (b"00000       \tF\n:", 1, TagCause::BadTag(b'0')),
     (b"00000\x7F", 1, TagCause::BadTag(b'0')),
     (b"00000       ", 1, TagCause::ShortField),
