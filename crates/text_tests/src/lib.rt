@@ -3,6 +3,8 @@
 #![tactic(auto)]
 
 #[cfg(test)]
+mod compressed_text;
+#[cfg(test)]
 mod expressions;
 #[cfg(test)]
 mod gpl_bytes;

@@ -1,7 +1,7 @@
 use Rattle.std.proofs.Common.{rules}
-use Rattle.object_defs.specs.Fields.{number_at}
-use Rattle.object_tags.proofs.fields.number_at.Goals as goal
+use Rattle.object_defs.specs.Fields.{digits_at}
+use Rattle.object_tags.proofs.fields.digits_at.Goals as goal
 
 pub returns-then-digits-lt4 : goal.returns-then-digits-lt4
-unfolding number_at
+unfolding digits_at
 returns-then-digits-lt4 c = search rules
