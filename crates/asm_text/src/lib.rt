@@ -44,7 +44,7 @@ pub use crate::parentheses::parentheses_at;
 pub use crate::quoted_texts::{
     between_quotes, character_count, is_quoted, quoted, quoted_characters,
 };
-pub use crate::scan::{number, tokens};
+pub use crate::scan::tokens;
 pub use crate::split::{fields, upper_case_name};
 pub use crate::symbols::{DefineError, Symbols};
 pub use crate::text::{lines, part};

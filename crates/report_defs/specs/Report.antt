@@ -3,9 +3,9 @@ use Rattle.std.specs.Prelude.{◌≡◌, ℕ, ◌+◌, nat_lt, if◌then◌else�
 use Rattle.console_defs.specs.Machine.{MachineState}
 use Rattle.console_defs.specs.declared.ends.RunEnd.{RunEnd}
 use Rattle.source_defs.specs.Refusals.{Refusal}
-use Rattle.gpl_defs.specs.declared.causes.GplCause.{GplCause}
-use Rattle.gpl_defs.specs.Image.{Image, written_bytes}
-use Rattle.gpl_defs.specs.Layout.{image_of_source}
+use Rattle.gpl_defs.specs.Image.{written_bytes}
+use Rattle.program_defs.specs.declared.causes.GplCause.{GplCause}
+use Rattle.program_defs.specs.Programs.{Program, program_of_source}
 use Rattle.object_defs.specs.Modules.{Module}
 use Rattle.object_defs.specs.Writing.{written}
 use Rattle.module_defs.specs.declared.causes.AsmCause.{AsmCause}
@@ -52,8 +52,8 @@ asm_report (Ok found) = Whole Done (text_lines (written found))
 asm_report (Err refused) = Rejected (asm_line refused)
 
 -- Profile: the report of gasm is the bytes of the image from its lowest to its highest written address, in one piece.
-abbrev pub gasm_report : Result Image (Refusal GplCause) → Report
-gasm_report (Ok image) = Whole Done (one_piece (written_bytes image))
+abbrev pub gasm_report : Result Program (Refusal GplCause) → Report
+gasm_report (Ok program) = Whole Done (one_piece (written_bytes program.image))
 gasm_report (Err refused) = Rejected (gpl_line refused)
 
 -- The report of dis is the listing of its input from an address on.
@@ -81,7 +81,7 @@ ExecReport limit (Err line) report = report ≡ Rejected line
 
 abbrev pub AcceptedReport : Command → List ℕ → Report → Type 0
 AcceptedReport Asm input report = report ≡ asm_report (module_of_source input)
-AcceptedReport Gasm input report = report ≡ gasm_report (image_of_source input)
+AcceptedReport Gasm input report = report ≡ gasm_report (program_of_source input)
 AcceptedReport (Dis at) input report = report ≡ dis_report at input
 AcceptedReport Link input report = report ≡ link_report (linked_input input)
 AcceptedReport (Exec limit) input report = ExecReport limit (linked_input input) report

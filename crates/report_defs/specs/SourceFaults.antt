@@ -11,8 +11,8 @@ use Rattle.asm_defs.specs.declared.causes.FormError.{FormError}
 use Rattle.asm_defs.specs.declared.causes.FormError.TheVariants as form
 use Rattle.module_defs.specs.declared.causes.AsmCause.{AsmCause}
 use Rattle.module_defs.specs.declared.causes.AsmCause.TheVariants as asm
-use Rattle.gpl_defs.specs.declared.causes.GplCause.{GplCause}
-use Rattle.gpl_defs.specs.declared.causes.GplCause.TheVariants as gpl
+use Rattle.program_defs.specs.declared.causes.GplCause.{GplCause}
+use Rattle.program_defs.specs.declared.causes.GplCause.TheVariants as gpl
 use Rattle.report_defs.specs.FaultLine.{refusal_line}
 
 abbrev pub text_error_text : TextError → List ℕ
@@ -49,9 +49,16 @@ abbrev pub asm_line : Refusal AsmCause → List ℕ
 asm_line refused = refusal_line refused.line (asm_cause_text refused.cause)
 
 abbrev pub gpl_cause_text : GplCause → List ℕ
-gpl_cause_text (gpl.Text error) = text_error_text error
-gpl_cause_text gpl.NotBuilt = codes "not built"
+gpl_cause_text gpl.UnknownOperation = codes "unknown operation"
+gpl_cause_text gpl.OperandCount = codes "operand count"
+gpl_cause_text gpl.BadOperand = codes "bad operand"
+gpl_cause_text gpl.OtherGrom = codes "other grom"
 gpl_cause_text gpl.GromFull = codes "out of room"
+gpl_cause_text gpl.DuplicateLabel = codes "duplicate label"
+gpl_cause_text (gpl.Expr error) = expr_error_text error
+gpl_cause_text (gpl.Text error) = text_error_text error
+gpl_cause_text gpl.Overlap = codes "overlap"
+gpl_cause_text gpl.BadDirective = codes "bad directive"
 
 abbrev pub gpl_line : Refusal GplCause → List ℕ
 gpl_line refused = refusal_line refused.line (gpl_cause_text refused.cause)

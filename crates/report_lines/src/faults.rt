@@ -6,8 +6,8 @@ ghost use Rattle.report_defs.specs.SourceFaults as spec;
 
 use crate::line::{Line, append, append_count};
 use asm_defs::FormError;
-use gpl_defs::GplCause;
 use module_defs::AsmCause;
+use program_defs::GplCause;
 use source_defs::{ExprError, TextError};
 
 /// The line of a refused line of an assembler source, by its number, from 1.
@@ -59,9 +59,16 @@ fn gpl_cause_text(cause: GplCause) -> &'static [u8]
     ensures short { length result.now ≤ 64 }
 {
     match cause {
-        GplCause::Text(error) => text_error_text(error),
-        GplCause::NotBuilt => b"not built",
+        GplCause::UnknownOperation => b"unknown operation",
+        GplCause::OperandCount => b"operand count",
+        GplCause::BadOperand => b"bad operand",
+        GplCause::OtherGrom => b"other grom",
         GplCause::GromFull => b"out of room",
+        GplCause::DuplicateLabel => b"duplicate label",
+        GplCause::Expr(error) => expr_error_text(error),
+        GplCause::Text(error) => text_error_text(error),
+        GplCause::Overlap => b"overlap",
+        GplCause::BadDirective => b"bad directive",
     }
 }
 

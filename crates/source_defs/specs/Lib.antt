@@ -7,7 +7,6 @@ pub mod Numbers
 pub mod Digits
 pub mod Refusals
 pub mod Tokens
-pub mod SoleNumbers
 pub mod TokenLaw
 pub mod Expression
 pub mod Operands
