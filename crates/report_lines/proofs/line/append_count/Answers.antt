@@ -1,5 +1,5 @@
 use Rattle.std.proofs.Common.{rules}
-use Rattle.trace_dump.proofs.line.append_count.Goals as goal
+use Rattle.report_lines.proofs.line.append_count.Goals as goal
 
 pub returns-clause-bytes : goal.returns-clause-bytes
 returns-clause-bytes c = search rules

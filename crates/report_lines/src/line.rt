@@ -43,7 +43,7 @@ pub fn append_count(line: &mut Line, count: u64)
 }
 
 /// Appends bytes, each after a blank by its two hexadecimal digits.
-pub(crate) fn append_spaced(line: &mut Line, bytes: &[u8])
+pub fn append_spaced(line: &mut Line, bytes: &[u8])
     requires { array_vec_len line.old + 3 * length bytes.now ≤ 128 }
     ensures bytes { line.new.items ≡ line.old.items ++ spaced_bytes bytes.now }
     ensures len { array_vec_len line.new ≡ array_vec_len line.old + 3 * length bytes.now }

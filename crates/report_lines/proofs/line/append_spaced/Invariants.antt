@@ -1,6 +1,6 @@
 use Rattle.std.proofs.Common.{◌≡◌, ◌+◌, ◌*◌, ◌++◌, take, length}
 use Rattle.report_defs.specs.Rows.{spaced_bytes}
-use Rattle.trace_dump.proofs.line.append_spaced.Given as goal
+use Rattle.report_lines.proofs.line.append_spaced.Given as goal
 
 abbrev pub invariant-loop-byte : goal.invariant-loop-byte
 invariant-loop-byte l = record {
