@@ -1,12 +1,13 @@
 //! What a line stands for.
 
-ghost use Rattle.std.specs.Prelude.{◌≡◌, ◌≤◌, ◌*◌, true, length, IfOk};
+ghost use Rattle.std.specs.Prelude.{◌≡◌, ◌≤◌, ◌*◌, true, length, IfOk, IsTrue};
 ghost use Rattle.std.specs.List.{flat_map};
 ghost use Rattle.source_defs.specs.Lines.{part};
 ghost use Rattle.gpl_defs.specs.Statements as spec;
 ghost use Rattle.source_defs.specs.SoleNumbers as defined;
 ghost use Rattle.asm_text.specs.GivenFields.{defined_fields, FieldsLieInside};
 ghost use Rattle.gpl_defs.specs.Bytes.{bytes_of};
+ghost use Rattle.gpl_defs.specs.Valid.{is_valid};
 ghost use Rattle.gpl_asm.specs.Answers.{defined_answer, IsAligned};
 
 use crate::numbers::numbers;
@@ -97,6 +98,7 @@ fn operation_statement(operation: &[u8], operands: &[u8]) -> Result<Statement, G
 
 /// The bytes of an instruction.
 fn instr_bytes(instr: &GplInstr) -> LineBytes
+    requires { IsTrue (is_valid instr.now) }
     ensures { result.items ≡ bytes_of instr.now }
 {
     let mut bytes = LineBytes::new();

@@ -1,4 +1,4 @@
-//! Cases of lines, expressions, instruction lines, modules, object text, images and streams, worked out by hand. The crate
+//! Cases of lines, expressions, instruction lines, modules, object text, bytes of GPL, images and streams, worked out by hand. The crate
 //! holds tests alone, so that the crates below it are proved once.
 #![tactic(auto)]
 
@@ -6,6 +6,8 @@
 mod compressed_text;
 #[cfg(test)]
 mod expressions;
+#[cfg(test)]
+mod gpl_bytes;
 #[cfg(test)]
 mod images;
 #[cfg(test)]
