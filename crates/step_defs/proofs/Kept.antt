@@ -1,22 +1,19 @@
 -- Changes leave a state with its lists of bytes.
-use Rattle.std.proofs.Common.{◌≡◌, ℕ, zero, suc, ◌+◌, ◌-◌, ◌*◌, ◌/◌, ◌%◌, ◌^◌, ◌<◌, ◌≤◌, Bool, true, false, cond, List, ◌++◌, Option, Some, None, Result, Ok, Err, IfOk, refl, arith}
-use Rattle.std.specs.Prelude.{nat_lt, ◌&&◌, slice_index, slice_set, replicate, drop, unsigned_abs, pos, ◌-ℤ◌}
+use Rattle.std.proofs.Common.{ℕ, ◌-◌, ◌*◌, ◌/◌, ◌%◌, ◌<◌, ◌≤◌, Bool, true, false, List, arith}
+use Rattle.std.specs.Prelude.{slice_set}
 use Rattle.std.specs.Int.Bits.{and_lt}
-use Rattle.std.proofs.lemmas.Nat.{or_lt, xor_lt}
+use Rattle.std.proofs.lemmas.Nat.{or_lt}
 use Rattle.std.proofs.lemmas.Grind.{common_steps}
-use Rattle.std.proofs.lemmas.Bool.Decides.{nat_tests}
-use Rattle.source_defs.specs.Refusals.{◌>>=◌}
 use Rattle.console_defs.specs.declared.flags.Flags.{Flags}
-use Rattle.console_defs.specs.Words.{join, high, low}
+use Rattle.console_defs.specs.Words.{high, low}
 use Rattle.console_defs.specs.Bytes.{HoldsBytes}
 use Rattle.console_defs.specs.Status.{bit_of}
-use Rattle.console_defs.specs.Flags.{Width, Byte, Word, modulus, sum_of, difference_of, negation_of, absolute_of}
+use Rattle.console_defs.specs.Flags.{Width, Byte, Word, modulus, sum_of, difference_of, negation_of}
 use Rattle.console_defs.specs.Logic.{complement_of}
 use Rattle.console_defs.proofs.WordLaws.{join-fits, high-fits, low-fits}
 use Rattle.gpl_defs.specs.declared.instruction.Space.{Space}
 use Rattle.gpl_defs.specs.declared.instruction.Space.TheVariants.{Cpu, Vdp}
 use Rattle.step_defs.specs.declared.cells.TheConstants.{VISIBLE_CELLS, STATUS}
-use Rattle.step_defs.specs.declared.reason.Reason.{Reason}
 use Rattle.step_defs.specs.State.{GplState, IsState}
 use Rattle.step_defs.specs.Place.{Place, byte_in, byte_at, behind, value_at, double_at}
 use Rattle.step_defs.specs.Changes.{Changes, with_pc, with_cell, with_video, with_register, with_byte_in, with_byte, with_value, with_double, status_of, with_status, status_byte, with_flags, with_bit, with_condition, with_overflow}
