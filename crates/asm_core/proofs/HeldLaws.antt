@@ -4,7 +4,7 @@ use Rattle.std.specs.Prelude.{nat_le}
 use Rattle.std.proofs.lemmas.Bool.Decides.{nat_tests}
 use Rattle.module_defs.specs.Locations.{behind, is_in_part}
 use Rattle.module_defs.specs.FirstChecks.{Before, Checked, checked}
-use Rattle.module_defs.proofs.OutcomeSizes.{size_said}
+use Rattle.module_defs.specs.Growing.{size_said}
 use Rattle.module_defs.proofs.CheckLaws.{checked_said, checked_room}
 use Rattle.asm_core.specs.Held as held
 

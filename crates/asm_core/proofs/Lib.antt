@@ -1,5 +1,4 @@
 pub mod Failures
-pub mod OperandCounts
 pub mod Padding
 pub mod Listed
 pub mod Instructions

@@ -8,7 +8,7 @@ use Rattle.source_defs.specs.Expression.{Value}
 use Rattle.module_defs.specs.declared.location.Location.{Location}
 use Rattle.module_defs.specs.Locations.{behind}
 use Rattle.module_defs.specs.SecondChecks.{word_in, data_values, absolute_in, byte_values}
-use Rattle.asm_core.specs.Answers.{Yields}
+use Rattle.asm_text.specs.Yielded.{Yields}
 use Rattle.asm_core.specs.Outcomes.{after}
 
 pub after_more : {A E : Type 0} (front : List A) (item : A) (others : Result (List A) E)

@@ -7,7 +7,8 @@ use Rattle.module_defs.specs.declared.location.Location.{Location}
 use Rattle.module_defs.specs.Statements.{Statement}
 use Rattle.module_defs.specs.SecondChecks.{Outcome, outcome}
 use Rattle.module_defs.specs.Memory.{bytes_in}
-use Rattle.module_defs.proofs.OutcomeSizes.{size_said, IsSized, outcome_size}
+use Rattle.module_defs.specs.Growing.{size_said}
+use Rattle.module_defs.proofs.OutcomeSizes.{IsSized, outcome_size}
 
 pub within_room : (look : List ℕ → Option Value) (at : Location) (statement : Statement) (found : Outcome) → IsSized statement
     → outcome look at statement ≡ Ok found → nat_le (at.number + size_said statement) 65536 ≡ true → at.number + bytes_in found ≤ 65536

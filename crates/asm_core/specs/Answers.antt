@@ -2,6 +2,8 @@
 use Rattle.std.specs.Prelude.{◌≡◌, ⊤, Result, Ok, Err}
 use Rattle.source_defs.specs.declared.causes.ExprError.{ExprError}
 use Rattle.source_defs.specs.declared.causes.ExprError.TheVariants as expr
+use Rattle.source_defs.specs.declared.causes.OperandError.{OperandError}
+use Rattle.source_defs.specs.declared.causes.OperandError.TheVariants as operand
 use Rattle.asm_defs.specs.declared.causes.FormError.{FormError}
 use Rattle.asm_defs.specs.declared.causes.FormError.TheVariants as form
 use Rattle.module_defs.specs.declared.causes.AsmCause.{AsmCause}
@@ -30,19 +32,13 @@ abbrev pub expr_failure : ExprError → Failure
 expr_failure expr.Memory = Memory
 expr_failure error = Refused (Expr error)
 
+-- what the refusal of operands is in the line of a directive
+abbrev pub operand_failure : OperandError → Failure
+operand_failure operand.Count = Refused (Form form.OperandCount)
+operand_failure operand.Form = Refused (Form form.BadOperand)
+
 -- what the refusal of an instruction is in its line
 abbrev pub form_failure : FormError → Failure
 form_failure form.Memory = Memory
 form_failure (form.Expr expr.Memory) = Memory
 form_failure error = Refused (Form error)
-
--- an answer, as the definitions see its value
-abbrev pub seen : {A B E : Type 0} → (A → B) → Result A E → Result B E
-seen see (Ok value) = Ok (see value)
-seen see (Err error) = Err error
-
--- the value of an expression, as the definitions have it; or want of memory
-abbrev pub Yields : {A B : Type 0} → (A → B) → Result A ExprError → Result B ExprError → Type 0
-Yields see (Ok value) defined = defined ≡ Ok (see value)
-Yields see (Err expr.Memory) defined = ⊤
-Yields see (Err error) defined = defined ≡ Err error

@@ -5,7 +5,7 @@ use Rattle.module_defs.specs.FirstChecks as spec
 use Rattle.asm_core.specs.Defined.{defined_statement}
 use Rattle.asm_core.specs.Moves.{defined_move}
 use Rattle.module_defs.specs.Statements.{upper_names}
-use Rattle.asm_defs.specs.FirstChecks.{operand_texts}
+use Rattle.source_defs.specs.Operands.{operand_texts}
 use Rattle.asm_core.specs.declared.statement.Statement.{Statement}
 use Rattle.asm_core.specs.declared.statement.Statement.TheVariants.{Def, Ref}
 use Rattle.asm_core.specs.declared.first_checks.Before.{Before}

@@ -1,7 +1,8 @@
 -- What the code finds in a line, as the definitions have it.
 use Rattle.std.specs.Prelude.{ℕ, List, Ok, IsSome, true, ⊤, ◌≡◌}
 use Rattle.std.specs.Option.{option_map}
-use Rattle.asm_defs.specs.FirstChecks.{line_size, operand_texts}
+use Rattle.source_defs.specs.Operands.{operand_texts}
+use Rattle.asm_defs.specs.FirstChecks.{line_size}
 use Rattle.asm_forms.specs.Lines.{operation_in, operands_in}
 use Rattle.asm_text.specs.declared.line_fields.Fields.{Fields}
 use Rattle.module_defs.specs.Statements as spec

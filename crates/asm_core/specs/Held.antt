@@ -3,7 +3,7 @@ use Rattle.std.specs.Prelude.{◌+◌, ℕ, Bool, false, nat_le, List, Result, O
 use Rattle.module_defs.specs.declared.causes.AsmCause.{AsmCause}
 use Rattle.module_defs.specs.declared.location.Location.{Location}
 use Rattle.module_defs.specs.Statements.{Statement, said_of}
-use Rattle.module_defs.proofs.OutcomeSizes.{size_said}
+use Rattle.module_defs.specs.Growing.{size_said}
 
 abbrev pub has_room_by : Location → Result Statement AsmCause → Bool
 has_room_by at (Ok statement) = nat_le (at.number + size_said statement) 65536

@@ -1,12 +1,12 @@
 //! Why a line is not taken, before its number is told.
 
 ghost use Rattle.std.specs.Prelude.{◌≡◌};
-ghost use Rattle.asm_core.specs.Answers.{expr_failure, form_failure};
+ghost use Rattle.asm_core.specs.Answers.{expr_failure, form_failure, operand_failure};
 ghost use Rattle.asm_core.specs.declared.failure.Failure.TheVariants.{Memory};
 
 use asm_defs::FormError;
 use module_defs::AsmCause;
-use source_defs::ExprError;
+use source_defs::{ExprError, OperandError};
 use std::alloc::AllocError;
 
 /// Why a line is not taken.
@@ -34,6 +34,17 @@ pub(crate) fn expr_failure(error: ExprError) -> Failure
         ExprError::Memory => Failure::Memory,
         error => Failure::Refused(AsmCause::Expr(error)),
     }
+}
+
+/// What the refusal of operands is in the line of a directive.
+pub(crate) fn operand_failure(error: OperandError) -> Failure
+    ensures { result ≡ operand_failure error }
+{
+    let error = match error {
+        OperandError::Count => FormError::OperandCount,
+        OperandError::Form => FormError::BadOperand,
+    };
+    Failure::Refused(AsmCause::Form(error))
 }
 
 /// What the refusal of an instruction is in its line.

@@ -10,14 +10,13 @@ ghost use Rattle.asm_core.specs.Moves.{defined_move, MovesLittle};
 ghost use Rattle.asm_core.specs.Checks.{defined_before, defined_said, defined_checked, KnowsPlaces, ListsNames, listed_in};
 ghost use Rattle.asm_core.specs.Moves.{MovesWithin};
 
-use crate::characters::title_in;
 use crate::failure::{Failure, expr_failure};
 use crate::moves::{Move, behind};
 use crate::names::{any_known, is_taken, label_in, names_in, repeats};
-use crate::operand_lists::is_quoted;
 use crate::statement::{Statement, statement_in};
+use crate::titles::title_in;
 use crate::values::Scope;
-use asm_text::{Name, Symbols, fields};
+use asm_text::{Name, Symbols, fields, is_quoted};
 use module_defs::{AsmCause, Location, Part};
 use std::alloc::{AllocError, Global};
 

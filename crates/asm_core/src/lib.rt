@@ -2,7 +2,6 @@
 #![tactic(auto)]
 
 mod calls;
-mod characters;
 mod contents;
 mod define;
 mod directives;
@@ -16,8 +15,8 @@ mod laws;
 mod lines;
 mod memory;
 mod moves;
+mod name_lists;
 mod names;
-mod operand_lists;
 mod pending;
 mod pieces;
 mod references;
@@ -26,6 +25,7 @@ mod settle;
 mod source;
 mod statement;
 mod take;
+mod titles;
 mod values;
 
 pub use crate::error::AsmError;

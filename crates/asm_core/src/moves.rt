@@ -1,18 +1,17 @@
 //! What a line does to the location.
 
 ghost use Rattle.std.specs.Prelude.{◌≡◌, ◌≤◌, ◌<◌, ◌+◌, ◌^◌, length, OnOk, IfOk};
-ghost use Rattle.asm_defs.specs.FirstChecks.{operand_texts};
 ghost use Rattle.module_defs.specs.Locations as places;
 ghost use Rattle.module_defs.specs.FirstChecks as spec;
 ghost use Rattle.asm_text.specs.GivenValues.{defined_value};
-ghost use Rattle.asm_core.specs.Answers.{Yields, seen};
+ghost use Rattle.source_defs.specs.Refusals.{seen};
+ghost use Rattle.asm_text.specs.Yielded.{Yields};
 ghost use Rattle.asm_core.specs.Defined.{defined_statement};
 ghost use Rattle.asm_core.specs.Moves.{defined_move, MovesLittle, MovesWithin};
 
-use crate::characters::character_count;
 use crate::statement::Statement;
 use crate::values::{Scope, value_at};
-use asm_text::{ExprError, Value, operands};
+use asm_text::{ExprError, Value, character_count, operand_count};
 use module_defs::{Location, Part};
 
 /// What a line does to the location.
@@ -63,20 +62,6 @@ impl Scope<'_> {
             | Statement::End(_) => Ok(stays_at(self.at, 0)),
         }
     }
-}
-
-/// How many operands a field has.
-#[tactic(auto, using(crate::proofs::OperandCounts::operands_le))]
-fn operand_count(field: &[u8]) -> u32
-    requires { length field.now ≤ 256 }
-    ensures count { result ≡ length (operand_texts field.now) }
-    ensures most { result ≤ 257 }
-{
-    let mut count = 0;
-    for _ in operands(field) {
-        count += 1;
-    }
-    count
 }
 
 /// The place some bytes behind a place.

@@ -1,7 +1,7 @@
 //! The names that a line defines or refers to.
 
 ghost use Rattle.std.specs.Prelude.{◌≡◌, true, IfOk};
-ghost use Rattle.asm_defs.specs.FirstChecks.{operand_texts};
+ghost use Rattle.source_defs.specs.Operands.{operand_texts};
 ghost use Rattle.module_defs.specs.Statements.{all_names, upper_names};
 ghost use Rattle.module_defs.specs.FirstChecks as spec;
 

@@ -5,19 +5,21 @@ ghost use Rattle.source_defs.specs.Fields as lines;
 ghost use Rattle.source_defs.specs.Symbols.{look_up};
 ghost use Rattle.asm_text.specs.GivenFields.{defined_fields, FieldsLieInside};
 ghost use Rattle.asm_text.specs.GivenValues.{defined_value};
-ghost use Rattle.asm_defs.specs.FirstChecks.{line_size, operand_texts};
+ghost use Rattle.source_defs.specs.Operands.{operand_texts};
+ghost use Rattle.asm_defs.specs.FirstChecks.{line_size};
 ghost use Rattle.asm_forms.specs.Lines.{operation_in, operands_in, line_words};
 ghost use Rattle.asm_forms.specs.Placed.{defined_word, defined_words};
 ghost use Rattle.module_defs.specs.Locations as places;
 ghost use Rattle.module_defs.specs.Statements as said;
 ghost use Rattle.module_defs.specs.FirstChecks as first;
 ghost use Rattle.module_defs.specs.SecondChecks as spec;
-ghost use Rattle.asm_core.specs.Answers.{Gives, Yields, seen};
+ghost use Rattle.source_defs.specs.Refusals.{seen};
+ghost use Rattle.asm_text.specs.Yielded.{Yields};
+ghost use Rattle.asm_core.specs.Answers.{Gives};
 ghost use Rattle.asm_core.specs.Defined.{defined_statement, IsInstructionOf, NamesOnly};
 ghost use Rattle.asm_core.specs.Moves.{MovesLittle};
 ghost use Rattle.asm_core.specs.Outcomes.{defined_outcome, byte_answer, known_answer};
 
-use crate::characters::characters;
 use crate::failure::{Failure, expr_failure, form_failure};
 use crate::moves::behind;
 use crate::names::names_in;
@@ -25,7 +27,7 @@ use crate::statement::Statement;
 use crate::values::{Scope, value_at};
 use asm_defs::FormError;
 use asm_forms::{Word, parse_instr};
-use asm_text::{ExprError, Fields, Name, Symbols, Value, operands};
+use asm_text::{ExprError, Fields, Name, Symbols, Value, operands, quoted_characters};
 use module_defs::{AsmCause, Location, Part};
 use object_defs::Spot;
 
@@ -73,7 +75,7 @@ impl Scope<'_> {
                 Err(error) => Err(expr_failure(error)),
             },
             Statement::Text(quoted) => {
-                let bytes = characters(self.alloc, quoted)?;
+                let bytes = quoted_characters(self.alloc, quoted)?;
                 Ok(Outcome::Bytes(bytes))
             }
             Statement::Def(field) => {
@@ -109,7 +111,7 @@ impl Scope<'_> {
     }
 
     /// The words of DATA.
-    #[tactic(auto, using(crate::proofs::OperandCounts::operands_le))]
+    #[tactic(auto, using(source_defs::proofs::OperandCounts::operands_le))]
     fn data_words(&self, field: &[u8]) -> Result<Vec<Word>, ExprError>
         requires at { self.now.at.number ≤ 65536 }
         requires field { length field.now ≤ 256 }

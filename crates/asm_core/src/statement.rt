@@ -2,20 +2,19 @@
 
 ghost use Rattle.std.specs.Prelude.{◌≤◌, length, IfOk, ◌≡◌, Ok, Some};
 ghost use Rattle.source_defs.specs.Fields as lines;
-ghost use Rattle.source_defs.specs.Lines.{IsInside, part};
 ghost use Rattle.asm_text.specs.GivenFields.{defined_fields, FieldsLieInside};
-ghost use Rattle.asm_defs.specs.FirstChecks.{operand_texts};
+ghost use Rattle.source_defs.specs.Operands.{operand_texts};
 ghost use Rattle.module_defs.specs.Statements as spec;
-ghost use Rattle.asm_core.specs.Answers.{Gives, seen};
+ghost use Rattle.source_defs.specs.Refusals.{seen};
+ghost use Rattle.asm_core.specs.Answers.{Gives};
 ghost use Rattle.asm_core.specs.Defined.{defined_statement, IsDirective, IsInstructionOf, NamesOnly};
 ghost use Rattle.asm_core.specs.Moves.{MovesLittle};
 
 use crate::directives::directive;
-use crate::failure::{Failure, form_failure};
-use crate::operand_lists::{at_most_one_of, names_of, one_of, quoted, some_of};
-use asm_defs::FormError;
+use crate::failure::{Failure, form_failure, operand_failure};
+use crate::name_lists::names_of;
 use asm_forms::size_of;
-use asm_text::{Fields, Span};
+use asm_text::{Fields, OperandError, at_most_one_of, one_of, part, quoted, some_of};
 use module_defs::Directive;
 use std::alloc::Global;
 
@@ -80,7 +79,7 @@ pub(crate) fn statement_in<'a>(
             match directive(part(line, operation)) {
                 Some(found) => match directive_statement(found, field) {
                     Ok(statement) => Ok(statement),
-                    Err(error) => Err(form_failure(error)),
+                    Err(error) => Err(operand_failure(error)),
                 },
                 None => match size_of(alloc, line, fields) {
                     Ok(size) => Ok(Statement::Instruction(size, part(line, operation), field)),
@@ -91,16 +90,8 @@ pub(crate) fn statement_in<'a>(
     }
 }
 
-/// A part of a line.
-pub(crate) fn part(line: &[u8], span: Span) -> &[u8]
-    requires { IsInside line.now span }
-    ensures { result.now ≡ part line.now span }
-{
-    &line[span.start..span.end]
-}
-
 /// A directive with its operands.
-fn directive_statement(found: Directive, field: &[u8]) -> Result<Statement<'_>, FormError>
+fn directive_statement(found: Directive, field: &[u8]) -> Result<Statement<'_>, OperandError>
     requires { length field.now ≤ 256 }
     ensures said { seen defined_statement result ≡ spec.directive_statement found (operand_texts field.now) }
     ensures little { IfOk result MovesLittle }

@@ -11,12 +11,12 @@ ghost use Rattle.asm_core.specs.Keeping.{known_in, IsUnchanged};
 ghost use Rattle.asm_core.specs.Building.{IsBehind, Takes, refusal_at};
 ghost use Rattle.module_defs.proofs.CheckLaws.{IsTitled};
 
-use crate::characters::title_in;
 use crate::error::AsmError;
 use crate::failure::Failure;
 use crate::first_checks::{Checked, location_behind};
 use crate::lines::AsmLines;
 use crate::statement::Statement;
+use crate::titles::title_in;
 use module_defs::{Location, Part};
 use object_tags::ModuleName;
 

@@ -4,9 +4,9 @@ ghost use Rattle.std.specs.Prelude.{◌≡◌};
 ghost use Rattle.asm_text.specs.GivenValues.{defined_value, IsNotExternal};
 ghost use Rattle.module_defs.specs.FirstChecks.{value, absolute_in};
 ghost use Rattle.module_defs.specs.Locations as spec;
-ghost use Rattle.asm_core.specs.Answers.{Yields};
+ghost use Rattle.asm_text.specs.Yielded.{Yields};
 
-use asm_text::{ExprError, Symbols, Value, tokens, value};
+use asm_text::{ExprError, Symbols, Value, expression_value};
 use module_defs::{Location, Part};
 use std::alloc::Global;
 
@@ -23,8 +23,7 @@ impl Scope<'_> {
     pub(crate) fn value_of(&self, text: &[u8]) -> Result<Value, ExprError>
         ensures { Yields defined_value result (value self.now.symbols.now self.now.at text.now) }
     {
-        let found = tokens(self.alloc, text)?;
-        value(found.as_slice(), text, self.symbols, value_at(self.at))
+        expression_value(self.alloc, text, self.symbols, value_at(self.at))
     }
 
     /// The value of an expression that has to be absolute.

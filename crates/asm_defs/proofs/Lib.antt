@@ -1,2 +1,3 @@
 pub mod LineRows
 pub mod Windows
+pub mod GrowingLaws

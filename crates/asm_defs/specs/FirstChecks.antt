@@ -1,8 +1,7 @@
 -- The first checks of an instruction line: the operation, the number of its operands, and their forms.
-use Rattle.std.specs.Prelude.{ℕ, ◌+◌, ◌*◌, ◌==◌, Bool, ◌||◌, if◌then◌else◌, List, [], ◌∷◌, length, slice_index, map, Option, Some, None, Result, Ok, Err}
+use Rattle.std.specs.Prelude.{ℕ, ◌+◌, ◌*◌, ◌==◌, Bool, ◌||◌, if◌then◌else◌, List, [], ◌∷◌, length, slice_index, Option, Some, None, Result, Ok, Err}
 use Rattle.source_defs.specs.Refusals.{◌>>=◌}
-use Rattle.source_defs.specs.Lines.{part}
-use Rattle.source_defs.specs.Operands.{operands}
+use Rattle.source_defs.specs.Operands.{operand_texts}
 use Rattle.console_defs.specs.declared.instruction.Operation.{Operation}
 use Rattle.asm_defs.specs.declared.causes.FormError.{FormError}
 use Rattle.asm_defs.specs.declared.causes.FormError.TheVariants.{UnknownOperation, OperandCount, BadOperand}
@@ -51,10 +50,6 @@ forms_in (slot ∷ slots) (text ∷ texts) = do
 
 abbrev pub operand_forms : List Slot → List (List ℕ) → Result (List Form) FormError
 operand_forms slots texts = if length texts == length slots then forms_in slots texts else Err OperandCount
-
--- the texts of the operands of a field
-abbrev pub operand_texts : List ℕ → List (List ℕ)
-operand_texts field = map (part field) (operands field)
 
 -- the forms of the operands of a field
 -- Profile: an operation without operands ignores the rest of its line.

@@ -3,4 +3,5 @@ pub mod Operands
 pub mod Forms
 pub mod FirstChecks
 pub mod SecondChecks
+pub mod Growing
 pub mod Printed

@@ -1,6 +1,7 @@
 //! The first checks of an instruction line: its operation, the number of its operands, and their forms.
 
 ghost use Rattle.std.specs.Prelude.{◌≡◌, ◌≤◌, Ok, Err, IfOk, IfErr};
+ghost use Rattle.source_defs.specs.Operands.{operand_texts};
 ghost use Rattle.asm_defs.specs.FirstChecks as spec;
 ghost use Rattle.asm_forms.specs.Forms.{defined_form, form_answer, one_of, two_of, both_forms};
 ghost use Rattle.asm_forms.specs.UpToTwo.{items_of, slots_in};
@@ -60,8 +61,8 @@ fn forms_of<'a>(slots: UpToTwo<Slot>, field: &'a [u8]) -> Result<UpToTwo<Form<'a
 
 /// The one operand of a field that has one.
 fn one_operand(field: &[u8]) -> Result<&[u8], FormError>
-    ensures ok { IfOk result (λ text. Ok text.now ≡ one_of (spec.operand_texts field.now)) }
-    ensures err { IfErr result (λ cause. Err cause ≡ one_of (spec.operand_texts field.now)) }
+    ensures ok { IfOk result (λ text. Ok text.now ≡ one_of (operand_texts field.now)) }
+    ensures err { IfErr result (λ cause. Err cause ≡ one_of (operand_texts field.now)) }
 {
     let mut parts = operands(field);
     let (Some(only), None) = (parts.next(), parts.next()) else {
@@ -72,8 +73,8 @@ fn one_operand(field: &[u8]) -> Result<&[u8], FormError>
 
 /// The two operands of a field that has two.
 fn two_operands(field: &[u8]) -> Result<(&[u8], &[u8]), FormError>
-    ensures ok { IfOk result (λ texts. Ok (texts.0.now, texts.1.now) ≡ two_of (spec.operand_texts field.now)) }
-    ensures err { IfErr result (λ cause. Err cause ≡ two_of (spec.operand_texts field.now)) }
+    ensures ok { IfOk result (λ texts. Ok (texts.0.now, texts.1.now) ≡ two_of (operand_texts field.now)) }
+    ensures err { IfErr result (λ cause. Err cause ≡ two_of (operand_texts field.now)) }
 {
     let mut parts = operands(field);
     let (Some(first), Some(second), None) = (parts.next(), parts.next(), parts.next()) else {

@@ -10,21 +10,11 @@ ghost use Rattle.asm_text.specs.GivenTokens.{defined_token};
 ghost use Rattle.asm_text.specs.GivenValues.{defined_value, defined_value_answer};
 
 use crate::name::Name;
+use crate::quoted_texts::between_quotes;
 use crate::symbols::Symbols;
 use crate::token::{Token, TokenKind};
 use crate::values::Value;
 use source_defs::ExprError;
-
-/// What stands between the quotes of a text.
-fn between_quotes(quoted: &[u8]) -> &[u8]
-    ensures { result.now ≡ spec.between_quotes quoted.now }
-{
-    if quoted.len() < 2 {
-        &[]
-    } else {
-        &quoted[1..quoted.len() - 1]
-    }
-}
 
 /// The first character of a text, where two quotes are one, and what stands behind it.
 fn first_character(text: &[u8]) -> Option<(u8, &[u8])>

@@ -5,6 +5,7 @@ mod arithmetic;
 mod characters;
 mod digits;
 mod evaluate;
+mod expressions;
 mod fold;
 mod laws;
 mod line_fields;
@@ -13,7 +14,10 @@ mod name;
 mod numbers;
 mod operand_field;
 mod operand_iter;
+mod operand_lists;
+mod parentheses;
 mod places;
+mod quoted_texts;
 mod scan;
 mod split;
 mod symbols;
@@ -22,8 +26,11 @@ mod token;
 mod values;
 mod words;
 
-pub use crate::characters::{is_blank, is_comma, is_line_feed, is_printed, is_quote};
+pub use crate::characters::{
+    is_blank, is_comma, is_line_feed, is_printed, is_quote, upper_case,
+};
 pub use crate::digits::{byte_digits, word_digits};
+pub use crate::expressions::expression_value;
 pub use crate::fold::value;
 pub use crate::laws::{fields_of_a_line, least_places, lines_of_a_text};
 pub use crate::line_fields::Fields;
@@ -32,11 +39,16 @@ pub use crate::name::Name;
 pub use crate::numbers::{decimal_up_to, hexadecimal_number};
 pub use crate::operand_field::operands;
 pub use crate::operand_iter::Operands;
+pub use crate::operand_lists::{at_most_one_of, one_of, operand_count, some_of};
+pub use crate::parentheses::parentheses_at;
+pub use crate::quoted_texts::{
+    between_quotes, character_count, is_quoted, quoted, quoted_characters,
+};
 pub use crate::scan::{number, tokens};
 pub use crate::split::{fields, upper_case_name};
 pub use crate::symbols::{DefineError, Symbols};
-pub use crate::text::lines;
+pub use crate::text::{lines, part};
 pub use crate::token::{Token, TokenKind};
 pub use crate::values::Value;
 pub use crate::words::{is_name, is_word};
-pub use source_defs::{ExprError, Line, Span, TextError};
+pub use source_defs::{ExprError, Line, OperandError, Span, TextError};

@@ -4,6 +4,7 @@
 mod codes;
 mod image;
 mod laws;
+mod names;
 mod read;
 mod valid;
 mod write;
@@ -14,6 +15,7 @@ pub use gpl_defs::{
 };
 pub use image::GromImage;
 pub use laws::bytes_mean_one_instruction;
-pub use read::{is_shortest, read_instr};
-pub use valid::is_valid;
+pub use names::name_of;
+pub use read::{is_shortest, read_instr, stands};
+pub use valid::{has_immediate, is_valid};
 pub use write::write_instr;

@@ -37,7 +37,7 @@ fn is_valid_source(op: TwoName, word: bool, src: &GplSource) -> bool
 }
 
 /// Whether an operation with two operands may have an immediate source.
-fn has_immediate(op: TwoName) -> bool
+pub fn has_immediate(op: TwoName) -> bool
     ensures { result ≡ spec.has_immediate op }
 {
     !matches!(op, TwoName::EX)

@@ -14,15 +14,8 @@ use Rattle.module_defs.specs.Locations.{behind, value_of}
 use Rattle.module_defs.specs.FirstChecks.{as_expr}
 use Rattle.module_defs.specs.SecondChecks.{Outcome, Nothing, Words, Bytes, Entry, byte_of, bytes_of, word_in, data_values, absolute_in, byte_values, defs_known, defined_here, entry_in, outcome}
 use Rattle.module_defs.specs.Memory.{bytes_in}
+use Rattle.module_defs.specs.Growing.{size_said}
 use Rattle.module_defs.proofs.Sizes.{given, is_ok, words_fill}
-
--- how many bytes a line says that it places
-abbrev pub size_said : Statement → ℕ
-size_said (Instruction size operation field) = size
-size_said (Data texts) = 2 * length texts
-size_said (Byte texts) = length texts
-size_said (Text quoted) = length (characters quoted)
-size_said _ = 0
 
 -- an instruction has the size that the first checks find
 abbrev pub IsSized : Statement → Type 0

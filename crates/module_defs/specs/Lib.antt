@@ -5,3 +5,4 @@ pub mod FirstChecks
 pub mod SecondChecks
 pub mod Memory
 pub mod Modules
+pub mod Growing

@@ -1,16 +1,21 @@
 -- What a line says: its operation with as many operands as it takes, in their forms.
-use Rattle.std.specs.Prelude.{ℕ, Bool, true, false, not, ◌&&◌, if◌then◌else◌, List, [], ◌∷◌, map, Option, Some, None, Result, Ok, Err}
+use Rattle.std.specs.Prelude.{ℕ, Bool, if◌then◌else◌, List, [], ◌∷◌, map, Option, Some, None, Result, Ok, Err}
 use Rattle.std.specs.List.{list_all}
 use Rattle.source_defs.specs.declared.text.Span.{Span}
 use Rattle.source_defs.specs.declared.causes.TextError.{TextError}
 use Rattle.source_defs.specs.Refusals.{◌>>=◌}
-use Rattle.source_defs.specs.Characters.{is_quote, upper_case}
+use Rattle.source_defs.specs.declared.causes.OperandError.{OperandError}
+use Rattle.source_defs.specs.declared.causes.OperandError.TheVariants.{Count, Form}
+use Rattle.source_defs.specs.Characters.{upper_case}
 use Rattle.source_defs.specs.Lines.{part}
 use Rattle.source_defs.specs.Names.{is_name}
 use Rattle.source_defs.specs.Fields.{Fields, fields}
+use Rattle.source_defs.specs.Operands.{operand_texts}
+use Rattle.source_defs.specs.OperandLists.{one_of, at_most_one_of, some_of}
+use Rattle.source_defs.specs.QuotedTexts.{quoted}
 use Rattle.asm_defs.specs.declared.causes.FormError.{FormError}
 use Rattle.asm_defs.specs.declared.causes.FormError.TheVariants.{OperandCount, BadOperand}
-use Rattle.asm_defs.specs.FirstChecks.{line_size, operand_texts}
+use Rattle.asm_defs.specs.FirstChecks.{line_size}
 use Rattle.module_defs.specs.declared.causes.AsmCause.{AsmCause}
 use Rattle.module_defs.specs.declared.causes.AsmCause.TheVariants as cause
 use Rattle.module_defs.specs.declared.directive.Directive.{Directive}
@@ -43,37 +48,6 @@ abbrev pub as_form : {A : Type 0} → Result A FormError → Result A AsmCause
 as_form (Ok value) = Ok value
 as_form (Err error) = Err (cause.Form error)
 
-abbrev pub is_empty : List ℕ → Bool
-is_empty [] = true
-is_empty (byte ∷ bytes) = false
-
--- Profile: an empty operand is refused for its form.
-abbrev pub written : List ℕ → Result (List ℕ) FormError
-written [] = Err BadOperand
-written (byte ∷ bytes) = Ok (byte ∷ bytes)
-
--- the one operand
-abbrev pub one_of : List (List ℕ) → Result (List ℕ) FormError
-one_of [] = Err OperandCount
-one_of (text ∷ []) = written text
-one_of (first ∷ second ∷ others) = Err OperandCount
-
--- the operand, where there is one
-abbrev pub at_most_one_of : List (List ℕ) → Result (Option (List ℕ)) FormError
-at_most_one_of [] = Ok None
-at_most_one_of (text ∷ []) = do
-  text ← written text
-  Ok (Some text)
-at_most_one_of (first ∷ second ∷ others) = Err OperandCount
-
-abbrev pub all_written : List (List ℕ) → Bool
-all_written texts = list_all (λ text. not (is_empty text)) texts
-
--- one operand or more
-abbrev pub some_of : List (List ℕ) → Result (List (List ℕ)) FormError
-some_of [] = Err OperandCount
-some_of (text ∷ texts) = if all_written (text ∷ texts) then Ok (text ∷ texts) else Err BadOperand
-
 abbrev pub all_names : List (List ℕ) → Bool
 all_names texts = list_all is_name texts
 
@@ -82,26 +56,18 @@ abbrev pub upper_names : List (List ℕ) → List (List ℕ)
 upper_names texts = map (λ text. map upper_case text) texts
 
 -- Profile: an operand of DEF or REF that is no name is refused for its form. Its letters are taken as upper case.
-abbrev pub names_in : List (List ℕ) → Result (List (List ℕ)) FormError
-names_in [] = Err OperandCount
-names_in (text ∷ texts) = if all_names (text ∷ texts) then Ok (upper_names (text ∷ texts)) else Err BadOperand
+abbrev pub names_in : List (List ℕ) → Result (List (List ℕ)) OperandError
+names_in [] = Err Count
+names_in (text ∷ texts) = if all_names (text ∷ texts) then Ok (upper_names (text ∷ texts)) else Err Form
 
--- whether what follows ends with the quote that closes a text; a quote that may be that one came just before
-abbrev pub closes : Bool → List ℕ → Bool
-closes quote [] = quote
-closes quote (byte ∷ bytes) = if is_quote byte then closes (not quote) bytes else not quote && closes false bytes
-
--- a text in quotes, where two quotes inside it are one
-abbrev pub is_quoted : List ℕ → Bool
-is_quoted [] = false
-is_quoted (byte ∷ bytes) = is_quote byte && closes false bytes
-
--- Profile: an operand of TEXT that is no quoted text is refused for its form.
-abbrev pub quoted : List ℕ → Result (List ℕ) FormError
-quoted text = if is_quoted text then Ok text else Err BadOperand
+-- a refusal of operands, by the rule of instruction lines
+abbrev pub as_operands : {A : Type 0} → Result A OperandError → Result A FormError
+as_operands (Ok value) = Ok value
+as_operands (Err Count) = Err OperandCount
+as_operands (Err Form) = Err BadOperand
 
 -- a directive with its operands
-abbrev pub directive_statement : Directive → List (List ℕ) → Result Statement FormError
+abbrev pub directive_statement : Directive → List (List ℕ) → Result Statement OperandError
 directive_statement named.Aorg texts = one_of texts >>= λ text. Ok (Aorg text)
 directive_statement named.Rorg texts = at_most_one_of texts >>= λ text. Ok (Rorg text)
 directive_statement named.Dorg texts = one_of texts >>= λ text. Ok (Dorg text)
@@ -125,7 +91,7 @@ instruction_statement operation field = do
   Ok (Instruction size operation field)
 
 abbrev pub statement_by : Option Directive → List ℕ → List ℕ → Result Statement FormError
-statement_by (Some found) operation field = directive_statement found (operand_texts field)
+statement_by (Some found) operation field = as_operands (directive_statement found (operand_texts field))
 statement_by None operation field = instruction_statement operation field
 
 -- the statement of an operation field and an operand field: the operation, then the number of operands, then their forms

@@ -11,7 +11,12 @@ pub mod SoleNumbers
 pub mod TokenLaw
 pub mod Expression
 pub mod Operands
+pub mod Parentheses
+pub mod OperandLists
+pub mod QuotedTexts
 pub mod Symbols
+pub mod Growing
 pub mod Layout
 pub mod LineLaw
 pub mod FieldLaw
+pub mod ListedLines

@@ -5,7 +5,7 @@
 use Rattle.std.specs.Prelude.{ℕ, ◌-◌, Bool, not, ◌&&◌, List, [], ◌∷◌, length, slice_index, map, filter}
 use Rattle.std.specs.List.{AllByRecursion, range_with_len}
 use Rattle.source_defs.specs.declared.text.Span.{Span}
-use Rattle.source_defs.specs.Lines.{IsInside, bounds_between}
+use Rattle.source_defs.specs.Lines.{IsInside, bounds_between, part}
 use Rattle.source_defs.specs.Numbers.{is_comma}
 use Rattle.source_defs.specs.Fields.{in_quotes}
 
@@ -26,6 +26,10 @@ operands_from field from =
 abbrev pub operands : List ℕ → List Span
 operands [] = []
 operands (byte ∷ bytes) = operands_from (byte ∷ bytes) 0
+
+-- the texts of the operands of a field
+abbrev pub operand_texts : List ℕ → List (List ℕ)
+operand_texts field = map (part field) (operands field)
 
 -- each of some parts lies inside the field
 abbrev pub OperandsLieInside : List ℕ → List Span → Type 0

@@ -13,6 +13,15 @@ pub enum TextError {
     BadLabel,
 }
 
+/// Why the operands of a field are refused.
+#[derive(Clone, Copy, Debug, PartialEq, Eq)]
+pub enum OperandError {
+    /// There are more operands, or fewer, than the operation takes.
+    Count,
+    /// An operand is empty, or of a form that its place does not allow.
+    Form,
+}
+
 /// Why an expression has no value.
 #[derive(Error, Debug, Clone, Copy, PartialEq, Eq)]
 pub enum ExprError {

@@ -4,5 +4,5 @@
 mod causes;
 mod text;
 
-pub use crate::causes::{ExprError, TextError};
+pub use crate::causes::{ExprError, OperandError, TextError};
 pub use crate::text::{Line, Span};

@@ -1,4 +1,4 @@
-//! Cases of lines, expressions, instruction lines, modules, object text, bytes of GPL, images and streams, worked out by hand. The crate
+//! Cases of lines, expressions, instruction lines, modules, object text, bytes of GPL and their listings, images and streams, worked out by hand. The crate
 //! holds tests alone, so that the crates below it are proved once.
 #![tactic(auto)]
 
@@ -8,6 +8,8 @@ mod compressed_text;
 mod expressions;
 #[cfg(test)]
 mod gpl_bytes;
+#[cfg(test)]
+mod gpl_listing;
 #[cfg(test)]
 mod images;
 #[cfg(test)]

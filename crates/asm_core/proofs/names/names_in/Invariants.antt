@@ -2,7 +2,7 @@ use Rattle.std.proofs.Common.{◌≡◌, ◌++◌, true}
 use Rattle.std.specs.Prelude.{map}
 use Rattle.source_defs.specs.Lines.{part}
 use Rattle.source_defs.specs.Operands.{OperandsLieInside}
-use Rattle.asm_defs.specs.FirstChecks.{operand_texts}
+use Rattle.source_defs.specs.Operands.{operand_texts}
 use Rattle.module_defs.specs.Statements.{all_names, upper_names}
 use Rattle.asm_core.proofs.names.names_in.Given as goal
 

@@ -3,7 +3,7 @@ use Rattle.std.specs.Prelude.{map}
 use Rattle.source_defs.specs.Symbols.{look_up}
 use Rattle.source_defs.specs.Lines.{part}
 use Rattle.source_defs.specs.Operands.{OperandsLieInside}
-use Rattle.asm_defs.specs.FirstChecks.{operand_texts}
+use Rattle.source_defs.specs.Operands.{operand_texts}
 use Rattle.module_defs.specs.SecondChecks.{byte_values}
 use Rattle.asm_core.specs.Outcomes.{after}
 use Rattle.asm_core.proofs.values.Scope.byte_values.Given as goal

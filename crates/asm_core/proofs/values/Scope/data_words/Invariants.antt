@@ -3,7 +3,7 @@ use Rattle.std.specs.Prelude.{map}
 use Rattle.source_defs.specs.Symbols.{look_up}
 use Rattle.source_defs.specs.Lines.{part}
 use Rattle.source_defs.specs.Operands.{OperandsLieInside}
-use Rattle.asm_defs.specs.FirstChecks.{operand_texts}
+use Rattle.source_defs.specs.Operands.{operand_texts}
 use Rattle.asm_forms.specs.Placed.{defined_words}
 use Rattle.module_defs.specs.SecondChecks.{data_values}
 use Rattle.asm_core.specs.Outcomes.{after}

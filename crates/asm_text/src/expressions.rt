@@ -1,0 +1,30 @@
+//! The value of an expression.
+
+ghost use Rattle.source_defs.specs.Expression.{expression};
+ghost use Rattle.source_defs.specs.Symbols.{look_up};
+ghost use Rattle.asm_text.specs.GivenValues.{defined_value, IsNotExternal};
+ghost use Rattle.asm_text.specs.Yielded.{Yields};
+
+use crate::fold::value;
+use crate::scan::tokens;
+use crate::symbols::Symbols;
+use crate::values::Value;
+use source_defs::ExprError;
+use std::alloc::Global;
+
+/// The value of a text: its tokens first, then its terms. `$` stands for `here`.
+///
+/// # Errors
+/// The refusal of `tokens`, else that of `value`. `Memory` is want of memory.
+pub fn expression_value(
+    alloc: Global,
+    text: &[u8],
+    symbols: &Symbols,
+    here: Value,
+) -> Result<Value, ExprError>
+    requires { IsNotExternal here }
+    ensures { Yields defined_value result (expression (look_up symbols.now) (defined_value here) text.now) }
+{
+    let found = tokens(alloc, text)?;
+    value(found.as_slice(), text, symbols, here)
+}

@@ -1,0 +1,96 @@
+//! The operands of a field, by how many an operation takes.
+
+ghost use Rattle.std.specs.Prelude.{◌≡◌, ◌≤◌, ◌+◌, length, IfOk};
+ghost use Rattle.std.specs.Option.{option_map};
+ghost use Rattle.source_defs.specs.Refusals.{seen};
+ghost use Rattle.source_defs.specs.Operands.{operand_texts};
+ghost use Rattle.source_defs.specs.OperandLists as spec;
+
+use crate::operand_field::operands;
+use source_defs::OperandError;
+
+/// The one operand of a field.
+///
+/// # Errors
+/// `Count` comes where the field has none or several, and `Form` where its operand is empty.
+pub fn one_of(field: &[u8]) -> Result<&[u8], OperandError>
+    ensures text { seen (λ text. text.now) result ≡ spec.one_of (operand_texts field.now) }
+    ensures part { IfOk result (λ text. length text.now ≤ length field.now) }
+{
+    let mut parts = operands(field);
+    let (Some(only), None) = (parts.next(), parts.next()) else {
+        return Err(OperandError::Count);
+    };
+    written(&field[only.start..only.end])
+}
+
+/// The operand of a field that has one or none.
+///
+/// # Errors
+/// `Count` comes where the field has several, and `Form` where its operand is empty.
+pub fn at_most_one_of(field: &[u8]) -> Result<Option<&[u8]>, OperandError>
+    ensures { seen (λ text. option_map (λ found. found.now) text) result ≡ spec.at_most_one_of (operand_texts field.now) }
+{
+    let mut parts = operands(field);
+    let Some(only) = parts.next() else {
+        return Ok(None);
+    };
+    if parts.next().is_some() {
+        return Err(OperandError::Count);
+    }
+    let text = written(&field[only.start..only.end])?;
+    Ok(Some(text))
+}
+
+/// An operand that is not empty.
+fn written(text: &[u8]) -> Result<&[u8], OperandError>
+    ensures { seen (λ found. found.now) result ≡ spec.written text.now }
+{
+    match text {
+        [] => Err(OperandError::Form),
+        _ => Ok(text),
+    }
+}
+
+/// A field of one operand or more, none of which is empty. It is the field itself.
+///
+/// # Errors
+/// `Count` comes where the field has no operand, and `Form` where one is empty.
+pub fn some_of(field: &[u8]) -> Result<&[u8], OperandError>
+    ensures texts { seen (λ found. operand_texts found.now) result ≡ spec.some_of (operand_texts field.now) }
+    ensures same { IfOk result (λ found. found.now ≡ field.now) }
+{
+    if operands(field).next().is_none() {
+        return Err(OperandError::Count);
+    }
+    if all_written(field) {
+        Ok(field)
+    } else {
+        Err(OperandError::Form)
+    }
+}
+
+fn all_written(field: &[u8]) -> bool
+    ensures { result ≡ spec.all_written (operand_texts field.now) }
+{
+    for span in operands(field) {
+        if span.start == span.end {
+            return false;
+        }
+    }
+    true
+}
+
+/// How many operands a field of at most 256 bytes has.
+#[tactic(auto, using(source_defs::proofs::OperandCounts::operands_le))]
+pub fn operand_count(field: &[u8]) -> u32
+    requires { length field.now ≤ 256 }
+    ensures count { result ≡ length (operand_texts field.now) }
+    ensures most { result ≤ 257 }
+{
+    let mut count = 0;
+    for _ in operands(field) {
+        count += 1;
+    }
+    count
+}

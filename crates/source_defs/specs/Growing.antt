@@ -1,0 +1,24 @@
+-- What is known of an expression while names are still to come.
+use Rattle.std.specs.Prelude.{◌≡◌, ℕ, Bool, true, false, not, List, Option, Some, Result, Ok, Err}
+use Rattle.source_defs.specs.declared.causes.ExprError.{ExprError}
+use Rattle.source_defs.specs.declared.causes.ExprError.TheVariants.{BadToken, UnknownName, BadRelocation, TooLarge, DivideByZero, Memory}
+use Rattle.source_defs.specs.Expression.{Value}
+use Rattle.source_defs.specs.Symbols.{Names, look_up}
+
+-- what stands for something goes on to do so
+abbrev pub Grows : Names → Names → Type 0
+Grows old new = (name : List ℕ) (value : Value) → look_up old name ≡ Some value → look_up new name ≡ Some value
+
+-- a refusal that more names may lift
+abbrev pub is_open : ExprError → Bool
+is_open UnknownName = true
+is_open BadToken = false
+is_open BadRelocation = false
+is_open TooLarge = false
+is_open DivideByZero = false
+is_open Memory = false
+
+-- an answer that more names leave as it is, by the refusals that they may lift
+abbrev pub is_closed : {A E : Type 0} → (E → Bool) → Result A E → Bool
+is_closed lifts (Ok value) = true
+is_closed lifts (Err cause) = not (lifts cause)
