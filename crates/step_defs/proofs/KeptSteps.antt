@@ -25,7 +25,7 @@ use Rattle.gpl_defs.specs.declared.instruction.GplRead.{GplRead}
 use Rattle.gpl_defs.specs.declared.instruction.GplRead.TheVariants.{Instr, Refused}
 use Rattle.gpl_defs.specs.Valid.{has_words}
 use Rattle.gpl_defs.specs.Codes.{operation_at}
-use Rattle.gpl_defs.specs.Reading.{word_at, address_at, index_at, with_index, with_address, operand_from, operand_at, source_at, length_at, target_at, from_at, move_at, instr_at, read_by, reading}
+use Rattle.gpl_defs.specs.Reading.{word_at, address_at, index_by, index_at, with_index, with_address, operand_from, operand_at, source_at, length_at, target_at, from_at, move_at, instr_at, read_by, reading}
 use Rattle.gpl_defs.proofs.CodeLaws.{row_fits, rows_fit}
 use Rattle.step_defs.specs.declared.reason.Reason.{Reason}
 use Rattle.step_defs.specs.State.{GplState, IsState, zeros, start}
@@ -76,7 +76,7 @@ module _ (image : List ℕ) (fits : (k : ℕ) → slice_index image k < 256) whe
   index_next : (first at : ℕ) → at < 65536 → (index_at first image at).1 < 65536
   index_next first at lt = by (first / 64 % 2 == 1)
     where
-      by : (b : Bool) → (cond {A = Option ℕ × ℕ} b (Some (slice_index image at), next_in_grom at) (None, at)).1 < 65536
+      by : (b : Bool) → (index_by b image at).1 < 65536
       by true = next-fits at lt
       by false = lt
 
