@@ -1,7 +1,8 @@
--- What runs of steps are.
-use Rattle.std.specs.Prelude.{◌≡◌, ℕ, ◌<◌, Option, Some, None, Ok, Err}
+-- What steps and runs of steps are.
+use Rattle.std.specs.Prelude.{List, IfOk, ◌≡◌, ℕ, ◌<◌, Option, Some, None, Ok, Err}
+use Rattle.console_defs.specs.Bytes.{HoldsBytes}
 use Rattle.step_defs.specs.declared.reason.Reason.{Reason}
-use Rattle.step_defs.specs.State.{GplState}
+use Rattle.step_defs.specs.State.{GplState, IsState, start}
 use Rattle.step_defs.specs.Step.{step}
 use Rattle.step_defs.specs.Run.{GplRun, steps, run}
 
@@ -17,3 +18,8 @@ pub record IsRun (limit : ℕ) (s : GplState) (r : GplRun) : Type 0 where
 -- the law, which is proved: a run is its steps one after the other, up to the limit or to the first that stops
 abbrev pub RunsAreSteps : Type 0
 RunsAreSteps = (limit : ℕ) (s : GplState) → IsRun limit s (run limit s)
+
+-- the law, which is proved: a program begins in a state, and a step leaves one
+pub record StepsKeepStates : Type 0 where
+  pub begins : (image : List ℕ) (entry : ℕ) → HoldsBytes 65536 image → entry < 65536 → IsState (start image entry)
+  pub keeps : (s : GplState) → IsState s → IfOk (step s) IsState

@@ -1,8 +1,8 @@
 -- The step of GPL.
 --
 -- GPL Programmer's Guide, the statements.
--- Profile: all checks come before all changes, and all operands are read before anything is stored. A stop leaves the state
--- as it was, so it is a reason and nothing else.
+-- Profile: all checks come before all changes, and all operands are read before anything is stored. A stop leaves the
+-- state as it was, so it is a reason and nothing else.
 use Rattle.std.specs.Prelude.{ℕ, ◌*◌, ◌==◌, Bool, true, false, if◌then◌else◌, List, ◌++◌, replicate, drop, Some, None}
 use Rattle.std.specs.Prelude.{Result, Ok, Err}
 use Rattle.console_defs.specs.Status.{is_set}
