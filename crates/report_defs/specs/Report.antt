@@ -3,7 +3,8 @@ use Rattle.std.specs.Prelude.{◌≡◌, ℕ, ◌+◌, nat_lt, if◌then◌else�
 use Rattle.console_defs.specs.Machine.{MachineState}
 use Rattle.console_defs.specs.declared.ends.RunEnd.{RunEnd}
 use Rattle.source_defs.specs.Refusals.{Refusal}
-use Rattle.gpl_defs.specs.Image.{written_bytes}
+use Rattle.std.specs.FinMap.{empty}
+use Rattle.gpl_defs.specs.Image.{written_bytes, placed}
 use Rattle.program_defs.specs.declared.causes.GplCause.{GplCause}
 use Rattle.program_defs.specs.Programs.{Program, program_of_source}
 use Rattle.object_defs.specs.Modules.{Module}
@@ -11,7 +12,7 @@ use Rattle.object_defs.specs.Writing.{written}
 use Rattle.module_defs.specs.declared.causes.AsmCause.{AsmCause}
 use Rattle.module_defs.specs.Modules.{module_of_source}
 use Rattle.report_defs.specs.declared.command.Command.{Command}
-use Rattle.report_defs.specs.declared.command.Command.TheVariants.{Asm, Gasm, Dis, Link, Exec}
+use Rattle.report_defs.specs.declared.command.Command.TheVariants.{Asm, Gasm, Dis, Gdis, Link, Exec}
 use Rattle.report_defs.specs.declared.status.Status.{Status}
 use Rattle.report_defs.specs.declared.status.Status.TheVariants.{Done, Refused}
 use Rattle.report_defs.specs.declared.fault.Fault.{Fault}
@@ -20,6 +21,7 @@ use Rattle.report_defs.specs.FaultLine.{fault_status}
 use Rattle.report_defs.specs.SourceFaults.{asm_line, gpl_line}
 use Rattle.report_defs.specs.TextLines.{text_lines}
 use Rattle.report_defs.specs.Listing.{memory_listing}
+use Rattle.report_defs.specs.GromListing.{image_listing}
 use Rattle.link_defs.specs.LinkedMemory.{LinkedMemory}
 use Rattle.report_defs.specs.MemoryListing.{linked_lines}
 use Rattle.report_defs.specs.ObjectInput.{linked_input}
@@ -62,6 +64,12 @@ abbrev pub dis_report : ℕ → List ℕ → Report
 dis_report at input =
     if nat_lt 65536 (at + length input) then Faulty PastEnd else Whole Done (memory_listing at input)
 
+-- The report of gdis is the listing of the image that holds its input from an address on.
+-- Profile: an input that runs past >FFFF is refused.
+abbrev pub gdis_report : ℕ → List ℕ → Report
+gdis_report at input =
+    if nat_lt 65536 (at + length input) then Faulty PastEnd else Whole Done (image_listing (placed empty at input))
+
 -- Profile: the report of link is the listing of the linked memory.
 abbrev pub link_report : Result LinkedMemory (List ℕ) → Report
 link_report (Ok linked) = Whole Done (linked_lines linked)
@@ -83,6 +91,7 @@ abbrev pub AcceptedReport : Command → List ℕ → Report → Type 0
 AcceptedReport Asm input report = report ≡ asm_report (module_of_source input)
 AcceptedReport Gasm input report = report ≡ gasm_report (program_of_source input)
 AcceptedReport (Dis at) input report = report ≡ dis_report at input
+AcceptedReport (Gdis at) input report = report ≡ gdis_report at input
 AcceptedReport Link input report = report ≡ link_report (linked_input input)
 AcceptedReport (Exec limit) input report = ExecReport limit (linked_input input) report
 

@@ -12,6 +12,11 @@ pub enum Command {
         /// The address of the first byte, which is even.
         at: u16,
     },
+    /// `gdis ADDR`: lists bytes of GROM, which stand from an address on, as a GPL source.
+    Gdis {
+        /// The address of the first byte.
+        at: u16,
+    },
     /// `link`: places and links the modules of an object text, and lists the memory.
     Link,
     /// `exec N`: links the modules of an object text and executes up to so many instructions from the entry.

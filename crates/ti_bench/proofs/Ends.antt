@@ -24,6 +24,7 @@ written_ends : (o : Outputs) (report : Report) → WroteReport o (defined_report
 written_ends o (made.Text text) wrote = (refl, wrote)
 written_ends o (made.Image image) wrote = (refl, wrote)
 written_ends o (made.Listing listing) wrote = (refl, wrote)
+written_ends o (made.Grom image) wrote = (refl, wrote)
 written_ends o (made.Run Reached machine) wrote = (refl, wrote)
 written_ends o (made.Run Limit machine) wrote = (refl, wrote)
 written_ends o (made.Run (Refused address) machine) wrote = (refl, wrote)

@@ -23,6 +23,10 @@ pub(crate) fn read_command(words: &Words) -> Option<Command>
             Some(Command::Exec { limit })
         }
         [name, address] if name.as_slice() == b"dis".as_slice() => dis_at(address.as_slice()),
+        [name, address] if name.as_slice() == b"gdis".as_slice() => {
+            let at = address_word(address.as_slice())?;
+            Some(Command::Gdis { at })
+        }
         _ => None,
     }
 }

@@ -4,6 +4,7 @@ mod asm;
 mod dis;
 mod exec;
 mod gasm;
+mod gdis;
 mod link;
 
 ghost use Rattle.std.specs.Prelude.{◌≤◌, vec_len, IfOk};
@@ -14,6 +15,7 @@ use crate::commands::asm::asm;
 use crate::commands::dis::dis;
 use crate::commands::exec::exec;
 use crate::commands::gasm::gasm;
+use crate::commands::gdis::gdis;
 use crate::commands::link::link;
 use crate::report::Report;
 use report_defs::Command;
@@ -32,6 +34,7 @@ pub(crate) fn make_report(
         Command::Asm => asm(alloc, input.as_slice()),
         Command::Gasm => gasm(alloc, input.as_slice()),
         Command::Dis { at } => Ok(dis(at, input)),
+        Command::Gdis { at } => gdis(alloc, at, input.as_slice()),
         Command::Link => link(alloc, input.as_slice()),
         Command::Exec { limit } => exec(alloc, limit, input.as_slice()),
     }

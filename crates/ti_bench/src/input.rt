@@ -34,7 +34,7 @@ fn reads(command: Command) -> bool
     ensures { result ≡ spec.reads command }
 {
     match command {
-        Command::Asm | Command::Gasm | Command::Dis { .. } | Command::Link | Command::Exec { .. } =>
+        Command::Asm | Command::Gasm | Command::Dis { .. } | Command::Gdis { .. } | Command::Link | Command::Exec { .. } =>
             true,
     }
 }

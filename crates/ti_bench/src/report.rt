@@ -5,6 +5,7 @@ ghost use Rattle.source_defs.specs.Digits.{marked_word};
 ghost use Rattle.bench_io.specs.Written.{Written};
 ghost use Rattle.report_defs.specs.Exec as runs;
 ghost use Rattle.report_defs.specs.FaultLine as faults;
+ghost use Rattle.report_defs.specs.GromListing.{image_listing};
 ghost use Rattle.report_defs.specs.Report as spec;
 ghost use Rattle.ti_bench.specs.Made.{defined_report};
 ghost use Rattle.ti_bench.specs.Run.{WrittenReport, EndsWith};
@@ -13,6 +14,7 @@ use crate::fault_line::fault_line;
 use crate::listing::Listing;
 use bench_io::{Failed, Sink, put_piece};
 use console_defs::RunEnd;
+use gpl_disasm::disassemble;
 use gpl_forms::GromImage;
 use link_loader::Linked;
 use memory_listing::put_memory;
@@ -30,6 +32,8 @@ pub(crate) enum Report {
     Image(GromImage),
     /// Raw bytes in memory, whose listing goes to standard output line by line.
     Listing(Listing),
+    /// An image of GROM, whose listing goes to standard output line by line.
+    Grom(GromImage),
     /// A run of the machine, whose end and whose dump go to standard output line by line.
     Run {
         /// What ended the run.
@@ -75,6 +79,7 @@ impl Report {
             Report::Text(text) => put_text(text.as_slice(), out),
             Report::Image(image) => put_image(out, image.written()),
             Report::Listing(listing) => listing.write(out),
+            Report::Grom(image) => put_grom(image, out),
             Report::Run { ending, machine } => put_run(out, *ending, machine),
             Report::Memory(linked) => put_memory(linked, out),
             Report::Refused(line) => put_piece(err, line.as_slice()),
@@ -87,8 +92,11 @@ impl Report {
         ensures { result ≡ spec.status_of (defined_report self.now) }
     {
         match self {
-            Report::Text(_) | Report::Image(_) | Report::Listing(_) | Report::Memory(_) =>
-                Status::Done,
+            Report::Text(_)
+            | Report::Image(_)
+            | Report::Listing(_)
+            | Report::Grom(_)
+            | Report::Memory(_) => Status::Done,
             Report::Refused(_) => Status::Refused,
             Report::Run { ending, .. } => end_status(*ending),
             Report::Fault(fault) => fault_status(*fault),
@@ -105,6 +113,13 @@ fn put_image<O: Sink>(out: &mut O, bytes: &[u8]) -> Result<(), Failed>
         return Ok(());
     }
     put_piece(out, bytes)
+}
+
+/// Writes the listing of an image.
+fn put_grom<O: Sink>(image: &GromImage, out: &mut O) -> Result<(), Failed>
+    ensures { Written result (O.state out.old) (O.state out.new) (image_listing image.now) }
+{
+    disassemble(image, out)
 }
 
 /// Writes how a run ended, and the machine that it left.
