@@ -11,10 +11,10 @@ use Rattle.module_defs.specs.Memory.{Settled}
 use Rattle.module_defs.specs.Modules.{settle, settle_at}
 use Rattle.asm_core.specs.declared.pending.Pending.{Pending}
 use Rattle.asm_core.specs.Building.{behind_lines, IsOf, Wait, refusal_at}
-use Rattle.asm_core.specs.Answers.{Fails}
+use Rattle.asm_checks.specs.Answers.{Fails}
 use Rattle.asm_core.specs.Finishing.{RefusesAt}
-use Rattle.asm_core.specs.declared.failure.Failure.{Failure}
-use Rattle.asm_core.specs.declared.failure.Failure.TheVariants.{Refused, Memory}
+use Rattle.asm_checks.specs.declared.failure.Failure.{Failure}
+use Rattle.asm_checks.specs.declared.failure.Failure.TheVariants.{Refused, Memory}
 use Rattle.asm_core.specs.declared.error.AsmError.{AsmError}
 use Rattle.asm_core.specs.declared.error.AsmError.TheVariants as error
 use Rattle.module_defs.specs.declared.causes.AsmCause.TheVariants as cause

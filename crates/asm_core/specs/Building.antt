@@ -5,12 +5,12 @@ use Rattle.module_defs.specs.Statements.{said_of}
 use Rattle.module_defs.specs.Locations.{Line, location, place, reached}
 use Rattle.module_defs.specs.FirstChecks.{names, defs, refs, check}
 use Rattle.module_defs.specs.Modules.{title}
-use Rattle.asm_core.specs.Answers.{Causes}
+use Rattle.asm_checks.specs.Answers.{Causes}
 use Rattle.asm_core.specs.declared.lines.AsmLines.{AsmLines}
 use Rattle.asm_core.specs.declared.error.AsmError.{AsmError}
 use Rattle.asm_core.specs.declared.error.AsmError.TheVariants as error
-use Rattle.asm_core.specs.declared.failure.Failure.{Failure}
-use Rattle.asm_core.specs.declared.failure.Failure.TheVariants as failure
+use Rattle.asm_checks.specs.declared.failure.Failure.{Failure}
+use Rattle.asm_checks.specs.declared.failure.Failure.TheVariants as failure
 use Rattle.asm_core.specs.declared.pending.Pending.{Pending}
 
 -- lines in their order behind others, of which the nearest stands first

@@ -5,9 +5,9 @@ use Rattle.object_tags.specs.Seen.{defined_ref}
 use Rattle.module_defs.specs.declared.location.Part.TheVariants as part
 use Rattle.module_defs.specs.Memory.{Settled, references_of, overlaps}
 use Rattle.module_defs.specs.Modules.{entry, with_room}
-use Rattle.asm_core.specs.Answers.{Fails}
-use Rattle.asm_core.specs.Holding.{Holds}
-use Rattle.asm_core.specs.declared.failure.Failure.{Failure}
+use Rattle.asm_checks.specs.Answers.{Fails}
+use Rattle.asm_image.specs.Holding.{Holds}
+use Rattle.asm_checks.specs.declared.failure.Failure.{Failure}
 use Rattle.asm_core.specs.declared.image.Image.{Image}
 
 -- the lines' bytes and the last uses, by the names of REF before their first use

@@ -7,9 +7,9 @@ use Rattle.module_defs.specs.declared.causes.AsmCause.{AsmCause}
 use Rattle.module_defs.specs.Statements.{said_of}
 use Rattle.module_defs.specs.Memory.{Settled}
 use Rattle.module_defs.specs.Modules.{settle_at}
-use Rattle.asm_core.specs.Answers.{Fails}
+use Rattle.asm_checks.specs.Answers.{Fails}
 use Rattle.asm_core.specs.Images.{IsImage}
-use Rattle.asm_core.specs.declared.failure.Failure.{Failure}
+use Rattle.asm_checks.specs.declared.failure.Failure.{Failure}
 use Rattle.asm_core.specs.declared.image.Image.{Image}
 use Rattle.asm_core.specs.declared.pending.Pending.{Pending}
 

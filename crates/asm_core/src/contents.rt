@@ -5,7 +5,7 @@ ghost use Rattle.object_tags.specs.Seen.{defined_ref};
 ghost use Rattle.asm_forms.specs.Placed.{defined_word, defined_words};
 ghost use Rattle.module_defs.specs.Memory as spec;
 ghost use Rattle.module_defs.specs.declared.content.Content.TheVariants.{Byte};
-ghost use Rattle.asm_core.specs.Outcomes.{defined_outcome};
+ghost use Rattle.asm_checks.specs.Outcomes.{defined_outcome};
 
 use crate::references::use_name;
 use crate::second_checks::Outcome;

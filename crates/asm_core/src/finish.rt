@@ -7,7 +7,7 @@ ghost use Rattle.module_defs.specs.Locations.{Line};
 ghost use Rattle.module_defs.specs.FirstChecks as first;
 ghost use Rattle.module_defs.specs.Memory.{Settled};
 ghost use Rattle.module_defs.specs.Modules.{unused, module_by, module_behind, definition_in};
-ghost use Rattle.asm_core.specs.Outcomes.{defined_spot};
+ghost use Rattle.asm_checks.specs.Outcomes.{defined_spot};
 ghost use Rattle.asm_core.specs.Images.{IsImage};
 ghost use Rattle.asm_core.specs.Building.{IsBehind, refusal_at};
 ghost use Rattle.asm_core.specs.Finishing.{SettlesAll, GivesModule};

@@ -6,8 +6,8 @@ ghost use Rattle.object_tags.specs.Seen.{defined_ref};
 ghost use Rattle.module_defs.specs.FirstChecks as first;
 ghost use Rattle.module_defs.specs.Memory as spec;
 ghost use Rattle.module_defs.specs.Modules.{unused, entry_by, with_room};
-ghost use Rattle.asm_core.specs.Outcomes.{defined_outcome};
-ghost use Rattle.asm_core.specs.Answers.{Gives};
+ghost use Rattle.asm_checks.specs.Outcomes.{defined_outcome};
+ghost use Rattle.asm_checks.specs.Answers.{Gives};
 ghost use Rattle.asm_core.specs.Images.{IsImage, IsPlaced, Puts, Places};
 
 use crate::contents::contents;

@@ -4,9 +4,9 @@ ghost use Rattle.std.specs.Prelude.{◌≡◌, ◌<◌, ◌≤◌, ◌+◌, ◌-
 ghost use Rattle.module_defs.specs.Locations as places;
 ghost use Rattle.module_defs.specs.FirstChecks as spec;
 ghost use Rattle.module_defs.specs.FirstChecks.{defs_in, refs_in};
-ghost use Rattle.asm_core.specs.Defined.{defined_statement};
-ghost use Rattle.asm_core.specs.Moves.{MovesWithin};
-ghost use Rattle.asm_core.specs.Checks.{defined_before, defined_checked, KnowsPlaces, ListsNames};
+ghost use Rattle.asm_checks.specs.Defined.{defined_statement};
+ghost use Rattle.asm_checks.specs.Moves.{MovesWithin};
+ghost use Rattle.asm_checks.specs.Checks.{defined_before, defined_checked, KnowsPlaces, ListsNames};
 ghost use Rattle.asm_core.specs.Keeping.{known_in, names_with, Keeps, IsUnchanged, StartsAs, SameLists, StandsStill};
 
 use crate::define::define_line;

@@ -4,9 +4,9 @@ ghost use Rattle.std.specs.Prelude.{◌≡◌, ◌<◌, ◌≤◌, ◌+◌, ◌-
 ghost use Rattle.module_defs.specs.Locations as places;
 ghost use Rattle.module_defs.specs.Modules.{title_by};
 ghost use Rattle.module_defs.specs.FirstChecks as spec;
-ghost use Rattle.asm_core.specs.Defined.{defined_statement};
-ghost use Rattle.asm_core.specs.Moves.{defined_move, MovesWithin};
-ghost use Rattle.asm_core.specs.Checks.{defined_checked};
+ghost use Rattle.asm_checks.specs.Defined.{defined_statement};
+ghost use Rattle.asm_checks.specs.Moves.{defined_move, MovesWithin};
+ghost use Rattle.asm_checks.specs.Checks.{defined_checked};
 ghost use Rattle.asm_core.specs.Keeping.{known_in, IsUnchanged};
 ghost use Rattle.asm_core.specs.Building.{IsBehind, Takes, refusal_at};
 ghost use Rattle.module_defs.proofs.CheckLaws.{IsTitled};

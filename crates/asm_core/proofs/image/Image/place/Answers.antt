@@ -1,8 +1,8 @@
 use Rattle.std.proofs.Common.{◌∷◌, ap, ◌∙◌}
 use Rattle.module_defs.specs.Memory.{Settled}
 use Rattle.module_defs.specs.Modules.{entry_by}
-use Rattle.asm_core.specs.Outcomes.{defined_outcome}
-use Rattle.asm_core.proofs.RoomLaws.{placed_by}
+use Rattle.asm_checks.specs.Outcomes.{defined_outcome}
+use Rattle.asm_image.proofs.RoomLaws.{placed_by}
 use Rattle.asm_core.proofs.image.Image.place.Goals as goal
 
 pub returns : goal.returns

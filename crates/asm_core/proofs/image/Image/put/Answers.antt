@@ -4,9 +4,9 @@ use Rattle.object_tags.specs.Seen.{defined_ref}
 use Rattle.module_defs.specs.declared.location.Part.{Part}
 use Rattle.module_defs.specs.declared.location.Part.TheVariants as part
 use Rattle.module_defs.specs.Memory.{Settled, contents, contents_by, behind_by, bytes_in, references_of, same_part, is_placed, is_placed_in, any_from}
-use Rattle.asm_core.specs.Outcomes.{defined_outcome}
-use Rattle.asm_core.specs.Tables.{cell, put_from}
-use Rattle.asm_core.proofs.HoldingLaws.{contents_length, any_is, holds_still, holds_more, nothing_overlaps, dummy_uses}
+use Rattle.asm_checks.specs.Outcomes.{defined_outcome}
+use Rattle.asm_image.specs.Tables.{cell, put_from}
+use Rattle.asm_image.proofs.HoldingLaws.{contents_length, any_is, holds_still, holds_more, nothing_overlaps, dummy_uses}
 use Rattle.asm_core.proofs.image.Image.put.Goals as goal
 
 pub overlay-requires : goal.overlay-requires

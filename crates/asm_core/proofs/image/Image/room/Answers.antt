@@ -4,9 +4,9 @@ use Rattle.module_defs.specs.declared.location.Part.TheVariants as part
 use Rattle.module_defs.specs.Memory.{Settled, word_count}
 use Rattle.asm_core.specs.declared.image.Image.{Image}
 use Rattle.asm_core.specs.Images.{IsPlaced}
-use Rattle.asm_core.proofs.TableLaws.{words_most}
-use Rattle.asm_core.proofs.HoldingLaws.{words_are}
-use Rattle.asm_core.proofs.RoomLaws.{is_full, is_over, has_room}
+use Rattle.asm_image.proofs.TableLaws.{words_most}
+use Rattle.asm_image.proofs.HoldingLaws.{words_are}
+use Rattle.asm_image.proofs.RoomLaws.{is_full, is_over, has_room}
 use Rattle.asm_core.proofs.image.Image.room.Goals as goal
 
 -- the words of both tables are those of the lines

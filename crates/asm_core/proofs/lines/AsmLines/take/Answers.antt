@@ -9,7 +9,7 @@ use Rattle.module_defs.specs.FirstChecks as spec
 use Rattle.module_defs.specs.FirstChecks.{Before, known_of, line_of, location_behind, defs_in, refs_in, is_end}
 use Rattle.module_defs.specs.Modules.{title_by}
 use Rattle.module_defs.proofs.CheckLaws.{checked_within, checked_titled, checked_said}
-use Rattle.asm_core.specs.Checks.{defined_checked}
+use Rattle.asm_checks.specs.Checks.{defined_checked}
 use Rattle.asm_core.specs.Keeping.{known_in, names_with}
 use Rattle.asm_core.specs.Building.{IsOf, Wait}
 use Rattle.asm_core.proofs.LineLaws.{location_more, names_more, behind_more, wait_more, known_same}

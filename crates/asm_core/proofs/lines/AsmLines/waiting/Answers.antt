@@ -1,4 +1,4 @@
-use Rattle.asm_core.specs.Checks.{defined_checked}
+use Rattle.asm_checks.specs.Checks.{defined_checked}
 use Rattle.asm_core.specs.Keeping.{known_in}
 use Rattle.asm_core.proofs.HeldLaws.{has_room}
 use Rattle.asm_core.proofs.lines.AsmLines.waiting.Goals as goal
