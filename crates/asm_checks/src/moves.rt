@@ -3,6 +3,7 @@
 ghost use Rattle.std.specs.Prelude.{◌≡◌, ◌≤◌, ◌<◌, ◌+◌, ◌^◌, length, OnOk, IfOk};
 ghost use Rattle.module_defs.specs.Locations as places;
 ghost use Rattle.module_defs.specs.FirstChecks as spec;
+ghost use Rattle.module_defs.specs.Growing.{size_said};
 ghost use Rattle.asm_text.specs.GivenValues.{defined_value};
 ghost use Rattle.source_defs.specs.Refusals.{seen};
 ghost use Rattle.asm_text.specs.Yielded.{Yields};
@@ -49,18 +50,33 @@ impl Scope<'_> {
             Statement::Bss(text) => Ok(stays_at(self.at, u32::from(self.absolute_of(text)?))),
             Statement::Bes(text) => Ok(ends_block(self.at, u32::from(self.absolute_of(text)?))),
             Statement::Equ(text) => Ok(equals(known_here(self.value_of(text)?)?)),
-            Statement::Even => Ok(stays_even(self.at, 0)),
-            Statement::Instruction(size, ..) => Ok(stays_even(self.at, u32::from(*size))),
-            Statement::Data(field) => Ok(stays_even(self.at, 2 * operand_count(field))),
-            Statement::Byte(field) => Ok(stays_at(self.at, operand_count(field))),
-            Statement::Text(quoted) => Ok(stays_at(self.at, character_count(quoted) as u32)),
-            Statement::Nothing
+            Statement::Even | Statement::Instruction(..) | Statement::Data(_) => {
+                Ok(stays_even(self.at, size_said(statement)))
+            }
+            Statement::Byte(_)
+            | Statement::Text(_)
+            | Statement::Nothing
             | Statement::Def(_)
             | Statement::Ref(_)
             | Statement::Idt(_)
             | Statement::Titl(_)
-            | Statement::End(_) => Ok(stays_at(self.at, 0)),
+            | Statement::End(_) => Ok(stays_at(self.at, size_said(statement))),
         }
+    }
+}
+
+/// How many bytes a line says that it places.
+pub fn size_said(statement: &Statement<'_>) -> u32
+    requires { MovesLittle statement.now }
+    ensures size { result ≡ size_said (defined_statement statement.now) }
+    ensures most { result ≤ 65535 }
+{
+    match statement {
+        Statement::Instruction(size, ..) => u32::from(*size),
+        Statement::Data(field) => 2 * operand_count(field),
+        Statement::Byte(field) => operand_count(field),
+        Statement::Text(quoted) => character_count(quoted) as u32,
+        _ => 0,
     }
 }
 

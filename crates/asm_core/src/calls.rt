@@ -30,7 +30,9 @@ impl AsmLines {
             title: blank_title(),
             defs: Vec::new(alloc),
             refs: Vec::new(alloc),
-            pending: Vec::new(alloc),
+            image: None,
+            waiting: Vec::new(alloc),
+            refused: None,
             taken: 0,
             ended: false,
         }

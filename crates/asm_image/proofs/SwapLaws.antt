@@ -1,8 +1,9 @@
 -- A line that comes to the place that was held for it.
-use Rattle.std.proofs.Common.{◌≡◌, ℕ, zero, suc, ◌+◌, ◌-◌, ◌*◌, ◌<◌, ◌≤◌, Bool, true, false, ◌&&◌, ◌||◌, List, [], ◌∷◌, Ok, Err, length, refl, sym, ap, ◌∙◌, arith}
-use Rattle.std.specs.Prelude.{Option, Result, nat_le, nat_lt, if◌then◌else◌, slice_get}
+use Rattle.std.proofs.Common.{◌≡◌, ℕ, zero, suc, ◌+◌, ◌-◌, ◌*◌, ◌<◌, ◌≤◌, Bool, true, false, ◌&&◌, ◌||◌, List, [], ◌∷◌, Ok, Err, length, refl, sym, ap, ◌∙◌, inl, inr, arith}
+use Rattle.std.specs.Prelude.{◌⊎◌, Option, Result, nat_le, nat_lt, if◌then◌else◌, slice_get}
 use Rattle.std.specs.List.{list_all}
 use Rattle.std.proofs.lemmas.Bool.Decides.{nat_tests}
+use Rattle.source_defs.specs.Refusals.{◌>>=◌}
 use Rattle.source_defs.specs.Orders.{onto}
 use Rattle.source_defs.specs.Expression.{Value, Absolute, Relocatable, External}
 use Rattle.object_defs.specs.declared.spot.Spot.{Spot}
@@ -20,7 +21,7 @@ use Rattle.module_defs.specs.Modules.{with_room, entry_by}
 use Rattle.module_defs.specs.Growing.{is_own, stands}
 use Rattle.asm_image.specs.Tables.{cell, put_from}
 use Rattle.asm_image.specs.Images.{IsImage, IsLaid}
-use Rattle.asm_image.specs.Standing.{StandsBehind, AllStand, FillsPlace}
+use Rattle.asm_image.specs.Standing.{StandsBehind, AllStand, FillsPlace, SamePlaces}
 use Rattle.asm_image.specs.declared.image.Image.{Image}
 use Rattle.asm_image.proofs.TableLaws.{count_same}
 use Rattle.asm_image.proofs.HoldingLaws.{chosen, any_same, are_same, part_same, part_placed, put_cell, is_among, contents_length}
@@ -83,32 +84,30 @@ enters_none entry (Words words) own = refl
 enters_none entry (Bytes bytes) own = refl
 enters_none entry (Entry found) own = cc own
 
--- lines that place bytes at the same places
-abbrev pub SamePlaces : List Settled → List Settled → Type 0
-SamePlaces first second = (part : Part) (p : ℕ) → is_placed first part p ≡ is_placed second part p
-
 module _ (first second : List Settled) (same : SamePlaces first second) where
   pub same_behind : (line : Settled) → SamePlaces (line ∷ first) (line ∷ second)
   same_behind line part p = ap (λ b. covers line part p || b) (same part p)
 
-  word_same : (line : Settled) (part : Part) (w : ℕ) → is_word (line ∷ first) part w ≡ is_word (line ∷ second) part w
-  word_same line part w =
-      ap (λ b. b || is_placed (line ∷ first) part (2 * w + 1)) (same_behind line part (2 * w))
-      ∙ ap (λ b. is_placed (line ∷ second) part (2 * w) || b) (same_behind line part (2 * w + 1))
+  word_same : (part : Part) (w : ℕ) → is_word first part w ≡ is_word second part w
+  word_same part w =
+      ap (λ b. b || is_placed first part (2 * w + 1)) (same part (2 * w)) ∙ ap (λ b. is_placed second part (2 * w) || b) (same part (2 * w + 1))
 
-  words_same : (line : Settled) (part : Part) → words_in (line ∷ first) part ≡ words_in (line ∷ second) part
-  words_same line part = count_same (is_word (line ∷ second) part) (is_word (line ∷ first) part) 0 part_words (λ w le. word_same line part w)
+  words_same : (part : Part) → words_in first part ≡ words_in second part
+  words_same part = count_same (is_word second part) (is_word first part) 0 part_words (λ w le. word_same part w)
 
-  abbrev room_of : ℕ → Bool → Settled → Result Settled AsmCause
-  room_of count overlap line = if nat_lt 32768 count then Err Overflow else if overlap then Err Overlap else Ok line
+  count_is : word_count first ≡ word_count second
+  count_is =
+      ap (λ count. count + words_in first part.Absolute) (words_same part.Relocatable)
+      ∙ ap (λ count. words_in second part.Relocatable + count) (words_same part.Absolute)
 
-  pub room_same : (line : Settled) → with_room first line ≡ with_room second line
-  room_same line =
-      ap (λ count. room_of count (overlaps first line) line)
-      (ap (λ count. count + words_in (line ∷ first) part.Absolute) (words_same line part.Relocatable)
-      ∙ ap (λ count. words_in (line ∷ second) part.Relocatable + count) (words_same line part.Absolute))
-      ∙ ap (λ b. room_of (word_count (line ∷ second)) b line)
-      (any_same (is_placed first line.at.part) (is_placed second line.at.part) line.at.number (bytes_in line.outcome) (λ p. same line.at.part p))
+abbrev room_of : ℕ → Bool → Settled → Result Settled AsmCause
+room_of count overlap line = if nat_lt 32768 count then Err Overflow else if overlap then Err Overlap else Ok line
+
+pub room_same : (first second : List Settled) → SamePlaces first second → (line : Settled) → with_room first line ≡ with_room second line
+room_same first second same line =
+    ap (λ count. room_of count (overlaps first line) line) (count_is (line ∷ first) (line ∷ second) (same_behind first second same line))
+    ∙ ap (λ b. room_of (word_count (line ∷ second)) b line)
+    (any_same (is_placed first line.at.part) (is_placed second line.at.part) line.at.number (bytes_in line.outcome) (λ p. same line.at.part p))
 
 pub stand_same : (first second lines : List Settled) → SamePlaces first second → AllStand first lines → AllStand second lines
 stand_same first second [] same all = tt
@@ -249,3 +248,49 @@ module _ (references : List Reference) (done : List Settled) (held line : Settle
       absolute = part_filled part.Absolute (same_part line.at.part part.Absolute) old.absolute.cells.items new.absolute.cells.items refl
           old.absolute.size is.absolute laid.absolute;
     }
+
+pub onto_same : (first second lines : List Settled) → SamePlaces first second → SamePlaces (onto first lines) (onto second lines)
+onto_same first second [] same = same
+onto_same first second (line ∷ lines) same = onto_same (line ∷ first) (line ∷ second) lines (same_behind first second same line)
+
+-- whether a line has room where a place was held for it
+filled_by : (full overlap : Bool) (held line : Settled)
+    → (if full then Err Overflow else if overlap then Err Overlap else Ok line)
+    ≡ ((if full then Err Overflow else if overlap then Err Overlap else Ok held) >>= λ held. Ok line)
+filled_by true overlap held line = refl
+filled_by false true held line = refl
+filled_by false false held line = refl
+
+module _ (done : List Settled) (held line : Settled) (fills : FillsPlace held line) where
+  over_same : overlaps done line ≡ overlaps done held
+  over_same =
+      ap (λ (at : Location). any_from (is_placed done at.part) at.number (bytes_in line.outcome)) fills.at
+      ∙ ap (any_from (is_placed done held.at.part) held.at.number) fills.size
+
+  pub room_filled : with_room done line ≡ (with_room done held >>= λ held. Ok line)
+  room_filled =
+      ap (λ count. room_of count (overlaps done line) line) (sym (count_is (held ∷ done) (line ∷ done) (places_same [] done held line fills)))
+      ∙ (ap (λ b. room_of (word_count (held ∷ done)) b line) over_same
+      ∙ filled_by (nat_lt 32768 (word_count (held ∷ done))) (overlaps done held) held line)
+
+-- a line that has no room is refused for that
+abbrev pub are_causes : AsmCause → AsmCause → Type 0
+are_causes a b = a ≡ b
+
+room_refused : (full overlap : Bool) (line : Settled) (cause : AsmCause) → (if full then Err Overflow else if overlap then Err Overlap else Ok line) ≡ Err cause
+    → are_causes Overflow cause ⊎ are_causes Overlap cause
+room_refused true overlap line cause e = inl (cc e)
+room_refused false true line cause e = inr (cc e)
+room_refused false false line cause e = cc e
+
+pub no_room : (earlier : List Settled) (line : Settled) (cause : AsmCause) → with_room earlier line ≡ Err cause → are_causes Overflow cause ⊎ are_causes Overlap cause
+no_room earlier line cause e = room_refused (nat_lt 32768 (word_count (line ∷ earlier))) (overlaps earlier line) line cause e
+
+room_is : (full overlap : Bool) (line found : Settled) → (if full then Err Overflow else if overlap then Err Overlap else Ok line) ≡ Ok found → line ≡ found
+room_is true overlap line found e = cc e
+room_is false true line found e = cc e
+room_is false false line found e = cc e
+
+pub has_own_room : (earlier : List Settled) (line found : Settled) → with_room earlier line ≡ Ok found → with_room earlier line ≡ Ok line
+has_own_room earlier line found e =
+    e ∙ ap Ok (sym (room_is (nat_lt 32768 (word_count (line ∷ earlier))) (overlaps earlier line) line found e))

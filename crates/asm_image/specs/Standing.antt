@@ -1,6 +1,7 @@
 -- Lines that stand as they are behind others, whatever names are still to come.
-use Rattle.std.specs.Prelude.{◌≡◌, ⊤, true, List, [], ◌∷◌, Ok}
-use Rattle.module_defs.specs.Memory.{Settled, bytes_in}
+use Rattle.std.specs.Prelude.{◌≡◌, ⊤, ℕ, true, List, [], ◌∷◌, Ok}
+use Rattle.module_defs.specs.declared.location.Part.{Part}
+use Rattle.module_defs.specs.Memory.{Settled, bytes_in, is_placed}
 use Rattle.module_defs.specs.Modules.{with_room}
 use Rattle.module_defs.specs.Growing.{stands}
 
@@ -18,3 +19,7 @@ AllStand earlier (line ∷ lines) = StandsBehind earlier line × AllStand (line 
 pub record FillsPlace (held line : Settled) : Type 0 where
   pub at : line.at ≡ held.at
   pub size : bytes_in line.outcome ≡ bytes_in held.outcome
+
+-- lines that place bytes at the same places
+abbrev pub SamePlaces : List Settled → List Settled → Type 0
+SamePlaces first second = (part : Part) (p : ℕ) → is_placed first part p ≡ is_placed second part p
