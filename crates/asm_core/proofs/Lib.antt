@@ -10,6 +10,7 @@ pub mod WorkLaws
 pub mod SettleLaws
 pub mod ProgressLaws
 pub mod StopLaws
+pub mod EndLaws
 pub mod TakenLaws
 pub mod SourceLaws
 pub mod TextLaws

@@ -1,6 +1,6 @@
 -- A builder with one line more.
 use Rattle.std.proofs.Common.{◌≡◌, ◌+◌, ◌++◌, ◌∷◌, List, ℕ, Ok, Err, true, false, Some, None, Bool, refl, sym, ap, subst, ◌∙◌, append-nil}
-use Rattle.std.specs.Prelude.{Result, Option, OnOk, is_some, option_to_list}
+use Rattle.std.specs.Prelude.{Result, Option, OnOk, IsErrAnd, is_some, option_to_list}
 use Rattle.std.proofs.Common.{Vec, Global}
 use Rattle.module_defs.specs.FirstChecks.{defs_in, refs_in}
 use Rattle.source_defs.specs.Symbols.{Names}
@@ -16,7 +16,9 @@ use Rattle.asm_core.specs.declared.pending.Refused.{Refused}
 use Rattle.asm_core.specs.declared.pending.Pending.{Pending}
 use Rattle.asm_core.specs.declared.lines.AsmLines.{AsmLines}
 use Rattle.asm_core.specs.Judging.{JudgesBy}
-use Rattle.asm_core.specs.Building.{IsWorked, ImageOf, IsGoing, IsBehind}
+use Rattle.asm_core.specs.declared.error.AsmError.{AsmError}
+use Rattle.asm_core.specs.declared.error.AsmError.TheVariants.{Memory}
+use Rattle.asm_core.specs.Building.{IsWorked, ImageOf, IsGoing, IsBehind, Takes}
 use Rattle.asm_core.specs.Keeping.{names_with, Keeps, IsUnchanged, SameNames, SameWork, StandsStill}
 use Rattle.asm_core.specs.Claiming.{SameLines, SameKnown, Claims}
 use Rattle.asm_core.specs.Adding.{Adds, IsAsBefore, IsNext, WorksIn}
@@ -91,6 +93,11 @@ still_behind lines old new before still is = record {
   ended = still.ended ∙ is.ended;
   worked = before.worked lines is.worked;
 }
+
+pub takes_none : {A : Type 0} (lines : List Line) (text : List ℕ) (result : Result A AsmError) (new : AsmLines) → IsErrAnd result (λ (error : AsmError). error ≡ Memory)
+    → IsBehind lines new → Takes lines text result new
+takes_none lines text (Ok value) new wants is = absurd wants
+takes_none lines text (Err error) new wants is = subst (λ (error : AsmError). Takes {A = Unit {0}} lines text (Err error) new) (sym wants) is
 
 none_is : (refused : Option Refused) → is_some refused ≡ false → refused ≡ None
 none_is None none = refl

@@ -60,7 +60,7 @@ pub record SameEnd (old new : AsmLines) : Type 0 where
   pub symbols : new.symbols ≡ old.symbols
   pub reached : new.reached ≡ old.reached
   pub title : new.title ≡ old.title
-  pub defs : new.defs ≡ old.defs
+  pub defs : new.defs.items ≡ old.defs.items
   pub waiting : new.waiting ≡ old.waiting
   pub refused : new.refused ≡ old.refused
 

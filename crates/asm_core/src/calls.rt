@@ -73,7 +73,7 @@ impl AsmLines {
     /// # Errors
     /// `At` carries the first line that the second checks refuse, and comes exactly where there is one. `Memory` is want of
     /// memory. After an error the lines are given up.
-    pub fn finish(self) -> Result<Module, AsmError>
+    pub fn finish(mut self) -> Result<Module, AsmError>
         ensures { (texts : List (List ℕ)) → HasTaken texts self → GivesModule result (module_of_lines texts) }
     {
         self.module()

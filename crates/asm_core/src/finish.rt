@@ -1,6 +1,7 @@
 //! The module of the lines that a builder has taken.
 
 ghost use Rattle.std.specs.Prelude.{◌≡◌, List, [], map, IfOk};
+ghost use Rattle.source_defs.specs.Orders.{onto};
 ghost use Rattle.object_defs.specs.Modules.{Reference};
 ghost use Rattle.object_tags.specs.Seen.{defined_def, defined_ref, defined_module};
 ghost use Rattle.module_defs.specs.Locations.{Line};
@@ -26,9 +27,9 @@ use object_tags::{Def, Defs, Module, Ref, Refs};
 use std::alloc::{AllocError, Global};
 
 impl AsmLines {
-    /// The module of the lines, or the first that the second checks refuse.
-    pub(crate) fn module(mut self) -> Result<Module, AsmError>
-        ensures { (lines : List Line) → IsBehind lines self → GivesModule result (module_behind lines) }
+    /// The module of the lines, or the first that the second checks refuse. The lines are given up.
+    pub(crate) fn module(&mut self) -> Result<Module, AsmError>
+        ensures { (lines : List Line) → IsBehind lines self.old → GivesModule result (module_behind lines) }
     {
         let mut draft = self.draft()?;
         match self.settle_all(&mut draft) {
@@ -44,9 +45,9 @@ impl AsmLines {
         }
     }
 
-    /// What is known of the lines so far.
+    /// What is known of the lines so far. The builder gives up its image.
     fn draft(&mut self) -> Result<Draft, AllocError>
-        ensures draft { IfOk result (λ draft. (founds : List Settled) → ImageOf founds self.old.image →
+        ensures draft { IfOk result (λ draft. (founds : List Settled) → ImageOf (onto [] founds) self.old.image →
             IsDraft (map unused self.old.refs.items) [] founds draft) }
         ensures same { SameEnd self.old self.new }
     {

@@ -7,7 +7,9 @@ use Rattle.asm_core.proofs.StopLaws.{value_refused, still_refused, refused_behin
 use Rattle.asm_core.proofs.finish.stopped.Goals as goal
 
 pub returns-in_default : goal.returns-in_default
-returns-in_default c = ?
+returns-in_default c = λ lines waiting done is so_far same.
+    subst (λ (error : AsmError). RefusesAt error (settled (settle c.args.symbols.now) lines)) (sym c.refused_at.ensures)
+    (refused_behind c.args.symbols.now lines waiting c.args.refused.now is done so_far same c.in_default.is)
 
 pub returns-in-Err : goal.returns-in-Err
 returns-in-Err c = λ lines waiting done is so_far same.
@@ -16,5 +18,5 @@ returns-in-Err c = λ lines waiting done is so_far same.
 
 pub returns : goal.returns
 returns c = λ lines waiting done is so_far same.
-    subst (λ (error : AsmError). RefusesAt error (settled (settle c.args.symbols.now) lines)) (sym c.refused_at.ensures)
+    subst (λ (error : AsmError). RefusesAt error (settled (settle c.args.symbols.now) lines)) (sym c.refused_at-2.ensures)
     (still_refused c.args.symbols.now lines waiting c.args.refused.now is done so_far same [] c.args.draft.now c.settle.new.self c.in-Some.pending c.in-Some.is (c.in-Ok.ensures []))

@@ -14,7 +14,7 @@ use Rattle.asm_core.specs.Building.{IsBehind}
 use Rattle.asm_core.specs.Adding.{IsNext, WorksIn}
 use Rattle.asm_core.proofs.HeldLaws.{has_room}
 use Rattle.asm_core.proofs.LineLaws.{location_more, names_more, known_same}
-use Rattle.asm_core.proofs.WorkLaws.{works_same, still_behind}
+use Rattle.asm_core.proofs.WorkLaws.{works_same, still_behind, takes_none}
 use Rattle.asm_core.proofs.lines.AsmLines.take.Goals as goal
 
 pub work-requires-clause-room : goal.work-requires-clause-room
@@ -28,7 +28,9 @@ work-requires-clause-room c =
     }
 
 pub returns-in_err-work : goal.returns-in_err-work
-returns-in_err-work c = ?
+returns-in_err-work c = λ lines is.
+    takes_none lines c.args.text.now c.from_residual.result c.work.new.self c.from_residual.ensures.1
+    (still_behind lines c.args.self.now c.work.new.self c.in_err-work.ensures.unchanged c.in_err-work.ensures.still is)
 
 pub advance-requires-clause-place : goal.advance-requires-clause-place
 advance-requires-clause-place c =
