@@ -1,7 +1,6 @@
 -- The forms of operands.
-use Rattle.std.specs.Prelude.{ℕ, ◌+◌, ◌-◌, ◌==◌, Bool, not, ◌&&◌, nat_lt, if◌then◌else◌, List, length, slice_index, slice_range, take, drop}
-use Rattle.source_defs.specs.Least.{least_place}
-use Rattle.source_defs.specs.Fields.{in_quotes}
+use Rattle.std.specs.Prelude.{ℕ, ◌+◌, ◌==◌, Bool, if◌then◌else◌, List, slice_index, slice_range, take, drop}
+use Rattle.source_defs.specs.Parentheses.{last_place, opening, has_parentheses}
 
 -- How an operand is written, by the texts of its expressions: an expression alone, *R, *R+, @e, and @e(R).
 -- Editor/Assembler manual, "Addressing Modes".
@@ -21,28 +20,9 @@ is_plus byte = byte == 0x2B
 abbrev pub is_at : ℕ → Bool
 is_at byte = byte == 0x40
 
--- the place of the last byte of a text
-abbrev pub last_place : List ℕ → ℕ
-last_place text = length text - 1
-
 -- the text without its last byte
 abbrev pub without_last : List ℕ → List ℕ
 without_last text = take (last_place text) text
-
--- a parenthesis outside quotes stands at a place
-abbrev pub opens_at : List ℕ → ℕ → Bool
-opens_at text k = (slice_index text k == 0x28) && not (in_quotes text 0 k)
-
-abbrev pub closes_at : List ℕ → ℕ → Bool
-closes_at text k = (slice_index text k == 0x29) && not (in_quotes text 0 k)
-
--- the first parenthesis that opens outside quotes, or the text's end
-abbrev pub opening : List ℕ → ℕ
-opening text = least_place (opens_at text) text 0
-
--- the text ends with a parenthesis that closes, and one that opens stands before it
-abbrev pub has_index : List ℕ → Bool
-has_index text = closes_at text (last_place text) && nat_lt (opening text) (length text)
 
 -- Behind *: a register, which grows where + stands at the end.
 abbrev pub starred_form : List ℕ → Form
@@ -53,7 +33,7 @@ starred_form text = if is_plus (slice_index text (last_place text)) then Increme
 -- is refused for it.
 abbrev pub symbolic_form : List ℕ → Form
 symbolic_form text =
-    if has_index text
+    if has_parentheses text
     then Indexed (take (opening text) text) (slice_range text (opening text + 1) (last_place text))
     else Symbolic text
 

@@ -5,6 +5,7 @@
 use Rattle.std.specs.Prelude.{ℕ, ℤ, pos, negsuc, suc, ◌+◌, ◌==◌, nat_le, if◌then◌else◌, List, ◌∷◌, ◌++◌, length, slice_index, codes, Option, Some, None}
 use Rattle.std.specs.Fmt.{decimal}
 use Rattle.source_defs.specs.Digits.{marked_word}
+pub use Rattle.source_defs.specs.ListedLines.{two_texts, with_operands}
 use Rattle.console_defs.specs.Words.{plus}
 use Rattle.console_defs.specs.Instructions.{instr_at, operation_of}
 use Rattle.console_defs.specs.forms.Jump.{jump_target}
@@ -55,9 +56,6 @@ target_text SBZ next disp = signed_text disp
 target_text TB next disp = signed_text disp
 target_text op next disp = marked_word (jump_target next disp)
 
-abbrev pub two_texts : List ℕ → List ℕ → List ℕ
-two_texts first second = first ++ (0x2C ∷ second)
-
 -- The operands of an instruction at an address, with the words from its first on; the words that follow stand in the order of the
 -- operands. None where it has no operand.
 abbrev pub operands_text : Instr → ℕ → List ℕ → Option (List ℕ)
@@ -70,11 +68,6 @@ operands_text (Jump op disp) at words = Some (target_text op (plus at 2) disp)
 operands_text (Imm op number) at words =
     Some (if has_immediate op then two_texts (register_text number) (marked_word (slice_index words 1)) else register_text number)
 operands_text (Bare op) at words = if has_value op then Some (marked_word (slice_index words 1)) else None
-
--- an operation, and its operands behind a blank
-abbrev pub with_operands : List ℕ → Option (List ℕ) → List ℕ
-with_operands name None = name
-with_operands name (Some operands) = name ++ (0x20 ∷ operands)
 
 -- an instruction at an address, with the words from its first on
 abbrev pub instr_text : Instr → ℕ → List ℕ → List ℕ

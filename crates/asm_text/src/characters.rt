@@ -70,7 +70,8 @@ pub fn is_printed(byte: u8) -> bool
     byte.is_ascii_graphic()
 }
 
-pub(crate) fn upper_case(byte: u8) -> u8
+/// A byte, a letter of which is taken in upper case.
+pub fn upper_case(byte: u8) -> u8
     ensures { result ≡ spec.upper_case byte }
 {
     byte.to_ascii_uppercase()

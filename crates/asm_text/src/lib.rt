@@ -15,6 +15,7 @@ mod numbers;
 mod operand_field;
 mod operand_iter;
 mod operand_lists;
+mod parentheses;
 mod places;
 mod quoted_texts;
 mod scan;
@@ -25,7 +26,9 @@ mod token;
 mod values;
 mod words;
 
-pub use crate::characters::{is_blank, is_comma, is_line_feed, is_printed, is_quote};
+pub use crate::characters::{
+    is_blank, is_comma, is_line_feed, is_printed, is_quote, upper_case,
+};
 pub use crate::digits::{byte_digits, word_digits};
 pub use crate::expressions::expression_value;
 pub use crate::fold::value;
@@ -37,10 +40,11 @@ pub use crate::numbers::{decimal_up_to, hexadecimal_number};
 pub use crate::operand_field::operands;
 pub use crate::operand_iter::Operands;
 pub use crate::operand_lists::{at_most_one_of, one_of, operand_count, some_of};
+pub use crate::parentheses::parentheses_at;
 pub use crate::quoted_texts::{
     between_quotes, character_count, is_quoted, quoted, quoted_characters,
 };
-pub use crate::scan::{number, tokens};
+pub use crate::scan::tokens;
 pub use crate::split::{fields, upper_case_name};
 pub use crate::symbols::{DefineError, Symbols};
 pub use crate::text::{lines, part};

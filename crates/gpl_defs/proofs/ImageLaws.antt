@@ -3,14 +3,14 @@ use Rattle.std.proofs.Common.{◌≡◌, ℕ, zero, suc, ◌+◌, ◌<◌, ◌�
 use Rattle.std.specs.Prelude.{map, ◌==◌, if◌then◌else◌}
 use Rattle.std.proofs.lemmas.Bool.Decides.{nat_tests}
 use Rattle.std.specs.List.{range_with_len}
-use Rattle.std.proofs.lemmas.List.{drop_more, nil_from_length}
+use Rattle.std.proofs.lemmas.List.{drop_more, ext_get_or, nil_from_length}
 use Rattle.std.specs.Ordering.{nat_cmp, eq_by_cmp}
 use Rattle.std.specs.Cmp.{nat_cmp_total}
 use Rattle.std.specs.FinMap.{empty, entries, insert, put, len-entries, len-empty, entries-insert, nat_cmp-IsAntisymmetric}
 use Rattle.std.specs.FinMap.Entries.{by_order}
 use Rattle.std.specs.declared.cmp.Ordering.{Ordering}
 use Rattle.std.specs.declared.cmp.Ordering.TheVariants.{Less, Equal, Greater}
-use Rattle.gpl_defs.specs.Image.{Image, lowest, past_highest, low_of, high_of}
+use Rattle.gpl_defs.specs.Image.{Image, AreBytesOf, lowest, past_highest, low_of, high_of}
 
 lowest_put : (k v : ℕ) (es : List (ℕ × ℕ)) → lowest (put nat_cmp k v es) ≡ min k (lowest es)
 lowest_put k v [] = refl
@@ -80,3 +80,9 @@ part_by f xs (suc n) low le each =
     let first = each low lt in
     let rest = part_by f xs n (low + 1) (omega arith) each in
     rw (drop_more xs low 0 lt, first, rest) refl
+
+-- an image has one list of bytes
+pub bytes_alone : (image : Image) (xs ys : List ℕ) → AreBytesOf image xs → AreBytesOf image ys → xs ≡ ys
+bytes_alone image xs ys left right =
+    ext_get_or 0 xs ys (left.size ∙ sym right.size)
+    (λ k lt. left.each k lt ∙ sym (right.each k (omega (arith, left.size, right.size))))

@@ -1,2 +1,8 @@
+pub mod CodeLaws
+pub mod StandLaws
+pub mod OperandLaws
+pub mod InstrLaws
+pub mod ReadLaws
+pub mod ShortLaws
+pub mod MeaningLaws
 pub mod ImageLaws
-pub mod LayoutLaws

@@ -1,7 +1,7 @@
 -- A GROM image: which addresses were written, and with what byte.
 --
 -- Profile: a source is assembled to such an image, which tells an address that holds 0 from one that was never written.
-use Rattle.std.specs.Prelude.{ℕ, ◌+◌, ◌-◌, ◌==◌, if◌then◌else◌, min, max, List, [], ◌∷◌, map, unwrap_or}
+use Rattle.std.specs.Prelude.{◌≡◌, ℕ, ◌+◌, ◌-◌, ◌==◌, if◌then◌else◌, min, max, List, [], ◌∷◌, length, map, slice_index, unwrap_or, EachIndex}
 use Rattle.std.specs.List.{range_with_len}
 use Rattle.std.specs.Ordering.{nat_cmp}
 use Rattle.std.specs.FinMap.{FinMap, entries, get, insert}
@@ -40,3 +40,8 @@ written_bytes image = map (byte_at image) (range_with_len (low_of image) (high_o
 abbrev pub placed : Image → ℕ → List ℕ → Image
 placed image at [] = image
 placed image at (byte ∷ bytes) = placed (insert image at byte) (at + 1) bytes
+
+-- the bytes of all addresses, of which there are 65,536
+pub record AreBytesOf (image : Image) (bytes : List ℕ) : Type 0 where
+  pub size : length bytes ≡ 65536
+  pub each : EachIndex bytes (λ at. slice_index bytes at ≡ byte_at image at)

@@ -1,5 +1,6 @@
 pub mod Codes
+pub mod Valid
 pub mod Bytes
+pub mod Spellings
+pub mod Reading
 pub mod Image
-pub mod Statements
-pub mod Layout

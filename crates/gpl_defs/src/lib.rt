@@ -2,8 +2,9 @@
 //! make.
 #![tactic(auto)]
 
-mod causes;
 mod instruction;
 
-pub use causes::GplCause;
-pub use instruction::{GplInstr, PlainOp};
+pub use instruction::{
+    ByteOp, GoOp, GplInstr, GplOperand, GplOperation, GplRead, GplSource, MoveKind, MoveLength,
+    MoveSource, MoveTarget, OneName, PlainOp, Space, TwoName,
+};

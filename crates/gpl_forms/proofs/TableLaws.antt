@@ -112,6 +112,7 @@ IsImage-set bytes marks low high at byte next_low is lt low_is = record {
   highest = higher ∙ ap high_of (sym wrote);
   ordered = rw low_is (ordered_by (high == 0) refl);
   within = omega (arith, is.within);
+  begins = rw low_is (begins_by (high == 0));
 }
   where
     same : length bytes ≡ length marks
@@ -125,6 +126,10 @@ IsImage-set bytes marks low high at byte next_low is lt low_is = record {
 
     lower : (if high == 0 then at else min low at) ≡ low_of (insert (image_of bytes marks) at byte)
     lower = rw (is.highest, is.lowest) (sym (low_of-insert (image_of bytes marks) at byte lt))
+
+    begins_by : (none : Bool) → (if none then at else min low at) < 65536
+    begins_by true = lt
+    begins_by false = omega (arith, is.begins)
 
     ordered_by : (none : Bool) → (high == 0) ≡ none → (if none then at else min low at) ≤ max high (at + 1)
     ordered_by true e = omega arith
@@ -159,6 +164,7 @@ IsImage-none bytes marks bytes_size marks_size zeros none = (
     highest = sym (ap high_of nothing ∙ high_of-empty);
     ordered = omega arith;
     within = omega arith;
+    begins = omega arith;
   },
   nothing,
 )

@@ -1,5 +1,5 @@
 -- The tables in which an image is kept: the byte at each address, and whether it was written.
-use Rattle.std.specs.Prelude.{◌≡◌, ℕ, ◌+◌, ◌≤◌, Bool, false, if◌then◌else◌, List, [], ◌∷◌, length, slice_index, slice_index_or}
+use Rattle.std.specs.Prelude.{◌≡◌, ℕ, ◌+◌, ◌<◌, ◌≤◌, Bool, false, if◌then◌else◌, List, [], ◌∷◌, length, slice_index, slice_index_or}
 use Rattle.std.specs.FinMap.{empty, insert}
 use Rattle.gpl_defs.specs.Image.{Image, low_of, high_of}
 
@@ -23,3 +23,4 @@ pub record IsImage (bytes : List ℕ) (marks : List Bool) (low high : ℕ) : Typ
   pub highest : high ≡ high_of (image_of bytes marks)
   pub ordered : low ≤ high
   pub within : high ≤ 65536
+  pub begins : low < 65536

@@ -86,6 +86,7 @@ impl GromImage {
     pub fn low(&self) -> u32
         ensures value { result ≡ low_of self.now }
         ensures below { result ≤ high_of self.now }
+        ensures fits { result < 65536 }
     {
         self.low
     }

@@ -1,9 +1,21 @@
 //! GPL in bytes: instructions and their spelling, and the image of a GROM.
 #![tactic(auto)]
 
+mod codes;
 mod image;
+mod laws;
+mod names;
+mod read;
+mod valid;
 mod write;
 
-pub use gpl_defs::{GplInstr, PlainOp};
+pub use gpl_defs::{
+    ByteOp, GoOp, GplInstr, GplOperand, GplOperation, GplRead, GplSource, MoveKind, MoveLength,
+    MoveSource, MoveTarget, OneName, PlainOp, Space, TwoName,
+};
 pub use image::GromImage;
+pub use laws::bytes_mean_one_instruction;
+pub use names::name_of;
+pub use read::{is_shortest, read_instr, stands};
+pub use valid::{has_immediate, is_valid};
 pub use write::write_instr;

@@ -1,5 +1,7 @@
 pub mod Rows
 pub mod FaultLine
+pub mod SourceFaults
+pub mod TextLines
 pub mod Commands
 pub mod Dump
 pub mod Exec

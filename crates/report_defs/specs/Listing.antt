@@ -1,12 +1,9 @@
 -- The listing of memory, as assembler source.
 use Rattle.std.specs.Prelude.{ℕ, zero, suc, ◌+◌, ◌-◌, List, [], ◌∷◌, ◌++◌, codes}
 use Rattle.source_defs.specs.Digits.{marked_word, marked_byte}
+pub use Rattle.source_defs.specs.ListedLines.{listing_line}
 use Rattle.console_defs.specs.Words.{join}
 use Rattle.asm_defs.specs.Printed.{printed}
-
--- Profile: a line of a listing is a source line: seven blanks, an operation, and its operands behind a blank.
-abbrev pub listing_line : List ℕ → List ℕ
-listing_line text = codes "       " ++ (text ++ codes "\n")
 
 -- bytes as words, the high byte first; a last odd byte is no word
 abbrev pub words_in : List ℕ → List ℕ

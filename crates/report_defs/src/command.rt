@@ -3,6 +3,8 @@
 /// A command, as the words of the command line say it.
 #[derive(Clone, Copy, Debug, PartialEq, Eq)]
 pub enum Command {
+    /// `asm`: assembles an assembler source to the object text of its module.
+    Asm,
     /// `gasm`: assembles a GPL source to the bytes of its image.
     Gasm,
     /// `dis ADDR`: lists raw bytes, which stand from an address on, as assembler source.

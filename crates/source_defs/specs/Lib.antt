@@ -8,10 +8,10 @@ pub mod Digits
 pub mod Refusals
 pub mod Orders
 pub mod Tokens
-pub mod SoleNumbers
 pub mod TokenLaw
 pub mod Expression
 pub mod Operands
+pub mod Parentheses
 pub mod OperandLists
 pub mod QuotedTexts
 pub mod Symbols
@@ -19,3 +19,4 @@ pub mod Growing
 pub mod Layout
 pub mod LineLaw
 pub mod FieldLaw
+pub mod ListedLines

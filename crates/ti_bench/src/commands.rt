@@ -1,5 +1,6 @@
 //! The commands, each by its report.
 
+mod asm;
 mod dis;
 mod exec;
 mod gasm;
@@ -9,6 +10,7 @@ ghost use Rattle.std.specs.Prelude.{◌≤◌, vec_len, IfOk};
 ghost use Rattle.report_defs.specs.Report as spec;
 ghost use Rattle.ti_bench.specs.Made.{defined_report};
 
+use crate::commands::asm::asm;
 use crate::commands::dis::dis;
 use crate::commands::exec::exec;
 use crate::commands::gasm::gasm;
@@ -27,6 +29,7 @@ pub(crate) fn make_report(
     ensures { IfOk result (λ report. spec.ReportOn command input.items (defined_report report)) }
 {
     match command {
+        Command::Asm => asm(alloc, input.as_slice()),
         Command::Gasm => gasm(alloc, input.as_slice()),
         Command::Dis { at } => Ok(dis(at, input)),
         Command::Link => link(alloc, input.as_slice()),

@@ -17,12 +17,15 @@ use gpl_forms::GromImage;
 use link_loader::Linked;
 use memory_listing::put_memory;
 use report_defs::{Fault, Status};
+use report_lines::{Line, append, append_word, put_text};
 use tms_step::Machine;
-use trace_dump::{Line, append, append_word, dump};
+use trace_dump::dump;
 
 /// A report, made and not yet written. Nothing that is written takes memory.
 #[derive(Drop)]
 pub(crate) enum Report {
+    /// A text, whose lines go to standard output, each by one call.
+    Text(Vec<u8>),
     /// An image, whose bytes go to standard output by one call.
     Image(GromImage),
     /// Raw bytes in memory, whose listing goes to standard output line by line.
@@ -69,6 +72,7 @@ impl Report {
         }) (defined_report self.now) }
     {
         match self {
+            Report::Text(text) => put_text(text.as_slice(), out),
             Report::Image(image) => put_image(out, image.written()),
             Report::Listing(listing) => listing.write(out),
             Report::Run { ending, machine } => put_run(out, *ending, machine),
@@ -83,7 +87,8 @@ impl Report {
         ensures { result ≡ spec.status_of (defined_report self.now) }
     {
         match self {
-            Report::Image(_) | Report::Listing(_) | Report::Memory(_) => Status::Done,
+            Report::Text(_) | Report::Image(_) | Report::Listing(_) | Report::Memory(_) =>
+                Status::Done,
             Report::Refused(_) => Status::Refused,
             Report::Run { ending, .. } => end_status(*ending),
             Report::Fault(fault) => fault_status(*fault),
@@ -153,6 +158,6 @@ fn fault_status(fault: Fault) -> Status
 {
     match fault {
         Fault::Usage => Status::Usage,
-        Fault::TooLarge | Fault::PastEnd | Fault::Gpl { .. } => Status::Refused,
+        Fault::TooLarge | Fault::PastEnd => Status::Refused,
     }
 }

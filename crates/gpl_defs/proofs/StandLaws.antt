@@ -1,0 +1,55 @@
+-- Bytes that stand behind one another in a GROM.
+use Rattle.std.proofs.Common.{ℕ, List, [], ◌∷◌, ◌++◌, refl}
+use Rattle.console_defs.specs.Grom.{next_in_grom}
+use Rattle.gpl_defs.specs.Spellings.{Stand, Holds, Joined}
+
+-- bytes behind other bytes, and the address between them
+pub stand_join : (image first second : List ℕ) (at middle next : ℕ) → Stand image first at middle →
+    Stand image second middle next → Stand image (first ++ second) at next
+stand_join image [] second at middle next begin end = rw begin end
+stand_join image (byte ∷ first) second at middle next begin end =
+    (begin.0, stand_join image first second (next_in_grom at) middle next begin.1 end)
+
+-- the address between bytes and those behind them
+pub record Parted (image first second : List ℕ) (at next : ℕ) : Type 0 where
+  pub middle : ℕ
+  pub begin : Stand image first at middle
+  pub end : Stand image second middle next
+
+pub stand_part : (image first second : List ℕ) (at next : ℕ) → Stand image (first ++ second) at next →
+    Parted image first second at next
+stand_part image [] second at next stands = record { middle = at; begin = refl; end = stands }
+stand_part image (byte ∷ first) second at next stands =
+    let parted = stand_part image first second (next_in_grom at) next stands.1 in
+    record { middle = parted.middle; begin = (stands.0, parted.begin); end = parted.end }
+
+pub holds_join : {First Second : List ℕ → Type 0} (image : List ℕ) (at middle next : ℕ) → Holds First image at middle →
+    Holds Second image middle next → Holds (Joined First Second) image at next
+holds_join image at middle next begin end = record {
+  bytes = begin.bytes ++ end.bytes;
+  is_kind = record {
+    first = begin.bytes;
+    second = end.bytes;
+    is_first = begin.is_kind;
+    is_second = end.is_kind;
+    is = refl;
+  };
+  stand = stand_join image begin.bytes end.bytes at middle next begin.stand end.stand;
+}
+
+-- the two parts of joined bytes
+pub record Halves (First Second : List ℕ → Type 0) (image : List ℕ) (at next : ℕ) : Type 0 where
+  pub middle : ℕ
+  pub begin : Holds First image at middle
+  pub end : Holds Second image middle next
+
+pub holds_part : {First Second : List ℕ → Type 0} (image : List ℕ) (at next : ℕ) →
+    Holds (Joined First Second) image at next → Halves First Second image at next
+holds_part image at next holds =
+    let parted =
+    stand_part image holds.is_kind.first holds.is_kind.second at next (rw holds.is_kind.is at holds.stand) in
+    record {
+      middle = parted.middle;
+      begin = record { bytes = holds.is_kind.first; is_kind = holds.is_kind.is_first; stand = parted.begin };
+      end = record { bytes = holds.is_kind.second; is_kind = holds.is_kind.is_second; stand = parted.end };
+    }

@@ -1,0 +1,34 @@
+use Rattle.std.proofs.Common.{◌-◌, ◌+◌, [], ◌∷◌, ◌++◌}
+use Rattle.std.proofs.lemmas.Result.{err_from_is_err_and}
+use Rattle.source_defs.specs.ListedLines.{listing_line}
+use Rattle.bench_io.proofs.Progress.{listed_append, listed_missed_in, listed_same}
+use Rattle.listing_defs.specs.Listing.{listed_at, lines_from, origin_lines_at}
+use Rattle.listing_defs.proofs.LineSteps.{lines_first, lines_step}
+use Rattle.gpl_disasm.proofs.listing.put_lines.Goals as goal
+
+pub returns-in_err-at : goal.returns-in_err-at
+returns-in_err-at g c =
+    let image = c.args.image.now in
+    let at = c.loop-at.at in
+    let step = lines_first image c.args.low c.args.high at c.loop-at-test.true in
+    let p = err_from_is_err_and c.from_residual.result c.from_residual.ensures.1 in
+    rw p.1
+    (listed_missed_in _ _ _ _
+    (lines_from image c.args.low c.args.high (at + 1) ((listed_at image at c.args.high).size - 1) (c.args.high - at - 1))
+    (origin_lines_at c.args.low at ++ (listing_line (listed_at image at c.args.high).text ∷ []))
+    (listed_same _ _ _ _ _ step c.loop-at.invariant.listed) c.in_err-at.ensures.lines)
+
+pub loop-at-preserved : goal.loop-at-preserved
+loop-at-preserved g c =
+    let image = c.args.image.now in
+    let at = c.loop-at.at in
+    let next = c.in_ok-at.at in
+    let step =
+    lines_step image c.args.low c.args.high at next c.in_ok-at.ensures.next c.in_ok-at.ensures.after c.in_ok-at.ensures.within in
+    record {
+      listed =
+          listed_append _ _ _ _ (lines_from image c.args.low c.args.high next 0 (c.args.high - next))
+          (origin_lines_at c.args.low at ++ (listing_line (listed_at image at c.args.high).text ∷ []))
+          (listed_same _ _ _ _ _ step c.loop-at.invariant.listed) c.in_ok-at.ensures.lines;
+      within = c.loop-at.invariant.within;
+    }

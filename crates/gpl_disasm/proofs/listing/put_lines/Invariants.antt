@@ -1,0 +1,15 @@
+use Rattle.std.proofs.Common.{◌≤◌, ◌-◌}
+use Rattle.bench_io.proofs.Progress.{Listed}
+use Rattle.listing_defs.specs.Listing.{lines_from}
+use Rattle.gpl_disasm.proofs.listing.put_lines.Given as goal
+
+-- the lines that are left
+abbrev pub invariant-loop-at : goal.invariant-loop-at
+invariant-loop-at g l =
+    let state = g.O.Sink.state in record {
+      listed : Listed (state l.fn.out) (state l.out) (lines_from l.image l.low l.high l.low 0 (l.high - l.low)) (lines_from l.image l.low l.high l.at 0 (l.high - l.at));
+      within : l.high ≤ 65536;
+    }
+
+abbrev pub decreases-loop-at : goal.decreases-loop-at
+decreases-loop-at g l = l.high - l.at

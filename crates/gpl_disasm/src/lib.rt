@@ -1,0 +1,12 @@
+//! The listing of GROM as a GPL source. Nothing here takes memory.
+#![tactic(auto)]
+
+mod digits;
+mod line;
+mod listing;
+mod operands;
+mod text;
+
+pub use line::list_line;
+pub use listing::disassemble;
+pub use text::instr_text;

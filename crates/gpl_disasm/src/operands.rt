@@ -1,0 +1,130 @@
+//! The operands of an instruction, as text.
+ghost use Rattle.std.specs.Prelude.{◌≡◌, ◌≤◌, ◌<◌, ◌+◌, ◌++◌, length};
+ghost use Rattle.arrayvec.specs.ArrayString.{array_string_len};
+ghost use Rattle.gpl_defs.specs.Bytes.{FitsSource};
+ghost use Rattle.listing_defs.specs.Texts as spec;
+
+use crate::digits::{push_byte, push_word};
+use arrayvec::ArrayString;
+use gpl_forms::{GplOperand, GplSource, MoveLength, MoveSource, MoveTarget, Space};
+
+/// The text of an instruction.
+pub(crate) type Text = ArrayString<52>;
+
+/// The first address of the scratchpad.
+const SCRATCHPAD: u16 = 0x8300;
+
+/// Appends an operand in memory.
+#[tactic(auto, using(std::proofs::Common::append_assoc), unfolding(listing_defs::specs::Texts::operand_text))]
+pub(crate) fn push_operand(text: &mut Text, operand: &GplOperand)
+    requires { array_string_len text.old + 15 ≤ 52 }
+    ensures text { text.new.bytes ≡ text.old.bytes ++ spec.operand_text operand.now }
+    ensures size { array_string_len text.new ≤ array_string_len text.old + 15 }
+{
+    text.push_str(prefix(operand.space, operand.indirect));
+    push_word(text, shown_address(operand));
+    push_index(text, operand.index);
+}
+
+/// What an operand begins with.
+fn prefix(space: Space, indirect: bool) -> &'static str
+    ensures text { result.now ≡ spec.prefix space indirect }
+    ensures size { length result.now ≤ 2 }
+{
+    match (space, indirect) {
+        (Space::Cpu, false) => "@",
+        (Space::Cpu, true) => "*",
+        (Space::Vdp, false) => "V@",
+        (Space::Vdp, true) => "V*",
+    }
+}
+
+/// The address that an operand shows.
+fn shown_address(operand: &GplOperand) -> u16
+    ensures { result ≡ spec.shown_address operand.now.space operand.now.indirect operand.now.address }
+{
+    match (operand.space, operand.indirect) {
+        (Space::Vdp, false) => operand.address,
+        _ => operand.address.wrapping_add(SCRATCHPAD),
+    }
+}
+
+/// Appends an index, where there is one.
+#[tactic(auto, using(std::proofs::Common::append_assoc))]
+fn push_index(text: &mut Text, index: Option<u8>)
+    requires { array_string_len text.old + 8 ≤ 52 }
+    ensures text { text.new.bytes ≡ text.old.bytes ++ spec.index_text index }
+    ensures size { array_string_len text.new ≤ array_string_len text.old + 8 }
+{
+    if let Some(index) = index {
+        text.push_str("(@");
+        push_word(text, SCRATCHPAD + u16::from(index));
+        text.push(')');
+    }
+}
+
+/// Appends a source, an immediate one as a word or a byte.
+pub(crate) fn push_source(text: &mut Text, word: bool, src: &GplSource)
+    requires fits { FitsSource word src.now }
+    requires room { array_string_len text.old + 15 ≤ 52 }
+    ensures { text.new.bytes ≡ text.old.bytes ++ spec.source_text word src.now }
+{
+    match src {
+        GplSource::At(operand) => push_operand(text, operand),
+        GplSource::Immediate(value) => {
+            if word {
+                push_word(text, *value);
+            } else {
+                push_byte(text, *value as u8);
+            }
+        }
+    }
+}
+
+/// Appends a length of MOVE.
+pub(crate) fn push_length(text: &mut Text, length: &MoveLength)
+    requires { array_string_len text.old + 15 ≤ 52 }
+    ensures text { text.new.bytes ≡ text.old.bytes ++ spec.length_text length.now }
+    ensures size { array_string_len text.new ≤ array_string_len text.old + 15 }
+{
+    match length {
+        MoveLength::At(operand) => push_operand(text, operand),
+        MoveLength::Immediate(count) => push_word(text, *count),
+    }
+}
+
+/// Appends a target of MOVE.
+#[tactic(auto, using(std::proofs::Common::append_assoc))]
+pub(crate) fn push_target(text: &mut Text, target: &MoveTarget)
+    requires { array_string_len text.old + 15 ≤ 52 }
+    ensures text { text.new.bytes ≡ text.old.bytes ++ spec.target_text target.now }
+    ensures size { array_string_len text.new ≤ array_string_len text.old + 15 }
+{
+    match target {
+        MoveTarget::At(operand) => push_operand(text, operand),
+        MoveTarget::Register(number) => {
+            text.push_str("R@");
+            push_byte(text, *number);
+        }
+    }
+}
+
+/// Appends a source of MOVE.
+#[tactic(auto, using(std::proofs::Common::append_assoc))]
+pub(crate) fn push_from(text: &mut Text, source: &MoveSource)
+    requires { array_string_len text.old + 15 ≤ 52 }
+    ensures { text.new.bytes ≡ text.old.bytes ++ spec.from_text source.now }
+{
+    match source {
+        MoveSource::At(operand) => push_operand(text, operand),
+        MoveSource::Grom(address) => {
+            text.push_str("G@");
+            push_word(text, *address);
+        }
+        MoveSource::GromIndexed(address, index) => {
+            text.push_str("G@");
+            push_word(text, *address);
+            push_index(text, Some(*index));
+        }
+    }
+}

@@ -1,0 +1,2 @@
+//! The listing of GROM as a GPL source: definitions alone.
+#![tactic(auto)]

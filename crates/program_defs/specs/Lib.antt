@@ -1,0 +1,11 @@
+pub mod Mnemonics
+pub mod Directives
+pub mod Forms
+pub mod Values
+pub mod Skeletons
+pub mod Statements
+pub mod Locations
+pub mod FirstChecks
+pub mod SecondChecks
+pub mod Programs
+pub mod Growing
