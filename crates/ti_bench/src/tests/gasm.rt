@@ -8,31 +8,79 @@ use std::test::Fail;
 /// A source, the bytes of its image, and what is said where it is refused.
 const SOURCES: &[(&[u8], &[u8], &[u8])] = &[
     (b"", b"", b""),
-    (b" GROM >8000\n BYTE >AA,1\n DATA >6010\n RTN\n END\n", b"\xAA\x01`\x10\x00", b""),
+    (
+        b" GROM >8000\n BYTE >AA,1\n DATA >6010\n RTN\n END\n",
+        b"\xAA\x01`\x10\x00",
+        b"",
+    ),
     // a comment, blank lines, both line endings, no line feed at the end, lower case, a remark
-    (b"* head\r\n\r\n \t\n\tbyte 007,>ff nine\r\n rtn and 'so on", b"\x07\xFF\x00", b""),
+    (
+        b"* head\r\n\r\n \t\n\tbyte 007,>ff nine\r\n rtn and 'so on",
+        b"\x07\xFF\x00",
+        b"",
+    ),
     // what stands behind END is not read
     (b" BYTE 1\n END\nnot a line at all\n", b"\x01", b""),
     (b"X RTN\n", b"\x00", b""),
     // the spellings of operands
-    (b" ST @>8300,5\n DST V@>0100,@>8302\n INC @>8380\n", b"\xBE\x00\x05\xBD\xA1\x00\x02\x90\x80\x80", b""),
-    (b" ST @>837F,1\n ST @>8380,1\n ST @>91FF,1\n ST @>9200,1\n", b"\xBE\x7F\x01\xBE\x80\x80\x01\xBE\x8E\xFF\x01\xBE\x8F\x0F\x00\x01", b""),
-    (b" ST *>8300,1\n ST V*>8300,1\n st v@5(@>8310),@>8300\n ST @>8300(@>83FF),1\n", b"\xBE\x90\x00\x01\xBE\xB0\x00\x01\xBC\xE0\x05\x10\x00\xBE\xC0\x00\xFF\x01", b""),
-    (b" DST @>8302,1\n EX @>8300,@>8301\n DEX @>8300,@>8301\n", b"\xBF\x02\x00\x01\xC0\x00\x01\xC1\x00\x01", b""),
+    (
+        b" ST @>8300,5\n DST V@>0100,@>8302\n INC @>8380\n",
+        b"\xBE\x00\x05\xBD\xA1\x00\x02\x90\x80\x80",
+        b"",
+    ),
+    (
+        b" ST @>837F,1\n ST @>8380,1\n ST @>91FF,1\n ST @>9200,1\n",
+        b"\xBE\x7F\x01\xBE\x80\x80\x01\xBE\x8E\xFF\x01\xBE\x8F\x0F\x00\x01",
+        b"",
+    ),
+    (
+        b" ST *>8300,1\n ST V*>8300,1\n st v@5(@>8310),@>8300\n ST @>8300(@>83FF),1\n",
+        b"\xBE\x90\x00\x01\xBE\xB0\x00\x01\xBC\xE0\x05\x10\x00\xBE\xC0\x00\xFF\x01",
+        b"",
+    ),
+    (
+        b" DST @>8302,1\n EX @>8300,@>8301\n DEX @>8300,@>8301\n",
+        b"\xBF\x02\x00\x01\xC0\x00\x01\xC1\x00\x01",
+        b"",
+    ),
     // MOVE in its forms
-    (b" MOVE 8,R@0,G@>6100\n MOVE 5,V@0,G@>6010(@>8302)\n MOVE @>8300,@>8302,@>8304\n MOVE 1,@>8300,V@>1000\n MOVE @>8300,@>8301,G@0\n", b"9\x00\x08\x00a\x003\x00\x05\xA0\x00`\x10\x024\x00\x02\x045\x00\x01\x00\xAF\x10\x000\x00\x01\x00\x00", b""),
+    (
+        b" MOVE 8,R@0,G@>6100\n MOVE 5,V@0,G@>6010(@>8302)\n MOVE @>8300,@>8302,@>8304\n MOVE 1,@>8300,V@>1000\n MOVE @>8300,@>8301,G@0\n",
+        b"9\x00\x08\x00a\x003\x00\x05\xA0\x00`\x10\x024\x00\x02\x045\x00\x01\x00\xAF\x10\x000\x00\x01\x00\x00",
+        b"",
+    ),
     // branches, forward ones too
-    (b" BR >6010\n BS >7FFF\n B >8010\n CALL 0\n", b"@\x10\x7F\xFF\x05\x80\x10\x06\x00\x00", b""),
+    (
+        b" BR >6010\n BS >7FFF\n B >8010\n CALL 0\n",
+        b"@\x10\x7F\xFF\x05\x80\x10\x06\x00\x00",
+        b"",
+    ),
     (b" BR T\nT EXIT\n", b"@\x02\x0B", b""),
     // names that come later are known where no location depends on them
     (b" ST @>8300,Q\nQ EQU 5\n", b"\xBE\x00\x05", b""),
-    (b"A GROM >8000\nB AORG >10\n DATA A,B,$\n", b"\x80\x00\x80\x10\x80\x10", b""),
+    (
+        b"A GROM >8000\nB AORG >10\n DATA A,B,$\n",
+        b"\x80\x00\x80\x10\x80\x10",
+        b"",
+    ),
     // words at odd places, space that is not written, characters, signed bytes
     (b" BYTE 1\nA DATA A,2\n", b"\x01`\x01\x00\x02", b""),
-    (b" BYTE 1\n BSS 2\n BYTE 3\n BSS 5\n", b"\x01\x00\x00\x03", b""),
-    (b" TEXT 'It''s'\n TEXT ''\n BYTE -1,-128,>FF80,'A'\n", b"It's\xFF\x80\x80A", b""),
+    (
+        b" BYTE 1\n BSS 2\n BYTE 3\n BSS 5\n",
+        b"\x01\x00\x00\x03",
+        b"",
+    ),
+    (
+        b" TEXT 'It''s'\n TEXT ''\n BYTE -1,-128,>FF80,'A'\n",
+        b"It's\xFF\x80\x80A",
+        b"",
+    ),
     // the listing of a few bytes
-    (b"       GROM >6000\n       AORG >0010\n       ST @>8300,>05\n       BYTE >80\n       ABS @>8300\n       BYTE >0F\n       END\n", b"\xBE\x00\x05\x80\x80\x00\x0F", b""),
+    (
+        b"       GROM >6000\n       AORG >0010\n       ST @>8300,>05\n       BYTE >80\n       ABS @>8300\n       BYTE >0F\n       END\n",
+        b"\xBE\x00\x05\x80\x80\x00\x0F",
+        b"",
+    ),
 ];
 
 /// Sources that are refused, with what is said of them.
