@@ -26,9 +26,7 @@ mod token;
 mod values;
 mod words;
 
-pub use crate::characters::{
-    is_blank, is_comma, is_line_feed, is_printed, is_quote, upper_case,
-};
+pub use crate::characters::{is_blank, is_comma, is_line_feed, is_printed, is_quote, upper_case};
 pub use crate::digits::{byte_digits, word_digits};
 pub use crate::expressions::expression_value;
 pub use crate::fold::value;

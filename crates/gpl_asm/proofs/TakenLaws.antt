@@ -30,7 +30,7 @@ module _ (texts : List (List ℕ)) (text : List ℕ) (builder new : GplLines) (t
   takes_text (Err (At number cause)) takes = (
     (
       whole_is ∙ (ap (λ answer. at_line count answer >>= λ line. Ok (line ∷ taken.lines)) takes.1
-      ∙ ap (λ number. Err (record { line = number; cause = cause })) (sym takes.0)),
+          ∙ ap (λ number. Err (record { line = number; cause = cause })) (sym takes.0)),
       takes.2,
     ),
     record { lines = taken.lines; laid = taken.laid; all = taken.all; behind = takes.3 },

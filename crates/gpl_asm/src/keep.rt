@@ -22,7 +22,11 @@ use std::alloc::AllocError;
 
 /// What is left of a line that the first checks let through; none where it comes to nothing.
 #[tactic(auto, using(crate::proofs::RestLaws::open_again, crate::proofs::RestLaws::closed_again))]
-pub(crate) fn rest_of(scope: &Scope<'_>, text: &[u8], statement: &Statement<'_>) -> Result<Option<Rest>, AllocError>
+pub(crate) fn rest_of(
+    scope: &Scope<'_>,
+    text: &[u8],
+    statement: &Statement<'_>,
+) -> Result<Option<Rest>, AllocError>
     requires valid { IsValid statement.now }
     requires said { said scope.now.symbols.now scope.now.at text.now ≡ Ok (defined_statement statement.now) }
     ensures waits { IfOk result WaitsForSome }
@@ -63,7 +67,12 @@ fn is_open(cause: GplCause) -> bool
 
 impl GplLines {
     /// Keeps what is left of the next line, and defines its label. Where memory is wanting nothing of it is kept.
-    pub(crate) fn keep(&mut self, rest: Option<Rest>, label: Option<Name>, number: u16) -> Result<(), AllocError>
+    pub(crate) fn keep(
+        &mut self,
+        rest: Option<Rest>,
+        label: Option<Name>,
+        number: u16,
+    ) -> Result<(), AllocError>
         requires { self.old.taken < 2 ^ 32 - 1 }
         ensures kept { OnOk result (self.new.kept.items ≡ self.old.kept.items ++ kept_of self.old rest) }
         ensures defined { OnOk result (self.new.symbols ≡ with_names self.old.symbols (label_entry label number)) }
