@@ -9,9 +9,8 @@ use Rattle.module_defs.specs.declared.location.Location.{Location}
 use Rattle.module_defs.specs.Locations.{Line, start, behind, location}
 use Rattle.module_defs.specs.FirstChecks.{Checked, names, known_of, line_of, location_behind, label_entry, external_entries, refs_in}
 use Rattle.asm_core.specs.declared.lines.AsmLines.{AsmLines}
-use Rattle.asm_core.specs.declared.pending.Pending.{Pending}
 use Rattle.asm_core.specs.Keeping.{known_in}
-use Rattle.asm_core.specs.Building.{behind_lines, IsOf, Wait, IsBehind}
+use Rattle.asm_core.specs.Building.{IsBehind}
 
 -- the location behind a line
 location_by : (set : Option Location) (from : Location) (bytes more : ℕ)
@@ -33,18 +32,6 @@ pub names_more : (number : ℕ) (found : Checked) (lines : List Line)
     → names (line_of number found ∷ lines)
     ≡ with_names (with_names (names lines) (label_entry found.label found.move.label)) (external_entries (refs_in found.statement))
 names_more number found lines = with_more (label_entry found.label found.move.label) (external_entries (refs_in found.statement)) (names lines)
-
-pub behind_more : (before order : List Line) (line : Line) → behind_lines before (order ++ line ∷ []) ≡ line ∷ behind_lines before order
-behind_more before [] line = refl
-behind_more before (first ∷ order) line = behind_more (first ∷ before) order line
-
-pub wait_more : (before order : List Line) (waiting : List Pending) (line : Line) (pending : Pending) → Wait before order waiting
-    → IsOf (behind_lines before order) line pending → Wait before (order ++ line ∷ []) (waiting ++ pending ∷ [])
-wait_more before [] [] line pending wait is = (is, tt)
-wait_more before [] (other ∷ waiting) line pending wait is = absurd wait
-wait_more before (first ∷ order) [] line pending wait is = absurd wait
-wait_more before (first ∷ order) (other ∷ waiting) line pending wait is =
-    (wait.0, wait_more (first ∷ before) order waiting line pending wait.1 is)
 
 -- what the builder knows
 pub known_same : (lines : List Line) (builder : AsmLines) → IsBehind lines builder → known_in builder ≡ known_of lines

@@ -13,7 +13,7 @@ use Rattle.asm_core.specs.Building.{Takes}
 use Rattle.asm_core.specs.Finishing.{RefusesAt}
 use Rattle.asm_core.specs.declared.error.AsmError.{AsmError}
 use Rattle.asm_core.specs.declared.error.AsmError.TheVariants.{At, Memory}
-use Rattle.asm_core.specs.declared.failure.Failure.TheVariants.{Refused}
+use Rattle.asm_checks.specs.declared.failure.Failure.TheVariants.{Refused}
 use Rattle.asm_core.specs.declared.lines.AsmLines.{AsmLines}
 use Rattle.asm_core.proofs.SettleLaws.{refuses_by}
 

@@ -11,7 +11,7 @@ use Rattle.asm_core.specs.Building.{has_ended, Takes, HasTaken}
 use Rattle.asm_core.specs.Finishing.{TakesText}
 use Rattle.asm_core.specs.declared.error.AsmError.{AsmError}
 use Rattle.asm_core.specs.declared.error.AsmError.TheVariants.{At, Memory}
-use Rattle.asm_core.specs.declared.failure.Failure.TheVariants.{Refused}
+use Rattle.asm_checks.specs.declared.failure.Failure.TheVariants.{Refused}
 use Rattle.asm_core.specs.declared.lines.AsmLines.{AsmLines}
 use Rattle.asm_core.proofs.SettleLaws.{refuses_by}
 

@@ -26,8 +26,8 @@ use Rattle.module_defs.specs.SecondChecks as second
 use Rattle.module_defs.specs.Memory.{Settled, spot_by, joined, pieces_at, pieces_from, pieces_in, content_at, is_word, words_in, word_count, count_from, one_if, part_words, with_use, behind_word, behind_words, behind_by, references_of, is_placed_in, is_placed, overlaps}
 use Rattle.module_defs.specs.Modules.{settle, module_by, module_of, definition_in, unused}
 use Rattle.module_defs.proofs.CheckLaws.{bound, checked_few}
-use Rattle.asm_core.proofs.TableLaws.{count_same, count_none}
-use Rattle.asm_core.proofs.HoldingLaws.{content_some}
+use Rattle.asm_image.proofs.TableLaws.{count_same, count_none}
+use Rattle.asm_image.proofs.HoldingLaws.{content_some}
 
 -- words stand at even places
 all_append : {A : Type 0} (P : A → Type 0) (first second : List A) → AllByRecursion P first → AllByRecursion P second → AllByRecursion P (first ++ second)

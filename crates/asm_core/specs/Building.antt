@@ -1,22 +1,29 @@
 -- What a builder keeps of the lines that it has taken.
-use Rattle.std.specs.Prelude.{◌≡◌, ⊤, ℕ, ◌+◌, Bool, false, ◌||◌, List, [], ◌∷◌, length, Result, Ok, Err, ◌<◌, ◌-◌, ◌^◌}
+use Rattle.std.specs.Prelude.{◌≡◌, ℕ, ◌+◌, ◌-◌, ◌<◌, ◌^◌, Bool, true, false, ◌||◌, ◌⊎◌, List, [], ◌∷◌, length, Option, Some, None, Result, Ok, Err}
+use Rattle.source_defs.specs.Orders.{onto}
+use Rattle.source_defs.specs.Symbols.{Names, look_up}
+use Rattle.source_defs.specs.Growing.{is_closed}
 use Rattle.source_defs.specs.Layout.{laid, numbered}
+use Rattle.object_defs.specs.Modules.{Reference}
+use Rattle.module_defs.specs.declared.causes.AsmCause.{AsmCause}
 use Rattle.module_defs.specs.Statements.{said_of}
 use Rattle.module_defs.specs.Locations.{Line, location, place, reached}
 use Rattle.module_defs.specs.FirstChecks.{names, defs, refs, check}
-use Rattle.module_defs.specs.Modules.{title}
-use Rattle.asm_core.specs.Answers.{Causes}
+use Rattle.module_defs.specs.SecondChecks.{outcome}
+use Rattle.module_defs.specs.Memory.{Settled}
+use Rattle.module_defs.specs.Modules.{title, settle, with_room}
+use Rattle.module_defs.specs.Growing.{is_open, held_place}
+use Rattle.asm_checks.specs.Answers.{Causes}
+use Rattle.asm_checks.specs.declared.failure.Failure.{Failure}
+use Rattle.asm_checks.specs.declared.failure.Failure.TheVariants as failure
+use Rattle.asm_image.specs.Images.{IsImage}
+use Rattle.asm_image.specs.Standing.{AllStand}
+use Rattle.asm_image.specs.declared.image.Image.{Image}
 use Rattle.asm_core.specs.declared.lines.AsmLines.{AsmLines}
 use Rattle.asm_core.specs.declared.error.AsmError.{AsmError}
 use Rattle.asm_core.specs.declared.error.AsmError.TheVariants as error
-use Rattle.asm_core.specs.declared.failure.Failure.{Failure}
-use Rattle.asm_core.specs.declared.failure.Failure.TheVariants as failure
 use Rattle.asm_core.specs.declared.pending.Pending.{Pending}
-
--- lines in their order behind others, of which the nearest stands first
-abbrev pub behind_lines : List Line → List Line → List Line
-behind_lines before [] = before
-behind_lines before (line ∷ lines) = behind_lines (line ∷ before) lines
+use Rattle.asm_core.specs.declared.pending.Refused.{Refused}
 
 -- a line that waits, behind others
 pub record IsOf (before : List Line) (line : Line) (pending : Pending) : Type 0 where
@@ -24,11 +31,64 @@ pub record IsOf (before : List Line) (line : Line) (pending : Pending) : Type 0 
   pub at : pending.at ≡ place before line
   pub said : said_of pending.text.items ≡ Ok line.statement
 
-abbrev pub Wait : List Line → List Line → List Pending → Type 0
-Wait before [] [] = ⊤
-Wait before [] (pending ∷ others) = ⊥
-Wait before (line ∷ lines) [] = ⊥
-Wait before (line ∷ lines) (pending ∷ others) = IsOf before line pending × Wait (line ∷ before) lines others
+-- a line comes to something by the names that are known
+pub record IsKnown (known : Names) (before : List Line) (line : Line) (found : Settled) : Type 0 where
+  pub at : found.at ≡ place before line
+  pub comes : outcome (look_up known) (place before line) line.statement ≡ Ok found.outcome
+
+-- or it is the first that waits, and zeros hold its places
+pub record IsWaiting (before : List Line) (line : Line) (found : Settled) (waiting rest : List Pending) : Type 0 where
+  pub first : Pending
+  pub is : IsOf before line first
+  pub held : found ≡ held_place (place before line) line.statement
+  pub others : waiting ≡ first ∷ rest
+
+-- what is known of lines in their order behind others, and which of them wait
+abbrev pub AreKnown : Names → List Line → List Line → List Settled → List Pending → Type 0
+AreKnown known before [] [] waiting = waiting ≡ []
+AreKnown known before [] (found ∷ founds) waiting = ⊥
+AreKnown known before (line ∷ lines) [] waiting = ⊥
+AreKnown known before (line ∷ lines) (found ∷ founds) waiting =
+    (IsKnown known before line found × AreKnown known (line ∷ before) lines founds waiting)
+    ⊎ ((others : List Pending) × IsWaiting before line found waiting others × AreKnown known (line ∷ before) lines founds others)
+
+-- what the lines place, whatever the names that others define; there is no image of no lines
+abbrev pub ImageOf : List Settled → Option Image → Type 0
+ImageOf lines None = lines ≡ []
+ImageOf lines (Some image) = (references : List Reference) → IsImage references lines image
+
+-- no line is refused so far
+pub record IsGoing (lines : List Line) (names : Names) (placed : Option Image) (waiting : List Pending) : Type 0 where
+  pub order : List Line
+  pub founds : List Settled
+  pub all : lines ≡ onto [] order
+  pub known : AreKnown names [] order founds waiting
+  pub stand : AllStand [] founds
+  pub image : ImageOf (onto [] founds) placed
+
+-- the second checks refuse a line behind others, whatever names are still to come
+abbrev pub Refuses : Names → List Line → List Settled → Line → AsmCause → Option Pending → Type 0
+Refuses known before earlier line cause None =
+    (is_closed is_open (outcome (look_up known) (place before line) line.statement) ≡ true)
+    × Causes cause (settle known before earlier line)
+Refuses known before earlier line cause (Some pending) =
+    IsOf before line pending × Causes cause (with_room earlier (held_place (place before line) line.statement))
+
+-- a line is refused, and no line behind it counts
+pub record IsStopped (refused : Refused) (lines : List Line) (names : Names) (waiting : List Pending) : Type 0 where
+  pub order : List Line
+  pub founds : List Settled
+  pub line : Line
+  pub later : List Line
+  pub all : lines ≡ onto (line ∷ onto [] order) later
+  pub number : refused.line ≡ line.number
+  pub known : AreKnown names [] order founds waiting
+  pub stand : AllStand [] founds
+  pub refuses : Refuses names (onto [] order) (onto [] founds) line refused.cause refused.waiting
+
+abbrev pub IsWorked : List Line → Names → Option Image → List Pending → Option Refused → Type 0
+IsWorked lines known image waiting None = IsGoing lines known image waiting
+IsWorked lines known image waiting (Some refused) = IsStopped refused lines known waiting
 
 -- one of the lines ends the source
 abbrev pub has_ended : List Line → Bool
@@ -45,12 +105,16 @@ pub record IsBehind (lines : List Line) (builder : AsmLines) : Type 0 where
   pub refs : builder.refs.items ≡ refs lines
   pub taken : builder.taken ≡ length lines
   pub ended : builder.ended ≡ has_ended lines
-  pub waiting : (order : List Line) × (lines ≡ behind_lines [] order) × Wait [] order builder.pending.items
+  pub worked : IsWorked lines builder.symbols builder.image builder.waiting.items builder.refused
 
 -- what a refusal of a line is
 abbrev pub refusal_at : ℕ → Failure → AsmError
 refusal_at number (failure.Refused cause) = error.At number cause
 refusal_at number failure.Memory = error.Memory
+
+-- and of the line that is refused
+abbrev pub error_of : Refused → AsmError
+error_of refused = error.At refused.line refused.cause
 
 -- a line was taken behind others, or why it is refused there
 abbrev pub Takes : {A : Type 0} → List Line → List ℕ → Result A AsmError → AsmLines → Type 0

@@ -1,6 +1,7 @@
 -- What a builder ends with.
 use Rattle.std.specs.Prelude.{◌≡◌, ⊤, ℕ, List, [], ◌∷◌, ◌++◌, Result, Ok, Err}
 use Rattle.source_defs.specs.Refusals.{Refusal}
+use Rattle.source_defs.specs.Orders.{onto}
 use Rattle.source_defs.specs.Symbols.{Names}
 use Rattle.source_defs.specs.Layout.{settled, laid, numbered}
 use Rattle.source_defs.specs.declared.causes.ExprError.TheVariants as expr
@@ -11,16 +12,17 @@ use Rattle.object_tags.specs.Seen.{defined_module}
 use Rattle.object_tags.specs.declared.parts.Module.{Module}
 use Rattle.module_defs.specs.declared.causes.AsmCause.{AsmCause}
 use Rattle.module_defs.specs.declared.causes.AsmCause.TheVariants as cause
-use Rattle.module_defs.specs.Locations.{Line}
+use Rattle.module_defs.specs.Locations.{Line, reached}
 use Rattle.module_defs.specs.Memory.{Settled}
-use Rattle.module_defs.specs.Modules.{settle}
-use Rattle.module_defs.specs.FirstChecks.{check}
+use Rattle.module_defs.specs.Modules.{settle, title}
+use Rattle.module_defs.specs.FirstChecks.{check, names, defs}
+use Rattle.asm_image.specs.Standing.{SamePlaces}
 use Rattle.asm_core.specs.Building.{HasTaken}
 use Rattle.asm_core.specs.declared.lines.AsmLines.{AsmLines}
-use Rattle.asm_core.specs.Images.{IsImage}
 use Rattle.asm_core.specs.declared.error.AsmError.{AsmError}
 use Rattle.asm_core.specs.declared.error.AsmError.TheVariants.{At, Memory}
-use Rattle.asm_core.specs.declared.image.Image.{Image}
+use Rattle.asm_core.specs.declared.draft.Draft.{Draft}
+use Rattle.asm_core.specs.Drafts.{IsDraft}
 
 -- the definitions refuse a line; no cause stands for want of memory
 abbrev pub RefusesAt : {B : Type 0} → AsmError → Result B (Refusal AsmCause) → Type 0
@@ -30,11 +32,37 @@ RefusesAt (At line (cause.Form form.Memory)) defined = ⊥
 RefusesAt (At line (cause.Form (form.Expr expr.Memory))) defined = ⊥
 RefusesAt (At line refused) defined = defined ≡ Err (record { line = line; cause = refused })
 
--- the lines were settled, or one is refused
-abbrev pub SettlesAll : {A : Type 0} → List Reference → List Line → Names → Result A AsmError → Image → Type 0
-SettlesAll unused lines known (Ok _) image =
-    (found : List Settled) × (settled (settle known) lines ≡ Ok found) × IsImage unused found image
-SettlesAll unused lines known (Err error) image = RefusesAt error (settled (settle known) lines)
+-- the lines were settled, and what was known of each takes as much room
+pub record AreSettled (unused : List Reference) (order : List Line) (founds : List Settled) (known : Names) (old new : Draft) : Type 0 where
+  pub done : List Settled
+  pub settled : settled (settle known) (onto [] order) ≡ Ok done
+  pub places : SamePlaces (onto [] founds) done
+  pub draft : IsDraft unused [] founds old → IsDraft unused done [] new
+
+-- or one is refused
+abbrev pub SettlesAll : {A : Type 0} → List Reference → List Line → List Settled → Names → Result A AsmError → Draft → Draft → Type 0
+SettlesAll unused order founds known (Ok _) old new = AreSettled unused order founds known old new
+SettlesAll unused order founds known (Err error) old new = RefusesAt error (settled (settle known) (onto [] order))
+
+-- lines are refused where those before the refused one are settled
+abbrev pub StopsBehind : Names → List Line → List Line → List Settled → List Settled → AsmError → Type 0
+StopsBehind known lines order founds done error =
+    settled (settle known) (onto [] order) ≡ Ok done → SamePlaces (onto [] founds) done → RefusesAt error (settled (settle known) lines)
+
+-- what a builder keeps for the module of its lines
+pub record Knows (lines : List Line) (builder : AsmLines) : Type 0 where
+  pub names : builder.symbols ≡ names lines
+  pub reached : builder.reached ≡ reached lines
+  pub title : builder.title ≡ title lines
+  pub defs : builder.defs.items ≡ defs lines
+
+pub record SameEnd (old new : AsmLines) : Type 0 where
+  pub symbols : new.symbols ≡ old.symbols
+  pub reached : new.reached ≡ old.reached
+  pub title : new.title ≡ old.title
+  pub defs : new.defs.items ≡ old.defs.items
+  pub waiting : new.waiting ≡ old.waiting
+  pub refused : new.refused ≡ old.refused
 
 -- the module that is defined, or the refused line; want of memory says nothing
 abbrev pub GivesModule : Result Module AsmError → Result object.Module (Refusal AsmCause) → Type 0

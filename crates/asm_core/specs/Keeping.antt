@@ -1,11 +1,12 @@
 -- What a builder keeps of a line.
-use Rattle.std.specs.Prelude.{◌≡◌, [], ◌∷◌, ◌++◌, length, take}
+use Rattle.std.specs.Prelude.{◌≡◌, ◌++◌, length, take, Option, option_to_list}
+use Rattle.source_defs.specs.Growing.{Grows}
 use Rattle.source_defs.specs.Symbols.{Names}
 use Rattle.source_defs.specs.Layout.{with_names}
 use Rattle.asm_text.specs.GivenValues.{defined_value}
 use Rattle.module_defs.specs.FirstChecks.{Before, label_entry, external_entries, defs_in, refs_in}
-use Rattle.asm_core.specs.Defined.{defined_statement}
-use Rattle.asm_core.specs.declared.first_checks.Checked.{Checked}
+use Rattle.asm_checks.specs.Defined.{defined_statement}
+use Rattle.asm_checks.specs.declared.first_checks.Checked.{Checked}
 use Rattle.asm_core.specs.declared.lines.AsmLines.{AsmLines}
 use Rattle.asm_core.specs.declared.pending.Pending.{Pending}
 
@@ -23,20 +24,26 @@ known_in builder =
 -- names with those of a line
 abbrev pub names_with : Names → Checked → Names
 names_with names checked =
-    with_names (with_names names (label_entry checked.said.label (defined_value checked.moved.label)))
+    with_names (with_names names (label_entry checked.said.fields.label (defined_value checked.moved.label)))
     (external_entries (refs_in (defined_statement checked.said.statement)))
 
 -- the line is kept with its names
-pub record Keeps (old : AsmLines) (pending : Pending) (checked : Checked) (new : AsmLines) : Type 0 where
-  pub waits : new.pending.items ≡ old.pending.items ++ pending ∷ []
+pub record Keeps (old : AsmLines) (waiting : Option Pending) (checked : Checked) (new : AsmLines) : Type 0 where
+  pub waits : new.waiting.items ≡ old.waiting.items ++ option_to_list waiting
   pub defs : new.defs.items ≡ old.defs.items ++ defs_in (defined_statement checked.said.statement)
   pub refs : new.refs.items ≡ old.refs.items ++ refs_in (defined_statement checked.said.statement)
   pub names : new.symbols ≡ names_with old.symbols checked
+  pub grows : Grows old.symbols new.symbols
 
 pub record SameLists (old new : AsmLines) : Type 0 where
-  pub waits : new.pending.items ≡ old.pending.items
+  pub waits : new.waiting.items ≡ old.waiting.items
   pub defs : new.defs.items ≡ old.defs.items
   pub refs : new.refs.items ≡ old.refs.items
+
+pub record SameNames (old new : AsmLines) : Type 0 where
+  pub defs : new.defs.items ≡ old.defs.items
+  pub refs : new.refs.items ≡ old.refs.items
+  pub symbols : new.symbols ≡ old.symbols
 
 -- nothing is kept of the line
 pub record IsUnchanged (old new : AsmLines) : Type 0 where
@@ -45,9 +52,14 @@ pub record IsUnchanged (old new : AsmLines) : Type 0 where
 
 -- the lists begin as before
 pub record StartsAs (old new : AsmLines) : Type 0 where
-  pub waits : take (length old.pending.items) new.pending.items ≡ old.pending.items
+  pub waits : take (length old.waiting.items) new.waiting.items ≡ old.waiting.items
   pub defs : take (length old.defs.items) new.defs.items ≡ old.defs.items
   pub refs : take (length old.refs.items) new.refs.items ≡ old.refs.items
+
+-- the image and the line that is refused are as before
+pub record SameWork (old new : AsmLines) : Type 0 where
+  pub image : new.image ≡ old.image
+  pub refused : new.refused ≡ old.refused
 
 -- the location and the rest are as before
 pub record StandsStill (old new : AsmLines) : Type 0 where

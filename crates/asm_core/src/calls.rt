@@ -30,7 +30,9 @@ impl AsmLines {
             title: blank_title(),
             defs: Vec::new(alloc),
             refs: Vec::new(alloc),
-            pending: Vec::new(alloc),
+            image: None,
+            waiting: Vec::new(alloc),
+            refused: None,
             taken: 0,
             ended: false,
         }
@@ -71,7 +73,7 @@ impl AsmLines {
     /// # Errors
     /// `At` carries the first line that the second checks refuse, and comes exactly where there is one. `Memory` is want of
     /// memory. After an error the lines are given up.
-    pub fn finish(self) -> Result<Module, AsmError>
+    pub fn finish(mut self) -> Result<Module, AsmError>
         ensures { (texts : List (List ℕ)) → HasTaken texts self → GivesModule result (module_of_lines texts) }
     {
         self.module()

@@ -5,12 +5,13 @@ ghost use Rattle.object_tags.specs.Seen.{defined_ref};
 ghost use Rattle.asm_forms.specs.Placed.{defined_word, defined_words};
 ghost use Rattle.module_defs.specs.Memory as spec;
 ghost use Rattle.module_defs.specs.declared.content.Content.TheVariants.{Byte};
-ghost use Rattle.asm_core.specs.Outcomes.{defined_outcome};
+ghost use Rattle.asm_checks.specs.Outcomes.{defined_outcome};
 
 use crate::references::use_name;
-use crate::second_checks::Outcome;
+use asm_checks::Outcome;
 use asm_forms::Word;
-use module_defs::{Content, Location, Part};
+use asm_image::spot_at;
+use module_defs::{Content, Location};
 use object_defs::Spot;
 use object_tags::Ref;
 use std::alloc::{AllocError, Global};
@@ -85,16 +86,5 @@ fn spot_of(references: &mut Vec<Ref>, at: Spot, word: &Word) -> Spot
         Word::Plain(number) => Spot::Absolute(*number),
         Word::Relocatable(number) => Spot::Relocatable(*number),
         Word::External(name) => use_name(references, name, at),
-    }
-}
-
-/// The spot of a place in a part.
-pub(crate) fn spot_at(part: Part, number: u32) -> Spot
-    requires { number ≤ 65535 }
-    ensures { result ≡ spec.spot_by part number }
-{
-    match part {
-        Part::Relocatable => Spot::Relocatable(number as u16),
-        Part::Absolute | Part::Dummy => Spot::Absolute(number as u16),
     }
 }

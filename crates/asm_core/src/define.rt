@@ -5,6 +5,7 @@ ghost use Rattle.std.specs.FinMap.{find, get, insert};
 ghost use Rattle.std.specs.Ordering.{nat_cmp};
 ghost use Rattle.std.specs.Cmp.Lexicographic.{slice_cmp};
 ghost use Rattle.source_defs.specs.Symbols.{registers};
+ghost use Rattle.source_defs.specs.Growing.{Grows};
 ghost use Rattle.source_defs.specs.Layout.{with_names};
 ghost use Rattle.asm_text.specs.GivenValues.{defined_value};
 ghost use Rattle.module_defs.specs.FirstChecks.{label_entry, external_entries};
@@ -13,7 +14,7 @@ use asm_text::{DefineError, Name, Symbols, Value};
 use std::alloc::AllocError;
 
 /// Defines a label and names of REF, of which none stands for anything yet. Where memory is wanting none is defined.
-#[tactic(auto, using(crate::proofs::NameLaws::taken_back))]
+#[tactic(auto, using(crate::proofs::NameLaws::taken_back, crate::proofs::NameLaws::grown_on))]
 pub(crate) fn define_line(
     symbols: &mut Symbols,
     label: Option<Name>,
@@ -22,6 +23,7 @@ pub(crate) fn define_line(
 ) -> Result<(), AllocError>
     ensures defined { OnOk result (symbols.new
         ≡ with_names (with_names symbols.old (label_entry label (defined_value value))) (external_entries refs.now)) }
+    ensures grows { OnOk result (Grows symbols.old symbols.new) }
     ensures unchanged { OnErr result (symbols.new ≡ symbols.old) }
 {
     let Some(name) = label else {
@@ -38,9 +40,10 @@ pub(crate) fn define_line(
 }
 
 /// Defines names of REF, of which none stands for anything yet. Where memory is wanting none is defined.
-#[tactic(auto, using(crate::proofs::NameLaws::taken_back))]
+#[tactic(auto, using(crate::proofs::NameLaws::taken_back, crate::proofs::NameLaws::grown_on))]
 fn define_refs(symbols: &mut Symbols, refs: &[Name]) -> Result<(), AllocError>
     ensures defined { OnOk result (symbols.new ≡ with_names symbols.old (external_entries refs.now)) }
+    ensures grows { OnOk result (Grows symbols.old symbols.new) }
     ensures unchanged { OnErr result (symbols.new ≡ symbols.old) }
 {
     let [name, others @ ..] = refs else {
@@ -57,9 +60,11 @@ fn define_refs(symbols: &mut Symbols, refs: &[Name]) -> Result<(), AllocError>
 }
 
 /// Defines a name that stands for nothing yet.
+#[tactic(auto, using(crate::proofs::NameLaws::grown))]
 fn define(symbols: &mut Symbols, name: Name, value: Value) -> Result<(), AllocError>
     ensures defined { OnOk result (symbols.new ≡ insert symbols.old name (defined_value value)) }
     ensures fresh { OnOk result (get symbols.old name ≡ None) }
+    ensures grows { OnOk result (Grows symbols.old symbols.new) }
     ensures no_register { OnOk result (find (slice_cmp nat_cmp) name registers ≡ None) }
     ensures unchanged { OnErr result (symbols.new ≡ symbols.old) }
 {

@@ -1,50 +1,77 @@
 //! The module of the lines that a builder has taken.
 
 ghost use Rattle.std.specs.Prelude.{◌≡◌, List, [], map, IfOk};
+ghost use Rattle.source_defs.specs.Orders.{onto};
 ghost use Rattle.object_defs.specs.Modules.{Reference};
 ghost use Rattle.object_tags.specs.Seen.{defined_def, defined_ref, defined_module};
 ghost use Rattle.module_defs.specs.Locations.{Line};
 ghost use Rattle.module_defs.specs.FirstChecks as first;
 ghost use Rattle.module_defs.specs.Memory.{Settled};
 ghost use Rattle.module_defs.specs.Modules.{unused, module_by, module_behind, definition_in};
-ghost use Rattle.asm_core.specs.Outcomes.{defined_spot};
-ghost use Rattle.asm_core.specs.Images.{IsImage};
-ghost use Rattle.asm_core.specs.Building.{IsBehind, refusal_at};
-ghost use Rattle.asm_core.specs.Finishing.{SettlesAll, GivesModule};
+ghost use Rattle.asm_checks.specs.Outcomes.{defined_spot};
+ghost use Rattle.asm_core.specs.declared.pending.Pending.{Pending};
+ghost use Rattle.asm_image.specs.Standing.{AllStand};
+ghost use Rattle.asm_core.specs.Building.{AreKnown, ImageOf, IsStopped, IsBehind, refusal_at, error_of};
+ghost use Rattle.asm_core.specs.Drafts.{IsDraft};
+ghost use Rattle.asm_core.specs.Finishing.{GivesModule, Knows, SameEnd, SettlesAll, StopsBehind};
 
+use crate::draft::{Draft, unused_references};
 use crate::error::AsmError;
-use crate::failure::Failure;
-use crate::image::Image;
 use crate::lines::AsmLines;
-use crate::pieces::pieces;
+use crate::pending::Refused;
+use asm_checks::Failure;
+use asm_image::{Image, pieces};
 use asm_text::{Name, Symbols, Value};
 use object_defs::Spot;
 use object_tags::{Def, Defs, Module, Ref, Refs};
 use std::alloc::{AllocError, Global};
 
 impl AsmLines {
-    /// The module of the lines, or the first that the second checks refuse.
-    pub(crate) fn module(&self) -> Result<Module, AsmError>
-        ensures { (lines : List Line) → IsBehind lines self.now → GivesModule result (module_behind lines) }
+    /// The module of the lines, or the first that the second checks refuse. The lines are given up.
+    pub(crate) fn module(&mut self) -> Result<Module, AsmError>
+        ensures { (lines : List Line) → IsBehind lines self.old → GivesModule result (module_behind lines) }
     {
-        let mut image = Image::new(self.alloc, self.refs.as_slice())?;
-        match self.settle_all(&mut image) {
+        let mut draft = self.draft()?;
+        match self.settle_all(&mut draft) {
             Ok(()) => {}
             Err(error) => return Err(error),
         }
-        match self.module_of(&image) {
+        if let Some(refused) = &self.refused {
+            return Err(stopped(&self.symbols, &mut draft, refused));
+        }
+        match self.module_of(&draft) {
             Ok(module) => Ok(module),
             Err(_) => Err(AsmError::Memory),
         }
     }
 
-    /// Settles the lines in their order, up to the first that is refused.
-    fn settle_all(&self, image: &mut Image) -> Result<(), AsmError>
-        ensures { (lines : List Line) (unused : List Reference) → IsBehind lines self.now → IsImage unused [] image.old →
-            SettlesAll unused lines self.now.symbols result image.new }
+    /// What is known of the lines so far. The builder gives up its image.
+    fn draft(&mut self) -> Result<Draft, AllocError>
+        ensures draft { IfOk result (λ draft. (founds : List Settled) → ImageOf (onto [] founds) self.old.image →
+            IsDraft (map unused self.old.refs.items) [] founds draft) }
+        ensures same { SameEnd self.old self.new }
     {
-        for pending in self.pending.as_slice() {
-            match image.settle(&self.symbols, pending) {
+        let references = unused_references(self.alloc, self.refs.as_slice())?;
+        let image = match self.image.take() {
+            Some(image) => image,
+            None => Image::new(self.alloc)?,
+        };
+        Ok(Draft {
+            alloc: self.alloc,
+            image,
+            references,
+            entry: None,
+        })
+    }
+
+    /// Settles the lines that wait in their order, up to the first that is refused.
+    fn settle_all(&self, draft: &mut Draft) -> Result<(), AsmError>
+        ensures { (unused : List Reference) (order : List Line) (founds : List Settled) →
+            AreKnown self.now.symbols [] order founds self.now.waiting.items → AllStand [] founds →
+            SettlesAll unused order founds self.now.symbols result draft.old draft.new }
+    {
+        for pending in self.waiting.as_slice() {
+            match draft.settle(&self.symbols, pending) {
                 Ok(()) => {}
                 Err(failure) => return Err(refusal(pending.number, failure)),
             }
@@ -53,19 +80,44 @@ impl AsmLines {
     }
 
     /// The module of settled lines.
-    fn module_of(&self, image: &Image) -> Result<Module, AllocError>
-        ensures { (lines : List Line) (settled : List Settled) → IsBehind lines self.now →
-            IsImage (map unused (first.refs lines)) settled image.now →
+    fn module_of(&self, draft: &Draft) -> Result<Module, AllocError>
+        ensures { (lines : List Line) (settled : List Settled) → Knows lines self.now →
+            IsDraft (map unused (first.refs lines)) settled [] draft.now →
             IfOk result (λ found. defined_module found ≡ module_by lines settled) }
     {
         Ok(Module {
             name: self.title,
             size: self.reached as u16,
-            pieces: pieces(self.alloc, image)?,
+            pieces: pieces(self.alloc, &draft.image)?,
             defs: defs(self.alloc, &self.symbols, self.defs.as_slice())?,
-            refs: refs(self.alloc, image.references.as_slice())?,
-            entry: image.entry,
+            refs: refs(self.alloc, draft.references.as_slice())?,
+            entry: draft.entry,
         })
+    }
+}
+
+/// Why a line is refused where those before it are settled: a value of it, else what was known when it was taken.
+fn stopped(symbols: &Symbols, draft: &mut Draft, refused: &Refused) -> AsmError
+    ensures { (lines : List Line) (waiting : List Pending) (done : List Settled) → (is : IsStopped refused.now lines symbols.now waiting) →
+        StopsBehind symbols.now lines is.order is.founds done result }
+{
+    let Some(pending) = &refused.waiting else {
+        return refused_at(refused);
+    };
+    match draft.settle(symbols, pending) {
+        Ok(()) => {}
+        Err(failure) => return refusal(pending.number, failure),
+    }
+    refused_at(refused)
+}
+
+/// The error of the line that is refused.
+fn refused_at(refused: &Refused) -> AsmError
+    ensures { result ≡ error_of refused.now }
+{
+    AsmError::At {
+        line: refused.line,
+        cause: refused.cause,
     }
 }
 

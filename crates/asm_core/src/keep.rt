@@ -1,20 +1,16 @@
 //! What a builder keeps of a line.
 
-ghost use Rattle.std.specs.Prelude.{◌≡◌, ◌<◌, ◌≤◌, ◌+◌, ◌-◌, ◌^◌, ◌++◌, Ok, OnOk, OnErr, IfOk};
-ghost use Rattle.module_defs.specs.Locations as places;
-ghost use Rattle.module_defs.specs.FirstChecks as spec;
+ghost use Rattle.std.specs.Prelude.{◌≡◌, ◌++◌, OnOk, OnErr, option_to_list};
+ghost use Rattle.source_defs.specs.Growing.{Grows};
 ghost use Rattle.module_defs.specs.FirstChecks.{defs_in, refs_in};
-ghost use Rattle.asm_core.specs.Defined.{defined_statement};
-ghost use Rattle.asm_core.specs.Moves.{MovesWithin};
-ghost use Rattle.asm_core.specs.Checks.{defined_before, defined_checked, KnowsPlaces, ListsNames};
-ghost use Rattle.asm_core.specs.Keeping.{known_in, names_with, Keeps, IsUnchanged, StartsAs, SameLists, StandsStill};
+ghost use Rattle.asm_checks.specs.Defined.{defined_statement};
+ghost use Rattle.asm_checks.specs.Checks.{defined_before, KnowsPlaces, ListsNames};
+ghost use Rattle.asm_core.specs.Keeping.{known_in, names_with, Keeps, IsUnchanged, StartsAs, SameLists, SameNames, SameWork, StandsStill};
 
 use crate::define::define_line;
-use crate::first_checks::{Before, Checked};
 use crate::lines::AsmLines;
-use crate::moves::behind;
 use crate::pending::Pending;
-use crate::statement::Statement;
+use asm_checks::{Before, Checked, Statement};
 use std::alloc::AllocError;
 
 impl AsmLines {
@@ -33,36 +29,24 @@ impl AsmLines {
         }
     }
 
-    /// A line that was checked, as it waits for the names of the lines behind it.
-    #[tactic(auto, using(crate::proofs::HeldLaws::has_room))]
-    pub(crate) fn waiting(&self, text: &[u8], checked: &Checked<'_>) -> Result<Pending, AllocError>
-        requires taken { self.now.taken < 2 ^ 32 - 1 }
-        requires checked { spec.checked (known_in self.now) text.now ≡ Ok (defined_checked checked.now) }
-        requires within { MovesWithin checked.now.moved }
-        ensures number { IfOk result (λ pending. pending.number ≡ self.now.taken + 1) }
-        ensures at { IfOk result (λ pending. pending.at ≡ places.behind self.now.location checked.now.moved.gap) }
-        ensures text { IfOk result (λ pending. pending.text.items ≡ text.now) }
-    {
-        Ok(Pending {
-            number: self.taken + 1,
-            at: behind(self.location, checked.moved.gap),
-            text: Vec::from_slice(self.alloc, text)?,
-        })
-    }
-
-    /// Keeps a line with its names. Where memory is wanting nothing of it is kept.
-    pub(crate) fn keep(&mut self, pending: Pending, checked: &Checked<'_>) -> Result<(), AllocError>
+    /// Keeps the names of a line, and the line where it waits. Where memory is wanting nothing of it is kept.
+    pub(crate) fn keep(
+        &mut self,
+        waiting: Option<Pending>,
+        checked: &Checked<'_>,
+    ) -> Result<(), AllocError>
         requires { ListsNames checked.now.said }
-        ensures kept { OnOk result (Keeps self.old pending checked.now self.new) }
+        ensures kept { OnOk result (Keeps self.old waiting checked.now self.new) }
         ensures unchanged { OnErr result (IsUnchanged self.old self.new) }
+        ensures work { SameWork self.old self.new }
         ensures still { StandsStill self.old self.new }
     {
-        let waiting = self.pending.len();
+        let others = self.waiting.len();
         let defs = self.defs.len();
         let refs = self.refs.len();
-        let added = self.add(pending, checked);
+        let added = self.add(waiting, checked);
         if added.is_err() {
-            self.pending.truncate(waiting);
+            self.waiting.truncate(others);
             self.defs.truncate(defs);
             self.refs.truncate(refs);
         }
@@ -70,26 +54,46 @@ impl AsmLines {
     }
 
     /// Adds a line with its names. Where memory is wanting no name of it is defined.
-    fn add(&mut self, pending: Pending, checked: &Checked<'_>) -> Result<(), AllocError>
+    fn add(&mut self, waiting: Option<Pending>, checked: &Checked<'_>) -> Result<(), AllocError>
         requires { ListsNames checked.now.said }
-        ensures kept { OnOk result (Keeps self.old pending checked.now self.new) }
+        ensures kept { OnOk result (Keeps self.old waiting checked.now self.new) }
         ensures names { OnErr result (self.new.symbols ≡ self.old.symbols) }
         ensures starts { OnErr result (StartsAs self.old self.new) }
+        ensures work { SameWork self.old self.new }
         ensures still { StandsStill self.old self.new }
     {
-        if self.pending.push(pending).is_err() {
-            return Err(AllocError);
-        }
+        self.wait(waiting)?;
         self.list_names(checked)?;
         self.define_names(checked)
+    }
+
+    /// Keeps a line that waits.
+    fn wait(&mut self, waiting: Option<Pending>) -> Result<(), AllocError>
+        ensures waits { OnOk result (self.new.waiting.items ≡ self.old.waiting.items ++ option_to_list waiting) }
+        ensures unchanged { OnErr result (self.new.waiting.items ≡ self.old.waiting.items) }
+        ensures names { SameNames self.old self.new }
+        ensures work { SameWork self.old self.new }
+        ensures still { StandsStill self.old self.new }
+    {
+        match waiting {
+            Some(line) => {
+                if self.waiting.push(line).is_err() {
+                    return Err(AllocError);
+                }
+                Ok(())
+            }
+            None => Ok(()),
+        }
     }
 
     /// Defines the label and the names of REF.
     fn define_names(&mut self, checked: &Checked<'_>) -> Result<(), AllocError>
         requires { ListsNames checked.now.said }
         ensures defined { OnOk result (self.new.symbols ≡ names_with self.old.symbols checked.now) }
+        ensures grows { OnOk result (Grows self.old.symbols self.new.symbols) }
         ensures unchanged { OnErr result (self.new.symbols ≡ self.old.symbols) }
         ensures lists { SameLists self.old self.new }
+        ensures work { SameWork self.old self.new }
         ensures still { StandsStill self.old self.new }
     {
         let refs = match checked.said.statement {
@@ -98,7 +102,7 @@ impl AsmLines {
         };
         define_line(
             &mut self.symbols,
-            checked.said.label,
+            checked.said.fields.label,
             checked.moved.label,
             refs,
         )
@@ -110,8 +114,9 @@ impl AsmLines {
         ensures defs { OnOk result (self.new.defs.items ≡ self.old.defs.items ++ defs_in (defined_statement checked.now.said.statement)) }
         ensures refs { OnOk result (self.new.refs.items ≡ self.old.refs.items ++ refs_in (defined_statement checked.now.said.statement)) }
         ensures unchanged { OnErr result ((self.new.defs.items ≡ self.old.defs.items) × (self.new.refs.items ≡ self.old.refs.items)) }
-        ensures pending { self.new.pending ≡ self.old.pending }
+        ensures waiting { self.new.waiting ≡ self.old.waiting }
         ensures symbols { self.new.symbols ≡ self.old.symbols }
+        ensures work { SameWork self.old self.new }
         ensures still { StandsStill self.old self.new }
     {
         match checked.said.statement {

@@ -3,13 +3,15 @@
 ghost use Rattle.std.specs.Prelude.{◌≡◌, ◌≤◌, true};
 ghost use Rattle.module_defs.specs.Locations as places;
 
-use crate::pending::Pending;
+use crate::pending::{Pending, Refused};
+use asm_image::Image;
 use asm_text::{Name, Symbols};
 use module_defs::Location;
 use object_tags::ModuleName;
 use std::alloc::Global;
 
-/// An assembler source, line by line.
+/// An assembler source, line by line. What a line places is placed when it is taken; a line is kept only where a value of it
+/// is still open, and zeros hold its places.
 ///
 /// Contracts see it by the lines that it has taken (`HasTaken`).
 #[derive(Drop)]
@@ -22,7 +24,10 @@ pub struct AsmLines {
     pub(crate) title: ModuleName,
     pub(crate) defs: Vec<Name>,
     pub(crate) refs: Vec<Name>,
-    pub(crate) pending: Vec<Pending>,
+    // What the lines place, up to the first that is refused. There is none before the first line.
+    pub(crate) image: Option<Image>,
+    pub(crate) waiting: Vec<Pending>,
+    pub(crate) refused: Option<Refused>,
     pub(crate) taken: u32,
     pub(crate) ended: bool,
     ghost placed: { places.is_in_part location ≡ true },

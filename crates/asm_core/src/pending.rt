@@ -1,11 +1,11 @@
-//! Lines that wait for the names of the lines behind them.
+//! Lines of which a value is still open, and the line that is refused.
 
 ghost use Rattle.std.specs.Prelude.{◌≡◌, true};
 ghost use Rattle.asm_core.specs.Held.{has_room};
 
-use module_defs::Location;
+use module_defs::{AsmCause, Location};
 
-/// A line that the first checks let through.
+/// A line of which a value is still open: a name that is unknown so far, or a use of one that others define.
 #[derive(Debug, Drop)]
 pub(crate) struct Pending {
     /// The number of the line, from 1.
@@ -15,4 +15,15 @@ pub(crate) struct Pending {
     /// Its text.
     pub(crate) text: Vec<u8>,
     ghost room: { has_room at text.items ≡ true },
+}
+
+/// The first line that the second checks refuse whatever names are still to come.
+#[derive(Debug, Drop)]
+pub(crate) struct Refused {
+    /// The number of the line, from 1.
+    pub(crate) line: u32,
+    /// Why it is refused.
+    pub(crate) cause: AsmCause,
+    /// The line itself where a value of it is still open, since values come before room.
+    pub(crate) waiting: Option<Pending>,
 }

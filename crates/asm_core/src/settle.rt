@@ -1,38 +1,100 @@
-//! A line by the second checks.
+//! What a builder does with what is known of a line.
 
-ghost use Rattle.std.specs.Prelude.{List};
-ghost use Rattle.object_defs.specs.Modules.{Reference};
-ghost use Rattle.module_defs.specs.Memory as spec;
-ghost use Rattle.asm_core.specs.Images.{IsImage};
-ghost use Rattle.asm_core.specs.Waiting.{Settles};
+ghost use Rattle.std.specs.Prelude.{◌≡◌, ◌<◌, ◌≤◌, ◌+◌, ◌-◌, ◌^◌, List, length, IsSome, IfOk, OnOk, true};
+ghost use Rattle.module_defs.specs.Locations as places;
+ghost use Rattle.module_defs.specs.Memory.{Settled};
+ghost use Rattle.asm_checks.specs.Defined.{defined_statement};
+ghost use Rattle.asm_checks.specs.Moves.{MovesWithin};
+ghost use Rattle.asm_checks.specs.Checks.{IsSaidOf};
+ghost use Rattle.asm_core.specs.Judging.{Judges, HasRoom, ClaimFits};
+ghost use Rattle.asm_core.specs.Building.{ImageOf};
+ghost use Rattle.asm_core.specs.Claiming.{SameKnown, SameLines, AreContents, Places, Stops, Claims};
 
-use crate::failure::Failure;
-use crate::image::Image;
-use crate::pending::Pending;
-use crate::statement::statement_in;
-use crate::values::Scope;
-use asm_text::{Symbols, fields};
-use module_defs::AsmCause;
+use crate::judge::{Claim, Judge, Judged};
+use crate::lines::AsmLines;
+use crate::pending::Refused;
+use asm_checks::{Checked, behind};
+use asm_image::Image;
+use module_defs::{AsmCause, Content, Location};
+use std::alloc::AllocError;
 
-impl Image {
-    /// Places a line behind others by all names, or says why the second checks refuse it.
-    #[tactic(auto, using(crate::proofs::WaitingLaws::within_room))]
-    pub(crate) fn settle(&mut self, symbols: &Symbols, pending: &Pending) -> Result<(), Failure>
-        ensures { (unused : List Reference) (earlier : List spec.Settled) → IsImage unused earlier self.old →
-            Settles unused earlier symbols.now pending.now result self.new }
+impl AsmLines {
+    /// Makes the image ready for a line.
+    pub(crate) fn prepare(&mut self) -> Result<(), AllocError>
+        ensures ready { OnOk result (IsSome self.new.image) }
+        ensures image { (lines : List Settled) → ImageOf lines self.old.image → ImageOf lines self.new.image }
+        ensures lines { SameLines self.old self.new }
     {
-        let text = pending.text.as_slice();
-        let found = match fields(text) {
-            Ok(found) => found,
-            Err(error) => return Err(Failure::Refused(AsmCause::Text(error))),
-        };
-        let statement = statement_in(self.alloc, text, &found)?;
-        let scope = Scope {
+        if self.image.is_none() {
+            let image = Image::new(self.alloc)?;
+            self.image = Some(image);
+        }
+        Ok(())
+    }
+
+    /// What is known of the next line.
+    pub(crate) fn judge(&self, text: &[u8], checked: &Checked<'_>) -> Result<Judged, AllocError>
+        requires taken { self.now.taken < 2 ^ 32 - 1 }
+        requires line { IsSaidOf text.now checked.now.said }
+        requires within { MovesWithin checked.now.moved }
+        requires room { HasRoom (places.behind self.now.location checked.now.moved.gap) text.now (defined_statement checked.now.said.statement) }
+        ensures { IfOk result (Judges self.now.symbols (self.now.taken + 1) (places.behind self.now.location checked.now.moved.gap)
+            text.now (defined_statement checked.now.said.statement)) }
+    {
+        let judge = Judge {
             alloc: self.alloc,
-            symbols,
-            at: pending.at,
+            symbols: &self.symbols,
+            number: self.taken + 1,
+            at: behind(self.location, checked.moved.gap),
         };
-        let outcome = scope.outcome(text, &found, &statement)?;
-        self.place(pending.at, &outcome)
+        judge.judge(text, &checked.said)
+    }
+
+    /// Does with the next line what is known of it.
+    pub(crate) fn claim(&mut self, at: Location, claim: Claim, waits: bool)
+        requires taken { self.old.taken < 2 ^ 32 - 1 }
+        requires ready { IsSome self.old.image }
+        requires fits { ClaimFits at claim }
+        requires last { waits ≡ true → 0 < length self.old.waiting.items }
+        ensures known { SameKnown self.old self.new }
+        ensures claims { Claims self.old at claim waits self.new }
+    {
+        match claim {
+            Claim::Refused(cause) => self.stop(cause, false),
+            Claim::Bytes(bytes) => {
+                if let Err(cause) = self.place(at, bytes.as_slice()) {
+                    self.stop(cause, waits);
+                }
+            }
+        }
+    }
+
+    /// Places the bytes of a line.
+    fn place(&mut self, at: Location, contents: &[Content]) -> Result<(), AsmCause>
+        requires ready { IsSome self.old.image }
+        requires fits { at.number + length contents.now ≤ 65536 }
+        ensures placed { (earlier : List Settled) (line : Settled) → ImageOf earlier self.old.image →
+            AreContents at contents.now earlier line → Places earlier line result self.new.image }
+        ensures lines { SameLines self.old self.new }
+    {
+        match &mut self.image {
+            Some(image) => image.place(at, contents),
+            None => unreachable!(),
+        }
+    }
+
+    /// Refuses the next line, which is the last that waits where it does.
+    fn stop(&mut self, cause: AsmCause, waits: bool)
+        requires taken { self.old.taken < 2 ^ 32 - 1 }
+        requires last { waits ≡ true → 0 < length self.old.waiting.items }
+        ensures known { SameKnown self.old self.new }
+        ensures stops { Stops self.old cause waits self.new }
+    {
+        let waiting = if waits { self.waiting.pop() } else { None };
+        self.refused = Some(Refused {
+            line: self.taken + 1,
+            cause,
+            waiting,
+        });
     }
 }

@@ -1,24 +1,25 @@
 //! A line that a builder takes.
 
-ghost use Rattle.std.specs.Prelude.{◌≡◌, ◌<◌, ◌≤◌, ◌+◌, ◌-◌, ◌^◌, ◌||◌, ℕ, true, max, List, Ok, OnOk, OnErr};
+ghost use Rattle.std.specs.Prelude.{◌≡◌, ◌<◌, ◌≤◌, ◌+◌, ◌-◌, ◌^◌, ◌||◌, true, max, List, OnOk, OnErr};
 ghost use Rattle.module_defs.specs.Locations as places;
 ghost use Rattle.module_defs.specs.Modules.{title_by};
 ghost use Rattle.module_defs.specs.FirstChecks as spec;
-ghost use Rattle.asm_core.specs.Defined.{defined_statement};
-ghost use Rattle.asm_core.specs.Moves.{defined_move, MovesWithin};
-ghost use Rattle.asm_core.specs.Checks.{defined_checked};
-ghost use Rattle.asm_core.specs.Keeping.{known_in, IsUnchanged};
-ghost use Rattle.asm_core.specs.Building.{IsBehind, Takes, refusal_at};
 ghost use Rattle.module_defs.proofs.CheckLaws.{IsTitled};
+ghost use Rattle.asm_checks.specs.Defined.{defined_statement};
+ghost use Rattle.asm_checks.specs.Moves.{defined_move, MovesWithin};
+ghost use Rattle.asm_checks.specs.Checks.{IsSaidOf, ListsNames};
+ghost use Rattle.asm_core.specs.Judging.{HasRoom};
+ghost use Rattle.asm_core.specs.Keeping.{IsUnchanged, SameWork, StandsStill};
+ghost use Rattle.asm_core.specs.Adding.{Adds, IsAsBefore};
+ghost use Rattle.asm_core.specs.Building.{IsBehind, Takes, refusal_at};
 
 use crate::error::AsmError;
-use crate::failure::Failure;
-use crate::first_checks::{Checked, location_behind};
+use crate::judge::Judged;
 use crate::lines::AsmLines;
-use crate::statement::Statement;
-use crate::titles::title_in;
+use asm_checks::{Checked, Failure, Statement, behind, location_behind, title_in};
 use module_defs::{Location, Part};
 use object_tags::ModuleName;
+use std::alloc::AllocError;
 
 impl AsmLines {
     /// Takes a line behind those that were taken. A refused line leaves the builder as before.
@@ -30,9 +31,31 @@ impl AsmLines {
             Ok(checked) => checked,
             Err(failure) => return Err(self.refusal(failure)),
         };
-        let pending = self.waiting(text, &checked)?;
-        self.keep(pending, &checked)?;
+        self.work(text, &checked)?;
         self.advance(&checked);
+        Ok(())
+    }
+
+    /// Adds a line: its names, and what is known of it. Behind a line that is refused only the names count.
+    fn work(&mut self, text: &[u8], checked: &Checked<'_>) -> Result<(), AllocError>
+        requires taken { self.old.taken < 2 ^ 32 - 1 }
+        requires line { IsSaidOf text.now checked.now.said }
+        requires listed { ListsNames checked.now.said }
+        requires within { MovesWithin checked.now.moved }
+        requires room { HasRoom (places.behind self.old.location checked.now.moved.gap) text.now (defined_statement checked.now.said.statement) }
+        ensures added { OnOk result (Adds self.old text.now checked.now self.new) }
+        ensures unchanged { OnErr result (IsAsBefore self.old self.new) }
+        ensures still { StandsStill self.old self.new }
+    {
+        if self.refused.is_some() {
+            return self.keep(None, checked);
+        }
+        self.prepare()?;
+        let at = behind(self.location, checked.moved.gap);
+        let Judged { waiting, claim } = self.judge(text, checked)?;
+        let waits = waiting.is_some();
+        self.keep(waiting, checked)?;
+        self.claim(at, claim, waits);
         Ok(())
     }
 
@@ -62,6 +85,7 @@ impl AsmLines {
         ensures taken { self.new.taken ≡ self.old.taken + 1 }
         ensures ended { self.new.ended ≡ (spec.is_end (defined_statement checked.now.said.statement) || self.old.ended) }
         ensures kept { IsUnchanged self.old self.new }
+        ensures worked { SameWork self.old self.new }
     {
         self.location = location_behind(self.location, &checked.moved);
         self.reached = self.reached.max(relocatable(self.location));

@@ -26,9 +26,7 @@ mod token;
 mod values;
 mod words;
 
-pub use crate::characters::{
-    is_blank, is_comma, is_line_feed, is_printed, is_quote, upper_case,
-};
+pub use crate::characters::{is_blank, is_comma, is_line_feed, is_printed, is_quote, upper_case};
 pub use crate::digits::{byte_digits, word_digits};
 pub use crate::expressions::expression_value;
 pub use crate::fold::value;
@@ -44,7 +42,7 @@ pub use crate::parentheses::parentheses_at;
 pub use crate::quoted_texts::{
     between_quotes, character_count, is_quoted, quoted, quoted_characters,
 };
-pub use crate::scan::{number, tokens};
+pub use crate::scan::tokens;
 pub use crate::split::{fields, upper_case_name};
 pub use crate::symbols::{DefineError, Symbols};
 pub use crate::text::{lines, part};

@@ -2,7 +2,6 @@
 
 ghost use Rattle.std.specs.Prelude.{◌≡◌, ◌≢◌, ◌≤◌, ◌<◌, ◌+◌, ◌-◌, ◌++◌, ◌∷◌, [], length, map, Ok, Err, IfOk, OnOk, IfErr};
 ghost use Rattle.source_defs.specs.Tokens as spec;
-ghost use Rattle.source_defs.specs.SoleNumbers.{number};
 ghost use Rattle.source_defs.specs.TokenLaw.{Follow};
 ghost use Rattle.asm_text.specs.GivenTokens.{defined_kind, defined_token, defined_token_answer};
 
@@ -35,25 +34,6 @@ pub fn tokens(alloc: Global, text: &[u8]) -> Result<Vec<Token>, ExprError>
         }
     }
     Ok(found)
-}
-
-/// The number of a text whose one token is a number.
-#[tactic(auto, unfolding(source_defs::specs::SoleNumbers::number, source_defs::specs::Tokens::token_at))]
-pub fn number(text: &[u8]) -> Option<u16>
-    ensures { result ≡ number text.now }
-{
-    if text.is_empty() {
-        return None;
-    }
-    match token_at(text, 0) {
-        Ok(
-            Token {
-                kind: TokenKind::Number(number),
-                span,
-            },
-        ) if span.end == text.len() => Some(number),
-        _ => None,
-    }
 }
 
 /// The token that starts at a place.

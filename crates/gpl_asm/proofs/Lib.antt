@@ -1,3 +1,6 @@
-pub mod Reading
-pub mod Adding
-pub mod NumberSteps
+pub mod RestLaws
+pub mod ReplayLaws
+pub mod LineLaws
+pub mod TakeLaws
+pub mod FinishLaws
+pub mod TakenLaws

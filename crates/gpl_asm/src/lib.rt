@@ -1,14 +1,18 @@
-//! The assembler of GPL sources.
+//! The assembler of GPL sources: the image that a source stands for.
 #![tactic(auto)]
 
-mod assemble;
+mod calls;
 mod error;
-mod laws;
-mod layout;
-mod numbers;
-mod statement;
+mod finish;
+mod keep;
+mod kept;
+mod lines;
+mod place;
+mod source;
+mod take;
 
-pub use assemble::{GplProgram, gpl_assemble};
-pub use error::GplError;
-pub use gpl_defs::GplCause;
-pub use laws::lines_stand_at_their_locations;
+pub use crate::error::GplError;
+pub use crate::finish::GplProgram;
+pub use crate::lines::GplLines;
+pub use crate::source::gpl_assemble;
+pub use program_defs::GplCause;

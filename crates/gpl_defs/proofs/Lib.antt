@@ -6,4 +6,3 @@ pub mod ReadLaws
 pub mod ShortLaws
 pub mod MeaningLaws
 pub mod ImageLaws
-pub mod LayoutLaws

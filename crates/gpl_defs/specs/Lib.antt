@@ -4,5 +4,3 @@ pub mod Bytes
 pub mod Spellings
 pub mod Reading
 pub mod Image
-pub mod Statements
-pub mod Layout

@@ -2,10 +2,8 @@
 //! make.
 #![tactic(auto)]
 
-mod causes;
 mod instruction;
 
-pub use causes::GplCause;
 pub use instruction::{
     ByteOp, GoOp, GplInstr, GplOperand, GplOperation, GplRead, GplSource, MoveKind, MoveLength,
     MoveSource, MoveTarget, OneName, PlainOp, Space, TwoName,

@@ -1,3 +1,4 @@
 pub mod NameLaws
 pub mod Failures
 pub mod FormLaws
+pub mod Listed

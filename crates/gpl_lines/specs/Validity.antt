@@ -1,5 +1,5 @@
 -- What the code finds in a line has bytes, and is as short as a line.
-use Rattle.std.specs.Prelude.{⊤, ◌≡◌, ◌≤◌, ◌||◌, not, true, length, IsTrue}
+use Rattle.std.specs.Prelude.{⊤, Bool, ◌≡◌, ◌≤◌, ◌||◌, not, true, length, IsTrue}
 use Rattle.gpl_defs.specs.Valid.{has_words, is_valid}
 use Rattle.program_defs.specs.Skeletons.{instr_by_zero}
 use Rattle.program_defs.specs.declared.mnemonic.Mnemonic.{Mnemonic}
@@ -10,9 +10,12 @@ use Rattle.gpl_lines.specs.declared.statement.Statement.{Statement}
 use Rattle.gpl_lines.specs.declared.statement.Statement.TheVariants.{Instruction, Data, Byte, Text}
 
 -- the table of codes has the form that the name is of
+abbrev pub has_form : Mnemonic → Bool
+has_form (One op word) = has_words op || not word
+has_form _ = true
+
 abbrev pub HasForm : Mnemonic → Type 0
-HasForm (One op word) = IsTrue (has_words op || not word)
-HasForm _ = ⊤
+HasForm named = IsTrue (has_form named)
 
 abbrev pub IsValidSkeleton : Skeleton → Type 0
 IsValidSkeleton skeleton = IsTrue (is_valid (instr_by_zero (defined_skeleton skeleton)))

@@ -1,6 +1,6 @@
 //! The first checks of a line.
 
-ghost use Rattle.std.specs.Prelude.{◌≡◌, ◌≤◌, IfOk};
+ghost use Rattle.std.specs.Prelude.{◌≡◌, ◌≤◌, IfOk, IfSome};
 ghost use Rattle.source_defs.specs.Symbols.{look_up};
 ghost use Rattle.program_defs.specs.Locations as places;
 ghost use Rattle.program_defs.specs.FirstChecks as spec;
@@ -78,7 +78,8 @@ impl Checked<'_> {
     /// The location that the line sets, if it sets one.
     pub fn origin(&self, here: Location) -> Option<Location>
         requires { here.grom ≤ 65535 }
-        ensures { result ≡ places.origin_of here (defined_statement self.now.statement) }
+        ensures origin { result ≡ places.origin_of here (defined_statement self.now.statement) }
+        ensures address { IfSome result (λ origin. origin.grom ≤ 65535) }
     {
         match self.statement {
             Statement::Grom(address) => Some(Location {

@@ -101,10 +101,7 @@ pub(crate) fn mnemonic(text: &[u8]) -> Option<Mnemonic>
 fn named_in(table: &[Mnemonic], text: &[u8]) -> Option<Mnemonic>
     ensures { result ≡ find (λ named. is_word text.now (spec.name_of named)) table.now }
 {
-    table
-        .iter()
-        .copied()
-        .find(|&named| is_named(text, named))
+    table.iter().copied().find(|&named| is_named(text, named))
 }
 
 /// Whether a text is the name of an instruction.

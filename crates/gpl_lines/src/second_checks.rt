@@ -147,7 +147,11 @@ impl Scope<'_> {
         ensures valid { IfOk result (λ instr. IsTrue (is_valid instr)) }
     {
         match route {
-            Route::Within(to, from) => Ok(move_instr(length, MoveTarget::At(to), MoveSource::At(from))),
+            Route::Within(to, from) => Ok(move_instr(
+                length,
+                MoveTarget::At(to),
+                MoveSource::At(from),
+            )),
             Route::ToMemory(to, address, None) => {
                 let start = self.number(address)?;
                 Ok(move_instr(length, MoveTarget::At(to), MoveSource::Grom(start)))
@@ -156,13 +160,21 @@ impl Scope<'_> {
                 let start = self.number(address)?;
                 let number = self.number(text)?;
                 let index = index_of(number)?;
-                Ok(move_instr(length, MoveTarget::At(to), MoveSource::GromIndexed(start, index)))
+                Ok(move_instr(
+                    length,
+                    MoveTarget::At(to),
+                    MoveSource::GromIndexed(start, index),
+                ))
             }
             Route::ToRegisters(first, address) => {
                 let number = self.number(first)?;
                 let start = self.number(address)?;
                 let register = register_of(number)?;
-                Ok(move_instr(length, MoveTarget::Register(register), MoveSource::Grom(start)))
+                Ok(move_instr(
+                    length,
+                    MoveTarget::Register(register),
+                    MoveSource::Grom(start),
+                ))
             }
         }
     }

@@ -27,7 +27,11 @@ use program_defs::{GplCause, Mnemonic};
 
 impl Scope<'_> {
     /// The operands of an instruction.
-    pub(crate) fn skeleton<'b>(&self, named: Mnemonic, field: &'b [u8]) -> Result<Skeleton<'b>, Failure>
+    pub(crate) fn skeleton<'b>(
+        &self,
+        named: Mnemonic,
+        field: &'b [u8],
+    ) -> Result<Skeleton<'b>, Failure>
         requires { HasForm named }
         ensures found { Gives defined_skeleton result
             (spec.skeleton (look_up self.now.symbols.now) (address_of self.now.at) named field.now) }
@@ -177,9 +181,12 @@ fn move_forms(field: &[u8]) -> Result<(Form<'_>, Form<'_>, Form<'_>), GplCause>
     ensures cause { IfErr result NoMemory }
 {
     let mut parts = operands(field);
-    let (Some(first), Some(second), Some(third), None) =
-        (parts.next(), parts.next(), parts.next(), parts.next())
-    else {
+    let (Some(first), Some(second), Some(third), None) = (
+        parts.next(),
+        parts.next(),
+        parts.next(),
+        parts.next(),
+    ) else {
         return Err(GplCause::OperandCount);
     };
     let length = written_form(&field[first.start..first.end])?;

@@ -16,7 +16,9 @@ use crate::failure::Failure;
 use crate::mnemonics::mnemonic;
 use crate::skeleton::Skeleton;
 use crate::values::Scope;
-use asm_text::{Fields, at_most_one_of, character_count, one_of, operand_count, part, quoted, some_of};
+use asm_text::{
+    Fields, at_most_one_of, character_count, one_of, operand_count, part, quoted, some_of,
+};
 use program_defs::{Directive, GplCause};
 
 /// What a line says: an instruction, or a directive with its operands, those that move locations by their numbers. A field
@@ -69,7 +71,11 @@ impl Statement<'_> {
 
 impl Scope<'_> {
     /// What a line with its fields says.
-    pub(crate) fn statement_at<'b>(&self, line: &'b [u8], found: &Fields) -> Result<Statement<'b>, Failure>
+    pub(crate) fn statement_at<'b>(
+        &self,
+        line: &'b [u8],
+        found: &Fields,
+    ) -> Result<Statement<'b>, Failure>
         requires inside { FieldsLieInside line.now found.now }
         requires length { length line.now ≤ 256 }
         ensures said { Gives defined_statement result
@@ -85,7 +91,11 @@ impl Scope<'_> {
     }
 
     /// What an operation field and an operand field say.
-    fn operation_statement<'b>(&self, operation: &[u8], field: &'b [u8]) -> Result<Statement<'b>, Failure>
+    fn operation_statement<'b>(
+        &self,
+        operation: &[u8],
+        field: &'b [u8],
+    ) -> Result<Statement<'b>, Failure>
         requires { length field.now ≤ 256 }
         ensures said { Gives defined_statement result
             (spec.operation_statement (look_up self.now.symbols.now) (address_of self.now.at) operation.now field.now) }
@@ -99,7 +109,11 @@ impl Scope<'_> {
 
     /// An instruction with its operands.
     #[tactic(auto, using(crate::proofs::FormLaws::named_has_form))]
-    fn instruction_statement<'b>(&self, operation: &[u8], field: &'b [u8]) -> Result<Statement<'b>, Failure>
+    fn instruction_statement<'b>(
+        &self,
+        operation: &[u8],
+        field: &'b [u8],
+    ) -> Result<Statement<'b>, Failure>
         ensures said { Gives defined_statement result
             (spec.instruction_statement (look_up self.now.symbols.now) (address_of self.now.at)
             (mnemonic operation.now) field.now) }
@@ -115,7 +129,11 @@ impl Scope<'_> {
     }
 
     /// A directive with its operands.
-    fn directive_statement<'b>(&self, found: Directive, field: &'b [u8]) -> Result<Statement<'b>, Failure>
+    fn directive_statement<'b>(
+        &self,
+        found: Directive,
+        field: &'b [u8],
+    ) -> Result<Statement<'b>, Failure>
         requires { length field.now ≤ 256 }
         ensures said { Gives defined_statement result
             (spec.directive_statement (look_up self.now.symbols.now) (address_of self.now.at) found (operand_texts field.now)) }

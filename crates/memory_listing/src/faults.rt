@@ -3,28 +3,19 @@
 ghost use Rattle.std.specs.Prelude.{◌≡◌, ◌≤◌, ◌<◌, ◌+◌, ◌++◌, ◌∷◌, [], length, drop, codes};
 ghost use Rattle.arrayvec.specs.ArrayVec.{array_vec_len};
 ghost use Rattle.source_defs.specs.Digits.{marked_word};
-ghost use Rattle.report_defs.specs.FaultLine.{refusal_line};
 ghost use Rattle.report_defs.specs.ObjectFaults as spec;
 ghost use Rattle.memory_listing.specs.Told.{LinkTold};
 
 use asm_text::word_digits;
 use link_loader::LinkError;
 use object_defs::TagCause;
-use trace_dump::{Line, append, append_count, append_word};
+use report_lines::{Line, append, append_word, refusal_line};
 
 /// The line of a bad place in an object text, by the number of its line, from 1.
-#[tactic(auto, using(std::proofs::Common::append_assoc), unfolding(report_defs::specs::FaultLine::refusal_line))]
 pub fn tag_line(number: u32, cause: TagCause) -> Line
     ensures { result.items ≡ spec.tag_line (record { line = number; cause = cause }) }
 {
-    let text = tag_cause_text(cause);
-    let mut line = Line::new();
-    append(&mut line, b"line ");
-    append_count(&mut line, u64::from(number));
-    append(&mut line, b": ");
-    append(&mut line, text.as_slice());
-    line.push(b'\n');
-    line
+    refusal_line(number, tag_cause_text(cause).as_slice())
 }
 
 /// What is said of a bad place.

@@ -9,7 +9,7 @@ use crate::names::put_names;
 use crate::rows::put_words;
 use bench_io::{Failed, Sink, put_piece};
 use link_loader::Linked;
-use trace_dump::{Line, append, append_word};
+use report_lines::{Line, append, append_word};
 
 /// Writes the listing of linked memory, line by line: the entry, the names with their values, and the words in rows.
 pub fn put_memory<O: Sink>(linked: &Linked, out: &mut O) -> Result<(), Failed>

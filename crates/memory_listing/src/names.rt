@@ -6,7 +6,7 @@ ghost use Rattle.report_defs.specs.MemoryListing as spec;
 
 use asm_text::Name;
 use bench_io::{Failed, Sink, put_piece};
-use trace_dump::{Line, append, append_word};
+use report_lines::{Line, append, append_word};
 
 /// Writes the lines of names with their values.
 pub(crate) fn put_names<O: Sink>(names: &[(Name, u16)], out: &mut O) -> Result<(), Failed>

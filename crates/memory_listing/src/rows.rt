@@ -11,7 +11,7 @@ ghost use Rattle.link_loader.specs.View.{defined_linked};
 use asm_text::word_digits;
 use bench_io::{Failed, Sink, put_piece};
 use link_loader::Linked;
-use trace_dump::{Line, append, append_word};
+use report_lines::{Line, append, append_word};
 
 /// The most words of a row behind its first.
 const MORE_WORDS: usize = 7;

@@ -6,10 +6,11 @@ use Rattle.std.proofs.lemmas.List.{take_at, drop_at, length-replicate}
 use Rattle.source_defs.specs.Characters.{is_blank}
 use Rattle.source_defs.specs.Names.{is_kept_name, all_printed, is_printed}
 use Rattle.source_defs.specs.Numbers.{is_hexadecimal_digit, hexadecimal_digit, digit_value}
+use Rattle.object_defs.specs.declared.form.TextForm.TheVariants.{Plain}
 use Rattle.object_defs.specs.Modules.{all_name_characters, is_module_name}
 use Rattle.source_defs.specs.Digits.{word_digits}
 use Rattle.object_defs.specs.Digits.{padded}
-use Rattle.object_defs.specs.Fields.{number_at, module_name_at, symbol_at, all_blank, without_blanks}
+use Rattle.object_defs.specs.Fields.{digits_at, number_at, module_name_at, symbol_at, all_blank, without_blanks}
 use Rattle.object_defs.proofs.Conjunctions.{and_left, and_right}
 
 digit_is : (v : ℕ) → v < 16 → is_hexadecimal_digit (hexadecimal_digit v) ≡ true
@@ -19,13 +20,13 @@ digit_back : (v : ℕ) → v < 16 → digit_value (hexadecimal_digit v) ≡ v
 digit_back v lt = grind (arith, nat_tests)
 
 four_again : (a b c d n : ℕ) (rest : List ℕ) → a < 16 → b < 16 → c < 16 → d < 16 → ((a * 16 + b) * 16 + c) * 16 + d ≡ n
-    → number_at (hexadecimal_digit a ∷ hexadecimal_digit b ∷ hexadecimal_digit c ∷ hexadecimal_digit d ∷ rest) ≡ Ok n
-unfolding number_at
+    → number_at Plain (hexadecimal_digit a ∷ hexadecimal_digit b ∷ hexadecimal_digit c ∷ hexadecimal_digit d ∷ rest) ≡ Ok n
+unfolding digits_at
 four_again a b c d n rest la lb lc ld e =
     let value : (((0 * 16 + a) * 16 + b) * 16 + c) * 16 + d ≡ n = omega arith in
     rw (digit_is a la, digit_is b lb, digit_is c lc, digit_is d ld, digit_back a la, digit_back b lb, digit_back c lc, digit_back d ld, value) refl
 
-pub number_again : (n : ℕ) (rest : List ℕ) → n < 65536 → number_at (word_digits n ++ rest) ≡ Ok n
+pub number_again : (n : ℕ) (rest : List ℕ) → n < 65536 → number_at Plain (word_digits n ++ rest) ≡ Ok n
 unfolding word_digits
 number_again n rest lt = four_again (n / 4096 % 16) (n / 256 % 16) (n / 16 % 16) (n % 16) n rest (omega arith) (omega arith) (omega arith) (omega arith) (omega arith)
 
@@ -62,7 +63,7 @@ kept_length name h =
     let behind_name = blank_count (6 - length name) in
     length-append name (replicate {A = ℕ} (6 - length name) 0x20) ∙ omega arith
 
-pub symbol_again : (tag n : ℕ) (name rest : List ℕ) → is_kept_name name ≡ true → symbol_at tag (word_digits n ++ (padded 6 name ++ rest)) ≡ Ok name
+pub symbol_again : (tag n : ℕ) (name rest : List ℕ) → is_kept_name name ≡ true → symbol_at Plain tag (word_digits n ++ (padded 6 name ++ rest)) ≡ Ok name
 unfolding symbol_at
 symbol_again tag n name rest h =
     let printed : all_printed name ≡ true = and_right (nat_lt 0 (length name) && nat_le (length name) 6) (all_printed name) h in
@@ -72,7 +73,7 @@ symbol_again tag n name rest h =
     let kept : without_blanks (padded 6 name) ≡ name = name_again name (6 - length name) printed in
     rw (behind, field, size, kept, h) refl
 
-pub module_name_again : (tag n : ℕ) (name rest : List ℕ) → is_module_name name ≡ true → module_name_at tag (word_digits n ++ (name ++ rest)) ≡ Ok name
+pub module_name_again : (tag n : ℕ) (name rest : List ℕ) → is_module_name name ≡ true → module_name_at Plain tag (word_digits n ++ (name ++ rest)) ≡ Ok name
 unfolding module_name_at
 module_name_again tag n name rest h =
     let characters : all_name_characters name ≡ true = and_right (length name == 8) (all_name_characters name) h in

@@ -1,6 +1,7 @@
 -- A reader that keeps a load address reads what is defined.
 use Rattle.std.proofs.Common.{◌≡◌, ℕ, ◌+◌, ◌*◌, ◌%◌, Bool, true, false, List, [], ◌∷◌, length, Option, Some, None, Result, Ok, Err, refl, sym, ap, ◌∙◌, arith}
 use Rattle.source_defs.specs.Refusals.{Refusal, ◌>>=◌, at_line}
+use Rattle.object_defs.specs.declared.form.TextForm.{TextForm}
 use Rattle.object_defs.specs.declared.spot.Spot.{Spot}
 use Rattle.object_defs.specs.declared.spot.Spot.TheVariants.{Absolute, Relocatable}
 use Rattle.object_defs.specs.declared.causes.TagCause.{TagCause}
@@ -8,7 +9,7 @@ use Rattle.object_defs.specs.declared.tag.Tag.{Tag}
 use Rattle.object_defs.specs.Modules.{Module, moved}
 use Rattle.object_defs.specs.Fields.{all_blank}
 use Rattle.object_defs.specs.Groups.{Group, Header, Entry, Referred, Defined, Sum, IgnoredSum, Address, Word, EndOfLine, EndOfModule, FoundGroup, Whole, Broken, tag_of_group, groups_from}
-use Rattle.object_defs.specs.Reading.{last_address, words_since, place_behind, module_of, stands_first, stands_behind, Found, nothing_found, added, with_group, with_groups, NumberedLine, with_lines, last_number, ended, text_lines, read}
+use Rattle.object_defs.specs.Reading.{last_address, words_since, place_behind, module_of, stands_first, stands_behind, Found, nothing_found, added, with_group, with_groups, NumberedLine, with_lines, last_number, ended, form_of, text_lines, read}
 use Rattle.object_defs.specs.Running.{OpenModule, first_of, grown, more, begun, Kept, nothing_kept, kept_with, kept_groups, kept_line, kept_lines, finished}
 
 -- ---- what is kept of some groups
@@ -112,24 +113,24 @@ ended_is : (last : ℕ) (modules : List Module) (groups : List Group) → finish
 ended_is last modules [] = refl
 ended_is last modules (group ∷ groups) = refl
 
-lines_are : (lines : List NumberedLine) (last : ℕ) (found : Found) → kept_lines (kept_of last found) lines ≡ (with_lines found lines >>= λ found. end_of (last_number last lines) found)
+lines_are : (form : TextForm) (lines : List NumberedLine) (last : ℕ) (found : Found) → kept_lines form (kept_of last found) lines ≡ (with_lines form found lines >>= λ found. end_of (last_number last lines) found)
 unfolding kept_lines kept_line
-lines_are [] last found = ended_is last found.modules found.current
-lines_are (line ∷ lines) last found = by (lines_are lines) (all_blank line.text) refl
+lines_are form [] last found = ended_is last found.modules found.current
+lines_are form (line ∷ lines) last found = by (lines_are form lines) (all_blank line.text) refl
   where
     Goes : Type 0
-    Goes = (last : ℕ) (found : Found) → kept_lines (kept_of last found) lines ≡ (with_lines found lines >>= λ found. end_of (last_number last lines) found)
+    Goes = (last : ℕ) (found : Found) → kept_lines form (kept_of last found) lines ≡ (with_lines form found lines >>= λ found. end_of (last_number last lines) found)
 
-    through : Goes → (r : Result Found TagCause) → (at_line line.number (kept line.number r) >>= λ k. kept_lines k lines) ≡ ((at_line line.number r >>= λ found. with_lines found lines) >>= λ found. end_of (last_number line.number lines) found)
+    through : Goes → (r : Result Found TagCause) → (at_line line.number (kept line.number r) >>= λ k. kept_lines form k lines) ≡ ((at_line line.number r >>= λ found. with_lines form found lines) >>= λ found. end_of (last_number line.number lines) found)
     through go (Ok found) = go line.number found
     through go (Err cause) = refl
 
     by : Goes → (b : Bool) → all_blank line.text ≡ b
-        → kept_lines (kept_of last found) (line ∷ lines) ≡ (with_lines found (line ∷ lines) >>= λ found. end_of (last_number last (line ∷ lines)) found)
+        → kept_lines form (kept_of last found) (line ∷ lines) ≡ (with_lines form found (line ∷ lines) >>= λ found. end_of (last_number last (line ∷ lines)) found)
     by go true e = rw e (go last found)
-    by go false e = rw e (ap (λ (r : Result Kept TagCause). at_line line.number r >>= λ k. kept_lines k lines) (groups_are (groups_from [] 0 line.text) line.number found) ∙ through go (with_groups found (groups_from [] 0 line.text)))
+    by go false e = rw e (ap (λ (r : Result Kept TagCause). at_line line.number r >>= λ k. kept_lines form k lines) (groups_are (groups_from form [] 0 line.text) line.number found) ∙ through go (with_groups found (groups_from form [] 0 line.text)))
 
 -- what is read is what is kept in the end
-pub read_is : (text : List ℕ) → read text ≡ kept_lines nothing_kept (text_lines text)
+pub read_is : (text : List ℕ) → read text ≡ kept_lines (form_of text) nothing_kept (text_lines text)
 unfolding read
-read_is text = sym (lines_are (text_lines text) 0 nothing_found)
+read_is text = sym (lines_are (form_of text) (text_lines text) 0 nothing_found)

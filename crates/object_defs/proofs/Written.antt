@@ -6,6 +6,7 @@ use Rattle.std.proofs.lemmas.Bool.Decides.{nat_tests}
 use Rattle.source_defs.specs.Characters.{is_blank, is_line_feed}
 use Rattle.source_defs.specs.Lines.{lines}
 use Rattle.source_defs.proofs.LineSteps.{lines_from_end}
+use Rattle.object_defs.specs.declared.form.TextForm.TheVariants.{Plain}
 use Rattle.object_defs.specs.declared.spot.Spot.{Spot}
 use Rattle.object_defs.specs.declared.spot.Piece.{Piece}
 use Rattle.object_defs.specs.declared.tag.Tag.TheVariants as tags
@@ -13,10 +14,10 @@ use Rattle.object_defs.specs.Modules.{Module, Definition, Reference, HasText, St
 use Rattle.source_defs.specs.Digits.{word_digits}
 use Rattle.object_defs.specs.Digits.{decimal, padded, checksum}
 use Rattle.object_defs.specs.Tags.{tag_of}
-use Rattle.object_defs.specs.Writing.{group, header_text, definition_text, reference_text, Item, Group, Placed, items_of, entry_items, Line, empty_line, item_text, with_item, summed, numbered, line_text, last_line_text, number_after, written_from, written}
+use Rattle.object_defs.specs.Writing.{group, header_text, definition_text, reference_text, Item, Group, Placed, items_of, entry_items, Line, empty_line, item_text, next_after, with_item, summed, numbered, line_text, last_line_text, number_after, written_from, written}
 use Rattle.object_defs.specs.Fields.{all_blank}
 use Rattle.object_defs.specs.Groups.{Header, Sum, Whole, found_with, found_at, groups_from}
-use Rattle.object_defs.specs.Reading.{NumberedLine, numbered_line, has_line_feed}
+use Rattle.object_defs.specs.Reading.{NumberedLine, numbered_line, has_line_feed, form_of}
 use Rattle.object_defs.specs.Running.{OpenModule, opened, begun, more, Kept, nothing_kept, with_current, kept_groups, kept_line, kept_lines}
 use Rattle.object_defs.specs.Laws.{FitsSpot, FitsPiece, FitsDefinition, FitsReference, IsModule, WrittenModulesAreRead}
 use Rattle.object_defs.proofs.FieldsAgain.{number_again, module_name_again, digits_length}
@@ -99,7 +100,7 @@ unfolding found_with more tag_of
 sum_read text pad kept m =
     let c = checksum (text ++ 0x37 ∷ []) in
     let same : eqb c c ≡ true = eq-eqb c c refl in
-    let found : found_at text 0x37 (word_digits c ++ 0x46 ∷ pad) ≡ Whole 0x37 Sum = rw (number_again c (0x46 ∷ pad) (checksum-lt (text ++ 0x37 ∷ [])), same) refl in
+    let found : found_at Plain text 0x37 (word_digits c ++ 0x46 ∷ pad) ≡ Whole 0x37 Sum = rw (number_again c (0x46 ∷ pad) (checksum-lt (text ++ 0x37 ∷ [])), same) refl in
     group_adds (with_current kept m) (with_current kept m) text 0x37 (word_digits c) (0x46 ∷ pad) Sum found refl (digits_length c) refl ∙ line_ends (text ++ 0x37 ∷ word_digits c) pad kept m
 
 -- ---- a line of groups
@@ -122,7 +123,7 @@ some_other (c ∷ text) rest = rw (some_other text rest) (by (is_blank c))
     by false = refl
 
 line_done : (kept : Kept) (line : Line) (m : OpenModule) (n number : ℕ) → InLine kept.modules kept.current line m
-    → kept_line kept (record { number = n; text = body_of number (summed line.text) }) ≡ Ok (start kept.modules (Some m) n)
+    → kept_line Plain kept (record { number = n; text = body_of number (summed line.text) }) ≡ Ok (start kept.modules (Some m) n)
 unfolding kept_line
 line_done kept line m n number in_line =
     let ends = body_ends number line.text in
@@ -133,7 +134,7 @@ line_done kept line m n number in_line =
 
 -- the line that ends a module
 colon_done : (modules : List Module) (m : OpenModule) (last n number : ℕ)
-    → kept_line (start modules (Some m) last) (record { number = n; text = body_of number (0x3A ∷ []) }) ≡ Ok (start (modules ++ m.found ∷ []) None n)
+    → kept_line Plain (start modules (Some m) last) (record { number = n; text = body_of number (0x3A ∷ []) }) ≡ Ok (start (modules ++ m.found ∷ []) None n)
 unfolding kept_line groups_from kept_groups found_with more tag_of
 colon_done modules m last n number = refl
 
@@ -191,17 +192,17 @@ new_line modules m = record { goes = λ last rest. refl; prints = refl; next = �
 lines_end : (text : List ℕ) (n at : ℕ) → at ≡ length text → left_lines text n at ≡ []
 lines_end text n at e = ap (map (numbered_line text)) (lines_from_end text n at e)
 
-read_one : (kept after : Kept) (line : NumberedLine) (lines : List NumberedLine) → kept_line kept line ≡ Ok after → kept_lines kept (line ∷ lines) ≡ kept_lines after lines
+read_one : (kept after : Kept) (line : NumberedLine) (lines : List NumberedLine) → kept_line Plain kept line ≡ Ok after → kept_lines Plain kept (line ∷ lines) ≡ kept_lines Plain after lines
 unfolding kept_lines
 read_one kept after line lines e = rw e refl
 
-read_none : (modules : List Module) (last : ℕ) → kept_lines (start modules None last) [] ≡ Ok modules
+read_none : (modules : List Module) (last : ℕ) → kept_lines Plain (start modules None last) [] ≡ Ok modules
 unfolding kept_lines
 read_none modules last = refl
 
 -- the last line of groups, and the line that ends the module
 read_end : (kept : Kept) (line : Line) (m : OpenModule) (number n : ℕ) (front text : List ℕ) → text ≡ front ++ (line_text number line.text ++ last_line_text (number_after number))
-    → InLine kept.modules kept.current line m → kept_lines kept (left_lines text n (length front)) ≡ Ok (kept.modules ++ m.found ∷ [])
+    → InLine kept.modules kept.current line m → kept_lines Plain kept (left_lines text n (length front)) ≡ Ok (kept.modules ++ m.found ∷ [])
 read_end kept line m number n front text is in_line =
     let next = number_after number in
     let first = line_step text front (summed line.text) (last_line_text next) number n (summed_prints line.text in_line.prints) is in
@@ -211,14 +212,14 @@ read_end kept line m number n front text is in_line =
     let third = lines_end text (n + 1 + 1) (length ((front ++ line_text number line.text) ++ last_line_text next)) (ap length (sym all)) in
     let groups : Kept = start kept.modules (Some m) n in
     let ended : Kept = start (kept.modules ++ m.found ∷ []) None (n + 1) in
-    ap (kept_lines kept) first
+    ap (kept_lines Plain kept) first
     ∙ (read_one kept groups _ _ (line_done kept line m n number in_line)
-    ∙ (ap (kept_lines groups) second
+    ∙ (ap (kept_lines Plain groups) second
     ∙ (read_one groups ended _ _ (colon_done kept.modules m n (n + 1) next)
-    ∙ (ap (kept_lines ended) third ∙ read_none (kept.modules ++ m.found ∷ []) (n + 1)))))
+    ∙ (ap (kept_lines Plain ended) third ∙ read_none (kept.modules ++ m.found ∷ []) (n + 1)))))
 
 read_lines : (items : List Item) (kept : Kept) (line : Line) (m end : OpenModule) (number n : ℕ) (front text : List ℕ) → text ≡ front ++ written_from number line items
-    → InLine kept.modules kept.current line m → Run m items end → kept_lines kept (left_lines text n (length front)) ≡ Ok (kept.modules ++ end.found ∷ [])
+    → InLine kept.modules kept.current line m → Run m items end → kept_lines Plain kept (left_lines text n (length front)) ≡ Ok (kept.modules ++ end.found ∷ [])
 unfolding written_from
 read_lines [] kept line m end number n front text is in_line run =
     read_end kept line m number n front text is in_line ∙ ap (λ (b : OpenModule). Ok (kept.modules ++ b.found ∷ [])) run
@@ -228,14 +229,14 @@ read_lines (item ∷ items) kept line m end number n front text is in_line run =
   where
     by : (b : Bool)
         → ((kept' : Kept) (line' : Line) (m' : OpenModule) (number' n' : ℕ) (front' : List ℕ) → text ≡ front' ++ written_from number' line' items
-        → InLine kept'.modules kept'.current line' m' → Run m' items end → kept_lines kept' (left_lines text n' (length front')) ≡ Ok (kept'.modules ++ end.found ∷ []))
+        → InLine kept'.modules kept'.current line' m' → Run m' items end → kept_lines Plain kept' (left_lines text n' (length front')) ≡ Ok (kept'.modules ++ end.found ∷ []))
         → text ≡ front ++ cond b (written_from number (with_item line item) items) (line_text number line.text ++ written_from (number_after number) (with_item empty_line item) items)
-        → kept_lines kept (left_lines text n (length front)) ≡ Ok (kept.modules ++ end.found ∷ [])
+        → kept_lines Plain kept (left_lines text n (length front)) ≡ Ok (kept.modules ++ end.found ∷ [])
     by true again e = again kept (with_item line item) run.0 number n front e (in_line_with kept.modules kept.current line m item run.0 in_line run.1) run.2
     by false again e =
         let rest : List ℕ = written_from (number_after number) (with_item empty_line item) items in
         let groups : Kept = start kept.modules (Some m) n in
-        ap (kept_lines kept) (line_step text front (summed line.text) rest number n (summed_prints line.text in_line.prints) e)
+        ap (kept_lines Plain kept) (line_step text front (summed line.text) rest number n (summed_prints line.text in_line.prints) e)
         ∙ (read_one kept groups _ _ (line_done kept line m n number in_line)
         ∙ again groups (with_item empty_line item) run.0 (number_after number) (n + 1) (front ++ line_text number line.text) (behind_line text front (line_text number line.text) rest e)
         (in_line_with kept.modules (Some m) empty_line m item run.0 (new_line kept.modules m) run.1) run.2)
@@ -322,7 +323,7 @@ header_goes m is last rest =
     let named : padded 8 m.name ≡ m.name = name_padded m.name is.name in
     let size : length (word_digits m.size ++ padded 8 m.name) ≡ 12 = length-append (word_digits m.size) (padded 8 m.name) ∙ (rw named (omega (arith, digits_length m.size, name_length m.name is.name))) in
     let whole = append_assoc (word_digits m.size) m.name rest in
-    let found : found_at [] 0x30 ((word_digits m.size ++ padded 8 m.name) ++ rest) ≡ Whole 0x30 (Header m.size m.name) =
+    let found : found_at Plain [] 0x30 ((word_digits m.size ++ padded 8 m.name) ++ rest) ≡ Whole 0x30 (Header m.size m.name) =
     rw (named, whole, number_again m.size (m.name ++ rest) is.size, module_name_again 0x30 m.size m.name rest is.name) refl in
     group_adds (start [] None last) (start [] (Some (header_of m)) last) [] 0x30 (word_digits m.size ++ padded 8 m.name) rest (Header m.size m.name) found refl size refl
 
@@ -383,10 +384,26 @@ module _ (m : Module) (is : IsModule m) (has : HasText m) where
       let fits : nat_le (0 + length (header_text m.size m.name)) 70 ≡ true = let n = header_length m is in grind (arith, nat_tests) in
       rw fits refl
 
-  read_whole : kept_lines nothing_kept (left_lines (written m) 1 0) ≡ Ok (m ∷ [])
+  read_whole : kept_lines Plain nothing_kept (left_lines (written m) 1 0) ≡ Ok (m ∷ [])
   read_whole =
       read_lines (items_behind m) nothing_kept (with_item empty_line (Group (header_text m.size m.name))) (header_of m) (whole_of m) 1 1 [] (written m) begins (header_in_line m is) runs
       ∙ ap (λ (f : Module). Ok (f ∷ [])) found_whole
+
+-- ---- the text is plain
+
+plain_from : (items : List Item) (number : ℕ) (text : List ℕ) (next : Option Spot) → form_of (written_from number (record { text = 0x30 ∷ text; next = next }) items) ≡ Plain
+unfolding written_from
+plain_from [] number text next = refl
+plain_from (item ∷ items) number text next =
+    by (nat_le (length (0x30 ∷ text) + length (item_text next item)) 70) (plain_from items number (text ++ item_text next item) (next_after next item))
+  where
+    by : (b : Bool) → form_of (written_from number (with_item (record { text = 0x30 ∷ text; next = next }) item) items) ≡ Plain
+        → form_of (cond b (written_from number (with_item (record { text = 0x30 ∷ text; next = next }) item) items) (line_text number (0x30 ∷ text) ++ written_from (number_after number) (with_item empty_line item) items)) ≡ Plain
+    by true here = here
+    by false here = refl
+
+plain_written : (m : Module) → IsModule m → HasText m → form_of (written m) ≡ Plain
+plain_written m is has = ap form_of (begins m is has) ∙ plain_from (items_behind m) 1 (word_digits m.size ++ padded 8 m.name) None
 
 -- ---- the text is no records
 
@@ -414,4 +431,4 @@ feed_written (item ∷ items) line number =
 pub written_modules_are_read : WrittenModulesAreRead
 written_modules_are_read m is has =
     let feed : has_line_feed (written m) ≡ true = feed_written (items_of m) empty_line 1 in
-    read_is (written m) ∙ rw feed (read_whole m is has)
+    read_is (written m) ∙ rw (plain_written m is has, feed) (read_whole m is has)

@@ -1,29 +1,48 @@
 -- The fields that stand behind a tag: a number, and behind some tags a name.
 --
--- Editor/Assembler manual, "Tagged object code": four hexadecimal digits, and a name of eight or six characters.
-use Rattle.std.specs.Prelude.{ℕ, not, ◌&&◌, nat_lt, if◌then◌else◌, List, [], ◌∷◌, length, take, drop, Result, Ok, Err, Bool}
+-- Editor/Assembler manual, "Tagged object code": a number is four hexadecimal digits, in compressed text two bytes; a
+-- name is eight or six characters.
+use Rattle.std.specs.Prelude.{ℕ, not, ◌+◌, ◌*◌, ◌&&◌, nat_lt, if◌then◌else◌, List, [], ◌∷◌, length, take, drop, Result, Ok, Err, Bool}
 use Rattle.std.specs.List.{list_all}
 use Rattle.source_defs.specs.Characters.{is_blank}
 use Rattle.source_defs.specs.Names.{is_kept_name, all_printed}
 use Rattle.source_defs.specs.Numbers.{all_hexadecimal_digits, value_after}
+use Rattle.object_defs.specs.declared.form.TextForm.{TextForm}
+use Rattle.object_defs.specs.declared.form.TextForm.TheVariants.{Plain, Compressed}
 use Rattle.object_defs.specs.declared.causes.TagCause.{TagCause}
 use Rattle.object_defs.specs.declared.causes.TagCause.TheVariants.{BadTag, BadDigit, ShortField}
 use Rattle.object_defs.specs.Modules.{all_name_characters}
 
 -- the four digits
 -- Profile: they are of either case; a bad character of a field comes before the end of the line in it.
-unfoldable pub number_at : List ℕ → Result ℕ TagCause
-number_at fields =
+unfoldable pub digits_at : List ℕ → Result ℕ TagCause
+digits_at fields =
     let digits = take 4 fields in
     if not (all_hexadecimal_digits digits) then Err BadDigit
     else if nat_lt (length digits) 4 then Err ShortField
     else Ok (value_after 16 0 digits)
 
--- the eight characters behind the digits
+-- the two bytes, the high byte first
+-- Profile: they are any bytes.
+unfoldable pub two_bytes_at : List ℕ → Result ℕ TagCause
+two_bytes_at (high ∷ low ∷ fields) = Ok (256 * high + low)
+two_bytes_at _ = Err ShortField
+
+-- the number behind a tag
+abbrev pub number_at : TextForm → List ℕ → Result ℕ TagCause
+number_at Plain fields = digits_at fields
+number_at Compressed fields = two_bytes_at fields
+
+-- how many characters a number takes
+abbrev pub number_size : TextForm → ℕ
+number_size Plain = 4
+number_size Compressed = 2
+
+-- the eight characters behind the number
 -- Profile: each of them is one from >20 to >7E, or else the tag is refused.
-unfoldable pub module_name_at : ℕ → List ℕ → Result (List ℕ) TagCause
-module_name_at tag fields =
-    let name = take 8 (drop 4 fields) in
+unfoldable pub module_name_at : TextForm → ℕ → List ℕ → Result (List ℕ) TagCause
+module_name_at form tag fields =
+    let name = take 8 (drop (number_size form) fields) in
     if not (all_name_characters name) then Err (BadTag tag)
     else if nat_lt (length name) 8 then Err ShortField
     else Ok name
@@ -44,6 +63,6 @@ symbol_in tag field =
     else if is_kept_name (without_blanks field) then Ok (without_blanks field)
     else Err (BadTag tag)
 
--- the six characters behind the digits
-unfoldable pub symbol_at : ℕ → List ℕ → Result (List ℕ) TagCause
-symbol_at tag fields = symbol_in tag (take 6 (drop 4 fields))
+-- the six characters behind the number
+unfoldable pub symbol_at : TextForm → ℕ → List ℕ → Result (List ℕ) TagCause
+symbol_at form tag fields = symbol_in tag (take 6 (drop (number_size form) fields))

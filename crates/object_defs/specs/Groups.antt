@@ -1,8 +1,9 @@
 -- The first step of reading: the groups of a line, by the grammar.
 --
 -- Editor/Assembler manual, "Tagged object code": a line is groups one after the other, each a tag and its fields.
-use Rattle.std.specs.Prelude.{ℕ, zero, suc, ◌==◌, Bool, true, false, not, ◌&&◌, if◌then◌else◌, List, [], ◌∷◌, ◌++◌, length, Option, Some, None, Result, Ok, Err}
+use Rattle.std.specs.Prelude.{ℕ, zero, suc, ◌+◌, ◌==◌, Bool, true, false, not, ◌&&◌, if◌then◌else◌, List, [], ◌∷◌, ◌++◌, length, Option, Some, None, Result, Ok, Err}
 use Rattle.source_defs.specs.Refusals.{◌>>=◌}
+use Rattle.object_defs.specs.declared.form.TextForm.{TextForm}
 use Rattle.object_defs.specs.declared.spot.Spot.{Spot}
 use Rattle.object_defs.specs.declared.causes.TagCause.{TagCause}
 use Rattle.object_defs.specs.declared.causes.TagCause.TheVariants.{BadTag, Checksum}
@@ -11,7 +12,7 @@ use Rattle.object_defs.specs.declared.tag.Tag.TheVariants as tags
 use Rattle.object_defs.specs.Modules.{Definition, Reference}
 use Rattle.object_defs.specs.Digits.{checksum}
 use Rattle.object_defs.specs.Tags.{tag_character, tag_of, kind_of, spot}
-use Rattle.object_defs.specs.Fields.{number_at, module_name_at, symbol_at, all_blank}
+use Rattle.object_defs.specs.Fields.{number_at, number_size, module_name_at, symbol_at, all_blank}
 
 -- a group: what its tag and its fields say
 pub data Group : Type 0 where
@@ -61,34 +62,35 @@ group_found (Whole character group) = Ok group
 group_found (Broken character tag cause) = Err cause
 
 -- The tag that a character is at a place of its line, from 0. What ends a module stands first.
-abbrev pub tag_at : ℕ → ℕ → Option Tag
-tag_at place character = if (character == tag_character tags.EndOfModule) && not (place == 0) then None else tag_of character
+abbrev pub tag_at : TextForm → ℕ → ℕ → Option Tag
+tag_at form place character =
+    if (character == tag_character tags.EndOfModule) && not (place == 0) then None else tag_of form character
 
 -- a checksum, against the one that is computed
 abbrev pub compared : ℕ → ℕ → Result Group TagCause
 compared computed number = if number == computed then Ok Sum else Err (Checksum number computed)
 
 -- the group that a tag begins, by what stands behind it, where its line has a checksum through the tag
-abbrev pub group_of : ℕ → ℕ → Tag → List ℕ → Result Group TagCause
-group_of computed character tags.Header behind = do
-  size ← number_at behind
-  name ← module_name_at character behind
+abbrev pub group_of : TextForm → ℕ → ℕ → Tag → List ℕ → Result Group TagCause
+group_of form computed character tags.Header behind = do
+  size ← number_at form behind
+  name ← module_name_at form character behind
   Ok (Header size name)
-group_of computed character (tags.Entry kind) behind = number_at behind >>= λ number. Ok (Entry (spot kind number))
-group_of computed character (tags.Reference kind) behind = do
-  number ← number_at behind
-  name ← symbol_at character behind
+group_of form computed character (tags.Entry kind) behind = number_at form behind >>= λ number. Ok (Entry (spot kind number))
+group_of form computed character (tags.Reference kind) behind = do
+  number ← number_at form behind
+  name ← symbol_at form character behind
   Ok (Referred (record { name = name; last = spot kind number }))
-group_of computed character (tags.Definition kind) behind = do
-  number ← number_at behind
-  name ← symbol_at character behind
+group_of form computed character (tags.Definition kind) behind = do
+  number ← number_at form behind
+  name ← symbol_at form character behind
   Ok (Defined (record { name = name; value = spot kind number }))
-group_of computed character tags.Sum behind = number_at behind >>= λ number. compared computed number
-group_of computed character tags.IgnoredSum behind = number_at behind >>= λ number. Ok IgnoredSum
-group_of computed character (tags.Address kind) behind = number_at behind >>= λ number. Ok (Address (spot kind number))
-group_of computed character (tags.Word kind) behind = number_at behind >>= λ number. Ok (Word (spot kind number))
-group_of computed character tags.EndOfLine behind = Ok EndOfLine
-group_of computed character tags.EndOfModule behind = Ok EndOfModule
+group_of form computed character tags.Sum behind = number_at form behind >>= λ number. compared computed number
+group_of form computed character tags.IgnoredSum behind = number_at form behind >>= λ number. Ok IgnoredSum
+group_of form computed character (tags.Address kind) behind = number_at form behind >>= λ number. Ok (Address (spot kind number))
+group_of form computed character (tags.Word kind) behind = number_at form behind >>= λ number. Ok (Word (spot kind number))
+group_of form computed character tags.EndOfLine behind = Ok EndOfLine
+group_of form computed character tags.EndOfModule behind = Ok EndOfModule
 
 -- the group, or why there is none
 abbrev pub found_as : ℕ → Tag → Result Group TagCause → FoundGroup
@@ -96,27 +98,27 @@ found_as character tag (Ok group) = Whole character group
 found_as character tag (Err cause) = Broken character (Some tag) cause
 
 -- what stands in the place of a group, by its tag
-unfoldable pub found_with : ℕ → ℕ → Option Tag → List ℕ → FoundGroup
-found_with computed character None behind = Broken character None (BadTag character)
-found_with computed character (Some tag) behind = found_as character tag (group_of computed character tag behind)
+unfoldable pub found_with : TextForm → ℕ → ℕ → Option Tag → List ℕ → FoundGroup
+found_with form computed character None behind = Broken character None (BadTag character)
+found_with form computed character (Some tag) behind = found_as character tag (group_of form computed character tag behind)
 
 -- What stands in the place of a group. The checksum is that of the line's characters from the first through the group's tag.
-abbrev pub found_at : List ℕ → ℕ → List ℕ → FoundGroup
-found_at before character behind =
-    found_with (checksum (before ++ character ∷ [])) character (tag_at (length before) character) behind
+abbrev pub found_at : TextForm → List ℕ → ℕ → List ℕ → FoundGroup
+found_at form before character behind =
+    found_with form (checksum (before ++ character ∷ [])) character (tag_at form (length before) character) behind
 
 -- how many characters a group has behind its tag
-abbrev pub group_size : Group → ℕ
-group_size (Header size name) = 12
-group_size (Entry at) = 4
-group_size (Referred reference) = 10
-group_size (Defined definition) = 10
-group_size Sum = 4
-group_size IgnoredSum = 4
-group_size (Address at) = 4
-group_size (Word word) = 4
-group_size EndOfLine = 0
-group_size EndOfModule = 0
+abbrev pub group_size : TextForm → Group → ℕ
+group_size form (Header size name) = number_size form + 8
+group_size form (Entry at) = number_size form
+group_size form (Referred reference) = number_size form + 6
+group_size form (Defined definition) = number_size form + 6
+group_size form Sum = number_size form
+group_size form IgnoredSum = number_size form
+group_size form (Address at) = number_size form
+group_size form (Word word) = number_size form
+group_size form EndOfLine = 0
+group_size form EndOfModule = 0
 
 -- What follows the end of a line or of a module is ignored.
 abbrev pub is_last : Group → Bool
@@ -130,20 +132,20 @@ ends_line (Whole character group) = is_last group
 ends_line (Broken character tag cause) = true
 
 -- how many characters stand behind the tag
-abbrev pub size_found : FoundGroup → ℕ
-size_found (Whole character group) = group_size group
-size_found (Broken character tag cause) = 0
+abbrev pub size_found : TextForm → FoundGroup → ℕ
+size_found form (Whole character group) = group_size form group
+size_found form (Broken character tag cause) = 0
 
 -- The groups in the rest of a line, behind the characters before it and those that are left of the last group there.
 -- Profile: a line may end without the tag of its end.
-unfoldable pub groups_from : List ℕ → ℕ → List ℕ → List FoundGroup
-groups_from before left [] = []
-groups_from before (suc left) (byte ∷ behind) = groups_from (before ++ byte ∷ []) left behind
-groups_from before zero (byte ∷ behind) =
-    let found = found_at before byte behind in
-    found ∷ (if ends_line found then [] else groups_from (before ++ byte ∷ []) (size_found found) behind)
+unfoldable pub groups_from : TextForm → List ℕ → ℕ → List ℕ → List FoundGroup
+groups_from form before left [] = []
+groups_from form before (suc left) (byte ∷ behind) = groups_from form (before ++ byte ∷ []) left behind
+groups_from form before zero (byte ∷ behind) =
+    let found = found_at form before byte behind in
+    found ∷ (if ends_line found then [] else groups_from form (before ++ byte ∷ []) (size_found form found) behind)
 
 -- the groups of a line
 -- Profile: a line of blanks is skipped.
-abbrev pub groups_of : List ℕ → List FoundGroup
-groups_of line = if all_blank line then [] else groups_from [] 0 line
+abbrev pub groups_of : TextForm → List ℕ → List FoundGroup
+groups_of form line = if all_blank line then [] else groups_from form [] 0 line

@@ -29,11 +29,14 @@ use Rattle.std.specs.Prelude.{
   Ok,
   Err,
 }
+use Rattle.std.specs.Int.{div_ceil}
 use Rattle.std.specs.List.{list_any, range_with_len}
 use Rattle.source_defs.specs.declared.text.Line.{Line}
 use Rattle.source_defs.specs.Characters.{is_line_feed}
 use Rattle.source_defs.specs.Lines.{part, lines}
 use Rattle.source_defs.specs.Refusals.{Refusal, ◌>>=◌, at_line}
+use Rattle.object_defs.specs.declared.form.TextForm.{TextForm}
+use Rattle.object_defs.specs.declared.form.TextForm.TheVariants.{Plain, Compressed}
 use Rattle.object_defs.specs.declared.spot.Spot.{Spot}
 use Rattle.object_defs.specs.declared.spot.Spot.TheVariants.{Relocatable}
 use Rattle.object_defs.specs.declared.spot.Piece.{Piece}
@@ -128,7 +131,7 @@ module_of groups =
 
 -- Which tags may stand. Profile: a tag that may not, or that passes a limit, is refused before its fields are.
 
--- where no module is open and some have ended: a module begins with the tag 0
+-- where no module is open and some have ended: a module begins with its header
 abbrev pub stands_first : ℕ → ℕ → Option Tag → Result Tag TagCause
 stands_first ended character (Some tags.Header) = if nat_le most_modules ended then Err TooMany else Ok tags.Header
 stands_first ended character _ = Err (BadTag character)
@@ -185,10 +188,10 @@ pub record NumberedLine : Type 0 where
   pub text : List ℕ
 
 -- the lines of a text, up to the first that is refused, by its number
-abbrev pub with_lines : Found → List NumberedLine → Result Found (Refusal TagCause)
-with_lines found [] = Ok found
-with_lines found (line ∷ lines) =
-    at_line line.number (with_groups found (groups_of line.text)) >>= λ found. with_lines found lines
+abbrev pub with_lines : TextForm → Found → List NumberedLine → Result Found (Refusal TagCause)
+with_lines form found [] = Ok found
+with_lines form found (line ∷ lines) =
+    at_line line.number (with_groups found (groups_of form line.text)) >>= λ found. with_lines form found lines
 
 -- the number of the last line that is not blank, or one from before
 abbrev pub last_number : ℕ → List NumberedLine → ℕ
@@ -201,7 +204,12 @@ abbrev pub ended : ℕ → List Module → List Group → Result (List Module) (
 ended last modules [] = Ok modules
 ended last modules (group ∷ groups) = Err (record { line = last; cause = NoEnd })
 
--- The lines of a text.
+-- The form of a text, and its lines.
+
+-- Profile: a text is compressed where its first byte is >01. All its modules have one form.
+abbrev pub form_of : List ℕ → TextForm
+form_of [] = Plain
+form_of (byte ∷ text) = if byte == 0x01 then Compressed else Plain
 
 abbrev pub has_line_feed : List ℕ → Bool
 has_line_feed text = list_any is_line_feed text
@@ -210,22 +218,27 @@ has_line_feed text = list_any is_line_feed text
 abbrev pub is_records : List ℕ → Bool
 is_records text = not (has_line_feed text) && (nat_lt 0 (length text) && (length text % 80 == 0))
 
--- records count from 1
+-- records count from 1, and the last one may be shorter
 abbrev pub record_at : List ℕ → ℕ → NumberedLine
 record_at text k = record { number = k + 1; text = slice_range text (80 * k) (80 * k + 80) }
 
 abbrev pub records : List ℕ → List NumberedLine
-records text = map (record_at text) (range_with_len 0 (length text / 80))
+records text = map (record_at text) (range_with_len 0 (div_ceil (length text) 80))
 
 abbrev pub numbered_line : List ℕ → Line → NumberedLine
 numbered_line text line = record { number = line.number; text = part text line.span }
 
--- the lines or the records of a text
+-- the lines or the records of a text of a form
+-- Profile: a compressed text is cut into records of 80 bytes, whatever bytes they hold.
+abbrev pub lines_in : TextForm → List ℕ → List NumberedLine
+lines_in Plain text = if is_records text then records text else map (numbered_line text) (lines text)
+lines_in Compressed text = records text
+
 abbrev pub text_lines : List ℕ → List NumberedLine
-text_lines text = if is_records text then records text else map (numbered_line text) (lines text)
+text_lines text = lines_in (form_of text) text
 
 -- the modules of a text, or its first bad place
 unfoldable pub read : List ℕ → Result (List Module) (Refusal TagCause)
 read text = do
-  found ← with_lines nothing_found (text_lines text)
+  found ← with_lines (form_of text) nothing_found (text_lines text)
   ended (last_number 0 (text_lines text)) found.modules found.current

@@ -2,6 +2,7 @@
 -- that each word moves. No rule stands here; that reading so is reading is proved (`proofs/Running`).
 use Rattle.std.specs.Prelude.{ℕ, ◌++◌, Bool, true, false, if◌then◌else◌, List, [], ◌∷◌, length, Option, Some, None, Result, Ok, Err}
 use Rattle.source_defs.specs.Refusals.{Refusal, ◌>>=◌, at_line}
+use Rattle.object_defs.specs.declared.form.TextForm.{TextForm}
 use Rattle.object_defs.specs.declared.spot.Spot.{Spot}
 use Rattle.object_defs.specs.declared.spot.Spot.TheVariants.{Relocatable}
 use Rattle.object_defs.specs.declared.causes.TagCause.{TagCause}
@@ -91,16 +92,16 @@ unfoldable pub kept_groups : Kept → List FoundGroup → Result Kept TagCause
 kept_groups kept [] = Ok kept
 kept_groups kept (group ∷ groups) = kept_with kept group >>= λ kept. kept_groups kept groups
 
-unfoldable pub kept_line : Kept → NumberedLine → Result Kept (Refusal TagCause)
-kept_line kept line =
+unfoldable pub kept_line : TextForm → Kept → NumberedLine → Result Kept (Refusal TagCause)
+kept_line form kept line =
     if all_blank line.text then Ok kept
-    else at_line line.number (kept_groups (record kept { last = line.number }) (groups_from [] 0 line.text))
+    else at_line line.number (kept_groups (record kept { last = line.number }) (groups_from form [] 0 line.text))
 
 abbrev pub finished : Kept → Option OpenModule → Result (List Module) (Refusal TagCause)
 finished kept None = Ok kept.modules
 finished kept (Some m) = Err (record { line = kept.last; cause = NoEnd })
 
 -- what is found in the end, with the lines that follow
-unfoldable pub kept_lines : Kept → List NumberedLine → Result (List Module) (Refusal TagCause)
-kept_lines kept [] = finished kept kept.current
-kept_lines kept (line ∷ lines) = kept_line kept line >>= λ kept. kept_lines kept lines
+unfoldable pub kept_lines : TextForm → Kept → List NumberedLine → Result (List Module) (Refusal TagCause)
+kept_lines form kept [] = finished kept kept.current
+kept_lines form kept (line ∷ lines) = kept_line form kept line >>= λ kept. kept_lines form kept lines

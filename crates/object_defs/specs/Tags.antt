@@ -1,8 +1,9 @@
 -- The tags of object text.
 --
--- Editor/Assembler manual, "Tagged object code". Profile: the tags D, E, G, H and I of that table are none here, nor
--- is >01, that of compressed text.
+-- Editor/Assembler manual, "Tagged object code". Profile: the tags D, E, G, H and I of that table are none here.
 use Rattle.std.specs.Prelude.{ℕ, ◌==◌, if◌then◌else◌, Option, Some, None}
+use Rattle.object_defs.specs.declared.form.TextForm.{TextForm}
+use Rattle.object_defs.specs.declared.form.TextForm.TheVariants.{Plain, Compressed}
 use Rattle.object_defs.specs.declared.spot.Spot.{Spot}
 use Rattle.object_defs.specs.declared.spot.Spot.TheVariants as spots
 use Rattle.object_defs.specs.declared.tag.Kind.{Kind}
@@ -10,7 +11,7 @@ use Rattle.object_defs.specs.declared.tag.Kind.TheVariants.{Absolute, Relocatabl
 use Rattle.object_defs.specs.declared.tag.Tag.{Tag}
 use Rattle.object_defs.specs.declared.tag.Tag.TheVariants.{Header, Entry, Reference, Definition, Sum, IgnoredSum, Address, Word, EndOfLine, EndOfModule}
 
--- the character of a tag
+-- the character of a tag in plain text
 abbrev pub tag_character : Tag → ℕ
 tag_character Header = 0x30
 tag_character (Entry Absolute) = 0x31
@@ -28,10 +29,15 @@ tag_character (Word Relocatable) = 0x43
 tag_character EndOfLine = 0x46
 tag_character EndOfModule = 0x3A
 
+-- The tag that a module begins with. Profile: it is >01 in compressed text, and each form has its own alone.
+abbrev pub opening_tag : TextForm → ℕ
+opening_tag Plain = tag_character Header
+opening_tag Compressed = 0x01
+
 -- the tag of a character
-unfoldable pub tag_of : ℕ → Option Tag
-tag_of byte =
-    if byte == 0x30 then Some Header
+unfoldable pub tag_of : TextForm → ℕ → Option Tag
+tag_of form byte =
+    if byte == opening_tag form then Some Header
     else if byte == 0x31 then Some (Entry Absolute)
     else if byte == 0x32 then Some (Entry Relocatable)
     else if byte == 0x33 then Some (Reference Relocatable)

@@ -2,9 +2,11 @@
 #![tactic(auto)]
 
 mod causes;
+mod form;
 mod spot;
 mod tag;
 
 pub use causes::TagCause;
+pub use form::TextForm;
 pub use spot::{Piece, Spot};
 pub use tag::{Kind, Tag};

@@ -12,7 +12,7 @@ pub enum Kind {
 /// What a tag says of the group that it begins.
 #[derive(Clone, Copy, Debug, PartialEq, Eq)]
 pub enum Tag {
-    /// `0`: the length of the relocatable code and the module's name.
+    /// `0`, or >01 in a compressed text: the length of the relocatable code and the module's name.
     Header,
     /// `1`, `2`: the entry.
     Entry(Kind),

@@ -2,6 +2,7 @@
 use Rattle.std.proofs.Common.{◌≡◌, ℕ, zero, suc, ◌+◌, ◌-◌, ◌%◌, ◌<◌, ◌≤◌, get_or, cond, List, [], ◌∷◌, ◌++◌, length, take, drop, sum, refl, sym, ap, ◌∙◌, append_assoc, append-nil, length-append, length-drop, take-append-drop, Result, Ok, arith}
 use Rattle.std.proofs.lemmas.List.{take_at, drop_at, length-take-le, take_more, drop_more, nil_from_length}
 use Rattle.std.proofs.lemmas.List.Sums.{sum_by-append}
+use Rattle.object_defs.specs.declared.form.TextForm.{TextForm}
 use Rattle.object_defs.specs.declared.causes.TagCause.{TagCause}
 use Rattle.object_defs.specs.Digits.{complement, checksum}
 use Rattle.object_defs.specs.Groups.{FoundGroup, tag_at, found_with, ends_line, size_found, groups_from}
@@ -14,12 +15,12 @@ sum-append : (a b : List ℕ) → sum (a ++ b) ≡ sum a + sum b
 sum-append a b = sum_by-append (λ (x : ℕ). x) a b
 
 -- the characters that are left of a group are passed over
-passed_over : (before : List ℕ) (left : ℕ) (rest : List ℕ) → groups_from before left rest ≡ groups_from (before ++ take left rest) 0 (drop left rest)
+passed_over : (form : TextForm) (before : List ℕ) (left : ℕ) (rest : List ℕ) → groups_from form before left rest ≡ groups_from form (before ++ take left rest) 0 (drop left rest)
 unfolding groups_from
-passed_over before zero rest = ap (λ (b : List ℕ). groups_from b 0 rest) (sym (append-nil before))
-passed_over before (suc left) [] = refl
-passed_over before (suc left) (byte ∷ rest) =
-    passed_over (before ++ byte ∷ []) left rest ∙ ap (λ (b : List ℕ). groups_from b 0 (drop left rest)) (append_assoc before (byte ∷ []) (take left rest))
+passed_over form before zero rest = ap (λ (b : List ℕ). groups_from form b 0 rest) (sym (append-nil before))
+passed_over form before (suc left) [] = refl
+passed_over form before (suc left) (byte ∷ rest) =
+    passed_over form (before ++ byte ∷ []) left rest ∙ ap (λ (b : List ℕ). groups_from form b 0 (drop left rest)) (append_assoc before (byte ∷ []) (take left rest))
 
 -- a line up to a place, some characters behind it, and the rest
 module _ (line : List ℕ) (at left : ℕ) (inside : at ≤ length line) where
@@ -46,8 +47,8 @@ module _ (line : List ℕ) (at left : ℕ) (inside : at ≤ length line) where
   passed_within = omega (arith, size, ap length parts, length-append (take at line ++ passed) rest)
 
   -- the groups behind the characters
-  pub groups_behind : groups_from (take (at + length passed) line) 0 (drop (at + length passed) line) ≡ groups_from (take at line) left (drop at line)
-  groups_behind = rw (front_is, rest_is) (sym (passed_over (take at line) left (drop at line)))
+  pub groups_behind : (form : TextForm) → groups_from form (take (at + length passed) line) 0 (drop (at + length passed) line) ≡ groups_from form (take at line) left (drop at line)
+  groups_behind form = rw (front_is, rest_is) (sym (passed_over form (take at line) left (drop at line)))
 
   -- the sum of the line through them
   pub sum_behind : (total : ℕ) → total ≡ sum (take at line) % 65536 → (total + sum passed % 65536) % 65536 ≡ sum (take (at + length passed) line) % 65536
@@ -77,21 +78,21 @@ module _ (line : List ℕ) (at : ℕ) (inside : at < length line) where
       ap (λ (n : ℕ). (65536 - n) % 65536) added
 
   -- what stands in the place of a group, and the groups behind it
-  pub first_group : (found : FoundGroup) → found ≡ found_with (checksum (before ++ byte ∷ [])) byte (tag_at at byte) (drop (at + 1) line)
-      → groups_from before 0 (drop at line) ≡ found ∷ cond (ends_line found) [] (groups_from (take (at + 1) line) (size_found found) (drop (at + 1) line))
+  pub first_group : (form : TextForm) (found : FoundGroup) → found ≡ found_with form (checksum (before ++ byte ∷ [])) byte (tag_at form at byte) (drop (at + 1) line)
+      → groups_from form before 0 (drop at line) ≡ found ∷ cond (ends_line found) [] (groups_from form (take (at + 1) line) (size_found form found) (drop (at + 1) line))
   unfolding groups_from
-  first_group found is =
+  first_group form found is =
       let place : length before ≡ at = length-take-le at line (omega (arith, inside)) in
       rw (cut, place, ← is, one) refl
 
 -- no group is left
-pub no_groups : (line : List ℕ) (at : ℕ) → at ≡ length line → groups_from (take at line) 0 (drop at line) ≡ []
+pub no_groups : (form : TextForm) (line : List ℕ) (at : ℕ) → at ≡ length line → groups_from form (take at line) 0 (drop at line) ≡ []
 unfolding groups_from
-no_groups line at e = let none : drop at line ≡ [] = nil_from_length (drop at line) (omega (arith, length-drop at line)) in rw none refl
+no_groups form line at e = let none : drop at line ≡ [] = nil_from_length (drop at line) (omega (arith, length-drop at line)) in rw none refl
 
-pub none_left : groups_from [] 0 [] ≡ []
+pub none_left : (form : TextForm) → groups_from form [] 0 [] ≡ []
 unfolding groups_from
-none_left = refl
+none_left form = refl
 
 -- the groups that are left of a line, and what they lead to
 module _ (total : Result Kept TagCause) (kept : Kept) (group : FoundGroup) (groups : List FoundGroup) (so_far : total ≡ kept_groups kept (group ∷ groups)) where

@@ -1,10 +1,11 @@
 -- What the reader has kept, and what is to come.
-use Rattle.std.specs.Prelude.{◌≡◌, List, [], Result, Ok, Err}
+use Rattle.std.specs.Prelude.{◌≡◌, List, Result, Ok, Err}
 use Rattle.std.specs.Option.{option_map}
 use Rattle.source_defs.specs.Refusals.{Refusal}
+use Rattle.object_defs.specs.declared.form.TextForm.{TextForm}
 use Rattle.object_defs.specs.declared.causes.TagCause.{TagCause}
 use Rattle.object_defs.specs.Reading.{NumberedLine}
-use Rattle.object_defs.specs.Running.{Kept, kept_lines}
+use Rattle.object_defs.specs.Running.{Kept, kept_lines, finished}
 use Rattle.object_tags.specs.declared.error.TagError.{TagError}
 use Rattle.object_tags.specs.declared.reader.Reader.{Reader}
 use Rattle.object_tags.specs.Answers.{defined_modules, defined_open, Refuses}
@@ -23,7 +24,7 @@ abbrev pub TakesLine : {T : Type 0} → Result T TagError → Kept → Result Ke
 TakesLine (Ok _) after defined = defined ≡ Ok after
 TakesLine (Err error) after defined = Refuses error defined
 
--- lines were read, and no lines follow, or they are refused
-abbrev pub Reads : {T : Type 0} → Result T TagError → Reader → Reader → List NumberedLine → Type 0
-Reads (Ok _) before after lines = kept_lines (kept_of before) lines ≡ kept_lines (kept_of after) []
-Reads (Err error) before after lines = Refuses error (kept_lines (kept_of before) lines)
+-- lines of a text of a form were read, and no lines follow, or they are refused
+abbrev pub Reads : {T : Type 0} → TextForm → Result T TagError → Reader → Reader → List NumberedLine → Type 0
+Reads form (Ok _) before after lines = kept_lines form (kept_of before) lines ≡ finished (kept_of after) (kept_of after).current
+Reads form (Err error) before after lines = Refuses error (kept_lines form (kept_of before) lines)

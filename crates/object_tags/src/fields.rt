@@ -8,7 +8,7 @@ ghost use Rattle.object_defs.specs.Fields as spec;
 
 use crate::module_name::{ModuleName, all_name_characters};
 use asm_text::{Name, is_blank, is_printed};
-use object_defs::TagCause;
+use object_defs::{TagCause, TextForm};
 
 /// The first `count` bytes, or all where there are fewer.
 pub(crate) fn front(bytes: &[u8], count: usize) -> &[u8]
@@ -32,12 +32,45 @@ pub(crate) fn behind(bytes: &[u8], count: usize) -> &[u8]
     }
 }
 
+/// How many characters a number takes.
+pub(crate) fn number_size(form: TextForm) -> usize
+    ensures { result ≡ spec.number_size form }
+{
+    match form {
+        TextForm::Plain => 4,
+        TextForm::Compressed => 2,
+    }
+}
+
+/// The number in front.
+///
+/// `BadDigit` comes where one of its characters is no digit, and else `ShortField` where there are too few.
+pub(crate) fn number_at(form: TextForm, fields: &[u8]) -> Result<u16, TagCause>
+    ensures { result ≡ spec.number_at form fields.now }
+{
+    match form {
+        TextForm::Plain => digits_at(fields),
+        TextForm::Compressed => two_bytes_at(fields),
+    }
+}
+
+/// The number of the two bytes in front, or `ShortField` where there are fewer.
+#[tactic(auto, unfolding(object_defs::specs::Fields::two_bytes_at))]
+fn two_bytes_at(fields: &[u8]) -> Result<u16, TagCause>
+    ensures { result ≡ spec.two_bytes_at fields.now }
+{
+    match fields {
+        [high, low, ..] => Ok(u16::from_be_bytes([*high, *low])),
+        _ => Err(TagCause::ShortField),
+    }
+}
+
 /// The number of the four digits in front.
 ///
 /// `BadDigit` comes where one of them is no digit of either case, and else `ShortField` where there are fewer.
-#[tactic(auto, unfolding(object_defs::specs::Fields::number_at))]
-pub(crate) fn number_at(fields: &[u8]) -> Result<u16, TagCause>
-    ensures { result ≡ spec.number_at fields.now }
+#[tactic(auto, unfolding(object_defs::specs::Fields::digits_at))]
+fn digits_at(fields: &[u8]) -> Result<u16, TagCause>
+    ensures { result ≡ spec.digits_at fields.now }
 {
     let digits = front(fields, 4);
     if !all_hexadecimal_digits(digits) {
@@ -71,30 +104,30 @@ fn four_digits(digits: &[u8]) -> u16
     u16::from_be_bytes(bytes)
 }
 
-/// The module's name behind the four digits.
+/// The module's name behind the number.
 ///
 /// `BadTag` comes where one of its characters is none of a name, and else `ShortField` where there are fewer than
 /// eight.
 #[tactic(auto, unfolding(object_defs::specs::Fields::module_name_at))]
-pub(crate) fn module_name_at(tag: u8, fields: &[u8]) -> Result<ModuleName, TagCause>
-    ensures { result ≡ spec.module_name_at tag fields.now }
+pub(crate) fn module_name_at(form: TextForm, tag: u8, fields: &[u8]) -> Result<ModuleName, TagCause>
+    ensures { result ≡ spec.module_name_at form tag fields.now }
 {
-    let name = front(behind(fields, 4), 8);
+    let name = front(behind(fields, number_size(form)), 8);
     if !all_name_characters(name) {
         return Err(TagCause::BadTag(tag));
     }
     ModuleName::read(name).ok_or(TagCause::ShortField)
 }
 
-/// The name of a DEF or a REF behind the four digits.
+/// The name of a DEF or a REF behind the number.
 ///
 /// `BadTag` comes where a character that is not a blank at the end is none of a name, and where there are blanks alone;
 /// else `ShortField` where there are fewer than six.
 #[tactic(auto, unfolding(object_defs::specs::Fields::symbol_at))]
-pub(crate) fn symbol_at(tag: u8, fields: &[u8]) -> Result<Name, TagCause>
-    ensures { result ≡ spec.symbol_at tag fields.now }
+pub(crate) fn symbol_at(form: TextForm, tag: u8, fields: &[u8]) -> Result<Name, TagCause>
+    ensures { result ≡ spec.symbol_at form tag fields.now }
 {
-    let field = front(behind(fields, 4), 6);
+    let field = front(behind(fields, number_size(form)), 6);
     let name = without_blanks(field);
     if field.len() < 6 && all_printed(name) {
         return Err(TagCause::ShortField);

@@ -5,10 +5,11 @@ ghost use Rattle.object_defs.specs.Groups as spec;
 ghost use Rattle.object_defs.specs.Running as running;
 ghost use Rattle.object_tags.specs.SeenGroups.{defined_group, defined_found, defined_whole};
 
+use crate::fields::number_size;
 use crate::module_name::ModuleName;
 use crate::parts::{Def, Ref};
 use crate::spots::kind_of;
-use object_defs::{Spot, Tag, TagCause};
+use object_defs::{Spot, Tag, TagCause, TextForm};
 
 /// A group: what its tag and its fields say.
 #[derive(Clone, Copy, Debug)]
@@ -88,14 +89,14 @@ impl Group {
     }
 
     /// How many characters the group has behind its tag.
-    fn size(&self) -> usize
-        ensures { result ≡ spec.group_size (defined_group self.now) }
+    fn size(&self, form: TextForm) -> usize
+        ensures { result ≡ spec.group_size form (defined_group self.now) }
     {
         match self {
-            Group::Header { .. } => 12,
-            Group::Referred(_) | Group::Defined(_) => 10,
+            Group::Header { .. } => number_size(form) + 8,
+            Group::Referred(_) | Group::Defined(_) => number_size(form) + 6,
             Group::Entry(_) | Group::Sum | Group::IgnoredSum | Group::Address(_) | Group::Word(_) =>
-                4,
+                number_size(form),
             Group::EndOfLine | Group::EndOfModule => 0,
         }
     }
@@ -133,11 +134,11 @@ impl FoundGroup {
     }
 
     /// How many characters stand behind the tag.
-    pub(crate) fn size(&self) -> usize
-        ensures { result ≡ spec.size_found (defined_found self.now) }
+    pub(crate) fn size(&self, form: TextForm) -> usize
+        ensures { result ≡ spec.size_found form (defined_found self.now) }
     {
         match self {
-            FoundGroup::Whole { group, .. } => group.size(),
+            FoundGroup::Whole { group, .. } => group.size(form),
             FoundGroup::Broken { .. } => 0,
         }
     }

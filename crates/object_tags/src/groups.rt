@@ -10,12 +10,13 @@ use crate::group::{FoundGroup, Group};
 use crate::parts::{Def, Ref};
 use crate::spots::spot;
 use crate::tags::tag_of;
-use object_defs::{Tag, TagCause};
+use object_defs::{Tag, TagCause, TextForm};
 use std::marker::Model;
 
 /// The groups of a line that are left. Contracts see it as their list.
 #[derive(Drop)]
 pub(crate) struct Groups<'a> {
+    form: TextForm,
     line: &'a [u8],
     // Where the next group begins.
     at: usize,
@@ -29,7 +30,7 @@ impl<'a> Model for Groups<'a> {
 
     ghost Value = { List FoundGroup };
 
-    ghost view = { λ s. groups_from (take s.at s.line.now) 0 (drop s.at s.line.now) };
+    ghost view = { λ s. groups_from s.form (take s.at s.line.now) 0 (drop s.at s.line.now) };
 
     ghost invariant = { λ s. (s.at ≤ length s.line.now) × (length s.line.now < 2 ^ 32)
         × (s.total ≡ sum (take s.at s.line.now) % 65536) };
@@ -37,11 +38,12 @@ impl<'a> Model for Groups<'a> {
 
 impl<'a> Groups<'a> {
     /// The groups of a line.
-    pub(crate) fn new(line: &'a [u8]) -> Groups<'a>
+    pub(crate) fn new(form: TextForm, line: &'a [u8]) -> Groups<'a>
         requires { length line.now < 2 ^ 32 }
-        ensures { result ≡ spec.groups_from [] 0 line.now }
+        ensures { result ≡ spec.groups_from form [] 0 line.now }
     {
         Groups {
+            form,
             line,
             at: 0,
             total: 0,
@@ -49,14 +51,15 @@ impl<'a> Groups<'a> {
     }
 
     /// The groups of a line from a place on, behind the characters that are left there of the group before them.
-    fn behind(line: &'a [u8], at: usize, total: u16, left: usize) -> Groups<'a>
+    fn behind(form: TextForm, line: &'a [u8], at: usize, total: u16, left: usize) -> Groups<'a>
         requires line { length line.now < 2 ^ 32 }
         requires at { at ≤ length line.now }
         requires total { total ≡ sum (take at line.now) % 65536 }
-        ensures { result ≡ spec.groups_from (take at line.now) left (drop at line.now) }
+        ensures { result ≡ spec.groups_from form (take at line.now) left (drop at line.now) }
     {
         let passed = front(behind(line, at), left);
         Groups {
+            form,
             line,
             at: at + passed.len(),
             total: total.wrapping_add(sum_of(passed)),
@@ -81,31 +84,39 @@ impl<'a> Iterator for Groups<'a> {
         let character = self.line[self.at];
         let next = self.at + 1;
         let total = self.total.wrapping_add(u16::from(character));
-        let tag = tag_at(self.at, character);
-        let found = found_with(complement(total), character, tag, behind(self.line, next));
+        let form = self.form;
+        let tag = tag_at(form, self.at, character);
+        let fields = behind(self.line, next);
+        let found = found_with(form, complement(total), character, tag, fields);
         *self = if found.ends_line() {
-            Groups::new(&[])
+            Groups::new(form, &[])
         } else {
-            Groups::behind(self.line, next, total, found.size())
+            Groups::behind(form, self.line, next, total, found.size(form))
         };
         Some(found)
     }
 }
 
 /// The tag that a character is at a place of its line. What ends a module stands first in its line.
-fn tag_at(at: usize, character: u8) -> Option<Tag>
-    ensures { result ≡ spec.tag_at at character }
+fn tag_at(form: TextForm, at: usize, character: u8) -> Option<Tag>
+    ensures { result ≡ spec.tag_at form at character }
 {
     if character == b':' && at != 0 {
         return None;
     }
-    tag_of(character)
+    tag_of(form, character)
 }
 
 /// What stands in the place of a group, in a line that has a checksum through the character there.
 #[tactic(auto, unfolding(object_defs::specs::Groups::found_with))]
-fn found_with(computed: u16, character: u8, tag: Option<Tag>, fields: &[u8]) -> FoundGroup
-    ensures { defined_found result ≡ spec.found_with computed character tag fields.now }
+fn found_with(
+    form: TextForm,
+    computed: u16,
+    character: u8,
+    tag: Option<Tag>,
+    fields: &[u8],
+) -> FoundGroup
+    ensures { defined_found result ≡ spec.found_with form computed character tag fields.now }
 {
     let Some(tag) = tag else {
         return FoundGroup::Broken {
@@ -114,7 +125,7 @@ fn found_with(computed: u16, character: u8, tag: Option<Tag>, fields: &[u8]) -> 
             cause: TagCause::BadTag(character),
         };
     };
-    match group_of(computed, character, tag, fields) {
+    match group_of(form, computed, character, tag, fields) {
         Ok(group) => FoundGroup::Whole { character, group },
         Err(cause) => FoundGroup::Broken {
             character,
@@ -125,32 +136,38 @@ fn found_with(computed: u16, character: u8, tag: Option<Tag>, fields: &[u8]) -> 
 }
 
 /// The group that a tag begins, by the fields behind it.
-fn group_of(computed: u16, character: u8, tag: Tag, fields: &[u8]) -> Result<Group, TagCause>
-    ensures { defined_whole result ≡ spec.group_of computed character tag fields.now }
+fn group_of(
+    form: TextForm,
+    computed: u16,
+    character: u8,
+    tag: Tag,
+    fields: &[u8],
+) -> Result<Group, TagCause>
+    ensures { defined_whole result ≡ spec.group_of form computed character tag fields.now }
 {
     Ok(match tag {
         Tag::Header => Group::Header {
-            size: number_at(fields)?,
-            name: module_name_at(character, fields)?,
+            size: number_at(form, fields)?,
+            name: module_name_at(form, character, fields)?,
         },
-        Tag::Entry(kind) => Group::Entry(spot(kind, number_at(fields)?)),
+        Tag::Entry(kind) => Group::Entry(spot(kind, number_at(form, fields)?)),
         Tag::Reference(kind) => {
-            let last = spot(kind, number_at(fields)?);
-            let name = symbol_at(character, fields)?;
+            let last = spot(kind, number_at(form, fields)?);
+            let name = symbol_at(form, character, fields)?;
             Group::Referred(Ref { name, last })
         }
         Tag::Definition(kind) => {
-            let value = spot(kind, number_at(fields)?);
-            let name = symbol_at(character, fields)?;
+            let value = spot(kind, number_at(form, fields)?);
+            let name = symbol_at(form, character, fields)?;
             Group::Defined(Def { name, value })
         }
-        Tag::Sum => compared(computed, number_at(fields)?)?,
+        Tag::Sum => compared(computed, number_at(form, fields)?)?,
         Tag::IgnoredSum => {
-            number_at(fields)?;
+            number_at(form, fields)?;
             Group::IgnoredSum
         }
-        Tag::Address(kind) => Group::Address(spot(kind, number_at(fields)?)),
-        Tag::Word(kind) => Group::Word(spot(kind, number_at(fields)?)),
+        Tag::Address(kind) => Group::Address(spot(kind, number_at(form, fields)?)),
+        Tag::Word(kind) => Group::Word(spot(kind, number_at(form, fields)?)),
         Tag::EndOfLine => Group::EndOfLine,
         Tag::EndOfModule => Group::EndOfModule,
     })

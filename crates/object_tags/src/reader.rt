@@ -13,7 +13,7 @@ use crate::group::FoundGroup;
 use crate::groups::Groups;
 use crate::open_module::OpenModule;
 use crate::parts::Module;
-use object_defs::TagCause;
+use object_defs::{TagCause, TextForm};
 use std::alloc::Global;
 
 /// The modules that lines give so far.
@@ -44,18 +44,19 @@ impl Reader {
     pub(crate) fn take_line(
         &mut self,
         alloc: Global,
+        form: TextForm,
         number: u32,
         line: &[u8],
     ) -> Result<(), TagError>
         requires { length line.now < 2 ^ 32 }
         ensures { TakesLine result (kept_of self.new)
-            (running.kept_line (kept_of self.old) (record { number = number; text = line.now })) }
+            (running.kept_line form (kept_of self.old) (record { number = number; text = line.now })) }
     {
         if all_blank(line) {
             return Ok(());
         }
         self.last = number;
-        match self.take_groups(alloc, line) {
+        match self.take_groups(alloc, form, line) {
             Ok(()) => Ok(()),
             Err(Failure::Cause(cause)) => Err(TagError::At {
                 line: number,
@@ -66,12 +67,12 @@ impl Reader {
     }
 
     /// Takes the groups of a line.
-    fn take_groups(&mut self, alloc: Global, line: &[u8]) -> Result<(), Failure>
+    fn take_groups(&mut self, alloc: Global, form: TextForm, line: &[u8]) -> Result<(), Failure>
         requires { length line.now < 2 ^ 32 }
         ensures { Leaves result (kept_of self.new)
-            (running.kept_groups (kept_of self.old) (groups_from [] 0 line.now)) }
+            (running.kept_groups (kept_of self.old) (groups_from form [] 0 line.now)) }
     {
-        for found in Groups::new(line) {
+        for found in Groups::new(form, line) {
             self.take_group(alloc, found)?;
         }
         Ok(())
@@ -108,9 +109,8 @@ impl Reader {
     }
 
     /// The modules, or `NoEnd` where the last one has not ended.
-    #[tactic(auto, unfolding(object_defs::specs::Running::kept_lines))]
     pub(crate) fn finish(self) -> Result<Vec<Module>, TagError>
-        ensures { Gives (λ modules. defined_modules modules.items) result (running.kept_lines (kept_of self) []) }
+        ensures { Gives (λ modules. defined_modules modules.items) result (running.finished (kept_of self) (kept_of self).current) }
     {
         match self.current {
             None => Ok(self.modules),

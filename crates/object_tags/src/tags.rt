@@ -3,9 +3,9 @@
 ghost use Rattle.std.specs.Prelude.{◌≡◌};
 ghost use Rattle.object_defs.specs.Tags as tags;
 
-use object_defs::{Kind, Tag};
+use object_defs::{Kind, Tag, TextForm};
 
-/// The character of a tag.
+/// The character of a tag in plain text.
 pub(crate) fn tag_character(tag: Tag) -> u8
     ensures { result ≡ tags.tag_character tag }
 {
@@ -28,13 +28,25 @@ pub(crate) fn tag_character(tag: Tag) -> u8
     }
 }
 
+/// The tag that a module begins with.
+fn opening_tag(form: TextForm) -> u8
+    ensures { result ≡ tags.opening_tag form }
+{
+    match form {
+        TextForm::Plain => tag_character(Tag::Header),
+        TextForm::Compressed => 0x01,
+    }
+}
+
 /// The tag of a character, or `None` where it is none.
 #[tactic(auto, unfolding(object_defs::specs::Tags::tag_of))]
-pub(crate) fn tag_of(byte: u8) -> Option<Tag>
-    ensures { result ≡ tags.tag_of byte }
+pub(crate) fn tag_of(form: TextForm, byte: u8) -> Option<Tag>
+    ensures { result ≡ tags.tag_of form byte }
 {
+    if byte == opening_tag(form) {
+        return Some(Tag::Header);
+    }
     match byte {
-        b'0' => Some(Tag::Header),
         b'1' => Some(Tag::Entry(Kind::Absolute)),
         b'2' => Some(Tag::Entry(Kind::Relocatable)),
         b'3' => Some(Tag::Reference(Kind::Relocatable)),

@@ -8,3 +8,4 @@ pub mod Locations
 pub mod FirstChecks
 pub mod SecondChecks
 pub mod Programs
+pub mod Growing

@@ -1,5 +1,5 @@
 -- The locations of a GPL source.
-use Rattle.std.specs.Prelude.{ℕ, ◌+◌, ◌/◌, ◌%◌, ◌==◌, Bool, nat_lt, if◌then◌else◌, List, Option, Some, None, Result, Ok, Err}
+use Rattle.std.specs.Prelude.{◌≡◌, ◌≤◌, ℕ, ◌+◌, ◌/◌, ◌%◌, ◌==◌, Bool, nat_lt, if◌then◌else◌, List, Option, Some, None, Result, Ok, Err}
 use Rattle.source_defs.specs.Expression.{to_word}
 use Rattle.source_defs.specs.Layout as layout
 use Rattle.source_defs.specs.Layout.{Laid}
@@ -49,3 +49,10 @@ origin_of here _ = None
 abbrev pub branch_offset : Location → ℕ → Result ℕ GplCause
 branch_offset at target =
     if target / grom_size == at.grom / grom_size then Ok (target % grom_size) else Err OtherGrom
+
+-- a location of a GROM, or the one behind its last
+pub record IsInGrom (here : Location) : Type 0 where
+  pub aligned : here.grom % grom_size ≡ 0
+  pub address : here.grom ≤ 65535
+  pub from : here.grom ≤ here.number
+  pub within : here.number ≤ here.grom + grom_size

@@ -14,7 +14,7 @@ use Rattle.console_defs.specs.Machine.{MachineState, new_machine}
 use Rattle.console_defs.specs.Runs.{IsRun, end_at, after}
 use Rattle.console_defs.specs.declared.ends.RunEnd.{RunEnd}
 use Rattle.report_defs.specs.declared.command.Command.{Command}
-use Rattle.report_defs.specs.declared.command.Command.TheVariants.{Gasm, Dis, Link, Exec}
+use Rattle.report_defs.specs.declared.command.Command.TheVariants.{Asm, Gasm, Dis, Gdis, Link, Exec}
 use Rattle.report_defs.specs.Exec.{IsStart, Executes, exec_lines, end_status}
 use Rattle.report_defs.specs.declared.fault.Fault.TheVariants.{TooLarge}
 use Rattle.report_defs.specs.Report.{Report, Whole, Faulty, ReportsRun, ExecReport, AcceptedReport, largest_input}
@@ -105,8 +105,10 @@ one_exec limit (Ok linked) first second p q = one_run_report limit linked first 
 one_exec limit (Err line) first second p q = p ∙ sym q
 
 one_accepted : (command : Command) (input : List ℕ) (first second : Report) → AcceptedReport command input first → AcceptedReport command input second → first ≡ second
+one_accepted Asm input first second p q = p ∙ sym q
 one_accepted Gasm input first second p q = p ∙ sym q
 one_accepted (Dis at) input first second p q = p ∙ sym q
+one_accepted (Gdis at) input first second p q = p ∙ sym q
 one_accepted Link input first second p q = p ∙ sym q
 one_accepted (Exec limit) input first second p q = one_exec limit (linked_input input) first second p q
 

@@ -4,7 +4,7 @@ use Rattle.std.specs.Option.{option_map, option_and_then}
 use Rattle.std.specs.Cmp.Lexicographic.{pointwise}
 use Rattle.source_defs.specs.Numbers.{all_digits, value_after, hexadecimal_number}
 use Rattle.report_defs.specs.declared.command.Command.{Command}
-use Rattle.report_defs.specs.declared.command.Command.TheVariants.{Gasm, Dis, Link, Exec}
+use Rattle.report_defs.specs.declared.command.Command.TheVariants.{Asm, Gasm, Dis, Gdis, Link, Exec}
 
 abbrev pub same_word : List ℕ → List ℕ → Bool
 same_word word name = pointwise nat_eq word name
@@ -39,22 +39,30 @@ dis_at address = if address % 2 == 0 then Some (Dis address) else None
 abbrev pub dis_command : List ℕ → Option Command
 dis_command word = option_and_then dis_at (address_word word)
 
+-- Profile: a listing of GROM begins at any address.
+abbrev pub gdis_command : List ℕ → Option Command
+gdis_command word = option_map Gdis (address_word word)
+
 -- Profile: words in any other shape are no command.
 abbrev pub command_of : List (List ℕ) → Option Command
 command_of [] = None
 command_of (name ∷ []) =
-    if same_word name (codes "gasm") then Some Gasm
+    if same_word name (codes "asm") then Some Asm
+    else if same_word name (codes "gasm") then Some Gasm
     else if same_word name (codes "link") then Some Link
     else None
 command_of (name ∷ word ∷ []) =
     if same_word name (codes "exec") then exec_command word
     else if same_word name (codes "dis") then dis_command word
+    else if same_word name (codes "gdis") then gdis_command word
     else None
 command_of (name ∷ word ∷ next ∷ others) = None
 
 -- Profile: each command reads its input.
 abbrev pub reads : Command → Bool
+reads Asm = true
 reads Gasm = true
 reads (Dis at) = true
+reads (Gdis at) = true
 reads Link = true
 reads (Exec limit) = true

@@ -3,27 +3,14 @@
 -- Profile: a fault line is a text and a line feed.
 use Rattle.std.specs.Prelude.{ℕ, List, ◌++◌, codes}
 use Rattle.std.specs.Fmt.{decimal}
-use Rattle.source_defs.specs.declared.causes.TextError.{TextError}
-use Rattle.source_defs.specs.declared.causes.TextError.TheVariants.{LineTooLong, BadLabel}
-use Rattle.gpl_defs.specs.declared.causes.GplCause.{GplCause}
-use Rattle.gpl_defs.specs.declared.causes.GplCause.TheVariants.{Text, NotBuilt, GromFull}
 use Rattle.report_defs.specs.declared.status.Status.{Status}
 use Rattle.report_defs.specs.declared.status.Status.TheVariants as status
 use Rattle.report_defs.specs.declared.fault.Fault.{Fault}
-use Rattle.report_defs.specs.declared.fault.Fault.TheVariants.{Usage, TooLarge, PastEnd, Gpl}
+use Rattle.report_defs.specs.declared.fault.Fault.TheVariants.{Usage, TooLarge, PastEnd}
 
 -- Profile: the commands that are not built yet stand in it too.
 unfoldable pub usage_line : List ℕ
 usage_line = codes "usage: ti_bench asm|link|dis ADDR|exec N|gasm|gdis ADDR|interp|run N|trace N|demo K\n"
-
-abbrev pub text_error_text : TextError → List ℕ
-text_error_text LineTooLong = codes "line too long"
-text_error_text BadLabel = codes "bad label"
-
-abbrev pub gpl_cause_text : GplCause → List ℕ
-gpl_cause_text (Text error) = text_error_text error
-gpl_cause_text NotBuilt = codes "not built"
-gpl_cause_text GromFull = codes "out of room"
 
 -- a refused line, by its number from 1 and what is said of it
 unfoldable pub refusal_line : ℕ → List ℕ → List ℕ
@@ -33,11 +20,9 @@ abbrev pub fault_line : Fault → List ℕ
 fault_line Usage = usage_line
 fault_line TooLarge = codes "too large\n"
 fault_line PastEnd = codes "past the end of memory\n"
-fault_line (Gpl line cause) = refusal_line line (gpl_cause_text cause)
 
 -- Profile: words that are no command have a status of their own; else the input is refused.
 abbrev pub fault_status : Fault → Status
 fault_status Usage = status.Usage
 fault_status TooLarge = status.Refused
 fault_status PastEnd = status.Refused
-fault_status (Gpl line cause) = status.Refused

@@ -1,5 +1,8 @@
 pub mod Rows
 pub mod FaultLine
+pub mod SourceFaults
+pub mod TextLines
+pub mod GromListing
 pub mod Commands
 pub mod Dump
 pub mod Exec

@@ -3,17 +3,25 @@ use Rattle.std.specs.Prelude.{◌≡◌, ℕ, ◌+◌, nat_lt, if◌then◌else�
 use Rattle.console_defs.specs.Machine.{MachineState}
 use Rattle.console_defs.specs.declared.ends.RunEnd.{RunEnd}
 use Rattle.source_defs.specs.Refusals.{Refusal}
-use Rattle.gpl_defs.specs.declared.causes.GplCause.{GplCause}
-use Rattle.gpl_defs.specs.Image.{Image, written_bytes}
-use Rattle.gpl_defs.specs.Layout.{image_of_source}
+use Rattle.std.specs.FinMap.{empty}
+use Rattle.gpl_defs.specs.Image.{written_bytes, placed}
+use Rattle.program_defs.specs.declared.causes.GplCause.{GplCause}
+use Rattle.program_defs.specs.Programs.{Program, program_of_source}
+use Rattle.object_defs.specs.Modules.{Module}
+use Rattle.object_defs.specs.Writing.{written}
+use Rattle.module_defs.specs.declared.causes.AsmCause.{AsmCause}
+use Rattle.module_defs.specs.Modules.{module_of_source}
 use Rattle.report_defs.specs.declared.command.Command.{Command}
-use Rattle.report_defs.specs.declared.command.Command.TheVariants.{Gasm, Dis, Link, Exec}
+use Rattle.report_defs.specs.declared.command.Command.TheVariants.{Asm, Gasm, Dis, Gdis, Link, Exec}
 use Rattle.report_defs.specs.declared.status.Status.{Status}
 use Rattle.report_defs.specs.declared.status.Status.TheVariants.{Done, Refused}
 use Rattle.report_defs.specs.declared.fault.Fault.{Fault}
-use Rattle.report_defs.specs.declared.fault.Fault.TheVariants.{TooLarge, PastEnd, Gpl}
+use Rattle.report_defs.specs.declared.fault.Fault.TheVariants.{TooLarge, PastEnd}
 use Rattle.report_defs.specs.FaultLine.{fault_status}
+use Rattle.report_defs.specs.SourceFaults.{asm_line, gpl_line}
+use Rattle.report_defs.specs.TextLines.{text_lines}
 use Rattle.report_defs.specs.Listing.{memory_listing}
+use Rattle.report_defs.specs.GromListing.{image_listing}
 use Rattle.link_defs.specs.LinkedMemory.{LinkedMemory}
 use Rattle.report_defs.specs.MemoryListing.{linked_lines}
 use Rattle.report_defs.specs.ObjectInput.{linked_input}
@@ -40,16 +48,27 @@ abbrev pub one_piece : List ℕ → List (List ℕ)
 one_piece [] = []
 one_piece (byte ∷ bytes) = (byte ∷ bytes) ∷ []
 
+-- Profile: the report of asm is the object text of the source's module, line by line.
+abbrev pub asm_report : Result Module (Refusal AsmCause) → Report
+asm_report (Ok found) = Whole Done (text_lines (written found))
+asm_report (Err refused) = Rejected (asm_line refused)
+
 -- Profile: the report of gasm is the bytes of the image from its lowest to its highest written address, in one piece.
-abbrev pub gasm_report : Result Image (Refusal GplCause) → Report
-gasm_report (Ok image) = Whole Done (one_piece (written_bytes image))
-gasm_report (Err refused) = Faulty (Gpl refused.line refused.cause)
+abbrev pub gasm_report : Result Program (Refusal GplCause) → Report
+gasm_report (Ok program) = Whole Done (one_piece (written_bytes program.image))
+gasm_report (Err refused) = Rejected (gpl_line refused)
 
 -- The report of dis is the listing of its input from an address on.
 -- Profile: an input that runs past >FFFF is refused.
 abbrev pub dis_report : ℕ → List ℕ → Report
 dis_report at input =
     if nat_lt 65536 (at + length input) then Faulty PastEnd else Whole Done (memory_listing at input)
+
+-- The report of gdis is the listing of the image that holds its input from an address on.
+-- Profile: an input that runs past >FFFF is refused.
+abbrev pub gdis_report : ℕ → List ℕ → Report
+gdis_report at input =
+    if nat_lt 65536 (at + length input) then Faulty PastEnd else Whole Done (image_listing (placed empty at input))
 
 -- Profile: the report of link is the listing of the linked memory.
 abbrev pub link_report : Result LinkedMemory (List ℕ) → Report
@@ -69,8 +88,10 @@ ExecReport limit (Ok linked) report = ReportsRun limit linked report
 ExecReport limit (Err line) report = report ≡ Rejected line
 
 abbrev pub AcceptedReport : Command → List ℕ → Report → Type 0
-AcceptedReport Gasm input report = report ≡ gasm_report (image_of_source input)
+AcceptedReport Asm input report = report ≡ asm_report (module_of_source input)
+AcceptedReport Gasm input report = report ≡ gasm_report (program_of_source input)
 AcceptedReport (Dis at) input report = report ≡ dis_report at input
+AcceptedReport (Gdis at) input report = report ≡ gdis_report at input
 AcceptedReport Link input report = report ≡ link_report (linked_input input)
 AcceptedReport (Exec limit) input report = ExecReport limit (linked_input input) report
 

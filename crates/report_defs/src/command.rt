@@ -3,11 +3,18 @@
 /// A command, as the words of the command line say it.
 #[derive(Clone, Copy, Debug, PartialEq, Eq)]
 pub enum Command {
+    /// `asm`: assembles an assembler source to the object text of its module.
+    Asm,
     /// `gasm`: assembles a GPL source to the bytes of its image.
     Gasm,
     /// `dis ADDR`: lists raw bytes, which stand from an address on, as assembler source.
     Dis {
         /// The address of the first byte, which is even.
+        at: u16,
+    },
+    /// `gdis ADDR`: lists bytes of GROM, which stand from an address on, as a GPL source.
+    Gdis {
+        /// The address of the first byte.
         at: u16,
     },
     /// `link`: places and links the modules of an object text, and lists the memory.

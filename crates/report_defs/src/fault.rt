@@ -1,7 +1,5 @@
 //! Why a fault line stands in the place of a report.
 
-use gpl_defs::GplCause;
-
 /// What a fault line says.
 #[derive(Clone, Copy, Debug, PartialEq, Eq)]
 pub enum Fault {
@@ -11,11 +9,4 @@ pub enum Fault {
     TooLarge,
     /// The raw bytes of `dis` run past >FFFF from its address on.
     PastEnd,
-    /// A line of a GPL source is refused.
-    Gpl {
-        /// The line's number, from 1.
-        line: u32,
-        /// Why it is refused.
-        cause: GplCause,
-    },
 }

@@ -12,3 +12,6 @@ pub mod TokenLaws
 pub mod CharacterLaws
 pub mod SymbolLaws
 pub mod GrowingLaws
+pub mod RefusalLaws
+pub mod LaidLaws
+pub mod DefinedNames

@@ -2,7 +2,7 @@
 --
 -- The first checks judge a line by the lines before it, of which the nearest stands first. The second checks are made
 -- only where the first refuse no line, and see the names of all lines.
-use Rattle.std.specs.Prelude.{ℕ, ◌+◌, if◌then◌else◌, Bool, List, [], ◌∷◌, map, Option, Some, None, Result, Ok}
+use Rattle.std.specs.Prelude.{ℕ, ◌+◌, if◌then◌else◌, Bool, false, ◌||◌, List, [], ◌∷◌, map, Option, Some, None, Result, Ok}
 use Rattle.std.specs.FinMap.{insert}
 use Rattle.source_defs.specs.Refusals.{Refusal, ◌>>=◌, at_line}
 use Rattle.source_defs.specs.Expression.{Value}
@@ -93,3 +93,8 @@ module _ {P S A C : Type 0} (settle : List (Laid P S) → List A → Laid P S �
     earlier ← settled before
     found ← at_line line.number (settle before earlier line)
     Ok (found ∷ earlier)
+
+-- one of the lines ends the source
+abbrev pub has_ended : {P S : Type 0} → List (Laid P S) → Bool
+has_ended [] = false
+has_ended (line ∷ before) = line.last || has_ended before

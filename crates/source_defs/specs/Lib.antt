@@ -6,8 +6,8 @@ pub mod Fields
 pub mod Numbers
 pub mod Digits
 pub mod Refusals
+pub mod Orders
 pub mod Tokens
-pub mod SoleNumbers
 pub mod TokenLaw
 pub mod Expression
 pub mod Operands

@@ -1,6 +1,6 @@
 -- Refusals of lines: which line is refused, and why. A definition that may refuse is read from the top, and the first
 -- cause that comes is its answer.
-use Rattle.std.specs.Prelude.{ℕ, Result, Ok, Err}
+use Rattle.std.specs.Prelude.{ℕ, List, ◌++◌, Result, Ok, Err}
 
 -- a refused line, by its number
 pub record Refusal (C : Type 0) : Type 0 where
@@ -22,3 +22,8 @@ seen see (Err cause) = Err cause
 abbrev pub at_line : {A C : Type 0} → ℕ → Result A C → Result A (Refusal C)
 at_line number (Ok value) = Ok value
 at_line number (Err cause) = Err (record { line = number; cause = cause })
+
+-- some items before others
+abbrev pub after : {A C : Type 0} → List A → Result (List A) C → Result (List A) C
+after front (Ok items) = Ok (front ++ items)
+after front (Err cause) = Err cause

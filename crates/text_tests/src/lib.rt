@@ -1,13 +1,17 @@
-//! Cases of lines, expressions, instruction lines, modules, object text, bytes of GPL and their listings, images and streams, worked out by hand. The crate
+//! Cases of lines, expressions, instruction lines, modules, object text, bytes of GPL, their listings, GPL sources, images and streams, worked out by hand. The crate
 //! holds tests alone, so that the crates below it are proved once.
 #![tactic(auto)]
 
+#[cfg(test)]
+mod compressed_text;
 #[cfg(test)]
 mod expressions;
 #[cfg(test)]
 mod gpl_bytes;
 #[cfg(test)]
 mod gpl_listing;
+#[cfg(test)]
+mod gpl_programs;
 #[cfg(test)]
 mod images;
 #[cfg(test)]

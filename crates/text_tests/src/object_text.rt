@@ -134,7 +134,12 @@ const REFUSED: &[(&[u8], u32, TagCause)] = &[
     (b"00000        G0000F\n:", 1, TagCause::BadTag(b'G')),
     (b"00000        B0000 F\n:", 1, TagCause::BadTag(b' ')),
     (b"00000        B0000\r", 1, TagCause::BadTag(b'\r')),
-    (b"\x0100000        F\n:", 1, TagCause::BadTag(1)),
+    (b"00000        \x010000F\n:", 1, TagCause::BadTag(1)),
+    (
+        b"00000        F\n:\n\x01\0\0        F\n:",
+        3,
+        TagCause::BadTag(1),
+    ),
     (b"00000       \tF\n:", 1, TagCause::BadTag(b'0')),
     (b"00000\x7F", 1, TagCause::BadTag(b'0')),
     (b"00000       ", 1, TagCause::ShortField),
@@ -157,7 +162,7 @@ const REFUSED: &[(&[u8], u32, TagCause)] = &[
 ];
 
 /// Whether a text has so many modules, of which the last has these words.
-fn gives(alloc: Global, text: &[u8], count: usize, words: &[Piece]) -> bool {
+pub(crate) fn gives(alloc: Global, text: &[u8], count: usize, words: &[Piece]) -> bool {
     if text.len() > 1000 {
         return false;
     }
@@ -183,7 +188,7 @@ fn reads_modules(rt: HostRuntime) -> Result<(), Fail> {
 }
 
 /// Whether a text is refused at a line for a cause.
-fn refuses(alloc: Global, text: &[u8], line: u32, cause: TagCause) -> bool {
+pub(crate) fn refuses(alloc: Global, text: &[u8], line: u32, cause: TagCause) -> bool {
     if text.len() > 2000 {
         return false;
     }

@@ -21,8 +21,10 @@ use Rattle.ti_bench.specs.Run.{Outputs, Run, ReadsInput, Reads, TakesWhole, Repo
 
 -- a report that was written ends by its status
 written_ends : (o : Outputs) (report : Report) → WroteReport o (defined_report report) → EndsWith o (defined_report report) (spec.status_of (defined_report report))
+written_ends o (made.Text text) wrote = (refl, wrote)
 written_ends o (made.Image image) wrote = (refl, wrote)
 written_ends o (made.Listing listing) wrote = (refl, wrote)
+written_ends o (made.Grom image) wrote = (refl, wrote)
 written_ends o (made.Run Reached machine) wrote = (refl, wrote)
 written_ends o (made.Run Limit machine) wrote = (refl, wrote)
 written_ends o (made.Run (Refused address) machine) wrote = (refl, wrote)
@@ -33,7 +35,6 @@ written_ends o (made.Refused line) wrote = (refl, wrote)
 written_ends o (made.Fault fault.Usage) wrote = (refl, wrote)
 written_ends o (made.Fault fault.TooLarge) wrote = (refl, wrote)
 written_ends o (made.Fault fault.PastEnd) wrote = (refl, wrote)
-written_ends o (made.Fault (fault.Gpl line cause)) wrote = (refl, wrote)
 
 wrote_report : (o : Outputs) (report : spec.Report) (done : Unit {0}) → WrittenReport {E = Failed} (Ok done) o report → WroteReport o report
 wrote_report o (spec.Whole status pieces) done written = written

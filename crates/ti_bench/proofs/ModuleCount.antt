@@ -3,13 +3,14 @@ use Rattle.std.proofs.Common.{◌≡◌, ℕ, ◌+◌, ◌≤◌, Bool, true, fa
 use Rattle.std.specs.Prelude.{nat_le, if◌then◌else◌}
 use Rattle.std.proofs.lemmas.Bool.Decides.{nat_tests}
 use Rattle.source_defs.specs.Refusals.{◌>>=◌, at_line}
+use Rattle.object_defs.specs.declared.form.TextForm.{TextForm}
 use Rattle.object_defs.specs.declared.causes.TagCause.{TagCause}
 use Rattle.object_defs.specs.declared.causes.TagCause.TheVariants.{TooMany}
 use Rattle.object_defs.specs.declared.tag.Tag.{Tag}
 use Rattle.object_defs.specs.declared.tag.Tag.TheVariants as tags
 use Rattle.object_defs.specs.Modules.{Module, most_modules}
 use Rattle.object_defs.specs.Groups.{Group, Header, Entry, Referred, Defined, Sum, IgnoredSum, Address, Word, EndOfLine, EndOfModule, FoundGroup, Whole, Broken, tag_found, groups_of}
-use Rattle.object_defs.specs.Reading.{Found, NumberedLine, stands, stands_first, module_of, added, with_group, with_groups, with_lines, ended, nothing_found, last_number, text_lines, read}
+use Rattle.object_defs.specs.Reading.{Found, NumberedLine, stands, stands_first, module_of, added, with_group, with_groups, with_lines, ended, nothing_found, last_number, form_of, text_lines, read}
 
 -- the module that is open counts too
 open_count : List Group → ℕ
@@ -97,11 +98,11 @@ keeps_groups (group ∷ groups) found next le e =
     let one = bound (with_group found group) (λ found. with_groups found groups) next e in
     keeps_groups groups one.value next (keeps found.modules found.current group one.value le one.is) one.leads
 
-keeps_lines : (lines : List NumberedLine) (found next : Found) → count_of found ≤ 64 → with_lines found lines ≡ Ok next → count_of next ≤ 64
-keeps_lines [] found next le e = let is : found ≡ next = cc in subst (λ (x : Found). count_of x ≤ 64) is le
-keeps_lines (line ∷ lines) found next le e =
-    let one = bound (at_line line.number (with_groups found (groups_of line.text))) (λ found. with_lines found lines) next e in
-    keeps_lines lines one.value next (keeps_groups (groups_of line.text) found one.value le (line_ok line.number _ one.value one.is)) one.leads
+keeps_lines : (form : TextForm) (lines : List NumberedLine) (found next : Found) → count_of found ≤ 64 → with_lines form found lines ≡ Ok next → count_of next ≤ 64
+keeps_lines form [] found next le e = let is : found ≡ next = cc in subst (λ (x : Found). count_of x ≤ 64) is le
+keeps_lines form (line ∷ lines) found next le e =
+    let one = bound (at_line line.number (with_groups found (groups_of form line.text))) (λ found. with_lines form found lines) next e in
+    keeps_lines form lines one.value next (keeps_groups (groups_of form line.text) found one.value le (line_ok line.number _ one.value one.is)) one.leads
 
 all_ended : (last : ℕ) (modules found : List Module) (current : List Group) → ended last found current ≡ Ok modules → found ≡ modules
 all_ended last modules found [] e = cc
@@ -112,8 +113,8 @@ pub few_modules : (text : List ℕ) (modules : List Module) → read text ≡ Ok
 unfolding read open_count
 few_modules text modules e =
     let lines = text_lines text in
-    let whole = bound (with_lines nothing_found lines) (λ found. ended (last_number 0 lines) found.modules found.current) modules e in
-    let within : count_of whole.value ≤ 64 = keeps_lines lines nothing_found whole.value (omega arith) whole.is in
+    let whole = bound (with_lines (form_of text) nothing_found lines) (λ found. ended (last_number 0 lines) found.modules found.current) modules e in
+    let within : count_of whole.value ≤ 64 = keeps_lines (form_of text) lines nothing_found whole.value (omega arith) whole.is in
     let is : whole.value.modules ≡ modules = all_ended (last_number 0 lines) modules whole.value.modules whole.value.current whole.leads in
     let same = ap (λ (ms : List Module). length ms) is in
     omega (arith, within, same)

@@ -1,6 +1,8 @@
 -- A report as the program makes it.
 use Rattle.gpl_defs.specs.Image.{written_bytes}
 use Rattle.report_defs.specs.declared.status.Status.TheVariants.{Done}
+use Rattle.report_defs.specs.TextLines.{text_lines}
+use Rattle.report_defs.specs.GromListing.{image_listing}
 use Rattle.report_defs.specs.Listing.{memory_listing}
 use Rattle.report_defs.specs.Exec.{exec_lines, end_status}
 use Rattle.report_defs.specs.MemoryListing.{linked_lines}
@@ -11,8 +13,10 @@ use Rattle.ti_bench.specs.declared.report.Report.TheVariants as made
 
 -- the report of the definitions
 abbrev pub defined_report : Report → spec.Report
+defined_report (made.Text text) = spec.Whole Done (text_lines text.items)
 defined_report (made.Image image) = spec.Whole Done (spec.one_piece (written_bytes image))
 defined_report (made.Listing listing) = spec.Whole Done (memory_listing listing.at listing.bytes.items)
+defined_report (made.Grom image) = spec.Whole Done (image_listing image)
 defined_report (made.Run ending machine) = spec.Whole (end_status ending) (exec_lines ending machine)
 defined_report (made.Memory linked) = spec.Whole Done (linked_lines (defined_linked linked))
 defined_report (made.Refused line) = spec.Rejected line.items

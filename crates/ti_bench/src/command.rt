@@ -15,6 +15,7 @@ pub(crate) fn read_command(words: &Words) -> Option<Command>
     ensures { result ≡ spec.command_of words.now }
 {
     match words.as_slice() {
+        [name] if name.as_slice() == b"asm".as_slice() => Some(Command::Asm),
         [name] if name.as_slice() == b"gasm".as_slice() => Some(Command::Gasm),
         [name] if name.as_slice() == b"link".as_slice() => Some(Command::Link),
         [name, limit] if name.as_slice() == b"exec".as_slice() => {
@@ -22,6 +23,10 @@ pub(crate) fn read_command(words: &Words) -> Option<Command>
             Some(Command::Exec { limit })
         }
         [name, address] if name.as_slice() == b"dis".as_slice() => dis_at(address.as_slice()),
+        [name, address] if name.as_slice() == b"gdis".as_slice() => {
+            let at = address_word(address.as_slice())?;
+            Some(Command::Gdis { at })
+        }
         _ => None,
     }
 }

@@ -34,6 +34,7 @@ fn reads(command: Command) -> bool
     ensures { result ≡ spec.reads command }
 {
     match command {
-        Command::Gasm | Command::Dis { .. } | Command::Link | Command::Exec { .. } => true,
+        Command::Asm | Command::Gasm | Command::Dis { .. } | Command::Gdis { .. } | Command::Link | Command::Exec { .. } =>
+            true,
     }
 }

@@ -9,7 +9,7 @@ ghost use Rattle.report_defs.specs.Listing as spec;
 use asm_forms::print_instr;
 use asm_text::byte_digits;
 use bench_io::{Failed, Sink, put_piece};
-use trace_dump::{Line, append, append_word};
+use report_lines::{Line, append, append_word};
 
 /// The blanks in front of an operation.
 const MARGIN: &[u8] = b"       ";

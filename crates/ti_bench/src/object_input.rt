@@ -11,8 +11,8 @@ ghost use Rattle.ti_bench.specs.LinkedInput.{IsLinkedInput};
 use link_loader::{LinkError, Linked, link};
 use memory_listing::{link_line, tag_line};
 use object_tags::{Module, TagError, read_modules};
+use report_lines::Line;
 use std::alloc::{AllocError, Global};
-use trace_dump::Line;
 
 /// What an object text gives.
 #[derive(Drop)]

@@ -5,6 +5,7 @@ ghost use Rattle.source_defs.specs.Digits.{marked_word};
 ghost use Rattle.bench_io.specs.Written.{Written};
 ghost use Rattle.report_defs.specs.Exec as runs;
 ghost use Rattle.report_defs.specs.FaultLine as faults;
+ghost use Rattle.report_defs.specs.GromListing.{image_listing};
 ghost use Rattle.report_defs.specs.Report as spec;
 ghost use Rattle.ti_bench.specs.Made.{defined_report};
 ghost use Rattle.ti_bench.specs.Run.{WrittenReport, EndsWith};
@@ -13,20 +14,26 @@ use crate::fault_line::fault_line;
 use crate::listing::Listing;
 use bench_io::{Failed, Sink, put_piece};
 use console_defs::RunEnd;
+use gpl_disasm::disassemble;
 use gpl_forms::GromImage;
 use link_loader::Linked;
 use memory_listing::put_memory;
 use report_defs::{Fault, Status};
+use report_lines::{Line, append, append_word, put_text};
 use tms_step::Machine;
-use trace_dump::{Line, append, append_word, dump};
+use trace_dump::dump;
 
 /// A report, made and not yet written. Nothing that is written takes memory.
 #[derive(Drop)]
 pub(crate) enum Report {
+    /// A text, whose lines go to standard output, each by one call.
+    Text(Vec<u8>),
     /// An image, whose bytes go to standard output by one call.
     Image(GromImage),
     /// Raw bytes in memory, whose listing goes to standard output line by line.
     Listing(Listing),
+    /// An image of GROM, whose listing goes to standard output line by line.
+    Grom(GromImage),
     /// A run of the machine, whose end and whose dump go to standard output line by line.
     Run {
         /// What ended the run.
@@ -69,8 +76,10 @@ impl Report {
         }) (defined_report self.now) }
     {
         match self {
+            Report::Text(text) => put_text(text.as_slice(), out),
             Report::Image(image) => put_image(out, image.written()),
             Report::Listing(listing) => listing.write(out),
+            Report::Grom(image) => put_grom(image, out),
             Report::Run { ending, machine } => put_run(out, *ending, machine),
             Report::Memory(linked) => put_memory(linked, out),
             Report::Refused(line) => put_piece(err, line.as_slice()),
@@ -83,7 +92,11 @@ impl Report {
         ensures { result ≡ spec.status_of (defined_report self.now) }
     {
         match self {
-            Report::Image(_) | Report::Listing(_) | Report::Memory(_) => Status::Done,
+            Report::Text(_)
+            | Report::Image(_)
+            | Report::Listing(_)
+            | Report::Grom(_)
+            | Report::Memory(_) => Status::Done,
             Report::Refused(_) => Status::Refused,
             Report::Run { ending, .. } => end_status(*ending),
             Report::Fault(fault) => fault_status(*fault),
@@ -100,6 +113,13 @@ fn put_image<O: Sink>(out: &mut O, bytes: &[u8]) -> Result<(), Failed>
         return Ok(());
     }
     put_piece(out, bytes)
+}
+
+/// Writes the listing of an image.
+fn put_grom<O: Sink>(image: &GromImage, out: &mut O) -> Result<(), Failed>
+    ensures { Written result (O.state out.old) (O.state out.new) (image_listing image.now) }
+{
+    disassemble(image, out)
 }
 
 /// Writes how a run ended, and the machine that it left.
@@ -153,6 +173,6 @@ fn fault_status(fault: Fault) -> Status
 {
     match fault {
         Fault::Usage => Status::Usage,
-        Fault::TooLarge | Fault::PastEnd | Fault::Gpl { .. } => Status::Refused,
+        Fault::TooLarge | Fault::PastEnd => Status::Refused,
     }
 }

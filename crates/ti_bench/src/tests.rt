@@ -1,5 +1,6 @@
 //! Runs of the program over sources and sinks in memory.
 
+mod asm;
 mod dis;
 mod exec;
 mod gasm;

@@ -5,11 +5,11 @@ ghost use Rattle.arrayvec.specs.ArrayVec.{array_vec_len};
 ghost use Rattle.report_defs.specs.Dump as spec;
 ghost use Rattle.bench_io.specs.Written.{Written};
 
-use crate::line::{Line, append, append_count, append_spaced, append_word};
 use crate::rows::put_rows;
 use crate::workspace::put_workspace;
 use bench_io::{Failed, Sink, put_piece};
 use grom_counter::Grom;
+use report_lines::{Line, append, append_count, append_spaced, append_word};
 use tms_step::Machine;
 use vdp_ports::Vdp;
 

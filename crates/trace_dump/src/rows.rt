@@ -4,8 +4,8 @@ ghost use Rattle.std.specs.Prelude.{◌≡◌, ◌≤◌, ◌<◌, ◌+◌, ◌*
 ghost use Rattle.report_defs.specs.Rows as rows;
 ghost use Rattle.bench_io.specs.Written.{Written};
 
-use crate::line::{Line, append_spaced, append_word};
 use bench_io::{Failed, Sink, put_piece};
+use report_lines::{Line, append_spaced, append_word};
 
 /// Writes bytes in rows of 16, of which the first stands at an address; a run of rows that equal the row before them is
 /// an asterisk.

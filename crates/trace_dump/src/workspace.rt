@@ -6,8 +6,8 @@ ghost use Rattle.console_defs.specs.Machine.{has_workspace};
 ghost use Rattle.report_defs.specs.Dump as spec;
 ghost use Rattle.bench_io.specs.Written.{Written};
 
-use crate::line::{Line, append, append_word};
 use bench_io::{Failed, Sink, put_piece};
+use report_lines::{Line, append, append_word};
 use tms_step::Machine;
 
 /// Writes the sixteen registers of the workspace, where it can be shown.

@@ -6,7 +6,8 @@ ghost use Rattle.ti_bench.specs.Made.{defined_report};
 
 use crate::report::Report;
 use gpl_asm::{GplError, gpl_assemble};
-use report_defs::{Command, Fault};
+use report_defs::Command;
+use report_lines::gpl_line;
 use std::alloc::{AllocError, Global};
 
 /// The image of a GPL source, or its first refused line.
@@ -16,7 +17,7 @@ pub(crate) fn gasm(alloc: Global, input: &[u8]) -> Result<Report, AllocError>
 {
     match gpl_assemble(alloc, input) {
         Ok(program) => Ok(Report::Image(program.image)),
-        Err(GplError::At { line, cause }) => Ok(Report::Fault(Fault::Gpl { line, cause })),
+        Err(GplError::At { line, cause }) => Ok(Report::Refused(gpl_line(line, cause))),
         Err(GplError::Memory) => Err(AllocError),
     }
 }

@@ -77,15 +77,45 @@ const REFUSED: &[(&str, &str)] = &[
     ("00000        40000FOO   F\n:\n", "unresolved FOO\n"),
 ];
 
+/// A compressed text, its status, and what is said of it.
+const COMPRESSED: &[(&[u8], Status, &str, &str)] = &[
+    (
+        b"\x01\0\x02        A\0\0B\x10\xFF2\0\07\xFD\x02F                                                        \
+          :                                                                               ",
+        Status::Done,
+        "entry >A000\n>A000 10FF\n",
+        "",
+    ),
+    (
+        b"\x01\0\x02        A\0\0B\x10\xFF2\0\07\xFD\x03F                                                        \
+          :                                                                               ",
+        Status::Refused,
+        "",
+        "line 1: checksum >FD03, computed >FD02\n",
+    ),
+    (
+        b"\x01\0\x02        A\0\0B\x10\xFF2\0",
+        Status::Refused,
+        "",
+        "line 1: short field\n",
+    ),
+    (
+        b"\x01\0\x02        A\0\0B\x10\xFF2\0\0",
+        Status::Refused,
+        "",
+        "line 1: no end\n",
+    ),
+];
+
 /// Whether `link` answers a text so.
 fn links_as(
     alloc: Global,
-    text: &str,
+    text: &[u8],
     status: Status,
     out: &str,
     err: &str,
 ) -> Result<bool, AllocError> {
-    let ended = run(alloc, &[b"link"], text.as_bytes().to_vec(alloc)?, &[], &[])?;
+    let ended = run(alloc, &[b"link"], text.to_vec(alloc)?, &[], &[])?;
     Ok(
         ended.status == status
             && ended.out.bytes() == out.as_bytes()
@@ -101,7 +131,7 @@ fn module_65_is_refused(alloc: Global) -> Result<bool, AllocError> {
     }
     links_as(
         alloc,
-        text.as_str(),
+        text.as_str().as_bytes(),
         Status::Refused,
         "",
         "line 129: too many\n",
@@ -127,15 +157,18 @@ fn each_front_is_refused(alloc: Global) -> Result<bool, AllocError> {
 fn an_object_text_is_linked_or_refused(rt: HostRuntime) -> Result<(), Fail> {
     for &(text, out) in LINKED {
         assert!(rt;
-            links_as(rt.alloc(), text, Status::Done, out, "")?,
+            links_as(rt.alloc(), text.as_bytes(), Status::Done, out, "")?,
             "{text}"
         );
     }
     for &(text, err) in REFUSED {
         assert!(rt;
-            links_as(rt.alloc(), text, Status::Refused, "", err)?,
+            links_as(rt.alloc(), text.as_bytes(), Status::Refused, "", err)?,
             "{text}"
         );
+    }
+    for &(text, status, out, err) in COMPRESSED {
+        assert!(rt; links_as(rt.alloc(), text, status, out, err)?, "{out}{err}");
     }
     assert!(rt; module_65_is_refused(rt.alloc())?);
     assert!(rt; each_front_is_refused(rt.alloc())?);

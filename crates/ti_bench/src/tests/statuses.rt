@@ -62,7 +62,7 @@ const FAULTS: &[(&[u8], u64, u64, Status, usize, usize)] = &[
     (b" END\n", NEVER, 0, Status::Done, 0, 0),
     // a read fault comes before all that the input says
     (b" OOPS\n", 1, NEVER, Status::ReadFault, 0, 0),
-    (b" OOPS\n", NEVER, NEVER, Status::Refused, 0, 18),
+    (b" OOPS\n", NEVER, NEVER, Status::Refused, 0, 26),
 ];
 
 /// Whether a source ends so where these calls fail.

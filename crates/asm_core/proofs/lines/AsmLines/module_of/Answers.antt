@@ -8,8 +8,8 @@ use Rattle.module_defs.specs.declared.location.Part.TheVariants as part
 use Rattle.module_defs.specs.FirstChecks.{refs, names, defs}
 use Rattle.module_defs.specs.Memory.{content_at, pieces_in, part_words}
 use Rattle.module_defs.specs.Modules.{unused, definition_in}
-use Rattle.asm_core.specs.Tables.{cell}
-use Rattle.asm_core.proofs.PieceLaws.{pieces_same}
+use Rattle.asm_image.specs.Tables.{cell}
+use Rattle.asm_image.proofs.PieceLaws.{pieces_same}
 use Rattle.asm_core.proofs.lines.AsmLines.module_of.Goals as goal
 
 all_same : (f g : ℕ → Option Content) (at : Part) → ((p : ℕ) → f p ≡ g p) → pieces_in f at ≡ pieces_in g at
@@ -17,17 +17,18 @@ unfolding part_words
 all_same f g at same = pieces_same f g at 0 32768 same
 
 pub returns : goal.returns
-returns c = λ lines settled is image.
+returns c = λ lines settled is draft.
     let references = map unused (refs lines) in
-    let relocatable = all_same _ (content_at references settled part.Relocatable) part.Relocatable image.placed.relocatable in
-    let absolute = all_same _ (content_at references settled part.Absolute) part.Absolute image.placed.absolute in
+    let image = c.args.draft.now.image in
+    let relocatable = all_same _ (content_at references settled part.Relocatable) part.Relocatable draft.bytes.image.relocatable in
+    let absolute = all_same _ (content_at references settled part.Absolute) part.Absolute draft.bytes.image.absolute in
     let pieces =
     c.in_ok-pieces.ensures
-    ∙ (ap (λ pieces. pieces ++ pieces_in (cell c.args.image.now.absolute.cells.items) part.Absolute) relocatable
+    ∙ (ap (λ pieces. pieces ++ pieces_in (cell image.absolute.cells.items) part.Absolute) relocatable
     ∙ ap (λ pieces. pieces_in (content_at references settled part.Relocatable) part.Relocatable ++ pieces) absolute) in
     let listed : map defined_def c.in_ok-defs.field-0 ≡ map (definition_in (names lines)) (defs lines) =
     c.in_ok-defs.ensures
     ∙ (ap (map (definition_in c.args.self.now.symbols)) (c.as_slice.ensures.value ∙ is.defs)
     ∙ ap (λ (known : Names). map (definition_in known) (defs lines)) is.names) in
-    let last = c.in_ok-refs.ensures ∙ (ap (map defined_ref) c.as_slice-2.ensures.value ∙ image.placed.references) in
-    rw (is.title, is.reached, pieces, listed, last, image.entry) refl
+    let last = c.in_ok-refs.ensures ∙ (ap (map defined_ref) c.as_slice-2.ensures.value ∙ draft.bytes.references) in
+    rw (is.title, is.reached, pieces, listed, last, draft.entry) refl

@@ -1,26 +1,43 @@
-use Rattle.std.proofs.Common.{◌≡◌, ◌+◌, ◌||◌, [], ◌∷◌, ◌++◌, Ok, ℕ, true, List, length, sym, ap, subst, ◌∙◌, arith}
+use Rattle.std.proofs.Common.{◌≡◌, ◌+◌, ◌||◌, ◌∷◌, ◌++◌, Ok, ℕ, true, List, length, refl, sym, ap, subst, ◌∙◌, arith}
 use Rattle.std.specs.Prelude.{max, Bool}
 use Rattle.source_defs.specs.Refusals.{◌>>=◌}
 use Rattle.source_defs.specs.Symbols.{Names}
 use Rattle.module_defs.specs.declared.location.Location.{Location}
 use Rattle.module_defs.specs.Locations.{Line, location, reached, relocatable, behind, is_in_part}
-use Rattle.module_defs.specs.Statements.{said_of}
 use Rattle.module_defs.specs.FirstChecks as spec
 use Rattle.module_defs.specs.FirstChecks.{Before, known_of, line_of, location_behind, defs_in, refs_in, is_end}
 use Rattle.module_defs.specs.Modules.{title_by}
-use Rattle.module_defs.proofs.CheckLaws.{checked_within, checked_titled, checked_said}
-use Rattle.asm_core.specs.Checks.{defined_checked}
+use Rattle.module_defs.proofs.CheckLaws.{checked_within, checked_titled, checked_said, checked_room}
+use Rattle.asm_checks.specs.Checks.{defined_checked}
 use Rattle.asm_core.specs.Keeping.{known_in, names_with}
-use Rattle.asm_core.specs.Building.{IsOf, Wait}
-use Rattle.asm_core.proofs.LineLaws.{location_more, names_more, behind_more, wait_more, known_same}
+use Rattle.asm_core.specs.Building.{IsBehind}
+use Rattle.asm_core.specs.Adding.{IsNext, WorksIn}
+use Rattle.asm_core.proofs.HeldLaws.{has_room}
+use Rattle.asm_core.proofs.LineLaws.{location_more, names_more, known_same}
+use Rattle.asm_core.proofs.WorkLaws.{works_same, still_behind, takes_none}
 use Rattle.asm_core.proofs.lines.AsmLines.take.Goals as goal
+
+pub work-requires-clause-room : goal.work-requires-clause-room
+work-requires-clause-room c =
+    let found = defined_checked c.in-Ok.checked in
+    let known : spec.checked (known_in c.args.self.now) c.args.text.now ≡ Ok found =
+    ap (λ (before : Before). spec.checked before c.args.text.now) (sym c.known.ensures.known) ∙ c.in-Ok.ensures.checked in
+    record {
+      room = has_room (known_in c.args.self.now) c.args.text.now found c.args.self.now.placed known;
+      fits = omega (arith, checked_room (known_in c.args.self.now) c.args.text.now found c.args.self.now.placed known);
+    }
+
+pub returns-in_err-work : goal.returns-in_err-work
+returns-in_err-work c = λ lines is.
+    takes_none lines c.args.text.now c.from_residual.result c.work.new.self c.from_residual.ensures.1
+    (still_behind lines c.args.self.now c.work.new.self c.in_err-work.ensures.unchanged c.in_err-work.ensures.still is)
 
 pub advance-requires-clause-place : goal.advance-requires-clause-place
 advance-requires-clause-place c =
     let found = defined_checked c.in-Ok.checked in
     let known : spec.checked (known_in c.args.self.now) c.args.text.now ≡ Ok found =
     ap (λ (before : Before). spec.checked before c.args.text.now) (sym c.known.ensures.known) ∙ c.in-Ok.ensures.checked in
-    subst (λ (from : Location). is_in_part (location_behind from found.move) ≡ true) (sym c.in_ok-keep.ensures.still.location)
+    subst (λ (from : Location). is_in_part (location_behind from found.move) ≡ true) (sym c.work.ensures.still.location)
     (checked_within (known_in c.args.self.now) c.args.text.now found known)
 
 pub advance-requires-clause-titled : goal.advance-requires-clause-titled
@@ -36,37 +53,31 @@ returns c = λ lines is.
     ap (λ (before : Before). spec.checked before c.args.text.now) (sym c.known.ensures.known) ∙ c.in-Ok.ensures.checked in
     let checked : spec.checked (known_of lines) c.args.text.now ≡ Ok found =
     ap (λ (before : Before). spec.checked before c.args.text.now) (sym (known_same lines c.args.self.now is)) ∙ known in
-    let keeps = c.in_ok-keep.ensures.kept in
-    let still = c.in_ok-keep.ensures.still in
+    let added = c.in_ok-work.ensures.added in
+    let still = c.work.ensures.still in
     let went = c.advance.ensures in
-    let order = is.waiting.0 in
-    let waits = c.in_ok-pending.pending in
-    let is_of : IsOf lines line waits = record {
-      number = c.in_ok-pending.ensures.number ∙ ap (λ taken. taken + 1) is.taken;
-      at = c.in_ok-pending.ensures.at ∙ ap (λ (from : Location). behind from found.move.gap) is.location;
-      said = ap said_of c.in_ok-pending.ensures.text ∙ checked_said (known_of lines) c.args.text.now found checked;
+    let next : IsNext c.args.self.now c.args.text.now c.in-Ok.checked lines line = record {
+      at = ap (λ (from : Location). behind from found.move.gap) is.location;
+      number = ap (λ taken. taken + 1) is.taken;
+      said = checked_said (known_of lines) c.args.text.now found checked;
+      statement = refl;
     } in
     let place : c.advance.new.self.location ≡ location (line ∷ lines) =
     went.location ∙ (ap (λ (from : Location). location_behind from found.move) (still.location ∙ is.location) ∙ sym (location_more number found lines)) in (
       line,
       ap (λ answer. answer >>= λ found. Ok (line_of number found)) checked,
       record {
-        names = went.kept.names ∙ (keeps.names ∙ (ap (λ (names : Names). names_with names c.in-Ok.checked) is.names ∙ sym (names_more number found lines)));
+        names = went.kept.names ∙ (added.names ∙ (ap (λ (names : Names). names_with names c.in-Ok.checked) is.names ∙ sym (names_more number found lines)));
         location = place;
         reached = went.reached
             ∙ (ap (λ before. max before (relocatable c.advance.new.self.location)) (still.reached ∙ is.reached)
             ∙ ap (λ (at : Location). max (reached lines) (relocatable at)) place);
         title = went.title ∙ ap (λ (title : List ℕ). title_by title found.statement) (still.title ∙ is.title);
-        defs = went.kept.lists.defs ∙ (keeps.defs ∙ ap (λ (names : List (List ℕ)). names ++ defs_in found.statement) is.defs);
-        refs = went.kept.lists.refs ∙ (keeps.refs ∙ ap (λ (names : List (List ℕ)). names ++ refs_in found.statement) is.refs);
+        defs = went.kept.lists.defs ∙ (added.defs ∙ ap (λ (names : List (List ℕ)). names ++ defs_in found.statement) is.defs);
+        refs = went.kept.lists.refs ∙ (added.refs ∙ ap (λ (names : List (List ℕ)). names ++ refs_in found.statement) is.refs);
         taken = omega (arith, went.taken, still.taken, is.taken);
         ended = went.ended ∙ ap (λ (ended : Bool). is_end found.statement || ended) (still.ended ∙ is.ended);
-        waiting = (
-          order ++ line ∷ [],
-          ap (λ lines. line ∷ lines) is.waiting.1 ∙ sym (behind_more [] order line),
-          subst (Wait [] (order ++ line ∷ [])) (sym (went.kept.lists.waits ∙ keeps.waits))
-              (wait_more [] order c.args.self.now.pending.items line waits is.waiting.2
-              (subst (λ before. IsOf before line waits) is.waiting.1 is_of)),
-        );
+        worked = works_same (line ∷ lines) c.work.new.self c.advance.new.self went.kept.names went.worked.image went.kept.lists.waits went.worked.refused
+            (added.worked lines line next is.worked);
       },
     )

@@ -14,4 +14,4 @@ pub returns : goal.returns
 returns c =
     let line = c.args.line.now in
     let passed : c.front-passed.result.now ≡ take c.args.left (drop c.args.at line) = rw c.behind.ensures at c.front-passed.ensures in
-    rw passed (groups_behind line c.args.at c.args.left c.requires.at)
+    rw passed (groups_behind line c.args.at c.args.left c.requires.at c.args.form)

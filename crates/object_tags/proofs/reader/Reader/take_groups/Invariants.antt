@@ -6,4 +6,4 @@ use Rattle.object_tags.proofs.reader.Reader.take_groups.Given as goal
 
 -- the groups that are left go on from here
 abbrev pub invariant-loop-found : goal.invariant-loop-found
-invariant-loop-found l = kept_groups (kept_of l.fn.self) (groups_from [] 0 l.line) ≡ kept_groups (kept_of l.self) l.found-iterator
+invariant-loop-found l = kept_groups (kept_of l.fn.self) (groups_from l.fn.form [] 0 l.line) ≡ kept_groups (kept_of l.self) l.found-iterator

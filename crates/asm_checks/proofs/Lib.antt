@@ -1,0 +1,4 @@
+pub mod Failures
+pub mod Padding
+pub mod Listed
+pub mod Instructions

@@ -1,0 +1,10 @@
+use Rattle.source_defs.specs.Symbols.{look_up}
+use Rattle.asm_checks.proofs.Instructions.{instruction_given}
+use Rattle.asm_checks.proofs.values.Scope.outcome.Goals as goal
+
+pub returns-in-Instruction : goal.returns-in-Instruction
+returns-in-Instruction c =
+    let h = rw c.in-Instruction.is at c.requires.instruction in
+    rw c.in-Instruction.is
+    (instruction_given (look_up c.args.self.now.symbols.now) c.args.self.now.at c.args.line.now c.args.fields.now
+    c.instruction_outcome.result _ _ _ h c.instruction_outcome.ensures)

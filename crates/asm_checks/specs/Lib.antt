@@ -1,0 +1,5 @@
+pub mod Answers
+pub mod Defined
+pub mod Moves
+pub mod Checks
+pub mod Outcomes

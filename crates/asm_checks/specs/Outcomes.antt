@@ -1,0 +1,40 @@
+-- What a line of the code comes to, as the definitions have it.
+use Rattle.std.specs.Prelude.{ℕ, List, ◌++◌, Option, Some, None, Result, Ok, Err}
+use Rattle.source_defs.specs.Refusals.{◌>>=◌}
+use Rattle.source_defs.specs.Expression.{Value, known_value}
+use Rattle.asm_defs.specs.declared.causes.FormError.TheVariants.{BadOperand}
+use Rattle.std.specs.Option.{option_map}
+use Rattle.object_defs.specs.declared.spot.Spot.{Spot}
+use Rattle.asm_text.specs.declared.values.Value.{Value as CodeValue}
+use Rattle.asm_text.specs.GivenValues.{defined_value}
+use Rattle.module_defs.specs.Modules.{spot_of}
+use Rattle.asm_forms.specs.Placed.{defined_words}
+use Rattle.module_defs.specs.declared.causes.AsmCause.{AsmCause}
+use Rattle.module_defs.specs.declared.causes.AsmCause.TheVariants.{Form}
+use Rattle.module_defs.specs.FirstChecks.{as_expr}
+use Rattle.module_defs.specs.SecondChecks as spec
+use Rattle.asm_checks.specs.declared.second_checks.Outcome.{Outcome}
+use Rattle.asm_checks.specs.declared.second_checks.Outcome.TheVariants.{Nothing, Words, Bytes, Entry}
+
+abbrev pub defined_outcome : Outcome → spec.Outcome
+defined_outcome Nothing = spec.Nothing
+defined_outcome (Words words) = spec.Words (defined_words words.items)
+defined_outcome (Bytes bytes) = spec.Bytes bytes.items
+defined_outcome (Entry entry) = spec.Entry entry
+
+abbrev pub byte_answer : Option ℕ → Result ℕ AsmCause
+byte_answer (Some byte) = Ok byte
+byte_answer None = Err (Form BadOperand)
+
+-- whether a name of DEF stands for something here
+abbrev pub known_answer : Option Value → Result spec.Outcome AsmCause
+known_answer found = as_expr (known_value found) >>= λ value. spec.defined_here value >>= λ value. Ok spec.Nothing
+
+-- some items before others
+abbrev pub after : {A E : Type 0} → List A → Result (List A) E → Result (List A) E
+after front (Ok items) = Ok (front ++ items)
+after front (Err error) = Err error
+
+-- the spot that a name stands for
+abbrev pub defined_spot : Option CodeValue → Spot
+defined_spot found = spot_of (option_map defined_value found)

@@ -1,0 +1,219 @@
+//! The first checks of a line.
+
+ghost use Rattle.std.specs.Prelude.{◌≡◌, ◌≤◌, ◌+◌, length, true, IfOk};
+ghost use Rattle.source_defs.specs.Fields as lines;
+ghost use Rattle.module_defs.specs.Locations as places;
+ghost use Rattle.module_defs.specs.FirstChecks as spec;
+ghost use Rattle.asm_checks.specs.Answers.{Gives};
+ghost use Rattle.asm_checks.specs.Defined.{defined_statement, NamesOnly};
+ghost use Rattle.asm_checks.specs.Moves.{defined_move, MovesLittle};
+ghost use Rattle.asm_checks.specs.Checks.{defined_before, defined_said, defined_checked, IsSaidOf, KnowsPlaces, ListsNames, listed_in};
+ghost use Rattle.asm_checks.specs.Moves.{MovesWithin};
+
+use crate::failure::{Failure, expr_failure};
+use crate::moves::{Move, behind};
+use crate::names::{any_known, is_taken, label_in, names_in, repeats};
+use crate::statement::{Statement, statement_in};
+use crate::titles::title_in;
+use crate::values::Scope;
+use asm_text::{Fields, Name, Symbols, fields, is_quoted};
+use module_defs::{AsmCause, Location, Part};
+use std::alloc::{AllocError, Global};
+
+/// The most names that DEF, or REF, may list in a module.
+pub const MOST_NAMES: usize = 256;
+
+/// What is known of the lines before a line.
+#[derive(Clone, Copy)]
+pub struct Before<'a> {
+    /// The allocator.
+    pub alloc: Global,
+    /// The names.
+    pub symbols: &'a Symbols,
+    /// The location.
+    pub location: Location,
+    /// The highest relocatable location reached.
+    pub reached: u32,
+    /// The names of DEF.
+    pub defs: &'a [Name],
+    /// The names of REF.
+    pub refs: &'a [Name],
+}
+
+/// What a line says.
+#[derive(Debug, Drop)]
+pub struct Said<'a> {
+    /// Its fields.
+    pub fields: Fields,
+    /// What stands in them.
+    pub statement: Statement<'a>,
+    /// The names that DEF or REF lists.
+    pub listed: Vec<Name>,
+}
+
+/// What the first checks leave of a line.
+#[derive(Debug, Drop)]
+pub struct Checked<'a> {
+    /// What it says.
+    pub said: Said<'a>,
+    /// What it does to the location.
+    pub moved: Move,
+}
+
+impl Before<'_> {
+    /// A line by the first checks.
+    pub fn checked<'b>(&self, text: &'b [u8]) -> Result<Checked<'b>, Failure>
+        requires { KnowsPlaces self.now }
+        ensures checked { Gives defined_checked result (spec.checked (defined_before self.now) text.now) }
+        ensures line { IfOk result (λ checked. IsSaidOf text.now checked.said) }
+        ensures listed { IfOk result (λ checked. ListsNames checked.said) }
+        ensures within { IfOk result (λ checked. MovesWithin checked.moved) }
+    {
+        let said = self.said(text)?;
+        self.moved(said)
+    }
+
+    /// What a line says, whose names are new.
+    #[tactic(auto, unfolding(module_defs::specs::FirstChecks::said))]
+    fn said<'b>(&self, text: &'b [u8]) -> Result<Said<'b>, Failure>
+        ensures said { Gives defined_said result (spec.said (defined_before self.now) text.now) }
+        ensures line { IfOk result (IsSaidOf text.now) }
+        ensures listed { IfOk result ListsNames }
+    {
+        let found = match fields(text) {
+            Ok(found) => found,
+            Err(error) => return Err(Failure::Refused(AsmCause::Text(error))),
+        };
+        if self.knows_label(&found.label) {
+            return Err(Failure::Refused(AsmCause::DuplicateLabel));
+        }
+        let statement = statement_in(self.alloc, text, &found)?;
+        let listed = listed_names(self.alloc, &statement)?;
+        if self.takes_known(found.label, &statement, listed.as_slice()) {
+            return Err(Failure::Refused(AsmCause::DuplicateLabel));
+        }
+        Ok(Said {
+            fields: found,
+            statement,
+            listed,
+        })
+    }
+
+    /// Whether a label stands for something already.
+    fn knows_label(&self, label: &Option<Name>) -> bool
+        ensures { result ≡ spec.any_known self.now.symbols.now (spec.label_in label.now) }
+    {
+        any_known(self.symbols, label_in(label))
+    }
+
+    /// Whether a name of REF stands for something already.
+    fn takes_known(&self, label: Option<Name>, statement: &Statement<'_>, listed: &[Name]) -> bool
+        requires { listed.now ≡ listed_in statement.now }
+        ensures { result ≡ spec.is_taken self.now.symbols.now label (spec.refs_in (defined_statement statement.now)) }
+    {
+        match statement {
+            Statement::Ref(_) => is_taken(self.symbols, label, listed),
+            _ => false,
+        }
+    }
+
+    /// Where a line leads.
+    #[tactic(auto, using(crate::proofs::Failures::expr_fails), unfolding(module_defs::specs::FirstChecks::moved))]
+    fn moved<'b>(&self, said: Said<'b>) -> Result<Checked<'b>, Failure>
+        requires places { KnowsPlaces self.now }
+        requires listed { ListsNames said }
+        requires little { MovesLittle said.statement }
+        ensures checked { Gives defined_checked result (spec.moved (defined_before self.now) (defined_said said.entry)) }
+        ensures same { IfOk result (λ checked. checked.said ≡ said.entry) }
+        ensures listed { IfOk result (λ checked. ListsNames checked.said) }
+        ensures within { IfOk result (λ checked. MovesWithin checked.moved) }
+    {
+        let scope = Scope {
+            alloc: self.alloc,
+            symbols: self.symbols,
+            at: self.location,
+        };
+        let moved = match scope.move_by(self.reached, &said.statement) {
+            Ok(moved) => moved,
+            Err(error) => return Err(expr_failure(error)),
+        };
+        if self.is_too_far(&said, &moved) {
+            return Err(Failure::Refused(AsmCause::Overflow));
+        }
+        if self.is_bad(&said) {
+            return Err(Failure::Refused(AsmCause::BadDirective));
+        }
+        Ok(Checked { said, moved })
+    }
+
+    /// Whether a line leads past the end of its part, or lists too many names.
+    fn is_too_far(&self, said: &Said<'_>, moved: &Move) -> bool
+        requires places { KnowsPlaces self.now }
+        requires within { MovesWithin moved.now }
+        requires listed { ListsNames said.now }
+        ensures { result ≡ spec.is_too_far (defined_before self.now) (defined_statement said.now.statement) (defined_move moved.now) }
+    {
+        !is_in_part(location_behind(self.location, moved)) || self.lists_too_many(said)
+    }
+
+    /// Whether DEF or REF lists more names than a module may have.
+    fn lists_too_many(&self, said: &Said<'_>) -> bool
+        requires { ListsNames said.now }
+        ensures { result ≡ spec.lists_too_many (defined_before self.now) (defined_statement said.now.statement) }
+    {
+        match said.statement {
+            Statement::Def(_) => self.defs.len() + said.listed.len() > MOST_NAMES,
+            Statement::Ref(_) => self.refs.len() + said.listed.len() > MOST_NAMES,
+            _ => false,
+        }
+    }
+
+    /// Whether a directive cannot stand as it is.
+    fn is_bad(&self, said: &Said<'_>) -> bool
+        requires { ListsNames said.now }
+        ensures { result ≡ spec.is_bad (defined_before self.now) said.now.fields.label (defined_statement said.now.statement) }
+    {
+        match said.statement {
+            Statement::Equ(_) => said.fields.label.is_none(),
+            Statement::Idt(text) => !(is_quoted(text) && title_in(text).is_some()),
+            Statement::Titl(text) => !is_quoted(text),
+            Statement::Def(_) => repeats(self.defs, said.listed.as_slice()),
+            _ => false,
+        }
+    }
+}
+
+/// The names that DEF or REF lists.
+fn listed_names(alloc: Global, statement: &Statement<'_>) -> Result<Vec<Name>, AllocError>
+    requires { NamesOnly statement.now }
+    ensures { IfOk result (λ names. names.items ≡ listed_in statement.now) }
+{
+    match statement {
+        Statement::Def(field) | Statement::Ref(field) => names_in(alloc, field),
+        _ => Ok(Vec::new(alloc)),
+    }
+}
+
+/// The location behind a line.
+pub fn location_behind(here: Location, moved: &Move) -> Location
+    requires here { here.number ≤ 65536 }
+    requires within { MovesWithin moved.now }
+    ensures { result ≡ spec.location_behind here (defined_move moved.now) }
+{
+    let from = match moved.origin {
+        Some(origin) => origin,
+        None => here,
+    };
+    behind(from, moved.gap + moved.size)
+}
+
+/// Whether a location lies in its part, or just behind its last place.
+fn is_in_part(location: Location) -> bool
+    ensures { result ≡ places.is_in_part location }
+{
+    let limit = match location.part {
+        Part::Relocatable => 65535,
+        Part::Absolute | Part::Dummy => 65536,
+    };
+    location.number <= limit
+}

@@ -1,0 +1,21 @@
+//! The checks of a line of an assembler source: what it says, where it leads, and what it comes to.
+#![tactic(auto)]
+
+mod directives;
+mod failure;
+mod first_checks;
+mod moves;
+mod name_lists;
+mod names;
+mod second_checks;
+mod statement;
+mod titles;
+mod values;
+
+pub use crate::failure::{Failure, is_open};
+pub use crate::first_checks::{Before, Checked, Said, location_behind};
+pub use crate::moves::{Move, behind, size_said};
+pub use crate::second_checks::Outcome;
+pub use crate::statement::{Statement, statement_in};
+pub use crate::titles::title_in;
+pub use crate::values::Scope;

@@ -1,0 +1,280 @@
+//! The second checks of a line, and what it places.
+
+ghost use Rattle.std.specs.Prelude.{◌≡◌, ◌≤◌, Ok, IsSome, IsOk, map, IfOk, true, length};
+ghost use Rattle.source_defs.specs.Fields as lines;
+ghost use Rattle.source_defs.specs.Symbols.{look_up};
+ghost use Rattle.asm_text.specs.GivenFields.{defined_fields, FieldsLieInside};
+ghost use Rattle.asm_text.specs.GivenValues.{defined_value};
+ghost use Rattle.source_defs.specs.Operands.{operand_texts};
+ghost use Rattle.asm_defs.specs.FirstChecks.{line_size};
+ghost use Rattle.asm_forms.specs.Lines.{operation_in, operands_in, line_words};
+ghost use Rattle.asm_forms.specs.Placed.{defined_word, defined_words};
+ghost use Rattle.module_defs.specs.Locations as places;
+ghost use Rattle.module_defs.specs.Statements as said;
+ghost use Rattle.module_defs.specs.FirstChecks as first;
+ghost use Rattle.module_defs.specs.SecondChecks as spec;
+ghost use Rattle.module_defs.specs.Growing as growing;
+ghost use Rattle.std.specs.List.{list_all};
+ghost use Rattle.source_defs.specs.Refusals.{seen};
+ghost use Rattle.asm_text.specs.Yielded.{Yields};
+ghost use Rattle.asm_checks.specs.Answers.{Gives};
+ghost use Rattle.asm_checks.specs.Defined.{defined_statement, IsInstructionOf, NamesOnly};
+ghost use Rattle.asm_checks.specs.Moves.{MovesLittle};
+ghost use Rattle.asm_checks.specs.Outcomes.{defined_outcome, byte_answer, known_answer};
+
+use crate::failure::{Failure, expr_failure, form_failure};
+use crate::moves::behind;
+use crate::names::names_in;
+use crate::statement::Statement;
+use crate::values::{Scope, value_at};
+use asm_defs::FormError;
+use asm_forms::{Word, parse_instr};
+use asm_text::{ExprError, Fields, Name, Symbols, Value, operands, quoted_characters};
+use module_defs::{AsmCause, Location, Part};
+use object_defs::Spot;
+
+/// What a line comes to.
+#[derive(Debug, Drop)]
+pub enum Outcome {
+    /// Nothing that is placed.
+    Nothing,
+    /// Words.
+    Words(Vec<Word>),
+    /// Bytes.
+    Bytes(Vec<u8>),
+    /// The entry.
+    Entry(Spot),
+}
+
+impl Outcome {
+    /// Whether a line that comes to this stands as it is, whatever names are still to come.
+    pub fn stands(&self) -> bool
+        ensures { result ≡ growing.stands (defined_outcome self.now) }
+    {
+        match self {
+            Outcome::Words(words) => all_own(words.as_slice()),
+            Outcome::Nothing | Outcome::Bytes(_) => true,
+            Outcome::Entry(_) => false,
+        }
+    }
+}
+
+impl Scope<'_> {
+    /// What a line with its fields comes to, of which the first checks found what it says.
+    #[tactic(auto, using(crate::proofs::Failures::expr_fails), unfolding(module_defs::specs::SecondChecks::outcome))]
+    pub fn outcome(
+        &self,
+        line: &[u8],
+        fields: &Fields,
+        statement: &Statement<'_>,
+    ) -> Result<Outcome, Failure>
+        requires read { lines.fields line.now ≡ Ok (defined_fields fields.now) }
+        requires instruction { IsInstructionOf line.now fields.now statement.now }
+        requires names { NamesOnly statement.now }
+        requires little { MovesLittle statement.now }
+        requires at { self.now.at.number ≤ 65536 }
+        ensures { Gives defined_outcome result
+            (spec.outcome (look_up self.now.symbols.now) self.now.at (defined_statement statement.now)) }
+    {
+        match statement {
+            Statement::Instruction(..) => self.instruction_outcome(line, fields),
+            Statement::Data(field) => match self.data_words(field) {
+                Ok(words) => Ok(Outcome::Words(words)),
+                Err(error) => Err(expr_failure(error)),
+            },
+            Statement::Byte(field) => match self.byte_values(field) {
+                Ok(numbers) => {
+                    let bytes = self.bytes_of(numbers.as_slice())?;
+                    Ok(Outcome::Bytes(bytes))
+                }
+                Err(error) => Err(expr_failure(error)),
+            },
+            Statement::Text(quoted) => {
+                let bytes = quoted_characters(self.alloc, quoted)?;
+                Ok(Outcome::Bytes(bytes))
+            }
+            Statement::Def(field) => {
+                self.check_defs(field)?;
+                Ok(Outcome::Nothing)
+            }
+            Statement::End(Some(text)) => match self.entry_of(text) {
+                Ok(entry) => Ok(Outcome::Entry(entry)),
+                Err(error) => Err(expr_failure(error)),
+            },
+            _ => Ok(Outcome::Nothing),
+        }
+    }
+
+    /// The words of an instruction.
+    #[tactic(auto, using(crate::proofs::Failures::form_fails))]
+    fn instruction_outcome(&self, line: &[u8], fields: &Fields) -> Result<Outcome, Failure>
+        requires read { lines.fields line.now ≡ Ok (defined_fields fields.now) }
+        requires operation { IsSome fields.now.operation }
+        requires sized { IsOk (line_size (operation_in line.now fields.now) (operands_in line.now fields.now)) }
+        ensures { Gives defined_outcome result
+            (spec.instruction_outcome (look_up self.now.symbols.now) self.now.at (operation_in line.now fields.now)
+            (operands_in line.now fields.now)) }
+    {
+        match parse_instr(self.alloc, line, fields, self.symbols, value_at(self.at)) {
+            Ok(placed) => {
+                let mut words = Vec::new(self.alloc);
+                words.extend_from_slice(placed.words.as_slice())?;
+                Ok(Outcome::Words(words))
+            }
+            Err(error) => Err(form_failure(error)),
+        }
+    }
+
+    /// The words of DATA.
+    #[tactic(auto, using(source_defs::proofs::OperandCounts::operands_le))]
+    fn data_words(&self, field: &[u8]) -> Result<Vec<Word>, ExprError>
+        requires at { self.now.at.number ≤ 65536 }
+        requires field { length field.now ≤ 256 }
+        ensures { Yields (λ words. defined_words words.items) result
+            (spec.data_values (look_up self.now.symbols.now) self.now.at self.now.at (operand_texts field.now)) }
+    {
+        let mut words = Vec::new(self.alloc);
+        let mut place = self.at;
+        for span in operands(field) {
+            let word = match self.word_in(&place, &field[span.start..span.end]) {
+                Ok(word) => word,
+                Err(error) => return Err(error),
+            };
+            if words.push(word).is_err() {
+                return Err(ExprError::Memory);
+            }
+            place = behind(place, 2);
+        }
+        Ok(words)
+    }
+
+    /// A value of DATA, whose word stands at a place.
+    fn word_in(&self, place: &Location, text: &[u8]) -> Result<Word, ExprError>
+        ensures { Yields defined_word result (spec.word_in (look_up self.now.symbols.now) self.now.at place.now text.now) }
+    {
+        let value = self.value_of(text)?;
+        used_at(place, &value)
+    }
+
+    /// The values of BYTE.
+    fn byte_values(&self, field: &[u8]) -> Result<Vec<u16>, ExprError>
+        ensures { Yields (λ numbers. numbers.items) result
+            (spec.byte_values (look_up self.now.symbols.now) self.now.at (operand_texts field.now)) }
+    {
+        let mut numbers = Vec::new(self.alloc);
+        for span in operands(field) {
+            let number = match self.absolute_of(&field[span.start..span.end]) {
+                Ok(number) => number,
+                Err(error) => return Err(error),
+            };
+            if numbers.push(number).is_err() {
+                return Err(ExprError::Memory);
+            }
+        }
+        Ok(numbers)
+    }
+
+    /// Numbers as bytes.
+    fn bytes_of(&self, numbers: &[u16]) -> Result<Vec<u8>, Failure>
+        ensures { Gives (λ bytes. bytes.items) result (spec.bytes_of numbers.now) }
+    {
+        let mut bytes = Vec::new(self.alloc);
+        let mut rest = numbers;
+        while let [number, others @ ..] = rest {
+            let Some(byte) = byte_of(*number) else {
+                return Err(Failure::Refused(AsmCause::Form(FormError::BadOperand)));
+            };
+            if bytes.push(byte).is_err() {
+                return Err(Failure::Memory);
+            }
+            rest = others;
+        }
+        Ok(bytes)
+    }
+
+    /// Whether the names of DEF stand for something here.
+    fn check_defs(&self, field: &[u8]) -> Result<(), Failure>
+        requires { said.all_names (operand_texts field.now) ≡ true }
+        ensures { Gives (λ _. spec.Nothing) result
+            (spec.defs_known (look_up self.now.symbols.now) self.now.at (said.upper_names (operand_texts field.now))) }
+    {
+        let names = names_in(self.alloc, field)?;
+        self.defs_known(names.as_slice())
+    }
+
+    /// Whether some names stand for something here.
+    fn defs_known(&self, names: &[Name]) -> Result<(), Failure>
+        ensures { Gives (λ _. spec.Nothing) result (spec.defs_known (look_up self.now.symbols.now) self.now.at names.now) }
+    {
+        let mut rest = names;
+        while let [name, others @ ..] = rest {
+            def_known(self.symbols, name)?;
+            rest = others;
+        }
+        Ok(())
+    }
+
+    /// The entry that END gives.
+    fn entry_of(&self, text: &[u8]) -> Result<Spot, ExprError>
+        ensures { Yields (λ entry. entry) result (spec.entry_in (look_up self.now.symbols.now) self.now.at text.now) }
+    {
+        match self.value_of(text)? {
+            Value::Absolute(number) => Ok(Spot::Absolute(number)),
+            Value::Relocatable(number) => Ok(Spot::Relocatable(number)),
+            Value::External(_) => Err(ExprError::BadRelocation),
+        }
+    }
+}
+
+/// Whether none of some words is a use of a name that others define.
+fn all_own(words: &[Word]) -> bool
+    ensures { result ≡ list_all growing.is_own (defined_words words.now) }
+{
+    for word in words {
+        if matches!(word, Word::External(_)) {
+            return false;
+        }
+    }
+    true
+}
+
+/// Whether a name of DEF stands for something here.
+fn def_known(symbols: &Symbols, name: &Name) -> Result<(), Failure>
+    ensures { Gives (λ _. spec.Nothing) result (known_answer (look_up symbols.now name.now)) }
+{
+    match symbols.get(name) {
+        Some(Value::Absolute(_) | Value::Relocatable(_)) => Ok(()),
+        Some(Value::External(_)) => Err(Failure::Refused(AsmCause::BadDirective)),
+        None => Err(Failure::Refused(AsmCause::Expr(ExprError::UnknownName))),
+    }
+}
+
+/// A word at a place, which is no use of an external name at absolute place 0.
+fn used_at(place: &Location, value: &Value) -> Result<Word, ExprError>
+    ensures { seen defined_word result ≡ spec.used_at place.now (defined_value value.now) }
+{
+    match value {
+        Value::Absolute(number) => Ok(Word::Plain(*number)),
+        Value::Relocatable(number) => Ok(Word::Relocatable(*number)),
+        Value::External(_) if is_first(place) => Err(ExprError::BadRelocation),
+        Value::External(name) => Ok(Word::External(*name)),
+    }
+}
+
+/// Whether a place is absolute place 0.
+fn is_first(place: &Location) -> bool
+    ensures { result ≡ spec.is_first_by place.now.part place.now.number }
+{
+    matches!(place.part, Part::Absolute) && place.number == 0
+}
+
+/// A number from -128 to 255 as a byte.
+fn byte_of(number: u16) -> Option<u8>
+    ensures { byte_answer result ≡ spec.byte_of number }
+{
+    if number <= 0xFF || number >= 0xFF80 {
+        Some((number % 256) as u8)
+    } else {
+        None
+    }
+}

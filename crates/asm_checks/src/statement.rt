@@ -1,0 +1,119 @@
+//! What a line says.
+
+ghost use Rattle.std.specs.Prelude.{◌≤◌, length, IfOk, ◌≡◌, Ok, Some};
+ghost use Rattle.source_defs.specs.Fields as lines;
+ghost use Rattle.asm_text.specs.GivenFields.{defined_fields, FieldsLieInside};
+ghost use Rattle.source_defs.specs.Operands.{operand_texts};
+ghost use Rattle.module_defs.specs.Statements as spec;
+ghost use Rattle.source_defs.specs.Refusals.{seen};
+ghost use Rattle.asm_checks.specs.Answers.{Gives};
+ghost use Rattle.asm_checks.specs.Defined.{defined_statement, IsDirective, IsInstructionOf, NamesOnly};
+ghost use Rattle.asm_checks.specs.Moves.{MovesLittle};
+
+use crate::directives::directive;
+use crate::failure::{Failure, form_failure, operand_failure};
+use crate::name_lists::names_of;
+use asm_forms::size_of;
+use asm_text::{Fields, OperandError, at_most_one_of, one_of, part, quoted, some_of};
+use module_defs::Directive;
+use std::alloc::Global;
+
+/// What a line says: an instruction, or a directive with its operands. A field stands for the operands in it.
+#[derive(Clone, Copy, Debug)]
+pub enum Statement<'a> {
+    /// Nothing, or nothing that has an effect.
+    Nothing,
+    /// An instruction by its size, its operation field and its operand field.
+    Instruction(u16, &'a [u8], &'a [u8]),
+    /// The expression of an absolute origin.
+    Aorg(&'a [u8]),
+    /// The expression of a relocatable origin, where it has one.
+    Rorg(Option<&'a [u8]>),
+    /// The expression of a dummy origin.
+    Dorg(&'a [u8]),
+    /// The size of a block that starts at its label.
+    Bss(&'a [u8]),
+    /// The size of a block that ends at its label.
+    Bes(&'a [u8]),
+    /// A word boundary.
+    Even,
+    /// What the label stands for.
+    Equ(&'a [u8]),
+    /// Words.
+    Data(&'a [u8]),
+    /// Bytes.
+    Byte(&'a [u8]),
+    /// A quoted text.
+    Text(&'a [u8]),
+    /// The names that are defined for other modules.
+    Def(&'a [u8]),
+    /// The names that other modules define.
+    Ref(&'a [u8]),
+    /// The module's name.
+    Idt(&'a [u8]),
+    /// A title.
+    Titl(&'a [u8]),
+    /// The end, with the expression of the entry where it has one.
+    End(Option<&'a [u8]>),
+}
+
+/// What a line with its fields says. It never wants memory.
+#[tactic(auto, using(crate::proofs::Failures::form_fails), unfolding(module_defs::specs::Statements::statement_in))]
+pub fn statement_in<'a>(
+    alloc: Global,
+    line: &'a [u8],
+    fields: &Fields,
+) -> Result<Statement<'a>, Failure>
+    requires read { lines.fields line.now ≡ Ok (defined_fields fields.now) }
+    requires inside { FieldsLieInside line.now fields.now }
+    requires length { length line.now ≤ 256 }
+    ensures said { Gives defined_statement result (spec.statement_in line.now (defined_fields fields.now)) }
+    ensures little { IfOk result MovesLittle }
+    ensures names { IfOk result NamesOnly }
+    ensures instruction { IfOk result (IsInstructionOf line.now fields.now) }
+{
+    match fields.operation {
+        None => Ok(Statement::Nothing),
+        Some(operation) => {
+            let field = part(line, fields.operands);
+            match directive(part(line, operation)) {
+                Some(found) => match directive_statement(found, field) {
+                    Ok(statement) => Ok(statement),
+                    Err(error) => Err(operand_failure(error)),
+                },
+                None => match size_of(alloc, line, fields) {
+                    Ok(size) => Ok(Statement::Instruction(size, part(line, operation), field)),
+                    Err(error) => Err(form_failure(error)),
+                },
+            }
+        }
+    }
+}
+
+/// A directive with its operands.
+fn directive_statement(found: Directive, field: &[u8]) -> Result<Statement<'_>, OperandError>
+    requires { length field.now ≤ 256 }
+    ensures said { seen defined_statement result ≡ spec.directive_statement found (operand_texts field.now) }
+    ensures little { IfOk result MovesLittle }
+    ensures names { IfOk result NamesOnly }
+    ensures directive { IfOk result IsDirective }
+{
+    match found {
+        Directive::Aorg => Ok(Statement::Aorg(one_of(field)?)),
+        Directive::Rorg => Ok(Statement::Rorg(at_most_one_of(field)?)),
+        Directive::Dorg => Ok(Statement::Dorg(one_of(field)?)),
+        Directive::Bss => Ok(Statement::Bss(one_of(field)?)),
+        Directive::Bes => Ok(Statement::Bes(one_of(field)?)),
+        Directive::Even => Ok(Statement::Even),
+        Directive::Equ => Ok(Statement::Equ(one_of(field)?)),
+        Directive::Data => Ok(Statement::Data(some_of(field)?)),
+        Directive::Byte => Ok(Statement::Byte(some_of(field)?)),
+        Directive::Text => Ok(Statement::Text(quoted(one_of(field)?)?)),
+        Directive::Def => Ok(Statement::Def(names_of(field)?)),
+        Directive::Ref => Ok(Statement::Ref(names_of(field)?)),
+        Directive::Idt => Ok(Statement::Idt(one_of(field)?)),
+        Directive::Titl => Ok(Statement::Titl(one_of(field)?)),
+        Directive::Quiet => Ok(Statement::Nothing),
+        Directive::End => Ok(Statement::End(at_most_one_of(field)?)),
+    }
+}

@@ -1,0 +1,50 @@
+//! The values of a line.
+
+ghost use Rattle.std.specs.Prelude.{◌≡◌};
+ghost use Rattle.asm_text.specs.GivenValues.{defined_value, IsNotExternal};
+ghost use Rattle.module_defs.specs.FirstChecks.{value, absolute_in};
+ghost use Rattle.module_defs.specs.Locations as spec;
+ghost use Rattle.asm_text.specs.Yielded.{Yields};
+
+use asm_text::{ExprError, Symbols, Value, expression_value};
+use module_defs::{Location, Part};
+use std::alloc::Global;
+
+/// The names that a line sees, and its place.
+#[derive(Clone, Copy)]
+pub struct Scope<'a> {
+    pub alloc: Global,
+    pub symbols: &'a Symbols,
+    pub at: Location,
+}
+
+impl Scope<'_> {
+    /// The value of an expression.
+    pub fn value_of(&self, text: &[u8]) -> Result<Value, ExprError>
+        ensures { Yields defined_value result (value self.now.symbols.now self.now.at text.now) }
+    {
+        expression_value(self.alloc, text, self.symbols, value_at(self.at))
+    }
+
+    /// The value of an expression that has to be absolute.
+    pub fn absolute_of(&self, text: &[u8]) -> Result<u16, ExprError>
+        ensures { Yields (λ number. number) result (absolute_in self.now.symbols.now self.now.at text.now) }
+    {
+        match self.value_of(text)? {
+            Value::Absolute(number) => Ok(number),
+            Value::Relocatable(_) | Value::External(_) => Err(ExprError::BadRelocation),
+        }
+    }
+}
+
+/// What a label at a place stands for.
+pub fn value_at(at: Location) -> Value
+    ensures value { defined_value result ≡ spec.value_of at }
+    ensures known { IsNotExternal result }
+{
+    let number = (at.number % 0x10000) as u16;
+    match at.part {
+        Part::Relocatable => Value::Relocatable(number),
+        Part::Absolute | Part::Dummy => Value::Absolute(number),
+    }
+}

@@ -1,0 +1,82 @@
+-- What a builder ends with.
+use Rattle.std.proofs.Common.{◌≡◌, [], ◌∷◌, Ok, Err, Some, None, List, refl, sym, ap, subst, ◌∙◌, Vec, Global}
+use Rattle.std.specs.Prelude.{Option, Result, map}
+use Rattle.source_defs.specs.Refusals.{Refusal, ◌>>=◌}
+use Rattle.source_defs.specs.Orders.{onto}
+use Rattle.source_defs.specs.Symbols.{Names}
+use Rattle.source_defs.specs.Layout.{settled}
+use Rattle.object_defs.specs.Modules.{Module, Reference}
+use Rattle.module_defs.specs.Locations.{Line}
+use Rattle.module_defs.specs.FirstChecks.{names, refs}
+use Rattle.module_defs.specs.Memory.{Settled}
+use Rattle.module_defs.specs.Modules.{settle, unused, module_by, module_behind}
+use Rattle.asm_image.specs.Standing.{AllStand}
+use Rattle.asm_image.specs.declared.image.Image.{Image}
+use Rattle.asm_core.specs.declared.draft.Draft.{Draft}
+use Rattle.asm_core.specs.declared.error.AsmError.{AsmError}
+use Rattle.asm_core.specs.declared.lines.AsmLines.{AsmLines}
+use Rattle.asm_core.specs.declared.pending.Pending.{Pending}
+use Rattle.asm_core.specs.declared.pending.Refused.{Refused}
+use Rattle.asm_core.specs.Building.{AreKnown, ImageOf, IsGoing, IsStopped, IsWorked, IsBehind}
+use Rattle.asm_core.specs.Drafts.{IsDraft}
+use Rattle.asm_core.specs.Finishing.{RefusesAt, AreSettled, StopsBehind, Knows, SameEnd}
+use Rattle.asm_core.proofs.SettleLaws.{settled_stopped, refuses_on}
+
+-- the lines before the one that is refused, or all
+worked_refused : (lines : List Line) (known : Names) (image : Option Image) (waiting : List Pending) (refused : Option Refused) → IsWorked lines known image waiting refused
+    → (error : AsmError)
+    → ((order : List Line) (founds : List Settled) → AreKnown known [] order founds waiting → AllStand [] founds → RefusesAt error (settled (settle known) (onto [] order)))
+    → RefusesAt error (settled (settle known) lines)
+worked_refused lines known image waiting None is error refuses =
+    refuses_on error (settled (settle known) (onto [] is.order)) (settled (settle known) lines)
+    (λ refusal e. ap (settled (settle known)) is.all ∙ e) (refuses is.order is.founds is.known is.stand)
+worked_refused lines known image waiting (Some refused) is error refuses =
+    refuses_on error (settled (settle known) (onto [] is.order)) (settled (settle known) lines)
+    (λ refusal e. ap (settled (settle known)) is.all ∙ settled_stopped known (is.line ∷ is.later) (onto [] is.order) refusal e)
+    (refuses is.order is.founds is.known is.stand)
+
+module _ (lines : List Line) (old new : AsmLines) (is : IsBehind lines old) (same : SameEnd old new) where
+  works : IsWorked lines new.symbols old.image new.waiting.items new.refused
+  works = rw (same.symbols, ap (λ (waiting : Vec Pending Global). waiting.items) same.waiting, same.refused) is.worked
+
+  names_are : new.symbols ≡ names lines
+  names_are = same.symbols ∙ is.names
+
+  whole : (error : AsmError) → RefusesAt error (settled (settle new.symbols) lines) → RefusesAt error (module_behind lines)
+  whole error refuses =
+      refuses_on error (settled (settle new.symbols) lines) (module_behind lines)
+      (λ refusal e.
+      ap (λ (known : Names). settled (settle known) lines >>= λ found. Ok (module_by lines found)) (sym names_are)
+      ∙ ap (λ answer. answer >>= λ found. Ok (module_by lines found)) e)
+      refuses
+
+  pub ends_refused : (error : AsmError)
+      → ((order : List Line) (founds : List Settled) → AreKnown new.symbols [] order founds new.waiting.items → AllStand [] founds
+      → RefusesAt error (settled (settle new.symbols) (onto [] order)))
+      → RefusesAt error (module_behind lines)
+  ends_refused error refuses = whole error (worked_refused lines new.symbols old.image new.waiting.items new.refused works error refuses)
+
+  module _ (unused : List Reference) (first last : Draft) (done : (order : List Line) (founds : List Settled) → AreKnown new.symbols [] order founds new.waiting.items → AllStand [] founds → AreSettled unused order founds new.symbols first last) where
+    pub ends_stopped : (refused : Refused) → new.refused ≡ Some refused → (error : AsmError)
+        → ((lines : List Line) (waiting : List Pending) (done : List Settled) → (is : IsStopped refused lines new.symbols waiting) → StopsBehind new.symbols lines is.order is.founds done error)
+        → RefusesAt error (module_behind lines)
+    ends_stopped refused some error stops =
+        let stopped : IsStopped refused lines new.symbols new.waiting.items = subst (IsWorked lines new.symbols old.image new.waiting.items) some works in
+        let before = done stopped.order stopped.founds stopped.known stopped.stand in
+        whole error (stops lines new.waiting.items before.done stopped before.settled before.places)
+
+    pub ends_going : new.refused ≡ None → ((founds : List Settled) → ImageOf (onto [] founds) old.image → IsDraft unused [] founds first) → (found : Module)
+        → ((settled : List Settled) → Knows lines new → IsDraft unused settled [] last → found ≡ module_by lines settled) → module_behind lines ≡ Ok found
+    ends_going none begun found makes =
+        let going : IsGoing lines new.symbols old.image new.waiting.items = subst (IsWorked lines new.symbols old.image new.waiting.items) none works in
+        let all = done going.order going.founds going.known going.stand in
+        let knows : Knows lines new = record {
+          names = names_are;
+          reached = same.reached ∙ is.reached;
+          title = same.title ∙ is.title;
+          defs = same.defs ∙ is.defs;
+        } in
+        let settled_are : settled (settle new.symbols) lines ≡ Ok all.done = ap (settled (settle new.symbols)) going.all ∙ all.settled in
+        ap (λ (known : Names). settled (settle known) lines >>= λ found. Ok (module_by lines found)) (sym names_are)
+        ∙ (ap (λ answer. answer >>= λ found. Ok (module_by lines found)) settled_are
+        ∙ ap Ok (sym (makes all.done knows (all.draft (begun going.founds going.image)))))

@@ -1,0 +1,147 @@
+-- The lines that wait, settled one after the other.
+use Rattle.std.proofs.Common.{◌≡◌, ℕ, suc, ◌+◌, ◌<◌, List, [], ◌∷◌, Ok, Err, length, get_or, drop, refl, sym, ap, subst, ◌∙◌, arith}
+use Rattle.std.proofs.Math.Seq.{drop-cons}
+use Rattle.std.specs.Prelude.{Result}
+use Rattle.source_defs.specs.Refusals.{Refusal, ◌>>=◌}
+use Rattle.source_defs.specs.Orders.{onto}
+use Rattle.source_defs.specs.Symbols.{Names}
+use Rattle.source_defs.specs.Layout.{settled}
+use Rattle.object_defs.specs.Modules.{Reference}
+use Rattle.object_tags.specs.Seen.{defined_ref}
+use Rattle.module_defs.specs.declared.causes.AsmCause.{AsmCause}
+use Rattle.module_defs.specs.Locations.{Line, place}
+use Rattle.module_defs.specs.Memory.{Settled, is_placed, references_of}
+use Rattle.module_defs.specs.Modules.{settle, entry}
+use Rattle.module_defs.specs.Growing.{held_place}
+use Rattle.asm_checks.specs.Answers.{Fails}
+use Rattle.asm_checks.specs.declared.failure.Failure.{Failure}
+use Rattle.asm_image.specs.Images.{IsImage}
+use Rattle.asm_image.specs.Standing.{AllStand, FillsPlace, SamePlaces}
+use Rattle.asm_image.proofs.SwapLaws.{places_same, onto_same, stand_same}
+use Rattle.asm_core.specs.declared.draft.Draft.{Draft}
+use Rattle.asm_core.specs.declared.pending.Pending.{Pending}
+use Rattle.asm_core.specs.Building.{IsOf, AreKnown, refusal_at}
+use Rattle.asm_core.specs.Drafts.{HoldsBytes, IsDraft, IsSettled, answer_to}
+use Rattle.asm_core.specs.Finishing.{RefusesAt, AreSettled}
+use Rattle.asm_core.proofs.KnownLaws.{NextHeld, next_held, none_held}
+use Rattle.asm_core.proofs.SettleLaws.{settled_more, settled_stops, settled_stopped, answer_is, settle_by, settle_filled, fills_place, fills_held, refuses_by, real}
+
+-- lines are settled up to some that wait, and what is known of the others stands behind them
+pub record IsSoFar (unused : List Reference) (names : Names) (order : List Line) (founds : List Settled) (waiting : List Pending) (old new : Draft) : Type 0 where
+  pub before : List Line
+  pub rest : List Line
+  pub done : List Settled
+  pub left : List Settled
+  pub all : onto [] order ≡ onto before rest
+  pub settled : settled (settle names) before ≡ Ok done
+  pub known : AreKnown names before rest left waiting
+  pub stand : AllStand done left
+  pub places : SamePlaces (onto [] founds) (onto done left)
+  pub draft : IsDraft unused [] founds old → IsDraft unused done left new
+
+pub first_so_far : (unused : List Reference) (names : Names) (order : List Line) (founds : List Settled) (waiting : List Pending) (draft : Draft)
+    → AreKnown names [] order founds waiting → AllStand [] founds → IsSoFar unused names order founds waiting draft draft
+first_so_far unused names order founds waiting draft known stand = record {
+  before = [];
+  rest = order;
+  done = [];
+  left = founds;
+  all = refl;
+  settled = refl;
+  known = known;
+  stand = stand;
+  places = λ part p. refl;
+  draft = λ is. is;
+}
+
+-- the lines before the next one that waits are done
+draft_on : (unused : List Reference) (done earlier left later : List Settled) (found : Settled) (draft : Draft) → onto done left ≡ onto earlier (found ∷ later)
+    → references_of unused earlier ≡ references_of unused done
+    → entry earlier ≡ entry done → IsDraft unused done left draft
+    → IsDraft unused earlier (found ∷ later) draft
+draft_on unused done earlier left later found draft founds references entry is = record {
+  bytes = record {
+    image = subst (λ lines. IsImage unused lines draft.image) founds is.bytes.image;
+    references = is.bytes.references ∙ sym references;
+  };
+  entry = is.entry ∙ sym entry;
+}
+
+module _ (unused : List Reference) (names : Names) (order : List Line) (founds : List Settled) (pending : Pending) (others : List Pending) (first old new : Draft) (so_far : IsSoFar unused names order founds (pending ∷ others) first old) where
+  next : NextHeld names unused so_far.before so_far.rest so_far.done so_far.left pending others
+  next = next_held names unused so_far.before so_far.rest so_far.done so_far.left pending others so_far.known so_far.stand so_far.settled
+
+  abbrev pub are_pending : Pending → Pending → Type 0
+  are_pending a b = a ≡ b
+
+  same_pending : are_pending next.is.first pending
+  same_pending = let both : pending ∷ others ≡ next.is.first ∷ others = next.is.others in cc both
+
+  waits : IsOf next.lines next.line pending
+  waits = subst (IsOf next.lines next.line) same_pending next.is.is
+
+  pub next_so_far : IsSettled unused names pending old new → IsSoFar unused names order founds others first new
+  next_so_far by =
+      let line = real names unused next.lines next.line pending waits old new by in
+      let held = held_place (place next.lines next.line) next.line.statement in
+      let fills : FillsPlace held line = fills_place names unused next.lines next.line pending waits old new by in
+      let stand : AllStand next.earlier (held ∷ next.later) = subst (λ found. AllStand next.earlier (found ∷ next.later)) next.is.held next.stand in
+      let places : SamePlaces (held ∷ next.earlier) (line ∷ next.earlier) = places_same unused next.earlier held line fills in
+      let founds_are : onto so_far.done so_far.left ≡ onto (held ∷ next.earlier) next.later =
+      next.founds ∙ ap (λ (found : Settled). onto (found ∷ next.earlier) next.later) next.is.held in
+      record {
+        before = next.line ∷ next.lines;
+        rest = next.left;
+        done = line ∷ next.earlier;
+        left = next.later;
+        all = so_far.all ∙ next.all;
+        settled = settled_more names next.lines next.line next.earlier line next.settled
+            (settle_filled names unused next.lines next.line pending waits old new by next.earlier
+            ∙ ap (λ answer. answer >>= λ held. Ok line) stand.0.room);
+        known = next.known;
+        stand = stand_same (held ∷ next.earlier) (line ∷ next.earlier) next.later places stand.1;
+        places = λ part p.
+            so_far.places part p
+            ∙ (ap (λ lines. is_placed lines part p) founds_are
+            ∙ onto_same (held ∷ next.earlier) (line ∷ next.earlier) next.later places part p);
+        draft = λ is.
+            fills_held names unused next.lines next.line pending waits old new by next.earlier next.later next.found next.is.held
+            (subst (λ found. AllStand (found ∷ next.earlier) next.later) (sym next.is.held) stand.1)
+            (draft_on unused so_far.done next.earlier so_far.left next.later next.found old next.founds next.references next.entry (so_far.draft is));
+      }
+
+  pub so_far_refused : (failure : Failure) → Fails failure (answer_to names pending)
+      → RefusesAt (refusal_at pending.number failure) (settled (settle names) (onto [] order))
+  so_far_refused failure fails =
+      refuses_by failure pending.number (answer_to names pending) (settled (settle names) (onto [] order)) fails
+      (λ cause e.
+      ap (settled (settle names)) (so_far.all ∙ next.all)
+      ∙ (settled_stopped names next.left (next.line ∷ next.lines) _
+      (settled_stops names next.lines next.line next.earlier cause next.settled
+      (settle_by names next.lines next.line next.earlier (Err cause) (sym (answer_is names next.lines next.line pending waits) ∙ e)))
+      ∙ ap (λ number. Err (record { line = number; cause = cause })) (sym waits.number)))
+
+pub all_settled : (unused : List Reference) (names : Names) (order : List Line) (founds : List Settled) (first draft : Draft)
+    → IsSoFar unused names order founds [] first draft → AreSettled unused order founds names first draft
+all_settled unused names order founds first draft so_far =
+    let rest = none_held names unused so_far.before so_far.rest so_far.done so_far.left so_far.known so_far.stand so_far.settled in
+    record {
+      done = onto so_far.done so_far.left;
+      settled = ap (settled (settle names)) so_far.all ∙ rest.settled;
+      places = so_far.places;
+      draft = λ is.
+          let there = so_far.draft is in
+          record {
+            bytes = record { image = there.bytes.image; references = there.bytes.references ∙ sym rest.references };
+            entry = there.entry ∙ sym rest.entry;
+          };
+    }
+
+pub first_waits : (slice items : List Pending) (index : ℕ) (pending : Pending) → slice ≡ items → index < length slice → pending ≡ get_or slice index pending
+    → drop index items ≡ pending ∷ drop (index + 1) items
+first_waits slice items index pending same lt is =
+    let next : suc index ≡ index + 1 = omega arith in
+    ap (drop index) (sym same)
+    ∙ (drop-cons slice index pending lt
+    ∙ (ap (λ (first : Pending). first ∷ drop (suc index) slice) (sym is)
+    ∙ (ap (λ n. pending ∷ drop n slice) next ∙ ap (λ (rest : List Pending). pending ∷ drop (index + 1) rest) same)))

@@ -1,0 +1,128 @@
+-- A builder with one line more.
+use Rattle.std.proofs.Common.{◌≡◌, ◌+◌, ◌++◌, ◌∷◌, List, ℕ, Ok, Err, true, false, Some, None, Bool, refl, sym, ap, subst, ◌∙◌, append-nil}
+use Rattle.std.specs.Prelude.{Result, Option, OnOk, IsErrAnd, is_some, option_to_list}
+use Rattle.std.proofs.Common.{Vec, Global}
+use Rattle.module_defs.specs.FirstChecks.{defs_in, refs_in}
+use Rattle.source_defs.specs.Symbols.{Names}
+use Rattle.source_defs.specs.Growing.{Grows}
+use Rattle.module_defs.specs.declared.location.Location.{Location}
+use Rattle.module_defs.specs.Locations.{Line, behind, place}
+use Rattle.module_defs.specs.Memory.{Settled}
+use Rattle.asm_image.specs.declared.image.Image.{Image}
+use Rattle.asm_checks.specs.Defined.{defined_statement}
+use Rattle.asm_checks.specs.declared.first_checks.Checked.{Checked}
+use Rattle.asm_core.specs.declared.judge.Claim.{Claim}
+use Rattle.asm_core.specs.declared.pending.Refused.{Refused}
+use Rattle.asm_core.specs.declared.pending.Pending.{Pending}
+use Rattle.asm_core.specs.declared.lines.AsmLines.{AsmLines}
+use Rattle.asm_core.specs.Judging.{JudgesBy}
+use Rattle.asm_core.specs.declared.error.AsmError.{AsmError}
+use Rattle.asm_core.specs.declared.error.AsmError.TheVariants.{Memory}
+use Rattle.asm_core.specs.Building.{IsWorked, ImageOf, IsGoing, IsBehind, Takes}
+use Rattle.asm_core.specs.Keeping.{names_with, Keeps, IsUnchanged, SameNames, SameWork, StandsStill}
+use Rattle.asm_core.specs.Claiming.{SameLines, SameKnown, Claims}
+use Rattle.asm_core.specs.Adding.{Adds, IsAsBefore, IsNext, WorksIn}
+use Rattle.asm_core.proofs.WorkedLaws.{worked_stopped, claimed}
+
+-- a builder by what it works in
+pub works_same : (lines : List Line) (old new : AsmLines) → new.symbols ≡ old.symbols → new.image ≡ old.image → new.waiting.items ≡ old.waiting.items
+    → new.refused ≡ old.refused → WorksIn lines old → WorksIn lines new
+works_same lines old new names image waiting refused works = rw (names, image, waiting, refused) works
+
+kept_by : (old : AsmLines) (text : List ℕ) (checked : Checked) (new : AsmLines) → is_some old.refused ≡ true → SameWork old new → Keeps old None checked new
+    → Adds old text checked new
+kept_by old text checked new some same keeps = record {
+  defs = keeps.defs;
+  refs = keeps.refs;
+  names = keeps.names;
+  worked = λ lines line next works.
+      worked_stopped old.symbols new.symbols keeps.grows lines line old.refused new.refused old.image new.image old.waiting.items new.waiting.items some same.refused
+      (keeps.waits ∙ append-nil old.waiting.items) works;
+}
+
+pub kept_stopped : {A E : Type 0} (old : AsmLines) (text : List ℕ) (checked : Checked) (new : AsmLines) (result : Result A E) → is_some old.refused ≡ true → SameWork old new
+    → OnOk result (Keeps old None checked new) → OnOk result (Adds old text checked new)
+kept_stopped old text checked new (Ok value) some same keeps = kept_by old text checked new some same keeps
+kept_stopped old text checked new (Err error) some same keeps = tt
+
+-- the image is ready, and nothing else has changed
+going_by : (lines : List Line) (names : Names) (image image' : Option Image) (waiting : List Pending) → ((founds : List Settled) → ImageOf founds image → ImageOf founds image')
+    → IsGoing lines names image waiting → IsGoing lines names image' waiting
+going_by lines names image image' waiting made is = record {
+  order = is.order;
+  founds = is.founds;
+  all = is.all;
+  known = is.known;
+  stand = is.stand;
+  image = made _ is.image;
+}
+
+worked_by : (lines : List Line) (names : Names) (image image' : Option Image) (waiting : List Pending) (refused : Option Refused)
+    → ((founds : List Settled) → ImageOf founds image → ImageOf founds image') → IsWorked lines names image waiting refused → IsWorked lines names image' waiting refused
+worked_by lines names image image' waiting None made is = going_by lines names image image' waiting made is
+worked_by lines names image image' waiting (Some refused) made is = is
+
+pub prepared : (old new : AsmLines) → SameLines old new → ((founds : List Settled) → ImageOf founds old.image → ImageOf founds new.image) → IsAsBefore old new
+prepared old new same made = record {
+  names = same.known.names;
+  worked = λ lines works.
+      let ready = worked_by lines old.symbols old.image new.image old.waiting.items old.refused made works in
+      rw (same.known.names.symbols, ap (λ (waiting : Vec Pending Global). waiting.items) same.waiting, same.refused) ready;
+}
+
+pub unkept : (old between new : AsmLines) → IsAsBefore old between → IsUnchanged between new → SameWork between new → IsAsBefore old new
+unkept old between new before same work = record {
+  names = record {
+    defs = same.lists.defs ∙ before.names.defs;
+    refs = same.lists.refs ∙ before.names.refs;
+    symbols = same.names ∙ before.names.symbols;
+  };
+  worked = λ lines works. works_same lines between new same.names work.image same.lists.waits work.refused (before.worked lines works);
+}
+
+-- a line of which nothing was added
+pub still_behind : (lines : List Line) (old new : AsmLines) → IsAsBefore old new → StandsStill old new → IsBehind lines old → IsBehind lines new
+still_behind lines old new before still is = record {
+  names = before.names.symbols ∙ is.names;
+  location = still.location ∙ is.location;
+  reached = still.reached ∙ is.reached;
+  title = still.title ∙ is.title;
+  defs = before.names.defs ∙ is.defs;
+  refs = before.names.refs ∙ is.refs;
+  taken = still.taken ∙ is.taken;
+  ended = still.ended ∙ is.ended;
+  worked = before.worked lines is.worked;
+}
+
+pub takes_none : {A : Type 0} (lines : List Line) (text : List ℕ) (result : Result A AsmError) (new : AsmLines) → IsErrAnd result (λ (error : AsmError). error ≡ Memory)
+    → IsBehind lines new → Takes lines text result new
+takes_none lines text (Ok value) new wants is = absurd wants
+takes_none lines text (Err error) new wants is = subst (λ (error : AsmError). Takes {A = Unit {0}} lines text (Err error) new) (sym wants) is
+
+none_is : (refused : Option Refused) → is_some refused ≡ false → refused ≡ None
+none_is None none = refl
+none_is (Some refused) none = cc none
+
+going_is : (lines : List Line) (names : Names) (image : Option Image) (waiting : List Pending) (refused : Option Refused) → is_some refused ≡ false
+    → IsWorked lines names image waiting refused → IsGoing lines names image waiting
+going_is lines names image waiting None none is = is
+going_is lines names image waiting (Some refused) none is = cc none
+
+pub worked : (old ready kept new : AsmLines) (text : List ℕ) (checked : Checked) (waiting : Option Pending) (claim : Claim) (at : Location) → is_some old.refused ≡ false
+    → SameLines old ready → ((founds : List Settled) → ImageOf founds old.image → ImageOf founds ready.image) → at ≡ behind ready.location checked.moved.gap
+    → JudgesBy ready.symbols (ready.taken + 1) at text (defined_statement checked.said.statement) waiting claim → Keeps ready waiting checked kept → SameWork ready kept
+    → StandsStill ready kept → SameKnown kept new → Claims kept at claim (is_some waiting) new → Adds old text checked new
+worked old ready kept new text checked waiting claim at none same made is_at judges keeps work still known claims = record {
+  defs = known.names.defs ∙ (keeps.defs ∙ ap (λ (names : List (List ℕ)). names ++ defs_in (defined_statement checked.said.statement)) same.known.names.defs);
+  refs = known.names.refs ∙ (keeps.refs ∙ ap (λ (names : List (List ℕ)). names ++ refs_in (defined_statement checked.said.statement)) same.known.names.refs);
+  names = known.names.symbols ∙ (keeps.names ∙ ap (λ (names : Names). names_with names checked) same.known.names.symbols);
+  worked = λ lines line next works.
+      let going = going_is lines old.symbols old.image old.waiting.items old.refused none works in
+      let going_on = going_by lines old.symbols old.image ready.image old.waiting.items made going in
+      let begun : IsGoing lines ready.symbols ready.image ready.waiting.items = rw (same.known.names.symbols, ap (λ (waiting : Vec Pending Global). waiting.items) same.waiting) going_on in
+      claimed ready.symbols new.symbols (subst (Grows ready.symbols) (sym known.names.symbols) keeps.grows) lines line ready.image ready.waiting.items begun
+      kept new at text (is_at ∙ (ap (λ (from : Location). behind from checked.moved.gap) same.known.still.location ∙ next.at)) next.said
+      (ap (λ taken. taken + 1) (still.taken ∙ same.known.still.taken) ∙ next.number) work.image (work.refused ∙ (same.refused ∙ none_is old.refused none))
+      (defined_statement checked.said.statement) next.statement (ready.taken + 1) (ap (λ taken. taken + 1) same.known.still.taken ∙ next.number)
+      waiting claim judges keeps.waits claims;
+}

@@ -1,0 +1,12 @@
+use Rattle.std.proofs.Common.{◌≡◌, arith}
+use Rattle.source_defs.specs.Symbols.{look_up}
+use Rattle.asm_core.proofs.JudgeLaws.{comes_within}
+use Rattle.asm_core.proofs.judge.Judge.judge.Goals as goal
+
+pub bytes_of-requires : goal.bytes_of-requires
+bytes_of-requires c =
+    omega (
+      arith,
+      c.requires.room.fits,
+      comes_within (look_up c.args.self.now.symbols.now) c.args.self.now.at c.args.text.now c.args.said.now.fields c.args.said.now.statement _ c.requires.line.instruction c.in-Ok.ensures,
+    )

@@ -1,0 +1,96 @@
+-- A builder behind one line more.
+use Rattle.std.proofs.Common.{◌≡◌, ℕ, ◌+◌, ◌≤◌, Bool, true, false, List, [], ◌∷◌, ◌++◌, Some, None, Ok, Err, length, refl, sym, ap, subst, ◌∙◌, arith}
+use Rattle.std.specs.Prelude.{Option, Result, if◌then◌else◌, is_some}
+use Rattle.std.specs.List.{AllByRecursion}
+use Rattle.source_defs.specs.Refusals.{Refusal, ◌>>=◌, at_line}
+use Rattle.source_defs.specs.Expression.{Value}
+use Rattle.source_defs.specs.Symbols.{Names, look_up}
+use Rattle.source_defs.specs.Growing.{Grows}
+use Rattle.source_defs.specs.Layout.{settled, with_names, set_or, none_or, origin, since}
+use Rattle.gpl_defs.specs.Image.{placed}
+use Rattle.program_defs.specs.declared.causes.GplCause.{GplCause}
+use Rattle.program_defs.specs.declared.causes.GplCause.TheVariants.{Overlap}
+use Rattle.program_defs.specs.declared.location.Location.{Location}
+use Rattle.program_defs.specs.Statements.{Statement, size_said}
+use Rattle.program_defs.specs.Locations.{Line, location, place, behind, start, origin_of, IsInGrom}
+use Rattle.program_defs.specs.FirstChecks.{Checked, line_of, names, label_entry, label_value, is_taken}
+use Rattle.program_defs.specs.SecondChecks.{Outcome, Bytes, Entry, outcome}
+use Rattle.program_defs.specs.Programs.{Settled, settle, image, entry, bytes_in, entry_by, overlaps, with_room}
+use Rattle.program_defs.proofs.Sizes.{outcome_size}
+use Rattle.gpl_asm.specs.declared.kept.Kept.{Kept}
+use Rattle.gpl_asm.specs.declared.kept.Rest.{Rest}
+use Rattle.gpl_asm.specs.declared.lines.GplLines.{GplLines}
+use Rattle.gpl_asm.specs.Replay.{Built, put, answer, answer_by, step, replay, nothing, HasRoom, WaitsForSome}
+use Rattle.gpl_asm.specs.Keeping.{kept_of}
+use Rattle.gpl_asm.specs.Building.{built_of, whole}
+use Rattle.std.proofs.lemmas.List.{append-nil}
+use Rattle.gpl_asm.proofs.ReplayLaws.{replay_more}
+
+-- the location behind a line
+location_by : (set : Option Location) (from : Location) (bytes more : ℕ)
+    → behind (set_or set from) (none_or set bytes + more) ≡ behind (set_or set (behind from bytes)) more
+location_by (Some origin) from bytes more = ap (λ number. record { grom = origin.grom; number = origin.number + number }) (omega arith)
+location_by None from bytes more =
+    let same : from.number + (bytes + more) ≡ from.number + bytes + more = omega arith in
+    ap (λ number. record { grom = from.grom; number = number }) same
+
+pub location_more : (number : ℕ) (found : Checked) (lines : List Line)
+    → location (line_of (location lines) number found ∷ lines)
+    ≡ behind (set_or (origin_of (location lines) found.statement) (location lines)) (size_said found.statement)
+location_more number found lines =
+    let none : 0 + size_said found.statement ≡ size_said found.statement = omega arith in
+    location_by (origin_of (location lines) found.statement) (origin start behind lines) (since start behind lines) (0 + size_said found.statement)
+    ∙ ap (behind (set_or (origin_of (location lines) found.statement) (location lines))) none
+
+-- a line's place
+pub place_is : (number : ℕ) (found : Checked) (lines : List Line) → place lines (line_of (location lines) number found) ≡ location lines
+place_is number found lines =
+    let none : (location lines).number + 0 ≡ (location lines).number = omega arith in
+    ap (λ number. record { grom = (location lines).grom; number = number }) none
+
+-- what lines come to with one more
+module _ (later : Names) where
+  abbrev added : List Line → Line → Built → Result Built (Refusal GplCause)
+  added lines line built = at_line line.number (outcome (look_up later) (place lines line) line.statement >>= λ found. put (place lines line) found built)
+
+  room_by : (number : ℕ) (found : List Settled) (line : Settled) (overlap : Bool)
+      → (at_line number (if overlap then Err Overlap else Ok line) >>= λ last. Ok (built_of (last ∷ found)))
+      ≡ at_line number (if overlap then Err Overlap else Ok (built_of (line ∷ found)))
+  room_by number found line true = refl
+  room_by number found line false = refl
+
+  outcome_by : (number : ℕ) (at : Location) (found : List Settled) (answer : Result Outcome GplCause)
+      → (at_line number (answer >>= λ came. with_room found (record { at = at.number; outcome = came })) >>= λ last. Ok (built_of (last ∷ found)))
+      ≡ at_line number (answer >>= λ came. put at came (built_of found))
+  outcome_by number at found (Ok came) =
+      room_by number found (record { at = at.number; outcome = came }) (overlaps (image found) at.number (bytes_in came))
+  outcome_by number at found (Err cause) = refl
+
+  then_built : (answer : Result Settled (Refusal GplCause)) (found : List Settled)
+      → ((answer >>= λ last. Ok (last ∷ found)) >>= λ all. Ok (built_of all)) ≡ (answer >>= λ last. Ok (built_of (last ∷ found)))
+  then_built (Ok last) found = refl
+  then_built (Err refusal) found = refl
+
+  whole_by : (lines : List Line) (line : Line) (earlier : Result (List Settled) (Refusal GplCause))
+      → ((earlier >>= λ found. at_line line.number (settle later lines found line) >>= λ last. Ok (last ∷ found)) >>= λ all. Ok (built_of all))
+      ≡ ((earlier >>= λ found. Ok (built_of found)) >>= added lines line)
+  whole_by lines line (Ok found) =
+      then_built (at_line line.number (settle later lines found line)) found
+      ∙ outcome_by line.number (place lines line) found (outcome (look_up later) (place lines line) line.statement)
+  whole_by lines line (Err refusal) = refl
+
+  pub whole_more : (lines : List Line) (line : Line) → whole later (line ∷ lines) ≡ (whole later lines >>= added lines line)
+  whole_more lines line = whole_by lines line (settled (settle later) lines)
+
+  -- a line that comes to nothing
+  nothing_put : (number : ℕ) (at : Location) (answer : Result Built (Refusal GplCause))
+      → (answer >>= λ built. at_line number (put at (Bytes []) built)) ≡ answer
+  nothing_put number at (Ok built) = refl
+  nothing_put number at (Err refusal) = refl
+
+  -- one that was kept, or comes to nothing
+  pub kept_more : (builder : GplLines) (rest : Option Rest)
+      → replay later nothing (builder.kept.items ++ kept_of builder rest)
+      ≡ (replay later nothing builder.kept.items >>= λ built. at_line (builder.taken + 1) (answer later builder.location rest >>= λ found. put builder.location found built))
+  kept_more builder None = ap (replay later nothing) (append-nil builder.kept.items) ∙ sym (nothing_put (builder.taken + 1) builder.location (replay later nothing builder.kept.items))
+  kept_more builder (Some rest) = replay_more later nothing builder.kept.items (record { number = builder.taken + 1; at = builder.location; rest = rest })

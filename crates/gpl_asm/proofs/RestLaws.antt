@@ -1,0 +1,25 @@
+-- What is left of a line.
+use Rattle.std.proofs.Common.{◌≡◌, ℕ, true, List, Ok, ap, ◌∙◌}
+use Rattle.std.specs.Prelude.{Result}
+use Rattle.source_defs.specs.Refusals.{◌>>=◌}
+use Rattle.source_defs.specs.Symbols.{Names, look_up}
+use Rattle.source_defs.specs.Growing.{Grows, is_closed}
+use Rattle.program_defs.specs.declared.location.Location.{Location}
+use Rattle.program_defs.specs.Statements.{Statement}
+use Rattle.program_defs.specs.FirstChecks.{said}
+use Rattle.program_defs.specs.SecondChecks.{outcome}
+use Rattle.program_defs.specs.Growing.{is_open}
+use Rattle.program_defs.proofs.GrowingLaws.{outcome_stays, said_stays}
+
+-- a line that is read again says what it said, and comes to what it comes to
+pub open_again : (known later : Names) (at : Location) (text : List ℕ) (statement : Statement) → Grows known later → said known at text ≡ Ok statement
+    → (said later at text >>= λ statement. outcome (look_up later) at statement) ≡ outcome (look_up later) at statement
+open_again known later at text statement grows e =
+    let closed : is_closed is_open (said known at text) ≡ true = ap (is_closed is_open) e in
+    let again : said later at text ≡ Ok statement = said_stays known later grows at text closed ∙ e in
+    ap (λ found. found >>= λ statement. outcome (look_up later) at statement) again
+
+-- a line without open values comes to what it comes to
+pub closed_again : (known later : Names) (at : Location) (statement : Statement) → Grows known later
+    → is_closed is_open (outcome (look_up known) at statement) ≡ true → outcome (look_up later) at statement ≡ outcome (look_up known) at statement
+closed_again known later at statement grows closed = outcome_stays (look_up known) (look_up later) grows at statement closed

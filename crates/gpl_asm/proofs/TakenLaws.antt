@@ -1,0 +1,37 @@
+-- Lines that are taken one after the other.
+use Rattle.std.proofs.Common.{◌≡◌, ℕ, ◌+◌, false, List, [], ◌∷◌, ◌++◌, Ok, Err, length, sym, ap, ◌∙◌, arith, length-append}
+use Rattle.std.specs.Prelude.{Result}
+use Rattle.source_defs.specs.Refusals.{Refusal, ◌>>=◌, at_line}
+use Rattle.source_defs.specs.Layout.{laid, numbered, has_ended}
+use Rattle.source_defs.proofs.LaidLaws.{last_line, laid_more}
+use Rattle.program_defs.specs.FirstChecks.{check}
+use Rattle.gpl_asm.specs.Building.{Takes, HasTaken}
+use Rattle.gpl_asm.specs.Finishing.{TakesText}
+use Rattle.gpl_asm.specs.declared.error.GplError.{GplError}
+use Rattle.gpl_asm.specs.declared.error.GplError.TheVariants.{At, Memory}
+use Rattle.gpl_asm.specs.declared.lines.GplLines.{GplLines}
+
+-- a line that was taken, by the texts of the lines
+module _ (texts : List (List ℕ)) (text : List ℕ) (builder new : GplLines) (taken : HasTaken texts builder) (going : has_ended taken.lines ≡ false) where
+  abbrev count : ℕ
+  count = length taken.lines + 1
+
+  whole_is : laid check (numbered 1 (texts ++ text ∷ [])) ≡ last_line check text taken.lines count
+  whole_is = laid_more check text texts [] 1 count taken.lines (omega (arith, taken.all)) taken.laid going
+
+  pub takes_text : {A : Type 0} (result : Result A GplError) → Takes taken.lines text result new → TakesText texts text result new
+  takes_text (Ok value) takes = record {
+    lines = takes.0 ∷ taken.lines;
+    laid = whole_is ∙ ap (λ answer. at_line count answer >>= λ line. Ok (line ∷ taken.lines)) takes.1;
+    all = omega (arith, taken.all, length-append texts (text ∷ []));
+    behind = takes.2;
+  }
+  takes_text (Err Memory) takes = (tt, record { lines = taken.lines; laid = taken.laid; all = taken.all; behind = takes })
+  takes_text (Err (At number cause)) takes = (
+    (
+      whole_is ∙ (ap (λ answer. at_line count answer >>= λ line. Ok (line ∷ taken.lines)) takes.1
+          ∙ ap (λ number. Err (record { line = number; cause = cause })) (sym takes.0)),
+      takes.2,
+    ),
+    record { lines = taken.lines; laid = taken.laid; all = taken.all; behind = takes.3 },
+  )

@@ -1,0 +1,59 @@
+use Rattle.std.proofs.Common.{◌≡◌, ◌+◌, ◌∷◌, ◌||◌, false, Ok, Err, List, length, refl, sym, ap, subst, ◌∙◌}
+use Rattle.std.specs.Prelude.{Option}
+use Rattle.source_defs.specs.Refusals.{◌>>=◌}
+use Rattle.source_defs.specs.Symbols.{Names, look_up}
+use Rattle.source_defs.specs.Layout.{with_names}
+use Rattle.program_defs.specs.declared.location.Location.{Location}
+use Rattle.source_defs.specs.Growing.{Grows}
+use Rattle.program_defs.specs.Locations.{Line, location, behind, origin_of}
+use Rattle.source_defs.specs.Layout.{set_or}
+use Rattle.program_defs.specs.FirstChecks.{Checked, checked, line_of, names, label_entry, is_taken, is_full, is_end}
+use Rattle.program_defs.specs.SecondChecks.{outcome}
+use Rattle.gpl_lines.specs.Defined.{defined_checked, defined_statement}
+use Rattle.program_defs.proofs.CheckLaws.{is_let_through}
+use Rattle.gpl_asm.specs.Replay.{answer}
+use Rattle.gpl_asm.proofs.TakeLaws.{leads_on, reaches, is_behind}
+use Rattle.gpl_asm.proofs.lines.GplLines.take.Goals as goal
+
+pub rest_of-requires-clause-said : goal.rest_of-requires-clause-said
+rest_of-requires-clause-said c =
+    (is_let_through c.scope-scope.result.symbols.now c.scope-scope.result.at c.args.text.now (defined_checked c.in-Ok.checked) c.in-Ok.ensures.checked).said
+
+pub advance-requires-clause-place : goal.advance-requires-clause-place
+advance-requires-clause-place c =
+    leads_on c.scope-scope.result.symbols.now c.scope-scope.result.at c.args.self.now.location c.keep.new.self.location c.args.text.now
+    (defined_checked c.in-Ok.checked) c.origin-origin.result c.in-Ok.checked.size c.in-Ok.ensures.checked c.scope-scope.ensures.at
+    c.in_ok-keep.ensures.still.location c.origin-origin.ensures.origin c.origin-origin.ensures.address c.in-Ok.ensures.size c.args.self.now.placed
+
+pub returns : goal.returns
+returns c = λ lines is.
+    let found = defined_checked c.in-Ok.checked in
+    let builder = c.args.self.now in
+    let at = c.scope-scope.ensures.at in
+    let known = c.scope-scope.ensures.symbols in
+    let through = is_let_through c.scope-scope.result.symbols.now c.scope-scope.result.at c.args.text.now found c.in-Ok.ensures.checked in
+    let here : checked (names lines) (location lines) c.args.text.now ≡ Ok found =
+    ap (λ (known : Names). checked known (location lines) c.args.text.now) (sym (known ∙ is.names))
+    ∙ (ap (λ (at : Location). checked c.scope-scope.result.symbols.now at c.args.text.now) (sym (at ∙ is.location)) ∙ c.in-Ok.ensures.checked) in
+    let fresh : is_taken builder.symbols found.label ≡ false = ap (λ (known : Names). is_taken known found.label) (sym known) ∙ through.fresh in
+    let fits : is_full builder.location found.statement ≡ false = ap (λ (at : Location). is_full at found.statement) (sym at) ∙ through.fits in
+    let went = c.advance.ensures in
+    let keeps = c.in_ok-keep.ensures in (
+      line_of (location lines) (length lines + 1) found,
+      ap (λ answer. answer >>= λ found. Ok (line_of (location lines) (length lines + 1) found)) here,
+      is_behind lines builder is found c.in_ok-rest.rest c.advance.new.self
+          (λ later grows.
+          ap (λ (at : Location). answer later at c.in_ok-rest.rest) (sym at)
+          ∙ (c.in_ok-rest.ensures.answers later (subst (λ (known : Names). Grows known later) (sym known) grows) ∙ ap (λ (at : Location). outcome (look_up later) at found.statement) at))
+          c.in_ok-rest.ensures.waits fresh (reaches builder.location found.statement builder.placed fits)
+          (record {
+            kept = went.kept.kept ∙ keeps.kept;
+            names = went.kept.names ∙ (keeps.defined ∙ ap (λ number. with_names builder.symbols (label_entry found.label number)) c.label_value.ensures);
+            location = went.location
+                ∙ (ap (λ (origin : Option Location). behind (set_or origin c.keep.new.self.location) c.in-Ok.checked.size) c.origin-origin.ensures.origin
+                ∙ (ap (λ (at : Location). behind (set_or (origin_of builder.location found.statement) at) c.in-Ok.checked.size) keeps.still.location
+                ∙ ap (behind (set_or (origin_of builder.location found.statement) builder.location)) c.in-Ok.ensures.size));
+            taken = went.taken ∙ ap (λ taken. taken + 1) keeps.still.taken;
+            ended = went.ended ∙ ap (λ ended. is_end found.statement || ended) keeps.still.ended;
+          }),
+    )

@@ -1,0 +1,15 @@
+use Rattle.std.proofs.Common.{◌≡◌, ◌+◌, false, List, length}
+use Rattle.source_defs.specs.Lines.{LinesLieInside}
+use Rattle.source_defs.specs.Layout.{laid, laid_behind, line_texts}
+use Rattle.source_defs.proofs.LaidLaws.{IsNumbered, texts_of}
+use Rattle.program_defs.specs.Locations.{Line}
+use Rattle.program_defs.specs.FirstChecks.{check}
+use Rattle.gpl_asm.specs.Building.{IsBehind}
+use Rattle.gpl_asm.proofs.source.gpl_assemble.Given as goal
+
+-- some lines were taken, none of which ends the source, and the lines that are left go on from there
+abbrev pub invariant-loop-line : goal.invariant-loop-line
+invariant-loop-line l =
+    (before : List Line) × IsBehind before l.builder × (l.builder.ended ≡ false) × LinesLieInside l.text l.line-iterator
+    × IsNumbered (length before + 1) l.line-iterator
+    × (laid_behind check before (texts_of l.text l.line-iterator) ≡ laid check (line_texts l.text))

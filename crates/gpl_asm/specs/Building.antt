@@ -1,0 +1,57 @@
+-- What a builder keeps of the lines that it has taken.
+use Rattle.std.specs.Prelude.{◌≡◌, ℕ, ◌+◌, false, List, ◌∷◌, length, Result, Ok, Err, ◌<◌, ◌-◌, ◌^◌}
+use Rattle.std.specs.List.{AllByRecursion}
+use Rattle.source_defs.specs.Refusals.{Refusal, ◌>>=◌}
+use Rattle.source_defs.specs.Symbols.{Names}
+use Rattle.source_defs.specs.Growing.{Grows}
+use Rattle.source_defs.specs.Layout.{laid, numbered, settled, has_ended}
+use Rattle.program_defs.specs.declared.causes.GplCause.{GplCause}
+use Rattle.program_defs.specs.Locations.{Line, location}
+use Rattle.program_defs.specs.FirstChecks.{names, check}
+use Rattle.program_defs.specs.Programs.{Settled, settle, image, entry}
+use Rattle.gpl_asm.specs.declared.lines.GplLines.{GplLines}
+use Rattle.gpl_asm.specs.declared.error.GplError.{GplError}
+use Rattle.gpl_asm.specs.declared.error.GplError.TheVariants as error
+use Rattle.gpl_asm.specs.Errors.{RefusesAt}
+use Rattle.gpl_asm.specs.Replay.{Built, nothing, replay, HasRoom}
+use Rattle.gpl_lines.specs.Answers.{NoMemory}
+
+abbrev pub built_of : List Settled → Built
+built_of found = record { image = image found; entry = entry found }
+
+-- what lines come to by all names
+abbrev pub whole : Names → List Line → Result Built (Refusal GplCause)
+whole later lines = settled (settle later) lines >>= λ found. Ok (built_of found)
+
+-- the builder behind lines, of which the nearest stands first
+pub record IsBehind (lines : List Line) (builder : GplLines) : Type 0 where
+  pub names : builder.symbols ≡ names lines
+  pub location : builder.location ≡ location lines
+  pub taken : builder.taken ≡ length lines
+  pub ended : builder.ended ≡ has_ended lines
+  -- whatever names are still to come, the lines that were kept come to what all lines come to
+  pub replays : (later : Names) → Grows builder.symbols later → whole later lines ≡ replay later nothing builder.kept.items
+  pub room : (later : Names) → Grows builder.symbols later → AllByRecursion (HasRoom later) builder.kept.items
+
+-- a line was taken behind others, or why it is refused there
+abbrev pub Takes : {A : Type 0} → List Line → List ℕ → Result A GplError → GplLines → Type 0
+Takes lines text (Ok _) builder =
+    (line : Line) × (check lines (length lines + 1) text ≡ Ok line) × IsBehind (line ∷ lines) builder
+Takes lines text (Err (error.At number cause)) builder =
+    (number ≡ length lines + 1) × (check lines (length lines + 1) text ≡ Err cause) × NoMemory cause × IsBehind lines builder
+Takes lines text (Err error.Memory) builder = IsBehind lines builder
+
+-- The meaning of a builder: the texts of the lines that it has taken.
+pub record HasTaken (texts : List (List ℕ)) (builder : GplLines) : Type 0 where
+  pub lines : List Line
+  pub laid : laid check (numbered 1 texts) ≡ Ok lines
+  pub all : length lines ≡ length texts
+  pub behind : IsBehind lines builder
+
+-- no line that it has taken ends the source
+abbrev pub IsOpen : GplLines → Type 0
+IsOpen builder = builder.ended ≡ false
+
+-- it has taken fewer lines than can be counted
+abbrev pub CanCount : GplLines → Type 0
+CanCount builder = builder.taken < 2 ^ 32 - 1

@@ -1,0 +1,26 @@
+-- What a builder ends with.
+use Rattle.std.specs.Prelude.{◌≡◌, ℕ, List, [], ◌∷◌, ◌++◌, Result, Ok, Err}
+use Rattle.source_defs.specs.Refusals.{Refusal}
+use Rattle.source_defs.specs.Layout.{laid, numbered}
+use Rattle.program_defs.specs.declared.causes.GplCause.{GplCause}
+use Rattle.program_defs.specs.FirstChecks.{check}
+use Rattle.program_defs.specs.Programs.{Program}
+use Rattle.gpl_asm.specs.declared.error.GplError.{GplError}
+use Rattle.gpl_asm.specs.declared.finish.GplProgram.{GplProgram}
+use Rattle.gpl_asm.specs.declared.lines.GplLines.{GplLines}
+use Rattle.gpl_asm.specs.Errors.{RefusesAt}
+use Rattle.gpl_asm.specs.Building.{HasTaken}
+
+abbrev pub defined_program : GplProgram → Program
+defined_program program = record { image = program.image; entry = program.entry; names = program.names }
+
+-- the program that is defined, or the refused line; want of memory says nothing
+abbrev pub GivesProgram : Result GplProgram GplError → Result Program (Refusal GplCause) → Type 0
+GivesProgram (Ok found) defined = defined ≡ Ok (defined_program found)
+GivesProgram (Err error) defined = RefusesAt error defined
+
+-- a line was taken behind others, or the first checks refuse it there
+abbrev pub TakesText : {A : Type 0} → List (List ℕ) → List ℕ → Result A GplError → GplLines → Type 0
+TakesText texts text (Ok _) builder = HasTaken (texts ++ text ∷ []) builder
+TakesText texts text (Err error) builder =
+    RefusesAt error (laid check (numbered 1 (texts ++ text ∷ []))) × HasTaken texts builder

@@ -1,0 +1,78 @@
+//! The calls of a builder.
+
+ghost use Rattle.std.specs.Prelude.{◌≡◌, ◌↔◌, ◌<◌, ◌-◌, ◌^◌, ℕ, false, List, [], length, IfOk};
+ghost use Rattle.source_defs.specs.Layout.{has_ended};
+ghost use Rattle.program_defs.specs.Programs.{program_of_lines};
+ghost use Rattle.gpl_asm.specs.Building.{HasTaken, IsOpen, CanCount};
+ghost use Rattle.gpl_asm.specs.Finishing.{TakesText, GivesProgram};
+
+use crate::error::GplError;
+use crate::finish::GplProgram;
+use crate::lines::GplLines;
+use asm_text::Symbols;
+use gpl_forms::GromImage;
+use program_defs::Location;
+use std::alloc::{AllocError, Global};
+
+impl GplLines {
+    /// A builder that has taken no line.
+    pub fn new(alloc: Global) -> Result<GplLines, AllocError>
+        ensures none { IfOk result (HasTaken []) }
+        ensures open { IfOk result IsOpen }
+        ensures count { IfOk result CanCount }
+    {
+        Ok(GplLines {
+            alloc,
+            symbols: Symbols::new(alloc),
+            location: Location {
+                grom: 0x6000,
+                number: 0x6000,
+            },
+            kept: Vec::new(alloc),
+            image: GromImage::new(alloc)?,
+            taken: 0,
+            ended: false,
+        })
+    }
+
+    /// Takes a line behind those that were taken. It is given without its line feed, and no line that ends the source was
+    /// taken before.
+    ///
+    /// # Errors
+    /// `At` comes exactly where the first checks refuse the line there, and carries its number, which is the number of lines
+    /// taken plus 1. `Memory` is want of memory. After an error the builder is as before.
+    pub fn line(&mut self, line: &[u8]) -> Result<(), GplError>
+        requires open { IsOpen self.old }
+        requires count { CanCount self.old }
+        ensures { (texts : List (List ℕ)) → HasTaken texts self.old → TakesText texts line.now result self.new }
+    {
+        self.take(line)
+    }
+
+    /// Whether a line that ends the source was taken.
+    pub fn is_ended(&self) -> bool
+        ensures open { (result ≡ false) ↔ IsOpen self.now }
+        ensures ended { (texts : List (List ℕ)) → (taken : HasTaken texts self.now) → result ≡ has_ended taken.lines }
+    {
+        self.ended
+    }
+
+    /// How many lines were taken. One more can be taken while they are fewer than 2^32 - 1.
+    pub fn taken(&self) -> u32
+        ensures taken { (texts : List (List ℕ)) → HasTaken texts self.now → result ≡ length texts }
+        ensures count { (result < 2 ^ 32 - 1) ↔ CanCount self.now }
+    {
+        self.taken
+    }
+
+    /// The program of the lines that were taken.
+    ///
+    /// # Errors
+    /// `At` carries the first line that the second checks refuse, and comes exactly where there is one. `Memory` is want of
+    /// memory. After an error the lines are given up.
+    pub fn finish(self) -> Result<GplProgram, GplError>
+        ensures { (texts : List (List ℕ)) → HasTaken texts self → GivesProgram result (program_of_lines texts) }
+    {
+        self.program()
+    }
+}

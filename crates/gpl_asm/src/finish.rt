@@ -1,0 +1,101 @@
+//! The program of the lines that a builder has taken.
+
+ghost use Rattle.std.specs.Prelude.{◌≡◌, List, None};
+ghost use Rattle.std.specs.List.{AllByRecursion};
+ghost use Rattle.program_defs.specs.Locations.{Line};
+ghost use Rattle.program_defs.specs.Programs.{program_behind};
+ghost use Rattle.gpl_asm.specs.Replay.{HasRoom, Replays, Settles};
+ghost use Rattle.gpl_asm.specs.Building.{IsBehind};
+ghost use Rattle.gpl_asm.specs.Finishing.{GivesProgram};
+
+use crate::error::{GplError, refusal_at};
+use crate::kept::{Kept, Rest};
+use crate::lines::GplLines;
+use crate::place::put;
+use asm_text::Symbols;
+use gpl_forms::GromImage;
+use gpl_lines::{Failure, Scope};
+use std::alloc::Global;
+
+/// What a GPL source is assembled to.
+#[derive(Drop)]
+pub struct GplProgram {
+    /// The bytes that its lines place.
+    pub image: GromImage,
+    /// The address that END gives, where it gives one.
+    pub entry: Option<u16>,
+    /// Its names.
+    pub names: Symbols,
+}
+
+impl GplLines {
+    /// The program of the lines, or the first that the second checks refuse.
+    pub(crate) fn program(self) -> Result<GplProgram, GplError>
+        ensures { (lines : List Line) → IsBehind lines self → GivesProgram result (program_behind lines) }
+    {
+        let GplLines {
+            alloc,
+            symbols,
+            kept,
+            mut image,
+            ..
+        } = self;
+        match settle_all(alloc, &symbols, kept.as_slice(), &mut image) {
+            Ok(entry) => Ok(GplProgram {
+                image,
+                entry,
+                names: symbols,
+            }),
+            Err(error) => Err(error),
+        }
+    }
+}
+
+/// Settles the lines that were kept in their order, up to the first that is refused, and gives the entry.
+fn settle_all(
+    alloc: Global,
+    symbols: &Symbols,
+    kept: &[Kept],
+    image: &mut GromImage,
+) -> Result<Option<u16>, GplError>
+    ensures { AllByRecursion (HasRoom symbols.now) kept.now →
+        Replays symbols.now (record { image = image.old; entry = None }) kept.now result image.new }
+{
+    let mut entry = None;
+    let mut rest = kept;
+    while let [line, others @ ..] = rest {
+        entry = match settle(alloc, symbols, line, image, entry) {
+            Ok(entry) => entry,
+            Err(failure) => return Err(refusal_at(line.number, failure)),
+        };
+        rest = others;
+    }
+    Ok(entry)
+}
+
+/// Settles a line that was kept behind others by all names, and gives the entry behind it.
+fn settle(
+    alloc: Global,
+    symbols: &Symbols,
+    line: &Kept,
+    image: &mut GromImage,
+    entry: Option<u16>,
+) -> Result<Option<u16>, Failure>
+    ensures { HasRoom symbols.now line.now →
+        Settles symbols.now (record { image = image.old; entry = entry }) line.now result image.new }
+{
+    match &line.rest {
+        Rest::Settled(outcome) => Ok(put(image, entry, line.at, outcome)?),
+        Rest::Refused(cause) => Err(Failure::Refused(*cause)),
+        Rest::Open(text) => {
+            let scope = Scope {
+                alloc,
+                symbols,
+                at: line.at,
+            };
+            let statement = scope.said(text.as_slice())?;
+            let outcome = scope.outcome(&statement)?;
+            Ok(put(image, entry, line.at, &outcome)?)
+        }
+    }
+}

@@ -1,0 +1,124 @@
+//! How a builder keeps a line.
+
+ghost use Rattle.std.specs.Prelude.{◌≡◌, ◌<◌, ◌+◌, ◌-◌, ◌^◌, ◌++◌, Ok, ℕ, OnOk, OnErr, IfOk};
+ghost use Rattle.source_defs.specs.Layout.{with_names};
+ghost use Rattle.source_defs.specs.Symbols.{Names, look_up};
+ghost use Rattle.source_defs.specs.Growing.{Grows};
+ghost use Rattle.program_defs.specs.FirstChecks.{label_entry, said};
+ghost use Rattle.program_defs.specs.declared.location.Location.{Location};
+ghost use Rattle.program_defs.specs.SecondChecks.{Bytes, outcome};
+ghost use Rattle.program_defs.specs.Growing as growing;
+ghost use Rattle.gpl_lines.specs.Defined.{defined_statement};
+ghost use Rattle.gpl_lines.specs.Validity.{IsValid};
+ghost use Rattle.gpl_asm.specs.Replay.{answer, WaitsForSome};
+ghost use Rattle.gpl_asm.specs.Keeping.{kept_of, StandsStill};
+
+use crate::kept::{Kept, Rest};
+use crate::lines::GplLines;
+use asm_text::{ExprError, Name, Symbols, Value};
+use gpl_lines::{Failure, Outcome, Scope, Statement};
+use program_defs::GplCause;
+use std::alloc::AllocError;
+
+/// What is left of a line that the first checks let through; none where it comes to nothing.
+#[tactic(auto, using(crate::proofs::RestLaws::open_again, crate::proofs::RestLaws::closed_again))]
+pub(crate) fn rest_of(
+    scope: &Scope<'_>,
+    text: &[u8],
+    statement: &Statement<'_>,
+) -> Result<Option<Rest>, AllocError>
+    requires valid { IsValid statement.now }
+    requires said { said scope.now.symbols.now scope.now.at text.now ≡ Ok (defined_statement statement.now) }
+    ensures waits { IfOk result WaitsForSome }
+    ensures answers { IfOk result (λ rest. (later : Names) → Grows scope.now.symbols.now later →
+        answer later scope.now.at rest ≡ outcome (look_up later) scope.now.at (defined_statement statement.now)) }
+{
+    match scope.outcome(statement) {
+        Ok(Outcome::Bytes(bytes)) => Ok(rest_of_bytes(bytes)),
+        Ok(Outcome::Entry(address)) => Ok(Some(Rest::Settled(Outcome::Entry(address)))),
+        Err(Failure::Refused(cause)) => {
+            if is_open(cause) {
+                let text = Vec::from_slice(scope.alloc, text)?;
+                return Ok(Some(Rest::Open(text)));
+            }
+            Ok(Some(Rest::Refused(cause)))
+        }
+        Err(Failure::Memory) => Err(AllocError),
+    }
+}
+
+/// What is left of a line that places bytes; none where it places none.
+fn rest_of_bytes(bytes: Vec<u8>) -> Option<Rest>
+    ensures waits { WaitsForSome result }
+    ensures answers { (later : Names) (at : Location) → answer later at result ≡ Ok (Bytes bytes.items) }
+{
+    if bytes.is_empty() {
+        return None;
+    }
+    Some(Rest::Settled(Outcome::Bytes(bytes)))
+}
+
+/// Whether a refusal may be lifted by names that are still to come.
+fn is_open(cause: GplCause) -> bool
+    ensures { result ≡ growing.is_open cause }
+{
+    matches!(cause, GplCause::Expr(ExprError::UnknownName))
+}
+
+impl GplLines {
+    /// Keeps what is left of the next line, and defines its label. Where memory is wanting nothing of it is kept.
+    pub(crate) fn keep(
+        &mut self,
+        rest: Option<Rest>,
+        label: Option<Name>,
+        number: u16,
+    ) -> Result<(), AllocError>
+        requires { self.old.taken < 2 ^ 32 - 1 }
+        ensures kept { OnOk result (self.new.kept.items ≡ self.old.kept.items ++ kept_of self.old rest) }
+        ensures defined { OnOk result (self.new.symbols ≡ with_names self.old.symbols (label_entry label number)) }
+        ensures same { OnErr result (self.new.kept.items ≡ self.old.kept.items) }
+        ensures names { OnErr result (self.new.symbols ≡ self.old.symbols) }
+        ensures still { StandsStill self.old self.new }
+    {
+        let waiting = self.kept.len();
+        self.hold(rest)?;
+        let defined = define(&mut self.symbols, label, number);
+        if defined.is_err() {
+            self.kept.truncate(waiting);
+        }
+        defined
+    }
+
+    /// Keeps what is left of the next line, where something is.
+    fn hold(&mut self, rest: Option<Rest>) -> Result<(), AllocError>
+        requires { self.old.taken < 2 ^ 32 - 1 }
+        ensures kept { OnOk result (self.new.kept.items ≡ self.old.kept.items ++ kept_of self.old rest) }
+        ensures same { OnErr result (self.new.kept.items ≡ self.old.kept.items) }
+        ensures names { self.new.symbols ≡ self.old.symbols }
+        ensures still { StandsStill self.old self.new }
+    {
+        let Some(rest) = rest else {
+            return Ok(());
+        };
+        self.kept.push(Kept {
+            number: self.taken + 1,
+            at: self.location,
+            rest,
+        })?;
+        Ok(())
+    }
+}
+
+/// Defines a label that stands for nothing yet.
+fn define(symbols: &mut Symbols, label: Option<Name>, number: u16) -> Result<(), AllocError>
+    ensures defined { OnOk result (symbols.new ≡ with_names symbols.old (label_entry label number)) }
+    ensures unchanged { OnErr result (symbols.new ≡ symbols.old) }
+{
+    let Some(name) = label else {
+        return Ok(());
+    };
+    match symbols.define(name, Value::Absolute(number)) {
+        Ok(()) => Ok(()),
+        Err(_) => Err(AllocError),
+    }
+}

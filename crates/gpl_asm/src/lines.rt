@@ -1,0 +1,28 @@
+//! The assembler as a builder that takes its lines one at a time.
+
+ghost use Rattle.std.specs.Prelude.{◌≡◌};
+ghost use Rattle.std.specs.FinMap.{empty};
+ghost use Rattle.program_defs.specs.Locations.{IsInGrom};
+
+use crate::kept::Kept;
+use asm_text::Symbols;
+use gpl_forms::GromImage;
+use program_defs::Location;
+use std::alloc::Global;
+
+/// A GPL source, line by line. A line is kept by what it comes to; its text is kept only where a value of it is still open.
+///
+/// Contracts see it by the lines that it has taken (`HasTaken`).
+#[derive(Drop)]
+pub struct GplLines {
+    pub(crate) alloc: Global,
+    pub(crate) symbols: Symbols,
+    pub(crate) location: Location,
+    pub(crate) kept: Vec<Kept>,
+    // Nothing is written in it before the lines are finished.
+    pub(crate) image: GromImage,
+    pub(crate) taken: u32,
+    pub(crate) ended: bool,
+    ghost placed: { IsInGrom location },
+    ghost blank: { image ≡ empty },
+}

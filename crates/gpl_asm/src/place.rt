@@ -1,0 +1,70 @@
+//! How what a line comes to is placed.
+
+ghost use Rattle.std.specs.Prelude.{◌≡◌, ◌≤◌, ◌+◌, ℕ, length, Ok, Err};
+ghost use Rattle.gpl_defs.specs.Image.{placed};
+ghost use Rattle.program_defs.specs.declared.causes.GplCause.TheVariants.{Overlap};
+ghost use Rattle.program_defs.specs.Programs.{bytes_in, overlaps};
+ghost use Rattle.gpl_lines.specs.Defined.{defined_outcome};
+ghost use Rattle.gpl_asm.specs.Replay.{Puts};
+
+use gpl_forms::GromImage;
+use gpl_lines::Outcome;
+use program_defs::{GplCause, Location};
+
+/// Places what a line comes to, and gives the entry behind it; or refuses it where a byte of it was placed before.
+pub(crate) fn put(
+    image: &mut GromImage,
+    entry: Option<u16>,
+    at: Location,
+    outcome: &Outcome,
+) -> Result<Option<u16>, GplCause>
+    ensures { at.number + length (bytes_in (defined_outcome outcome.now)) ≤ 65536 →
+        Puts image.old entry at (defined_outcome outcome.now) result image.new }
+{
+    match outcome {
+        Outcome::Bytes(bytes) => {
+            if overlaps(image, at.number, bytes.as_slice()) {
+                return Err(GplCause::Overlap);
+            }
+            put_all(image, at.number, bytes.as_slice());
+            Ok(entry)
+        }
+        Outcome::Entry(address) => Ok(Some(*address)),
+    }
+}
+
+/// Whether one of some bytes from an address on stands where one was placed.
+fn overlaps(image: &GromImage, at: u32, bytes: &[u8]) -> bool
+    ensures { at + length bytes.now ≤ 65536 → result ≡ overlaps image.now at bytes.now }
+{
+    let mut place = at;
+    let mut rest = bytes;
+    while let [_, others @ ..] = rest {
+        if image.is_written(address(place)) {
+            return true;
+        }
+        place = place.wrapping_add(1);
+        rest = others;
+    }
+    false
+}
+
+/// Puts bytes into an image, the first at an address and the next behind it.
+fn put_all(image: &mut GromImage, at: u32, bytes: &[u8])
+    ensures { at + length bytes.now ≤ 65536 → image.new ≡ placed image.old at bytes.now }
+{
+    let mut place = at;
+    let mut rest = bytes;
+    while let [byte, others @ ..] = rest {
+        image.put(address(place), *byte);
+        place = place.wrapping_add(1);
+        rest = others;
+    }
+}
+
+/// A place as an address.
+fn address(place: u32) -> u16
+    ensures { place ≤ 65535 → result ≡ place }
+{
+    (place % 0x10000) as u16
+}

@@ -1,7 +1,0 @@
-use Rattle.std.proofs.Common.{rules}
-use Rattle.object_defs.specs.Fields.{number_at}
-use Rattle.object_tags.proofs.fields.number_at.Goals as goal
-
-pub returns-then-digits-lt4 : goal.returns-then-digits-lt4
-unfolding number_at
-returns-then-digits-lt4 c = search rules

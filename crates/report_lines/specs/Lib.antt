@@ -1,0 +1,2 @@
+pub use Rattle.report_defs.specs.SourceFaults
+pub use Rattle.report_defs.specs.TextLines

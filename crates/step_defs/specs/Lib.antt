@@ -1,0 +1,11 @@
+pub mod Reasons
+pub mod State
+pub mod Place
+pub mod Changes
+pub mod Arithmetic
+pub mod Flow
+pub mod Copy
+pub mod Built
+pub mod Step
+pub mod Run
+pub mod Laws

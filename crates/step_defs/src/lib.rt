@@ -1,0 +1,11 @@
+//! The step of GPL: its state, what each instruction does to it, why it stops, and runs of steps. The definitions stand
+//! in `specs/`.
+#![tactic(auto)]
+
+mod cells;
+mod reason;
+
+pub use cells::{
+    CHARACTER, COLUMN, RANDOM, RETURN_STACK, ROW, SEED, STATUS, VALUE_STACK, VISIBLE_CELLS,
+};
+pub use reason::Reason;
