@@ -1,15 +1,15 @@
 -- Hexadecimal digits, and the values of the numbers that they write.
-use Rattle.std.proofs.Common.{◌≡◌, ℕ, zero, suc, ◌+◌, ◌-◌, ◌*◌, ◌/◌, ◌%◌, ◌<◌, ◌≤◌, Bool, true, false, not, ◌&&◌, ◌||◌, eqb}
-use Rattle.std.proofs.Common.{List, [], ◌∷◌, ◌++◌, length, get_or, refl, ap, sym, ◌∙◌, Ok, Err, Option, Some, None, arith}
+use Rattle.std.proofs.Common.{◌≡◌, ℕ, zero, suc, ◌+◌, ◌-◌, ◌/◌, ◌%◌, ◌<◌, ◌≤◌, Bool, true, false, not, eqb}
+use Rattle.std.proofs.Common.{List, [], ◌∷◌, length, get_or, refl, ap, sym, ◌∙◌, Ok, Option, arith}
 use Rattle.std.specs.List.{list_all}
 use Rattle.std.specs.Prelude.{◌==◌, nat_lt, nat_le, take}
 use Rattle.std.proofs.lemmas.List.{take_all}
 use Rattle.std.proofs.lemmas.Bool.{agree_below, agree_below_at}
 use Rattle.std.proofs.lemmas.Bool.Decides.{nat_tests}
-use Rattle.source_defs.specs.Numbers.{hexadecimal_digit, is_hexadecimal_digit, digit_value, value_after, hexadecimal_number}
+use Rattle.source_defs.specs.Numbers.{hexadecimal_digit, is_hexadecimal_digit, digit_value, value_after}
 use Rattle.source_defs.specs.Digits.{byte_digits, word_digits, marked_byte, marked_word}
 use Rattle.source_defs.specs.Tokens.{Token, Number, token_to, token_at, tokens_from, tokens, hexadecimal_end}
-use Rattle.source_defs.specs.Expression.{Value, Absolute, expression}
+use Rattle.source_defs.specs.Expression.{Value}
 use Rattle.program_defs.specs.Values.{number}
 use Rattle.listing_defs.proofs.Scans.{place_is, all_get}
 

@@ -1,13 +1,12 @@
 -- The lines of a listing are let through, each at its place.
-use Rattle.std.proofs.Common.{◌≡◌, ℕ, zero, suc, ◌+◌, ◌-◌, ◌*◌, ◌/◌, ◌%◌, ◌<◌, ◌≤◌, Bool, true, false, not, ◌&&◌, ◌||◌, eqb, List, [], ◌∷◌, ◌++◌}
-use Rattle.std.proofs.Common.{length, length-append, refl, ap, sym, subst, ◌∙◌, ◌⊎◌, inl, inr, Ok, Err, Result, Option, Some, None, lit≤, arith}
+use Rattle.std.proofs.Common.{◌≡◌, ℕ, ◌+◌, ◌%◌, ◌<◌, ◌≤◌, Bool, true, false, List, [], ◌∷◌, ◌++◌}
+use Rattle.std.proofs.Common.{length, length-append, refl, subst, ◌⊎◌, inl, inr, Ok, Option, Some, None, lit≤, arith}
 use Rattle.std.specs.Prelude.{◌==◌, codes, IsTrue, nat_lt, nat_le}
 use Rattle.std.specs.List.{list_all}
 use Rattle.std.proofs.lemmas.Bool.Decides.{nat_tests}
 use Rattle.source_defs.specs.Digits.{marked_word, marked_byte, word_digits, byte_digits}
 use Rattle.source_defs.specs.ListedLines.{listed, with_operands, two_texts}
 use Rattle.source_defs.specs.Symbols.{look_up, predefined}
-use Rattle.source_defs.specs.Expression.{Value}
 use Rattle.gpl_defs.specs.declared.instruction.Space.{Space}
 use Rattle.gpl_defs.specs.declared.instruction.Space.TheVariants.{Cpu, Vdp}
 use Rattle.gpl_defs.specs.declared.instruction.GplOperand.{GplOperand}
@@ -24,18 +23,15 @@ use Rattle.gpl_defs.specs.declared.instruction.GplInstr.TheVariants as instr
 use Rattle.gpl_defs.specs.Image.{Image, placed}
 use Rattle.gpl_defs.specs.Valid.{is_valid}
 use Rattle.gpl_defs.specs.Bytes.{bytes_of}
-use Rattle.program_defs.specs.declared.directive.Directive.{Directive}
-use Rattle.program_defs.specs.declared.directive.Directive.TheVariants as named
 use Rattle.program_defs.specs.declared.location.Location.{Location}
 use Rattle.program_defs.specs.Directives.{directive}
-use Rattle.program_defs.specs.Mnemonics.{name_of, mnemonic}
-use Rattle.program_defs.specs.Values.{byte_of}
+use Rattle.program_defs.specs.Mnemonics.{name_of}
 use Rattle.program_defs.specs.Statements.{Statement, Instruction, Grom, Aorg, Byte, End, operation_statement, size_said}
-use Rattle.program_defs.specs.Locations.{Line, behind, address_of, origin_of, passes, grom_size}
-use Rattle.program_defs.specs.FirstChecks.{checked, is_full, is_bad, is_end}
+use Rattle.program_defs.specs.Locations.{Line, behind, address_of, grom_size}
+use Rattle.program_defs.specs.FirstChecks.{is_full, is_bad}
 use Rattle.program_defs.specs.SecondChecks.{Bytes, outcome}
 use Rattle.program_defs.specs.Programs.{Settled, overlaps}
-use Rattle.listing_defs.specs.Texts.{prefix, index_text, operand_text, source_text, length_text, target_text, from_text, mnemonic_of, operands_text, branch_target, instr_text, shown_address}
+use Rattle.listing_defs.specs.Texts.{prefix, operand_text, source_text, length_text, target_text, from_text, mnemonic_of, operands_text, branch_target, instr_text, shown_address}
 use Rattle.listing_defs.proofs.Scans.{all_both}
 use Rattle.listing_defs.proofs.DigitLaws.{word_passes, byte_passes, word_value, byte_value}
 use Rattle.listing_defs.proofs.OperandLines.{whole, one_text}
@@ -44,8 +40,8 @@ use Rattle.listing_defs.proofs.SkeletonLaws.{Alphabet, InstrFits, operand_all, s
 use Rattle.listing_defs.proofs.InstructionText.{left_of, field_of, skeleton_back}
 use Rattle.listing_defs.proofs.InstructionAgain.{InGromOf, size_back, instruction_back}
 use Rattle.listing_defs.proofs.NameLaws.{plain_byte, instr_names}
-use Rattle.listing_defs.proofs.LineTexts.{Cut, Fit, cut_listed, in_line, listed_in_line}
-use Rattle.listing_defs.proofs.StateLaws.{Stands, Taken, checked_as, moved, taken, here_again}
+use Rattle.listing_defs.proofs.LineTexts.{Fit, cut_listed, in_line, listed_in_line}
+use Rattle.listing_defs.proofs.StateLaws.{Stands, Taken, checked_as, taken, here_again}
 
 -- ---- operands stand in a line
 

@@ -1,7 +1,6 @@
 -- The numbers of an instruction that is read have room.
-use Rattle.std.proofs.Common.{◌≡◌, ℕ, ◌+◌, ◌*◌, ◌/◌, ◌%◌, ◌<◌, ◌≤◌, Bool, true, false, List, refl, ap, sym, subst, ◌∙◌, Option, Some, None, arith}
-use Rattle.std.specs.Prelude.{◌==◌, if◌then◌else◌, nat_lt, slice_index, IsTrue}
-use Rattle.std.proofs.lemmas.Bool.Decides.{nat_tests}
+use Rattle.std.proofs.Common.{◌≡◌, ℕ, ◌/◌, ◌%◌, ◌<◌, Bool, true, false, List, refl, subst, Option, Some, None, arith}
+use Rattle.std.specs.Prelude.{◌==◌, if◌then◌else◌, nat_lt, slice_index}
 use Rattle.console_defs.specs.Words.{join}
 use Rattle.console_defs.specs.Grom.{next_in_grom}
 use Rattle.gpl_defs.specs.declared.instruction.GplOperand.{GplOperand}
@@ -18,8 +17,8 @@ use Rattle.gpl_defs.specs.declared.instruction.GplOperation.TheVariants as opera
 use Rattle.gpl_defs.specs.declared.instruction.GplRead.{GplRead}
 use Rattle.gpl_defs.specs.declared.instruction.GplRead.TheVariants.{Instr, Refused}
 use Rattle.gpl_defs.specs.Codes.{operation_at}
-use Rattle.gpl_defs.specs.Reading.{word_at, address_at, index_by, with_address, plain_operand, operand_from, operand_at}
-use Rattle.gpl_defs.specs.Reading.{value_at, source_at, length_at, target_at, from_at, instr_at, read_by, reading}
+use Rattle.gpl_defs.specs.Reading.{word_at, address_at, index_by, with_address, plain_operand, operand_at}
+use Rattle.gpl_defs.specs.Reading.{source_at, length_at, target_at, from_at, instr_at, read_by, reading}
 use Rattle.listing_defs.proofs.SkeletonLaws.{IndexFits, OperandFits, SourceFits, LengthFits, TargetFits, FromFits, InstrFits}
 
 module _ (image : List ℕ) (bytes : (k : ℕ) → slice_index image k < 256) where

@@ -1,25 +1,21 @@
 -- The forms of written operands.
-use Rattle.std.proofs.Common.{◌≡◌, ℕ, zero, suc, ◌+◌, ◌-◌, ◌*◌, ◌/◌, ◌%◌, ◌<◌, ◌≤◌, Bool, true, false, not, cond, ◌&&◌, ◌||◌, eqb}
-use Rattle.std.proofs.Common.{List, [], ◌∷◌, ◌++◌, length, take, drop, get_or, refl, ap, sym, ◌∙◌, Ok, Err, Option, Some, None, lit≤, arith}
-use Rattle.std.specs.Prelude.{◌==◌, codes}
-use Rattle.std.specs.Option.{option_map}
+use Rattle.std.proofs.Common.{◌≡◌, ℕ, ◌+◌, ◌/◌, ◌%◌, Bool, true, false, not}
+use Rattle.std.proofs.Common.{List, [], ◌∷◌, ◌++◌, length, refl, Option, Some, None, arith}
+use Rattle.std.specs.Prelude.{◌==◌}
 use Rattle.std.specs.List.{list_all}
-use Rattle.std.proofs.lemmas.Bool.Decides.{nat_tests}
-use Rattle.std.proofs.lemmas.Grind.{common_steps}
-use Rattle.source_defs.specs.Digits.{byte_digits, word_digits, marked_byte, marked_word}
+use Rattle.source_defs.specs.Digits.{word_digits, marked_byte, marked_word}
 use Rattle.source_defs.specs.Numbers.{hexadecimal_digit}
 use Rattle.source_defs.specs.Fields.{in_quotes}
-use Rattle.source_defs.specs.Parentheses.{opens_at, closes_at, opening, last_place, has_parentheses}
-use Rattle.source_defs.specs.Expression.{Value}
+use Rattle.source_defs.specs.Parentheses.{closes_at, opening, last_place}
 use Rattle.gpl_defs.specs.declared.instruction.Space.{Space}
 use Rattle.gpl_defs.specs.declared.instruction.Space.TheVariants.{Cpu, Vdp}
 use Rattle.gpl_defs.specs.declared.instruction.GplOperand.{GplOperand}
-use Rattle.program_defs.specs.Forms.{Memory, Form, InMemory, InGrom, Register, Alone, has_index, address_text, index_text, form_of}
-use Rattle.program_defs.specs.Values.{scratchpad, held_address, operand, number, index_of, index_value}
+use Rattle.program_defs.specs.Forms.{Memory, InMemory, InGrom, Register, Alone, has_index, address_text, index_text, form_of}
+use Rattle.program_defs.specs.Values.{scratchpad, operand}
 use Rattle.listing_defs.specs.Texts as texts
 use Rattle.listing_defs.specs.Texts.{prefix, shown_address, operand_text}
-use Rattle.listing_defs.proofs.Scans.{place_is, all_get, all_both, not_true, unquoted, not_quoted}
-use Rattle.listing_defs.proofs.DigitLaws.{digits_pass, digit_passes, word_passes, byte_passes, word_value, byte_value}
+use Rattle.listing_defs.proofs.Scans.{all_both, not_true, unquoted, not_quoted}
+use Rattle.listing_defs.proofs.DigitLaws.{digits_pass, digit_passes, word_passes}
 
 -- a digit is no parenthesis
 digit_is_not : (byte d : ℕ) → digits_pass (λ b. not (b == byte)) ≡ true → (hexadecimal_digit (d % 16) == byte) ≡ false

@@ -1,15 +1,12 @@
 -- A written instruction is read as that instruction again, by the first checks.
-use Rattle.std.proofs.Common.{◌≡◌, ℕ, zero, suc, ◌+◌, ◌-◌, ◌*◌, ◌/◌, ◌%◌, ◌<◌, ◌≤◌, Bool, true, false, not, cond, ◌&&◌, ◌||◌, eqb}
-use Rattle.std.proofs.Common.{List, [], ◌∷◌, ◌++◌, length, length-append, append-nil, refl, ap, sym, ◌∙◌, Ok, Err, Option, Some, None, lit≤, arith}
-use Rattle.std.specs.Prelude.{◌==◌, codes, IsTrue, nat_le, nat_lt}
-use Rattle.std.specs.List.{list_all}
+use Rattle.std.proofs.Common.{◌≡◌, ℕ, ◌<◌, Bool, true, false}
+use Rattle.std.proofs.Common.{List, [], ◌∷◌, length, append-nil, refl, ap, sym, ◌∙◌, Ok, Option, Some, None, arith}
+use Rattle.std.specs.Prelude.{IsTrue}
 use Rattle.std.proofs.lemmas.Bool.Decides.{nat_tests}
-use Rattle.source_defs.specs.Digits.{byte_digits, word_digits, marked_byte, marked_word}
+use Rattle.source_defs.specs.Digits.{marked_byte, marked_word}
 use Rattle.source_defs.specs.ListedLines.{two_texts}
 use Rattle.source_defs.specs.Operands.{operand_texts}
 use Rattle.source_defs.specs.Expression.{Value}
-use Rattle.gpl_defs.specs.declared.instruction.Space.{Space}
-use Rattle.gpl_defs.specs.declared.instruction.Space.TheVariants.{Cpu, Vdp}
 use Rattle.gpl_defs.specs.declared.instruction.GplOperand.{GplOperand}
 use Rattle.gpl_defs.specs.declared.instruction.GplSource.{GplSource}
 use Rattle.gpl_defs.specs.declared.instruction.GplSource.TheVariants as source
@@ -22,23 +19,17 @@ use Rattle.gpl_defs.specs.declared.instruction.MoveSource.TheVariants as from
 use Rattle.gpl_defs.specs.declared.instruction.TwoName.{TwoName}
 use Rattle.gpl_defs.specs.declared.instruction.GplInstr.{GplInstr}
 use Rattle.gpl_defs.specs.declared.instruction.GplInstr.TheVariants as instr
-use Rattle.gpl_defs.specs.Valid.{is_valid, is_valid_source, is_valid_move, has_immediate}
-use Rattle.gpl_defs.specs.Bytes.{bytes_of}
-use Rattle.program_defs.specs.declared.location.Location.{Location}
-use Rattle.program_defs.specs.Forms.{Memory, Form, InMemory, InGrom, Register, Alone, form_of, takes_two, takes_move}
-use Rattle.program_defs.specs.Values.{scratchpad, held_address, operand, number, index_of, index_value, byte_of}
+use Rattle.gpl_defs.specs.Valid.{is_valid, is_valid_source, is_valid_move}
+use Rattle.program_defs.specs.Forms.{Form, InMemory, InGrom, Register, Alone, form_of, takes_two, takes_move}
+use Rattle.program_defs.specs.Values.{operand, number}
 use Rattle.program_defs.specs.Skeletons.{Source, At, Immediate, Route, Within, ToMemory, ToRegisters, Skeleton, Plain, Byte, Jump, Branch, One, Two, Move}
-use Rattle.program_defs.specs.Skeletons.{written_form, one_form, two_forms, move_forms, text_of_one, operand_in, source_in, route_in, two_skeleton, move_skeleton, skeleton, size_of}
-use Rattle.program_defs.specs.SecondChecks.{instruction, source_value, length_value, moved, register_of}
-use Rattle.program_defs.specs.Locations.{address_of, branch_offset, grom_size}
-use Rattle.listing_defs.specs.Texts.{prefix, shown_address, index_text, operand_text, source_text, length_text, target_text, from_text, value_text}
+use Rattle.program_defs.specs.Skeletons.{written_form, text_of_one, source_in, route_in, two_skeleton, move_skeleton, skeleton}
+use Rattle.listing_defs.specs.Texts.{operand_text, source_text, length_text, target_text, from_text, value_text}
 use Rattle.listing_defs.specs.Texts.{branch_target, mnemonic_of, operands_text}
-use Rattle.listing_defs.proofs.Scans.{all_both}
-use Rattle.listing_defs.proofs.DigitLaws.{digits_pass, word_passes, byte_passes, word_value, byte_value}
+use Rattle.listing_defs.proofs.DigitLaws.{word_passes, byte_passes}
 use Rattle.listing_defs.proofs.OperandLines.{whole, one_text, two_operands, three_operands}
-use Rattle.listing_defs.proofs.FormLaws.{memory_of, index_written, rest_of, operand_form, grom_form, register_form, word_form, byte_form}
-
-use Rattle.listing_defs.proofs.SkeletonLaws.{IndexFits, OperandFits, SourceFits, LengthFits, TargetFits, FromFits, InstrFits}
+use Rattle.listing_defs.proofs.FormLaws.{memory_of, index_written, operand_form, grom_form, register_form, word_form, byte_form}
+use Rattle.listing_defs.proofs.SkeletonLaws.{OperandFits, SourceFits, LengthFits, TargetFits, FromFits, InstrFits}
 use Rattle.listing_defs.proofs.SkeletonLaws.{whole_letters, operand_all, source_all, length_all, target_all, from_all, operand_some, operand_back}
 
 -- ---- what the first checks leave of an instruction at an address

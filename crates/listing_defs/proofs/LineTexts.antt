@@ -1,21 +1,19 @@
 -- The fields of a listed line, and the lines of a listing.
-use Rattle.std.proofs.Common.{◌≡◌, ℕ, zero, suc, ◌+◌, ◌-◌, ◌*◌, ◌<◌, ◌≤◌, Bool, true, false, not, cond, ◌&&◌, ◌||◌, eqb, ltb}
+use Rattle.std.proofs.Common.{◌≡◌, ℕ, zero, suc, ◌+◌, ◌-◌, ◌<◌, ◌≤◌, Bool, true, false, not, ◌&&◌, eqb, ltb}
 use Rattle.std.proofs.Common.{List, [], ◌∷◌, ◌++◌, append_assoc, length, take, drop, get_or, length-append, append-nil, refl, ap, sym, subst, ◌∙◌, ◌⊎◌, inl, inr}
-use Rattle.std.proofs.Common.{Ok, Err, Option, Some, None, arith}
-use Rattle.std.specs.Prelude.{◌==◌, map, nat_lt, codes}
-use Rattle.std.specs.List.{list_all, concat}
+use Rattle.std.proofs.Common.{Ok, Option, Some, None, arith}
+use Rattle.std.specs.Prelude.{map, nat_lt, codes}
+use Rattle.std.specs.List.{list_all}
 use Rattle.std.proofs.lemmas.Bool.Decides.{nat_tests}
 use Rattle.std.proofs.lemmas.Grind.{common_steps}
-use Rattle.std.proofs.lemmas.List.{take-append-le, get_or-append_right}
 use Rattle.std.proofs.Math.Seq.{drop-append-add, drop-append_seam, take-append_seam}
 use Rattle.source_defs.specs.declared.text.Span.{Span}
-use Rattle.source_defs.specs.declared.text.Line.{Line}
-use Rattle.source_defs.specs.Least.{least, least_place}
+use Rattle.source_defs.specs.Least.{least_place}
 use Rattle.source_defs.specs.Characters.{is_blank, is_line_feed, is_carriage_return}
 use Rattle.source_defs.specs.Lines.{part, lines_from, feed_place, without_return, after}
-use Rattle.source_defs.specs.Fields.{Fields, fields, fields_after, word_start, word_end, operand_end, in_quotes}
+use Rattle.source_defs.specs.Fields.{fields, word_start, word_end, operand_end, in_quotes}
 use Rattle.source_defs.specs.Layout.{line_texts, numbered}
-use Rattle.source_defs.specs.ListedLines.{listed, listing_line, with_operands}
+use Rattle.source_defs.specs.ListedLines.{listed, with_operands}
 use Rattle.source_defs.proofs.LineSteps.{lines_from_step, lines_from_end}
 use Rattle.listing_defs.proofs.Scans.{place_is, all_get, all_both, at_first, at_second, at_third, and_left, and_right, not_true}
 use Rattle.listing_defs.proofs.NameLaws.{plain_byte}

@@ -1,13 +1,12 @@
 -- What is listed is assembled again.
-use Rattle.std.proofs.Common.{◌≡◌, ◌≢◌, ℕ, zero, suc, ◌+◌, ◌-◌, ◌*◌, ◌/◌, ◌%◌, ◌<◌, ◌≤◌, Bool, true, false, not, cond, ◌&&◌, ◌||◌, eqb, List, [], ◌∷◌, ◌++◌}
-use Rattle.std.proofs.Common.{append_assoc, length, take, drop, refl, ap, sym, subst, ◌∙◌, ◌⊎◌, inl, inr, Ok, Err, Result, Option, Some, None, min, arith}
-use Rattle.std.specs.Prelude.{◌==◌, codes, IsTrue, nat_lt, nat_le, map, slice_index, slice_range, if◌then◌else◌}
+use Rattle.std.proofs.Common.{◌≡◌, ◌≢◌, ℕ, zero, suc, ◌+◌, ◌-◌, ◌*◌, ◌/◌, ◌%◌, ◌<◌, ◌≤◌, Bool, true, false, not, ◌&&◌, List, [], ◌∷◌, ◌++◌}
+use Rattle.std.proofs.Common.{append_assoc, length, take, drop, refl, ap, sym, subst, ◌∙◌, ◌⊎◌, inl, inr, Ok, None, min, arith}
+use Rattle.std.specs.Prelude.{◌==◌, codes, IsTrue, nat_lt, nat_le, map, slice_index, if◌then◌else◌}
 use Rattle.std.specs.List.{list_all, concat}
 use Rattle.std.specs.FinMap.{empty}
 use Rattle.std.proofs.lemmas.List.{drop_more}
 use Rattle.std.proofs.lemmas.Bool.{cases_eq}
 use Rattle.std.proofs.lemmas.Bool.Decides.{nat_tests}
-use Rattle.console_defs.specs.Bytes.{HoldsBytes}
 use Rattle.source_defs.specs.ListedLines.{listed, listing_line}
 use Rattle.source_defs.specs.Symbols.{predefined}
 use Rattle.gpl_defs.specs.declared.instruction.GplInstr.{GplInstr}
@@ -19,9 +18,8 @@ use Rattle.gpl_defs.specs.Valid.{is_valid}
 use Rattle.gpl_defs.specs.Reading.{reading, stand, IsReadAt, ReadsInstr}
 use Rattle.gpl_defs.proofs.MeaningLaws.{reading_means}
 use Rattle.program_defs.specs.declared.location.Location.{Location}
-use Rattle.program_defs.specs.Locations.{Line, start, behind, grom_size}
+use Rattle.program_defs.specs.Locations.{Line, start, grom_size}
 use Rattle.program_defs.specs.Programs.{Settled, overlaps, program_of_source}
-use Rattle.listing_defs.specs.Texts.{instr_text}
 use Rattle.listing_defs.specs.Listing.{boundary, Listed, byte_listed, instr_listed, is_whole, listed_by, listed_at}
 use Rattle.listing_defs.specs.Listing.{origin_texts, origin_texts_at, texts_from, grom_texts, grom_listing}
 use Rattle.listing_defs.specs.Law.{ListingsComeBack}
@@ -33,7 +31,7 @@ use Rattle.listing_defs.proofs.SkeletonLaws.{InstrFits}
 use Rattle.listing_defs.proofs.InstructionAgain.{InGromOf}
 use Rattle.listing_defs.proofs.PlacingLaws.{placed_behind, placed_free, empty_free, no_overlap, stand_taken, between, between_more, between_size}
 use Rattle.listing_defs.proofs.StateLaws.{Stands, Taken, Ends, at_first, ends_last, ends_more, same_location}
-use Rattle.listing_defs.proofs.EntryLaws.{instr_taken, byte_taken, grom_taken, aorg_taken, end_taken, at_location}
+use Rattle.listing_defs.proofs.EntryLaws.{instr_taken, byte_taken, grom_taken, aorg_taken, end_taken}
 use Rattle.listing_defs.proofs.EntryLaws.{instr_in_line, byte_in_line, grom_in_line, aorg_in_line}
 
 not_false : (b : Bool) → not b ≡ false → b ≡ true

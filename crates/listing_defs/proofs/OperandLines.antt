@@ -1,6 +1,6 @@
 -- Operands with commas between them.
-use Rattle.std.proofs.Common.{◌≡◌, ℕ, zero, suc, ◌+◌, ◌-◌, ◌<◌, ◌≤◌, Bool, true, false, not, cond, ◌&&◌, eqb, List, [], ◌∷◌, ◌++◌}
-use Rattle.std.proofs.Common.{append_assoc, length, take, drop, get_or, length-append, refl, ap, sym, subst, ◌∙◌, arith}
+use Rattle.std.proofs.Common.{◌≡◌, ℕ, ◌+◌, ◌-◌, ◌<◌, Bool, true, false, not, ◌&&◌, List, [], ◌∷◌, ◌++◌}
+use Rattle.std.proofs.Common.{append_assoc, length, get_or, length-append, refl, ap, sym, ◌∙◌, arith}
 use Rattle.std.specs.Prelude.{map, nat_lt}
 use Rattle.std.specs.List.{list_all}
 use Rattle.std.proofs.lemmas.Bool.Decides.{nat_tests}
@@ -8,9 +8,8 @@ use Rattle.std.proofs.lemmas.Grind.{common_steps}
 use Rattle.std.proofs.lemmas.List.{take_all}
 use Rattle.std.proofs.Math.Seq.{drop-append_seam, take-append_seam}
 use Rattle.source_defs.specs.Numbers.{is_comma}
-use Rattle.source_defs.specs.Characters.{is_quote}
 use Rattle.source_defs.specs.Lines.{part}
-use Rattle.source_defs.specs.Operands.{parts_operands, operands_from, operands, operand_texts}
+use Rattle.source_defs.specs.Operands.{parts_operands, operands_from, operand_texts}
 use Rattle.source_defs.specs.ListedLines.{two_texts}
 use Rattle.source_defs.proofs.OperandSteps.{comma_place, operands_from_step}
 use Rattle.listing_defs.proofs.Scans.{place_is, all_get, all_both, at_second, at_third, and_left, and_right, not_true, unquoted, not_quoted}

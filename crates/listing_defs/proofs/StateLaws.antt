@@ -1,20 +1,15 @@
 -- A line that is let through, and what the lines with it come to.
-use Rattle.std.proofs.Common.{◌≡◌, ℕ, zero, suc, ◌+◌, ◌-◌, ◌*◌, ◌/◌, ◌%◌, ◌<◌, ◌≤◌, Bool, true, false, not, ◌&&◌, ◌||◌, eqb, List, [], ◌∷◌, ◌++◌}
-use Rattle.std.proofs.Common.{length, refl, ap, sym, subst, ◌∙◌, ◌⊎◌, inl, inr, Ok, Err, Result, Option, Some, None, arith}
-use Rattle.std.specs.Prelude.{◌==◌, codes, if◌then◌else◌}
-use Rattle.source_defs.specs.declared.text.Span.{Span}
-use Rattle.source_defs.specs.Refusals.{Refusal, ◌>>=◌, at_line}
+use Rattle.std.proofs.Common.{◌≡◌, ℕ, ◌+◌, Bool, true, false, List, [], ◌∷◌}
+use Rattle.std.proofs.Common.{refl, ap, ◌∙◌, Ok, Option, Some, None, arith}
+use Rattle.std.specs.Prelude.{if◌then◌else◌}
 use Rattle.source_defs.specs.Symbols.{Names, look_up, predefined}
-use Rattle.source_defs.specs.Expression.{Value}
-use Rattle.source_defs.specs.Layout as layout
-use Rattle.source_defs.specs.Layout.{Laid, laid_behind, settled, numbered}
+use Rattle.source_defs.specs.Layout.{laid_behind, settled, numbered}
 use Rattle.gpl_defs.specs.Image.{Image, placed}
-use Rattle.program_defs.specs.declared.causes.GplCause.{GplCause}
 use Rattle.program_defs.specs.declared.location.Location.{Location}
 use Rattle.program_defs.specs.Statements.{Statement, operation_statement, size_said}
 use Rattle.program_defs.specs.Locations.{Line, start, behind, location, place, address_of, origin_of}
-use Rattle.program_defs.specs.FirstChecks.{Checked, checked, check, line_of, names, is_full, is_bad, is_end}
-use Rattle.program_defs.specs.SecondChecks.{Outcome, Bytes, outcome}
+use Rattle.program_defs.specs.FirstChecks.{checked, check, line_of, names, is_full, is_bad, is_end}
+use Rattle.program_defs.specs.SecondChecks.{Bytes, outcome}
 use Rattle.program_defs.specs.Programs.{Settled, image, entry, overlaps, settle, settle_at}
 use Rattle.listing_defs.proofs.LineTexts.{Cut}
 
