@@ -15,9 +15,9 @@ use gpl_forms::GromImage;
 /// How far the first addresses of GROMs stand apart.
 const GROM_SIZE: u16 = 0x2000;
 
-/// Writes the listing of an image from its lowest to its highest written address, each line by one call. A line for GROM and
-/// one for AORG stand before the first byte, and again where a byte begins a GROM; the last line is END. An image in which
-/// nothing is written is listed as if it began at 0.
+/// Writes the listing of an image from its lowest to its highest written address, each line by one call. A line for
+/// GROM and one for AORG stand before the first byte, and again where a byte begins a GROM; the last line is END. An
+/// image in which nothing is written is listed as if it began at 0.
 ///
 /// # Errors
 /// `Failed` comes only where the sink's count of faults rose in this call. It then got a front of the listing.
@@ -53,8 +53,8 @@ fn put_lines<O: Sink>(image: &[u8], low: u16, high: u32, out: &mut O) -> Result<
     Ok(())
 }
 
-/// Writes the line of the byte at an address, behind those for GROM and AORG where it begins a GROM and is not the first, and
-/// gives the address after the bytes that it stands for.
+/// Writes the line of the byte at an address, behind those for GROM and AORG where it begins a GROM and is not the
+/// first, and gives the address after the bytes that it stands for.
 fn put_entry<O: Sink>(
     image: &[u8],
     low: u16,
