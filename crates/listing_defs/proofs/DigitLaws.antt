@@ -49,7 +49,8 @@ byte_back n lt = rw (digit_back (n / 16), digit_back n) (omega arith)
 digits_end : (digits : List ℕ) → list_all is_hexadecimal_digit digits ≡ true →
     hexadecimal_end (0x3E ∷ digits) 1 ≡ 1 + length digits
 digits_end digits e =
-    place_is (λ k. not (is_hexadecimal_digit (get_or (0x3E ∷ digits) k 0))) (0x3E ∷ digits) 1 (1 + length digits) (omega arith)
+    place_is (λ k. not (is_hexadecimal_digit (get_or (0x3E ∷ digits) k 0))) (0x3E ∷ digits) 1 (1 + length digits)
+    (omega arith)
     (omega arith)
     (λ j ge lt. at digits (j - 1) j (omega arith) (omega arith) e)
     (λ h. absurd (omega arith))
@@ -103,7 +104,12 @@ word_written n = record {
   size = refl;
   some = omega arith;
   few = omega arith;
-  digits = rw (digit_passes is_hexadecimal_digit (n / 4096) refl, digit_passes is_hexadecimal_digit (n / 256) refl, digit_passes is_hexadecimal_digit (n / 16) refl, digit_passes is_hexadecimal_digit n refl) refl;
+  digits = rw (
+    digit_passes is_hexadecimal_digit (n / 4096) refl,
+    digit_passes is_hexadecimal_digit (n / 256) refl,
+    digit_passes is_hexadecimal_digit (n / 16) refl,
+    digit_passes is_hexadecimal_digit n refl,
+  ) refl;
 }
 
 word_tokens : (n : ℕ) → n < 65536 → tokens (marked_word n) ≡ Ok (token_to (Number n) 0 5 ∷ [])
@@ -111,7 +117,8 @@ unfolding word_digits
 word_tokens n lt =
     let w = word_written n in
     let token = sign_token (word_digits n) n w.some w.few w.digits (word_back n lt) in
-    sole_token (marked_word n) 4 (token_to (Number n) 0 5) w.size (token ∙ ap (λ end. Ok (token_to (Number n) 0 end)) w.size)
+    sole_token (marked_word n) 4 (token_to (Number n) 0 5) w.size
+    (token ∙ ap (λ end. Ok (token_to (Number n) 0 end)) w.size)
     (sym w.size)
 
 record ByteDigits (n : ℕ) : Type 0 where
@@ -134,7 +141,8 @@ unfolding byte_digits
 byte_tokens n lt =
     let b = byte_written n in
     let token = sign_token (byte_digits n) n b.some b.few b.digits (byte_back n lt) in
-    sole_token (marked_byte n) 2 (token_to (Number n) 0 3) b.size (token ∙ ap (λ end. Ok (token_to (Number n) 0 end)) b.size)
+    sole_token (marked_byte n) 2 (token_to (Number n) 0 3) b.size
+    (token ∙ ap (λ end. Ok (token_to (Number n) 0 end)) b.size)
     (sym b.size)
 
 -- the value of a written number

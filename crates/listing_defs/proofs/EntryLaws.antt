@@ -46,7 +46,18 @@ use Rattle.listing_defs.proofs.StateLaws.{Stands, Taken, checked_as, taken, here
 -- ---- operands stand in a line
 
 plain_letters : Alphabet plain_byte
-plain_letters = record { digits = refl; sign = refl; at_sign = refl; star = refl; video = refl; opens = refl; closes = refl; grom = refl; register = refl }
+plain_letters = record {
+  digits = refl;
+  sign = refl;
+  at_sign = refl;
+  star = refl;
+  video = refl;
+  opens = refl;
+  closes
+      = refl;
+  grom = refl;
+  register = refl;
+}
 
 operands_plain : (found : GplInstr) (at : ℕ) → list_all plain_byte (field_of (operands_text found at)) ≡ true
 operands_plain (instr.Plain op) at = refl
@@ -73,11 +84,16 @@ unfolding operand_text
 operand_short operand = by operand.space operand.indirect
   where
     by : (space : Space) (indirect : Bool) →
-        length (prefix space indirect ++ rest_of (shown_address operand.space operand.indirect operand.address) operand.index) ≤ 15
-    by Cpu false = let n = rest_short (shown_address operand.space operand.indirect operand.address) operand.index in omega arith
-    by Cpu true = let n = rest_short (shown_address operand.space operand.indirect operand.address) operand.index in omega arith
-    by Vdp false = let n = rest_short (shown_address operand.space operand.indirect operand.address) operand.index in omega arith
-    by Vdp true = let n = rest_short (shown_address operand.space operand.indirect operand.address) operand.index in omega arith
+        length (prefix space indirect ++ rest_of (shown_address operand.space operand.indirect operand.address)
+        operand.index) ≤ 15
+    by Cpu false = let n = rest_short (shown_address operand.space operand.indirect operand.address) operand.index in
+        omega arith
+    by Cpu true = let n = rest_short (shown_address operand.space operand.indirect operand.address) operand.index in
+        omega arith
+    by Vdp false = let n = rest_short (shown_address operand.space operand.indirect operand.address) operand.index in
+        omega arith
+    by Vdp true = let n = rest_short (shown_address operand.space operand.indirect operand.address) operand.index in
+        omega arith
 
 word_short : (n : ℕ) → length (marked_word n) ≤ 15
 unfolding word_digits
@@ -135,7 +151,8 @@ operands_some (instr.One op word operand) at = inr (operand_some operand)
 operands_some (instr.Two op word dst src) at =
     inr (let s = length-append (operand_text dst) (0x2C ∷ source_text word src) in omega arith)
 operands_some (instr.Move counted to source) at =
-    inr (let s = length-append (length_text counted) (0x2C ∷ two_texts (target_text to) (from_text source)) in omega arith)
+    inr (let s = length-append (length_text counted) (0x2C ∷ two_texts (target_text to) (from_text source)) in omega
+    arith)
 
 instr_fit : (found : GplInstr) (at : ℕ) → IsTrue (is_valid found) →
     Fit (name_of (mnemonic_of found)) (field_of (operands_text found at))
@@ -155,22 +172,33 @@ unfolding instr_text
 instr_in_line found at valid =
     listed_in_line (name_of (mnemonic_of found)) (operands_text found at) (instr_fit found at valid)
 
-not_full : (here : Location) (said : Statement) → here.number + size_said said ≤ here.grom + 0x2000 → is_full here said ≡ false
-not_full here said le = let test : nat_lt (here.grom + grom_size) (here.number + size_said said) ≡ false = grind (arith, nat_tests) in test
+not_full : (here : Location) (said : Statement) → here.number + size_said said ≤ here.grom + 0x2000 → is_full here
+    said ≡ false
+not_full here said le = let test : nat_lt (here.grom + grom_size) (here.number + size_said said) ≡ false = grind
+    (arith, nat_tests) in test
 
 -- an instruction at its place
-pub instr_taken : (before : List Line) (earlier : List Settled) (at : Location) (held : Image) (number : ℕ) (found : GplInstr) →
+pub instr_taken : (before : List Line) (earlier : List Settled) (at : Location) (held : Image) (number : ℕ)
+    (found : GplInstr) →
     Stands before earlier at held → InGromOf at → IsTrue (is_valid found) → InstrFits found →
     at.number + length (bytes_of found) ≤ at.grom + 0x2000 → overlaps held at.number (bytes_of found) ≡ false →
-    Taken before number (listed (instr_text found at.number)) false (behind at (length (bytes_of found))) (placed held at.number (bytes_of found))
+    Taken before number (listed (instr_text found at.number)) false (behind at (length (bytes_of found)))
+    (placed held at.number (bytes_of found))
 unfolding instr_text outcome
 instr_taken before earlier at held number found stands place valid fits within free =
     let names = instr_names found valid in
     let text : List ℕ = listed (with_operands (name_of (mnemonic_of found)) (operands_text found at.number)) in
-    let cut = cut_listed (name_of (mnemonic_of found)) (operands_text found at.number) (instr_fit found at.number valid) (operands_some found at.number) in
+    let cut = cut_listed (name_of (mnemonic_of found)) (operands_text found at.number)
+    (instr_fit found at.number valid) (operands_some found at.number) in
     let said : Statement = Instruction (left_of found at.number) in
-    let is : operation_statement (look_up predefined) (address_of at) (name_of (mnemonic_of found)) (field_of (operands_text found at.number)) ≡ Ok said =
-    rw (names.no_directive, names.reads, skeleton_back (look_up predefined) (address_of at) found at.number valid fits) refl in
+    let is : operation_statement (look_up predefined) (address_of at) (name_of (mnemonic_of found))
+    (field_of (operands_text found at.number)) ≡ Ok said =
+    rw (
+      names.no_directive,
+      names.reads,
+      skeleton_back (look_up predefined) (address_of at) found at.number valid
+          fits,
+    ) refl in
     let size : size_said said ≡ length (bytes_of found) = size_back found at.number valid in
     let first = checked_as predefined at text _ _ said cut is (not_full at said (rw size within)) refl in
     let second : outcome (look_up predefined) at said ≡ Ok (Bytes (bytes_of found)) =
@@ -179,7 +207,8 @@ instr_taken before earlier at held number found stands place valid fits within f
 
 -- ---- the other lines
 
-pub at_location : (before : List Line) (number : ℕ) (text : List ℕ) (last : Bool) (here there : Location) (held : Image) →
+pub at_location : (before : List Line) (number : ℕ) (text : List ℕ) (last : Bool) (here there : Location)
+    (held : Image) →
     here ≡ there → Taken before number text last here held → Taken before number text last there held
 at_location before number text last here there held same it =
     let T : Location → Type 0 = λ at. Taken before number text last at held in subst T same it
@@ -234,13 +263,21 @@ grom_said : (here e : ℕ) → e < 65536 →
     operation_statement (look_up predefined) here (codes "GROM") (marked_word e) ≡ Ok (Grom e)
 unfolding directive
 grom_said here e lt =
-    rw (one_text (marked_word e) (omega arith) (word_passes whole e refl refl), word_value (look_up predefined) here e lt) refl
+    rw (
+      one_text (marked_word e) (omega arith) (word_passes whole e refl refl),
+      word_value (look_up predefined) here
+          e lt,
+    ) refl
 
 aorg_said : (here e : ℕ) → e < 65536 →
     operation_statement (look_up predefined) here (codes "AORG") (marked_word e) ≡ Ok (Aorg e)
 unfolding directive
 aorg_said here e lt =
-    rw (one_text (marked_word e) (omega arith) (word_passes whole e refl refl), word_value (look_up predefined) here e lt) refl
+    rw (
+      one_text (marked_word e) (omega arith) (word_passes whole e refl refl),
+      word_value (look_up predefined) here
+          e lt,
+    ) refl
 
 end_said : (here : ℕ) → operation_statement (look_up predefined) here (codes "END") [] ≡ Ok (End None)
 unfolding directive
@@ -248,13 +285,16 @@ end_said here = refl
 
 -- a byte at its place
 pub byte_taken : (before : List Line) (earlier : List Settled) (at : Location) (held : Image) (number b : ℕ) →
-    Stands before earlier at held → b < 256 → at.number + 1 ≤ at.grom + 0x2000 → overlaps held at.number (b ∷ []) ≡ false →
+    Stands before earlier at held → b < 256 → at.number + 1 ≤ at.grom + 0x2000 → overlaps held at.number (b ∷ []) ≡
+    false →
     Taken before number (listed (byte_text b)) false (behind at 1) (placed held at.number (b ∷ []))
 unfolding outcome
 byte_taken before earlier at held number b stands lt within free =
-    let cut = cut_listed (codes "BYTE") (Some (marked_byte b)) (byte_fit (codes "BYTE") b (omega arith) (omega arith) refl) (inr (omega arith)) in
+    let cut = cut_listed (codes "BYTE") (Some (marked_byte b))
+    (byte_fit (codes "BYTE") b (omega arith) (omega arith) refl) (inr (omega arith)) in
     let said : Statement = Byte (marked_byte b ∷ []) in
-    let first = checked_as predefined at (listed (byte_text b)) _ _ said cut (byte_said (address_of at) b) (not_full at said within) refl in
+    let first = checked_as predefined at (listed (byte_text b)) _ _ said cut (byte_said (address_of at) b)
+    (not_full at said within) refl in
     let few : nat_le b 0xFF ≡ true = grind (arith, nat_tests) in
     let second : outcome (look_up predefined) at said ≡ Ok (Bytes (b ∷ [])) =
     rw (byte_value (look_up predefined) (address_of at) b lt, few) refl in
@@ -266,14 +306,18 @@ pub grom_taken : (before : List Line) (earlier : List Settled) (at : Location) (
     Taken before number (listed (grom_text e)) false (record { grom = e; number = e }) held
 unfolding outcome
 grom_taken before earlier at held number e stands lt even within =
-    let cut = cut_listed (codes "GROM") (Some (marked_word e)) (word_fit (codes "GROM") e (omega arith) (omega arith) refl) (inr (omega arith)) in
+    let cut = cut_listed (codes "GROM") (Some (marked_word e))
+    (word_fit (codes "GROM") e (omega arith) (omega arith) refl) (inr (omega arith)) in
     let said : Statement = Grom e in
     let whole_e : (e % grom_size == 0) ≡ true = grind (arith, nat_tests) in
     let bad : is_bad None said ≡ false = rw whole_e refl in
     let full : is_full at said ≡ false = not_full at said (omega arith) in
-    let first = checked_as predefined at (listed (grom_text e)) _ _ said cut (grom_said (address_of at) e lt) full bad in
-    let it = taken before earlier at held number (listed (grom_text e)) said [] (Some (record { grom = e; number = e })) stands first refl refl refl in
-    at_location before number (listed (grom_text e)) false _ (record { grom = e; number = e }) held (here_again (record { grom = e; number = e })) it
+    let first = checked_as predefined at (listed (grom_text e)) _ _ said cut (grom_said (address_of at) e lt) full
+    bad in
+    let it = taken before earlier at held number (listed (grom_text e)) said []
+    (Some (record { grom = e; number = e })) stands first refl refl refl in
+    at_location before number (listed (grom_text e)) false _ (record { grom = e; number = e }) held
+    (here_again (record { grom = e; number = e })) it
 
 -- the line that sets a place in the GROM
 pub aorg_taken : (before : List Line) (earlier : List Settled) (at : Location) (held : Image) (number e : ℕ) →
@@ -281,15 +325,19 @@ pub aorg_taken : (before : List Line) (earlier : List Settled) (at : Location) (
     Taken before number (listed (aorg_text e)) false (record { grom = at.grom; number = at.grom + e }) held
 unfolding outcome
 aorg_taken before earlier at held number e stands lt within =
-    let cut = cut_listed (codes "AORG") (Some (marked_word e)) (word_fit (codes "AORG") e (omega arith) (omega arith) refl) (inr (omega arith)) in
+    let cut = cut_listed (codes "AORG") (Some (marked_word e))
+    (word_fit (codes "AORG") e (omega arith) (omega arith) refl) (inr (omega arith)) in
     let said : Statement = Aorg e in
     let below : nat_lt e grom_size ≡ true = grind (arith, nat_tests) in
     let bad : is_bad None said ≡ false = rw below refl in
     let full : is_full at said ≡ false = not_full at said (omega arith) in
-    let first = checked_as predefined at (listed (aorg_text e)) _ _ said cut (aorg_said (address_of at) e (omega arith)) full bad in
+    let first = checked_as predefined at (listed (aorg_text e)) _ _ said cut
+    (aorg_said (address_of at) e (omega arith)) full bad in
     let there : Location = record { grom = at.grom; number = at.grom + e } in
-    let it = taken before earlier at held number (listed (aorg_text e)) said [] (Some (record { grom = at.grom; number = at.grom + e })) stands first refl refl refl in
-    at_location before number (listed (aorg_text e)) false _ (record { grom = at.grom; number = at.grom + e }) held (here_again (record { grom = at.grom; number = at.grom + e })) it
+    let it = taken before earlier at held number (listed (aorg_text e)) said []
+    (Some (record { grom = at.grom; number = at.grom + e })) stands first refl refl refl in
+    at_location before number (listed (aorg_text e)) false _ (record { grom = at.grom; number = at.grom + e }) held
+    (here_again (record { grom = at.grom; number = at.grom + e })) it
 
 -- the last line
 pub end_taken : (before : List Line) (earlier : List Settled) (at : Location) (held : Image) (number : ℕ) →
@@ -297,7 +345,8 @@ pub end_taken : (before : List Line) (earlier : List Settled) (at : Location) (h
     Taken before number (listed (codes "END")) true (behind at 0) held
 unfolding outcome
 end_taken before earlier at held number stands within =
-    let fit : Fit (codes "END") [] = record { some = omega arith; short = omega arith; few = omega arith; name_plain = refl; field_plain = refl } in
+    let fit : Fit (codes "END") [] = record
+    { some = omega arith; short = omega arith; few = omega arith; name_plain = refl; field_plain = refl } in
     let cut = cut_listed (codes "END") None fit (inl refl) in
     let said : Statement = End None in
     let full : is_full at said ≡ false = not_full at said (omega arith) in

@@ -33,7 +33,8 @@ module _ (image : List ℕ) (bytes : (k : ℕ) → slice_index image k < 256) wh
   address_fits first at = by (first % 16 == 15)
     where
       by : (test : Bool) →
-          ((if◌then◌else◌ {A = ℕ × ℕ} test (word_at image at) (join (first % 16) (slice_index image at), next_in_grom at)).0) < 65536
+          ((if◌then◌else◌ {A = ℕ × ℕ} test (word_at image at)
+          (join (first % 16) (slice_index image at), next_in_grom at)).0) < 65536
       by true = word_fits at
       by false = let a = bytes at in omega arith
 
@@ -49,7 +50,8 @@ module _ (image : List ℕ) (bytes : (k : ℕ) → slice_index image k < 256) wh
           let address = address_at (slice_index image at) image (next_in_grom at) in
           record {
             address = address_fits (slice_index image at) (next_in_grom at);
-            index = index_fits (slice_index image at / 64 % 2 == 1) (address_at (slice_index image at) image (next_in_grom at)).1;
+            index = index_fits (slice_index image at / 64 % 2 == 1)
+                (address_at (slice_index image at) image (next_in_grom at)).1;
           }
 
   source_fits : (immediate word : Bool) (at : ℕ) → SourceFits word (source_at immediate word image at).0

@@ -41,11 +41,14 @@ source_size true (source.Immediate value) = refl
 source_size false (source.Immediate value) = refl
 
 two_size : (op : TwoName) (word : Bool) (dst : GplOperand) (src : GplSource) →
-    length (bytes_of (instr.Two op word dst (source_by_zero (source_left word src)))) ≡ length (bytes_of (instr.Two op word dst src))
+    length (bytes_of (instr.Two op word dst (source_by_zero (source_left word src)))) ≡ length
+    (bytes_of (instr.Two op word dst src))
 two_size op word dst src =
-    ap suc (same_sizes (operand_bytes dst) (source_bytes word (source_by_zero (source_left word src))) (source_bytes word src) (source_size word src))
+    ap suc (same_sizes (operand_bytes dst) (source_bytes word (source_by_zero (source_left word src)))
+    (source_bytes word src) (source_size word src))
 
-length_size : (count : MoveLength) → length (length_bytes (length_by_zero (length_left count))) ≡ length (length_bytes count)
+length_size : (count : MoveLength) → length (length_bytes (length_by_zero (length_left count))) ≡ length
+    (length_bytes count)
 length_size (count.At operand) = refl
 length_size (count.Immediate number) = refl
 
@@ -60,7 +63,8 @@ move_rest count to source = ap suc (length-append (length_bytes count) (ends to 
 move_size : (count : MoveLength) (to : MoveTarget) (source : MoveSource) → IsTrue (is_valid_move to source) →
     length (bytes_of (move_by_zero (length_by_zero (length_left count)) (route_left to source)))
     ≡ suc (length (length_bytes (length_by_zero (length_left count))) + length (ends to source))
-move_size count (target.At to) (from.At place) valid = move_rest (length_by_zero (length_left count)) (target.At to) (from.At place)
+move_size count (target.At to) (from.At place) valid = move_rest (length_by_zero (length_left count)) (target.At to)
+    (from.At place)
 move_size count (target.At to) (from.Grom address) valid =
     move_rest (length_by_zero (length_left count)) (target.At to) (from.Grom 0)
     ∙ ap (λ n. suc (length (length_bytes (length_by_zero (length_left count))) + n))
@@ -68,12 +72,15 @@ move_size count (target.At to) (from.Grom address) valid =
 move_size count (target.At to) (from.GromIndexed address index) valid =
     move_rest (length_by_zero (length_left count)) (target.At to) (from.GromIndexed 0 0)
     ∙ ap (λ n. suc (length (length_bytes (length_by_zero (length_left count))) + n))
-    (same_sizes (operand_bytes to) (from_bytes (from.GromIndexed 0 0)) (from_bytes (from.GromIndexed address index)) refl)
-move_size count (target.Register number) (from.Grom address) valid = move_rest (length_by_zero (length_left count)) (target.Register 0) (from.Grom 0)
+    (same_sizes (operand_bytes to) (from_bytes (from.GromIndexed 0 0)) (from_bytes (from.GromIndexed address index))
+    refl)
+move_size count (target.Register number) (from.Grom address) valid = move_rest (length_by_zero (length_left count))
+    (target.Register 0) (from.Grom 0)
 move_size count (target.Register number) (from.At place) valid = absurd (cc)
 move_size count (target.Register number) (from.GromIndexed address index) valid = absurd (cc)
 
-pub size_back : (found : GplInstr) (at : ℕ) → IsTrue (is_valid found) → size_of (left_of found at) ≡ length (bytes_of found)
+pub size_back : (found : GplInstr) (at : ℕ) → IsTrue (is_valid found) → size_of (left_of found at) ≡ length
+    (bytes_of found)
 size_back (instr.Plain op) at valid = refl
 size_back (instr.Byte op value) at valid = refl
 size_back (instr.Jump op to) at valid = refl
@@ -100,7 +107,8 @@ branch_back : (at : Location) (offset : ℕ) → InGromOf at → offset < 0x2000
     branch_offset at (branch_target at.number offset) ≡ Ok offset
 branch_back at offset place lt =
     let same : (branch_target at.number offset / grom_size == at.grom / grom_size) ≡ true =
-    let q : branch_target at.number offset / grom_size ≡ at.grom / grom_size = omega (arith, place.whole, place.from, place.below) in
+    let q : branch_target at.number offset / grom_size ≡ at.grom / grom_size = omega
+    (arith, place.whole, place.from, place.below) in
     grind (arith, nat_tests) in
     let rest : branch_target at.number offset % grom_size ≡ offset = omega arith in
     rw (same, rest) refl

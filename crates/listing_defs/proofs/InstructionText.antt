@@ -45,7 +45,8 @@ length_left (count.Immediate number) = Immediate (marked_word number)
 abbrev pub route_left : MoveTarget → MoveSource → Route
 route_left (target.At to) (from.At place) = Within to place
 route_left (target.At to) (from.Grom address) = ToMemory to (marked_word address) None
-route_left (target.At to) (from.GromIndexed address index) = ToMemory to (marked_word address) (index_written (Some index))
+route_left (target.At to) (from.GromIndexed address index) = ToMemory to (marked_word address)
+    (index_written (Some index))
 route_left (target.Register number) (from.Grom address) = ToRegisters (marked_byte number) (marked_word address)
 route_left (target.Register number) (from.At place) = ToRegisters (marked_byte number) []
 route_left (target.Register number) (from.GromIndexed address index) = ToRegisters (marked_byte number) []
@@ -108,12 +109,14 @@ length_formed (count.Immediate number) = word_formed number
 
 target_formed : (to : MoveTarget) → written_form (target_text to) ≡ Ok (target_form to)
 target_formed (target.At operand) = operand_formed operand
-target_formed (target.Register number) = formed (target_text (target.Register number)) _ (omega arith) (register_form number)
+target_formed (target.Register number) = formed (target_text (target.Register number)) _ (omega arith)
+    (register_form number)
 
 from_formed : (source : MoveSource) → written_form (from_text source) ≡ Ok (from_form source)
 from_formed (from.At operand) = operand_formed operand
 from_formed (from.Grom address) =
-    formed (from_text (from.Grom address)) _ (omega arith) (ap (λ t. form_of (0x47 ∷ 0x40 ∷ t)) (sym (append-nil (marked_word address))) ∙ grom_form address None)
+    formed (from_text (from.Grom address)) _ (omega arith)
+    (ap (λ t. form_of (0x47 ∷ 0x40 ∷ t)) (sym (append-nil (marked_word address))) ∙ grom_form address None)
 from_formed (from.GromIndexed address index) =
     formed (from_text (from.GromIndexed address index)) _ (omega arith) (grom_form address (Some index))
 
@@ -139,7 +142,8 @@ module _ (look : List ℕ → Option Value) (here : ℕ) where
   length_taken (count.At operand) fits = rw (operand_back look here operand fits) refl
   length_taken (count.Immediate number) fits = refl
 
-  route_taken : (to : MoveTarget) (source : MoveSource) → IsTrue (is_valid_move to source) → TargetFits to → FromFits source →
+  route_taken : (to : MoveTarget) (source : MoveSource) → IsTrue (is_valid_move to source) → TargetFits to → FromFits
+      source →
       route_in look here (target_form to) (from_form source) ≡ Ok (route_left to source)
   route_taken (target.At to) (from.At place) valid fits fits_too =
       rw (operand_back look here to fits, operand_back look here place fits_too) refl
@@ -174,7 +178,8 @@ module _ (look : List ℕ → Option Value) (here : ℕ) where
       ≡ Ok (Two op word dst (source_left word src))
   two_back op word dst src valid fits fits_too =
       rw (
-        two_operands (operand_text dst) (source_text word src) (operand_all whole whole_letters dst) (source_all whole whole_letters word src),
+        two_operands (operand_text dst) (source_text word src) (operand_all whole whole_letters dst)
+            (source_all whole whole_letters word src),
         operand_formed dst,
         source_formed word src,
         two_allowed op word dst src valid,
@@ -188,7 +193,9 @@ module _ (look : List ℕ → Option Value) (here : ℕ) where
       ≡ Ok (Move (length_left length) (route_left to source))
   move_back length to source valid fits fits_too fits_third =
       rw (
-        three_operands (length_text length) (target_text to) (from_text source) (length_all whole whole_letters length) (target_all whole whole_letters to) (from_all whole whole_letters source),
+        three_operands (length_text length) (target_text to) (from_text source)
+            (length_all whole whole_letters length) (target_all whole whole_letters to)
+            (from_all whole whole_letters source),
         length_formed length,
         target_formed to,
         from_formed source,

@@ -5,7 +5,8 @@ use Rattle.listing_defs.specs.Listing.{listed_at, origin_texts_at, texts_from}
 -- bytes that belong to the line before have no lines
 skipped : (image : List ℕ) (low end at belonging left : ℕ) → belonging ≤ left →
     texts_from image low end at belonging left ≡ texts_from image low end (at + belonging) 0 (left - belonging)
-skipped image low end at zero left le = ap (λ n. texts_from image low end n 0 left) (omega arith) ∙ ap (λ n. texts_from image low end (at + 0) 0 n) (omega arith)
+skipped image low end at zero left le = ap (λ n. texts_from image low end n 0 left) (omega arith) ∙ ap
+    (λ n. texts_from image low end (at + 0) 0 n) (omega arith)
 skipped image low end at (suc belonging) zero le = absurd (omega arith)
 skipped image low end at (suc belonging) (suc left) le =
     skipped image low end (at + 1) belonging left (omega arith)

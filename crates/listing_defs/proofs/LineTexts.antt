@@ -54,7 +54,8 @@ name_end name c e behind =
     (λ j ge lt.
     rw (at_second lead name c j (j - 7) (omega arith) (omega arith))
     (blank_false (get_or name (j - 7) 0) (all_get unblank name (j - 7) (omega arith) e)))
-    (λ h. rw (at_third lead name c (7 + length name) 0 (omega arith)) (behind (let l = length-append name c in omega arith)))
+    (λ h. rw (at_third lead name c (7 + length name) 0 (omega arith))
+    (behind (let l = length-append name c in omega arith)))
 
 operands_start : (name operands : List ℕ) (o : ℕ) (os : List ℕ) → operands ≡ o ∷ os → list_all unblank operands ≡ true →
     word_start (lead ++ (name ++ 32 ∷ operands)) (7 + length name) ≡ 8 + length name
@@ -62,12 +63,14 @@ operands_start name operands o os some e =
     let l : length (name ++ 32 ∷ operands) ≡ length name + (1 + length operands) =
     length-append name (32 ∷ operands) ∙ omega arith in
     let n : length operands ≡ 1 + length os = rw some (omega arith) in
-    place_is (λ k. unblank (get_or (lead ++ (name ++ 32 ∷ operands)) k 0)) (lead ++ (name ++ 32 ∷ operands)) (7 + length name)
+    place_is (λ k. unblank (get_or (lead ++ (name ++ 32 ∷ operands)) k 0)) (lead ++ (name ++ 32 ∷ operands))
+    (7 + length name)
     (8 + length name) (omega arith)
     (omega arith)
     (λ j ge lt. rw (at_third lead name (32 ∷ operands) j 0 (omega arith)) refl)
     (λ h.
-    rw (at_third lead name (32 ∷ operands) (8 + length name) 1 (omega arith)) (all_get unblank operands 0 (omega arith) e))
+    rw (at_third lead name (32 ∷ operands) (8 + length name) 1 (omega arith))
+    (all_get unblank operands 0 (omega arith) e))
 
 blank_at : (operands : List ℕ) (k : ℕ) → k < length operands → list_all unblank operands ≡ true →
     is_blank (get_or (32 ∷ operands) (1 + k) 0) ≡ false
@@ -137,15 +140,18 @@ cut_ended name some short e =
     let l : length (name ++ []) ≡ length name = length-append name [] ∙ omega arith in
     let line : List ℕ = lead ++ (name ++ []) in
     let ends : (p : ℕ → Bool) → least_place p (lead ++ (name ++ [])) (7 + length name) ≡ 7 + length name =
-    λ p. place_is p (lead ++ (name ++ [])) (7 + length name) (7 + length name) (omega arith) (omega arith) (λ j a b. absurd (omega arith)) (λ h. absurd (omega arith)) in
+    λ p. place_is p (lead ++ (name ++ [])) (7 + length name) (7 + length name) (omega arith) (omega arith)
+    (λ j a b. absurd (omega arith)) (λ h. absurd (omega arith)) in
     record {
       operation = record { start = 7; end = 7 + length name };
       operands = record { start = 7 + length name; end = 7 + length name };
       fields_are =
-          cut_at (lead ++ (name ++ [])) 7 (7 + length name) (7 + length name) (7 + length name) (omega arith) refl (omega arith)
+          cut_at (lead ++ (name ++ [])) 7 (7 + length name) (7 + length name) (7 + length name) (omega arith) refl
+          (omega arith)
           (first_word name [] some e) (name_end name [] e (λ h. absurd (omega arith))) (ends _) (ends _);
       name_is = name_part name [];
-      field_is = nothing_part (lead ++ (name ++ [])) (7 + length name) (7 + length name - (7 + length name)) (omega arith);
+      field_is = nothing_part (lead ++ (name ++ [])) (7 + length name) (7 + length name - (7 + length name))
+          (omega arith);
     }
 
 cut_bare : (name : List ℕ) → 0 < length name → length name ≤ 6 → list_all unblank name ≡ true →
@@ -165,8 +171,10 @@ cut_full name operands o os is some short few e f =
       operands = record { start = 8 + length name; end = length (lead ++ (name ++ 32 ∷ operands)) };
       fields_are =
           cut_at (lead ++ (name ++ 32 ∷ operands)) 7 (7 + length name) (8 + length name)
-          (length (lead ++ (name ++ 32 ∷ operands))) (omega arith) refl (omega arith) (first_word name (32 ∷ operands) some e)
-          (name_end name (32 ∷ operands) e (λ h. refl)) (operands_start name operands o os is f) (field_end name operands f);
+          (length (lead ++ (name ++ 32 ∷ operands))) (omega arith) refl (omega arith)
+          (first_word name (32 ∷ operands) some e)
+          (name_end name (32 ∷ operands) e (λ h. refl)) (operands_start name operands o os is f)
+          (field_end name operands f);
       name_is = name_part name (32 ∷ operands);
       field_is =
           behind_part name operands (length (lead ++ (name ++ 32 ∷ operands)) - (8 + length name)) (omega arith);
@@ -225,22 +233,26 @@ neither a b e = (not_true a (and_left (not a) (not b) e), not_true b (and_right 
 
 -- the lines of a text from a place on
 abbrev texts_at : List ℕ → ℕ → ℕ → List (ℕ × List ℕ)
-texts_at text number at = map {B = ℕ × List ℕ} (λ line. (line.number, part text line.span)) (lines_from text number at (drop at text))
+texts_at text number at = map {B = ℕ × List ℕ} (λ line. (line.number, part text line.span))
+    (lines_from text number at (drop at text))
 
 module _ (front l more : List ℕ) (e : list_all in_line l ≡ true) where
   abbrev whole : List ℕ
   whole = front ++ (l ++ 10 ∷ more)
 
   whole_length : length whole ≡ length front + (length l + (1 + length more))
-  whole_length = length-append front (l ++ 10 ∷ more) ∙ ap (λ n. length front + n) (length-append l (10 ∷ more)) ∙ omega arith
+  whole_length = length-append front (l ++ 10 ∷ more) ∙ ap (λ n. length front + n) (length-append l (10 ∷ more)) ∙
+      omega arith
 
   feed_here : feed_place whole (length front) ≡ length front + length l
   feed_here =
       let n = whole_length in
-      place_is (λ k. eqb (get_or whole k 0) 10) whole (length front) (length front + length l) (omega arith) (omega arith)
+      place_is (λ k. eqb (get_or whole k 0) 10) whole (length front) (length front + length l) (omega arith)
+      (omega arith)
       (λ j ge lt.
       rw (at_second front l (10 ∷ more) j (j - length front) (omega arith) (omega arith))
-      ((neither (is_line_feed (get_or l (j - length front) 0)) (is_carriage_return (get_or l (j - length front) 0)) (all_get in_line l (j - length front) (omega arith) e)).0))
+      ((neither (is_line_feed (get_or l (j - length front) 0)) (is_carriage_return (get_or l (j - length front) 0))
+      (all_get in_line l (j - length front) (omega arith) e)).0))
       (λ h. rw (at_third front l (10 ∷ more) (length front + length l) 0 (omega arith)) refl)
 
   no_return : (b : Bool) → nat_lt (length front) (length front + length l) ≡ b →
@@ -249,7 +261,8 @@ module _ (front l more : List ℕ) (e : list_all in_line l ≡ true) where
   no_return true t =
       let some : 0 < length l = grind (arith, nat_tests) in
       rw (at_second front l (10 ∷ more) (length front + length l - 1) (length l - 1) (omega arith) (omega arith))
-      ((neither (is_line_feed (get_or l (length l - 1) 0)) (is_carriage_return (get_or l (length l - 1) 0)) (all_get in_line l (length l - 1) (omega arith) e)).1)
+      ((neither (is_line_feed (get_or l (length l - 1) 0)) (is_carriage_return (get_or l (length l - 1) 0))
+      (all_get in_line l (length l - 1) (omega arith) e)).1)
 
   span_here : without_return whole (length front, length front + length l)
       ≡ record { start = length front; end = length front + length l }
@@ -272,7 +285,8 @@ module _ (front l more : List ℕ) (e : list_all in_line l ≡ true) where
       rw (drop-append_seam front (l ++ 10 ∷ more), k) (take-append_seam l (10 ∷ more))
 
   split_step : (number : ℕ) →
-      texts_at whole number (length front) ≡ (number, l) ∷ texts_at whole (number + 1) (length (front ++ (l ++ 10 ∷ [])))
+      texts_at whole number (length front) ≡ (number, l) ∷ texts_at whole (number + 1)
+      (length (front ++ (l ++ 10 ∷ [])))
   split_step number =
       let n = whole_length in
       rw (lines_from_step whole number (length front) (omega arith), feed_here, span_here, after_here, part_here) refl
@@ -292,9 +306,11 @@ split_from (l ∷ ls) front number e =
     and_right (list_all in_line l) (list_all (λ l. list_all in_line l) ls) e in
     let ih = split_from ls (front ++ (l ++ 10 ∷ [])) (number + 1) rest in
     let same : (l ++ 10 ∷ []) ++ joined ls ≡ l ++ 10 ∷ joined ls = append_assoc l (10 ∷ []) (joined ls) in
-    let P : List ℕ → Type 0 = λ t. texts_at t (number + 1) (length (front ++ (l ++ 10 ∷ []))) ≡ numbered (number + 1) ls in
+    let P : List ℕ → Type 0 = λ t. texts_at t (number + 1) (length (front ++ (l ++ 10 ∷ []))) ≡ numbered (number + 1)
+    ls in
     let moved : P (front ++ (l ++ 10 ∷ joined ls)) = subst P (sym (shift front l (joined ls))) ih in
-    let Q : List ℕ → Type 0 = λ t. texts_at (front ++ t) number (length front) ≡ (number, l) ∷ numbered (number + 1) ls in
+    let Q : List ℕ → Type 0 = λ t. texts_at (front ++ t) number (length front) ≡ (number, l) ∷ numbered (number + 1)
+    ls in
     subst Q (sym same)
     (split_step front l (joined ls) first number ∙ ap (λ (t : List (ℕ × List ℕ)). (number, l) ∷ t) moved)
 

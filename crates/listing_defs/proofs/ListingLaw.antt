@@ -44,12 +44,14 @@ here grom at = record { grom = grom; number = at }
 
 -- the line at a place is let through, and its bytes are placed
 record Entered (image : List ℕ) (low high grom at : ℕ) (before : List Line) (number : ℕ) (line : Listed) : Type 0 where
-  taken : Taken before number (listed line.text) false (here grom (at + line.size)) (placed empty low (between image low (at + line.size)))
+  taken : Taken before number (listed line.text) false (here grom (at + line.size))
+      (placed empty low (between image low (at + line.size)))
   some : 0 < line.size
   within : at + line.size ≤ high
   in_grom : at + line.size ≤ grom + 0x2000
 
-module _ (image : List ℕ) (low high : ℕ) (bytes : (k : ℕ) → slice_index image k < 256) (size : length image ≡ 65536) (top : high ≤ 65536) where
+module _ (image : List ℕ) (low high : ℕ) (bytes : (k : ℕ) → slice_index image k < 256) (size : length image ≡ 65536)
+    (top : high ≤ 65536) where
   held : ℕ → Image
   held at = placed empty low (between image low at)
 
@@ -59,9 +61,11 @@ module _ (image : List ℕ) (low high : ℕ) (bytes : (k : ℕ) → slice_index 
       let there : low + length (between image low at) ≡ at = between_size image low at le (omega arith) in
       ap (λ n. placed (placed empty low (between image low at)) n more) (sym there)
       ∙ (placed_behind empty low (between image low at) more
-      ∙ ap (placed empty low) (ap (λ t. between image low at ++ t) (sym same) ∙ sym (between_more image low at (length more) le)))
+      ∙ ap (placed empty low) (ap (λ t. between image low at ++ t) (sym same) ∙ sym
+      (between_more image low at (length more) le)))
 
-  room : (at : ℕ) (more : List ℕ) → low ≤ at → at ≤ 65536 → overlaps (placed empty low (between image low at)) at more ≡ false
+  room : (at : ℕ) (more : List ℕ) → low ≤ at → at ≤ 65536 → overlaps (placed empty low (between image low at)) at
+      more ≡ false
   room at more le inside =
       let there : low + length (between image low at) ≡ at = between_size image low at le (omega arith) in
       let free = placed_free empty low (between image low at) (empty_free low) in
@@ -73,7 +77,9 @@ module _ (image : List ℕ) (low high : ℕ) (bytes : (k : ℕ) → slice_index 
   entered_byte grom at before earlier number stands le before_end in_grom =
       let byte : ℕ = slice_index image at in
       let same : take 1 (drop at image) ≡ slice_index image at ∷ [] = rw (drop_more image at 0 (omega arith)) refl in
-      let it = byte_taken before earlier (here grom at) (placed empty low (between image low at)) number (slice_index image at) stands (bytes at) (omega arith) (room at (slice_index image at ∷ []) le (omega arith)) in
+      let it = byte_taken before earlier (here grom at) (placed empty low (between image low at)) number
+      (slice_index image at) stands (bytes at) (omega arith)
+      (room at (slice_index image at ∷ []) le (omega arith)) in
       record {
         taken = rw (held_more at (slice_index image at ∷ []) le (omega arith) same) at it;
         some = omega arith;
@@ -81,7 +87,8 @@ module _ (image : List ℕ) (low high : ℕ) (bytes : (k : ℕ) → slice_index 
         in_grom = omega arith;
       }
 
-  entered_instr : (grom at : ℕ) (before : List Line) (earlier : List Settled) (number : ℕ) (instr : GplInstr) (next : ℕ) →
+  entered_instr : (grom at : ℕ) (before : List Line) (earlier : List Settled) (number : ℕ) (instr : GplInstr)
+      (next : ℕ) →
       Stands before earlier (here grom at) (placed empty low (between image low at)) → low ≤ at → at < high →
       grom % 0x2000 ≡ 0 → grom ≤ at → at < grom + 0x2000 → reading image at ≡ Instr instr next →
       is_whole image at high instr ≡ true → Entered image low high grom at before number (instr_listed instr at)
@@ -90,13 +97,17 @@ module _ (image : List ℕ) (low high : ℕ) (bytes : (k : ℕ) → slice_index 
       let means : ReadsInstr image at instr next = subst R read (reading_means image at bytes) in
       let valid : IsTrue (is_valid instr) = means.means.is_kind.valid in
       let fits : InstrFits instr = read_fits image bytes at instr next read in
-      let standing : stand image (bytes_of instr) at ≡ true = and_left _ (nat_le (at + length (bytes_of instr)) (min high (boundary at))) test in
-      let ends : nat_le (at + length (bytes_of instr)) (min high (boundary at)) ≡ true = and_right (stand image (bytes_of instr) at) _ test in
+      let standing : stand image (bytes_of instr) at ≡ true = and_left _
+      (nat_le (at + length (bytes_of instr)) (min high (boundary at))) test in
+      let ends : nat_le (at + length (bytes_of instr)) (min high (boundary at)) ≡ true = and_right
+      (stand image (bytes_of instr) at) _ test in
       let short : at + length (bytes_of instr) ≤ min high (boundary at) = grind (arith, nat_tests) in
       let base : at / 0x2000 * 0x2000 ≡ grom = omega arith in
       let same = stand_taken image (bytes_of instr) at standing (omega arith) (omega arith) in
-      let place : InGromOf (here grom at) = record { whole = whole; from = from; below = in_grom; fits = omega arith } in
-      let it = instr_taken before earlier (here grom at) (placed empty low (between image low at)) number instr stands place valid fits (omega arith) (room at (bytes_of instr) le (omega arith)) in
+      let place : InGromOf (here grom at) = record
+      { whole = whole; from = from; below = in_grom; fits = omega arith } in
+      let it = instr_taken before earlier (here grom at) (placed empty low (between image low at)) number instr
+      stands place valid fits (omega arith) (room at (bytes_of instr) le (omega arith)) in
       record {
         taken = rw (held_more at (bytes_of instr) le (omega arith) same) at it;
         some = omega arith;
@@ -157,7 +168,8 @@ module _ (image : List ℕ) (low high : ℕ) (bytes : (k : ℕ) → slice_index 
       let next : ℕ = at + (listed_at image at high).size in
       let some = e.some in
       let after : at < at + (listed_at image at high).size = omega arith in
-      let go = rest (at + (listed_at image at high).size) after e.within grom whole (omega arith) e.in_grom (λ first. absurd (omega arith)) in
+      let go = rest (at + (listed_at image at high).size) after e.within grom whole (omega arith) e.in_grom
+      (λ first. absurd (omega arith)) in
       ends_more before number (listed (listed_at image at high).text) _ _ _ whole_image e.taken
       (go (e.taken.line ∷ before) e.taken.earlier (number + 1) e.taken.stands)
 
@@ -167,11 +179,16 @@ module _ (image : List ℕ) (low high : ℕ) (bytes : (k : ℕ) → slice_index 
       Stands before earlier loc (placed empty low (between image low at)) →
       Ends before number (map listed (origin_texts at ++ texts)) whole_image
   origin_from loc at texts lt within go before earlier number stands =
-      let first = grom_taken before earlier loc (placed empty low (between image low at)) number (at / grom_size * grom_size) stands (omega arith) (omega arith) within in
-      let second = aorg_taken (first.line ∷ before) first.earlier (here (at / grom_size * grom_size) (at / grom_size * grom_size)) (placed empty low (between image low at)) (number + 1) (at % grom_size) first.stands (omega arith) (omega arith) in
-      let there : ◌≡◌ {A = Location} (here (at / grom_size * grom_size) (at / grom_size * grom_size + at % grom_size)) (here (at / grom_size * grom_size) at) =
+      let first = grom_taken before earlier loc (placed empty low (between image low at)) number
+      (at / grom_size * grom_size) stands (omega arith) (omega arith) within in
+      let second = aorg_taken (first.line ∷ before) first.earlier
+      (here (at / grom_size * grom_size) (at / grom_size * grom_size)) (placed empty low (between image low at))
+      (number + 1) (at % grom_size) first.stands (omega arith) (omega arith) in
+      let there : ◌≡◌ {A = Location} (here (at / grom_size * grom_size)
+      (at / grom_size * grom_size + at % grom_size)) (here (at / grom_size * grom_size) at) =
       same_location (at / grom_size * grom_size) (at / grom_size * grom_size + at % grom_size) at (omega arith) in
-      let S : Location → Type 0 = λ loc. Stands (second.line ∷ first.line ∷ before) second.earlier loc (placed empty low (between image low at)) in
+      let S : Location → Type 0 = λ loc. Stands (second.line ∷ first.line ∷ before) second.earlier loc
+      (placed empty low (between image low at)) in
       ends_more before number _ _ _ _ whole_image first
       (ends_more (first.line ∷ before) (number + 1) _ _ _ _ whole_image second
       (go (second.line ∷ first.line ∷ before) second.earlier (number + 1 + 1) (subst S there second.stands)))
@@ -190,7 +207,8 @@ module _ (image : List ℕ) (low high : ℕ) (bytes : (k : ℕ) → slice_index 
       inside : (at ≡ grom + 0x2000) ⊎ (at ≢ grom + 0x2000) → at < grom + 0x2000
       inside (inr other) = omega arith
       inside (inl same) =
-          let even : (at % grom_size == 0) ≡ true = (let z : at % 0x2000 ≡ 0 = omega arith in grind (arith, nat_tests)) in
+          let even : (at % grom_size == 0) ≡ true =
+          (let z : at % 0x2000 ≡ 0 = omega arith in grind (arith, nat_tests)) in
           let is_low : (at == low) ≡ true = not_false (at == low) (rw even at e) in
           first (grind (arith, nat_tests))
 
@@ -206,7 +224,8 @@ module _ (image : List ℕ) (low high : ℕ) (bytes : (k : ℕ) → slice_index 
       by_test : (instr : GplInstr) (test : Bool) → is_whole image at high instr ≡ test →
           Sized at (if test then instr_listed instr at else byte_listed image at)
       by_test instr true e =
-          let ends : nat_le (at + length (bytes_of instr)) (min high (boundary at)) ≡ true = and_right (stand image (bytes_of instr) at) _ e in
+          let ends : nat_le (at + length (bytes_of instr)) (min high (boundary at)) ≡ true = and_right
+          (stand image (bytes_of instr) at) _ e in
           let short : at + length (bytes_of instr) ≤ min high (boundary at) = grind (arith, nat_tests) in
           record { some = omega arith; within = omega arith }
       by_test instr false e = record { some = omega arith; within = omega arith }
@@ -225,19 +244,23 @@ module _ (image : List ℕ) (low high : ℕ) (bytes : (k : ℕ) → slice_index 
       let some = s.some in
       let after : at < next_of at = omega arith in
       ap (λ texts. texts ++ codes "END" ∷ []) (texts_step image low high at (next_of at) refl after s.within)
-      ∙ regroup (origin_texts_at low at) (texts_from image low high (next_of at) 0 (high - next_of at)) (codes "END" ∷ []) (listed_at image at high).text
+      ∙ regroup (origin_texts_at low at) (texts_from image low high (next_of at) 0 (high - next_of at))
+      (codes "END" ∷ []) (listed_at image at high).text
 
   end_goes : (grom at : ℕ) → at ≡ high → at ≤ grom + 0x2000 → Goes grom at (left_from at)
   end_goes grom at same within before earlier number stands =
       let it = end_taken before earlier (here grom at) (placed empty low (between image low at)) number stands within in
-      let E : List (List ℕ) → Type 0 = λ texts. Ends before number (map listed (texts ++ codes "END" ∷ [])) whole_image in
-      let I : ℕ → Type 0 = λ end. Ends before number (map listed (codes "END" ∷ [])) (placed empty low (between image low end)) in
+      let E : List (List ℕ) → Type 0 = λ texts. Ends before number (map listed (texts ++ codes "END" ∷ []))
+      whole_image in
+      let I : ℕ → Type 0 = λ end. Ends before number (map listed (codes "END" ∷ []))
+      (placed empty low (between image low end)) in
       subst E (sym (texts_end image low high at (omega arith)))
       (subst I same (ends_last before number (listed (codes "END")) _ _ it))
 
   goes : (n at : ℕ) → high ≤ at + n → low ≤ at → at ≤ high → GoesFrom at
   goes zero at fuel le to grom whole from within first = end_goes grom at (omega arith) within
-  goes (suc n) at fuel le to grom whole from within first = by (nat_lt at high) refl (λ next after inside. goes n next (omega arith) (omega arith) inside)
+  goes (suc n) at fuel le to grom whole from within first = by (nat_lt at high) refl
+      (λ next after inside. goes n next (omega arith) (omega arith) inside)
     where
       by : (more : Bool) → nat_lt at high ≡ more → ((next : ℕ) → at < next → next ≤ high → GoesFrom next) →
           Goes grom at (left_from at)
@@ -256,7 +279,8 @@ module _ (image : List ℕ) (low high : ℕ) (bytes : (k : ℕ) → slice_index 
       let none : [] ≡ between image low low = ap (λ n. take n (drop low image)) (sym nothing) in
       let S : List ℕ → Type 0 = λ taken. Stands [] [] start (placed empty low taken) in
       origin_from start low (left_from low) fits (omega arith)
-      (goes high low (omega arith) (omega arith) order (low / grom_size * grom_size) (omega arith) (omega arith) (omega arith) (λ first. omega arith))
+      (goes high low (omega arith) (omega arith) order (low / grom_size * grom_size) (omega arith) (omega arith)
+      (omega arith) (λ first. omega arith))
       [] [] 1 (subst S none at_first)
 
   -- ---- no text has a line feed
@@ -267,7 +291,11 @@ module _ (image : List ℕ) (low high : ℕ) (bytes : (k : ℕ) → slice_index 
   clean_both : (xs ys : List (List ℕ)) → clean xs ≡ true → clean ys ≡ true → clean (xs ++ ys) ≡ true
   clean_both [] ys e f = f
   clean_both (x ∷ xs) ys e f =
-      rw (and_left (list_all in_line (listed x)) (clean xs) e, clean_both xs ys (and_right (list_all in_line (listed x)) (clean xs) e) f) refl
+      rw (
+        and_left (list_all in_line (listed x)) (clean xs) e,
+        clean_both xs ys
+            (and_right (list_all in_line (listed x)) (clean xs) e) f,
+      ) refl
 
   clean_origin : (at : ℕ) → clean (origin_texts at) ≡ true
   clean_origin at = rw (grom_in_line (at / grom_size * grom_size), aorg_in_line (at % grom_size)) refl
@@ -288,7 +316,8 @@ module _ (image : List ℕ) (low high : ℕ) (bytes : (k : ℕ) → slice_index 
           instr_in_line instr at means.means.is_kind.valid
       by_test instr next read false = byte_in_line (slice_index image at)
 
-      by : (read : GplRead) → reading image at ≡ read → list_all in_line (listed (listed_by image at high read).text) ≡ true
+      by : (read : GplRead) → reading image at ≡ read → list_all in_line (listed (listed_by image at high read).text)
+          ≡ true
       by (Instr instr next) e = by_test instr next e (is_whole image at high instr)
       by (Refused code) e = byte_in_line (slice_index image at)
 
@@ -303,14 +332,16 @@ module _ (image : List ℕ) (low high : ℕ) (bytes : (k : ℕ) → slice_index 
   clean_all : clean (grom_texts image low high) ≡ true
   clean_all =
       clean_both (origin_texts low) (left_from low) (clean_origin low)
-      (clean_both (texts_from image low high low 0 (high - low)) (codes "END" ∷ []) (clean_from low 0 (high - low)) refl)
+      (clean_both (texts_from image low high low 0 (high - low)) (codes "END" ∷ []) (clean_from low 0 (high - low))
+      refl)
 
 clean_lines : (texts : List (List ℕ)) → list_all (λ text. list_all in_line (listed text)) texts ≡ true →
     list_all (λ line. list_all in_line line) (map listed texts) ≡ true
 clean_lines [] e = refl
 clean_lines (text ∷ texts) e =
     let first = and_left (list_all in_line (listed text)) (list_all (λ text. list_all in_line (listed text)) texts) e in
-    let rest = clean_lines texts (and_right (list_all in_line (listed text)) (list_all (λ text. list_all in_line (listed text)) texts) e) in
+    let rest = clean_lines texts (and_right (list_all in_line (listed text))
+    (list_all (λ text. list_all in_line (listed text)) texts) e) in
     rw (first, rest) refl
 
 text_of : (texts : List (List ℕ)) → concat (map listing_line texts) ≡ joined (map listed texts)
@@ -322,7 +353,14 @@ program_is : (texts : List (List ℕ)) (bytes : Image) → Ends [] 1 (map listed
     list_all (λ line. list_all in_line line) (map listed texts) ≡ true →
     program_of_source (joined (map listed texts)) ≡ Ok (record { image = bytes; entry = None; names = predefined })
 program_is texts bytes ends clean =
-    rw (lines_joined (map listed texts) clean, ends.laid_is, ends.names_are, ends.settled_are, ends.image_is, ends.entry_is) refl
+    rw (
+      lines_joined (map listed texts) clean,
+      ends.laid_is,
+      ends.names_are,
+      ends.settled_are,
+      ends.image_is,
+      ends.entry_is,
+    ) refl
 
 -- what is listed is assembled again
 pub listings_come_back : ListingsComeBack

@@ -94,48 +94,113 @@ unfolding directive mnemonic
 branch_names false = record { no_directive = refl; reads = refl; some = omega arith; short = omega arith; plain = refl }
 branch_names true = record { no_directive = refl; reads = refl; some = omega arith; short = omega arith; plain = refl }
 
-one_names : (op : OneName) (word : Bool) → IsTrue (has_words op || not word) → Names (name_of (One op word)) (One op word)
+one_names : (op : OneName) (word : Bool) → IsTrue (has_words op || not word) → Names (name_of (One op word))
+    (One op word)
 unfolding directive mnemonic
-one_names ABS false valid = record { no_directive = refl; reads = refl; some = omega arith; short = omega arith; plain = refl }
-one_names ABS true valid = record { no_directive = refl; reads = refl; some = omega arith; short = omega arith; plain = refl }
-one_names NEG false valid = record { no_directive = refl; reads = refl; some = omega arith; short = omega arith; plain = refl }
-one_names NEG true valid = record { no_directive = refl; reads = refl; some = omega arith; short = omega arith; plain = refl }
-one_names INV false valid = record { no_directive = refl; reads = refl; some = omega arith; short = omega arith; plain = refl }
-one_names INV true valid = record { no_directive = refl; reads = refl; some = omega arith; short = omega arith; plain = refl }
-one_names CLR false valid = record { no_directive = refl; reads = refl; some = omega arith; short = omega arith; plain = refl }
-one_names CLR true valid = record { no_directive = refl; reads = refl; some = omega arith; short = omega arith; plain = refl }
-one_names FETCH false valid = record { no_directive = refl; reads = refl; some = omega arith; short = omega arith; plain = refl }
+one_names ABS false valid = record
+    { no_directive = refl; reads = refl; some = omega arith; short = omega arith; plain = refl }
+one_names ABS true valid = record
+    { no_directive = refl; reads = refl; some = omega arith; short = omega arith; plain = refl }
+one_names NEG false valid = record
+    { no_directive = refl; reads = refl; some = omega arith; short = omega arith; plain = refl }
+one_names NEG true valid = record
+    { no_directive = refl; reads = refl; some = omega arith; short = omega arith; plain = refl }
+one_names INV false valid = record
+    { no_directive = refl; reads = refl; some = omega arith; short = omega arith; plain = refl }
+one_names INV true valid = record
+    { no_directive = refl; reads = refl; some = omega arith; short = omega arith; plain = refl }
+one_names CLR false valid = record
+    { no_directive = refl; reads = refl; some = omega arith; short = omega arith; plain = refl }
+one_names CLR true valid = record
+    { no_directive = refl; reads = refl; some = omega arith; short = omega arith; plain = refl }
+one_names FETCH false valid = record
+    { no_directive = refl; reads = refl; some = omega arith; short = omega arith; plain = refl }
 one_names FETCH true valid = absurd (cc)
-one_names CASE false valid = record { no_directive = refl; reads = refl; some = omega arith; short = omega arith; plain = refl }
-one_names CASE true valid = record { no_directive = refl; reads = refl; some = omega arith; short = omega arith; plain = refl }
-one_names PUSH false valid = record { no_directive = refl; reads = refl; some = omega arith; short = omega arith; plain = refl }
+one_names CASE false valid = record
+    { no_directive = refl; reads = refl; some = omega arith; short = omega arith; plain = refl }
+one_names CASE true valid = record
+    { no_directive = refl; reads = refl; some = omega arith; short = omega arith; plain = refl }
+one_names PUSH false valid = record
+    { no_directive = refl; reads = refl; some = omega arith; short = omega arith; plain = refl }
 one_names PUSH true valid = absurd (cc)
-one_names CZ false valid = record { no_directive = refl; reads = refl; some = omega arith; short = omega arith; plain = refl }
-one_names CZ true valid = record { no_directive = refl; reads = refl; some = omega arith; short = omega arith; plain = refl }
-one_names INC false valid = record { no_directive = refl; reads = refl; some = omega arith; short = omega arith; plain = refl }
-one_names INC true valid = record { no_directive = refl; reads = refl; some = omega arith; short = omega arith; plain = refl }
-one_names DEC false valid = record { no_directive = refl; reads = refl; some = omega arith; short = omega arith; plain = refl }
-one_names DEC true valid = record { no_directive = refl; reads = refl; some = omega arith; short = omega arith; plain = refl }
-one_names INCT false valid = record { no_directive = refl; reads = refl; some = omega arith; short = omega arith; plain = refl }
-one_names INCT true valid = record { no_directive = refl; reads = refl; some = omega arith; short = omega arith; plain = refl }
-one_names DECT false valid = record { no_directive = refl; reads = refl; some = omega arith; short = omega arith; plain = refl }
-one_names DECT true valid = record { no_directive = refl; reads = refl; some = omega arith; short = omega arith; plain = refl }
+one_names CZ false valid = record
+    { no_directive = refl; reads = refl; some = omega arith; short = omega arith; plain = refl }
+one_names CZ true valid = record
+    { no_directive = refl; reads = refl; some = omega arith; short = omega arith; plain = refl }
+one_names INC false valid = record
+    { no_directive = refl; reads = refl; some = omega arith; short = omega arith; plain = refl }
+one_names INC true valid = record
+    { no_directive = refl; reads = refl; some = omega arith; short = omega arith; plain = refl }
+one_names DEC false valid = record
+    { no_directive = refl; reads = refl; some = omega arith; short = omega arith; plain = refl }
+one_names DEC true valid = record
+    { no_directive = refl; reads = refl; some = omega arith; short = omega arith; plain = refl }
+one_names INCT false valid = record
+    { no_directive = refl; reads = refl; some = omega arith; short = omega arith; plain = refl }
+one_names INCT true valid = record
+    { no_directive = refl; reads = refl; some = omega arith; short = omega arith; plain = refl }
+one_names DECT false valid = record
+    { no_directive = refl; reads = refl; some = omega arith; short = omega arith; plain = refl }
+one_names DECT true valid = record
+    { no_directive = refl; reads = refl; some = omega arith; short = omega arith; plain = refl }
 
 two_names : (op : TwoName) (word : Bool) → Names (name_of (Two op word)) (Two op word)
 unfolding directive mnemonic
-two_names ADD false = record { no_directive = refl; reads = refl; some = omega arith; short = omega arith; plain = refl }
+two_names ADD false = record {
+  no_directive = refl;
+  reads = refl;
+  some = omega arith;
+  short = omega arith;
+  plain =
+      refl;
+}
 two_names ADD true = record { no_directive = refl; reads = refl; some = omega arith; short = omega arith; plain = refl }
-two_names SUB false = record { no_directive = refl; reads = refl; some = omega arith; short = omega arith; plain = refl }
+two_names SUB false = record {
+  no_directive = refl;
+  reads = refl;
+  some = omega arith;
+  short = omega arith;
+  plain =
+      refl;
+}
 two_names SUB true = record { no_directive = refl; reads = refl; some = omega arith; short = omega arith; plain = refl }
-two_names MUL false = record { no_directive = refl; reads = refl; some = omega arith; short = omega arith; plain = refl }
+two_names MUL false = record {
+  no_directive = refl;
+  reads = refl;
+  some = omega arith;
+  short = omega arith;
+  plain =
+      refl;
+}
 two_names MUL true = record { no_directive = refl; reads = refl; some = omega arith; short = omega arith; plain = refl }
-two_names DIV false = record { no_directive = refl; reads = refl; some = omega arith; short = omega arith; plain = refl }
+two_names DIV false = record {
+  no_directive = refl;
+  reads = refl;
+  some = omega arith;
+  short = omega arith;
+  plain =
+      refl;
+}
 two_names DIV true = record { no_directive = refl; reads = refl; some = omega arith; short = omega arith; plain = refl }
-two_names AND false = record { no_directive = refl; reads = refl; some = omega arith; short = omega arith; plain = refl }
+two_names AND false = record {
+  no_directive = refl;
+  reads = refl;
+  some = omega arith;
+  short = omega arith;
+  plain =
+      refl;
+}
 two_names AND true = record { no_directive = refl; reads = refl; some = omega arith; short = omega arith; plain = refl }
 two_names OR false = record { no_directive = refl; reads = refl; some = omega arith; short = omega arith; plain = refl }
 two_names OR true = record { no_directive = refl; reads = refl; some = omega arith; short = omega arith; plain = refl }
-two_names XOR false = record { no_directive = refl; reads = refl; some = omega arith; short = omega arith; plain = refl }
+two_names XOR false = record {
+  no_directive = refl;
+  reads = refl;
+  some = omega arith;
+  short = omega arith;
+  plain =
+      refl;
+}
 two_names XOR true = record { no_directive = refl; reads = refl; some = omega arith; short = omega arith; plain = refl }
 two_names ST false = record { no_directive = refl; reads = refl; some = omega arith; short = omega arith; plain = refl }
 two_names ST true = record { no_directive = refl; reads = refl; some = omega arith; short = omega arith; plain = refl }
@@ -143,23 +208,93 @@ two_names EX false = record { no_directive = refl; reads = refl; some = omega ar
 two_names EX true = record { no_directive = refl; reads = refl; some = omega arith; short = omega arith; plain = refl }
 two_names CH false = record { no_directive = refl; reads = refl; some = omega arith; short = omega arith; plain = refl }
 two_names CH true = record { no_directive = refl; reads = refl; some = omega arith; short = omega arith; plain = refl }
-two_names CHE false = record { no_directive = refl; reads = refl; some = omega arith; short = omega arith; plain = refl }
+two_names CHE false = record {
+  no_directive = refl;
+  reads = refl;
+  some = omega arith;
+  short = omega arith;
+  plain =
+      refl;
+}
 two_names CHE true = record { no_directive = refl; reads = refl; some = omega arith; short = omega arith; plain = refl }
-two_names CGT false = record { no_directive = refl; reads = refl; some = omega arith; short = omega arith; plain = refl }
+two_names CGT false = record {
+  no_directive = refl;
+  reads = refl;
+  some = omega arith;
+  short = omega arith;
+  plain =
+      refl;
+}
 two_names CGT true = record { no_directive = refl; reads = refl; some = omega arith; short = omega arith; plain = refl }
-two_names CGE false = record { no_directive = refl; reads = refl; some = omega arith; short = omega arith; plain = refl }
+two_names CGE false = record {
+  no_directive = refl;
+  reads = refl;
+  some = omega arith;
+  short = omega arith;
+  plain =
+      refl;
+}
 two_names CGE true = record { no_directive = refl; reads = refl; some = omega arith; short = omega arith; plain = refl }
-two_names CEQ false = record { no_directive = refl; reads = refl; some = omega arith; short = omega arith; plain = refl }
+two_names CEQ false = record {
+  no_directive = refl;
+  reads = refl;
+  some = omega arith;
+  short = omega arith;
+  plain =
+      refl;
+}
 two_names CEQ true = record { no_directive = refl; reads = refl; some = omega arith; short = omega arith; plain = refl }
-two_names CLOG false = record { no_directive = refl; reads = refl; some = omega arith; short = omega arith; plain = refl }
-two_names CLOG true = record { no_directive = refl; reads = refl; some = omega arith; short = omega arith; plain = refl }
-two_names SRA false = record { no_directive = refl; reads = refl; some = omega arith; short = omega arith; plain = refl }
+two_names CLOG false = record {
+  no_directive = refl;
+  reads = refl;
+  some = omega arith;
+  short = omega arith;
+  plain =
+      refl;
+}
+two_names CLOG true = record {
+  no_directive = refl;
+  reads = refl;
+  some = omega arith;
+  short = omega arith;
+  plain =
+      refl;
+}
+two_names SRA false = record {
+  no_directive = refl;
+  reads = refl;
+  some = omega arith;
+  short = omega arith;
+  plain =
+      refl;
+}
 two_names SRA true = record { no_directive = refl; reads = refl; some = omega arith; short = omega arith; plain = refl }
-two_names SLL false = record { no_directive = refl; reads = refl; some = omega arith; short = omega arith; plain = refl }
+two_names SLL false = record {
+  no_directive = refl;
+  reads = refl;
+  some = omega arith;
+  short = omega arith;
+  plain =
+      refl;
+}
 two_names SLL true = record { no_directive = refl; reads = refl; some = omega arith; short = omega arith; plain = refl }
-two_names SRL false = record { no_directive = refl; reads = refl; some = omega arith; short = omega arith; plain = refl }
+two_names SRL false = record {
+  no_directive = refl;
+  reads = refl;
+  some = omega arith;
+  short = omega arith;
+  plain =
+      refl;
+}
 two_names SRL true = record { no_directive = refl; reads = refl; some = omega arith; short = omega arith; plain = refl }
-two_names SRC false = record { no_directive = refl; reads = refl; some = omega arith; short = omega arith; plain = refl }
+two_names SRC false = record {
+  no_directive = refl;
+  reads = refl;
+  some = omega arith;
+  short = omega arith;
+  plain =
+      refl;
+}
 two_names SRC true = record { no_directive = refl; reads = refl; some = omega arith; short = omega arith; plain = refl }
 
 move_names : Names (name_of Move) Move

@@ -19,12 +19,14 @@ abbrev pub uncut : ℕ → Bool
 uncut byte = not (is_comma byte)
 
 -- an operand behind a front, and a comma behind it
-module _ (front text more : List ℕ) (quotes : list_all unquoted (front ++ (text ++ 0x2C ∷ more)) ≡ true) (whole_text : list_all uncut text ≡ true) where
+module _ (front text more : List ℕ) (quotes : list_all unquoted (front ++ (text ++ 0x2C ∷ more)) ≡ true)
+    (whole_text : list_all uncut text ≡ true) where
   abbrev field : List ℕ
   field = front ++ (text ++ 0x2C ∷ more)
 
   size : length field ≡ length front + (length text + (1 + length more))
-  size = length-append front (text ++ 0x2C ∷ more) ∙ ap (λ n. length front + n) (length-append text (0x2C ∷ more)) ∙ omega arith
+  size = length-append front (text ++ 0x2C ∷ more) ∙ ap (λ n. length front + n) (length-append text (0x2C ∷ more)) ∙
+      omega arith
 
   comma_here : comma_place field (length front) ≡ length front + length text
   comma_here =
@@ -33,7 +35,8 @@ module _ (front text more : List ℕ) (quotes : list_all unquoted (front ++ (tex
       (λ j ge lt.
       rw (
         at_second front text (0x2C ∷ more) j (j - length front) (omega arith) (omega arith),
-        not_true (is_comma (get_or text (j - length front) 0)) (all_get uncut text (j - length front) (omega arith) whole_text),
+        not_true (is_comma (get_or text (j - length front) 0))
+            (all_get uncut text (j - length front) (omega arith) whole_text),
       ) refl)
       (λ h.
       rw (
@@ -54,7 +57,8 @@ module _ (front text more : List ℕ) (quotes : list_all unquoted (front ++ (tex
       rw (operands_from_step field (length front) (omega arith), comma_here, inside, part_here) refl
 
 -- the last operand behind a front
-module _ (front text : List ℕ) (quotes : list_all unquoted (front ++ text) ≡ true) (whole_text : list_all uncut text ≡ true) where
+module _ (front text : List ℕ) (quotes : list_all unquoted (front ++ text) ≡ true)
+    (whole_text : list_all uncut text ≡ true) where
   abbrev last_field : List ℕ
   last_field = front ++ text
 
@@ -68,7 +72,8 @@ module _ (front text : List ℕ) (quotes : list_all unquoted (front ++ text) ≡
       (λ j ge lt.
       rw (
         text_at j (j - length front) (omega arith),
-        not_true (is_comma (get_or text (j - length front) 0)) (all_get uncut text (j - length front) (omega arith) whole_text),
+        not_true (is_comma (get_or text (j - length front) 0))
+            (all_get uncut text (j - length front) (omega arith) whole_text),
       ) refl)
       (λ h. absurd (omega arith))
 
@@ -132,7 +137,8 @@ two_operands first second e f =
     let size : length (first ++ 0x2C ∷ []) ≡ length first + 1 = length-append first (0x2C ∷ []) in
     let moved : list_all unquoted ((first ++ 0x2C ∷ []) ++ second) ≡ true = rw (regroup first second) at quotes in
     let last = last_operand (first ++ 0x2C ∷ []) second moved (all_right unquoted uncut second f) in
-    behind_comma first second (second ∷ []) quotes (all_right unquoted uncut first e) (rw (regroup first second, ← size) last)
+    behind_comma first second (second ∷ []) quotes (all_right unquoted uncut first e)
+    (rw (regroup first second, ← size) last)
 
 -- the operands from a comma on, of which there are two
 from_comma : (front second third : List ℕ) → list_all unquoted (front ++ (second ++ 0x2C ∷ third)) ≡ true →
@@ -162,6 +168,7 @@ three_operands first second third e f g =
     let moved : list_all unquoted ((first ++ 0x2C ∷ []) ++ (second ++ 0x2C ∷ third)) ≡ true =
     rw (regroup first (second ++ 0x2C ∷ third)) at quotes in
     let both =
-    from_comma (first ++ 0x2C ∷ []) second third moved (all_right unquoted uncut second f) (all_right unquoted uncut third g) in
+    from_comma (first ++ 0x2C ∷ []) second third moved (all_right unquoted uncut second f)
+    (all_right unquoted uncut third g) in
     behind_comma first (second ++ 0x2C ∷ third) (second ∷ third ∷ []) quotes (all_right unquoted uncut first e)
     (rw (regroup first (second ++ 0x2C ∷ third), ← size) both)

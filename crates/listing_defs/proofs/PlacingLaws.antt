@@ -33,7 +33,8 @@ insert_other : (image : Image) (at byte k : ℕ) → k ≢ at → contains_key (
 insert_other image at byte k other =
     ap is_some (get-insert nat_cmp_total image at byte k ∙ rw (ties-other k at other) refl)
 
-pub placed_free : (image : Image) (at : ℕ) (xs : List ℕ) → FreeFrom image at → FreeFrom (placed image at xs) (at + length xs)
+pub placed_free : (image : Image) (at : ℕ) (xs : List ℕ) → FreeFrom image at → FreeFrom (placed image at xs)
+    (at + length xs)
 placed_free image at [] free k le = free k (omega arith)
 placed_free image at (x ∷ xs) free k le =
     let rest : FreeFrom (insert image at x) (at + 1) =
@@ -95,5 +96,6 @@ between_more image low at size le =
     dropped : (image : List ℕ) (low at : ℕ) → low ≤ at → drop (at - low) (drop low image) ≡ drop at image
     dropped image low at le = grind (arith, common_steps)
 
-pub between_size : (image : List ℕ) (low at : ℕ) → low ≤ at → at ≤ length image → low + length (between image low at) ≡ at
+pub between_size : (image : List ℕ) (low at : ℕ) → low ≤ at → at ≤ length image → low + length (between image low at)
+    ≡ at
 between_size image low at le inside = grind (arith, common_steps)

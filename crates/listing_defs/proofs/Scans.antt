@@ -23,7 +23,8 @@ pub not_true : (a : Bool) → not a ≡ true → a ≡ false
 not_true true e = absurd (false≢true e)
 not_true false e = refl
 
-pub all_both : (p : ℕ → Bool) (xs ys : List ℕ) → list_all p xs ≡ true → list_all p ys ≡ true → list_all p (xs ++ ys) ≡ true
+pub all_both : (p : ℕ → Bool) (xs ys : List ℕ) → list_all p xs ≡ true → list_all p ys ≡ true → list_all p (xs ++ ys)
+    ≡ true
 all_both p xs ys e f = rw (list_all-append p xs ys, e) f
 
 pub all_get : (p : ℕ → Bool) (xs : List ℕ) (i : ℕ) → i < length xs → list_all p xs ≡ true → p (get_or xs i 0) ≡ true
@@ -80,9 +81,11 @@ never_quoted text start (suc n) e le =
     let no : is_quote (get_or text (start + n) 0) ≡ false =
     not_true (is_quote (get_or text (start + n) 0)) (all_get unquoted text (start + n) (omega arith) e) in
     rw next
-    (in_quotes_more_no text start (start + n) (omega arith) (omega arith) no ∙ never_quoted text start n e (omega arith))
+    (in_quotes_more_no text start (start + n) (omega arith) (omega arith) no ∙ never_quoted text start n e
+    (omega arith))
 
 pub not_quoted : (text : List ℕ) (start k : ℕ) → list_all unquoted text ≡ true → start ≤ k → k ≤ length text →
     in_quotes text start k ≡ false
 not_quoted text start k e ge le =
-    let there : start + (k - start) ≡ k = omega arith in rw there at (never_quoted text start (k - start) e (omega arith))
+    let there : start + (k - start) ≡ k = omega arith in rw there at
+    (never_quoted text start (k - start) e (omega arith))

@@ -87,10 +87,12 @@ index_all : (p : ℕ → Bool) → Alphabet p → (index : Option ℕ) → list_
 index_all p a None = refl
 index_all p a (Some i) =
     rw (a.opens, a.at_sign)
-    (all_both p (marked_word (scratchpad + i)) (0x29 ∷ []) (word_passes p (scratchpad + i) a.digits a.sign) (rw a.closes refl))
+    (all_both p (marked_word (scratchpad + i)) (0x29 ∷ []) (word_passes p (scratchpad + i) a.digits a.sign)
+    (rw a.closes refl))
 
 rest_all : (p : ℕ → Bool) → Alphabet p → (n : ℕ) (index : Option ℕ) → list_all p (rest_of n index) ≡ true
-rest_all p a n index = all_both p (marked_word n) (index_text index) (word_passes p n a.digits a.sign) (index_all p a index)
+rest_all p a n index = all_both p (marked_word n) (index_text index) (word_passes p n a.digits a.sign)
+    (index_all p a index)
 
 pub operand_all : (p : ℕ → Bool) → Alphabet p → (operand : GplOperand) → list_all p (operand_text operand) ≡ true
 unfolding operand_text
@@ -98,7 +100,8 @@ operand_all p a operand =
     all_both p (prefix operand.space operand.indirect) _ (prefix_all p a operand.space operand.indirect)
     (rest_all p a (shown_address operand.space operand.indirect operand.address) operand.index)
 
-pub source_all : (p : ℕ → Bool) → Alphabet p → (word : Bool) (src : GplSource) → list_all p (source_text word src) ≡ true
+pub source_all : (p : ℕ → Bool) → Alphabet p → (word : Bool) (src : GplSource) → list_all p (source_text word src) ≡
+    true
 source_all p a word (source.At operand) = operand_all p a operand
 source_all p a true (source.Immediate value) = word_passes p value a.digits a.sign
 source_all p a false (source.Immediate value) = byte_passes p value a.digits a.sign
@@ -117,7 +120,18 @@ from_all p a (from.Grom address) = rw (a.grom, a.at_sign) (word_passes p address
 from_all p a (from.GromIndexed address index) = rw (a.grom, a.at_sign) (rest_all p a address (Some index))
 
 pub whole_letters : Alphabet whole
-whole_letters = record { digits = refl; sign = refl; at_sign = refl; star = refl; video = refl; opens = refl; closes = refl; grom = refl; register = refl }
+whole_letters = record {
+  digits = refl;
+  sign = refl;
+  at_sign = refl;
+  star = refl;
+  video = refl;
+  opens = refl;
+  closes
+      = refl;
+  grom = refl;
+  register = refl;
+}
 
 -- the texts are not empty
 pub operand_some : (operand : GplOperand) → 0 < length (operand_text operand)
@@ -125,7 +139,8 @@ unfolding operand_text
 operand_some operand = by operand.space operand.indirect
   where
     by : (space : Space) (indirect : Bool) →
-        0 < length (prefix space indirect ++ rest_of (shown_address operand.space operand.indirect operand.address) operand.index)
+        0 < length (prefix space indirect ++ rest_of (shown_address operand.space operand.indirect operand.address)
+        operand.index)
     by Cpu false = omega arith
     by Cpu true = omega arith
     by Vdp false = omega arith
@@ -139,7 +154,8 @@ held_back Vdp false address lt = refl
 held_back Vdp true address lt = omega arith
 held_back Cpu indirect address lt = omega arith
 
-shown_fits : (space : Space) (indirect : Bool) (address : ℕ) → address < 65536 → shown_address space indirect address < 65536
+shown_fits : (space : Space) (indirect : Bool) (address : ℕ) → address < 65536 → shown_address space indirect address
+    < 65536
 shown_fits Vdp false address lt = lt
 shown_fits Vdp true address lt = omega arith
 shown_fits Cpu indirect address lt = omega arith

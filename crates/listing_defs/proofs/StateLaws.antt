@@ -49,7 +49,8 @@ pub at_first : Stands [] [] start (image [])
 at_first = record { names_are = refl; location_is = refl; settled_are = refl; image_is = refl; entry_is = refl }
 
 -- a line behind others that is let through, with what they then come to
-pub record Taken (before : List Line) (number : ℕ) (text : List ℕ) (last : Bool) (next : Location) (bytes : Image) : Type 0 where
+pub record Taken (before : List Line) (number : ℕ) (text : List ℕ) (last : Bool) (next : Location) (bytes : Image) :
+    Type 0 where
   pub line : Line
   pub earlier : List Settled
   pub check_is : check before number text ≡ Ok line
@@ -78,7 +79,8 @@ taken before earlier at held number text said bytes o stands first second free o
   last_is = refl;
   stands = record {
     names_are = stands.names_are;
-    location_is = location_behind line before o origin refl ∙ ap (λ here. moved o here (size_said said)) stands.location_is;
+    location_is = location_behind line before o origin refl ∙ ap (λ here. moved o here (size_said said))
+        stands.location_is;
     settled_are = rw (stands.settled_are, settled_here) refl;
     image_is = ap (λ held. placed held at.number bytes) stands.image_is;
     entry_is = stands.entry_is;
@@ -119,7 +121,8 @@ second : {A : Type 0} (b : Bool) (x y : A) → b ≡ false → (if b then x else
 second true x y e = absurd (cc)
 second false x y e = refl
 
-pub ends_more : (before : List Line) (number : ℕ) (text : List ℕ) (texts : List (List ℕ)) (next : Location) (bytes whole : Image)
+pub ends_more : (before : List Line) (number : ℕ) (text : List ℕ) (texts : List (List ℕ)) (next : Location)
+    (bytes whole : Image)
     (taken : Taken before number text false next bytes) → Ends (taken.line ∷ before) (number + 1) texts whole →
     Ends before number (text ∷ texts) whole
 ends_more before number text texts next bytes whole taken ends = record {
@@ -127,7 +130,8 @@ ends_more before number text texts next bytes whole taken ends = record {
   found = ends.found;
   laid_is =
       rw taken.check_is
-      (second taken.line.last (Ok (taken.line ∷ before)) (laid_behind check (taken.line ∷ before) (numbered (number + 1) texts)) taken.last_is
+      (second taken.line.last (Ok (taken.line ∷ before))
+      (laid_behind check (taken.line ∷ before) (numbered (number + 1) texts)) taken.last_is
       ∙ ends.laid_is);
   names_are = ends.names_are;
   settled_are = ends.settled_are;
