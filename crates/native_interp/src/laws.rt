@@ -22,7 +22,7 @@ pub fn rows_are_dispatched()
     ensures { spec.RowsAreDispatched }
 {}
 
-/// Each line of the source has at most 64 characters, and no line feed or carriage return.
+/// The lines of the source have the form that `LINES` says.
 pub fn lines_are_in_form()
     ensures { LinesAreInForm }
 {}

@@ -1,6 +1,8 @@
 //! The interpreter's source, line by line.
 
-/// The lines of the interpreter's assembler source, each without its line feed. Docs/INTERPRETER.md describes its routines.
+/// The lines of the interpreter's assembler source, each without its line feed. The first statement is AORG >2000, the
+/// only origin, and the last line is END with GBOOT. No line has more than 64 characters or three words, an expression
+/// has one operator at most, and EQU names numbers alone. There is no REF, DEF, RORG, DORG, BSS, BES, EVEN, BYTE or TEXT.
 pub const LINES: [&str; 394] = [
     "* The interpreter of GPL for the TMS9900.",
     "*",
