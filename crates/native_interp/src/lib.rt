@@ -12,6 +12,9 @@ pub use addresses::{
     LDATA, LOAD, OPS, OPTAB, OPVAL, ROW, SDATA, SEEK, SHOW, SHOWN, SREG, STK, STO, STORE, STREAM,
     STV, TABLE, UNIT, UNKN, WHERE,
 };
-pub use laws::{codes_are_dispatched, entries_come_first, lines_are_in_form, routines_stand, rows_are_dispatched};
+pub use laws::{
+    codes_are_dispatched, entries_come_first, lines_are_in_form, routines_stand,
+    rows_are_dispatched,
+};
 pub use source::LINES;
 pub use words::{INTERP, interpreter_words};
