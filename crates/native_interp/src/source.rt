@@ -334,7 +334,7 @@ pub const LINES: [&str; 394] = [
     "* ROW: the operands of a row, by its code byte R0. At a row R7,",
     "* R8 is the destination, R9 its value, R2, R5 the source, R6 its",
     "* value, R3 the width; one operand's row has 1 for the source's",
-    "* value. OPTAB says where the row is. At most 146 with routines.",
+    "* value. OPTAB says where the row is. At most 149 with routines.",
     "* Changes R2 to R9, R11, R13. OPS is ROW for the width in R3.",
     "ROW    MOV R0,R3",
     "       SLA R3,15",
