@@ -2,11 +2,13 @@
 #![tactic(auto)]
 
 mod digits;
+mod laws;
 mod line;
 mod listing;
 mod operands;
 mod text;
 
+pub use laws::listings_come_back;
 pub use line::list_line;
 pub use listing::disassemble;
 pub use text::instr_text;

@@ -16,9 +16,9 @@ pub(crate) type Line = ArrayString<80>;
 /// The blanks in front of an operation.
 pub(crate) const MARGIN: &str = "       ";
 
-/// The line of the byte at the address `at` of 65,536 bytes, and the address after the bytes that it stands for. That is an
-/// instruction where a whole one stands there in its shortest spelling and ends in its GROM and at or before the address
-/// `end`; where that is not so, it is BYTE with the byte. The line has no line feed.
+/// The line of the byte at the address `at` of 65,536 bytes, and the address after the bytes that it stands for. That
+/// is an instruction where a whole one stands there in its shortest spelling and ends in its GROM and at or before
+/// the address `end`; where that is not so, it is BYTE with the byte. The line has no line feed.
 pub fn list_line(image: &[u8], at: u16, end: u32) -> (ArrayString<80>, u32)
     requires size { length image.now ≡ 65536 }
     requires before { at < end }

@@ -1,5 +1,5 @@
 //! The whole listing.
-ghost use Rattle.std.specs.Prelude.{◌≡◌, ◌≤◌, ◌<◌, ◌+◌, ◌-◌, ◌++◌, ℕ, List, [], ◌∷◌, length, IfOk};
+ghost use Rattle.std.specs.Prelude.{◌≡◌, ◌≤◌, ◌<◌, ◌+◌, ◌-◌, ◌++◌, ℕ, List, [], ◌∷◌, length, map, IfOk};
 ghost use Rattle.arrayvec.specs.ArrayString.{array_string_len};
 ghost use Rattle.bench_io.specs.Written.{Written};
 ghost use Rattle.source_defs.specs.Digits.{marked_word};
@@ -15,9 +15,9 @@ use gpl_forms::GromImage;
 /// How far the first addresses of GROMs stand apart.
 const GROM_SIZE: u16 = 0x2000;
 
-/// Writes the listing of an image from its lowest to its highest written address, each line by one call. A line for GROM and
-/// one for AORG stand before the first byte, and again where a byte begins a GROM; the last line is END. An image in which
-/// nothing is written is listed as if it began at 0.
+/// Writes the listing of an image from its lowest to its highest written address, each line by one call. A line for
+/// GROM and one for AORG stand before the first byte, and again where a byte begins a GROM; the last line is END. An
+/// image in which nothing is written is listed as if it began at 0.
 ///
 /// # Errors
 /// `Failed` comes only where the sink's count of faults rose in this call. It then got a front of the listing.
@@ -44,7 +44,7 @@ fn put_listing<O: Sink>(image: &[u8], low: u16, high: u32, out: &mut O) -> Resul
 fn put_lines<O: Sink>(image: &[u8], low: u16, high: u32, out: &mut O) -> Result<(), Failed>
     requires size { length image.now ≡ 65536 }
     requires end { high ≤ 65536 }
-    ensures { Written result (O.state out.old) (O.state out.new) (spec.lines_from image.now low high low 0 (high - low)) }
+    ensures { Written result (O.state out.old) (O.state out.new) (map listing_line (spec.texts_from image.now low high low 0 (high - low))) }
 {
     let mut at = u32::from(low);
     while at < high {
@@ -53,8 +53,8 @@ fn put_lines<O: Sink>(image: &[u8], low: u16, high: u32, out: &mut O) -> Result<
     Ok(())
 }
 
-/// Writes the line of the byte at an address, behind those for GROM and AORG where it begins a GROM and is not the first, and
-/// gives the address after the bytes that it stands for.
+/// Writes the line of the byte at an address, behind those for GROM and AORG where it begins a GROM and is not the
+/// first, and gives the address after the bytes that it stands for.
 fn put_entry<O: Sink>(
     image: &[u8],
     low: u16,
@@ -66,7 +66,7 @@ fn put_entry<O: Sink>(
     requires before { at < high }
     requires end { high ≤ 65536 }
     ensures lines { Written result (O.state out.old) (O.state out.new)
-        (spec.origin_lines_at low at ++ (listing_line (spec.listed_at image.now at high).text ∷ [])) }
+        (map listing_line (spec.origin_texts_at low at ++ ((spec.listed_at image.now at high).text ∷ []))) }
     ensures next { IfOk result (λ next. next ≡ at + (spec.listed_at image.now at high).size) }
     ensures after { IfOk result (λ next. at < next) }
     ensures within { IfOk result (λ next. next ≤ high) }
@@ -77,7 +77,7 @@ fn put_entry<O: Sink>(
 
 /// Writes the lines for GROM and AORG of an address that begins a GROM and is not the first of all.
 fn put_origin_at<O: Sink>(low: u16, at: u16, out: &mut O) -> Result<(), Failed>
-    ensures { Written result (O.state out.old) (O.state out.new) (spec.origin_lines_at low at) }
+    ensures { Written result (O.state out.old) (O.state out.new) (map listing_line (spec.origin_texts_at low at)) }
 {
     if at % GROM_SIZE == 0 && at != low {
         return put_origin(at, out);
@@ -104,7 +104,7 @@ fn put_line<O: Sink>(image: &[u8], at: u16, high: u32, out: &mut O) -> Result<u3
 
 /// Writes the lines for GROM and AORG of an address.
 fn put_origin<O: Sink>(at: u16, out: &mut O) -> Result<(), Failed>
-    ensures { Written result (O.state out.old) (O.state out.new) (spec.origin_lines at) }
+    ensures { Written result (O.state out.old) (O.state out.new) (map listing_line (spec.origin_texts at)) }
 {
     put_piece(
         out,

@@ -14,8 +14,8 @@ use gpl_defs::{
 };
 use grom_counter::next_in_grom;
 
-/// The instruction at an address of 65,536 bytes, in any of its spellings, with the address after it; or the code byte there,
-/// exactly where it is no instruction's. Behind the last address of a GROM comes its first.
+/// The instruction at an address of 65,536 bytes, in any of its spellings, with the address after it; or the code
+/// byte there, exactly where it is no instruction's. Behind the last address of a GROM comes its first.
 /// GPL Programmer's Guide, the statements.
 pub fn read_instr(image: &[u8], at: u16) -> GplRead
     requires { length image.now ≡ 65536 }
@@ -27,7 +27,8 @@ pub fn read_instr(image: &[u8], at: u16) -> GplRead
     read_at(image, at)
 }
 
-/// Whether the instruction at an address of 65,536 bytes, whose code byte is one, stands there in its shortest spelling.
+/// Whether the instruction at an address of 65,536 bytes, whose code byte is one, stands there in its shortest
+/// spelling.
 /// GPL Programmer's Guide, the statements.
 pub fn is_shortest(image: &[u8], at: u16) -> bool
     requires size { length image.now ≡ 65536 }
@@ -40,8 +41,8 @@ pub fn is_shortest(image: &[u8], at: u16) -> bool
     }
 }
 
-/// Whether bytes stand from an address of 65,536 bytes on, one behind the other in one GROM: behind its last address comes its
-/// first. GPL Programmer's Guide, on the GROM address counter.
+/// Whether bytes stand from an address of 65,536 bytes on, one behind the other in one GROM: behind its last address
+/// comes its first. GPL Programmer's Guide, on the GROM address counter.
 pub fn stands(image: &[u8], bytes: &[u8], at: u16) -> bool
     requires { length image.now ≡ 65536 }
     ensures { result ≡ spec.stand image.now bytes.now at }

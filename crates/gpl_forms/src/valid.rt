@@ -4,9 +4,9 @@ ghost use Rattle.gpl_defs.specs.Valid as spec;
 
 use gpl_defs::{GplInstr, GplSource, MoveSource, MoveTarget, OneName, TwoName};
 
-/// Whether an instruction has bytes: the offset of a BR or BS is below `>2000`, FETCH and PUSH are no words, an immediate
-/// source of a form of bytes is below 256, EX has no immediate source, and MOVE loads registers of the video processor
-/// from GROM without an index.
+/// Whether an instruction has bytes: the offset of a BR or BS is below `>2000`, FETCH and PUSH are no words, an
+/// immediate source of a form of bytes is below 256, EX has no immediate source, and MOVE loads registers of the
+/// video processor from GROM without an index.
 pub fn is_valid(instr: &GplInstr) -> bool
     ensures { result ≡ spec.is_valid instr.now }
 {

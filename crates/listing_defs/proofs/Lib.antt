@@ -1,1 +1,15 @@
 pub mod LineSteps
+pub mod Scans
+pub mod DigitLaws
+pub mod OperandLines
+pub mod FormLaws
+pub mod SkeletonLaws
+pub mod InstructionText
+pub mod InstructionAgain
+pub mod NameLaws
+pub mod LineTexts
+pub mod FitLaws
+pub mod PlacingLaws
+pub mod StateLaws
+pub mod EntryLaws
+pub mod ListingLaw

@@ -1,6 +1,6 @@
 -- The listing of GROM as a GPL source.
 use Rattle.std.specs.Prelude.{ℕ, zero, suc, ◌+◌, ◌-◌, ◌*◌, ◌/◌, ◌%◌, ◌==◌, ◌&&◌, Bool, not, nat_le, min}
-use Rattle.std.specs.Prelude.{if◌then◌else◌, List, [], ◌∷◌, ◌++◌, length, slice_index, codes}
+use Rattle.std.specs.Prelude.{if◌then◌else◌, List, [], ◌∷◌, ◌++◌, length, map, slice_index, codes}
 use Rattle.source_defs.specs.Digits.{marked_word, marked_byte}
 use Rattle.source_defs.specs.ListedLines.{listing_line}
 use Rattle.gpl_defs.specs.declared.instruction.GplInstr.{GplInstr}
@@ -42,26 +42,28 @@ unfoldable pub listed_at : List ℕ → ℕ → ℕ → Listed
 listed_at image at end = listed_by image at end (reading image at)
 
 -- Profile: a GROM is told by its first address, and the place in it by an offset.
-abbrev pub origin_lines : ℕ → List (List ℕ)
-origin_lines at =
-    listing_line (codes "GROM " ++ marked_word (at / grom_size * grom_size))
-    ∷ listing_line (codes "AORG " ++ marked_word (at % grom_size))
-    ∷ []
+abbrev pub origin_texts : ℕ → List (List ℕ)
+origin_texts at =
+    (codes "GROM " ++ marked_word (at / grom_size * grom_size)) ∷ (codes "AORG " ++ marked_word (at % grom_size)) ∷ []
 
--- these lines stand again where a byte begins a GROM, unless it is the first of all
-abbrev pub origin_lines_at : ℕ → ℕ → List (List ℕ)
-origin_lines_at low at = if (at % grom_size == 0) && not (at == low) then origin_lines at else []
+-- these stand again where a byte begins a GROM, unless it is the first of all
+abbrev pub origin_texts_at : ℕ → ℕ → List (List ℕ)
+origin_texts_at low at = if (at % grom_size == 0) && not (at == low) then origin_texts at else []
 
--- The lines of so many bytes from an address on, by the address of the first of all and the end behind the last. The first
--- of them may belong to the line before, and have none of their own.
-abbrev pub lines_from : List ℕ → ℕ → ℕ → ℕ → ℕ → ℕ → List (List ℕ)
-lines_from image low end at belonging zero = []
-lines_from image low end at (suc belonging) (suc left) = lines_from image low end (at + 1) belonging left
-lines_from image low end at zero (suc left) =
+-- What the lines of so many bytes from an address on say, by the address of the first of all and the end behind the last. The
+-- first of them may belong to the line before, and have none of their own.
+abbrev pub texts_from : List ℕ → ℕ → ℕ → ℕ → ℕ → ℕ → List (List ℕ)
+texts_from image low end at belonging zero = []
+texts_from image low end at (suc belonging) (suc left) = texts_from image low end (at + 1) belonging left
+texts_from image low end at zero (suc left) =
     let line = listed_at image at end in
-    origin_lines_at low at ++ (listing_line line.text ∷ lines_from image low end (at + 1) (line.size - 1) left)
+    origin_texts_at low at ++ (line.text ∷ texts_from image low end (at + 1) (line.size - 1) left)
 
 -- Profile: a listing begins with the address of the first byte, and ends with END. So does that of no byte at all.
+abbrev pub grom_texts : List ℕ → ℕ → ℕ → List (List ℕ)
+grom_texts image low high =
+    origin_texts low ++ (texts_from image low high low 0 (high - low) ++ codes "END" ∷ [])
+
+-- the listing of the bytes from an address up to another
 unfoldable pub grom_listing : List ℕ → ℕ → ℕ → List (List ℕ)
-grom_listing image low high =
-    origin_lines low ++ (lines_from image low high low 0 (high - low) ++ listing_line (codes "END") ∷ [])
+grom_listing image low high = map listing_line (grom_texts image low high)

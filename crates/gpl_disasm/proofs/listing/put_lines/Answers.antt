@@ -1,21 +1,24 @@
-use Rattle.std.proofs.Common.{◌-◌, ◌+◌, [], ◌∷◌, ◌++◌}
+use Rattle.std.proofs.Common.{◌-◌, ◌+◌, [], ◌∷◌, ◌++◌, map, ap, ◌∙◌}
+use Rattle.std.proofs.lemmas.List.{map-append}
 use Rattle.std.proofs.lemmas.Result.{err_from_is_err_and}
 use Rattle.source_defs.specs.ListedLines.{listing_line}
 use Rattle.bench_io.proofs.Progress.{listed_append, listed_missed_in, listed_same}
-use Rattle.listing_defs.specs.Listing.{listed_at, lines_from, origin_lines_at}
-use Rattle.listing_defs.proofs.LineSteps.{lines_first, lines_step}
+use Rattle.listing_defs.specs.Listing.{listed_at, texts_from, origin_texts_at}
+use Rattle.listing_defs.proofs.LineSteps.{texts_first, texts_step}
 use Rattle.gpl_disasm.proofs.listing.put_lines.Goals as goal
 
 pub returns-in_err-at : goal.returns-in_err-at
 returns-in_err-at g c =
     let image = c.args.image.now in
     let at = c.loop-at.at in
-    let step = lines_first image c.args.low c.args.high at c.loop-at-test.true in
+    let texts = origin_texts_at c.args.low at ++ ((listed_at image at c.args.high).text ∷ []) in
+    let rest =
+    texts_from image c.args.low c.args.high (at + 1) ((listed_at image at c.args.high).size - 1) (c.args.high - at - 1) in
+    let step =
+    ap (map listing_line) (texts_first image c.args.low c.args.high at c.loop-at-test.true) ∙ map-append listing_line texts rest in
     let p = err_from_is_err_and c.from_residual.result c.from_residual.ensures.1 in
     rw p.1
-    (listed_missed_in _ _ _ _
-    (lines_from image c.args.low c.args.high (at + 1) ((listed_at image at c.args.high).size - 1) (c.args.high - at - 1))
-    (origin_lines_at c.args.low at ++ (listing_line (listed_at image at c.args.high).text ∷ []))
+    (listed_missed_in _ _ _ _ (map listing_line rest) (map listing_line texts)
     (listed_same _ _ _ _ _ step c.loop-at.invariant.listed) c.in_err-at.ensures.lines)
 
 pub loop-at-preserved : goal.loop-at-preserved
@@ -23,12 +26,15 @@ loop-at-preserved g c =
     let image = c.args.image.now in
     let at = c.loop-at.at in
     let next = c.in_ok-at.at in
+    let texts = origin_texts_at c.args.low at ++ ((listed_at image at c.args.high).text ∷ []) in
+    let rest = texts_from image c.args.low c.args.high next 0 (c.args.high - next) in
     let step =
-    lines_step image c.args.low c.args.high at next c.in_ok-at.ensures.next c.in_ok-at.ensures.after c.in_ok-at.ensures.within in
+    ap (map listing_line)
+    (texts_step image c.args.low c.args.high at next c.in_ok-at.ensures.next c.in_ok-at.ensures.after c.in_ok-at.ensures.within)
+    ∙ map-append listing_line texts rest in
     record {
       listed =
-          listed_append _ _ _ _ (lines_from image c.args.low c.args.high next 0 (c.args.high - next))
-          (origin_lines_at c.args.low at ++ (listing_line (listed_at image at c.args.high).text ∷ []))
+          listed_append _ _ _ _ (map listing_line rest) (map listing_line texts)
           (listed_same _ _ _ _ _ step c.loop-at.invariant.listed) c.in_ok-at.ensures.lines;
       within = c.loop-at.invariant.within;
     }
