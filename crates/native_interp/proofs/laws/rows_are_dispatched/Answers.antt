@@ -1,0 +1,12 @@
+use Rattle.std.proofs.Common.{ℕ, ◌+◌, ◌*◌, Bool, true, eqb, refl}
+use Rattle.std.proofs.lemmas.Bool.{agree_below_at, eqb-true}
+use Rattle.native_interp.specs.declared.addresses.TheConstants.{OPTAB}
+use Rattle.native_interp.specs.Entries.{row_entry}
+use Rattle.native_interp.specs.Words.{word_at}
+use Rattle.native_interp.proofs.laws.rows_are_dispatched.Goals as goal
+
+abbrev leads : ℕ → Bool
+leads v = eqb (word_at (OPTAB + 2 * v)) (row_entry (0x80 + 2 * v))
+
+pub returns : goal.returns
+returns c v lt = eqb-true (word_at (OPTAB + 2 * v)) (row_entry (0x80 + 2 * v)) (agree_below_at leads (λ _. true) 54 v refl lt)

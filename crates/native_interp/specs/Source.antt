@@ -1,0 +1,55 @@
+-- The form of the interpreter's source: what it does without, so that its words can be read off its lines.
+use Rattle.std.specs.Prelude.{◌≡◌, ℕ, Bool, true, not, ◌&&◌, ◌||◌, nat_eq, nat_lt, nat_le, List, [], ◌∷◌, ◌++◌, length, map, filter, flat_map, take, drop, take_while, reverse, count_by, codes, bytes_eq}
+use Rattle.std.specs.List.{list_all, list_any}
+use Rattle.native_interp.specs.declared.source.TheConstants.{LINES}
+
+abbrev pub lines : List (List ℕ)
+lines = map (λ line. line.now) LINES
+
+-- the text of the source: each line with its line feed
+abbrev pub source : List ℕ
+source = flat_map (λ line. line ++ 0x0A ∷ []) lines
+
+-- At most 64 characters, each of them printable: so no line feed and no carriage return is among them.
+abbrev pub is_short_text : List ℕ → Bool
+is_short_text line = nat_le (length line) 64 && list_all (λ byte. nat_le 0x20 byte && nat_le byte 0x7E) line
+
+-- An asterisk in column 1 makes a line a comment.
+abbrev pub is_statement : List ℕ → Bool
+is_statement line = not (bytes_eq (take 1 line) (codes "*"))
+
+abbrev pub statements : List (List ℕ)
+statements = filter is_statement lines
+
+-- A label has six columns and a blank, or as many blanks stand for it. Up to the next blank stands the operation.
+abbrev pub has_operation : List ℕ → List ℕ → Bool
+has_operation line operation = bytes_eq (take_while (λ byte. nat_lt 0x20 byte) (drop 7 line)) operation
+
+-- Directives that link, move or reserve, or place less than a word.
+abbrev pub left_out : List (List ℕ)
+left_out =
+    codes "REF" ∷ codes "DEF" ∷ codes "RORG" ∷ codes "DORG" ∷ codes "BSS" ∷ codes "BES" ∷ codes "EVEN" ∷ codes "BYTE" ∷
+    codes "TEXT" ∷ []
+
+-- The value of EQU is a number.
+abbrev pub names_a_number : List ℕ → Bool
+names_a_number line = not (has_operation line (codes "EQU")) || bytes_eq (take 5 (drop 7 line)) (codes "EQU >")
+
+-- A DATA line has at most three words, which stand between commas. An instruction has no more.
+abbrev pub has_three_words : List ℕ → Bool
+has_three_words line = not (has_operation line (codes "DATA")) || nat_le (count_by (nat_eq 0x2C) line) 2
+
+abbrev pub is_operator : ℕ → Bool
+is_operator byte = nat_eq byte 0x2A || nat_eq byte 0x2B || nat_eq byte 0x2D || nat_eq byte 0x2F
+
+abbrev pub statement_is_in_form : List ℕ → Bool
+statement_is_in_form line =
+    not (list_any (has_operation line) left_out) && names_a_number line && has_three_words line &&
+    nat_le (count_by is_operator line) 1
+
+pub record LinesAreInForm : Type 0 where
+  pub short : list_all is_short_text lines ≡ true
+  pub begin_at_2000 : take 1 statements ≡ codes "       AORG >2000" ∷ []
+  pub one_origin : count_by (λ line. has_operation line (codes "AORG")) statements ≡ 1
+  pub plain : list_all statement_is_in_form statements ≡ true
+  pub end : take 1 (reverse lines) ≡ codes "       END GBOOT" ∷ []

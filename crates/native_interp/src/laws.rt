@@ -1,0 +1,28 @@
+//! Laws of the interpreter's words. Each function does nothing, and its contract is the law.
+ghost use Rattle.native_interp.specs.Entries as spec;
+ghost use Rattle.native_interp.specs.Source.{LinesAreInForm};
+
+/// The first four words are the addresses of the entry points.
+pub fn entries_come_first()
+    ensures { spec.EntriesComeFirst }
+{}
+
+/// Each part of the interpreter stands at the address that is its constant.
+pub fn routines_stand()
+    ensures { spec.RoutinesStand }
+{}
+
+/// The first table leads from each code byte to its instruction, and from the others to the stop.
+pub fn codes_are_dispatched()
+    ensures { spec.CodesAreDispatched }
+{}
+
+/// The second table leads from each code byte of a row to the row.
+pub fn rows_are_dispatched()
+    ensures { spec.RowsAreDispatched }
+{}
+
+/// The lines of the source have the form that `LINES` says.
+pub fn lines_are_in_form()
+    ensures { LinesAreInForm }
+{}
