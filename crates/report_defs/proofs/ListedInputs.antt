@@ -52,7 +52,9 @@ high_all byte bytes at = high_placed bytes empty at byte ∙ omega (arith, high_
 
 insert_other : (image : Image) (at byte k : ℕ) → k ≢ at → byte_at (insert image at byte) k ≡ byte_at image k
 insert_other image at byte k other =
-    ap (λ found. unwrap_or found 0) (get-insert nat_cmp_total image at byte k ∙ rw (ties-other k at other) refl)
+    let found : get (insert image at byte) k ≡ get image k =
+    get-insert nat_cmp_total image at byte k ∙ rw (ties-other k at other) refl in
+    ap (λ found. unwrap_or found 0) found
 
 byte_before : (bytes : List ℕ) (image : Image) (at k : ℕ) → k < at → byte_at (placed image at bytes) k ≡ byte_at image k
 byte_before [] image at k lt = refl
@@ -64,7 +66,9 @@ ties_self k = (eq_by_cmp_equiv nat_cmp_total).refl k
 
 byte_here : (image : Image) (at byte : ℕ) → byte_at (insert image at byte) at ≡ byte
 byte_here image at byte =
-    ap (λ found. unwrap_or found 0) (get-insert nat_cmp_total image at byte at ∙ rw (ties_self at) refl)
+    let found : get (insert image at byte) at ≡ Some byte =
+    get-insert nat_cmp_total image at byte at ∙ rw (ties_self at) refl in
+    ap (λ found. unwrap_or found 0) found
 
 bytes_placed : (bytes : List ℕ) (image : Image) (at : ℕ) → map (byte_at (placed image at bytes)) (range_with_len at (length bytes)) ≡ bytes
 bytes_placed [] image at = refl
@@ -127,5 +131,6 @@ listed_inputs_come_back at [] holds below within =
 listed_inputs_come_back at (byte ∷ bytes) holds below within =
     let input = byte ∷ bytes in
     let size : at + length input - at ≡ length input = omega arith in
-    at_addresses input at at (at + length input) (all_fit (placed empty at input) (placed_fit input empty at holds.fits empty_fits)) (low_placed byte bytes at within) (high_all byte bytes at) below (omega arith) within
-    (ap (λ taken. placed empty at taken) (rw size (between input at within)))
+    let taken : take (at + length input - at) (drop at (grom_bytes (placed empty at input))) ≡ input =
+    rw size (between input at within) in
+    at_addresses input at at (at + length input) (all_fit (placed empty at input) (placed_fit input empty at holds.fits empty_fits)) (low_placed byte bytes at within) (high_all byte bytes at) below (omega arith) within (ap (λ taken. placed empty at taken) taken)

@@ -11,6 +11,7 @@ use Rattle.report_defs.specs.declared.status.Status.TheVariants as status
 use Rattle.report_defs.specs.Commands.{command_of, reads}
 use Rattle.report_defs.specs.Report.{Report, Whole, Faulty, Rejected, status_of, largest_input, AcceptedReport, ReportOn}
 use Rattle.report_defs.proofs.OneReport.{one_report}
+use Rattle.report_defs.proofs.ListedInputs.{listed_inputs_come_back}
 use Rattle.ti_bench.specs.Run.{Run, ReadsInput, Reads, ReportsOn, Reports, WroteReport, MissedReport, EndsBy}
 use Rattle.ti_bench.specs.Laws.{HasNoFault, read_of, Completeness, BeginAlike, OneAnswer, LawsOfRuns}
 
@@ -87,4 +88,10 @@ one_answer a b s t begin none other ends ends' some some' =
     p.2 ∙ ap status_of same ∙ sym q.2
 
 pub laws : LawsOfRuns
-laws = record { one_report = one_report; completeness = completeness; one_answer = one_answer }
+laws =
+    record {
+      one_report = one_report;
+      completeness = completeness;
+      one_answer = one_answer;
+      listed_inputs = listed_inputs_come_back;
+    }

@@ -6,7 +6,7 @@ use Rattle.report_defs.specs.declared.status.Status.{Status}
 use Rattle.report_defs.specs.declared.status.Status.TheVariants.{Memory}
 use Rattle.report_defs.specs.Commands.{command_of, reads}
 use Rattle.report_defs.specs.Report.{Report, status_of, ReportOn}
-use Rattle.report_defs.specs.Laws.{OneReport}
+use Rattle.report_defs.specs.Laws.{OneReport, ListedInputsComeBack}
 use Rattle.ti_bench.specs.Run.{Run, EndsBy, WroteReport}
 
 -- no count of faults rose in a run
@@ -44,8 +44,9 @@ OneAnswer =
     → EndsBy first one → EndsBy second other → one ≢ Memory → other ≢ Memory
     → one ≡ other
 
--- the laws of all runs
+-- the laws of all runs, and that what gdis lists is assembled to what was listed
 pub record LawsOfRuns : Type 0 where
   pub one_report : OneReport
   pub completeness : Completeness
   pub one_answer : OneAnswer
+  pub listed_inputs : ListedInputsComeBack

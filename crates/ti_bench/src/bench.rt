@@ -16,8 +16,8 @@ use std::alloc::{AllocError, Global};
 /// line or the usage line to `err`, and takes all its memory before the first byte is written.
 ///
 /// The contract says of each status its cause, and what the input and the outputs are then; that there is one report on
-/// each command and input; and that where the source tells its bytes and nothing fails, the answer is that report with
-/// its status, or want of memory.
+/// each command and input; that where the source tells its bytes and nothing fails, the answer is that report with its
+/// status, or want of memory; and that what `gdis` lists is assembled by `gasm`'s rules to the bytes that were listed.
 #[tactic(auto, using(crate::proofs::Uniqueness::laws))]
 pub fn bench<S: Source, O: Sink, E: Sink>(
     alloc: Global,
