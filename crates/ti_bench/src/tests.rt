@@ -4,6 +4,7 @@ mod asm;
 mod dis;
 mod exec;
 mod gasm;
+mod gdis;
 mod link;
 mod run;
 mod statuses;
