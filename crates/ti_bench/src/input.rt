@@ -34,7 +34,11 @@ fn reads(command: Command) -> bool
     ensures { result ≡ spec.reads command }
 {
     match command {
-        Command::Asm | Command::Gasm | Command::Dis { .. } | Command::Gdis { .. } | Command::Link | Command::Exec { .. } =>
-            true,
+        Command::Asm
+        | Command::Gasm
+        | Command::Dis { .. }
+        | Command::Gdis { .. }
+        | Command::Link
+        | Command::Exec { .. } => true,
     }
 }

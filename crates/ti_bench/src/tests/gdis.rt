@@ -45,7 +45,13 @@ fn lists(alloc: Global, at: &[u8], bytes: &[u8], listing: &[u8]) -> Result<bool,
 
 /// Whether two bytes from >FFFF on are refused.
 fn refuses_past_the_end(alloc: Global) -> Result<bool, AllocError> {
-    let ended = run(alloc, &[b"gdis", b"FFFF"], b"\x00\x00".to_vec(alloc)?, &[], &[])?;
+    let ended = run(
+        alloc,
+        &[b"gdis", b"FFFF"],
+        b"\x00\x00".to_vec(alloc)?,
+        &[],
+        &[],
+    )?;
     Ok(
         ended.status == Status::Refused
             && ended.out.bytes().is_empty()
