@@ -1,5 +1,11 @@
 -- Where the interpreter's parts stand, and where its two tables lead.
-use Rattle.std.specs.Prelude.{◌≡◌, ℕ, ◌+◌, ◌*◌, ◌<◌, Bool, true, nat_eq, nat_le, nat_lt, ◌&&◌, if◌then◌else◌, List, [], ◌∷◌, length, take}
+use Rattle.std.specs.Prelude.{◌≡◌, ℕ, ◌+◌, ◌*◌, ◌<◌, Bool, true, nat_eq, ◌&&◌, List, [], ◌∷◌, length, take, Option, Some}
+use Rattle.gpl_defs.specs.declared.instruction.PlainOp.TheVariants.{EXIT}
+use Rattle.gpl_defs.specs.declared.instruction.GoOp.TheVariants.{B}
+use Rattle.gpl_defs.specs.declared.instruction.TwoName.TheVariants.{ST}
+use Rattle.gpl_defs.specs.declared.instruction.GplOperation.{GplOperation}
+use Rattle.gpl_defs.specs.declared.instruction.GplOperation.TheVariants.{Plain, Jump, Two}
+use Rattle.gpl_defs.specs.Codes.{operation_at}
 use Rattle.native_interp.specs.declared.addresses.TheConstants.{GBOOT, GSTEP, GSTOP, GEXIT, TABLE, OPTAB, UNKN, ROW, STV, GOB, GOEXIT}
 use Rattle.native_interp.specs.Words.{origin, routines, words, word_at}
 
@@ -15,23 +21,23 @@ follow address (routine ∷ rest) = nat_eq address routine.0 && follow (address 
 abbrev pub RoutinesStand : Type 0
 RoutinesStand = follow origin routines ≡ true
 
--- The code bytes of ST are >BC to >BF.
-abbrev pub is_st : ℕ → Bool
-is_st code = nat_le 0xBC code && nat_lt code 0xC0
-
--- Where the instruction of a code byte begins: B, EXIT or the operands of a row. What is not built stops as a code byte
+-- Where the instruction of an operation begins: B, EXIT or the operands of a row. What is not built stops as a code byte
 -- does that is no instruction's.
-abbrev pub code_entry : ℕ → ℕ
-code_entry code =
-    if nat_eq code 0x05 then GOB else if nat_eq code 0x0B then GOEXIT else if is_st code then ROW else UNKN
+abbrev pub operation_entry : Option GplOperation → ℕ
+operation_entry (Some (Plain EXIT)) = GOEXIT
+operation_entry (Some (Jump B)) = GOB
+operation_entry (Some (Two ST)) = ROW
+operation_entry _ = UNKN
 
--- Where the row of a code byte begins, once its operands are there.
-abbrev pub row_entry : ℕ → ℕ
-row_entry code = if is_st code then STV else UNKN
+-- Where the row of an operation begins, once its operands are there.
+abbrev pub row_entry : Option GplOperation → ℕ
+row_entry (Some (Two ST)) = STV
+row_entry _ = UNKN
 
+-- The first table has a word for each code byte.
 abbrev pub CodesAreDispatched : Type 0
-CodesAreDispatched = (code : ℕ) → code < 256 → word_at (TABLE + 2 * code) ≡ code_entry code
+CodesAreDispatched = (code : ℕ) → code < 256 → word_at (TABLE + 2 * code) ≡ operation_entry (operation_at code)
 
--- The processor drops the lowest bit of a word's address, so two codes share a word.
+-- The second has one for two code bytes, from >80 to >EB, and is read at any of both: a word's address loses its lowest bit.
 abbrev pub RowsAreDispatched : Type 0
-RowsAreDispatched = (pair : ℕ) → pair < 54 → word_at (OPTAB + 2 * pair) ≡ row_entry (0x80 + 2 * pair)
+RowsAreDispatched = (code : ℕ) → code < 0x6C → word_at (OPTAB + code) ≡ row_entry (operation_at (0x80 + code))

@@ -254,6 +254,6 @@ routines =
 abbrev pub words : List ℕ
 words = flat_map (λ routine. routine.1) routines
 
--- the word at an even address
+-- the word at an address, whose lowest bit is dropped
 abbrev pub word_at : ℕ → ℕ
 word_at address = slice_index words ((address - origin) / 2)

@@ -12,12 +12,12 @@ pub fn routines_stand()
     ensures { spec.RoutinesStand }
 {}
 
-/// The first table leads from each code byte to its instruction, and from the others to the stop.
+/// The first table leads from each code byte to the instruction of its operation, and from the others to the stop.
 pub fn codes_are_dispatched()
     ensures { spec.CodesAreDispatched }
 {}
 
-/// The second table leads from each code byte of a row to the row.
+/// The second table leads from each code byte to the row of its operation.
 pub fn rows_are_dispatched()
     ensures { spec.RowsAreDispatched }
 {}

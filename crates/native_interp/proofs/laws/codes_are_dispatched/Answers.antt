@@ -1,12 +1,13 @@
 use Rattle.std.proofs.Common.{ℕ, ◌+◌, ◌*◌, Bool, true, eqb, refl}
 use Rattle.std.proofs.lemmas.Bool.{agree_below_at, eqb-true}
+use Rattle.gpl_defs.specs.Codes.{operation_at}
 use Rattle.native_interp.specs.declared.addresses.TheConstants.{TABLE}
-use Rattle.native_interp.specs.Entries.{code_entry}
+use Rattle.native_interp.specs.Entries.{operation_entry}
 use Rattle.native_interp.specs.Words.{word_at}
 use Rattle.native_interp.proofs.laws.codes_are_dispatched.Goals as goal
 
 abbrev leads : ℕ → Bool
-leads v = eqb (word_at (TABLE + 2 * v)) (code_entry v)
+leads v = eqb (word_at (TABLE + 2 * v)) (operation_entry (operation_at v))
 
 pub returns : goal.returns
-returns c v lt = eqb-true (word_at (TABLE + 2 * v)) (code_entry v) (agree_below_at leads (λ _. true) 256 v refl lt)
+returns c v lt = eqb-true (word_at (TABLE + 2 * v)) (operation_entry (operation_at v)) (agree_below_at leads (λ _. true) 256 v refl lt)
