@@ -1,12 +1,41 @@
 -- Where the interpreter's parts stand, and where its two tables lead.
-use Rattle.std.specs.Prelude.{◌≡◌, ℕ, ◌+◌, ◌*◌, ◌<◌, Bool, true, nat_eq, ◌&&◌, List, [], ◌∷◌, length, take, Option, Some}
+use Rattle.std.specs.Prelude.{
+  ◌≡◌,
+  ℕ,
+  ◌+◌,
+  ◌*◌,
+  ◌<◌,
+  Bool,
+  true,
+  nat_eq,
+  ◌&&◌,
+  List,
+  [],
+  ◌∷◌,
+  length,
+  take,
+  Option,
+  Some,
+}
 use Rattle.gpl_defs.specs.declared.instruction.PlainOp.TheVariants.{EXIT}
 use Rattle.gpl_defs.specs.declared.instruction.GoOp.TheVariants.{B}
 use Rattle.gpl_defs.specs.declared.instruction.TwoName.TheVariants.{ST}
 use Rattle.gpl_defs.specs.declared.instruction.GplOperation.{GplOperation}
 use Rattle.gpl_defs.specs.declared.instruction.GplOperation.TheVariants.{Plain, Jump, Two}
 use Rattle.gpl_defs.specs.Codes.{operation_at}
-use Rattle.native_interp.specs.declared.addresses.TheConstants.{GBOOT, GSTEP, GSTOP, GEXIT, TABLE, OPTAB, UNKN, ROW, STV, GOB, GOEXIT}
+use Rattle.native_interp.specs.declared.addresses.TheConstants.{
+  GBOOT,
+  GSTEP,
+  GSTOP,
+  GEXIT,
+  TABLE,
+  OPTAB,
+  UNKN,
+  ROW,
+  STV,
+  GOB,
+  GOEXIT,
+}
 use Rattle.native_interp.specs.Words.{origin, routines, words, word_at}
 
 -- The first four words are the entry points.
@@ -38,6 +67,6 @@ row_entry _ = UNKN
 abbrev pub CodesAreDispatched : Type 0
 CodesAreDispatched = (code : ℕ) → code < 256 → word_at (TABLE + 2 * code) ≡ operation_entry (operation_at code)
 
--- The second has one for two code bytes, from >80 to >EB, and is read at any of both: a word's address loses its lowest bit.
+-- The second has one for two code bytes, from >80 to >EB. It is read at either: a word's address loses its lowest bit.
 abbrev pub RowsAreDispatched : Type 0
 RowsAreDispatched = (code : ℕ) → code < 0x6C → word_at (OPTAB + code) ≡ row_entry (operation_at (0x80 + code))

@@ -1,5 +1,31 @@
 -- The form of the interpreter's source: what it does without, so that its words can be read off its lines.
-use Rattle.std.specs.Prelude.{◌≡◌, ℕ, Bool, true, not, ◌&&◌, ◌||◌, nat_eq, nat_lt, nat_le, List, [], ◌∷◌, ◌++◌, length, map, filter, flat_map, take, drop, take_while, reverse, count_by, codes, bytes_eq}
+use Rattle.std.specs.Prelude.{
+  ◌≡◌,
+  ℕ,
+  Bool,
+  true,
+  not,
+  ◌&&◌,
+  ◌||◌,
+  nat_eq,
+  nat_lt,
+  nat_le,
+  List,
+  [],
+  ◌∷◌,
+  ◌++◌,
+  length,
+  map,
+  filter,
+  flat_map,
+  take,
+  drop,
+  take_while,
+  reverse,
+  count_by,
+  codes,
+  bytes_eq,
+}
 use Rattle.std.specs.List.{list_all, list_any}
 use Rattle.native_interp.specs.declared.source.TheConstants.{LINES}
 

@@ -1,6 +1,41 @@
 -- The words of the interpreter from >2000 up, routine by routine in the order of its source.
 use Rattle.std.specs.Prelude.{ℕ, ◌-◌, ◌/◌, List, [], ◌∷◌, flat_map, slice_index}
-use Rattle.native_interp.specs.declared.addresses.TheConstants.{TABLE, OPTAB, GBOOT, GSTEP, STK, UNKN, BAD, GSTOP, GEXIT, WHERE, SEEK, FETCH, ADDR, APTR, INDEX, ASPACE, LOAD, LDATA, STREAM, STORE, SDATA, SREG, ROW, OPS, OPVAL, UNIT, GO, SHOW, SHOWN, STV, STO, GOB, GOTO, GOEXIT}
+use Rattle.native_interp.specs.declared.addresses.TheConstants.{
+  TABLE,
+  OPTAB,
+  GBOOT,
+  GSTEP,
+  STK,
+  UNKN,
+  BAD,
+  GSTOP,
+  GEXIT,
+  WHERE,
+  SEEK,
+  FETCH,
+  ADDR,
+  APTR,
+  INDEX,
+  ASPACE,
+  LOAD,
+  LDATA,
+  STREAM,
+  STORE,
+  SDATA,
+  SREG,
+  ROW,
+  OPS,
+  OPVAL,
+  UNIT,
+  GO,
+  SHOW,
+  SHOWN,
+  STV,
+  STO,
+  GOB,
+  GOTO,
+  GOEXIT,
+}
 
 -- the address of the first word
 abbrev pub origin : ℕ
