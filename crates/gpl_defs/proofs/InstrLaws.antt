@@ -9,7 +9,7 @@ use Rattle.gpl_defs.specs.declared.instruction.GplOperand.{GplOperand}
 use Rattle.gpl_defs.specs.declared.instruction.GplSource.{GplSource}
 use Rattle.gpl_defs.specs.declared.instruction.GplSource.TheVariants as source
 use Rattle.gpl_defs.specs.declared.instruction.MoveLength.{MoveLength}
-use Rattle.gpl_defs.specs.declared.instruction.MoveLength.TheVariants as length
+use Rattle.gpl_defs.specs.declared.instruction.MoveLength.TheVariants as counted
 use Rattle.gpl_defs.specs.declared.instruction.MoveTarget.{MoveTarget}
 use Rattle.gpl_defs.specs.declared.instruction.MoveTarget.TheVariants as target
 use Rattle.gpl_defs.specs.declared.instruction.MoveSource.{MoveSource}
@@ -61,9 +61,9 @@ source_back image word (source.Immediate value) at next holds =
 
 length_back : (image : List ℕ) (count : MoveLength) (at next : ℕ) → Holds (SpellsLength count) image at next →
     length_at (is_counted count) image at ≡ (count, next)
-length_back image (length.At operand) at next holds = rw (operand_back image operand at next holds) refl
-length_back image (length.Immediate count) at next holds =
-    ap (λ (read : ℕ × ℕ). (length.Immediate read.0, read.1)) (word_back image count at next (rw holds.is_kind at holds.stand))
+length_back image (counted.At operand) at next holds = rw (operand_back image operand at next holds) refl
+length_back image (counted.Immediate count) at next holds =
+    ap (λ (read : ℕ × ℕ). (counted.Immediate read.0, read.1)) (word_back image count at next (rw holds.is_kind at holds.stand))
 
 memory_target : (image : List ℕ) (operand : GplOperand) (source : MoveSource) (at next : ℕ) →
     operand_at image at ≡ (operand, next) →

@@ -8,7 +8,7 @@ use Rattle.gpl_defs.specs.declared.instruction.GplOperand.{GplOperand}
 use Rattle.gpl_defs.specs.declared.instruction.GplSource.{GplSource}
 use Rattle.gpl_defs.specs.declared.instruction.GplSource.TheVariants as source
 use Rattle.gpl_defs.specs.declared.instruction.MoveLength.{MoveLength}
-use Rattle.gpl_defs.specs.declared.instruction.MoveLength.TheVariants as length
+use Rattle.gpl_defs.specs.declared.instruction.MoveLength.TheVariants as counted
 use Rattle.gpl_defs.specs.declared.instruction.MoveTarget.{MoveTarget}
 use Rattle.gpl_defs.specs.declared.instruction.MoveTarget.TheVariants as target
 use Rattle.gpl_defs.specs.declared.instruction.MoveSource.{MoveSource}
@@ -96,8 +96,8 @@ source_bytes word (source.Immediate value) = value_bytes word value
 
 -- Profile: an immediate length is a word.
 abbrev pub length_bytes : MoveLength → List ℕ
-length_bytes (length.At operand) = operand_bytes operand
-length_bytes (length.Immediate count) = word_bytes count
+length_bytes (counted.At operand) = operand_bytes operand
+length_bytes (counted.Immediate count) = word_bytes count
 
 -- Profile: a register is one byte, its number.
 abbrev pub target_bytes : MoveTarget → List ℕ
@@ -131,8 +131,8 @@ is_immediate (source.At operand) = false
 is_immediate (source.Immediate value) = true
 
 abbrev pub is_counted : MoveLength → Bool
-is_counted (length.At operand) = false
-is_counted (length.Immediate count) = true
+is_counted (counted.At operand) = false
+is_counted (counted.Immediate count) = true
 
 -- Which of the code bytes of its row an instruction has, counted from 0.
 -- GPL Programmer's Guide, the statements with one operand, with two operands, BR and BS.

@@ -9,7 +9,7 @@ use Rattle.gpl_defs.specs.declared.instruction.GplOperand.{GplOperand}
 use Rattle.gpl_defs.specs.declared.instruction.GplSource.{GplSource}
 use Rattle.gpl_defs.specs.declared.instruction.GplSource.TheVariants as source
 use Rattle.gpl_defs.specs.declared.instruction.MoveLength.{MoveLength}
-use Rattle.gpl_defs.specs.declared.instruction.MoveLength.TheVariants as length
+use Rattle.gpl_defs.specs.declared.instruction.MoveLength.TheVariants as counted
 use Rattle.gpl_defs.specs.declared.instruction.MoveTarget.{MoveTarget}
 use Rattle.gpl_defs.specs.declared.instruction.MoveTarget.TheVariants as target
 use Rattle.gpl_defs.specs.declared.instruction.MoveSource.{MoveSource}
@@ -87,8 +87,8 @@ source_at false word image at = let operand = operand_at image at in (source.At 
 
 -- whether the length is immediate
 abbrev pub length_at : Bool → List ℕ → ℕ → MoveLength × ℕ
-length_at true image at = let count = word_at image at in (length.Immediate count.0, count.1)
-length_at false image at = let operand = operand_at image at in (length.At operand.0, operand.1)
+length_at true image at = let count = word_at image at in (counted.Immediate count.0, count.1)
+length_at false image at = let operand = operand_at image at in (counted.At operand.0, operand.1)
 
 abbrev pub target_at : MoveKind → List ℕ → ℕ → MoveTarget × ℕ
 target_at GromToRegisters image at = (target.Register (slice_index image at), next_in_grom at)

@@ -4,7 +4,7 @@ use Rattle.console_defs.specs.Flags.{Word}
 use Rattle.console_defs.specs.Grom.{next_in_grom}
 use Rattle.source_defs.specs.Refusals.{◌>>=◌}
 use Rattle.gpl_defs.specs.declared.instruction.MoveLength.{MoveLength}
-use Rattle.gpl_defs.specs.declared.instruction.MoveLength.TheVariants as length
+use Rattle.gpl_defs.specs.declared.instruction.MoveLength.TheVariants as counted
 use Rattle.gpl_defs.specs.declared.instruction.MoveTarget.{MoveTarget}
 use Rattle.gpl_defs.specs.declared.instruction.MoveTarget.TheVariants as target
 use Rattle.gpl_defs.specs.declared.instruction.MoveSource.{MoveSource}
@@ -26,8 +26,8 @@ pub data To : Type 0 where
 
 -- Profile: a length in memory is a word.
 abbrev pub length_of : GplState → MoveLength → Result ℕ Reason
-length_of s (length.At operand) = place_of s 2 operand >>= λ p. Ok (value_at s Word p)
-length_of s (length.Immediate count) = Ok count
+length_of s (counted.At operand) = place_of s 2 operand >>= λ p. Ok (value_at s Word p)
+length_of s (counted.Immediate count) = Ok count
 
 -- Profile: a length of 0 is one too.
 abbrev pub within_limit : ℕ → Result ℕ Reason
