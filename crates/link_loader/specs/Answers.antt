@@ -3,7 +3,9 @@ use Rattle.std.specs.Prelude.{◌≡◌, ⊤, Option, None, Result, Ok, Err}
 use Rattle.link_defs.specs.Causes.{LinkCause}
 use Rattle.link_defs.specs.Causes as causes
 use Rattle.link_loader.specs.declared.error.LinkError.{LinkError}
-use Rattle.link_loader.specs.declared.error.LinkError.TheVariants.{DuplicateDef, OutOfMemoryRange, Overlap, ChainOutside, ChainCycle, Unresolved, NoEntry, Memory}
+use Rattle.link_loader.specs.declared.error.LinkError.TheVariants.{DuplicateDef, OutOfMemoryRange, Overlap}
+use Rattle.link_loader.specs.declared.error.LinkError.TheVariants.{ChainOutside, ChainCycle, Unresolved, NoEntry}
+use Rattle.link_loader.specs.declared.error.LinkError.TheVariants.{Memory}
 
 -- The cause is the one that is defined; want of memory says nothing.
 abbrev pub Refuses : {Y : Type 0} → LinkError → Result Y LinkCause → Type 0

@@ -1,7 +1,8 @@
 -- The first step of reading: the groups of a line, by the grammar.
 --
 -- Editor/Assembler manual, "Tagged object code": a line is groups one after the other, each a tag and its fields.
-use Rattle.std.specs.Prelude.{ℕ, zero, suc, ◌+◌, ◌==◌, Bool, true, false, not, ◌&&◌, if◌then◌else◌, List, [], ◌∷◌, ◌++◌, length, Option, Some, None, Result, Ok, Err}
+use Rattle.std.specs.Prelude.{ℕ, zero, suc, ◌+◌, ◌==◌, Bool, true, false, not, ◌&&◌, if◌then◌else◌, List, [], ◌∷◌}
+use Rattle.std.specs.Prelude.{◌++◌, length, Option, Some, None, Result, Ok, Err}
 use Rattle.source_defs.specs.Refusals.{◌>>=◌}
 use Rattle.object_defs.specs.declared.form.TextForm.{TextForm}
 use Rattle.object_defs.specs.declared.spot.Spot.{Spot}

@@ -9,7 +9,9 @@ use Rattle.object_defs.specs.declared.causes.TagCause.{TagCause}
 use Rattle.object_defs.specs.declared.causes.TagCause.TheVariants.{BadTag, NoEnd}
 use Rattle.object_defs.specs.Modules.{Module, moved, even}
 use Rattle.object_defs.specs.Fields.{all_blank}
-use Rattle.object_defs.specs.Groups.{Group, Header, Entry, Referred, Defined, Sum, IgnoredSum, Address, Word, EndOfLine, EndOfModule, FoundGroup, Whole, Broken, tag_found, character_found, group_found, groups_from}
+use Rattle.object_defs.specs.Groups.{Group, Header, Entry, Referred, Defined, Sum, IgnoredSum, Address, Word}
+use Rattle.object_defs.specs.Groups.{EndOfLine, EndOfModule, FoundGroup, Whole, Broken, tag_found, character_found}
+use Rattle.object_defs.specs.Groups.{group_found, groups_from}
 use Rattle.object_defs.specs.Reading.{stands_first, stands_behind, NumberedLine}
 
 -- a module whose end is not read yet, and the load address

@@ -16,7 +16,8 @@ use Rattle.program_defs.specs.declared.causes.GplCause.{GplCause}
 use Rattle.program_defs.specs.declared.causes.GplCause.TheVariants.{BadOperand}
 use Rattle.program_defs.specs.declared.location.Location.{Location}
 use Rattle.program_defs.specs.Values.{number, numbers, byte_of, bytes_of, index_of}
-use Rattle.program_defs.specs.Skeletons.{Source, At, Immediate, Route, Within, ToMemory, ToRegisters, Skeleton, Plain, Byte as OneByte, Jump, Branch, One, Two, Move}
+use Rattle.program_defs.specs.Skeletons.{Source, At, Immediate, Route, Within, ToMemory, ToRegisters, Skeleton, Plain}
+use Rattle.program_defs.specs.Skeletons.{Byte as OneByte, Jump, Branch, One, Two, Move}
 use Rattle.program_defs.specs.Statements.{Statement, Instruction, Data, Byte, Text, End}
 use Rattle.program_defs.specs.Locations.{address_of, branch_offset}
 

@@ -4,7 +4,8 @@
 -- from left to right without precedence.
 -- Profile: the first refusal from the left is the expression's, and a term's own refusal stands before that of joining
 -- it.
-use Rattle.std.specs.Prelude.{ℕ, ◌+◌, ◌-◌, ◌*◌, ◌/◌, ◌%◌, ◌==◌, Bool, false, not, ◌&&◌, nat_le, if◌then◌else◌, List, [], ◌∷◌, length, slice_range, Option, Some, None, Result, Ok, Err}
+use Rattle.std.specs.Prelude.{ℕ, ◌+◌, ◌-◌, ◌*◌, ◌/◌, ◌%◌, ◌==◌, Bool, false, not, ◌&&◌, nat_le, if◌then◌else◌, List}
+use Rattle.std.specs.Prelude.{[], ◌∷◌, length, slice_range, Option, Some, None, Result, Ok, Err}
 use Rattle.source_defs.specs.declared.causes.ExprError.{ExprError}
 use Rattle.source_defs.specs.declared.causes.ExprError.TheVariants.{BadToken, UnknownName, BadRelocation, DivideByZero}
 use Rattle.source_defs.specs.Refusals.{◌>>=◌}
