@@ -170,7 +170,8 @@ const PROGRAMS: &[(&[u8], &[u8], Status, &[&str])] = &[
     // a byte of video memory, the GROM address and a video register are written by bytes
     (
         b"99",
-        b"00030        A0000B0201B0040BD801B8C02B06C1BD801B8C02B0202BABCDF\nBD802B8C00BD802B9C02B06C2BD802B9C02B0201BE081BD801B8C02B06C1BD801F\nB8C02B10FF20000F\n:\n",
+        b"00030        A0000B0201B0040BD801B8C02B06C1BD801B8C02B0202BABCDF\n\
+          BD802B8C00BD802B9C02B06C2BD802B9C02B0201BE081BD801B8C02B06C1BD801F\nB8C02B10FF20000F\n:\n",
         Status::Done,
         &[
             "end self jump",
