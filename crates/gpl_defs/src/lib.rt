@@ -1,5 +1,4 @@
-//! GPL, the language of the console's GROM: its instructions and their bytes, its sources, and the image that they
-//! make.
+//! GPL, the language of the console's GROM: its instructions and their bytes, and the image of a GROM.
 #![tactic(auto)]
 
 mod instruction;

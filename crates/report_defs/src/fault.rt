@@ -7,6 +7,6 @@ pub enum Fault {
     Usage,
     /// The input has more than 1,048,576 bytes.
     TooLarge,
-    /// The raw bytes of `dis` run past >FFFF from its address on.
+    /// The bytes of `dis` or `gdis` run past >FFFF from its address on.
     PastEnd,
 }

@@ -3,10 +3,10 @@
 /// How many cells GPL sees. The interpreter keeps its own words in those behind them.
 pub const VISIBLE_CELLS: u8 = 0xC2;
 
-/// The offset of the last byte of the data stack.
+/// The pointer of the data stack: the cell that holds the offset of its last byte.
 pub const VALUE_STACK: u8 = 0x72;
 
-/// The offset of the last word of the stack of return addresses.
+/// The pointer of the stack of return addresses: the cell that holds the offset of its last word.
 pub const RETURN_STACK: u8 = 0x73;
 
 /// The random number.
