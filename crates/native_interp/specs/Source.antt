@@ -8,7 +8,6 @@ use Rattle.std.specs.Prelude.{
   ◌&&◌,
   ◌||◌,
   nat_eq,
-  nat_lt,
   nat_le,
   List,
   [],
@@ -47,9 +46,28 @@ is_statement line = not (bytes_eq (take 1 line) (codes "*"))
 abbrev pub statements : List (List ℕ)
 statements = filter is_statement lines
 
--- A label has six columns and a blank, or as many blanks stand for it. Up to the next blank stands the operation.
+abbrev pub is_blank : ℕ → Bool
+is_blank byte = nat_eq byte 0x20
+
+-- what stands up to the first blank
+abbrev pub word_of : List ℕ → List ℕ
+word_of text = take_while (λ byte. not (is_blank byte)) text
+
+-- A label has at most six characters from column 1 on, blanks stand behind it up to column 7, and what begins in column 8 is
+-- no blank.
+abbrev pub stands_in_columns : List ℕ → Bool
+stands_in_columns line =
+    let label = word_of (take 7 line) in
+    nat_le (length label) 6 && list_all is_blank (drop (length label) (take 7 line)) &&
+    not (list_any is_blank (take 1 (drop 7 line)))
+
+-- The letters are capitals.
+abbrev pub has_capitals : List ℕ → Bool
+has_capitals line = not (list_any (λ byte. nat_le 0x61 byte && nat_le byte 0x7A) line)
+
+-- The operation begins in column 8.
 abbrev pub has_operation : List ℕ → List ℕ → Bool
-has_operation line operation = bytes_eq (take_while (λ byte. nat_lt 0x20 byte) (drop 7 line)) operation
+has_operation line operation = bytes_eq (word_of (drop 7 line)) operation
 
 -- Directives that link, move or reserve, or place less than a word.
 abbrev pub left_out : List (List ℕ)
@@ -57,9 +75,14 @@ left_out =
     codes "REF" ∷ codes "DEF" ∷ codes "RORG" ∷ codes "DORG" ∷ codes "BSS" ∷ codes "BES" ∷ codes "EVEN" ∷ codes "BYTE" ∷
     codes "TEXT" ∷ []
 
--- The value of EQU is a number.
+abbrev pub is_hexadecimal_digit : ℕ → Bool
+is_hexadecimal_digit byte = (nat_le 0x30 byte && nat_le byte 0x39) || (nat_le 0x41 byte && nat_le byte 0x46)
+
+-- The value of EQU is a number of four hexadecimal digits, and nothing stands behind it.
 abbrev pub names_a_number : List ℕ → Bool
-names_a_number line = not (has_operation line (codes "EQU")) || bytes_eq (take 5 (drop 7 line)) (codes "EQU >")
+names_a_number line =
+    not (has_operation line (codes "EQU")) ||
+    (bytes_eq (take 5 (drop 7 line)) (codes "EQU >") && nat_eq (length line) 16 && list_all is_hexadecimal_digit (drop 12 line))
 
 -- A DATA line has at most three words, which stand between commas. An instruction has no more.
 abbrev pub has_three_words : List ℕ → Bool
@@ -70,7 +93,7 @@ is_operator byte = nat_eq byte 0x2A || nat_eq byte 0x2B || nat_eq byte 0x2D || n
 
 abbrev pub statement_is_in_form : List ℕ → Bool
 statement_is_in_form line =
-    not (list_any (has_operation line) left_out) && names_a_number line && has_three_words line &&
+    stands_in_columns line && has_capitals line && not (list_any (has_operation line) left_out) && names_a_number line && has_three_words line &&
     nat_le (count_by is_operator line) 1
 
 pub record LinesAreInForm : Type 0 where
