@@ -7,6 +7,8 @@ use Rattle.std.specs.Prelude.{
   ◌<◌,
   Bool,
   true,
+  false,
+  not,
   nat_eq,
   ◌&&◌,
   List,
@@ -16,6 +18,7 @@ use Rattle.std.specs.Prelude.{
   take,
   Option,
   Some,
+  None,
 }
 use Rattle.gpl_defs.specs.declared.instruction.PlainOp.TheVariants.{EXIT}
 use Rattle.gpl_defs.specs.declared.instruction.GoOp.TheVariants.{B}
@@ -23,6 +26,7 @@ use Rattle.gpl_defs.specs.declared.instruction.TwoName.TheVariants.{ST}
 use Rattle.gpl_defs.specs.declared.instruction.GplOperation.{GplOperation}
 use Rattle.gpl_defs.specs.declared.instruction.GplOperation.TheVariants.{Plain, Jump, Two}
 use Rattle.gpl_defs.specs.Codes.{operation_at}
+use Rattle.step_defs.specs.Built.{is_built_operation}
 use Rattle.native_interp.specs.declared.addresses.TheConstants.{
   GBOOT,
   GSTEP,
@@ -63,9 +67,16 @@ abbrev pub row_entry : Option GplOperation → ℕ
 row_entry (Some (Two ST)) = STV
 row_entry _ = UNKN
 
--- The first table has a word for each code byte.
-abbrev pub CodesAreDispatched : Type 0
-CodesAreDispatched = (code : ℕ) → code < 256 → word_at (TABLE + 2 * code) ≡ operation_entry (operation_at code)
+-- a code byte of an operation that is built
+abbrev pub is_built_code : Option GplOperation → Bool
+is_built_code None = false
+is_built_code (Some operation) = is_built_operation operation
+
+-- The first table has a word for each code byte. The others than those of operations that are built lead to the stop, and
+-- they alone.
+pub record CodesAreDispatched : Type 0 where
+  pub entries : (code : ℕ) → code < 256 → word_at (TABLE + 2 * code) ≡ operation_entry (operation_at code)
+  pub stops : (code : ℕ) → code < 256 → nat_eq (operation_entry (operation_at code)) UNKN ≡ not (is_built_code (operation_at code))
 
 -- The second has one for two code bytes, from >80 to >EB. It is read at either: a word's address loses its lowest bit.
 abbrev pub RowsAreDispatched : Type 0

@@ -23,11 +23,11 @@ steps (suc count) s = read_step (reading s.image s.pc) s >>= λ s. steps count s
 abbrev given : List ℕ → List ℕ → GplState
 given cells bytes = record (start bytes 0) { cells = cells ++ drop (length cells) (start bytes 0).cells }
 
-abbrev program : List ℕ → GplState
+abbrev pub program : List ℕ → GplState
 program bytes = start bytes 0
 
 -- the pc and some cells; some bytes of video memory; the video registers
-abbrev cells_of : List ℕ → Result GplState Reason → Result (List ℕ) Reason
+abbrev pub cells_of : List ℕ → Result GplState Reason → Result (List ℕ) Reason
 cells_of offsets r = r >>= λ s. Ok (s.pc ∷ map (slice_index s.cells) offsets)
 
 abbrev video_of : List ℕ → Result GplState Reason → Result (List ℕ) Reason

@@ -88,6 +88,7 @@ divided width at dividend divisor c =
 
 -- The bits that come in from the left as a number is shifted to the right: copies of its sign bit, zeros, or copies of
 -- the number. GPL Programmer's Guide, the shifts.
+-- Profile: a byte is shifted in eight bits, and SRC turns to the right.
 abbrev pub repeated_sign : Width → ℕ → ℕ
 repeated_sign width number = if nat_lt number (half width) then 0 else 0xFFFF
 

@@ -56,10 +56,11 @@ width_of true = Word
 width_of false = Byte
 
 -- COND is set where a bit of the status is, or cleared. GPL Programmer's Guide, H, GT, CARRY and OVF.
+-- Profile: no other bit changes.
 abbrev pub with_tested : ℕ → Changes → Changes
 with_tested bit c = with_condition (is_set (status_of c.state) bit) c
 
--- The operations without operand.
+-- The operations without operand. Profile: RTN clears COND, and RTNC keeps it.
 abbrev pub plain : PlainOp → Changes → Result Changes Reason
 plain RTN c = returned c >>= λ c. Ok (with_condition false c)
 plain RTNC c = returned c
@@ -85,6 +86,7 @@ jump CALL to c = called to c
 
 -- The operations on one operand: its place and its value.
 -- GPL Programmer's Guide, the statements with one operand.
+-- Profile: which status bits they set; CZ sets COND or clears it, and changes no other bit.
 abbrev pub one : OneName → Width → Place → ℕ → Changes → Result Changes Reason
 one ABS width at x c = Ok (made_absolute width at x c)
 one NEG width at x c = Ok (negated width at x c)

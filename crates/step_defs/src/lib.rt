@@ -3,9 +3,11 @@
 #![tactic(auto)]
 
 mod cells;
+mod laws;
 mod reason;
 
 pub use cells::{
     CHARACTER, COLUMN, RANDOM, RETURN_STACK, ROW, SEED, STATUS, VALUE_STACK, VISIBLE_CELLS,
 };
+pub use laws::{runs_are_steps, steps_keep_states};
 pub use reason::Reason;
