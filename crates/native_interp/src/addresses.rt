@@ -1,5 +1,8 @@
 //! Addresses in the interpreter.
 
+/// The interpreter's workspace: the address of its register 0.
+pub const WORKSPACE: u16 = 0x83E0;
+
 /// The interpreter begins here, with the entry of the GPL program in register 0.
 pub const GBOOT: u16 = 0x2274;
 

@@ -10,7 +10,7 @@ mod words;
 pub use addresses::{
     ADDR, APTR, ASPACE, BAD, FETCH, GBOOT, GEXIT, GO, GOB, GOEXIT, GOTO, GSTEP, GSTOP, INDEX,
     LDATA, LOAD, OPS, OPTAB, OPVAL, ROW, SDATA, SEEK, SHOW, SHOWN, SREG, STK, STO, STORE, STREAM,
-    STV, TABLE, UNIT, UNKN, WHERE,
+    STV, TABLE, UNIT, UNKN, WHERE, WORKSPACE,
 };
 pub use laws::{
     codes_are_dispatched, entries_come_first, lines_are_in_form, routines_stand,

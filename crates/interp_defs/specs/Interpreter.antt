@@ -1,0 +1,27 @@
+-- A memory that holds the interpreter, and the registers that the interpreter works with.
+use Rattle.std.specs.Prelude.{◌≡◌, ◌<◌, ℕ, ◌*◌, List, [], ◌∷◌, length, slice_index}
+use Rattle.console_defs.specs.Bytes.{word_in}
+use Rattle.console_defs.specs.Accesses.{Gives}
+use Rattle.console_defs.specs.Operand.{register_in}
+use Rattle.console_defs.specs.Memory.{Memory, word_read}
+use Rattle.native_interp.specs.declared.addresses.TheConstants.{WORKSPACE}
+use Rattle.native_interp.specs.declared.words.TheConstants.{INTERP}
+
+-- The interpreter's words stand from >2000 on, where low expansion memory begins.
+abbrev pub HoldsInterpreter : List ℕ → Type 0
+HoldsInterpreter bytes =
+    (number : ℕ) → number < length INTERP → word_in bytes (2 * number) ≡ slice_index INTERP number
+
+-- A register of the interpreter's workspace holds a word.
+abbrev pub HoldsRegister : Memory → ℕ → ℕ → Type 0
+HoldsRegister memory number word = word_read memory (register_in WORKSPACE number) ≡ Gives word
+
+-- The registers that hold a constant wherever a step begins, with their words. Profile: there is none, since the words
+-- of the interpreter name the ports by their addresses.
+abbrev pub constants : List (ℕ × ℕ)
+constants = []
+
+abbrev pub HoldsConstants : Memory → List (ℕ × ℕ) → Type 0
+HoldsConstants memory [] = Unit {0}
+HoldsConstants memory (constant ∷ others) =
+    HoldsRegister memory constant.0 constant.1 × HoldsConstants memory others

@@ -1,0 +1,5 @@
+pub mod Interpreter
+pub mod Match
+pub mod Runs
+pub mod Boot
+pub mod Turns

@@ -1,0 +1,25 @@
+-- The turns of the interpreter: from the beginning of a step to the next of its ends.
+use Rattle.std.specs.Prelude.{◌≡◌, ◌<◌, ℕ, zero, suc, ◌+◌, true, false, eqb}
+use Rattle.console_defs.specs.Accesses.{Gives}
+use Rattle.console_defs.specs.Machine.{MachineState, steps}
+use Rattle.native_interp.specs.declared.addresses.TheConstants.{GSTEP}
+use Rattle.interp_defs.specs.Runs.{Runs, is_end}
+
+-- From its start the interpreter comes to its first step: so many instructions are the least after which the program
+-- counter is there.
+pub record Boots (count : ℕ) (x y : MachineState) : Type 0 where
+  pub leads : steps count x ≡ Gives y
+  pub there : y.cpu.pc ≡ GSTEP
+  pub first : (before : ℕ) → before < count → (z : MachineState) → steps before x ≡ Gives z → eqb z.cpu.pc GSTEP ≡ false
+
+-- From an end it comes to the next one: so many instructions, one at least, are the least after which it is there.
+pub record IsTurn (count : ℕ) (x y : MachineState) : Type 0 where
+  pub some : 0 < count
+  pub runs : Runs count x y
+  pub there : is_end y.cpu.pc ≡ true
+
+-- The machine after so many turns, which so many instructions have led to from the start.
+abbrev pub IsAfter : ℕ → ℕ → MachineState → MachineState → Type 0
+IsAfter zero count x y = Boots count x y
+IsAfter (suc turns) count x y =
+    (z : MachineState) × (earlier : ℕ) × (turn : ℕ) × IsAfter turns earlier x z × IsTurn turn z y × (count ≡ earlier + turn)

@@ -1,0 +1,3 @@
+pub mod View
+pub mod Exits
+pub mod Running

@@ -1,0 +1,44 @@
+-- Steps up to the end of a piece.
+use Rattle.std.specs.Prelude.{ℕ, zero, suc, ◌/◌, Bool, true, false, ◌||◌, eqb, List, if◌then◌else◌}
+use Rattle.std.specs.List.{list_any}
+use Rattle.console_defs.specs.Machine.{MachineState, machine_step}
+use Rattle.console_defs.specs.declared.ends.StepEnd.{StepEnd}
+use Rattle.console_defs.specs.declared.ends.StepEnd.TheVariants.{Done, Refused, Port}
+use Rattle.interp_defs.specs.Runs.{is_end}
+
+-- B at the address in a register, which has this code. TMS9900 data manual, "Branch".
+abbrev pub is_branch_by_register : ℕ → Bool
+is_branch_by_register word = eqb (word / 16) 0x045
+
+-- A piece ends with a branch by a register, at one of the interpreter's three ends, and at the ends of its own.
+abbrev pub ends_piece : List ℕ → ℕ → ℕ → Bool
+ends_piece ends word pc = is_branch_by_register word || (is_end pc || list_any (eqb pc) ends)
+
+-- The step is the last of a piece: it ends the piece, or executes no instruction.
+abbrev pub is_last : List ℕ → StepEnd → ℕ → Bool
+is_last ends (Done word) pc = ends_piece ends word pc
+is_last ends (Refused address) pc = true
+is_last ends (Port address) pc = true
+
+-- how many instructions a step executes
+abbrev pub executed_by : StepEnd → ℕ
+executed_by (Done word) = 1
+executed_by (Refused address) = 0
+executed_by (Port address) = 0
+
+-- What a run is: how many instructions it executed, and the machine after them.
+pub record Ran : Type 0 where
+  pub count : ℕ
+  pub left : MachineState
+
+abbrev pub one_more : Ran → Ran
+one_more r = record r { count = suc r.count }
+
+-- At most so many steps, up to the last of a piece.
+unfoldable pub ran : List ℕ → ℕ → MachineState → Ran
+ran ends zero x = record { count = 0; left = x }
+ran ends (suc most) x =
+    let stepped = machine_step x in
+    if is_last ends stepped.0 stepped.1.cpu.pc
+    then record { count = executed_by stepped.0; left = stepped.1 }
+    else one_more (ran ends most stepped.1)
