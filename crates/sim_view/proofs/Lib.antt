@@ -6,3 +6,4 @@ pub mod Places
 pub mod Simulates
 pub mod Following
 pub mod Bridge
+pub mod Parts

@@ -1,0 +1,233 @@
+-- What the pieces of the subroutines come to: how many instructions they have, where they end, and what they change of the
+-- view, in the words of the processor. Registers, cells and ports that are not named stay.
+use Rattle.std.specs.Prelude.{ℕ, ◌+◌, ◌==◌, Bool, true, false, not, ◌&&◌, nat_lt, if◌then◌else◌, List, slice_index}
+use Rattle.std.specs.Prelude.{slice_set}
+use Rattle.console_defs.specs.Words.{high, low, join, even}
+use Rattle.console_defs.specs.Bytes.{word_in}
+use Rattle.console_defs.specs.Flags.{Word, sum_of}
+use Rattle.console_defs.specs.Logic.{swapped}
+use Rattle.console_defs.specs.Shifts.{shifted, last_out}
+use Rattle.console_defs.specs.Vdp.{VdpState, vdp_address_written, vdp_data_read, vdp_data_written}
+use Rattle.console_defs.specs.Grom.{GromState, grom_data_read, grom_address_written}
+use Rattle.console_defs.specs.declared.instruction.ShiftOp.TheVariants.{SRL, SLA}
+use Rattle.native_interp.specs.declared.addresses.TheConstants.{
+  GSTOP,
+  BAD,
+  APTR,
+  INDEX,
+  ASPACE,
+  LDATA,
+  STREAM,
+  SDATA,
+  SREG,
+}
+use Rattle.sim_view.specs.View.{View}
+use Rattle.sim_view.specs.Exits.{Exit}
+
+abbrev pub exit : ℕ → ℕ → View → Exit
+exit count to left = record { count = count; to = to; left = left }
+
+-- where a subroutine returns to
+abbrev pub return_of : View → ℕ
+return_of v = even v.r.r11
+
+-- the ports after the next byte was read
+abbrev pub past : GromState → GromState
+past grom = (grom_data_read grom).1
+
+abbrev pub past_video : VdpState → VdpState
+past_video vdp = (vdp_data_read vdp).1
+
+-- the ports after a word was written to their address ports; the GROMs take its high byte first, the video processor
+-- its low byte
+abbrev pub set_to : ℕ → GromState → GromState
+set_to word grom = grom_address_written (grom_address_written grom (high word)) (low word)
+
+abbrev pub set_video_to : ℕ → VdpState → VdpState
+set_video_to word vdp = vdp_address_written (vdp_address_written vdp (low word)) (high word)
+
+-- FETCH: the next byte of GROM comes into the high half of register 6.
+abbrev pub fetch : View → Exit
+fetch v = exit 3 (return_of v) (record v { r = record v.r { r6 = join v.grom.fetched 0 }; grom = past v.grom })
+
+-- SEEK: GROM is set to the address in register 6, whose bytes are swapped.
+abbrev pub seek : View → Exit
+seek v = exit 4 (return_of v) (record v { r = record v.r { r6 = swapped v.r.r6 }; grom = set_to v.r.r6 v.grom })
+
+-- The stop by reason 2.
+abbrev pub bar : View → Exit
+bar v = exit 1 GSTOP (record v { r = record v.r { r0 = 2 } })
+
+-- ADDR: the first byte of an operand is read, and its address in one byte, in twelve bits or in sixteen.
+abbrev pub one_byte_address : ℕ → View → Exit
+one_byte_address first v =
+    exit 8 APTR (record v { r = record v.r { r2 = shifted SRL (shifted SLA first 1) 9; r5 = 0 }; grom = past v.grom })
+
+abbrev pub twelve_bit_address : ℕ → ℕ → View → Exit
+twelve_bit_address first base v =
+    let second = past v.grom in
+    exit 12 APTR (record v {
+      r = record v.r { r2 = sum_of Word base second.fetched; r4 = second.fetched; r5 = first };
+      grom = past second;
+    })
+
+abbrev pub sixteen_bit_address : ℕ → ℕ → View → Exit
+sixteen_bit_address first base v =
+    let second = past v.grom in
+    let third = past second in
+    exit 13 APTR (record v {
+      r = record v.r {
+        r2 = sum_of Word (join second.fetched (low base)) third.fetched;
+        r4 = third.fetched;
+        r5 = first;
+      };
+      grom = past third;
+    })
+
+abbrev pub address : View → Exit
+address v =
+    let first = join v.grom.fetched 0 in
+    let base = shifted SRL (shifted SLA (shifted SLA first 1) 3) 4 in
+    if last_out SLA first 1
+    then (if base == 0x0F00 then sixteen_bit_address first base v else twelve_bit_address first base v)
+    else one_byte_address first v
+
+-- APTR: the form of the operand comes down in register 5; where the operand is indirect, the address is that of a pointer,
+-- which is read if it may be.
+abbrev pub pointer : View → Exit
+pointer v =
+    let told = record v { r = record v.r { r5 = shifted SRL v.r.r5 13 } } in
+    if last_out SRL v.r.r5 13
+    then (
+      if nat_lt 0xC0 v.r.r2
+      then exit 4 BAD told
+      else if v.r.r2 == 0x7C
+      then exit 6 BAD told
+      else exit 10 INDEX (record told {
+        r = record told.r {
+          r2 = word_in v.cells v.r.r2;
+          r4 = join (slice_index v.cells v.r.r2) (low v.r.r4);
+        };
+      })
+    )
+    else exit 2 INDEX told
+
+-- INDEX: where the operand has an index, its byte is read, and the word at it is added to the address if it may be.
+abbrev pub index : View → Exit
+index v =
+    if last_out SRL v.r.r5 2
+    then (
+      let offset = v.grom.fetched in
+      if nat_lt 0xC0 offset
+      then exit 7 BAD (record v { r = record v.r { r4 = offset }; grom = past v.grom })
+      else exit 12 ASPACE (record v {
+        r = record v.r {
+          r2 = sum_of Word v.r.r2 (word_in v.cells offset);
+          r4 = word_in v.cells offset;
+          r6 = join (slice_index v.cells offset) (low v.r.r6);
+        };
+        grom = past v.grom;
+      })
+    )
+    else exit 3 ASPACE (record v { r = record v.r { r4 = shifted SRL v.r.r5 2 } })
+
+-- ASPACE: register 5 becomes the space; in the cells, the range must be visible.
+abbrev pub range : View → Exit
+range v =
+    let space = shifted SRL (shifted SLA v.r.r5 15) 15 in
+    let told = record v { r = record v.r { r5 = space } } in
+    let end = sum_of Word v.r.r3 v.r.r2 in
+    if space == 0
+    then (
+      if nat_lt 0xC2 v.r.r2
+      then exit 5 BAD told
+      else exit (if nat_lt 0xC2 end then 9 else 10) (if nat_lt 0xC2 end then BAD else return_of v)
+          (record told { r = record told.r { r4 = end } })
+    )
+    else exit 4 (return_of v) told
+
+-- LOAD: a value of the cells is read, or the video processor is set to its address, or the value is that of STREAM.
+abbrev pub load : View → Exit
+load v =
+    if v.r.r5 == 1
+    then (
+      let at = shifted SRL (shifted SLA v.r.r2 2) 2 in
+      exit 9 LDATA (record v { r = record v.r { r4 = at }; vdp = set_video_to at v.vdp })
+    )
+    else if nat_lt 1 v.r.r5
+    then exit 3 STREAM v
+    else if v.r.r3 == 1
+    then exit 8 (return_of v) (record v { r = record v.r { r6 = join (slice_index v.cells v.r.r2) 0 } })
+    else exit 10 (return_of v) (record v { r = record v.r { r6 = word_in v.cells v.r.r2 } })
+
+-- LDATA: a value of video memory is read.
+abbrev pub load_video : View → Exit
+load_video v =
+    let second = past_video v.vdp in
+    if v.r.r3 == 1
+    then exit 5 (return_of v) (record v { r = record v.r { r6 = join v.vdp.fetched 0 }; vdp = second })
+    else exit 8 (return_of v)
+        (record v { r = record v.r { r6 = join v.vdp.fetched second.fetched }; vdp = past_video second })
+
+-- STREAM: a value of the bytes that follow in GROM is read.
+abbrev pub stream : View → Exit
+stream v =
+    let second = past v.grom in
+    if v.r.r3 == 1
+    then exit 5 (return_of v) (record v { r = record v.r { r6 = join v.grom.fetched 0 }; grom = second })
+    else exit 8 (return_of v)
+        (record v { r = record v.r { r6 = join v.grom.fetched second.fetched }; grom = past second })
+
+-- STORE: a value is stored in the cells, or the video processor is set to its address, or it goes on at SREG. Register 13
+-- marks a store at the character's cell.
+abbrev pub marked : ℕ → ℕ → ℕ → ℕ
+marked cell offset mark = if offset == cell then 0xFFFF else mark
+
+abbrev pub one_if : Bool → ℕ
+one_if true = 1
+one_if false = 0
+
+abbrev pub store_byte : View → Exit
+store_byte v =
+    exit (9 + one_if (v.r.r7 == 0x7D)) (return_of v) (record v {
+      r = record v.r { r13 = marked 0x7D v.r.r7 v.r.r13 };
+      cells = slice_set v.cells v.r.r7 (high v.r.r9);
+    })
+
+abbrev pub store_word : View → Exit
+store_word v =
+    exit (13 + (one_if (v.r.r7 == 0x7D) + one_if (v.r.r7 == 0x7C))) (return_of v) (record v {
+      r = record v.r { r9 = swapped v.r.r9; r13 = marked 0x7C v.r.r7 (marked 0x7D v.r.r7 v.r.r13) };
+      cells = slice_set (slice_set v.cells v.r.r7 (high v.r.r9)) (v.r.r7 + 1) (low v.r.r9);
+    })
+
+abbrev pub store : View → Exit
+store v =
+    if v.r.r8 == 1
+    then (
+      let at = sum_of Word (shifted SRL (shifted SLA v.r.r7 2) 2) 0x4000 in
+      exit 10 SDATA (record v { r = record v.r { r4 = at }; vdp = set_video_to at v.vdp })
+    )
+    else if nat_lt 1 v.r.r8
+    then exit 3 SREG v
+    else if v.r.r3 == 1
+    then store_byte v
+    else store_word v
+
+-- SDATA: a value is stored in video memory.
+abbrev pub store_video : View → Exit
+store_video v =
+    let first = vdp_data_written v.vdp (high v.r.r9) in
+    if v.r.r3 == 1
+    then exit 4 (return_of v) (record v { vdp = first })
+    else exit 6 (return_of v)
+        (record v { r = record v.r { r9 = swapped v.r.r9 }; vdp = vdp_data_written first (low v.r.r9) })
+
+-- SREG: a register of the video processor is set.
+abbrev pub store_register : View → Exit
+store_register v =
+    let pair = sum_of Word (swapped v.r.r7) 0x8000 in
+    exit 6 (return_of v) (record v {
+      r = record v.r { r4 = pair };
+      vdp = vdp_address_written (vdp_address_written v.vdp (high v.r.r9)) (high pair);
+    })
