@@ -22,10 +22,7 @@ use Rattle.std.proofs.lemmas.Bool.{eqb-true}
 pub fetch : (v : View) → Leads [] v 0x22E4 (pieces.fetch v)
 fetch v = record { by = λ f q. refl }
 
-pub bar : (v : View) → Leads [] v 0x22B4 (pieces.bar v)
-bar v = record { by = λ f q. refl }
-
-pub range : (v : View) → Leads (0x22B4 ∷ []) v 0x2350 (pieces.range v)
+pub range : (v : View) → Leads [] v 0x2350 (pieces.range v)
 range v = record {
   by = λ f q.
       pick (shifted SRL (shifted SLA v.r.r5 15) 15 == 0)
@@ -84,7 +81,7 @@ address v i =
         (λ d. rest_is (rw (c, d, pieces.address) refl) (part_then (0x2314 ∷ []) 5 0 11 (address_long v c) (part_then (0x2314 ∷ []) 4 5 7 (address_twelve v d) (twelve_low v i)))))
     (λ c. rest_is (rw (c, pieces.address) refl) (address_short v c)))
 
-pub pointer : (v : View) → IsView v → Leads (0x2330 ∷ 0x22B4 ∷ []) v 0x2314 (pieces.pointer v)
+pub pointer : (v : View) → IsView v → Leads (0x2330 ∷ []) v 0x2314 (pieces.pointer v)
 pointer v i = record {
   by = λ f q.
       pick (last_out SRL v.r.r5 13)
@@ -106,16 +103,16 @@ with_form v = record v { r = record v.r { r4 = shifted SRL v.r.r5 2 } }
 abbrev with_offset : View → View
 with_offset v = record v { r = record v.r { r4 = v.grom.fetched }; grom = past v.grom }
 
-index_some : (v : View) → last_out SRL v.r.r5 2 ≡ true → Part (0x2350 ∷ 0x22B4 ∷ []) 3 v 0x2330 (with_form v) 0x2336
+index_some : (v : View) → last_out SRL v.r.r5 2 ≡ true → Part (0x2350 ∷ []) 3 v 0x2330 (with_form v) 0x2336
 index_some v c = record { by = λ f. rw c refl }
 
-index_near : (v : View) → IsView v → nat_lt 0xC0 v.grom.fetched ≡ false → Part (0x2350 ∷ 0x22B4 ∷ []) 4 (with_form v) 0x2336 (with_offset v) 0x2342
+index_near : (v : View) → IsView v → nat_lt 0xC0 v.grom.fetched ≡ false → Part (0x2350 ∷ []) 4 (with_form v) 0x2336 (with_offset v) 0x2342
 index_near v i d = record { by = λ f. rw (down v.grom.fetched (low (shifted SRL v.r.r5 2)) i.grom.fetched (omega arith), d) refl }
 
 abbrev index_barred : View → Exit
-index_barred v = pieces.exit 7 0x22B4 (with_offset v)
+index_barred v = pieces.barred 8 (with_offset v)
 
-index_far : (v : View) → IsView v → nat_lt 0xC0 v.grom.fetched ≡ true → Rest (0x2350 ∷ 0x22B4 ∷ []) 3 13 (with_form v) 0x2336 (index_barred v)
+index_far : (v : View) → IsView v → nat_lt 0xC0 v.grom.fetched ≡ true → Rest (0x2350 ∷ []) 3 13 (with_form v) 0x2336 (index_barred v)
 index_far v i d = record { by = λ f. rw (down v.grom.fetched (low (shifted SRL v.r.r5 2)) i.grom.fetched (omega arith), d, not_limit 0xC0 v.grom.fetched d) refl }
 
 abbrev index_added : View → Exit
@@ -130,7 +127,7 @@ index_added v =
       grom = past v.grom;
     })
 
-index_word : (v : View) → IsView v → nat_lt 0xC0 v.grom.fetched ≡ false → Rest (0x2350 ∷ 0x22B4 ∷ []) 7 9 (with_offset v) 0x2342 (index_added v)
+index_word : (v : View) → IsView v → nat_lt 0xC0 v.grom.fetched ≡ false → Rest (0x2350 ∷ []) 7 9 (with_offset v) 0x2342 (index_added v)
 index_word v i d = record {
   by = λ f.
       let offset = v.grom.fetched in
@@ -140,16 +137,16 @@ index_word v i d = record {
       rw (first, second, word_down (slice_index v.cells offset) (slice_index v.cells (offset + 1)) v.r.r6 offset (i.cells offset) (i.cells (offset + 1)) (i.r 6) (omega arith)) refl;
 }
 
-index_none : (v : View) → last_out SRL v.r.r5 2 ≡ false → Rest (0x2350 ∷ 0x22B4 ∷ []) 0 16 v 0x2330 (pieces.exit 3 0x2350 (with_form v))
+index_none : (v : View) → last_out SRL v.r.r5 2 ≡ false → Rest (0x2350 ∷ []) 0 16 v 0x2330 (pieces.exit 3 0x2350 (with_form v))
 index_none v c = record { by = λ f. rw c refl }
 
-pub index : (v : View) → IsView v → Leads (0x2350 ∷ 0x22B4 ∷ []) v 0x2330 (pieces.index v)
+pub index : (v : View) → IsView v → Leads (0x2350 ∷ []) v 0x2330 (pieces.index v)
 index v i =
-    leads (0x2350 ∷ 0x22B4 ∷ [])
+    leads (0x2350 ∷ [])
     (pick (last_out SRL v.r.r5 2)
     (λ c. pick (nat_lt 0xC0 v.grom.fetched)
-        (λ d. rest_is (rw (c, d, pieces.index) refl) (part_then (0x2350 ∷ 0x22B4 ∷ []) 3 0 13 (index_some v c) (index_far v i d)))
-        (λ d. rest_is (rw (c, d, pieces.index) refl) (part_then (0x2350 ∷ 0x22B4 ∷ []) 3 0 13 (index_some v c) (part_then (0x2350 ∷ 0x22B4 ∷ []) 4 3 9 (index_near v i d) (index_word v i d)))))
+        (λ d. rest_is (rw (c, d, pieces.index) refl) (part_then (0x2350 ∷ []) 3 0 13 (index_some v c) (index_far v i d)))
+        (λ d. rest_is (rw (c, d, pieces.index) refl) (part_then (0x2350 ∷ []) 3 0 13 (index_some v c) (part_then (0x2350 ∷ []) 4 3 9 (index_near v i d) (index_word v i d)))))
     (λ c. rest_is (rw (c, pieces.index) refl) (index_none v c)))
 
 -- LOAD

@@ -12,7 +12,6 @@ use Rattle.console_defs.specs.Grom.{GromState, grom_data_read, grom_address_writ
 use Rattle.console_defs.specs.declared.instruction.ShiftOp.TheVariants.{SRL, SLA}
 use Rattle.native_interp.specs.declared.addresses.TheConstants.{
   GSTOP,
-  BAD,
   APTR,
   INDEX,
   ASPACE,
@@ -54,9 +53,9 @@ fetch v = exit 3 (return_of v) (record v { r = record v.r { r6 = join v.grom.fet
 abbrev pub seek : View → Exit
 seek v = exit 4 (return_of v) (record v { r = record v.r { r6 = swapped v.r.r6 }; grom = set_to v.r.r6 v.grom })
 
--- The stop by reason 2.
-abbrev pub bar : View → Exit
-bar v = exit 1 GSTOP (record v { r = record v.r { r0 = 2 } })
+-- The stop by reason 2: as many instructions, the last of which leads to GSTOP, and the view with the reason.
+abbrev pub barred : ℕ → View → Exit
+barred count v = exit count GSTOP (record v { r = record v.r { r0 = 2 } })
 
 -- ADDR: the first byte of an operand is read, and its address in one byte, in twelve bits or in sixteen.
 abbrev pub one_byte_address : ℕ → View → Exit
@@ -100,9 +99,9 @@ pointer v =
     if last_out SRL v.r.r5 13
     then (
       if nat_lt 0xC0 v.r.r2
-      then exit 4 BAD told
+      then barred 5 told
       else if v.r.r2 == 0x7C
-      then exit 6 BAD told
+      then barred 7 told
       else exit 10 INDEX (record told {
         r = record told.r {
           r2 = word_in v.cells v.r.r2;
@@ -119,7 +118,7 @@ index v =
     then (
       let offset = v.grom.fetched in
       if nat_lt 0xC0 offset
-      then exit 7 BAD (record v { r = record v.r { r4 = offset }; grom = past v.grom })
+      then barred 8 (record v { r = record v.r { r4 = offset }; grom = past v.grom })
       else exit 12 ASPACE (record v {
         r = record v.r {
           r2 = sum_of Word v.r.r2 (word_in v.cells offset);
@@ -139,10 +138,12 @@ range v =
     let end = sum_of Word v.r.r3 v.r.r2 in
     if space == 0
     then (
+      let added = record told { r = record told.r { r4 = end } } in
       if nat_lt 0xC2 v.r.r2
-      then exit 5 BAD told
-      else exit (if nat_lt 0xC2 end then 9 else 10) (if nat_lt 0xC2 end then BAD else return_of v)
-          (record told { r = record told.r { r4 = end } })
+      then barred 6 told
+      else if nat_lt 0xC2 end
+      then barred 10 added
+      else exit 10 (return_of v) added
     )
     else exit 4 (return_of v) told
 
