@@ -18,16 +18,11 @@ use Rattle.step_defs.specs.Place.{Place, pointed, indexed, ranged, is_visible}
 use Rattle.sim_view.specs.View.{View}
 use Rattle.sim_view.specs.Exits.{Exit}
 use Rattle.sim_view.proofs.Places.{pick}
+use Rattle.sim_view.proofs.Compose.{Goes}
 use Rattle.sim_operands.specs.Pieces as pieces
 use Rattle.sim_operands.specs.Pieces.{past}
 use Rattle.sim_operands.specs.Values.{number_of_space}
 use Rattle.sim_operands.specs.Subroutines.{state_of, grom_at, Addressed, Placed, Barred}
-
--- How a piece ends: within so many instructions, at an address, with a view of which something holds.
-pub record Goes (e : Exit) (most to : ℕ) (Holds : View → Type 0) : Type 0 where
-  pub within : e.count ≤ most
-  pub to_is : e.to ≡ to
-  pub holds : Holds e.left
 
 -- What holds of an answer of a definition: something of its value, or of a stop by the cells.
 abbrev pub Answers : {X : Type 0} → Result X Reason → (X → Type 0) → Type 0 → Type 0

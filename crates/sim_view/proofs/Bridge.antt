@@ -4,12 +4,15 @@ use Rattle.std.proofs.lemmas.List.{get_or-drop, get_or-take, get_or_past, take_a
 use Rattle.std.proofs.lemmas.Bool.{cases_lt}
 use Rattle.std.proofs.Math.ListN.{take-append-drop}
 use Rattle.std.specs.Prelude.{slice_index}
+use Rattle.console_defs.specs.Words.{join, even}
+use Rattle.console_defs.specs.Bytes.{word_in}
+use Rattle.console_defs.proofs.MemoryLaws.{region_scratchpad}
 use Rattle.console_defs.specs.Status.{IsStatus}
 use Rattle.console_defs.specs.Vdp.{VdpState, IsVdp}
 use Rattle.console_defs.specs.Grom.{GromState, IsGrom}
 use Rattle.console_defs.specs.Accesses.{Answer, Gives, ◌>>=◌}
-use Rattle.console_defs.specs.Operand.{Cpu}
-use Rattle.console_defs.specs.Memory.{Memory, IsMemory}
+use Rattle.console_defs.specs.Operand.{Cpu, register_in}
+use Rattle.console_defs.specs.Memory.{Memory, IsMemory, Region, Scratchpad, region, word_read}
 use Rattle.console_defs.specs.Machine.{MachineState, IsMachine}
 use Rattle.console_defs.specs.declared.status.Status.{Status}
 use Rattle.interp_defs.specs.Interpreter.{HoldsInterpreter}
@@ -18,7 +21,7 @@ use Rattle.sim_view.specs.View.{View, Registers, listed, relisted, words_of, vie
 use Rattle.sim_view.specs.Exits.{Exit, Exits}
 use Rattle.sim_view.specs.Running.{Ran, ran}
 use Rattle.sim_view.proofs.Answers.{given, given_by}
-use Rattle.sim_view.proofs.Lists.{listed-relisted, spell-words, length-words, words-spell}
+use Rattle.sim_view.proofs.Lists.{double_suc, listed-relisted, spell-words, length-words, words-spell}
 use Rattle.sim_view.proofs.Seen.{spell, seen_run}
 use Rattle.sim_view.proofs.Simulates.{Shows, carry}
 use Rattle.sim_view.proofs.Following.{machine, Followed, followed}
@@ -145,3 +148,30 @@ pub record IsView (v : View) : Type 0 where
 
 pub is_view : (x : MachineState) → IsMachine x → IsView (view x)
 is_view x h = record { r = regs_of x.cpu.memory h.memory; cells = cells_of x.cpu.memory h.memory; vdp = vdp_of x.cpu.memory h.memory; grom = grom_of x.cpu.memory h.memory }
+
+-- ---- registers that the code reads
+
+words_at : (n : ℕ) (bs : List ℕ) (k : ℕ) → length bs ≡ 2 * n → k < n → get_or (words_of bs) k 0 ≡ join (get_or bs (2 * k) 0) (get_or bs (suc (2 * k)) 0)
+words_at zero bs k q h = absurd (omega arith)
+words_at (suc n) [] k q h = absurd (omega arith)
+words_at (suc n) (b ∷ []) k q h = absurd (omega arith)
+words_at (suc n) (b ∷ d ∷ bs) zero q h = refl
+words_at (suc n) (b ∷ d ∷ bs) (suc k) q h = rw (double_suc k) (words_at n bs k (omega arith) (omega arith))
+
+reg_word : (m : Memory) (k : ℕ) → IsMemory m → k < 16 → get_or (listed (view_of m).r) k 0 ≡ word_in m.scratchpad (224 + 2 * k)
+unfolding view_of
+reg_word m k h b =
+    let bytes : List ℕ = drop 194 m.scratchpad in
+    let n : length bytes ≡ 62 = let l = h.scratchpad.size in omega (arith, length-drop 194 m.scratchpad) in
+    let w : length (words_of bytes) ≡ 31 = length-words 31 bytes n in
+    let d : length (drop 15 (words_of bytes)) ≡ 16 = omega (arith, length-drop 15 (words_of bytes)) in
+    let e : 194 + 2 * (15 + k) ≡ 224 + 2 * k = omega arith in
+    let f : 194 + suc (2 * (15 + k)) ≡ 224 + 2 * k + 1 = omega arith in
+    ap (λ (l : List ℕ). get_or l k 0) (listed-relisted (drop 15 (words_of bytes)) d) ∙ get_or-drop 15 (words_of bytes) k 0 ∙ words_at 31 bytes (15 + k) n (omega arith) ∙ rw (get_or-drop 194 m.scratchpad (2 * (15 + k)) 0, get_or-drop 194 m.scratchpad (suc (2 * (15 + k))) 0, e, f) refl
+
+pub register_is : (m : Memory) (wp k w : ℕ) → IsMemory m → wp ≡ 0x83E0 → k < 16 → Gives w ≡ word_read m (register_in wp k) → w ≡ get_or (listed (view_of m).r) k 0
+register_is m wp k w h p b e =
+    let a : even (register_in 0x83E0 k) ≡ 0x83E0 + 2 * k = omega arith in
+    let g : region (0x83E0 + 2 * k) ≡ Scratchpad (224 + 2 * k) = region_scratchpad (0x83E0 + 2 * k) (omega arith) (omega arith) ∙ ap Scratchpad (omega arith) in
+    let f : word_read m (register_in 0x83E0 k) ≡ Gives (word_in m.scratchpad (224 + 2 * k)) = rw (a, g) refl in
+    given w _ (e ∙ ap (λ (n : ℕ). word_read m (register_in n k)) p ∙ f) ∙ sym (reg_word m k h b)

@@ -7,3 +7,4 @@ pub mod Simulates
 pub mod Following
 pub mod Bridge
 pub mod Parts
+pub mod Compose

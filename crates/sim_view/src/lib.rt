@@ -2,6 +2,8 @@
 //! interpreter.
 #![tactic(auto)]
 
+mod registers;
 mod run;
 
-pub use run::run_piece;
+pub use registers::register;
+pub use run::{PIECE, run_piece};

@@ -1,0 +1,58 @@
+-- The ports at the entry of a subroutine.
+use Rattle.std.proofs.Common.{◌≡◌, ℕ, ◌+◌, ◌*◌, ◌/◌, ◌%◌, ◌<◌, Bool, true, false, refl, sym, ap, ◌∙◌, arith, Option, Some, None}
+use Rattle.std.specs.Prelude.{not, is_none, slice_index}
+use Rattle.console_defs.specs.Words.{high, low, join}
+use Rattle.console_defs.specs.Vdp.{VdpState, is_vdp_idle}
+use Rattle.console_defs.specs.Grom.{GromState, is_grom_idle, next_in_grom, previous_in_grom}
+use Rattle.console_defs.proofs.GromLaws.{next-previous}
+use Rattle.console_defs.specs.Memory.{Memory}
+use Rattle.interp_defs.specs.Match.{PortsAreIdle, IsFetched}
+use Rattle.sim_view.specs.View.{View, view_of}
+use Rattle.sim_view.specs.Exits.{Exit}
+use Rattle.sim_operands.specs.Pieces as pieces
+use Rattle.sim_operands.specs.Pieces.{past, set_to}
+use Rattle.sim_operands.specs.Subroutines.{grom_at, next_at, fetched, sought}
+
+not_true : (b : Bool) → not b ≡ true → b ≡ false
+not_true true e = absurd (cc)
+not_true false e = refl
+
+none_is : (held : Option ℕ) → is_none held ≡ true → held ≡ None
+none_is None e = refl
+none_is (Some byte) e = absurd (cc)
+
+grom_ready : (g : GromState) → is_grom_idle g ≡ true → IsFetched g → g ≡ grom_at g.image (previous_in_grom g.counter)
+grom_ready g idle is =
+    let made : ℕ → ℕ → Bool → GromState = λ c f h. record { image = g.image; counter = c; fetched = f; half_written = h } in
+    let at = previous_in_grom g.counter in
+    ap (λ c. made c g.fetched g.half_written) (sym (next-previous g.counter))
+    ∙ ap (λ f. made (next_in_grom at) f g.half_written) is
+    ∙ ap (λ h. made (next_in_grom at) (slice_index g.image at) h) (not_true g.half_written idle)
+
+-- The GROMs of a machine that is ready for a subroutine give the byte at their address next.
+pub ready : (m : Memory) → PortsAreIdle m → IsFetched m.grom → (view_of m).grom ≡ grom_at (view_of m).grom.image (next_at (view_of m))
+unfolding view_of
+ready m idle is = grom_ready m.grom idle.grom is
+
+pub idle_grom : (m : Memory) → PortsAreIdle m → (view_of m).grom.half_written ≡ false
+unfolding view_of
+idle_grom m idle = not_true m.grom.half_written idle.grom
+
+pub idle_video : (m : Memory) → PortsAreIdle m → (view_of m).vdp.held ≡ None
+unfolding view_of
+idle_video m idle = none_is m.vdp.held idle.vdp
+
+pub fetches : (v : View) → v.grom ≡ grom_at v.grom.image (next_at v) → pieces.fetch v ≡ fetched v
+fetches v e =
+    let left : GromState → Exit = λ g. pieces.exit 3 (pieces.return_of v) (record v { r = record v.r { r6 = join g.fetched 0 }; grom = past g }) in
+    ap left e
+
+set_is : (g : GromState) (word : ℕ) → g.half_written ≡ false → word < 65536 → set_to word g ≡ grom_at g.image word
+set_is g word h k =
+    let j : 256 * ((256 * (word / 256) + g.counter % 256) / 256) + word % 256 ≡ word = omega arith in
+    rw (h, j) refl
+
+pub seeks : (v : View) → v.grom.half_written ≡ false → v.r.r6 < 65536 → pieces.seek v ≡ sought v
+seeks v h k =
+    let left : GromState → Exit = λ g. pieces.exit 4 (pieces.return_of v) (record v { r = record v.r { r6 = (sought v).left.r.r6 }; grom = g }) in
+    ap left (set_is v.grom v.r.r6 h k)

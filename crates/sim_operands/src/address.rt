@@ -1,0 +1,70 @@
+//! ADDR: the place of an operand.
+
+ghost use Rattle.std.specs.Prelude.{◌≡◌, ◌≤◌, eqb};
+ghost use Rattle.native_interp.specs.declared.addresses.TheConstants as address;
+ghost use Rattle.interp_defs.specs.Match.{PortsAreIdle, IsFetched};
+ghost use Rattle.sim_view.specs.View.{view, Stands};
+ghost use Rattle.sim_view.specs.Exits.{Exits};
+ghost use Rattle.sim_operands.specs.Pieces as piece;
+ghost use Rattle.sim_operands.specs.Subroutines.{FindsOperand};
+
+use native_interp::{APTR, ASPACE, INDEX};
+use sim_view::run_piece;
+use std::sync::ledger::Ledger;
+use tms_step::{Machine, Steps};
+
+/// The piece of ADDR that reads the first byte of an operand and its address.
+pub fn read_address<L: Ledger>(machine: &mut Machine, steps: &mut Steps<L>)
+    requires { Stands machine.old address.ADDR }
+    ensures { Exits machine.old machine.new steps.old steps.new (piece.address (view machine.old)) }
+{
+    run_piece(machine, steps, &[APTR]);
+}
+
+/// The piece of ADDR that reads the pointer of an indirect operand. Does it go on? If not, the machine stops by reason 2.
+pub fn read_pointer<L: Ledger>(machine: &mut Machine, steps: &mut Steps<L>) -> bool
+    requires { Stands machine.old address.APTR }
+    ensures exits { Exits machine.old machine.new steps.old steps.new (piece.pointer (view machine.old)) }
+    ensures went { result ≡ eqb (piece.pointer (view machine.old)).to address.INDEX }
+{
+    run_piece(machine, steps, &[INDEX]);
+    machine.pc() == INDEX
+}
+
+/// The piece of ADDR that adds the index. Does it go on? If not, the machine stops by reason 2.
+pub fn add_index<L: Ledger>(machine: &mut Machine, steps: &mut Steps<L>) -> bool
+    requires { Stands machine.old address.INDEX }
+    ensures exits { Exits machine.old machine.new steps.old steps.new (piece.index (view machine.old)) }
+    ensures went { result ≡ eqb (piece.index (view machine.old)).to address.ASPACE }
+{
+    run_piece(machine, steps, &[ASPACE]);
+    machine.pc() == ASPACE
+}
+
+/// The piece of ADDR that tells the space and checks the range. It returns, or the machine stops by reason 2.
+pub fn check_range<L: Ledger>(machine: &mut Machine, steps: &mut Steps<L>)
+    requires { Stands machine.old address.ASPACE }
+    ensures { Exits machine.old machine.new steps.old steps.new (piece.range (view machine.old)) }
+{
+    run_piece(machine, steps, &[]);
+}
+
+/// Runs ADDR: finds the place of the operand that follows in GROM, for as many bytes as register 3 says, in registers 2 and
+/// 5, or stops by reason 2. It takes at most 45 instructions, changes registers 4 and 6 too, leaves GROM behind the operand
+/// where there is a place, and comes to the address in register 11, or to GSTOP.
+pub fn run_address<L: Ledger>(machine: &mut Machine, steps: &mut Steps<L>)
+    requires stands { Stands machine.old address.ADDR }
+    requires idle { PortsAreIdle machine.old.cpu.memory }
+    requires fetched { IsFetched machine.old.cpu.memory.grom }
+    requires bytes { (view machine.old).r.r3 ≤ 16384 }
+    ensures { FindsOperand machine.old machine.new steps.old steps.new }
+{
+    read_address(machine, steps);
+    if !read_pointer(machine, steps) {
+        return;
+    }
+    if !add_index(machine, steps) {
+        return;
+    }
+    check_range(machine, steps);
+}

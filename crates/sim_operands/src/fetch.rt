@@ -1,0 +1,31 @@
+//! FETCH: the next GPL byte.
+
+ghost use Rattle.native_interp.specs.declared.addresses.TheConstants.{FETCH};
+ghost use Rattle.interp_defs.specs.Match.{PortsAreIdle, IsFetched};
+ghost use Rattle.sim_view.specs.View.{view, Stands};
+ghost use Rattle.sim_view.specs.Exits.{Exits};
+ghost use Rattle.sim_operands.specs.Pieces as piece;
+ghost use Rattle.sim_operands.specs.Subroutines.{fetched};
+
+use sim_view::run_piece;
+use std::sync::ledger::Ledger;
+use tms_step::{Machine, Steps};
+
+/// The piece of FETCH.
+pub fn fetch_byte<L: Ledger>(machine: &mut Machine, steps: &mut Steps<L>)
+    requires { Stands machine.old FETCH }
+    ensures { Exits machine.old machine.new steps.old steps.new (piece.fetch (view machine.old)) }
+{
+    run_piece(machine, steps, &[]);
+}
+
+/// Runs FETCH: the next GPL byte comes into the high half of register 6, with 0 below it, and GROM goes on by one. It takes 3
+/// instructions, changes nothing else, and comes to the address in register 11.
+pub fn run_fetch<L: Ledger>(machine: &mut Machine, steps: &mut Steps<L>)
+    requires stands { Stands machine.old FETCH }
+    requires idle { PortsAreIdle machine.old.cpu.memory }
+    requires fetched { IsFetched machine.old.cpu.memory.grom }
+    ensures { Exits machine.old machine.new steps.old steps.new (fetched (view machine.old)) }
+{
+    fetch_byte(machine, steps);
+}

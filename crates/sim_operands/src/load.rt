@@ -1,0 +1,59 @@
+//! LOAD: a value.
+
+ghost use Rattle.std.specs.Prelude.{◌≡◌, ◌<◌};
+ghost use Rattle.native_interp.specs.declared.addresses.TheConstants as address;
+ghost use Rattle.interp_defs.specs.Match.{PortsAreIdle, IsFetched};
+ghost use Rattle.sim_view.specs.View.{view, Stands};
+ghost use Rattle.sim_view.specs.Exits.{Exits};
+ghost use Rattle.sim_operands.specs.Pieces as piece;
+ghost use Rattle.sim_operands.specs.Values.{IsVisible};
+ghost use Rattle.sim_operands.specs.Subroutines.{LoadsValue, LoadsStream};
+
+use native_interp::{LDATA, STREAM};
+use sim_view::{register, run_piece};
+use std::sync::ledger::Ledger;
+use tms_step::{Machine, Steps};
+
+/// The piece of LOAD that reads cells, or sets the video processor to the address, or goes on at STREAM.
+pub fn load_value<L: Ledger>(machine: &mut Machine, steps: &mut Steps<L>)
+    requires stands { Stands machine.old address.LOAD }
+    requires visible { let r = (view machine.old).r in IsVisible r.r5 r.r2 r.r3 }
+    ensures { Exits machine.old machine.new steps.old steps.new (piece.load (view machine.old)) }
+{
+    run_piece(machine, steps, &[LDATA, STREAM]);
+}
+
+/// The piece of LOAD that reads video memory.
+pub fn load_video<L: Ledger>(machine: &mut Machine, steps: &mut Steps<L>)
+    requires { Stands machine.old address.LDATA }
+    ensures { Exits machine.old machine.new steps.old steps.new (piece.load_video (view machine.old)) }
+{
+    run_piece(machine, steps, &[]);
+}
+
+/// The piece of LOAD that reads the bytes that follow in GROM.
+pub fn stream_value<L: Ledger>(machine: &mut Machine, steps: &mut Steps<L>)
+    requires { Stands machine.old address.STREAM }
+    ensures { Exits machine.old machine.new steps.old steps.new (piece.stream (view machine.old)) }
+{
+    run_piece(machine, steps, &[]);
+}
+
+/// Runs LOAD: the value at the place in registers 2 and 5, of the width in register 3, comes into register 6. Where register
+/// 5 is above 1 it is the value that follows in GROM, which goes on behind it. It takes at most 17 instructions, changes
+/// register 4 and the address of the video processor too, and comes to the address in register 11.
+pub fn run_load<L: Ledger>(machine: &mut Machine, steps: &mut Steps<L>)
+    requires stands { Stands machine.old address.LOAD }
+    requires idle { PortsAreIdle machine.old.cpu.memory }
+    requires visible { let r = (view machine.old).r in IsVisible r.r5 r.r2 r.r3 }
+    ensures value { (view machine.old).r.r5 < 2 → LoadsValue machine.old machine.new steps.old steps.new }
+    ensures stream { 1 < (view machine.old).r.r5 → IsFetched machine.old.cpu.memory.grom → LoadsStream machine.old machine.new steps.old steps.new }
+{
+    let space = register(machine, 5);
+    load_value(machine, steps);
+    if space == 1 {
+        load_video(machine, steps);
+    } else if space > 1 {
+        stream_value(machine, steps);
+    }
+}

@@ -1,0 +1,30 @@
+//! SEEK: the address of GROM.
+
+ghost use Rattle.native_interp.specs.declared.addresses.TheConstants.{SEEK};
+ghost use Rattle.interp_defs.specs.Match.{PortsAreIdle};
+ghost use Rattle.sim_view.specs.View.{view, Stands};
+ghost use Rattle.sim_view.specs.Exits.{Exits};
+ghost use Rattle.sim_operands.specs.Pieces as piece;
+ghost use Rattle.sim_operands.specs.Subroutines.{sought};
+
+use sim_view::run_piece;
+use std::sync::ledger::Ledger;
+use tms_step::{Machine, Steps};
+
+/// The piece of SEEK.
+pub fn seek_address<L: Ledger>(machine: &mut Machine, steps: &mut Steps<L>)
+    requires { Stands machine.old SEEK }
+    ensures { Exits machine.old machine.new steps.old steps.new (piece.seek (view machine.old)) }
+{
+    run_piece(machine, steps, &[]);
+}
+
+/// Runs SEEK: GROM is set to the address in register 6, and so gives the byte there next. It takes 4 instructions, swaps the
+/// bytes of register 6, changes nothing else, and comes to the address in register 11.
+pub fn run_seek<L: Ledger>(machine: &mut Machine, steps: &mut Steps<L>)
+    requires stands { Stands machine.old SEEK }
+    requires idle { PortsAreIdle machine.old.cpu.memory }
+    ensures { Exits machine.old machine.new steps.old steps.new (sought (view machine.old)) }
+{
+    seek_address(machine, steps);
+}

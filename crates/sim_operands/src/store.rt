@@ -1,0 +1,60 @@
+//! STORE: a value.
+
+ghost use Rattle.std.specs.Prelude.{◌≡◌, ◌<◌};
+ghost use Rattle.native_interp.specs.declared.addresses.TheConstants as address;
+ghost use Rattle.interp_defs.specs.Match.{PortsAreIdle};
+ghost use Rattle.sim_view.specs.View.{view, Stands};
+ghost use Rattle.sim_view.specs.Exits.{Exits};
+ghost use Rattle.sim_operands.specs.Pieces as piece;
+ghost use Rattle.sim_operands.specs.Values.{IsVisible};
+ghost use Rattle.sim_operands.specs.Subroutines.{StoresValue, StoresRegister};
+
+use native_interp::{SDATA, SREG};
+use sim_view::{register, run_piece};
+use std::sync::ledger::Ledger;
+use tms_step::{Machine, Steps};
+
+/// The piece of STORE that stores in cells, or sets the video processor to the address, or goes on at SREG.
+pub fn store_value<L: Ledger>(machine: &mut Machine, steps: &mut Steps<L>)
+    requires stands { Stands machine.old address.STORE }
+    requires visible { let r = (view machine.old).r in IsVisible r.r8 r.r7 r.r3 }
+    ensures { Exits machine.old machine.new steps.old steps.new (piece.store (view machine.old)) }
+{
+    run_piece(machine, steps, &[SDATA, SREG]);
+}
+
+/// The piece of STORE that stores in video memory.
+pub fn store_video<L: Ledger>(machine: &mut Machine, steps: &mut Steps<L>)
+    requires { Stands machine.old address.SDATA }
+    ensures { Exits machine.old machine.new steps.old steps.new (piece.store_video (view machine.old)) }
+{
+    run_piece(machine, steps, &[]);
+}
+
+/// The piece of STORE that sets a register of the video processor.
+pub fn store_register<L: Ledger>(machine: &mut Machine, steps: &mut Steps<L>)
+    requires { Stands machine.old address.SREG }
+    ensures { Exits machine.old machine.new steps.old steps.new (piece.store_register (view machine.old)) }
+{
+    run_piece(machine, steps, &[]);
+}
+
+/// Runs STORE: the value in register 9, of the width in register 3, is stored at the place in registers 7 and 8, its high
+/// byte first. Where register 8 is above 1 its high byte goes to the register of the video processor whose number is in
+/// register 7. It takes at most 16 instructions, marks a store at the character's cell in register 13, changes registers 4
+/// and 9 and the address of the video processor too, and comes to the address in register 11.
+pub fn run_store<L: Ledger>(machine: &mut Machine, steps: &mut Steps<L>)
+    requires stands { Stands machine.old address.STORE }
+    requires idle { PortsAreIdle machine.old.cpu.memory }
+    requires visible { let r = (view machine.old).r in IsVisible r.r8 r.r7 r.r3 }
+    ensures value { (view machine.old).r.r8 < 2 → StoresValue machine.old machine.new steps.old steps.new }
+    ensures register { 1 < (view machine.old).r.r8 → (view machine.old).r.r7 < 8 → StoresRegister machine.old machine.new steps.old steps.new }
+{
+    let space = register(machine, 8);
+    store_value(machine, steps);
+    if space == 1 {
+        store_video(machine, steps);
+    } else if space > 1 {
+        store_register(machine, steps);
+    }
+}

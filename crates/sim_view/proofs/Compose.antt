@@ -1,0 +1,74 @@
+-- One stretch after another.
+use Rattle.std.proofs.Common.{◌≡◌, ℕ, ◌+◌, ◌-◌, ◌<◌, ◌≤◌, Bool, true, false, refl, sym, ap, subst, ◌∙◌, arith, ⊎_elim, ◌⊎◌}
+use Rattle.std.proofs.lemmas.Bool.{cases_order}
+use Rattle.console_defs.specs.Accesses.{Answer, Gives, ◌>>=◌}
+use Rattle.console_defs.specs.Machine.{MachineState, steps}
+use Rattle.console_defs.proofs.RunLaws.{steps-add}
+use Rattle.interp_defs.specs.Runs.{Runs, is_end}
+use Rattle.sim_view.specs.View.{View, view, Stands}
+use Rattle.sim_view.specs.Exits.{Exit, Exits, Comes}
+use Rattle.sim_view.proofs.Answers.{given, given_by}
+
+-- the state after some steps, where another is reached on the way
+at_step : (a i : ℕ) (x y w : MachineState) → steps a x ≡ Gives y → steps (a + i) x ≡ Gives w → steps i y ≡ Gives w
+at_step a i x y w e f =
+    let s = sym (steps-add a i x) ∙ f in
+    let t = given_by (steps a x) (steps i) w s in
+    let g : Gives t.0 ≡ Gives y = sym t.1 ∙ e in
+    subst (λ (u : MachineState). steps i u ≡ Gives w) (given t.0 y g) t.2
+
+pub runs_then : (a b : ℕ) (x y z : MachineState) → Runs a x y → Runs b y z → is_end y.cpu.pc ≡ false → Runs (a + b) x z
+runs_then a b x y z r s e =
+    let F : Answer MachineState → Answer MachineState = λ o. o >>= steps b in
+    record { leads = steps-add a b x ∙ ap F r.leads ∙ s.leads; clear = clear_at }
+  where
+    clear_at : (j : ℕ) → 0 < j → j < a + b → (w : MachineState) → steps j x ≡ Gives w → is_end w.cpu.pc ≡ false
+    clear_at j p l w f =
+        ⊎_elim
+        (λ (h : j ≡ a). let g : Gives y ≡ Gives w = sym r.leads ∙ subst (λ (i : ℕ). steps i x ≡ Gives w) h f in subst (λ (u : MachineState). is_end u.cpu.pc ≡ false) (given y w g) e)
+        (λ h. ⊎_elim
+            (λ (lt : j < a). r.clear j p lt w f)
+            (λ (gt : a < j). let i = j - a in let d : j ≡ a + i = omega arith in s.clear i (omega arith) (omega arith) w (at_step a i x y w r.leads (subst (λ (i : ℕ). steps i x ≡ Gives w) d f))) h)
+        (cases_order j a)
+
+-- How a stretch ends, in bounds: within so many instructions, at an address, with a view of which something holds.
+pub record Goes (e : Exit) (most to : ℕ) (Holds : View → Type 0) : Type 0 where
+  pub within : e.count ≤ most
+  pub to_is : e.to ≡ to
+  pub holds : Holds e.left
+
+pub goes_as : {e : Exit} {most to : ℕ} {Q : View → Type 0} (more : ℕ) (R : View → Type 0) → Goes e most to Q → most ≤ more → ((v : View) → Q v → R v) → Goes e more to R
+goes_as {e = e} more R g le f = let w = g.within in record { within = omega arith; to_is = g.to_is; holds = f e.left g.holds }
+
+pub comes : {x y : MachineState} {before after most to : ℕ} {e : Exit} {Q : View → Type 0} → Exits x y before after e → Goes e most to Q → Comes most x y before after to Q
+comes {y = y} {e = e} {Q = Q} x g = record {
+  count = e.count;
+  within = g.within;
+  counted = x.counted;
+  runs = x.runs;
+  holds = subst Q (sym x.shows) g.holds;
+  stands = subst (λ (p : ℕ). Stands y p) g.to_is x.stands;
+}
+
+-- A stretch within bounds, and then another.
+pub comes_then : (a b : ℕ) {x y z : MachineState} {before middle after p q : ℕ} {e : Exit} {Q R : View → Type 0} → Comes a x y before middle p Q →
+    Exits y z middle after e → Goes e b q R → is_end p ≡ false → Comes (a + b) x z before after q R
+comes_then a b {x = x} {y = y} {z = z} {e = e} {R = R} c d g end =
+    let u = c.counted in
+    let v = d.counted in
+    let w = c.within in
+    let m = g.within in
+    record {
+      count = c.count + e.count;
+      within = omega arith;
+      counted = omega arith;
+      runs = runs_then c.count e.count x y z c.runs d.runs (ap is_end c.stands.pc ∙ end);
+      holds = subst R (sym d.shows) g.holds;
+      stands = subst (λ (p : ℕ). Stands z p) g.to_is d.stands;
+    }
+
+pub comes_as : {most to : ℕ} {x y : MachineState} {before after : ℕ} {Q : View → Type 0} (more : ℕ) (R : View → Type 0) → Comes most x y before after to Q →
+    most ≤ more → ((v : View) → Q v → R v) → Comes more x y before after to R
+comes_as {y = y} more R c le f =
+    let w = c.within in
+    record { count = c.count; within = omega arith; counted = c.counted; runs = c.runs; holds = f (view y) c.holds; stands = c.stands }
