@@ -55,6 +55,7 @@ no_other space one more = let h = at_most 1 space more in let n = ne_of space on
   where
     not_both : (b : Bool) → b ≡ true → b ≡ false → ⊥
     not_both b e f = cc
+
     ne_of : (n : ℕ) → (n == 1) ≡ false → (n ≡ 1 → ⊥)
     ne_of n e is = not_both (n == 1) (eq-eqb n 1 is) e
 

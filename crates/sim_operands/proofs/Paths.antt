@@ -27,10 +27,10 @@ range v = record {
   by = λ f q.
       pick (shifted SRL (shifted SLA v.r.r5 15) 15 == 0)
       (λ c. pick (nat_lt 0xC2 v.r.r2)
-          (λ d. rw (c, d, not_limit 0xC2 v.r.r2 d) refl)
-          (λ d. pick (nat_lt 0xC2 (sum_of Word v.r.r3 v.r.r2))
-              (λ e. rw (c, d, e, not_limit 0xC2 (sum_of Word v.r.r3 v.r.r2) e) refl)
-              (λ e. rw (c, d, e) refl)))
+      (λ d. rw (c, d, not_limit 0xC2 v.r.r2 d) refl)
+      (λ d. pick (nat_lt 0xC2 (sum_of Word v.r.r3 v.r.r2))
+      (λ e. rw (c, d, e, not_limit 0xC2 (sum_of Word v.r.r3 v.r.r2) e) refl)
+      (λ e. rw (c, d, e) refl)))
       (λ c. rw c refl);
 }
 
@@ -77,8 +77,8 @@ address v i =
     leads (0x2314 ∷ [])
     (pick (last_out SLA (first_of v) 1)
     (λ c. pick (base_of v == 0x0F00)
-        (λ d. rest_is (rw (c, d, pieces.address) refl) (part_then (0x2314 ∷ []) 5 0 11 (address_long v c) (part_then (0x2314 ∷ []) 4 5 7 (address_sixteen v d) (sixteen_low v i))))
-        (λ d. rest_is (rw (c, d, pieces.address) refl) (part_then (0x2314 ∷ []) 5 0 11 (address_long v c) (part_then (0x2314 ∷ []) 4 5 7 (address_twelve v d) (twelve_low v i)))))
+    (λ d. rest_is (rw (c, d, pieces.address) refl) (part_then (0x2314 ∷ []) 5 0 11 (address_long v c) (part_then (0x2314 ∷ []) 4 5 7 (address_sixteen v d) (sixteen_low v i))))
+    (λ d. rest_is (rw (c, d, pieces.address) refl) (part_then (0x2314 ∷ []) 5 0 11 (address_long v c) (part_then (0x2314 ∷ []) 4 5 7 (address_twelve v d) (twelve_low v i)))))
     (λ c. rest_is (rw (c, pieces.address) refl) (address_short v c)))
 
 pub pointer : (v : View) → IsView v → Leads (0x2330 ∷ []) v 0x2314 (pieces.pointer v)
@@ -86,13 +86,13 @@ pointer v i = record {
   by = λ f q.
       pick (last_out SRL v.r.r5 13)
       (λ c. pick (nat_lt 0xC0 v.r.r2)
-          (λ d. rw (c, d, not_limit 0xC0 v.r.r2 d) refl)
-          (λ d. let below = at_most 0xC0 v.r.r2 d in
-          pick (v.r.r2 == 0x7C)
-              (λ e. rw (c, d, e) refl)
-              (λ e. let first = spot_cell (plus 0x8300 v.r.r2) v.r.r2 (omega arith) (omega arith) in
-              let second = spot_cell (plus 0x8301 v.r.r2) (v.r.r2 + 1) (omega arith) (omega arith) in
-              rw (c, d, e, first, second, word_down (slice_index v.cells v.r.r2) (slice_index v.cells (v.r.r2 + 1)) v.r.r4 v.r.r2 (i.cells v.r.r2) (i.cells (v.r.r2 + 1)) (i.r 4) (i.r 2)) refl)))
+      (λ d. rw (c, d, not_limit 0xC0 v.r.r2 d) refl)
+      (λ d. let below = at_most 0xC0 v.r.r2 d in
+      pick (v.r.r2 == 0x7C)
+      (λ e. rw (c, d, e) refl)
+      (λ e. let first = spot_cell (plus 0x8300 v.r.r2) v.r.r2 (omega arith) (omega arith) in
+      let second = spot_cell (plus 0x8301 v.r.r2) (v.r.r2 + 1) (omega arith) (omega arith) in
+      rw (c, d, e, first, second, word_down (slice_index v.cells v.r.r2) (slice_index v.cells (v.r.r2 + 1)) v.r.r4 v.r.r2 (i.cells v.r.r2) (i.cells (v.r.r2 + 1)) (i.r 4) (i.r 2)) refl)))
       (λ c. rw c refl);
 }
 
@@ -145,8 +145,8 @@ index v i =
     leads (0x2350 ∷ [])
     (pick (last_out SRL v.r.r5 2)
     (λ c. pick (nat_lt 0xC0 v.grom.fetched)
-        (λ d. rest_is (rw (c, d, pieces.index) refl) (part_then (0x2350 ∷ []) 3 0 13 (index_some v c) (index_far v i d)))
-        (λ d. rest_is (rw (c, d, pieces.index) refl) (part_then (0x2350 ∷ []) 3 0 13 (index_some v c) (part_then (0x2350 ∷ []) 4 3 9 (index_near v i d) (index_word v i d)))))
+    (λ d. rest_is (rw (c, d, pieces.index) refl) (part_then (0x2350 ∷ []) 3 0 13 (index_some v c) (index_far v i d)))
+    (λ d. rest_is (rw (c, d, pieces.index) refl) (part_then (0x2350 ∷ []) 3 0 13 (index_some v c) (part_then (0x2350 ∷ []) 4 3 9 (index_near v i d) (index_word v i d)))))
     (λ c. rest_is (rw (c, pieces.index) refl) (index_none v c)))
 
 -- LOAD
@@ -247,16 +247,16 @@ store_cells v i h c d =
     pick (v.r.r7 == 0x7D)
     (λ e. let n = apart v.r.r7 e in
     pick (v.r.r3 == 1)
-        (λ b. rest_is (rw (c, d, b, e, pieces.store) refl) (part_then store_ends 7 0 9 (store_mark v fits c d e) (byte_rest_marked v b)))
-        (λ b. let more = second_fits v.r.r8 v.r.r7 v.r.r3 h zero b in
-        rest_is (rw (c, d, b, e, n, pieces.store) refl) (part_then store_ends 7 0 9 (store_mark v fits c d e) (word_rest_marked v i more b n))))
+    (λ b. rest_is (rw (c, d, b, e, pieces.store) refl) (part_then store_ends 7 0 9 (store_mark v fits c d e) (byte_rest_marked v b)))
+    (λ b. let more = second_fits v.r.r8 v.r.r7 v.r.r3 h zero b in
+    rest_is (rw (c, d, b, e, n, pieces.store) refl) (part_then store_ends 7 0 9 (store_mark v fits c d e) (word_rest_marked v i more b n))))
     (λ e.
     pick (v.r.r3 == 1)
-        (λ b. rest_is (rw (c, d, b, e, pieces.store) refl) (part_then store_ends 6 0 10 (store_first v fits c d e) (byte_rest v b)))
-        (λ b. let more = second_fits v.r.r8 v.r.r7 v.r.r3 h zero b in
-        pick (v.r.r7 == 0x7C)
-            (λ g. rest_is (rw (c, d, b, e, g, pieces.store) refl) (part_then store_ends 6 0 10 (store_first v fits c d e) (word_rest_second v i more b g)))
-            (λ g. rest_is (rw (c, d, b, e, g, pieces.store) refl) (part_then store_ends 6 0 10 (store_first v fits c d e) (word_rest v i more b g)))))
+    (λ b. rest_is (rw (c, d, b, e, pieces.store) refl) (part_then store_ends 6 0 10 (store_first v fits c d e) (byte_rest v b)))
+    (λ b. let more = second_fits v.r.r8 v.r.r7 v.r.r3 h zero b in
+    pick (v.r.r7 == 0x7C)
+    (λ g. rest_is (rw (c, d, b, e, g, pieces.store) refl) (part_then store_ends 6 0 10 (store_first v fits c d e) (word_rest_second v i more b g)))
+    (λ g. rest_is (rw (c, d, b, e, g, pieces.store) refl) (part_then store_ends 6 0 10 (store_first v fits c d e) (word_rest v i more b g)))))
 
 pub store : (v : View) → IsView v → IsVisible v.r.r8 v.r.r7 v.r.r3 → Leads store_ends v 0x23C2 (pieces.store v)
 store v i h =

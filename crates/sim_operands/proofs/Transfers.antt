@@ -151,10 +151,10 @@ store_word v z c h =
     let b = behind_is v.r.r7 h in
     pick (v.r.r7 == 0x7D)
     (λ d. let e = apart v.r.r7 d in
-        rw (z, c, b, d, e, next_cell v.r.r7 false e, pieces.store_word) (record { within = omega arith; to_is = refl; holds = record { r4 = v.r.r4; r9 = swapped v.r.r9; address = v.vdp.address; byte = v.vdp.fetched; is = refl } }))
+    rw (z, c, b, d, e, next_cell v.r.r7 false e, pieces.store_word) (record { within = omega arith; to_is = refl; holds = record { r4 = v.r.r4; r9 = swapped v.r.r9; address = v.vdp.address; byte = v.vdp.fetched; is = refl } }))
     (λ d. pick (v.r.r7 == 0x7C)
-        (λ e. rw (z, c, b, d, e, next_cell v.r.r7 true e, pieces.store_word) (record { within = omega arith; to_is = refl; holds = record { r4 = v.r.r4; r9 = swapped v.r.r9; address = v.vdp.address; byte = v.vdp.fetched; is = refl } }))
-        (λ e. rw (z, c, b, d, e, next_cell v.r.r7 false e, pieces.store_word) (record { within = omega arith; to_is = refl; holds = record { r4 = v.r.r4; r9 = swapped v.r.r9; address = v.vdp.address; byte = v.vdp.fetched; is = refl } })))
+    (λ e. rw (z, c, b, d, e, next_cell v.r.r7 true e, pieces.store_word) (record { within = omega arith; to_is = refl; holds = record { r4 = v.r.r4; r9 = swapped v.r.r9; address = v.vdp.address; byte = v.vdp.fetched; is = refl } }))
+    (λ e. rw (z, c, b, d, e, next_cell v.r.r7 false e, pieces.store_word) (record { within = omega arith; to_is = refl; holds = record { r4 = v.r.r4; r9 = swapped v.r.r9; address = v.vdp.address; byte = v.vdp.fetched; is = refl } })))
 
 pub store_cells : (v : View) → v.r.r8 ≡ 0 → IsVisible v.r.r8 v.r.r7 v.r.r3 → Goes (pieces.store v) 16 (pieces.return_of v) (stored_by v)
 store_cells v z h =

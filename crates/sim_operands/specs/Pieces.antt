@@ -98,16 +98,16 @@ pointer v =
     let told = record v { r = record v.r { r5 = shifted SRL v.r.r5 13 } } in
     if last_out SRL v.r.r5 13
     then (
-      if nat_lt 0xC0 v.r.r2
-      then barred 5 told
-      else if v.r.r2 == 0x7C
-      then barred 7 told
-      else exit 10 INDEX (record told {
-        r = record told.r {
-          r2 = word_in v.cells v.r.r2;
-          r4 = join (slice_index v.cells v.r.r2) (low v.r.r4);
-        };
-      })
+    if nat_lt 0xC0 v.r.r2
+    then barred 5 told
+    else if v.r.r2 == 0x7C
+    then barred 7 told
+    else exit 10 INDEX (record told {
+      r = record told.r {
+        r2 = word_in v.cells v.r.r2;
+        r4 = join (slice_index v.cells v.r.r2) (low v.r.r4);
+      };
+    })
     )
     else exit 2 INDEX told
 
@@ -116,17 +116,17 @@ abbrev pub index : View → Exit
 index v =
     if last_out SRL v.r.r5 2
     then (
-      let offset = v.grom.fetched in
-      if nat_lt 0xC0 offset
-      then barred 8 (record v { r = record v.r { r4 = offset }; grom = past v.grom })
-      else exit 12 ASPACE (record v {
-        r = record v.r {
-          r2 = sum_of Word v.r.r2 (word_in v.cells offset);
-          r4 = word_in v.cells offset;
-          r6 = join (slice_index v.cells offset) (low v.r.r6);
-        };
-        grom = past v.grom;
-      })
+    let offset = v.grom.fetched in
+    if nat_lt 0xC0 offset
+    then barred 8 (record v { r = record v.r { r4 = offset }; grom = past v.grom })
+    else exit 12 ASPACE (record v {
+      r = record v.r {
+        r2 = sum_of Word v.r.r2 (word_in v.cells offset);
+        r4 = word_in v.cells offset;
+        r6 = join (slice_index v.cells offset) (low v.r.r6);
+      };
+      grom = past v.grom;
+    })
     )
     else exit 3 ASPACE (record v { r = record v.r { r4 = shifted SRL v.r.r5 2 } })
 
@@ -138,12 +138,12 @@ range v =
     let end = sum_of Word v.r.r3 v.r.r2 in
     if space == 0
     then (
-      let added = record told { r = record told.r { r4 = end } } in
-      if nat_lt 0xC2 v.r.r2
-      then barred 6 told
-      else if nat_lt 0xC2 end
-      then barred 10 added
-      else exit 10 (return_of v) added
+    let added = record told { r = record told.r { r4 = end } } in
+    if nat_lt 0xC2 v.r.r2
+    then barred 6 told
+    else if nat_lt 0xC2 end
+    then barred 10 added
+    else exit 10 (return_of v) added
     )
     else exit 4 (return_of v) told
 
@@ -152,8 +152,8 @@ abbrev pub load : View → Exit
 load v =
     if v.r.r5 == 1
     then (
-      let at = shifted SRL (shifted SLA v.r.r2 2) 2 in
-      exit 9 LDATA (record v { r = record v.r { r4 = at }; vdp = set_video_to at v.vdp })
+    let at = shifted SRL (shifted SLA v.r.r2 2) 2 in
+    exit 9 LDATA (record v { r = record v.r { r4 = at }; vdp = set_video_to at v.vdp })
     )
     else if nat_lt 1 v.r.r5
     then exit 3 STREAM v
@@ -168,7 +168,7 @@ load_video v =
     if v.r.r3 == 1
     then exit 5 (return_of v) (record v { r = record v.r { r6 = join v.vdp.fetched 0 }; vdp = second })
     else exit 8 (return_of v)
-        (record v { r = record v.r { r6 = join v.vdp.fetched second.fetched }; vdp = past_video second })
+    (record v { r = record v.r { r6 = join v.vdp.fetched second.fetched }; vdp = past_video second })
 
 -- STREAM: a value of the bytes that follow in GROM is read.
 abbrev pub stream : View → Exit
@@ -177,7 +177,7 @@ stream v =
     if v.r.r3 == 1
     then exit 5 (return_of v) (record v { r = record v.r { r6 = join v.grom.fetched 0 }; grom = second })
     else exit 8 (return_of v)
-        (record v { r = record v.r { r6 = join v.grom.fetched second.fetched }; grom = past second })
+    (record v { r = record v.r { r6 = join v.grom.fetched second.fetched }; grom = past second })
 
 -- STORE: a value is stored in the cells, or the video processor is set to its address, or it goes on at SREG. Register 13
 -- marks a store at the character's cell.
@@ -206,8 +206,8 @@ abbrev pub store : View → Exit
 store v =
     if v.r.r8 == 1
     then (
-      let at = sum_of Word (shifted SRL (shifted SLA v.r.r7 2) 2) 0x4000 in
-      exit 10 SDATA (record v { r = record v.r { r4 = at }; vdp = set_video_to at v.vdp })
+    let at = sum_of Word (shifted SRL (shifted SLA v.r.r7 2) 2) 0x4000 in
+    exit 10 SDATA (record v { r = record v.r { r4 = at }; vdp = set_video_to at v.vdp })
     )
     else if nat_lt 1 v.r.r8
     then exit 3 SREG v
@@ -222,7 +222,7 @@ store_video v =
     if v.r.r3 == 1
     then exit 4 (return_of v) (record v { vdp = first })
     else exit 6 (return_of v)
-        (record v { r = record v.r { r9 = swapped v.r.r9 }; vdp = vdp_data_written first (low v.r.r9) })
+    (record v { r = record v.r { r9 = swapped v.r.r9 }; vdp = vdp_data_written first (low v.r.r9) })
 
 -- SREG: a register of the video processor is set.
 abbrev pub store_register : View → Exit

@@ -113,7 +113,7 @@ abbrev pub LoadsValue : MachineState → MachineState → ℕ → ℕ → Type 0
 LoadsValue x y before after =
     let v = view x in
     Comes 17 x y before after (return_of v)
-        (Loaded v (value_at (state_of v) (width_in v.r.r3) (place_in v.r.r5 v.r.r2)))
+    (Loaded v (value_at (state_of v) (width_in v.r.r3) (place_in v.r.r5 v.r.r2)))
 
 -- The value that follows in GROM, of the width in register 3, behind which GROM goes on.
 abbrev pub streamed : View → View
@@ -151,11 +151,11 @@ StoresValue x y before after =
     let v = view x in
     let width = width_in v.r.r3 in
     Comes 16 x y before after (return_of v)
-        (Stored v (with_value width (place_in v.r.r8 v.r.r7) (of_register width v.r.r9) (unchanged (state_of v))))
+    (Stored v (with_value width (place_in v.r.r8 v.r.r7) (of_register width v.r.r9) (unchanged (state_of v))))
 
 -- The high byte of register 9, in the register of the video processor whose number is in register 7.
 abbrev pub StoresRegister : MachineState → MachineState → ℕ → ℕ → Type 0
 StoresRegister x y before after =
     let v = view x in
     Comes 9 x y before after (return_of v)
-        (Stored v (with_register v.r.r7 (of_register Byte v.r.r9) (unchanged (state_of v))))
+    (Stored v (with_register v.r.r7 (of_register Byte v.r.r9) (unchanged (state_of v))))

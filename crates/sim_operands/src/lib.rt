@@ -10,6 +10,6 @@ mod store;
 
 pub use address::{add_index, check_range, read_address, read_pointer, run_address};
 pub use fetch::{fetch_byte, run_fetch};
-pub use load::{load_video, load_value, run_load, stream_value};
+pub use load::{load_value, load_video, run_load, stream_value};
 pub use seek::{run_seek, seek_address};
 pub use store::{run_store, store_register, store_value, store_video};

@@ -27,8 +27,8 @@ runs_then a b x y z r s e =
         ⊎_elim
         (λ (h : j ≡ a). let g : Gives y ≡ Gives w = sym r.leads ∙ subst (λ (i : ℕ). steps i x ≡ Gives w) h f in subst (λ (u : MachineState). is_end u.cpu.pc ≡ false) (given y w g) e)
         (λ h. ⊎_elim
-            (λ (lt : j < a). r.clear j p lt w f)
-            (λ (gt : a < j). let i = j - a in let d : j ≡ a + i = omega arith in s.clear i (omega arith) (omega arith) w (at_step a i x y w r.leads (subst (λ (i : ℕ). steps i x ≡ Gives w) d f))) h)
+        (λ (lt : j < a). r.clear j p lt w f)
+        (λ (gt : a < j). let i = j - a in let d : j ≡ a + i = omega arith in s.clear i (omega arith) (omega arith) w (at_step a i x y w r.leads (subst (λ (i : ℕ). steps i x ≡ Gives w) d f))) h)
         (cases_order j a)
 
 -- How a stretch ends, in bounds: within so many instructions, at an address, with a view of which something holds.

@@ -2,8 +2,10 @@
 //! interpreter.
 #![tactic(auto)]
 
+mod ready;
 mod registers;
 mod run;
 
+pub use ready::is_ready;
 pub use registers::register;
 pub use run::{PIECE, run_piece};
