@@ -1,0 +1,117 @@
+-- The runs of the pieces on the view.
+use Rattle.std.proofs.Common.{◌≡◌, ℕ, ◌+◌, ◌-◌, ◌/◌, ◌<◌, ◌≤◌, Bool, true, false, refl, sym, ap, subst, ◌∙◌, arith, List, [], ◌∷◌}
+use Rattle.std.specs.Prelude.{◌==◌, ◌&&◌, not, nat_lt, slice_index}
+use Rattle.console_defs.specs.Words.{high, low, join, even, plus}
+use Rattle.console_defs.specs.Flags.{Word, sum_of}
+use Rattle.console_defs.specs.Shifts.{shifted, last_out}
+use Rattle.console_defs.specs.declared.instruction.ShiftOp.TheVariants.{SRL, SLA}
+use Rattle.sim_view.specs.View.{View}
+use Rattle.sim_view.specs.Exits.{Exit}
+use Rattle.sim_view.proofs.Bridge.{Leads, IsView}
+use Rattle.sim_view.proofs.Parts.{Part, Rest, part_then, leads}
+use Rattle.sim_view.proofs.Places.{pick}
+use Rattle.sim_operands.specs.Pieces.{exit}
+use Rattle.sim_steps.specs.Pieces as pieces
+use Rattle.sim_steps.proofs.Facts.{spot_table, spot_rows, counter_is, not_above}
+
+pub boot : (v : View) → Leads (0x22D8 ∷ []) v 0x2274 (pieces.boot v)
+boot v = record { by = λ f q. refl }
+
+pub ask_address : (v : View) → Leads (0x22BC ∷ []) v 0x228C (pieces.ask_address v)
+ask_address v = record { by = λ f q. refl }
+
+pub keep_address : (v : View) → Leads (0x22D8 ∷ []) v 0x2290 (pieces.keep_address v)
+keep_address v = record { by = λ f q. refl }
+
+pub ask_byte : (v : View) → Leads (0x22E4 ∷ []) v 0x2296 (pieces.ask_byte v)
+ask_byte v = record { by = λ f q. refl }
+
+pub stop_code : (v : View) → Leads [] v 0x22AE (pieces.stop_code v)
+stop_code v = record { by = λ f q. refl }
+
+pub leave : (v : View) → Leads [] v 0x24C0 (pieces.leave v)
+leave v = record { by = λ f q. refl }
+
+pub ask_target : (v : View) → Leads (0x23AC ∷ []) v 0x24B0 (pieces.ask_target v)
+ask_target v = record { by = λ f q. refl }
+
+pub go_on : (v : View) → Leads (0x22D8 ∷ []) v 0x24B8 (pieces.go_on v)
+go_on v = record { by = λ f q. refl }
+
+pub row_width : (v : View) → Leads (0x242E ∷ []) v 0x2426 (pieces.row_width v)
+row_width v = record { by = λ f q. refl }
+
+pub ask_first : (v : View) → Leads (0x22EC ∷ []) v 0x242E (pieces.ask_first v)
+ask_first v = record { by = λ f q. refl }
+
+pub load_first : (v : View) → Leads (0x2368 ∷ []) v 0x2434 (pieces.load_first v)
+load_first v = record { by = λ f q. refl }
+
+pub load_second : (v : View) → Leads (0x2368 ∷ []) v 0x245C (pieces.load_second v)
+load_second v = record { by = λ f q. refl }
+
+pub take_source : (v : View) → Leads (0x24A8 ∷ []) v 0x24A6 (pieces.take_source v)
+take_source v = record { by = λ f q. refl }
+
+pub store_result : (v : View) → Leads (0x23C2 ∷ []) v 0x24A8 (pieces.store_result v)
+store_result v = record { by = λ f q. refl }
+
+pub where_next : (v : View) → IsView v → Leads [] v 0x22BC (pieces.where_next v)
+where_next v i = record { by = λ f q. rw (counter_is v.r.r6 v.grom.counter i.grom.counter) refl }
+
+pub dispatch : (v : View) → IsView v → Leads [] v 0x229A (pieces.dispatch v)
+dispatch v i = record { by = λ f q. let fits = i.r 6 in rw (spot_table (shifted SRL v.r.r6 8) (omega arith)) refl }
+
+pub go_to_row : (v : View) → 0x80 ≤ v.r.r0 → v.r.r0 < 0xEC → Leads [] v 0x2472 (pieces.go_to_row v)
+go_to_row v l h = record { by = λ f q. rw (spot_rows v.r.r0 l h) refl }
+
+pub show : (v : View) → Leads (0x23C2 ∷ []) v 0x247A (pieces.show v)
+show v = record {
+  by = λ f q.
+      pick (v.r.r13 == 0)
+      (λ c. rw c refl)
+      (λ c. rw c refl);
+}
+
+-- OPS, behind LOAD, part by part
+abbrev told : View → View
+told v = record v { r = record v.r { r3 = pieces.width_of_code v.r.r0; r9 = v.r.r6 } }
+
+abbrev ends : List ℕ
+ends = 0x22EC ∷ 0x245C ∷ 0x2472 ∷ []
+
+unit_row : (v : View) → nat_lt v.r.r0 0xA0 ≡ true → Part ends 7 v 0x243C (told v) 0x2464
+unit_row v c = record { by = λ f. rw (not_above 0xA0 v.r.r0 true c) refl }
+
+two_rows : (v : View) → nat_lt v.r.r0 0xA0 ≡ false → Part ends 7 v 0x243C (told v) 0x244C
+two_rows v c = record { by = λ f. rw (not_above 0xA0 v.r.r0 false c) refl }
+
+unit_byte : (v : View) → (v.r.r3 == 1) ≡ true → Rest ends 7 9 v 0x2464 (exit 10 0x2472 (record v { r = record v.r { r6 = 0x0100 } }))
+unit_byte v c = record { by = λ f. rw c refl }
+
+unit_word : (v : View) → (v.r.r3 == 1) ≡ false → Rest ends 7 9 v 0x2464 (exit 11 0x2472 (record v { r = record v.r { r6 = 1 } }))
+unit_word v c = record { by = λ f. rw c refl }
+
+abbrev form : View → View
+form v = record v { r = record v.r { r4 = shifted SRL v.r.r0 2 } }
+
+immediate : (v : View) → last_out SRL v.r.r0 2 ≡ true → Rest ends 7 9 v 0x244C (exit 12 0x245C (record (form v) { r = record (form v).r { r5 = 2 } }))
+immediate v c = record { by = λ f. rw c refl }
+
+operand : (v : View) → last_out SRL v.r.r0 2 ≡ false → Rest ends 7 9 v 0x244C (exit 11 0x22EC (record (form v) { r = record (form v).r { r11 = 0x245C } }))
+operand v c = record { by = λ f. rw c refl }
+
+-- an exit by its cases
+rest_is : {made most : ℕ} {v : View} {p : ℕ} {e d : Exit} → d ≡ e → Rest ends made most v p e → Rest ends made most v p d
+rest_is {made = made} {most = most} {v = v} {p = p} is rest = subst (λ (e : Exit). Rest ends made most v p e) (sym is) rest
+
+pub second_operand : (v : View) → Leads ends v 0x243C (pieces.second_operand v)
+second_operand v =
+    leads ends
+    (pick (nat_lt v.r.r0 0xA0)
+    (λ c. pick (pieces.width_of_code v.r.r0 == 1)
+        (λ d. rest_is (rw (c, d, pieces.second_operand) refl) (part_then ends 7 0 9 (unit_row v c) (unit_byte (told v) d)))
+        (λ d. rest_is (rw (c, d, pieces.second_operand) refl) (part_then ends 7 0 9 (unit_row v c) (unit_word (told v) d))))
+    (λ c. pick (last_out SRL v.r.r0 2)
+        (λ d. rest_is (rw (c, d, pieces.second_operand) refl) (part_then ends 7 0 9 (two_rows v c) (immediate (told v) d)))
+        (λ d. rest_is (rw (c, d, pieces.second_operand) refl) (part_then ends 7 0 9 (two_rows v c) (operand (told v) d)))))

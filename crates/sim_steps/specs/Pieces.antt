@@ -1,0 +1,156 @@
+-- What the pieces of boot, of the step and of the instructions come to: how many instructions they have, where they end, and
+-- what they change of the view, in the words of the processor. Registers, cells and ports that are not named stay.
+use Rattle.std.specs.Prelude.{ℕ, ◌+◌, ◌-◌, ◌/◌, ◌==◌, Bool, true, false, not, nat_lt, if◌then◌else◌, slice_index, slice_set}
+use Rattle.console_defs.specs.Words.{high, low, join, even}
+use Rattle.console_defs.specs.Flags.{Word, sum_of, difference_of}
+use Rattle.console_defs.specs.Shifts.{shifted, last_out}
+use Rattle.console_defs.specs.Grom.{GromState, grom_address_read}
+use Rattle.console_defs.specs.declared.instruction.ShiftOp.TheVariants.{SRL, SLA}
+use Rattle.native_interp.specs.declared.addresses.TheConstants.{
+  GSTEP,
+  GSTOP,
+  GEXIT,
+  WHERE,
+  SEEK,
+  FETCH,
+  ADDR,
+  LOAD,
+  STREAM,
+  STORE,
+  OPS,
+  OPVAL,
+  GO,
+  SHOW,
+  STO,
+  GOTO,
+}
+use Rattle.native_interp.specs.declared.words.TheConstants.{INTERP}
+use Rattle.sim_view.specs.View.{View}
+use Rattle.sim_view.specs.Exits.{Exit}
+use Rattle.sim_operands.specs.Pieces.{exit, return_of}
+
+-- GBOOT: the stacks' pointers are stored, and SEEK is asked for the entry in register 0.
+abbrev pub boot : View → Exit
+boot v =
+    exit 7 SEEK (record v {
+      r = record v.r { r4 = 0x7E9F; r6 = v.r.r0; r11 = GSTEP };
+      cells = slice_set (slice_set v.cells 0x72 0x9F) 0x73 0x7E;
+    })
+
+-- GSTEP: the address of the next byte is asked for.
+abbrev pub ask_address : View → Exit
+ask_address v = exit 1 WHERE (record v { r = record v.r { r11 = GSTEP + 4 } })
+
+-- WHERE: two reads of the address port give the counter, and the address before it in its GROM comes into register 6. The
+-- counter is lost.
+abbrev pub read_once : GromState → GromState
+read_once grom = (grom_address_read grom).1
+
+abbrev pub where_next : View → Exit
+where_next v =
+    let counter = v.grom.counter in
+    let offset = shifted SRL (shifted SLA (difference_of Word counter 1) 3) 3 in
+    exit 12 (return_of v) (record v {
+      r = record v.r { r4 = offset; r6 = sum_of Word (shifted SLA (shifted SRL counter 13) 13) offset };
+      grom = read_once (read_once v.grom);
+    })
+
+-- GSTEP, behind WHERE: the address is kept, and GROM is set to it again.
+abbrev pub keep_address : View → Exit
+keep_address v = exit 2 SEEK (record v { r = record v.r { r1 = v.r.r6; r11 = GSTEP + 10 } })
+
+-- GSTEP, behind SEEK: the byte is asked for.
+abbrev pub ask_byte : View → Exit
+ask_byte v = exit 1 FETCH (record v { r = record v.r { r11 = GSTEP + 14 } })
+
+-- GSTEP, behind FETCH: the first table leads on by the byte.
+abbrev pub dispatch : View → Exit
+dispatch v =
+    let code = shifted SRL v.r.r6 8 in
+    let entry = slice_index INTERP (4 + code) in
+    exit 6 (even entry) (record v { r = record v.r { r0 = code; r4 = entry } })
+
+-- UNKN: the stop by reason 1.
+abbrev pub stop_code : View → Exit
+stop_code v = exit 2 GSTOP (record v { r = record v.r { r0 = 1 } })
+
+-- GOEXIT.
+abbrev pub leave : View → Exit
+leave v = exit 1 GEXIT v
+
+-- GOB: the address that follows is asked for.
+abbrev pub ask_target : View → Exit
+ask_target v = exit 2 STREAM (record v { r = record v.r { r3 = 2; r11 = GOTO } })
+
+-- GOTO: GROM goes on at the address.
+abbrev pub go_on : View → Exit
+go_on v = exit 2 SEEK (record v { r = record v.r { r11 = GSTEP } })
+
+-- ROW: the width of the operands.
+abbrev pub width_of_code : ℕ → ℕ
+width_of_code code = sum_of Word (shifted SRL (shifted SLA code 15) 15) 1
+
+abbrev pub row_width : View → Exit
+row_width v = exit 4 OPS (record v { r = record v.r { r3 = width_of_code v.r.r0 } })
+
+-- OPS: the place of the first operand is asked for; nothing was stored yet.
+abbrev pub ask_first : View → Exit
+ask_first v = exit 2 ADDR (record v { r = record v.r { r13 = 0; r11 = OPS + 6 } })
+
+-- OPS, behind ADDR: the value there is asked for, and the place is kept as the destination.
+abbrev pub load_first : View → Exit
+load_first v = exit 3 LOAD (record v { r = record v.r { r7 = v.r.r2; r8 = v.r.r5; r11 = OPS + 14 } })
+
+-- OPS, behind LOAD: the second operand is an immediate value, or its place is asked for; a row of one operand has 1.
+abbrev pub second_operand : View → Exit
+second_operand v =
+    let width = width_of_code v.r.r0 in
+    let told = record v { r = record v.r { r3 = width; r9 = v.r.r6 } } in
+    if nat_lt v.r.r0 0xA0
+    then (
+      if width == 1
+      then exit 10 GO (record told { r = record told.r { r6 = 0x0100 } })
+      else exit 11 GO (record told { r = record told.r { r6 = 1 } })
+    )
+    else (
+      let form = record told { r = record told.r { r4 = shifted SRL v.r.r0 2 } } in
+      if last_out SRL v.r.r0 2
+      then exit 12 OPVAL (record form { r = record form.r { r5 = 2 } })
+      else exit 11 ADDR (record form { r = record form.r { r11 = OPVAL } })
+    )
+
+-- OPVAL: the value of the second operand is asked for.
+abbrev pub load_second : View → Exit
+load_second v = exit 2 LOAD (record v { r = record v.r { r11 = GO } })
+
+-- GO: the second table leads on by the code byte.
+abbrev pub go_to_row : View → Exit
+go_to_row v =
+    let entry = slice_index INTERP (260 + (v.r.r0 - 0x80) / 2) in
+    exit 3 (even entry) (record v { r = record v.r { r4 = entry } })
+
+-- STV: the value of ST.
+abbrev pub take_source : View → Exit
+take_source v = exit 1 STO (record v { r = record v.r { r9 = v.r.r6 } })
+
+-- STO: the value is stored.
+abbrev pub store_result : View → Exit
+store_result v = exit 2 STORE (record v { r = record v.r { r11 = SHOW } })
+
+-- SHOW: the step ends, or the character's byte is stored on the screen.
+abbrev pub show : View → Exit
+show v =
+    let row = shifted SLA (shifted SRL (join (slice_index v.cells 0x7E) (low v.r.r7)) 8) 5 in
+    let column = shifted SRL (join (slice_index v.cells 0x7F) (low v.r.r4)) 8 in
+    if v.r.r13 == 0
+    then exit 3 GSTEP v
+    else exit 13 STORE (record v {
+      r = record v.r {
+        r3 = 1;
+        r4 = column;
+        r7 = sum_of Word row column;
+        r8 = 1;
+        r9 = join (slice_index v.cells 0x7D) (low v.r.r9);
+        r11 = GSTEP;
+      };
+    })

@@ -1,0 +1,2 @@
+//! One step of GPL by the interpreter's machine code.
+#![tactic(auto)]
