@@ -3,3 +3,4 @@ pub mod Match
 pub mod Runs
 pub mod Boot
 pub mod Turns
+pub mod Turned

@@ -1,3 +1,7 @@
 //! What the interpreter's words do, in terms of the machine that they run on and of the GPL state that it shows: the
 //! match of the two, its halts, its start and its turns. The definitions stand in `specs/`.
 #![tactic(auto)]
+
+mod turn;
+
+pub use turn::Turn;

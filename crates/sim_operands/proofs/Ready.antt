@@ -47,7 +47,7 @@ fetches v e =
     let left : GromState → Exit = λ g. pieces.exit 3 (pieces.return_of v) (record v { r = record v.r { r6 = join g.fetched 0 }; grom = past g }) in
     ap left e
 
-set_is : (g : GromState) (word : ℕ) → g.half_written ≡ false → word < 65536 → set_to word g ≡ grom_at g.image word
+pub set_is : (g : GromState) (word : ℕ) → g.half_written ≡ false → word < 65536 → set_to word g ≡ grom_at g.image word
 set_is g word h k =
     let j : 256 * ((256 * (word / 256) + g.counter % 256) / 256) + word % 256 ≡ word = omega arith in
     rw (h, j) refl

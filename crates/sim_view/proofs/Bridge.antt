@@ -175,3 +175,11 @@ register_is m wp k w h p b e =
     let g : region (0x83E0 + 2 * k) ≡ Scratchpad (224 + 2 * k) = region_scratchpad (0x83E0 + 2 * k) (omega arith) (omega arith) ∙ ap Scratchpad (omega arith) in
     let f : word_read m (register_in 0x83E0 k) ≡ Gives (word_in m.scratchpad (224 + 2 * k)) = rw (a, g) refl in
     given w _ (e ∙ ap (λ (n : ℕ). word_read m (register_in n k)) p ∙ f) ∙ sym (reg_word m k h b)
+
+-- A register of the view is the word of the machine's register.
+pub holds_register : (m : Memory) (k : ℕ) → IsMemory m → k < 16 → word_read m (register_in 0x83E0 k) ≡ Gives (get_or (listed (view_of m).r) k 0)
+holds_register m k h b =
+    let a : even (register_in 0x83E0 k) ≡ 0x83E0 + 2 * k = omega arith in
+    let g : region (0x83E0 + 2 * k) ≡ Scratchpad (224 + 2 * k) = region_scratchpad (0x83E0 + 2 * k) (omega arith) (omega arith) ∙ ap Scratchpad (omega arith) in
+    let f : word_read m (register_in 0x83E0 k) ≡ Gives (word_in m.scratchpad (224 + 2 * k)) = rw (a, g) refl in
+    f ∙ ap Gives (sym (reg_word m k h b))
