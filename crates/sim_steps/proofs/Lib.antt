@@ -4,3 +4,6 @@ pub mod Beginning
 pub mod Steps
 pub mod Ends
 pub mod Flow
+pub mod Places
+pub mod Fronting
+pub mod Operands

@@ -72,3 +72,20 @@ pub comes_as : {most to : ℕ} {x y : MachineState} {before after : ℕ} {Q : Vi
 comes_as {y = y} more R c le f =
     let w = c.within in
     record { count = c.count; within = omega arith; counted = c.counted; runs = c.runs; holds = f (view y) c.holds; stands = c.stands }
+
+-- The same for a stretch within bounds that was said of the view in the middle.
+pub comes_on : (a b : ℕ) {x y z : MachineState} {before middle after p q : ℕ} {Q R : View → Type 0} → Comes a x y before middle p Q →
+    Comes b y z middle after q R → is_end p ≡ false → Comes (a + b) x z before after q R
+comes_on a b {x = x} {y = y} {z = z} c d end =
+    let u = c.counted in
+    let v = d.counted in
+    let w = c.within in
+    let m = d.within in
+    record {
+      count = c.count + d.count;
+      within = omega arith;
+      counted = omega arith;
+      runs = runs_then c.count d.count x y z c.runs d.runs (ap is_end c.stands.pc ∙ end);
+      holds = d.holds;
+      stands = d.stands;
+    }

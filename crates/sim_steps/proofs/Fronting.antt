@@ -1,0 +1,197 @@
+-- The operands of a row, piece by piece: the front of every row of two operands.
+use Rattle.std.proofs.Common.{◌≡◌, ℕ, ◌+◌, ◌-◌, ◌/◌, ◌%◌, ◌<◌, ◌≤◌, Bool, true, false, refl, sym, ap, subst, ◌∙◌, arith, eqb, List, Option, Some, None, Result, Ok, Err}
+use Rattle.std.specs.Prelude.{◌==◌, ◌&&◌, not, nat_lt, nat_le, slice_index, if◌then◌else◌}
+use Rattle.std.proofs.lemmas.Bool.{eqb-true, eq-eqb, ltb-true, le-ltb, agree_below_at}
+use Rattle.console_defs.specs.Words.{high, low, join, even}
+use Rattle.console_defs.specs.Flags.{Width, Byte, Word, size_of, sum_of}
+use Rattle.console_defs.specs.Shifts.{shifted, last_out}
+use Rattle.console_defs.specs.declared.instruction.ShiftOp.TheVariants.{SRL, SLA}
+use Rattle.console_defs.specs.Grom.{GromState, next_in_grom, previous_in_grom}
+use Rattle.console_defs.proofs.GromLaws.{previous-next}
+use Rattle.console_defs.specs.Machine.{MachineState}
+use Rattle.gpl_defs.specs.declared.instruction.Space.{Space}
+use Rattle.gpl_defs.specs.declared.instruction.Space.TheVariants.{Cpu, Vdp}
+use Rattle.gpl_defs.specs.declared.instruction.GplOperand.{GplOperand}
+use Rattle.gpl_defs.specs.Reading.{operand_at}
+use Rattle.step_defs.specs.declared.reason.Reason.{Reason}
+use Rattle.step_defs.specs.State.{GplState}
+use Rattle.step_defs.specs.Place.{Place, place_of, value_at, byte_at}
+use Rattle.step_defs.specs.Step.{width_of}
+use Rattle.sim_view.specs.View.{View, view, Stands}
+use Rattle.sim_view.specs.Exits.{Exits, Exit, Comes}
+use Rattle.sim_view.proofs.Compose.{Goes, comes, comes_then, comes_as, comes_on}
+use Rattle.sim_operands.specs.Pieces.{exit, return_of}
+use Rattle.sim_operands.specs.Values.{width_in, in_register, number_of_space, IsVisible}
+use Rattle.sim_operands.specs.Subroutines.{grom_at, state_of, next_at, Addressed, Placed, Barred, Finds, FindsOperand, place_in, Loaded, LoadsValue}
+use Rattle.sim_steps.specs.Pieces as pieces
+use Rattle.sim_steps.specs.States.{Sees, Dispatched}
+use Rattle.sim_steps.proofs.Beginning.{just, from, known}
+use Rattle.sim_steps.proofs.Steps.{code_of, behind_code, word_of, place_same}
+use Rattle.sim_steps.proofs.Ends.{Ended, Stopped_by}
+
+-- ---- numbers
+
+-- the width of a code byte's operands
+pub width_is : (code : ℕ) → code < 256 → pieces.width_of_code code ≡ code % 2 + 1
+width_is code h = omega arith
+
+pub size_is : (code : ℕ) → size_of (width_of (code % 2 == 1)) ≡ code % 2 + 1
+size_is code = by (code % 2 == 1) refl
+  where
+    by : (b : Bool) → (code % 2 == 1) ≡ b → size_of (width_of b) ≡ code % 2 + 1
+    by true e = let n : code % 2 ≡ 1 = eqb-true (code % 2) 1 e in omega arith
+    by false e = let n : code % 2 ≡ 0 = not_one e in omega arith
+      where
+        not_both : (b : Bool) → b ≡ true → b ≡ false → ⊥
+        not_both b f g = cc
+        not_one : (code % 2 == 1) ≡ false → code % 2 ≡ 0
+        not_one f = let g : code % 2 ≡ 1 → ⊥ = λ m. not_both (code % 2 == 1) (eq-eqb (code % 2) 1 m) f in omega arith
+
+-- register 3 says that width
+pub width_of_size : (w : Bool) → width_in (size_of (width_of w)) ≡ width_of w
+width_of_size true = refl
+width_of_size false = refl
+
+place_by : (space : Space) (address : ℕ) → place_in (number_of_space space) address ≡ record { space = space; address = address }
+place_by Cpu address = refl
+place_by Vdp address = refl
+
+pub place_is : (place : Place) → place_in (number_of_space place.space) place.address ≡ place
+place_is place = place_by place.space place.address
+
+-- ---- what the front holds
+
+-- What stays from the dispatch on: the state, the code byte and its address, the width, and that nothing was marked.
+pub record Holds (s : GplState) (next : ℕ) (w : View) : Type 0 where
+  pub sees : Sees s next w
+  pub code : w.r.r0 ≡ code_of s
+  pub address : w.r.r1 ≡ s.pc
+  pub width : w.r.r3 ≡ size_of (width_of (word_of s))
+  pub mark : w.r.r13 ≡ 0
+
+-- a place to load from
+pub record From (place : Place) (w : View) : Type 0 where
+  pub address : w.r.r2 ≡ place.address
+  pub space : w.r.r5 ≡ number_of_space place.space
+
+-- a place to store to
+pub record To (place : Place) (w : View) : Type 0 where
+  pub address : w.r.r7 ≡ place.address
+  pub space : w.r.r8 ≡ number_of_space place.space
+
+pub holds_addressed : (s : GplState) (at next : ℕ) (v w : View) {address form : ℕ} → Holds s at v → Addressed v address form next w → Holds s next w
+holds_addressed s at next v w h a =
+    let e = a.is in
+    record {
+      sees = record {
+        cells = ap (λ (u : View). u.cells) e ∙ h.sees.cells;
+        vdp = ap (λ (u : View). u.vdp.memory) e ∙ h.sees.vdp;
+        registers = ap (λ (u : View). u.vdp.registers) e ∙ h.sees.registers;
+        held = ap (λ (u : View). u.vdp.held) e ∙ h.sees.held;
+        grom = ap (λ (u : View). u.grom) e ∙ ap (λ (g : GromState). grom_at g.image next) h.sees.grom;
+      };
+      code = ap (λ (u : View). u.r.r0) e ∙ h.code;
+      address = ap (λ (u : View). u.r.r1) e ∙ h.address;
+      width = ap (λ (u : View). u.r.r3) e ∙ h.width;
+      mark = ap (λ (u : View). u.r.r13) e ∙ h.mark;
+    }
+
+pub from_placed : (next : ℕ) (place : Place) (v w : View) → Placed v next place w → From place w
+from_placed next place v w a = record { address = ap (λ (u : View). u.r.r2) a.is; space = ap (λ (u : View). u.r.r5) a.is }
+
+pub holds_loaded : (s : GplState) (at number : ℕ) (v w : View) → Holds s at v → Loaded v number w → Holds s at w
+holds_loaded s at number v w h a =
+    let e = a.is in
+    record {
+      sees = record {
+        cells = ap (λ (u : View). u.cells) e ∙ h.sees.cells;
+        vdp = ap (λ (u : View). u.vdp.memory) e ∙ h.sees.vdp;
+        registers = ap (λ (u : View). u.vdp.registers) e ∙ h.sees.registers;
+        held = ap (λ (u : View). u.vdp.held) e ∙ h.sees.held;
+        grom = ap (λ (u : View). u.grom) e ∙ h.sees.grom;
+      };
+      code = ap (λ (u : View). u.r.r0) e ∙ h.code;
+      address = ap (λ (u : View). u.r.r1) e ∙ h.address;
+      width = ap (λ (u : View). u.r.r3) e ∙ h.width;
+      mark = ap (λ (u : View). u.r.r13) e ∙ h.mark;
+    }
+
+-- A stop by the cells keeps the state.
+pub barred_stops : (s : GplState) (at : ℕ) (reason : Reason) (v w : View) → Holds s at v → Barred v reason w → Stopped_by s reason w
+barred_stops s at reason v w h a =
+    let e = a.is in
+    record {
+      ended = record {
+        cells = ap (λ (u : View). u.cells) e ∙ h.sees.cells;
+        vdp = ap (λ (u : View). u.vdp.memory) e ∙ h.sees.vdp;
+        registers = ap (λ (u : View). u.vdp.registers) e ∙ h.sees.registers;
+        address = ap (λ (u : View). u.r.r1) e ∙ h.address;
+      };
+      reason_is = ap (λ (u : View). u.r.r0) e;
+    }
+
+-- ---- what ADDR finds, said of the state
+
+pub finds_of : (s t : GplState) (at : ℕ) (x y : MachineState) (before after : ℕ) → Holds s at (view x) → t.cells ≡ s.cells → FindsOperand x y before after →
+    (let read = operand_at s.image at in Finds x y before after read.1 (place_of t (size_of (width_of (word_of s))) read.0))
+finds_of s t at x y before after h same f =
+    let v : View = view x in
+    let image : List ℕ → ℕ → ℕ → Type 0 = λ image from bytes. (let read = operand_at image from in Finds x y before after read.1 (place_of (state_of v) bytes read.0)) in
+    let a : Type 0 = image s.image at (size_of (width_of (word_of s))) in
+    let i : v.grom.image ≡ s.image = ap (λ (g : GromState). g.image) h.sees.grom in
+    let n : next_at v ≡ at = ap (λ (g : GromState). previous_in_grom g.counter) h.sees.grom ∙ previous-next at in
+    let f1 : image s.image (next_at v) v.r.r3 = subst (λ (l : List ℕ). image l (next_at v) v.r.r3) i f in
+    let f2 : image s.image at v.r.r3 = subst (λ (k : ℕ). image s.image k v.r.r3) n f1 in
+    let f3 : a = subst (λ (k : ℕ). image s.image at k) h.width f2 in
+    let read = operand_at s.image at in
+    let to : Result Place Reason → Type 0 = λ r. Finds x y before after read.1 r in
+    subst to (place_same (state_of v) t (size_of (width_of (word_of s))) read.0 (h.sees.cells ∙ sym same)) f3
+
+-- ---- the first operand
+
+-- ADDR is asked for it
+pub record Asking (s : GplState) (at to : ℕ) (w : View) : Type 0 where
+  pub holds : Holds s at w
+  pub link : w.r.r11 ≡ to
+
+asks : (s : GplState) (v : View) → Dispatched s v → code_of s < 256 → Goes (pieces.ask_first (pieces.row_width v).left) 2 0x22EC (Asking s (behind_code s) 0x2434)
+asks s v d h = record {
+  within = omega arith;
+  to_is = refl;
+  holds = record {
+    holds = record {
+      sees = record { cells = d.sees.cells; vdp = d.sees.vdp; registers = d.sees.registers; held = d.sees.held; grom = d.sees.grom };
+      code = d.code;
+      address = d.address;
+      width = ap pieces.width_of_code d.code ∙ width_is (code_of s) h ∙ sym (size_is (code_of s));
+      mark = refl;
+    };
+    link = refl;
+  };
+}
+
+pub asked : (s : GplState) (x a b : MachineState) (t t1 t2 : ℕ) → Dispatched s (view x) → code_of s < 256 → Exits x a t t1 (pieces.row_width (view x)) → Exits a b t1 t2 (pieces.ask_first (view a)) →
+    Comes 6 x b t t2 0x22EC (Asking s (behind_code s) 0x2434)
+asked s x a b t t1 t2 d h e1 e2 =
+    let c1 = comes e1 (just (pieces.row_width (view x)) 4 0x242E (omega arith) refl) in
+    comes_then 4 2 c1 e2 (from pieces.ask_first c1.holds (asks s (view x) d h)) refl
+
+-- it is found, or not
+pub record Located (s : GplState) (place : Place) (next : ℕ) (w : View) : Type 0 where
+  pub holds : Holds s next w
+  pub from : From place w
+
+link_is : (s : GplState) (at to : ℕ) (w : View) → even to ≡ to → Asking s at to w → return_of w ≡ to
+link_is s at to w e a = ap even a.link ∙ e
+
+pub located : (s : GplState) (at next to most : ℕ) (x y z : MachineState) (t u w : ℕ) (place : Place) → even to ≡ to → Comes most x y t u 0x22EC (Asking s at to) → Comes 45 y z u w (return_of (view y)) (Placed (view y) next place) →
+    Comes (most + 45) x z t w to (Located s place next)
+located s at next to most x y z t u w place even_to c d =
+    let e : return_of (view y) ≡ to = link_is s at to (view y) even_to c.holds in
+    let d2 : Comes 45 y z u w to (Placed (view y) next place) = subst (λ (p : ℕ). Comes 45 y z u w p (Placed (view y) next place)) e d in
+    comes_as (most + 45) (Located s place next) (comes_on most 45 c d2 refl) (omega arith) (λ v a. record { holds = holds_addressed s at next (view y) v c.holds.holds a; from = from_placed next place (view y) v a })
+
+pub barred : (s : GplState) (at to most : ℕ) (reason : Reason) (x y z : MachineState) (t u w : ℕ) → Comes most x y t u 0x22EC (Asking s at to) → Comes 45 y z u w 0x22B8 (Barred (view y) reason) →
+    Comes (most + 45) x z t w 0x22B8 (Stopped_by s reason)
+barred s at to most reason x y z t u w c d =
+    comes_as (most + 45) (Stopped_by s reason) (comes_on most 45 c d refl) (omega arith) (λ v a. barred_stops s at reason (view y) v c.holds.holds a)

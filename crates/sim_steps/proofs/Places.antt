@@ -1,0 +1,55 @@
+-- What is true of the places that operands have.
+use Rattle.std.proofs.Common.{◌≡◌, ℕ, ◌+◌, ◌<◌, ◌≤◌, Bool, true, false, refl, sym, ap, subst, ◌∙◌, arith, Option, Some, None, Result, Ok, Err}
+use Rattle.std.specs.Prelude.{◌==◌, ◌&&◌, not, nat_le, if◌then◌else◌}
+use Rattle.std.proofs.lemmas.Bool.{leb-true}
+use Rattle.source_defs.specs.Refusals.{◌>>=◌}
+use Rattle.gpl_defs.specs.declared.instruction.Space.{Space}
+use Rattle.gpl_defs.specs.declared.instruction.Space.TheVariants.{Cpu, Vdp}
+use Rattle.gpl_defs.specs.declared.instruction.GplOperand.{GplOperand}
+use Rattle.step_defs.specs.declared.reason.Reason.{Reason}
+use Rattle.step_defs.specs.declared.reason.Reason.TheVariants.{Cell}
+use Rattle.step_defs.specs.State.{GplState}
+use Rattle.step_defs.specs.Place.{Place, place_of, pointed, indexed, ranged, is_visible, word_at}
+use Rattle.console_defs.specs.Words.{plus}
+use Rattle.sim_operands.specs.Values.{IsVisible, number_of_space}
+
+-- A place is visible where it lies in the cells, and there is none for one reason alone.
+abbrev pub Lies : ℕ → Result Place Reason → Type 0
+Lies bytes (Ok place) = number_of_space place.space ≡ 0 → place.address + bytes ≤ 0xC2
+Lies bytes (Err reason) = reason ≡ Cell
+
+ranged_lies : (bytes : ℕ) (space : Space) (address : ℕ) → Lies bytes (ranged bytes space address)
+ranged_lies bytes Cpu address = by (is_visible bytes address) refl
+  where
+    by : (b : Bool) → is_visible bytes address ≡ b → Lies bytes (if b then Ok (record { space = Cpu; address = address }) else Err Cell)
+    by true e = λ z. leb-true (address + bytes) 0xC2 e
+    by false e = refl
+ranged_lies bytes Vdp address = λ z. absurd (omega arith)
+
+abbrev Alone : Result ℕ Reason → Type 0
+Alone (Ok n) = Unit {0}
+Alone (Err reason) = reason ≡ Cell
+
+alone_if : (b : Bool) (n : ℕ) → Alone (if b then Ok n else Err Cell)
+alone_if true n = tt
+alone_if false n = refl
+
+pointed_alone : (s : GplState) (indirect : Bool) (address : ℕ) → Alone (pointed s indirect address)
+pointed_alone s false address = tt
+pointed_alone s true address = alone_if (is_visible 2 address && not (address == 0x7C)) (word_at s address)
+
+indexed_alone : (s : GplState) (index : Option ℕ) (address : ℕ) → Alone (indexed s index address)
+indexed_alone s None address = tt
+indexed_alone s (Some offset) address = alone_if (is_visible 2 offset) (plus address (word_at s offset))
+
+then_lies : (bytes : ℕ) (r : Result ℕ Reason) (f : ℕ → Result Place Reason) → Alone r → ((n : ℕ) → Lies bytes (f n)) → Lies bytes (r >>= f)
+then_lies bytes (Ok n) f a g = g n
+then_lies bytes (Err reason) f a g = a
+
+pub place_lies : (s : GplState) (bytes : ℕ) (operand : GplOperand) → Lies bytes (place_of s bytes operand)
+place_lies s bytes operand =
+    then_lies bytes (pointed s operand.indirect operand.address) _ (pointed_alone s operand.indirect operand.address)
+    (λ base. then_lies bytes (indexed s operand.index base) _ (indexed_alone s operand.index base) (λ address. ranged_lies bytes operand.space address))
+
+pub lies_at : (bytes : ℕ) (r : Result Place Reason) (place : Place) → Lies bytes r → r ≡ Ok place → number_of_space place.space ≡ 0 → place.address + bytes ≤ 0xC2
+lies_at bytes r place h e = let P : Result Place Reason → Type 0 = Lies bytes in subst P e h
