@@ -29,10 +29,10 @@ use Rattle.sim_operands.specs.Subroutines.{grom_at, state_of}
 use Rattle.sim_steps.specs.States.{Sees, Dispatched, state_at_dispatch}
 
 -- a state of parts
-abbrev made : List ℕ → List ℕ → List ℕ → ℕ → List ℕ → GplState
+abbrev pub made : List ℕ → List ℕ → List ℕ → ℕ → List ℕ → GplState
 made cells vdp registers pc image = record { cells = cells; vdp = vdp; registers = registers; pc = pc; image = image }
 
-same_state : (c c2 v v2 r r2 : List ℕ) (p p2 : ℕ) (i i2 : List ℕ) → c ≡ c2 → v ≡ v2 → r ≡ r2 → p ≡ p2 → i ≡ i2 → made c v r p i ≡ made c2 v2 r2 p2 i2
+pub same_state : (c c2 v v2 r r2 : List ℕ) (p p2 : ℕ) (i i2 : List ℕ) → c ≡ c2 → v ≡ v2 → r ≡ r2 → p ≡ p2 → i ≡ i2 → made c v r p i ≡ made c2 v2 r2 p2 i2
 same_state c c2 v v2 r r2 p p2 i i2 a b d e f =
     ap (λ x. made x v r p i) a ∙ ap (λ x. made c2 x r p i) b ∙ ap (λ x. made c2 v2 x p i) d ∙ ap (λ x. made c2 v2 r2 x i) e ∙ ap (λ x. made c2 v2 r2 p2 x) f
 

@@ -7,3 +7,4 @@ pub mod Flow
 pub mod Places
 pub mod Fronting
 pub mod Operands
+pub mod Storing

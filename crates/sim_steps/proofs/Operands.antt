@@ -1,6 +1,10 @@
 -- The values of the operands of a row.
 use Rattle.std.proofs.Common.{◌≡◌, ℕ, ◌+◌, ◌-◌, ◌*◌, ◌/◌, ◌%◌, ◌<◌, ◌≤◌, Bool, true, false, refl, sym, ap, subst, ◌∙◌, arith, eqb, List, Option, Some, None, Result, Ok, Err}
-use Rattle.std.specs.Prelude.{◌==◌, not, nat_lt, slice_index, if◌then◌else◌}
+use Rattle.std.proofs.lemmas.Bool.{agree_below_at, eqb-true, leb-true, ltb-true, and_parts}
+use Rattle.gpl_defs.specs.Codes.{operation_at}
+use Rattle.native_interp.specs.declared.words.TheConstants.{INTERP}
+use Rattle.step_defs.specs.declared.reason.Reason.{Reason}
+use Rattle.std.specs.Prelude.{◌==◌, ◌&&◌, not, nat_lt, nat_le, slice_index, if◌then◌else◌}
 use Rattle.console_defs.specs.Words.{join, even, plus}
 use Rattle.console_defs.specs.Flags.{Width, Byte, Word, size_of}
 use Rattle.console_defs.specs.Shifts.{shifted, last_out}
@@ -19,12 +23,13 @@ use Rattle.sim_view.specs.Exits.{Exits, Exit, Comes}
 use Rattle.sim_view.proofs.Compose.{Goes, comes, comes_then, comes_as, comes_on}
 use Rattle.sim_operands.specs.Pieces.{exit, return_of}
 use Rattle.sim_operands.specs.Values.{width_in, in_register, number_of_space, IsVisible}
-use Rattle.sim_operands.specs.Subroutines.{grom_at, state_of, next_at, place_in, Loaded, LoadsValue, LoadsStream, streamed}
+use Rattle.sim_operands.specs.Subroutines.{grom_at, state_of, next_at, Addressed, Placed, Barred, place_in, Loaded, LoadsValue, LoadsStream, streamed}
 use Rattle.sim_steps.specs.Pieces as pieces
-use Rattle.sim_steps.specs.States.{Sees, Dispatched}
+use Rattle.sim_steps.specs.States.{Sees, Dispatched, is_alu}
 use Rattle.sim_steps.proofs.Beginning.{just, from, known}
 use Rattle.sim_steps.proofs.Steps.{code_of, behind_code, word_of}
-use Rattle.sim_steps.proofs.Fronting.{width_is, size_is, width_of_size, place_is, Holds, From, To, Located, holds_loaded}
+use Rattle.sim_steps.proofs.Fronting.{width_is, size_is, width_of_size, place_is, Holds, From, To, Located, holds_loaded, holds_addressed, from_placed, barred_stops}
+use Rattle.sim_steps.proofs.Ends.{Stopped_by}
 
 -- ---- a value is one of cells and video memory alone
 
@@ -241,3 +246,103 @@ streams s kept next most x y z t u w c d =
       destination = ap (λ (u : View). u.r.r9) a ∙ q.destination;
       value = ap (λ (u : View). u.r.r6) a ∙ ap (λ (r : ℕ × ℕ). in_register (width_in v.r.r3) r.0) read ∙ register_width s next v (value_in (word_of s) s.image next).0 h;
     })
+
+-- ---- the second operand at a place
+
+pub record Found (s : GplState) (place kept : Place) (next : ℕ) (w : View) : Type 0 where
+  pub second : Second s kept next w
+  pub from : From place w
+
+-- what ADDR keeps of the destination
+second_addressed : (s : GplState) (kept : Place) (at next : ℕ) (v w : View) {address form : ℕ} → Second s kept at v → Addressed v address form next w → Second s kept next w
+second_addressed s kept at next v w q a = record {
+  holds = holds_addressed s at next v w q.holds a;
+  to_kept = record { address = ap (λ (u : View). u.r.r7) a.is ∙ q.to_kept.address; space = ap (λ (u : View). u.r.r8) a.is ∙ q.to_kept.space };
+  destination = ap (λ (u : View). u.r.r9) a.is ∙ q.destination;
+}
+
+pub finds_second : (s : GplState) (kept place : Place) (at next most : ℕ) (x y z : MachineState) (t u w : ℕ) → Comes most x y t u 0x22EC (Operand s kept at) → Comes 45 y z u w (return_of (view y)) (Placed (view y) next place) →
+    Comes (most + 45) x z t w 0x245C (Found s place kept next)
+finds_second s kept place at next most x y z t u w c d =
+    let e : return_of (view y) ≡ 0x245C = ap even c.holds.link in
+    let d2 : Comes 45 y z u w 0x245C (Placed (view y) next place) = subst (λ (p : ℕ). Comes 45 y z u w p (Placed (view y) next place)) e d in
+    comes_as (most + 45) (Found s place kept next) (comes_on most 45 c d2 refl) (omega arith) (λ v a. record { second = second_addressed s kept at next (view y) v c.holds.second a; from = from_placed next place (view y) v a })
+
+pub bars_second : (s : GplState) (kept : Place) (at most : ℕ) (reason : Reason) (x y z : MachineState) (t u w : ℕ) → Comes most x y t u 0x22EC (Operand s kept at) → Comes 45 y z u w 0x22B8 (Barred (view y) reason) →
+    Comes (most + 45) x z t w 0x22B8 (Stopped_by s reason)
+bars_second s kept at most reason x y z t u w c d =
+    comes_as (most + 45) (Stopped_by s reason) (comes_on most 45 c d refl) (omega arith) (λ v a. barred_stops s at reason (view y) v c.holds.second.holds a)
+
+-- LOAD is asked for its value
+pub record LoadingSecond (s : GplState) (place kept : Place) (next : ℕ) (w : View) : Type 0 where
+  pub loading : Loading s place kept next 0x2472 w
+  pub destination : w.r.r9 ≡ in_register (width_of (word_of s)) (value_at s (width_of (word_of s)) kept)
+
+pub asks_second : (s : GplState) (place kept : Place) (next most : ℕ) (x y z : MachineState) (t u w : ℕ) → Comes most x y t u 0x245C (Found s place kept next) → Exits y z u w (pieces.load_second (view y)) →
+    Comes (most + 2) x z t w 0x2368 (LoadingSecond s place kept next)
+asks_second s place kept next most x y z t u w c e =
+    let q = c.holds.second in
+    let h = q.holds in
+    let f = c.holds.from in
+    comes_then most 2 c e (record {
+      within = omega arith;
+      to_is = refl;
+      holds = record {
+        loading = record {
+          holds = record { sees = record { cells = h.sees.cells; vdp = h.sees.vdp; registers = h.sees.registers; held = h.sees.held; grom = h.sees.grom }; code = h.code; address = h.address; width = h.width; mark = h.mark };
+          from = record { address = f.address; space = f.space };
+          to_kept = record { address = q.to_kept.address; space = q.to_kept.space };
+          link = refl;
+        };
+        destination = q.destination;
+      };
+    }) refl
+
+pub loads_second : (s : GplState) (place kept : Place) (next most : ℕ) (x y z : MachineState) (t u w : ℕ) → Comes most x y t u 0x2368 (LoadingSecond s place kept next) → LoadsValue y z u w →
+    Comes (most + 17) x z t w 0x2472 (AtRow s kept (value_at s (width_of (word_of s)) place) next)
+loads_second s place kept next most x y z t u w c d =
+    let c2 : Comes most x y t u 0x2368 (Loading s place kept next 0x2472) = comes_as most _ c (omega arith) (λ v a. a.loading) in
+    comes_as (most + 17) _ (loads s place kept next 0x2472 most x y z t u w refl c2 d) (omega arith) (λ v a. record {
+      holds = a.holds;
+      to_kept = a.to_kept;
+      destination = a.destination_kept ∙ c.holds.destination;
+      value = a.value;
+    })
+
+-- ---- the second dispatch
+
+-- the codes of ST, and where the second table leads from them
+abbrev store_codes : ℕ → Bool
+store_codes code = if is_alu (operation_at code) then nat_le 0xBC code && nat_lt code 0xC0 else true
+
+abbrev store_entries : ℕ → Bool
+store_entries code = if is_alu (operation_at code) then eqb (even (slice_index INTERP (260 + (code - 0x80) / 2))) 0x24A6 else true
+
+if_true : (b c : Bool) → b ≡ true → (if b then c else true) ≡ true → c ≡ true
+if_true b c e f = let g : (if true then c else true) ≡ true = rw e at f in g
+
+pub code_is : (code : ℕ) → code < 256 → is_alu (operation_at code) ≡ true → (0xBC ≤ code) × (code < 0xC0)
+code_is code h e =
+    let a = if_true (is_alu (operation_at code)) (nat_le 0xBC code && nat_lt code 0xC0) e (agree_below_at store_codes (λ _. true) 256 code refl h) in
+    let b = and_parts (nat_le 0xBC code) (nat_lt code 0xC0) a in
+    (leb-true 0xBC code b.0, ltb-true code 0xC0 b.1)
+
+row_is : (code : ℕ) → code < 256 → is_alu (operation_at code) ≡ true → even (slice_index INTERP (260 + (code - 0x80) / 2)) ≡ 0x24A6
+row_is code h e =
+    eqb-true (even (slice_index INTERP (260 + (code - 0x80) / 2))) 0x24A6 (if_true (is_alu (operation_at code)) (eqb (even (slice_index INTERP (260 + (code - 0x80) / 2))) 0x24A6) e (agree_below_at store_entries (λ _. true) 256 code refl h))
+
+pub goes_to_row : (s : GplState) (kept : Place) (number next most : ℕ) (x y z : MachineState) (t u w : ℕ) → code_of s < 256 → is_alu (operation_at (code_of s)) ≡ true →
+    Comes most x y t u 0x2472 (AtRow s kept number next) → Exits y z u w (pieces.go_to_row (view y)) → Comes (most + 3) x z t w 0x24A6 (AtRow s kept number next)
+goes_to_row s kept number next most x y z t u w fits alu c e =
+    let q = c.holds in
+    let h = q.holds in
+    comes_then most 3 c e (record {
+      within = omega arith;
+      to_is = ap (λ (n : ℕ). even (slice_index INTERP (260 + (n - 0x80) / 2))) h.code ∙ row_is (code_of s) fits alu;
+      holds = record {
+        holds = record { sees = record { cells = h.sees.cells; vdp = h.sees.vdp; registers = h.sees.registers; held = h.sees.held; grom = h.sees.grom }; code = h.code; address = h.address; width = h.width; mark = h.mark };
+        to_kept = record { address = q.to_kept.address; space = q.to_kept.space };
+        destination = q.destination;
+        value = q.value;
+      };
+    }) refl
