@@ -26,6 +26,7 @@ use Rattle.sim_view.proofs.Answers.{given}
 use Rattle.sim_view.proofs.Bridge.{holds_register}
 use Rattle.sim_view.proofs.Compose.{runs_then}
 use Rattle.sim_operands.specs.Subroutines.{grom_at, state_of}
+use Rattle.sim_steps.specs.Rows.{Ended, StoppedBy}
 use Rattle.sim_steps.specs.States.{Sees, Dispatched, state_at_dispatch}
 
 -- a state of parts
@@ -78,17 +79,6 @@ matches s y stands h = record {
   shows = shown_is y.cpu.memory ∙ state_is (view y) s h;
 }
 
--- What is seen where a program ends.
-pub record Ended (s : GplState) (w : View) : Type 0 where
-  pub cells : w.cells ≡ s.cells
-  pub vdp : w.vdp.memory ≡ s.vdp
-  pub registers : w.vdp.registers ≡ s.registers
-  pub address : w.r.r1 ≡ s.pc
-
-pub record Stopped_by (s : GplState) (reason : Reason) (w : View) : Type 0 where
-  pub ended : Ended s w
-  pub reason_is : w.r.r0 ≡ number_of reason
-
 cells_of : (m : Memory) → (shown_by m).cells ≡ (view_of m).cells
 unfolding view_of
 cells_of m = refl
@@ -107,7 +97,7 @@ leaves s y stands h = record {
   stands = stands.pc;
 }
 
-pub stops : (s : GplState) (y : MachineState) → Stands y 0x22B8 → Stopped_by s Opcode (view y) → IsHalted s Opcode y
+pub stops : (s : GplState) (y : MachineState) → Stands y 0x22B8 → StoppedBy s Opcode (view y) → IsHalted s Opcode y
 stops s y stands h = record {
   cells = cells_of y.cpu.memory ∙ h.ended.cells;
   vdp = ap (λ (d : VdpState). d.memory) (vdp_of y.cpu.memory) ∙ h.ended.vdp;
@@ -117,7 +107,7 @@ stops s y stands h = record {
   stands = (stands.pc, holds_register y.cpu.memory 0 stands.machine.memory (lit< tt) ∙ ap Gives h.reason_is);
 }
 
-pub bars : (s : GplState) (y : MachineState) → Stands y 0x22B8 → Stopped_by s Cell (view y) → IsHalted s Cell y
+pub bars : (s : GplState) (y : MachineState) → Stands y 0x22B8 → StoppedBy s Cell (view y) → IsHalted s Cell y
 bars s y stands h = record {
   cells = cells_of y.cpu.memory ∙ h.ended.cells;
   vdp = ap (λ (d : VdpState). d.memory) (vdp_of y.cpu.memory) ∙ h.ended.vdp;

@@ -24,10 +24,10 @@ use Rattle.sim_operands.specs.Pieces.{exit, return_of}
 use Rattle.sim_operands.specs.Values.{width_in, in_register, number_of_space, IsVisible}
 use Rattle.sim_operands.specs.Subroutines.{grom_at, state_of, next_at, Addressed, Placed, Barred, Finds, FindsOperand, place_in, Loaded, LoadsValue}
 use Rattle.sim_steps.specs.Pieces as pieces
+use Rattle.sim_steps.specs.Rows.{code_of, behind_code, word_of, Holds, To, Ended, StoppedBy}
 use Rattle.sim_steps.specs.States.{Sees, Dispatched}
 use Rattle.sim_steps.proofs.Beginning.{just, from, known}
-use Rattle.sim_steps.proofs.Steps.{code_of, behind_code, word_of, place_same}
-use Rattle.sim_steps.proofs.Ends.{Ended, Stopped_by}
+use Rattle.sim_steps.proofs.Steps.{place_same}
 
 -- ---- numbers
 
@@ -61,23 +61,10 @@ place_is place = place_by place.space place.address
 
 -- ---- what the front holds
 
--- What stays from the dispatch on: the state, the code byte and its address, the width, and that nothing was marked.
-pub record Holds (s : GplState) (next : ℕ) (w : View) : Type 0 where
-  pub sees : Sees s next w
-  pub code : w.r.r0 ≡ code_of s
-  pub address : w.r.r1 ≡ s.pc
-  pub width : w.r.r3 ≡ size_of (width_of (word_of s))
-  pub mark : w.r.r13 ≡ 0
-
 -- a place to load from
 pub record From (place : Place) (w : View) : Type 0 where
   pub address : w.r.r2 ≡ place.address
   pub space : w.r.r5 ≡ number_of_space place.space
-
--- a place to store to
-pub record To (place : Place) (w : View) : Type 0 where
-  pub address : w.r.r7 ≡ place.address
-  pub space : w.r.r8 ≡ number_of_space place.space
 
 pub holds_addressed : (s : GplState) (at next : ℕ) (v w : View) {address form : ℕ} → Holds s at v → Addressed v address form next w → Holds s next w
 holds_addressed s at next v w h a =
@@ -117,7 +104,7 @@ holds_loaded s at number v w h a =
     }
 
 -- A stop by the cells keeps the state.
-pub barred_stops : (s : GplState) (at : ℕ) (reason : Reason) (v w : View) → Holds s at v → Barred v reason w → Stopped_by s reason w
+pub barred_stops : (s : GplState) (at : ℕ) (reason : Reason) (v w : View) → Holds s at v → Barred v reason w → StoppedBy s reason w
 barred_stops s at reason v w h a =
     let e = a.is in
     record {
@@ -192,6 +179,6 @@ located s at next to most x y z t u w place even_to c d =
     comes_as (most + 45) (Located s place next) (comes_on most 45 c d2 refl) (omega arith) (λ v a. record { holds = holds_addressed s at next (view y) v c.holds.holds a; from = from_placed next place (view y) v a })
 
 pub barred : (s : GplState) (at to most : ℕ) (reason : Reason) (x y z : MachineState) (t u w : ℕ) → Comes most x y t u 0x22EC (Asking s at to) → Comes 45 y z u w 0x22B8 (Barred (view y) reason) →
-    Comes (most + 45) x z t w 0x22B8 (Stopped_by s reason)
+    Comes (most + 45) x z t w 0x22B8 (StoppedBy s reason)
 barred s at to most reason x y z t u w c d =
-    comes_as (most + 45) (Stopped_by s reason) (comes_on most 45 c d refl) (omega arith) (λ v a. barred_stops s at reason (view y) v c.holds.holds a)
+    comes_as (most + 45) (StoppedBy s reason) (comes_on most 45 c d refl) (omega arith) (λ v a. barred_stops s at reason (view y) v c.holds.holds a)

@@ -3,7 +3,7 @@ pub mod Paths
 pub mod Beginning
 pub mod Steps
 pub mod Ends
-pub mod Flow
+pub mod Jumping
 pub mod Places
 pub mod Fronting
 pub mod Operands

@@ -25,11 +25,10 @@ use Rattle.sim_operands.specs.Pieces.{exit, return_of}
 use Rattle.sim_operands.specs.Values.{width_in, in_register, number_of_space, IsVisible}
 use Rattle.sim_operands.specs.Subroutines.{grom_at, state_of, next_at, Addressed, Placed, Barred, place_in, Loaded, LoadsValue, LoadsStream, streamed}
 use Rattle.sim_steps.specs.Pieces as pieces
+use Rattle.sim_steps.specs.Rows.{code_of, behind_code, word_of, Holds, To, Valued, AtRow, StoppedBy}
 use Rattle.sim_steps.specs.States.{Sees, Dispatched, is_alu}
 use Rattle.sim_steps.proofs.Beginning.{just, from, known}
-use Rattle.sim_steps.proofs.Steps.{code_of, behind_code, word_of}
-use Rattle.sim_steps.proofs.Fronting.{width_is, size_is, width_of_size, place_is, Holds, From, To, Located, holds_loaded, holds_addressed, from_placed, barred_stops}
-use Rattle.sim_steps.proofs.Ends.{Stopped_by}
+use Rattle.sim_steps.proofs.Fronting.{width_is, size_is, width_of_size, place_is, From, Located, holds_loaded, holds_addressed, from_placed, barred_stops}
 
 -- ---- a value is one of cells and video memory alone
 
@@ -70,30 +69,22 @@ number_is s place next v h f =
     ∙ ap (λ (p : Place). value_at (state_of v) (width_of (word_of s)) p) (place_is place)
     ∙ value_same (state_of v) s (width_of (word_of s)) place h.sees.cells h.sees.vdp
 
--- Register 6 has a value.
-pub record Valued (s : GplState) (number : ℕ) (kept : Place) (next destination : ℕ) (w : View) : Type 0 where
-  pub holds : Holds s next w
-  pub value : w.r.r6 ≡ in_register (width_of (word_of s)) number
-  pub to_kept : To kept w
-  pub destination_kept : w.r.r9 ≡ destination
-
 register_width : (s : GplState) (next : ℕ) (v : View) (number : ℕ) → Holds s next v → in_register (width_in v.r.r3) number ≡ in_register (width_of (word_of s)) number
 register_width s next v number h = ap (λ (n : ℕ). in_register (width_in n) number) h.width ∙ ap (λ (w : Width). in_register w number) (width_of_size (word_of s))
 
 pub loads : (s : GplState) (place kept : Place) (next to most : ℕ) (x y z : MachineState) (t u w : ℕ) → even to ≡ to → Comes most x y t u 0x2368 (Loading s place kept next to) → LoadsValue y z u w →
-    Comes (most + 17) x z t w to (Valued s (value_at s (width_of (word_of s)) place) kept next (view y).r.r9)
+    Comes (most + 17) x z t w to (λ q. Valued s (value_at s (width_of (word_of s)) place) kept next q × (q.r.r9 ≡ (view y).r.r9))
 loads s place kept next to most x y z t u w even_to c d =
     let v : View = view y in
     let h = c.holds.holds in
     let e : return_of v ≡ to = ap even c.holds.link ∙ even_to in
     let number = value_at (state_of v) (width_in v.r.r3) (place_in v.r.r5 v.r.r2) in
     let d2 : Comes 17 y z u w to (Loaded v number) = subst (λ (p : ℕ). Comes 17 y z u w p (Loaded v number)) e d in
-    comes_as (most + 17) _ (comes_on most 17 c d2 refl) (omega arith) (λ q a. record {
+    comes_as (most + 17) _ (comes_on most 17 c d2 refl) (omega arith) (λ q a. (record {
       holds = holds_loaded s next number v q h a;
       value = ap (λ (u : View). u.r.r6) a.is ∙ register_width s next v number h ∙ ap (in_register (width_of (word_of s))) (number_is s place next v h c.holds.from);
       to_kept = record { address = ap (λ (u : View). u.r.r7) a.is ∙ c.holds.to_kept.address; space = ap (λ (u : View). u.r.r8) a.is ∙ c.holds.to_kept.space };
-      destination_kept = ap (λ (u : View). u.r.r9) a.is;
-    })
+    }, ap (λ (u : View). u.r.r9) a.is))
 
 -- the first operand's place is asked for, and kept
 pub asks_first : (s : GplState) (place : Place) (next most : ℕ) (x y z : MachineState) (t u w : ℕ) → Comes most x y t u 0x2434 (Located s place next) → Exits y z u w (pieces.load_first (view y)) →
@@ -134,10 +125,10 @@ immediate_bit code h = let n : (65536 * 0 + code) / 2 % 2 ≡ code / 2 % 2 = ome
 width_kept : (s : GplState) (next : ℕ) (v : View) → code_of s < 256 → Holds s next v → pieces.width_of_code v.r.r0 ≡ size_of (width_of (word_of s))
 width_kept s next v h d = ap pieces.width_of_code d.code ∙ width_is (code_of s) h ∙ sym (size_is (code_of s))
 
-pub immediates : (s : GplState) (kept : Place) (next d most : ℕ) (x y z : MachineState) (t u w : ℕ) → code_of s < 256 → nat_lt (code_of s) 0xA0 ≡ false → (code_of s / 2 % 2 == 1) ≡ true →
-    Comes most x y t u 0x243C (Valued s (value_at s (width_of (word_of s)) kept) kept next d) → Exits y z u w (pieces.second_operand (view y)) →
+pub immediates : (s : GplState) (kept : Place) (next most : ℕ) (x y z : MachineState) (t u w : ℕ) → code_of s < 256 → nat_lt (code_of s) 0xA0 ≡ false → (code_of s / 2 % 2 == 1) ≡ true →
+    Comes most x y t u 0x243C (Valued s (value_at s (width_of (word_of s)) kept) kept next) → Exits y z u w (pieces.second_operand (view y)) →
     Comes (most + 12) x z t w 0x245C (Immediate s kept next)
-immediates s kept next d most x y z t u w fits two is c e =
+immediates s kept next most x y z t u w fits two is c e =
     let v : View = view y in
     let h = c.holds.holds in
     let high : nat_lt v.r.r0 0xA0 ≡ false = ap (λ n. nat_lt n 0xA0) h.code ∙ two in
@@ -155,10 +146,10 @@ immediates s kept next d most x y z t u w fits two is c e =
       };
     })) refl
 
-pub operands : (s : GplState) (kept : Place) (next d most : ℕ) (x y z : MachineState) (t u w : ℕ) → code_of s < 256 → nat_lt (code_of s) 0xA0 ≡ false → (code_of s / 2 % 2 == 1) ≡ false →
-    Comes most x y t u 0x243C (Valued s (value_at s (width_of (word_of s)) kept) kept next d) → Exits y z u w (pieces.second_operand (view y)) →
+pub operands : (s : GplState) (kept : Place) (next most : ℕ) (x y z : MachineState) (t u w : ℕ) → code_of s < 256 → nat_lt (code_of s) 0xA0 ≡ false → (code_of s / 2 % 2 == 1) ≡ false →
+    Comes most x y t u 0x243C (Valued s (value_at s (width_of (word_of s)) kept) kept next) → Exits y z u w (pieces.second_operand (view y)) →
     Comes (most + 12) x z t w 0x22EC (Operand s kept next)
-operands s kept next d most x y z t u w fits two is c e =
+operands s kept next most x y z t u w fits two is c e =
     let v : View = view y in
     let h = c.holds.holds in
     let high : nat_lt v.r.r0 0xA0 ≡ false = ap (λ n. nat_lt n 0xA0) h.code ∙ two in
@@ -177,13 +168,6 @@ operands s kept next d most x y z t u w fits two is c e =
     })) refl
 
 -- ---- at the row
-
--- The destination's place is in registers 7 and 8 and its value in register 9; the source's value is in register 6.
-pub record AtRow (s : GplState) (kept : Place) (number next : ℕ) (w : View) : Type 0 where
-  pub holds : Holds s next w
-  pub to_kept : To kept w
-  pub destination : w.r.r9 ≡ in_register (width_of (word_of s)) (value_at s (width_of (word_of s)) kept)
-  pub value : w.r.r6 ≡ in_register (width_of (word_of s)) number
 
 -- the immediate value is asked for
 pub record Streaming (s : GplState) (kept : Place) (next : ℕ) (w : View) : Type 0 where
@@ -269,9 +253,9 @@ finds_second s kept place at next most x y z t u w c d =
     comes_as (most + 45) (Found s place kept next) (comes_on most 45 c d2 refl) (omega arith) (λ v a. record { second = second_addressed s kept at next (view y) v c.holds.second a; from = from_placed next place (view y) v a })
 
 pub bars_second : (s : GplState) (kept : Place) (at most : ℕ) (reason : Reason) (x y z : MachineState) (t u w : ℕ) → Comes most x y t u 0x22EC (Operand s kept at) → Comes 45 y z u w 0x22B8 (Barred (view y) reason) →
-    Comes (most + 45) x z t w 0x22B8 (Stopped_by s reason)
+    Comes (most + 45) x z t w 0x22B8 (StoppedBy s reason)
 bars_second s kept at most reason x y z t u w c d =
-    comes_as (most + 45) (Stopped_by s reason) (comes_on most 45 c d refl) (omega arith) (λ v a. barred_stops s at reason (view y) v c.holds.second.holds a)
+    comes_as (most + 45) (StoppedBy s reason) (comes_on most 45 c d refl) (omega arith) (λ v a. barred_stops s at reason (view y) v c.holds.second.holds a)
 
 -- LOAD is asked for its value
 pub record LoadingSecond (s : GplState) (place kept : Place) (next : ℕ) (w : View) : Type 0 where
@@ -303,10 +287,10 @@ pub loads_second : (s : GplState) (place kept : Place) (next most : ℕ) (x y z 
 loads_second s place kept next most x y z t u w c d =
     let c2 : Comes most x y t u 0x2368 (Loading s place kept next 0x2472) = comes_as most _ c (omega arith) (λ v a. a.loading) in
     comes_as (most + 17) _ (loads s place kept next 0x2472 most x y z t u w refl c2 d) (omega arith) (λ v a. record {
-      holds = a.holds;
-      to_kept = a.to_kept;
-      destination = a.destination_kept ∙ c.holds.destination;
-      value = a.value;
+      holds = a.0.holds;
+      to_kept = a.0.to_kept;
+      destination = a.1 ∙ c.holds.destination;
+      value = a.0.value;
     })
 
 -- ---- the second dispatch

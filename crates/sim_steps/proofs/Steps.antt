@@ -24,14 +24,8 @@ use Rattle.step_defs.specs.Changes.{Changes, unchanged, with_value, finished}
 use Rattle.step_defs.specs.Arithmetic.{Source}
 use Rattle.step_defs.specs.Built.{is_built, is_built_operation}
 use Rattle.step_defs.specs.Step.{step, executed, after, source_of, width_of}
+use Rattle.sim_steps.specs.Rows.{code_of, behind_code, word_of, next_of, moved, first_of, second_of}
 use Rattle.step_defs.specs.Run.{bound, bound_by, bound_at}
-
--- the code byte of a state, and the address behind it
-abbrev pub code_of : GplState → ℕ
-code_of s = slice_index s.image s.pc
-
-abbrev pub behind_code : GplState → ℕ
-behind_code s = next_in_grom s.pc
 
 reading_is : (s : GplState) → reading s.image s.pc ≡ read_by (operation_at (code_of s)) (code_of s) s.image (behind_code s)
 unfolding reading
@@ -79,23 +73,7 @@ pub step_jump : (s : GplState) → operation_at (code_of s) ≡ Some (operation.
 unfolding after
 step_jump s e = step_is s (Some (operation.Jump B)) e
 
--- ST: its operands, and the state after it
-abbrev pub word_of : GplState → Bool
-word_of s = code_of s % 2 == 1
-
-abbrev pub next_of : GplState → ℕ
-next_of s = (source_at (code_of s / 2 % 2 == 1) (word_of s) s.image (operand_at s.image (behind_code s)).1).1
-
--- the state whose next instruction is the one behind
-abbrev pub moved : GplState → GplState
-moved s = record s { pc = next_of s }
-
-abbrev pub first_of : GplState → Result Place Reason
-first_of s = place_of (moved s) (size_of (width_of (word_of s))) (operand_at s.image (behind_code s)).0
-
-abbrev pub second_of : GplState → Result Source Reason
-second_of s = source_of (moved s) (width_of (word_of s)) (source_at (code_of s / 2 % 2 == 1) (word_of s) s.image (operand_at s.image (behind_code s)).1).0
-
+-- ST: the state after it
 abbrev pub stored_of : GplState → Place → Source → GplState
 stored_of s place source = finished (with_value (width_of (word_of s)) place source.number (unchanged (moved s)))
 

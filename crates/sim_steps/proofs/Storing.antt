@@ -23,11 +23,10 @@ use Rattle.sim_operands.specs.Pieces.{exit, return_of}
 use Rattle.sim_operands.specs.Values.{width_in, in_register, of_register, number_of_space, IsVisible}
 use Rattle.sim_operands.specs.Subroutines.{grom_at, state_of, place_in, Stored, StoresValue, marked_by}
 use Rattle.sim_steps.specs.Pieces as pieces
+use Rattle.sim_steps.specs.Rows.{code_of, word_of, Holds, To, AtRow}
 use Rattle.sim_steps.specs.States.{Sees, Dispatched}
 use Rattle.sim_steps.proofs.Beginning.{just, from, known}
-use Rattle.sim_steps.proofs.Steps.{code_of, word_of}
-use Rattle.sim_steps.proofs.Fronting.{width_of_size, place_is, Holds, To}
-use Rattle.sim_steps.proofs.Operands.{AtRow}
+use Rattle.sim_steps.proofs.Fronting.{width_of_size, place_is}
 use Rattle.sim_steps.proofs.Ends.{same_state}
 
 -- ---- STO

@@ -1,2 +1,15 @@
-//! One step of GPL by the interpreter's machine code.
+//! One step of GPL by the interpreter's machine code: boot, and a turn from the beginning of a step to its end. Each is built
+//! of pieces: stretches of at most 16 instructions without a loop.
 #![tactic(auto)]
+
+mod alu;
+mod flow;
+mod row;
+mod step;
+mod turn;
+
+pub use alu::{show, store_result, take_source};
+pub use flow::{ask_target, go_on, leave};
+pub use interp_defs::Turn;
+pub use row::{ask_first, go_to_row, load_first, load_second, row_width, second_operand};
+pub use step::{ask_address, ask_byte, boot, dispatch, keep_address, stop_code, where_next};

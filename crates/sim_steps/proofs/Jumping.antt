@@ -26,10 +26,11 @@ use Rattle.sim_operands.specs.Pieces.{exit, past, set_to}
 use Rattle.sim_operands.specs.Subroutines.{grom_at}
 use Rattle.sim_operands.proofs.Ready.{set_is}
 use Rattle.sim_steps.specs.Pieces as pieces
+use Rattle.sim_steps.specs.Rows.{code_of, behind_code, Ended, StoppedBy}
 use Rattle.sim_steps.specs.States.{Sees, Dispatched}
 use Rattle.sim_steps.proofs.Beginning.{just, from, known}
-use Rattle.sim_steps.proofs.Steps.{code_of, behind_code, step_none, step_unbuilt, step_exit, step_jump, bound_stop, bound_made}
-use Rattle.sim_steps.proofs.Ends.{Ended, Stopped_by, matches, leaves, stops, reaches, turned_by}
+use Rattle.sim_steps.proofs.Steps.{step_none, step_unbuilt, step_exit, step_jump, bound_stop, bound_made}
+use Rattle.sim_steps.proofs.Ends.{matches, leaves, stops, reaches, turned_by}
 
 module _ (s : GplState) (x y : MachineState) (t u : ℕ) (d : Dispatched s (view x)) where
   -- EXIT
@@ -47,7 +48,7 @@ module _ (s : GplState) (x y : MachineState) (t u : ℕ) (d : Dispatched s (view
   pub refuses : step s ≡ Err Opcode → Stands x 0x22AE → Exits x y t u (pieces.stop_code (view x)) → Turned s 29 x y t u (Stopped Opcode)
   refuses is stands run =
       let h = d.sees in
-      let ended : Goes (pieces.stop_code (view x)) 2 0x22B8 (Stopped_by s Opcode) = record { within = omega arith; to_is = refl; holds = record { ended = record { cells = h.cells; vdp = h.vdp; registers = h.registers; address = d.address }; reason_is = refl } } in
+      let ended : Goes (pieces.stop_code (view x)) 2 0x22B8 (StoppedBy s Opcode) = record { within = omega arith; to_is = refl; holds = record { ended = record { cells = h.cells; vdp = h.vdp; registers = h.registers; address = d.address }; reason_is = refl } } in
       let c = comes run ended in
       let b = bound_stop s Opcode is in
       turned_by x y t u 29 (Stopped Opcode) s (Err Opcode) is

@@ -1,0 +1,13 @@
+use Rattle.std.proofs.Common.{[]}
+use Rattle.sim_view.specs.View.{view}
+use Rattle.sim_view.proofs.Bridge.{exits, is_view}
+use Rattle.sim_steps.specs.Pieces as piece
+use Rattle.sim_steps.proofs.Paths
+use Rattle.sim_steps.proofs.step.where_next.Goals as goal
+
+pub returns : goal.returns
+returns g c =
+    let x = c.args.machine.now in
+    let v = view x in
+    let i = is_view x c.requires.machine in
+    exits [] 0x22BC x c.run_piece.new.machine c.args.steps.now c.run_piece.new.steps (piece.where_next v) c.requires (Paths.where_next v i) c.run_piece.ensures.left c.run_piece.ensures.count c.run_piece.ensures.bounds
