@@ -8,3 +8,7 @@ pub mod Places
 pub mod Fronting
 pub mod Operands
 pub mod Storing
+pub mod Matched
+pub mod Families
+pub mod Loading
+pub mod Finishing

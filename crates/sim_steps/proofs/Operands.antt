@@ -36,7 +36,7 @@ byte_same : (s t : GplState) (space : Space) (address : ℕ) → s.cells ≡ t.c
 byte_same s t Cpu address c d = ap (λ (l : List ℕ). slice_index l address) c
 byte_same s t Vdp address c d = ap (λ (l : List ℕ). slice_index l (address % 16384)) d
 
-value_same : (s t : GplState) (width : Width) (place : Place) → s.cells ≡ t.cells → s.vdp ≡ t.vdp → value_at s width place ≡ value_at t width place
+pub value_same : (s t : GplState) (width : Width) (place : Place) → s.cells ≡ t.cells → s.vdp ≡ t.vdp → value_at s width place ≡ value_at t width place
 value_same s t Byte place c d = byte_same s t place.space place.address c d
 value_same s t Word place c d =
     ap (λ n. join n (byte_in place.space s (plus place.address 1))) (byte_same s t place.space place.address c d)

@@ -3,11 +3,18 @@
 ghost use Rattle.native_interp.specs.declared.addresses.TheConstants as address;
 ghost use Rattle.sim_view.specs.View.{view, Stands};
 ghost use Rattle.sim_view.specs.Exits.{Exits};
+ghost use Rattle.std.specs.Prelude.{◌≡◌, true};
+ghost use Rattle.native_interp.specs.Entries.{operation_entry};
+ghost use Rattle.interp_defs.specs.Turned.{Turned};
 ghost use Rattle.sim_steps.specs.Pieces as piece;
+ghost use Rattle.sim_steps.specs.States.{Dispatched, state_at_dispatch, operation_of, is_flow};
 
-use native_interp::{SEEK, STREAM};
+use interp_defs::Turn;
+use native_interp::{GOEXIT, SEEK, STREAM};
+use sim_operands::{seek_address, stream_value};
 use sim_view::run_piece;
 use std::sync::ledger::Ledger;
+use step_defs::Reason;
 use tms_step::{Machine, Steps};
 
 /// The piece of B that asks STREAM for the address.
@@ -32,4 +39,22 @@ pub fn leave<L: Ledger>(machine: &mut Machine, steps: &mut Steps<L>)
     ensures { Exits machine.old machine.new steps.old steps.new (piece.leave (view machine.old)) }
 {
     run_piece(machine, steps, &[]);
+}
+
+/// Runs B and EXIT from their dispatch to the end of the step.
+pub fn run_flow<L: Ledger>(machine: &mut Machine, steps: &mut Steps<L>) -> Turn
+    requires stands { Stands machine.old (operation_entry (operation_of (view machine.old))) }
+    requires dispatched { let v = view machine.old in Dispatched (state_at_dispatch v) v }
+    requires family { is_flow (operation_of (view machine.old)) ≡ true }
+    ensures { Turned (state_at_dispatch (view machine.old)) 29 machine.old machine.new steps.old steps.new result }
+{
+    if machine.pc() == GOEXIT {
+        leave(machine, steps);
+        return Turn::Stopped(Reason::Exit);
+    }
+    ask_target(machine, steps);
+    stream_value(machine, steps);
+    go_on(machine, steps);
+    seek_address(machine, steps);
+    Turn::Stepped
 }

@@ -1,0 +1,48 @@
+-- The operations of the families.
+use Rattle.std.proofs.Common.{◌≡◌, ℕ, Bool, true, false, refl, sym, ap, subst, ◌∙◌, arith, Option, Some, None}
+use Rattle.gpl_defs.specs.declared.instruction.PlainOp.TheVariants.{EXIT}
+use Rattle.gpl_defs.specs.declared.instruction.GoOp.TheVariants.{B}
+use Rattle.gpl_defs.specs.declared.instruction.TwoName.TheVariants.{ST}
+use Rattle.gpl_defs.specs.declared.instruction.GplOperation.{GplOperation}
+use Rattle.gpl_defs.specs.declared.instruction.GplOperation.TheVariants as operation
+use Rattle.native_interp.specs.Entries.{operation_entry}
+use Rattle.sim_steps.specs.States.{is_alu, is_flow}
+
+pub flow_exit : (o : Option GplOperation) → is_flow o ≡ true → operation_entry o ≡ 0x24C0 → o ≡ Some (operation.Plain EXIT)
+flow_exit (Some (operation.Plain EXIT)) e f = refl
+flow_exit (Some (operation.Jump B)) e f = absurd (omega arith)
+flow_exit _ e f = absurd (cc)
+
+pub flow_jump : (o : Option GplOperation) → is_flow o ≡ true → (operation_entry o ≡ 0x24C0 → ⊥) → o ≡ Some (operation.Jump B)
+flow_jump (Some (operation.Plain EXIT)) e f = absurd (f refl)
+flow_jump (Some (operation.Jump B)) e f = refl
+flow_jump _ e f = absurd (cc)
+
+pub alu_store : (o : Option GplOperation) → is_alu o ≡ true → o ≡ Some (operation.Two ST)
+alu_store (Some (operation.Two ST)) e = refl
+alu_store _ e = absurd (cc)
+
+pub at_row : (o : Option GplOperation) → operation_entry o ≡ 0x2426 → is_alu o ≡ true
+at_row (Some (operation.Two ST)) e = refl
+at_row (Some (operation.Plain EXIT)) e = absurd (omega arith)
+at_row (Some (operation.Jump B)) e = absurd (omega arith)
+at_row _ e = absurd (omega arith)
+
+pub at_exit : (o : Option GplOperation) → operation_entry o ≡ 0x24C0 → is_flow o ≡ true
+at_exit (Some (operation.Plain EXIT)) e = refl
+at_exit (Some (operation.Jump B)) e = refl
+at_exit (Some (operation.Two ST)) e = absurd (omega arith)
+at_exit _ e = absurd (omega arith)
+
+pub at_jump : (o : Option GplOperation) → operation_entry o ≡ 0x24B0 → is_flow o ≡ true
+at_jump (Some (operation.Plain EXIT)) e = refl
+at_jump (Some (operation.Jump B)) e = refl
+at_jump (Some (operation.Two ST)) e = absurd (omega arith)
+at_jump _ e = absurd (omega arith)
+
+-- what leads nowhere else is refused
+pub elsewhere : (o : Option GplOperation) → (operation_entry o ≡ 0x2426 → ⊥) → (operation_entry o ≡ 0x24B0 → ⊥) → (operation_entry o ≡ 0x24C0 → ⊥) → operation_entry o ≡ 0x22AE
+elsewhere (Some (operation.Plain EXIT)) a b c = absurd (c refl)
+elsewhere (Some (operation.Jump B)) a b c = absurd (b refl)
+elsewhere (Some (operation.Two ST)) a b c = absurd (a refl)
+elsewhere _ a b c = refl

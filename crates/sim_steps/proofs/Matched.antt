@@ -1,0 +1,28 @@
+-- A matching machine at the beginning of a step.
+use Rattle.std.proofs.Common.{◌≡◌, ℕ, ◌<◌, Bool, true, false, refl, sym, ap, ◌∙◌, arith, Option, Some, None}
+use Rattle.std.specs.Prelude.{not, is_none, slice_index}
+use Rattle.console_defs.specs.Grom.{GromState, is_grom_idle, previous_in_grom}
+use Rattle.console_defs.specs.Memory.{Memory, IsMemory}
+use Rattle.console_defs.specs.Machine.{MachineState, IsMachine}
+use Rattle.interp_defs.specs.Match.{PortsAreIdle, IsFetched, IsMatching, shown_by}
+use Rattle.sim_view.specs.View.{View, view, view_of, Stands}
+use Rattle.sim_operands.specs.Subroutines.{grom_at, next_at}
+use Rattle.sim_operands.proofs.Ready.{ready, idle_video}
+use Rattle.sim_steps.specs.States.{Sees}
+
+pub stands_at : (x : MachineState) → IsMachine x → IsMatching x → Stands x 0x228C
+stands_at x i m = record { pc = m.pc; wp = m.wp; words = m.words; machine = i }
+
+sees_by : (m : Memory) → PortsAreIdle m → (view_of m).grom ≡ grom_at (view_of m).grom.image (next_at (view_of m)) → Sees (shown_by m) (shown_by m).pc (view_of m)
+unfolding view_of
+sees_by m idle g = record { cells = refl; vdp = refl; registers = refl; held = idle_video m idle; grom = g }
+
+-- It shows its state.
+pub sees_at : (x : MachineState) → IsMatching x → Sees (shown_by x.cpu.memory) (shown_by x.cpu.memory).pc (view x)
+sees_at x m = sees_by x.cpu.memory m.idle (ready x.cpu.memory m.idle m.fetched)
+
+pub pc_fits : (m : Memory) → IsMemory m → (shown_by m).pc < 65536
+pc_fits m i = let h = i.grom.counter in omega arith
+
+pub bytes_fit : (m : Memory) → IsMemory m → (at : ℕ) → slice_index (shown_by m).image at < 256
+bytes_fit m i at = i.grom.image.fits at

@@ -1,0 +1,15 @@
+use Rattle.std.proofs.Common.{refl}
+use Rattle.interp_defs.specs.Match.{shown_by}
+use Rattle.sim_view.specs.View.{view}
+use Rattle.sim_steps.proofs.Matched.{sees_at, pc_fits, bytes_fit}
+use Rattle.sim_steps.proofs.Beginning.{begins}
+use Rattle.sim_steps.proofs.step.begin_step.Goals as goal
+
+pub returns : goal.returns
+returns g c =
+    let x = c.args.machine.now in
+    let m = x.cpu.memory in
+    let s = shown_by m in
+    let i = c.holds_bounds.ensures.memory in
+    begins s (view x) (sees_at x c.requires) (pc_fits m i) (bytes_fit m i s.pc) x _ _ _ _ _ _ _ _ _ _ _ _ _ _ _ refl
+    c.ask_address.ensures c.where_next.ensures c.keep_address.ensures c.seek_address.ensures c.ask_byte.ensures c.fetch_byte.ensures c.dispatch.ensures
