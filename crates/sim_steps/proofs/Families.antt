@@ -28,21 +28,9 @@ at_row (Some (operation.Plain EXIT)) e = absurd (omega arith)
 at_row (Some (operation.Jump B)) e = absurd (omega arith)
 at_row _ e = absurd (omega arith)
 
-pub at_exit : (o : Option GplOperation) → operation_entry o ≡ 0x24C0 → is_flow o ≡ true
-at_exit (Some (operation.Plain EXIT)) e = refl
-at_exit (Some (operation.Jump B)) e = refl
-at_exit (Some (operation.Two ST)) e = absurd (omega arith)
-at_exit _ e = absurd (omega arith)
-
-pub at_jump : (o : Option GplOperation) → operation_entry o ≡ 0x24B0 → is_flow o ≡ true
-at_jump (Some (operation.Plain EXIT)) e = refl
-at_jump (Some (operation.Jump B)) e = refl
-at_jump (Some (operation.Two ST)) e = absurd (omega arith)
-at_jump _ e = absurd (omega arith)
-
--- what leads nowhere else is refused
-pub elsewhere : (o : Option GplOperation) → (operation_entry o ≡ 0x2426 → ⊥) → (operation_entry o ≡ 0x24B0 → ⊥) → (operation_entry o ≡ 0x24C0 → ⊥) → operation_entry o ≡ 0x22AE
-elsewhere (Some (operation.Plain EXIT)) a b c = absurd (c refl)
-elsewhere (Some (operation.Jump B)) a b c = absurd (b refl)
-elsewhere (Some (operation.Two ST)) a b c = absurd (a refl)
-elsewhere _ a b c = refl
+-- what leads neither to the rows nor to the stop
+pub at_flow : (o : Option GplOperation) → (operation_entry o ≡ 0x22AE → ⊥) → (operation_entry o ≡ 0x2426 → ⊥) → is_flow o ≡ true
+at_flow (Some (operation.Plain EXIT)) a b = refl
+at_flow (Some (operation.Jump B)) a b = refl
+at_flow (Some (operation.Two ST)) a b = absurd (b refl)
+at_flow _ a b = absurd (a refl)

@@ -12,3 +12,4 @@ pub mod Matched
 pub mod Families
 pub mod Loading
 pub mod Finishing
+pub mod Turning

@@ -1,6 +1,5 @@
 //! A turn.
 
-ghost use Rattle.std.specs.Prelude.{zero};
 ghost use Rattle.interp_defs.specs.Match.{IsMatching, shown_by};
 ghost use Rattle.interp_defs.specs.Turned.{Turned};
 
@@ -8,7 +7,7 @@ use crate::alu::run_alu;
 use crate::flow::run_flow;
 use crate::step::{begin_step, stop_code};
 use interp_defs::Turn;
-use native_interp::{GOB, GOEXIT, ROW};
+use native_interp::{ROW, UNKN};
 use std::sync::ledger::Ledger;
 use step_defs::Reason;
 use tms_step::{Machine, Steps};
@@ -17,18 +16,19 @@ use tms_step::{Machine, Steps};
 ///
 /// The answer is the step's: [`Turn::Stepped`] where it is made, and the machine then matches the state after it;
 /// [`Turn::Stopped`] with the reason where it is not, and the machine is then halted with the state as it was and the address
-/// of the code byte. It executes at most 400 TMS9900 instructions for a step that this interpreter makes or refuses.
+/// of the code byte. It executes at most as many TMS9900 instructions as the bound of the step.
 pub fn gpl_turn<L: Ledger>(machine: &mut Machine, steps: &mut Steps<L>) -> Turn
     requires { IsMatching machine.old }
     ensures { Turned (shown_by machine.old.cpu.memory) 0 machine.old machine.new steps.old steps.new result }
 {
     begin_step(machine, steps);
-    match machine.pc() {
-        ROW => run_alu(machine, steps),
-        GOB | GOEXIT => run_flow(machine, steps),
-        _ => {
-            stop_code(machine, steps);
-            Turn::Stopped(Reason::Opcode)
-        }
+    let entry = machine.pc();
+    if entry == UNKN {
+        stop_code(machine, steps);
+        return Turn::Stopped(Reason::Opcode);
     }
+    if entry == ROW {
+        return run_alu(machine, steps);
+    }
+    run_flow(machine, steps)
 }

@@ -1,36 +1,42 @@
-use Rattle.std.proofs.Common.{rules, zero, ◌≡◌, ℕ, ◌+◌, ◌-◌, ◌*◌, ◌<◌, ◌≤◌, length, ◌/◌, ◌%◌, Bool, true, false, nat_eq, nat_lt, List, [], ◌∷◌, ◌++◌, slice_index_or, slice_set, bit_and, bit_or, Fits, w8, w32, w64, Bor, MutBor}
 use Rattle.interp_defs.specs.Match.{IsMatching, shown_by}
 use Rattle.interp_defs.specs.Turned.{Turned}
+use Rattle.sim_steps.proofs.Turning.{dispatched, stands, at_row, at_flow, stands_at, turned, stopped}
 use Rattle.sim_steps.proofs.turn.gpl_turn.Goals as goal
 
--- src/turn.rt:27:16
-pub run_alu-requires-clause-family : goal.run_alu-requires-clause-family
-run_alu-requires-clause-family g c = ?
-
--- src/turn.rt:28:25
-pub run_flow-requires-clause-stands : goal.run_flow-requires-clause-stands
-run_flow-requires-clause-stands g c = ?
-
--- src/turn.rt:28:25
-pub run_flow-requires-clause-dispatched : goal.run_flow-requires-clause-dispatched
-run_flow-requires-clause-dispatched g c = ?
-
--- src/turn.rt:28:25
-pub run_flow-requires-clause-family : goal.run_flow-requires-clause-family
-run_flow-requires-clause-family g c = ?
-
--- src/turn.rt:30:13
 pub stop_code-requires : goal.stop_code-requires
-stop_code-requires g c = ?
+stop_code-requires g c =
+    stands_at (shown_by c.args.machine.now.cpu.memory) c.args.machine.now c.begin_step.new.machine c.args.steps.now c.begin_step.new.steps c.begin_step.ensures
+    c.pc-entry.result 0x22AE c.pc-entry.ensures.value c.if-entry-eq-UNKN.true
 
--- src/turn.rt:21:1
-pub returns-in-9254 : goal.returns-in-9254
-returns-in-9254 g c = ?
+pub returns-then-entry-eq-UNKN : goal.returns-then-entry-eq-UNKN
+returns-then-entry-eq-UNKN g c =
+    stopped (shown_by c.args.machine.now.cpu.memory) c.args.machine.now c.begin_step.new.machine c.args.steps.now c.begin_step.new.steps c.begin_step.ensures
+    c.pc-entry.result c.pc-entry.ensures.value c.if-entry-eq-UNKN.true c.stop_code.new.machine c.stop_code.new.steps c.stop_code.ensures
 
--- src/turn.rt:21:1
-pub returns-in-9392 : goal.returns-in-9392
-returns-in-9392 g c = ?
+pub run_alu-requires-clause-family : goal.run_alu-requires-clause-family
+run_alu-requires-clause-family g c =
+    at_row (shown_by c.args.machine.now.cpu.memory) c.args.machine.now c.begin_step.new.machine c.args.steps.now c.begin_step.new.steps c.begin_step.ensures
+    c.pc-entry.result c.pc-entry.ensures.value c.if-entry-eq-ROW.true
 
--- src/turn.rt:21:1
-pub returns-in_default : goal.returns-in_default
-returns-in_default g c = ?
+pub returns-then-entry-eq-ROW : goal.returns-then-entry-eq-ROW
+returns-then-entry-eq-ROW g c =
+    turned (shown_by c.args.machine.now.cpu.memory) c.args.machine.now c.begin_step.new.machine c.args.steps.now c.begin_step.new.steps c.begin_step.ensures
+    c.run_alu.new.machine c.run_alu.new.steps c.run_alu.result c.run_alu.ensures
+
+pub run_flow-requires-clause-stands : goal.run_flow-requires-clause-stands
+run_flow-requires-clause-stands g c =
+    stands (shown_by c.args.machine.now.cpu.memory) c.args.machine.now c.begin_step.new.machine c.args.steps.now c.begin_step.new.steps c.begin_step.ensures
+
+pub run_flow-requires-clause-dispatched : goal.run_flow-requires-clause-dispatched
+run_flow-requires-clause-dispatched g c =
+    dispatched (shown_by c.args.machine.now.cpu.memory) c.args.machine.now c.begin_step.new.machine c.args.steps.now c.begin_step.new.steps c.begin_step.ensures
+
+pub run_flow-requires-clause-family : goal.run_flow-requires-clause-family
+run_flow-requires-clause-family g c =
+    at_flow (shown_by c.args.machine.now.cpu.memory) c.args.machine.now c.begin_step.new.machine c.args.steps.now c.begin_step.new.steps c.begin_step.ensures
+    c.pc-entry.result c.pc-entry.ensures.value c.if-entry-eq-UNKN.false c.if-entry-eq-ROW.false
+
+pub returns : goal.returns
+returns g c =
+    turned (shown_by c.args.machine.now.cpu.memory) c.args.machine.now c.begin_step.new.machine c.args.steps.now c.begin_step.new.steps c.begin_step.ensures
+    c.run_flow.new.machine c.run_flow.new.steps c.run_flow.result c.run_flow.ensures
