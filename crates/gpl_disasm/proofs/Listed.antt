@@ -1,14 +1,14 @@
 -- What is listed at an address, by what is read there.
-use Rattle.std.proofs.Common.{◌≡◌, ◌≢◌, ℕ, ◌+◌, ◌<◌, ◌≤◌, Bool, true, false, List, length, refl, sym, ap, ◌∙◌, arith}
-use Rattle.std.specs.Prelude.{◌==◌, ◌&&◌, nat_le, min, if◌then◌else◌, slice_index}
+use Rattle.std.proofs.Common.{◌≡◌, ◌≢◌, ℕ, ◌+◌, ◌<◌, ◌≤◌, Bool, true, false, List, length, refl, ◌∙◌, arith}
+use Rattle.std.specs.Prelude.{◌==◌, ◌&&◌, nat_le, min, if◌then◌else◌}
 use Rattle.std.proofs.lemmas.Bool.Decides.{nat_tests}
 use Rattle.gpl_defs.specs.declared.instruction.GplInstr.{GplInstr}
 use Rattle.gpl_defs.specs.declared.instruction.GplRead.TheVariants.{Instr, Refused}
 use Rattle.gpl_defs.specs.Bytes.{bytes_of}
-use Rattle.gpl_defs.specs.Reading.{reading, stand, IsReadAt}
+use Rattle.gpl_defs.specs.Reading.{reading, IsReadAt}
 use Rattle.gpl_forms.specs.Sizes.{size_between}
 use Rattle.gpl_forms.proofs.SizeLaws.{stands_by_size}
-use Rattle.listing_defs.specs.Listing.{Listed, boundary, byte_listed, instr_listed, listed_at}
+use Rattle.listing_defs.specs.Listing.{boundary, byte_listed, instr_listed, listed_at}
 
 -- whether so many bytes are a whole instruction in its shortest spelling
 abbrev pub is_whole_by : ℕ → ℕ → ℕ → ℕ → Bool

@@ -1,5 +1,5 @@
 -- How many bytes an instruction has, told by the addresses before and behind them.
-use Rattle.std.proofs.Common.{◌≡◌, ◌≢◌, ℕ, zero, suc, ◌+◌, ◌-◌, ◌*◌, ◌/◌, ◌%◌, ◌<◌, ◌≤◌, Bool, true, false, List, [], ◌∷◌, ◌++◌, length, length-append, refl, sym, ap, ◌∙◌, arith}
+use Rattle.std.proofs.Common.{◌≡◌, ◌≢◌, ℕ, suc, ◌+◌, ◌*◌, ◌/◌, ◌%◌, ◌<◌, ◌≤◌, Bool, true, false, List, [], ◌∷◌, ◌++◌, length, length-append, refl, sym, ◌∙◌, arith}
 use Rattle.std.specs.Prelude.{slice_index, ◌==◌, ◌&&◌, IsTrue, Option, Some, None}
 use Rattle.std.proofs.lemmas.Bool.Decides.{nat_tests}
 use Rattle.console_defs.specs.Grom.{next_in_grom}
@@ -18,8 +18,8 @@ use Rattle.gpl_defs.specs.declared.instruction.GplRead.TheVariants.{Instr}
 use Rattle.gpl_defs.specs.Valid.{is_valid}
 use Rattle.gpl_defs.specs.Bytes.{index_bytes, value_bytes, bytes_of}
 use Rattle.gpl_defs.specs.Spellings.{Spelling, OneByte, TwelveBits, SixteenBits, spelled, SpellsOperand, SpellsSource, SpellsLength}
-use Rattle.gpl_defs.specs.Spellings.{SpellsTarget, SpellsFrom, SpellsRest, Spells, Stand, Means}
-use Rattle.gpl_defs.specs.Reading.{reading, stand, IsReadAt, ReadsInstr}
+use Rattle.gpl_defs.specs.Spellings.{SpellsTarget, SpellsFrom, SpellsRest, Spells, Stand}
+use Rattle.gpl_defs.specs.Reading.{reading, stand, ReadsInstr}
 use Rattle.gpl_forms.specs.Sizes.{size_between}
 use Rattle.gpl_defs.proofs.MeaningLaws.{bytes_read}
 use Rattle.gpl_defs.proofs.ShortLaws.{bytes_shortest}

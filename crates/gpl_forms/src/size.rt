@@ -40,13 +40,7 @@ fn source_size(word: bool, src: &GplSource) -> u32
 {
     match src {
         GplSource::At(operand) => operand_size(operand),
-        GplSource::Immediate(_) => {
-            if word {
-                2
-            } else {
-                1
-            }
-        }
+        GplSource::Immediate(_) => { if word { 2 } else { 1 } }
     }
 }
 

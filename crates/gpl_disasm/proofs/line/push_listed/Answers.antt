@@ -1,5 +1,4 @@
-use Rattle.std.proofs.Common.{◌≡◌, ◌++◌, ap, refl, ◌∙◌, sym}
-use Rattle.listing_defs.specs.Listing.{Listed, byte_listed, listed_at}
+use Rattle.std.proofs.Common.{◌∙◌, sym}
 use Rattle.gpl_disasm.proofs.Listed.{refused_listed}
 use Rattle.gpl_disasm.proofs.line.push_listed.Goals as goal
 
