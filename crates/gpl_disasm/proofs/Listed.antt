@@ -28,11 +28,13 @@ past_test a b e = grind (arith, nat_tests)
 
 read_listed : (image : List ℕ) (at next end : ℕ) (instr : GplInstr) → at < 65536 →
     reading image at ≡ Instr instr next → IsReadAt image at (Instr instr next) →
-    listed_at image at end ≡ (if is_whole_by at next end (length (bytes_of instr)) then instr_listed instr at else byte_listed image at)
+    listed_at image at end
+    ≡ (if is_whole_by at next end (length (bytes_of instr)) then instr_listed instr at else byte_listed image at)
 unfolding listed_at
 read_listed image at next end instr lt read reads = rw (read, stands_by_size image at next instr lt reads read) refl
 
-pub refused_listed : (image : List ℕ) (at end code : ℕ) → reading image at ≡ Refused code → listed_at image at end ≡ byte_listed image at
+pub refused_listed : (image : List ℕ) (at end code : ℕ) → reading image at ≡ Refused code →
+    listed_at image at end ≡ byte_listed image at
 unfolding listed_at
 refused_listed image at end code read = rw read refl
 

@@ -55,8 +55,8 @@ pub(crate) fn push_listed(line: &mut Line, image: &[u8], at: u16, end: u32) -> u
     }
 }
 
-/// Appends what is listed at an address where an instruction was read, which ends before the address `next`, and says how
-/// many bytes it stands for. The instruction stands in its shortest spelling where it was read from so few bytes.
+/// Appends what is listed at an address where an instruction was read, which ends before the address `next`, and says
+/// how many bytes it stands for. The instruction stands in its shortest spelling where it was read from so few bytes.
 fn push_read(line: &mut Line, image: &[u8], at: u16, end: u32, instr: &GplInstr, next: u16) -> u32
     requires room { array_string_len line.old ≤ 7 }
     requires size { length image.now ≡ 65536 }

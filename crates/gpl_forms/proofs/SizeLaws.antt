@@ -1,5 +1,6 @@
 -- How many bytes an instruction has, told by the addresses before and behind them.
-use Rattle.std.proofs.Common.{◌≡◌, ◌≢◌, ℕ, suc, ◌+◌, ◌*◌, ◌/◌, ◌%◌, ◌<◌, ◌≤◌, Bool, true, false, List, [], ◌∷◌, ◌++◌, length, length-append, refl, sym, ◌∙◌, arith}
+use Rattle.std.proofs.Common.{◌≡◌, ◌≢◌, ℕ, suc, ◌+◌, ◌*◌, ◌/◌, ◌%◌, ◌<◌, ◌≤◌, Bool, true, false}
+use Rattle.std.proofs.Common.{List, [], ◌∷◌, ◌++◌, length, length-append, refl, sym, ◌∙◌, arith}
 use Rattle.std.specs.Prelude.{slice_index, ◌==◌, ◌&&◌, IsTrue, Option, Some, None}
 use Rattle.std.proofs.lemmas.Bool.Decides.{nat_tests}
 use Rattle.console_defs.specs.Grom.{next_in_grom}
@@ -17,7 +18,8 @@ use Rattle.gpl_defs.specs.declared.instruction.GplInstr.TheVariants.{Plain, Byte
 use Rattle.gpl_defs.specs.declared.instruction.GplRead.TheVariants.{Instr}
 use Rattle.gpl_defs.specs.Valid.{is_valid}
 use Rattle.gpl_defs.specs.Bytes.{index_bytes, value_bytes, bytes_of}
-use Rattle.gpl_defs.specs.Spellings.{Spelling, OneByte, TwelveBits, SixteenBits, spelled, SpellsOperand, SpellsSource, SpellsLength}
+use Rattle.gpl_defs.specs.Spellings.{Spelling, OneByte, TwelveBits, SixteenBits, spelled}
+use Rattle.gpl_defs.specs.Spellings.{SpellsOperand, SpellsSource, SpellsLength}
 use Rattle.gpl_defs.specs.Spellings.{SpellsTarget, SpellsFrom, SpellsRest, Spells, Stand}
 use Rattle.gpl_defs.specs.Reading.{reading, stand, ReadsInstr}
 use Rattle.gpl_forms.specs.Sizes.{size_between}
@@ -112,11 +114,13 @@ stand_first image bytes byte at true false e f test = absurd (cc)
 stand_first image bytes byte at false stands e f test = absurd (cc)
 
 -- a test that bytes stand says where they end
-test_stands : (image bytes : List ℕ) (at : ℕ) → stand image bytes at ≡ true → Stand image bytes at (behind at (length bytes))
+test_stands : (image bytes : List ℕ) (at : ℕ) → stand image bytes at ≡ true →
+    Stand image bytes at (behind at (length bytes))
 test_stands image [] at test = omega arith
 test_stands image (byte ∷ bytes) at test =
     let parts =
-    stand_first image bytes byte at (slice_index image at == byte) (stand image bytes (next_in_grom at)) refl refl test in
+    stand_first image bytes byte at (slice_index image at == byte) (stand image bytes (next_in_grom at)) refl refl
+    test in
     let rest = test_stands image bytes (next_in_grom at) parts.1 in
     (parts.0, rw (behind-next at (length bytes)) at rest)
 
@@ -135,7 +139,8 @@ size-behind at count lt few = omega arith
 pub stands_by_size : (image : List ℕ) (at next : ℕ) (instr : GplInstr) → at < 65536 →
     ReadsInstr image at instr next → reading image at ≡ Instr instr next →
     stand image (bytes_of instr) at ≡ (length (bytes_of instr) == size_between at next)
-stands_by_size image at next instr lt reads read = by (stand image (bytes_of instr) at) (length (bytes_of instr) == size_between at next) refl refl
+stands_by_size image at next instr lt reads read =
+    by (stand image (bytes_of instr) at) (length (bytes_of instr) == size_between at next) refl refl
   where
     valid : IsTrue (is_valid instr)
     valid = reads.means.is_kind.valid
@@ -145,7 +150,8 @@ stands_by_size image at next instr lt reads read = by (stand image (bytes_of ins
 
     there : size_between at next ≡ length reads.means.bytes
     there =
-        rw (stand_behind image reads.means.bytes at next reads.means.stand) (size-behind at (length reads.means.bytes) lt few)
+        rw (stand_behind image reads.means.bytes at next reads.means.stand)
+        (size-behind at (length reads.means.bytes) lt few)
 
     by : (stands same : Bool) → stand image (bytes_of instr) at ≡ stands →
         (length (bytes_of instr) == size_between at next) ≡ same → stands ≡ same
@@ -155,8 +161,10 @@ stands_by_size image at next instr lt reads read = by (stand image (bytes_of ins
         let back = test_stands image (bytes_of instr) at e in
         let again = bytes_read instr valid image at (behind at (length (bytes_of instr))) back in
         let end : next ≡ behind at (length (bytes_of instr)) = cc in
-        let short : length (bytes_of instr) ≤ 13 = spelled_in_13 instr (bytes_of instr) (bytes_shortest instr valid).spells in
-        let size : size_between at next ≡ length (bytes_of instr) = rw end (size-behind at (length (bytes_of instr)) lt short) in
+        let short : length (bytes_of instr) ≤ 13 =
+        spelled_in_13 instr (bytes_of instr) (bytes_shortest instr valid).spells in
+        let size : size_between at next ≡ length (bytes_of instr) =
+        rw end (size-behind at (length (bytes_of instr)) lt short) in
         absurd (other_by_test (length (bytes_of instr)) (size_between at next) f (sym size))
     by false true e f =
         let size : length reads.means.bytes ≡ length (bytes_of instr) =

@@ -13,14 +13,20 @@ pub returns-then-from-size-clause-text : goal.returns-then-from-size-clause-text
 returns-then-from-size-clause-text c =
     let same : length (bytes_of c.args.instr.now) ≡ size_between c.args.at c.args.next = omega arith in
     let within : c.args.at + length (bytes_of c.args.instr.now) ≤ min c.args.end (boundary c.args.at) = omega arith in
-    rw (whole_listed c.args.image.now c.args.at c.args.next c.args.end c.args.instr.now (omega arith) c.requires.read c.requires.means same within)
+    let whole =
+    whole_listed c.args.image.now c.args.at c.args.next c.args.end c.args.instr.now (omega arith) c.requires.read
+    c.requires.means same within in
+    rw whole
     c.push_instr.ensures.text
 
 pub returns-then-from-size-clause-size : goal.returns-then-from-size-clause-size
 returns-then-from-size-clause-size c =
     let same : length (bytes_of c.args.instr.now) ≡ size_between c.args.at c.args.next = omega arith in
     let within : c.args.at + length (bytes_of c.args.instr.now) ≤ min c.args.end (boundary c.args.at) = omega arith in
-    rw (whole_listed c.args.image.now c.args.at c.args.next c.args.end c.args.instr.now (omega arith) c.requires.read c.requires.means same within)
+    let whole =
+    whole_listed c.args.image.now c.args.at c.args.next c.args.end c.args.instr.now (omega arith) c.requires.read
+    c.requires.means same within in
+    rw whole
     c.size_of-size.ensures.value
 
 pub returns-else-size-size_between-clause-text : goal.returns-else-size-size_between-clause-text
