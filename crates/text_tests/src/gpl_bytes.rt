@@ -497,7 +497,12 @@ fn stands_short(image: &GromImage, at: u16) -> bool {
 
 /// Whether a code byte is no instruction's.
 fn is_refused(code: u8) -> bool {
-    REFUSED.iter().any(|run| run.0 <= code && code <= run.1)
+    for &(first, last) in REFUSED {
+        if first <= code && code <= last {
+            return true;
+        }
+    }
+    false
 }
 
 /// Whether a code byte is refused where it should be, and no other is.
@@ -545,6 +550,8 @@ fn other_spellings_are_read_and_other_codes_refused(rt: HostRuntime) -> Result<(
     for code in 0..=255u8 {
         assert!(rt; refuses_rightly(&mut image, code), "code {code:02X}");
     }
-    assert!(rt; INVALID.iter().all(|instr| !is_valid(instr)));
+    for instr in INVALID {
+        assert!(rt; !is_valid(instr));
+    }
     Ok(())
 }
