@@ -540,7 +540,7 @@ fn each_instruction_is_written_and_read_again(rt: HostRuntime) -> Result<(), Fai
     Ok(())
 }
 
-/// Whether bytes from the last of a GROM on, which go on at its first, are read as a longer spelling of ABS on the cell.
+/// Whether bytes from the last of a GROM on, and then from its first, are read as a longer spelling of ABS on the cell.
 fn is_read_from_the_last_byte(image: &mut GromImage, bytes: &[u8]) -> bool {
     put_all(image, 0x7FFF, bytes);
     match u16::try_from(bytes.len()) {

@@ -1,4 +1,4 @@
-use Rattle.std.proofs.Common.{rules, arith}
+use Rattle.std.proofs.Common.{arith}
 use Rattle.std.proofs.lemmas.Grind.{common_steps}
 use Rattle.asm_defs.specs.SecondChecks.{second_checks}
 use Rattle.asm_forms.proofs.parse.second_checks.Goals as goal
