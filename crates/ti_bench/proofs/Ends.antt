@@ -35,6 +35,7 @@ written_ends o (made.Refused line) wrote = (refl, wrote)
 written_ends o (made.Fault fault.Usage) wrote = (refl, wrote)
 written_ends o (made.Fault fault.TooLarge) wrote = (refl, wrote)
 written_ends o (made.Fault fault.PastEnd) wrote = (refl, wrote)
+written_ends o (made.Fault (fault.Interpreter why)) wrote = (refl, wrote)
 
 wrote_report : (o : Outputs) (report : spec.Report) (done : Unit {0}) → WrittenReport {E = Failed} (Ok done) o report → WroteReport o report
 wrote_report o (spec.Whole status pieces) done written = written
@@ -60,6 +61,7 @@ by_report run report status.Usage reports ends = (report, reports, ends)
 by_report run report status.ReadFault reports ends = absurd ends
 by_report run report status.WriteFault reports ends = (report, reports, ends)
 by_report run report status.Memory reports ends = absurd ends
+by_report run report status.Interpreter reports ends = (report, reports, ends)
 by_report run report status.Stopped reports ends = (report, reports, ends)
 
 -- an input that was taken whole

@@ -6,7 +6,7 @@ use Rattle.bench_io.specs.ReadAll.{Took, ReadWhole}
 use Rattle.bench_io.specs.Written.{Wrote, Missed, Written}
 use Rattle.report_defs.specs.declared.command.Command.{Command}
 use Rattle.report_defs.specs.declared.status.Status.{Status}
-use Rattle.report_defs.specs.declared.status.Status.TheVariants.{Done, Refused, Usage, ReadFault, WriteFault, Memory, Stopped}
+use Rattle.report_defs.specs.declared.status.Status.TheVariants.{Done, Refused, Usage, ReadFault, WriteFault, Memory, Interpreter, Stopped}
 use Rattle.report_defs.specs.declared.fault.Fault.TheVariants as fault
 use Rattle.report_defs.specs.FaultLine.{fault_line}
 use Rattle.report_defs.specs.Commands.{command_of, reads}
@@ -81,6 +81,7 @@ EndsWith o report Usage = (status_of report ≡ Usage) × WroteReport o report
 EndsWith o report ReadFault = ⊥
 EndsWith o report WriteFault = MissedReport o report
 EndsWith o report Memory = ⊥
+EndsWith o report Interpreter = (status_of report ≡ Interpreter) × WroteReport o report
 EndsWith o report Stopped = (status_of report ≡ Stopped) × WroteReport o report
 
 -- nothing was written, and no more of the input was taken than an input may have, by calls of which one at most gave
@@ -108,4 +109,5 @@ EndsBy run Usage = EndsByReport run Usage
 EndsBy run ReadFault = WroteNothing run × Rose run.input.faults run.input'.faults
 EndsBy run WriteFault = EndsByReport run WriteFault
 EndsBy run Memory = WroteNothing run
+EndsBy run Interpreter = EndsByReport run Interpreter
 EndsBy run Stopped = EndsByReport run Stopped
