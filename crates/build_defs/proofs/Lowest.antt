@@ -39,6 +39,9 @@ ends count at one other le =
     let e : count - at ≡ 0 = omega arith in
     rw e refl
 
+-- the search, a step at a time
+pub ruleset searching = (goes_on, stops, ends)
+
 -- what the first of the addresses below an end is
 abbrev Found : (ℕ → Option ℕ) → (ℕ → Option ℕ) → ℕ → Option ℕ → Type 0
 Found one other end (Some at) = (at < end) × (one at ≢ other at) × ((lower : ℕ) → lower < at → one lower ≡ other lower)

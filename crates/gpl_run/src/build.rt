@@ -18,12 +18,13 @@ use native_interp::interpreter_words;
 use object_tags::Module;
 use std::alloc::Global;
 
-/// Builds the interpreter: assembles its source, links the module, and compares the memory with the words that are shipped.
+/// Builds the interpreter: assembles its source, links the module, and compares the memory with the words that are
+/// shipped, the first of them at >2000.
 ///
 /// # Errors
-/// `SourceRefused` comes exactly where the source is refused or its module is not linked. `ImageDiffers` comes exactly where
-/// the memory has other words than those that are shipped, or more, or fewer, with the lowest such address. `Memory` is want
-/// of memory.
+/// `SourceRefused` comes exactly where the source is refused or its module is not linked. `ImageDiffers` comes exactly
+/// where the memory has other words than those that are shipped, or more, or fewer, with the lowest such address and both
+/// words. `Memory` is want of memory.
 pub fn build_interp(alloc: Global) -> Result<Linked, BuildError>
     ensures { Gives result built_interpreter }
 {

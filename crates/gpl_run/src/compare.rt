@@ -15,13 +15,10 @@ const ADDRESSES: usize = 65536;
 const ORIGIN: u16 = 0x2000;
 
 /// The lowest address at which linked memory differs from words that are shipped, of which the first stands at >2000.
-#[tactic(auto, using(
-    build_defs::proofs::Lowest::goes_on,
-    build_defs::proofs::Lowest::stops,
-    build_defs::proofs::Lowest::ends
-))]
+#[tactic(auto, using(build_defs::proofs::Lowest::searching))]
 pub(crate) fn first_difference(linked: &Linked, shipped: &[u16]) -> Option<u16>
-    ensures { result ≡ differences.first_difference (get (defined_linked linked.now).words) (spec.shipped_at shipped.now) }
+    ensures { result
+        ≡ differences.first_difference (get (defined_linked linked.now).words) (spec.shipped_at shipped.now) }
 {
     for at in 0..ADDRESSES {
         let address = at as u16;
@@ -42,7 +39,7 @@ pub(crate) fn shipped_at(shipped: &[u16], address: u16) -> Option<u16>
     shipped.get(usize::from((address - ORIGIN) / 2)).copied()
 }
 
-/// Whether two addresses have the same word, or none both.
+/// Whether two memories have the same word at an address, or none both.
 fn same_word(one: Option<u16>, other: Option<u16>) -> bool
     ensures { result ≡ differences.same_word one other }
 {

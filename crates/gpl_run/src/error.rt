@@ -8,8 +8,8 @@ use std::alloc::{AllocError, AllocFailed};
 /// Why the interpreter is not built. A source that is refused comes before words that differ.
 #[derive(Clone, Copy, Debug, PartialEq, Eq)]
 pub enum BuildError {
-    /// The words that the source gives are not those that are shipped. The word of an address where none stands is given
-    /// as 0.
+    /// The words that the source gives are not those that are shipped. The word of an address where none stands is
+    /// given as 0.
     ImageDiffers {
         /// The lowest address at which they differ.
         address: u16,

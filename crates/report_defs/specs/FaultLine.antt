@@ -25,7 +25,7 @@ interpreter_line SourceRefused = codes "interpreter refused\n"
 interpreter_line (ImageDiffers address assembled shipped) =
     codes "interpreter differs at "
     ++ (marked_word address
-        ++ (codes ": " ++ (marked_word assembled ++ (codes " " ++ (marked_word shipped ++ codes "\n")))))
+    ++ (codes ": " ++ (marked_word assembled ++ (codes " " ++ (marked_word shipped ++ codes "\n")))))
 
 abbrev pub fault_line : Fault → List ℕ
 fault_line Usage = usage_line

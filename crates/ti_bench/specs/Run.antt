@@ -6,7 +6,8 @@ use Rattle.bench_io.specs.ReadAll.{Took, ReadWhole}
 use Rattle.bench_io.specs.Written.{Wrote, Missed, Written}
 use Rattle.report_defs.specs.declared.command.Command.{Command}
 use Rattle.report_defs.specs.declared.status.Status.{Status}
-use Rattle.report_defs.specs.declared.status.Status.TheVariants.{Done, Refused, Usage, ReadFault, WriteFault, Memory, Interpreter, Stopped}
+use Rattle.report_defs.specs.declared.status.Status.TheVariants.{Done, Refused, Usage, ReadFault, WriteFault}
+use Rattle.report_defs.specs.declared.status.Status.TheVariants.{Memory, Interpreter, Stopped}
 use Rattle.report_defs.specs.declared.fault.Fault.TheVariants as fault
 use Rattle.report_defs.specs.FaultLine.{fault_line}
 use Rattle.report_defs.specs.Commands.{command_of, reads}

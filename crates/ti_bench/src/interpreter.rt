@@ -24,11 +24,13 @@ pub(crate) fn build_interpreter(alloc: Global) -> Result<BuiltInterpreter, Alloc
     match build_interp(alloc) {
         Ok(linked) => Ok(BuiltInterpreter::Memory(linked)),
         Err(BuildError::SourceRefused) => Ok(BuiltInterpreter::Fault(BuildFault::SourceRefused)),
-        Err(BuildError::ImageDiffers {
-            address,
-            assembled,
-            shipped,
-        }) => Ok(BuiltInterpreter::Fault(BuildFault::ImageDiffers {
+        Err(
+            BuildError::ImageDiffers {
+                address,
+                assembled,
+                shipped,
+            },
+        ) => Ok(BuiltInterpreter::Fault(BuildFault::ImageDiffers {
             address,
             assembled,
             shipped,
