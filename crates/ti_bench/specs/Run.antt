@@ -1,5 +1,5 @@
 -- One run of the program: how it may end, and what the input and the two outputs are then.
-use Rattle.std.specs.Prelude.{◌≡◌, ℕ, ◌+◌, ◌≤◌, nat_lt, Bool, MatchBool, if◌then◌else◌, List, [], ◌∷◌, length, Option, Some, None, IsSome, Result}
+use Rattle.std.specs.Prelude.{◌≡◌, ℕ, ◌+◌, ◌≤◌, nat_lt, Bool, false, MatchBool, if◌then◌else◌, List, [], ◌∷◌, length, Option, Some, None, IsSome, Result}
 use Rattle.count_defs.specs.Counts.{Rose}
 use Rattle.bench_io.specs.Stream.{SourceState, SinkState, IsAtEnd}
 use Rattle.bench_io.specs.ReadAll.{Took, ReadWhole}
@@ -85,8 +85,13 @@ EndsWith o report Memory = ⊥
 EndsWith o report Interpreter = (status_of report ≡ Interpreter) × WroteReport o report
 EndsWith o report Stopped = (status_of report ≡ Stopped) × WroteReport o report
 
+-- a command that reads no input leaves it as it was
+abbrev pub LeavesInput : Run → Type 0
+LeavesInput run =
+    (command : Command) → command_of run.words ≡ Some command → reads command ≡ false → run.input' ≡ run.input
+
 -- nothing was written, and no more of the input was taken than an input may have, by calls of which one at most gave
--- no byte
+-- no byte; and nothing of it by a command that reads none
 pub record WroteNothing (run : Run) : Type 0 where
   pub command : IsSome (command_of run.words)
   pub bytes : List ℕ
@@ -94,6 +99,7 @@ pub record WroteNothing (run : Run) : Type 0 where
   pub empty : ℕ
   pub one : empty ≤ 1
   pub took : Took run.input run.input' bytes empty
+  pub unread : LeavesInput run
   pub out : run.outputs.out' ≡ run.outputs.out
   pub err : run.outputs.err' ≡ run.outputs.err
 
