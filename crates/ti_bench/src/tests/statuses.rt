@@ -17,6 +17,7 @@ const NO_COMMANDS: &[&[&[u8]]] = &[
     &[b"--help"],
     &[b"run"],
     &[b"run", b"007"],
+    &[b"interp", b"1"],
     &[b"trace", b"100001"],
     &[b"dis"],
     &[b"dis", b"A001"],
@@ -98,6 +99,7 @@ const NUMBERS: &[(Status, u8)] = &[
     (Status::ReadFault, 3),
     (Status::WriteFault, 4),
     (Status::Memory, 5),
+    (Status::Interpreter, 6),
     (Status::Stopped, 7),
 ];
 
