@@ -41,7 +41,7 @@ pub struct Before<'a> {
 }
 
 /// What a line says.
-#[derive(Debug, Drop)]
+#[derive(Drop)]
 pub struct Said<'a> {
     /// Its fields.
     pub fields: Fields,
@@ -52,7 +52,7 @@ pub struct Said<'a> {
 }
 
 /// What the first checks leave of a line.
-#[derive(Debug, Drop)]
+#[derive(Drop)]
 pub struct Checked<'a> {
     /// What it says.
     pub said: Said<'a>,

@@ -16,7 +16,7 @@ use asm_text::{ExprError, Value, character_count, operand_count};
 use module_defs::{Location, Part};
 
 /// What a line does to the location.
-#[derive(Clone, Copy, Debug)]
+#[derive(Clone, Copy)]
 pub struct Move {
     /// The location that it sets.
     pub origin: Option<Location>,

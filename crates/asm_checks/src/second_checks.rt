@@ -34,7 +34,7 @@ use module_defs::{AsmCause, Location, Part};
 use object_defs::Spot;
 
 /// What a line comes to.
-#[derive(Debug, Drop)]
+#[derive(Drop)]
 pub enum Outcome {
     /// Nothing that is placed.
     Nothing,

@@ -19,7 +19,7 @@ use module_defs::Directive;
 use std::alloc::Global;
 
 /// What a line says: an instruction, or a directive with its operands. A field stands for the operands in it.
-#[derive(Clone, Copy, Debug)]
+#[derive(Clone, Copy)]
 pub enum Statement<'a> {
     /// Nothing, or nothing that has an effect.
     Nothing,

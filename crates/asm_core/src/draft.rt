@@ -20,7 +20,7 @@ use object_tags::Ref;
 use std::alloc::{AllocError, Global};
 
 /// What the lines place, the last uses of the names that others define, and the entry.
-#[derive(Debug, Drop)]
+#[derive(Drop)]
 pub(crate) struct Draft {
     pub(crate) alloc: Global,
     pub(crate) image: Image,

@@ -18,7 +18,7 @@ use module_defs::{AsmCause, Content, Location, Part};
 use std::alloc::{AllocError, Global};
 
 /// What a line claims of the places that it takes.
-#[derive(Debug, Drop)]
+#[derive(Drop)]
 pub(crate) enum Claim {
     /// These bytes are placed there.
     Bytes(Vec<Content>),
@@ -27,7 +27,7 @@ pub(crate) enum Claim {
 }
 
 /// What is known of a line.
-#[derive(Debug, Drop)]
+#[derive(Drop)]
 pub(crate) struct Judged {
     /// The line, where a value of it is open. Zeros hold its places then.
     pub(crate) waiting: Option<Pending>,

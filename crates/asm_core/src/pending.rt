@@ -6,7 +6,7 @@ ghost use Rattle.asm_core.specs.Held.{has_room};
 use module_defs::{AsmCause, Location};
 
 /// A line of which a value is still open: a name that is unknown so far, or a use of one that others define.
-#[derive(Debug, Drop)]
+#[derive(Drop)]
 pub(crate) struct Pending {
     /// The number of the line, from 1.
     pub(crate) number: u32,
@@ -18,7 +18,7 @@ pub(crate) struct Pending {
 }
 
 /// The first line that the second checks refuse whatever names are still to come.
-#[derive(Debug, Drop)]
+#[derive(Drop)]
 pub(crate) struct Refused {
     /// The number of the line, from 1.
     pub(crate) line: u32,

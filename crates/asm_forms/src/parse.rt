@@ -2,7 +2,6 @@
 
 ghost use Rattle.std.specs.Prelude.{◌≡◌, Ok, IsSome, IsOk};
 ghost use Rattle.source_defs.specs.Fields as lines;
-ghost use Rattle.source_defs.specs.Lines.{IsInside, part};
 ghost use Rattle.source_defs.specs.Symbols.{look_up};
 ghost use Rattle.asm_text.specs.GivenFields.{defined_fields};
 ghost use Rattle.asm_text.specs.GivenValues.{defined_value, IsNotExternal};
@@ -18,7 +17,7 @@ use crate::placed::{Placed, in_range_words, one_word};
 use crate::slots::slots_of;
 use crate::values::Scope;
 use asm_defs::FormError;
-use asm_text::{Fields, Span, Symbols, Value};
+use asm_text::{Fields, Symbols, Value, part};
 use std::alloc::Global;
 
 /// The second checks of a line of which the first checks left this, and its words.
@@ -88,12 +87,4 @@ fn line_checks<'a>(line: &'a [u8], fields: &Fields) -> Result<Skeleton<'a>, Form
     let operation = fields.operation.unwrap();
     let field = part(line, fields.operands);
     first_checks(part(line, operation), field)
-}
-
-/// A part of a line.
-fn part(line: &[u8], span: Span) -> &[u8]
-    requires { IsInside line.now span }
-    ensures { result.now ≡ part line.now span }
-{
-    &line[span.start..span.end]
 }

@@ -4,6 +4,9 @@ ghost use Rattle.std.specs.Prelude.{◌≡◌, ◌<◌};
 ghost use Rattle.source_defs.specs.Digits as spec;
 ghost use Rattle.source_defs.specs.Numbers.{hexadecimal_digit};
 
+/// The hexadecimal digits, in upper case.
+const DIGITS: &[u8; 16] = b"0123456789ABCDEF";
+
 /// The two hexadecimal digits of a byte, in upper case.
 #[tactic(auto, unfolding(source_defs::specs::Digits::byte_digits))]
 pub fn byte_digits(byte: u8) -> [u8; 2]
@@ -28,13 +31,10 @@ pub fn word_digits(word: u16) -> [u8; 4]
     ]
 }
 
+/// The hexadecimal digit of a value below 16.
 fn hexadecimal_digit(value: u8) -> u8
     requires { value < 16 }
     ensures { result ≡ hexadecimal_digit value }
 {
-    if value < 10 {
-        b'0' + value
-    } else {
-        b'A' - 10 + value
-    }
+    DIGITS[usize::from(value)]
 }

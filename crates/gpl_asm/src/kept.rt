@@ -4,7 +4,7 @@ use gpl_lines::Outcome;
 use program_defs::{GplCause, Location};
 
 /// A line that comes to something, or that the second checks refuse.
-#[derive(Debug, Drop)]
+#[derive(Drop)]
 pub(crate) struct Kept {
     /// The number of the line, from 1.
     pub(crate) number: u32,
@@ -15,7 +15,7 @@ pub(crate) struct Kept {
 }
 
 /// What is left of a line.
-#[derive(Debug, Drop)]
+#[derive(Drop)]
 pub(crate) enum Rest {
     /// What it comes to, whatever names are still to come.
     Settled(Outcome),

@@ -3,12 +3,14 @@ ghost use Rattle.std.specs.Prelude.{◌≡◌, ◌≤◌, ◌<◌, ◌+◌, ◌+
 ghost use Rattle.source_defs.specs.Digits.{marked_byte};
 ghost use Rattle.arrayvec.specs.ArrayString.{array_string_len};
 ghost use Rattle.source_defs.specs.ListedLines.{listed};
+ghost use Rattle.gpl_defs.specs.declared.instruction.GplRead.TheVariants.{Instr};
+ghost use Rattle.gpl_defs.specs.Reading.{reading, IsReadAt};
 ghost use Rattle.listing_defs.specs.Listing as spec;
 
 use crate::digits::push_byte;
-use crate::text::instr_text;
+use crate::text::push_instr;
 use arrayvec::ArrayString;
-use gpl_forms::{GplRead, read_instr, stands, write_instr};
+use gpl_forms::{GplInstr, GplRead, read_instr, size_between, size_of};
 
 /// A line, with room for its line feed.
 pub(crate) type Line = ArrayString<80>;
@@ -36,8 +38,7 @@ pub fn list_line(image: &[u8], at: u16, end: u32) -> (ArrayString<80>, u32)
 }
 
 /// Appends what is listed at an address, and says how many bytes it stands for.
-#[tactic(auto, unfolding(listing_defs::specs::Listing::listed_at))]
-fn push_listed(line: &mut Line, image: &[u8], at: u16, end: u32) -> u32
+pub(crate) fn push_listed(line: &mut Line, image: &[u8], at: u16, end: u32) -> u32
     requires room { array_string_len line.old ≤ 7 }
     requires size { length image.now ≡ 65536 }
     requires before { at < end }
@@ -48,16 +49,34 @@ fn push_listed(line: &mut Line, image: &[u8], at: u16, end: u32) -> u32
     ensures some { 0 < result }
     ensures room { array_string_len line.new < 80 }
 {
-    if let GplRead::Instr { instr, .. } = read_instr(image, at) {
-        let bytes = write_instr(&instr);
-        let size = bytes.len() as u32;
-        if stands(image, bytes.as_slice(), at) && u32::from(at) + size <= end.min(boundary(at)) {
-            line.push_str(instr_text(&instr, at).as_str());
-            return size;
-        }
+    match read_instr(image, at) {
+        GplRead::Instr { instr, next } => push_read(line, image, at, end, &instr, next),
+        GplRead::Refused(code) => push_byte_line(line, code),
     }
-    push_byte_line(line, image[usize::from(at)]);
-    1
+}
+
+/// Appends what is listed at an address where an instruction was read, which ends before the address `next`, and says
+/// how many bytes it stands for. The instruction stands in its shortest spelling where it was read from so few bytes.
+fn push_read(line: &mut Line, image: &[u8], at: u16, end: u32, instr: &GplInstr, next: u16) -> u32
+    requires room { array_string_len line.old ≤ 7 }
+    requires size { length image.now ≡ 65536 }
+    requires before { at < end }
+    requires end { end ≤ 65536 }
+    requires read { reading image.now at ≡ Instr instr.now next }
+    requires means { IsReadAt image.now at (Instr instr.now next) }
+    ensures text { line.new.bytes ≡ line.old.bytes ++ (spec.listed_at image.now at end).text }
+    ensures size { result ≡ (spec.listed_at image.now at end).size }
+    ensures within { at + result ≤ end }
+    ensures some { 0 < result }
+    ensures room { array_string_len line.new < 80 }
+{
+    let size = size_of(instr);
+    if size == size_between(at, next) && u32::from(at) + size <= end.min(boundary(at)) {
+        push_instr(line, instr, at);
+        size
+    } else {
+        push_byte_line(line, image[usize::from(at)])
+    }
 }
 
 /// The first address of the GROM behind an address.
@@ -67,13 +86,15 @@ fn boundary(at: u16) -> u32
     u32::from(at) / 0x2000 * 0x2000 + 0x2000
 }
 
-/// Appends BYTE with a byte.
+/// Appends BYTE with a byte, and says that it stands for one.
 #[tactic(auto, using(std::proofs::Common::append_assoc))]
-fn push_byte_line(line: &mut Line, byte: u8)
+fn push_byte_line(line: &mut Line, byte: u8) -> u32
     requires { array_string_len line.old ≤ 7 }
     ensures text { line.new.bytes ≡ line.old.bytes ++ (codes "BYTE " ++ marked_byte byte) }
     ensures size { array_string_len line.new ≤ array_string_len line.old + 8 }
+    ensures one { result ≡ 1 }
 {
     line.push_str("BYTE ");
     push_byte(line, byte);
+    1
 }

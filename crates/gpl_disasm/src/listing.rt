@@ -8,7 +8,7 @@ ghost use Rattle.gpl_defs.specs.Image.{AreBytesOf, low_of, high_of};
 ghost use Rattle.listing_defs.specs.Listing as spec;
 
 use crate::digits::push_word;
-use crate::line::{Line, MARGIN, list_line};
+use crate::line::{Line, MARGIN, push_listed};
 use bench_io::{Failed, Sink, put_piece};
 use gpl_forms::GromImage;
 
@@ -96,10 +96,12 @@ fn put_line<O: Sink>(image: &[u8], at: u16, high: u32, out: &mut O) -> Result<u3
     ensures after { IfOk result (λ next. at < next) }
     ensures within { IfOk result (λ next. next ≤ high) }
 {
-    let (mut line, next) = list_line(image, at, high);
-    line.push('\n');
+    let mut line = Line::new();
+    line.push_str(MARGIN);
+    let size = push_listed(&mut line, image, at, high);
+    line.push_str("\n");
     put_piece(out, line.as_str().as_bytes())?;
-    Ok(next)
+    Ok(u32::from(at) + size)
 }
 
 /// Writes the lines for GROM and AORG of an address.
@@ -125,6 +127,6 @@ fn named_line(directive: &str, word: u16) -> Line
     line.push_str(MARGIN);
     line.push_str(directive);
     push_word(&mut line, word);
-    line.push('\n');
+    line.push_str("\n");
     line
 }

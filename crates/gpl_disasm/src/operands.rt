@@ -8,16 +8,13 @@ use crate::digits::{push_byte, push_word};
 use arrayvec::ArrayString;
 use gpl_forms::{GplOperand, GplSource, MoveLength, MoveSource, MoveTarget, Space};
 
-/// The text of an instruction.
-pub(crate) type Text = ArrayString<52>;
-
 /// The first address of the scratchpad.
 const SCRATCHPAD: u16 = 0x8300;
 
 /// Appends an operand in memory.
 #[tactic(auto, using(std::proofs::Common::append_assoc), unfolding(listing_defs::specs::Texts::operand_text))]
-pub(crate) fn push_operand(text: &mut Text, operand: &GplOperand)
-    requires { array_string_len text.old + 15 ≤ 52 }
+pub(crate) fn push_operand<const N: usize>(text: &mut ArrayString<N>, operand: &GplOperand)
+    requires { array_string_len text.old + 15 ≤ N }
     ensures text { text.new.bytes ≡ text.old.bytes ++ spec.operand_text operand.now }
     ensures size { array_string_len text.new ≤ array_string_len text.old + 15 }
 {
@@ -51,23 +48,24 @@ fn shown_address(operand: &GplOperand) -> u16
 
 /// Appends an index, where there is one.
 #[tactic(auto, using(std::proofs::Common::append_assoc))]
-fn push_index(text: &mut Text, index: Option<u8>)
-    requires { array_string_len text.old + 8 ≤ 52 }
+fn push_index<const N: usize>(text: &mut ArrayString<N>, index: Option<u8>)
+    requires { array_string_len text.old + 8 ≤ N }
     ensures text { text.new.bytes ≡ text.old.bytes ++ spec.index_text index }
     ensures size { array_string_len text.new ≤ array_string_len text.old + 8 }
 {
     if let Some(index) = index {
         text.push_str("(@");
         push_word(text, SCRATCHPAD + u16::from(index));
-        text.push(')');
+        text.push_str(")");
     }
 }
 
 /// Appends a source, an immediate one as a word or a byte.
-pub(crate) fn push_source(text: &mut Text, word: bool, src: &GplSource)
+pub(crate) fn push_source<const N: usize>(text: &mut ArrayString<N>, word: bool, src: &GplSource)
     requires fits { FitsSource word src.now }
-    requires room { array_string_len text.old + 15 ≤ 52 }
-    ensures { text.new.bytes ≡ text.old.bytes ++ spec.source_text word src.now }
+    requires room { array_string_len text.old + 15 ≤ N }
+    ensures text { text.new.bytes ≡ text.old.bytes ++ spec.source_text word src.now }
+    ensures size { array_string_len text.new ≤ array_string_len text.old + 15 }
 {
     match src {
         GplSource::At(operand) => push_operand(text, operand),
@@ -82,8 +80,8 @@ pub(crate) fn push_source(text: &mut Text, word: bool, src: &GplSource)
 }
 
 /// Appends a length of MOVE.
-pub(crate) fn push_length(text: &mut Text, length: &MoveLength)
-    requires { array_string_len text.old + 15 ≤ 52 }
+pub(crate) fn push_length<const N: usize>(text: &mut ArrayString<N>, length: &MoveLength)
+    requires { array_string_len text.old + 15 ≤ N }
     ensures text { text.new.bytes ≡ text.old.bytes ++ spec.length_text length.now }
     ensures size { array_string_len text.new ≤ array_string_len text.old + 15 }
 {
@@ -95,8 +93,8 @@ pub(crate) fn push_length(text: &mut Text, length: &MoveLength)
 
 /// Appends a target of MOVE.
 #[tactic(auto, using(std::proofs::Common::append_assoc))]
-pub(crate) fn push_target(text: &mut Text, target: &MoveTarget)
-    requires { array_string_len text.old + 15 ≤ 52 }
+pub(crate) fn push_target<const N: usize>(text: &mut ArrayString<N>, target: &MoveTarget)
+    requires { array_string_len text.old + 15 ≤ N }
     ensures text { text.new.bytes ≡ text.old.bytes ++ spec.target_text target.now }
     ensures size { array_string_len text.new ≤ array_string_len text.old + 15 }
 {
@@ -111,9 +109,10 @@ pub(crate) fn push_target(text: &mut Text, target: &MoveTarget)
 
 /// Appends a source of MOVE.
 #[tactic(auto, using(std::proofs::Common::append_assoc))]
-pub(crate) fn push_from(text: &mut Text, source: &MoveSource)
-    requires { array_string_len text.old + 15 ≤ 52 }
-    ensures { text.new.bytes ≡ text.old.bytes ++ spec.from_text source.now }
+pub(crate) fn push_from<const N: usize>(text: &mut ArrayString<N>, source: &MoveSource)
+    requires { array_string_len text.old + 15 ≤ N }
+    ensures text { text.new.bytes ≡ text.old.bytes ++ spec.from_text source.now }
+    ensures size { array_string_len text.new ≤ array_string_len text.old + 15 }
 {
     match source {
         MoveSource::At(operand) => push_operand(text, operand),

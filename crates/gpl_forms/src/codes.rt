@@ -10,12 +10,12 @@ pub(crate) fn operation_at(code: u8) -> Option<GplOperation>
     ensures { result ≡ spec_operation_at code }
 {
     match code {
-        0x00..=0x0F => simple_at(code),
-        0x30..=0x3F => move_at(code),
+        0xA0..=0xEF => two_at(code),
         0x40..=0x5F => Some(GplOperation::Branch(false)),
         0x60..=0x7F => Some(GplOperation::Branch(true)),
         0x80..=0x9F => one_at(code),
-        0xA0..=0xEF => two_at(code),
+        0x00..=0x0F => simple_at(code),
+        0x30..=0x3F => move_at(code),
         _ => None,
     }
 }

@@ -6,6 +6,7 @@ mod image;
 mod laws;
 mod names;
 mod read;
+mod size;
 mod valid;
 mod write;
 
@@ -17,5 +18,6 @@ pub use image::GromImage;
 pub use laws::bytes_mean_one_instruction;
 pub use names::name_of;
 pub use read::{is_shortest, read_instr, stands};
+pub use size::{size_between, size_of};
 pub use valid::{has_immediate, is_valid};
 pub use write::write_instr;

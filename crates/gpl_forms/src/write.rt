@@ -200,7 +200,7 @@ fn push_operand(bytes: &mut Bytes, operand: &GplOperand)
 }
 
 /// Whether an operand may be spelled in one byte.
-fn fits_one_byte(operand: &GplOperand) -> bool
+pub(crate) fn fits_one_byte(operand: &GplOperand) -> bool
     ensures { result ≡ spec.fits_one_byte operand.now }
 {
     !is_vdp(operand.space) && !operand.indirect && operand.index.is_none() && operand.address < 0x80

@@ -10,7 +10,7 @@ use source_defs::{ExprError, OperandError};
 use std::alloc::AllocError;
 
 /// Why a line is not taken.
-#[derive(Clone, Copy, Debug, PartialEq, Eq)]
+#[derive(Clone, Copy, PartialEq, Eq)]
 pub enum Failure {
     /// The line is refused.
     Refused(GplCause),

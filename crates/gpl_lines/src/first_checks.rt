@@ -17,7 +17,7 @@ use asm_text::{Name, Symbols, fields};
 use program_defs::{GplCause, Location};
 
 /// What the first checks leave of a line.
-#[derive(Clone, Copy, Debug)]
+#[derive(Clone, Copy)]
 pub struct Checked<'a> {
     /// Its label.
     pub label: Option<Name>,

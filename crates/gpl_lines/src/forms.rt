@@ -10,7 +10,7 @@ use gpl_defs::{Space, TwoName};
 use gpl_forms::has_immediate;
 
 /// An operand in memory, by the texts of its address and of its index.
-#[derive(Clone, Copy, Debug)]
+#[derive(Clone, Copy)]
 pub(crate) struct Memory<'a> {
     pub(crate) space: Space,
     pub(crate) indirect: bool,
@@ -19,7 +19,7 @@ pub(crate) struct Memory<'a> {
 }
 
 /// How an operand is written, by the texts of its expressions.
-#[derive(Clone, Copy, Debug)]
+#[derive(Clone, Copy)]
 pub(crate) enum Form<'a> {
     /// `@e`, `V@e`, `*e` or `V*e`, with `(@e)` behind it or without.
     InMemory(Memory<'a>),

@@ -23,7 +23,7 @@ use gpl_forms::write_instr;
 use std::alloc::{AllocError, Global};
 
 /// What a line comes to.
-#[derive(Debug, Drop)]
+#[derive(Drop)]
 pub enum Outcome {
     /// The bytes that it places, which may be none.
     Bytes(Vec<u8>),

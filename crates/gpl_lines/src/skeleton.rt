@@ -12,7 +12,7 @@ use gpl_defs::{
 use gpl_forms::write_instr;
 
 /// An operand in memory, or the text of an immediate one.
-#[derive(Clone, Copy, Debug)]
+#[derive(Clone, Copy)]
 pub enum Source<'a> {
     /// In memory.
     At(GplOperand),
@@ -21,7 +21,7 @@ pub enum Source<'a> {
 }
 
 /// Where MOVE copies to and from.
-#[derive(Clone, Copy, Debug)]
+#[derive(Clone, Copy)]
 pub enum Route<'a> {
     /// To memory from memory.
     Within(GplOperand, GplOperand),
@@ -32,7 +32,7 @@ pub enum Route<'a> {
 }
 
 /// An instruction, its operands in memory by their addresses and all others by their texts.
-#[derive(Clone, Copy, Debug)]
+#[derive(Clone, Copy)]
 pub enum Skeleton<'a> {
     /// An operation without operands.
     Plain(PlainOp),

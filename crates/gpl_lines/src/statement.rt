@@ -23,7 +23,7 @@ use program_defs::{Directive, GplCause};
 
 /// What a line says: an instruction, or a directive with its operands, those that move locations by their numbers. A field
 /// stands for the operands in it.
-#[derive(Clone, Copy, Debug)]
+#[derive(Clone, Copy)]
 pub enum Statement<'a> {
     /// Nothing.
     Nothing,

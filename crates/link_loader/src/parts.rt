@@ -15,7 +15,7 @@ use std::alloc::{AllocError, Global};
 const FIRST_BASE: u32 = 0xA000;
 
 /// What modules say, one after the other, in each the order of its list.
-#[derive(Debug, Drop)]
+#[derive(Drop)]
 pub(crate) struct Parts {
     /// The DEF names with their values.
     pub(crate) defs: Vec<(Name, u16)>,

@@ -30,7 +30,7 @@ impl From<AllocError> for TagError {
 }
 
 /// Why a group or a line is not read.
-#[derive(Clone, Copy, Debug)]
+#[derive(Clone, Copy)]
 pub(crate) enum Failure {
     /// It is refused.
     Cause(TagCause),

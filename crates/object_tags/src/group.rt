@@ -12,7 +12,7 @@ use crate::spots::kind_of;
 use object_defs::{Spot, Tag, TagCause, TextForm};
 
 /// A group: what its tag and its fields say.
-#[derive(Clone, Copy, Debug)]
+#[derive(Clone, Copy)]
 pub(crate) enum Group {
     /// The first group of a module.
     Header {
@@ -42,7 +42,7 @@ pub(crate) enum Group {
 }
 
 /// What a line has in the place of a group.
-#[derive(Clone, Copy, Debug)]
+#[derive(Clone, Copy)]
 pub(crate) enum FoundGroup {
     /// A group.
     Whole {

@@ -26,7 +26,7 @@ const MOST_WORDS: usize = 32_768;
 const MOST_NAMES: usize = 256;
 
 /// What the groups of a module say so far.
-#[derive(Debug, Drop)]
+#[derive(Drop)]
 pub(crate) struct OpenModule {
     /// The module.
     pub(crate) found: Module,

@@ -14,7 +14,7 @@ use Rattle.console_defs.specs.Machine.{MachineState, new_machine}
 use Rattle.console_defs.specs.Runs.{IsRun, end_at, after}
 use Rattle.console_defs.specs.declared.ends.RunEnd.{RunEnd}
 use Rattle.report_defs.specs.declared.command.Command.{Command}
-use Rattle.report_defs.specs.declared.command.Command.TheVariants.{Asm, Gasm, Dis, Gdis, Link, Exec}
+use Rattle.report_defs.specs.declared.command.Command.TheVariants.{Asm, Gasm, Dis, Gdis, Link, Exec, Interp}
 use Rattle.report_defs.specs.Exec.{IsStart, Executes, exec_lines, end_status}
 use Rattle.report_defs.specs.declared.fault.Fault.TheVariants.{TooLarge}
 use Rattle.report_defs.specs.Report.{Report, Whole, Faulty, ReportsRun, ExecReport, AcceptedReport, largest_input}
@@ -111,6 +111,7 @@ one_accepted (Dis at) input first second p q = p ∙ sym q
 one_accepted (Gdis at) input first second p q = p ∙ sym q
 one_accepted Link input first second p q = p ∙ sym q
 one_accepted (Exec limit) input first second p q = one_exec limit (linked_input input) first second p q
+one_accepted Interp input first second p q = p ∙ sym q
 
 pub one_report : OneReport
 one_report command input first second p q =

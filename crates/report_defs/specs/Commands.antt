@@ -1,11 +1,11 @@
 -- The words of the command line.
-use Rattle.std.specs.Prelude.{ℕ, ◌==◌, ◌%◌, Bool, true, ◌&&◌, nat_eq, nat_lt, nat_le, if◌then◌else◌, List, [], ◌∷◌}
-use Rattle.std.specs.Prelude.{length, slice_index, codes, Option, Some, None}
+use Rattle.std.specs.Prelude.{ℕ, ◌==◌, ◌%◌, Bool, true, false, ◌&&◌, nat_eq, nat_lt, nat_le, if◌then◌else◌, List, []}
+use Rattle.std.specs.Prelude.{◌∷◌, length, slice_index, codes, Option, Some, None}
 use Rattle.std.specs.Option.{option_map, option_and_then}
 use Rattle.std.specs.Cmp.Lexicographic.{pointwise}
 use Rattle.source_defs.specs.Numbers.{all_digits, value_after, hexadecimal_number}
 use Rattle.report_defs.specs.declared.command.Command.{Command}
-use Rattle.report_defs.specs.declared.command.Command.TheVariants.{Asm, Gasm, Dis, Gdis, Link, Exec}
+use Rattle.report_defs.specs.declared.command.Command.TheVariants.{Asm, Gasm, Dis, Gdis, Link, Exec, Interp}
 
 abbrev pub same_word : List ℕ → List ℕ → Bool
 same_word word name = pointwise nat_eq word name
@@ -51,6 +51,7 @@ command_of (name ∷ []) =
     if same_word name (codes "asm") then Some Asm
     else if same_word name (codes "gasm") then Some Gasm
     else if same_word name (codes "link") then Some Link
+    else if same_word name (codes "interp") then Some Interp
     else None
 command_of (name ∷ word ∷ []) =
     if same_word name (codes "exec") then exec_command word
@@ -59,7 +60,7 @@ command_of (name ∷ word ∷ []) =
     else None
 command_of (name ∷ word ∷ next ∷ others) = None
 
--- Profile: each command reads its input.
+-- Profile: each command reads its input but interp.
 abbrev pub reads : Command → Bool
 reads Asm = true
 reads Gasm = true
@@ -67,3 +68,4 @@ reads (Dis at) = true
 reads (Gdis at) = true
 reads Link = true
 reads (Exec limit) = true
+reads Interp = false

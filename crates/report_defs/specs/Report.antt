@@ -12,17 +12,19 @@ use Rattle.object_defs.specs.Writing.{written}
 use Rattle.module_defs.specs.declared.causes.AsmCause.{AsmCause}
 use Rattle.module_defs.specs.Modules.{module_of_source}
 use Rattle.report_defs.specs.declared.command.Command.{Command}
-use Rattle.report_defs.specs.declared.command.Command.TheVariants.{Asm, Gasm, Dis, Gdis, Link, Exec}
+use Rattle.report_defs.specs.declared.command.Command.TheVariants.{Asm, Gasm, Dis, Gdis, Link, Exec, Interp}
 use Rattle.report_defs.specs.declared.status.Status.{Status}
 use Rattle.report_defs.specs.declared.status.Status.TheVariants.{Done, Refused}
 use Rattle.report_defs.specs.declared.fault.Fault.{Fault}
-use Rattle.report_defs.specs.declared.fault.Fault.TheVariants.{TooLarge, PastEnd}
+use Rattle.report_defs.specs.declared.fault.Fault.TheVariants.{TooLarge, PastEnd, Interpreter}
 use Rattle.report_defs.specs.FaultLine.{fault_status}
 use Rattle.report_defs.specs.SourceFaults.{asm_line, gpl_line}
 use Rattle.report_defs.specs.TextLines.{text_lines}
 use Rattle.report_defs.specs.Listing.{memory_listing}
 use Rattle.report_defs.specs.GromListing.{image_listing}
 use Rattle.link_defs.specs.LinkedMemory.{LinkedMemory}
+use Rattle.build_defs.specs.declared.fault.BuildFault.{BuildFault}
+use Rattle.build_defs.specs.Interpreter.{built_interpreter}
 use Rattle.report_defs.specs.MemoryListing.{linked_lines}
 use Rattle.report_defs.specs.ObjectInput.{linked_input}
 use Rattle.report_defs.specs.Exec.{Executes, exec_lines, end_status}
@@ -87,6 +89,12 @@ abbrev pub ExecReport : ℕ → Result LinkedMemory (List ℕ) → Report → Ty
 ExecReport limit (Ok linked) report = ReportsRun limit linked report
 ExecReport limit (Err line) report = report ≡ Rejected line
 
+-- Profile: the report of interp is the listing of the interpreter's linked memory, unless its source does not give its
+-- words.
+abbrev pub interp_report : Result LinkedMemory BuildFault → Report
+interp_report (Ok linked) = Whole Done (linked_lines linked)
+interp_report (Err fault) = Faulty (Interpreter fault)
+
 abbrev pub AcceptedReport : Command → List ℕ → Report → Type 0
 AcceptedReport Asm input report = report ≡ asm_report (module_of_source input)
 AcceptedReport Gasm input report = report ≡ gasm_report (program_of_source input)
@@ -94,6 +102,7 @@ AcceptedReport (Dis at) input report = report ≡ dis_report at input
 AcceptedReport (Gdis at) input report = report ≡ gdis_report at input
 AcceptedReport Link input report = report ≡ link_report (linked_input input)
 AcceptedReport (Exec limit) input report = ExecReport limit (linked_input input) report
+AcceptedReport Interp input report = report ≡ interp_report built_interpreter
 
 -- Whatever else holds, an input is refused that is too large.
 abbrev pub ReportOn : Command → List ℕ → Report → Type 0

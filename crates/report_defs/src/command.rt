@@ -24,4 +24,6 @@ pub enum Command {
         /// The most instructions, up to 10,000,000.
         limit: u32,
     },
+    /// `interp`: builds the interpreter from its source, and lists its memory.
+    Interp,
 }

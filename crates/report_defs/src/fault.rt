@@ -1,5 +1,7 @@
 //! Why a fault line stands in the place of a report.
 
+use build_defs::BuildFault;
+
 /// What a fault line says.
 #[derive(Clone, Copy, Debug, PartialEq, Eq)]
 pub enum Fault {
@@ -9,4 +11,6 @@ pub enum Fault {
     TooLarge,
     /// The bytes of `dis` or `gdis` run past >FFFF from its address on.
     PastEnd,
+    /// The interpreter's source does not give the interpreter's words.
+    Interpreter(BuildFault),
 }

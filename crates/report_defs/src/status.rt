@@ -15,6 +15,8 @@ pub enum Status {
     WriteFault = 4,
     /// Memory was wanting.
     Memory = 5,
+    /// The interpreter's source does not give the interpreter's words.
+    Interpreter = 6,
     /// The report is whole, and its machine stopped at a word that is not executed, or at a port.
     Stopped = 7,
 }

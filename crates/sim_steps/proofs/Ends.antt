@@ -1,25 +1,21 @@
 -- What a view at one of the interpreter's ends says of its machine.
-use Rattle.std.proofs.Common.{◌≡◌, ℕ, zero, suc, ◌+◌, ◌-◌, ◌<◌, ◌≤◌, Bool, true, false, refl, sym, ap, subst, ◌∙◌, arith, List, Option, Some, None, Result, Ok, Err, lit<}
-use Rattle.std.specs.Prelude.{not, is_none, slice_index, take}
-use Rattle.console_defs.specs.Vdp.{VdpState, is_vdp_idle}
-use Rattle.console_defs.specs.Grom.{GromState, is_grom_idle, next_in_grom, previous_in_grom}
+use Rattle.std.proofs.Common.{◌≡◌, ℕ, zero, suc, ◌+◌, ◌<◌, ◌≤◌, Bool, true, false, refl, sym, ap, subst, ◌∙◌, arith, List, Result, Ok, Err, lit<}
+use Rattle.std.specs.Prelude.{not, is_none, slice_index}
+use Rattle.console_defs.specs.Vdp.{VdpState}
+use Rattle.console_defs.specs.Grom.{GromState, next_in_grom, previous_in_grom}
 use Rattle.console_defs.proofs.GromLaws.{previous-next}
 use Rattle.console_defs.specs.Memory.{Memory}
 use Rattle.console_defs.specs.Machine.{MachineState}
 use Rattle.step_defs.specs.declared.reason.Reason.{Reason}
 use Rattle.step_defs.specs.declared.reason.Reason.TheVariants.{Exit, Opcode, Cell}
-use Rattle.step_defs.specs.Reasons.{number_of}
 use Rattle.step_defs.specs.State.{GplState}
 use Rattle.step_defs.specs.Step.{step}
 use Rattle.step_defs.specs.Run.{bound}
 use Rattle.interp_defs.specs.declared.turn.Turn.{Turn}
-use Rattle.interp_defs.specs.declared.turn.Turn.TheVariants.{Stepped, Stopped}
-use Rattle.interp_defs.specs.Match.{PortsAreIdle, IsFetched, IsMatching, Matches, IsHalted, shown_by}
+use Rattle.interp_defs.specs.Match.{PortsAreIdle, IsFetched, Matches, IsHalted, shown_by}
 use Rattle.interp_defs.specs.Runs.{Runs, is_end}
-use Rattle.interp_defs.specs.Turns.{IsTurn}
 use Rattle.interp_defs.specs.Turned.{Reaches, TurnedBy, Turned}
 use Rattle.console_defs.specs.Accesses.{Gives}
-use Rattle.console_defs.specs.Machine.{steps}
 use Rattle.sim_view.specs.View.{View, view, view_of, Stands}
 use Rattle.sim_view.specs.Exits.{Comes}
 use Rattle.sim_view.proofs.Answers.{given}

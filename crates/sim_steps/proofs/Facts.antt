@@ -1,12 +1,12 @@
 -- Facts about numbers that the pieces need.
-use Rattle.std.proofs.Common.{◌≡◌, ℕ, ◌+◌, ◌-◌, ◌*◌, ◌/◌, ◌%◌, ◌<◌, ◌≤◌, Bool, true, false, refl, sym, ap, ◌∙◌, arith, eqb}
-use Rattle.std.specs.Prelude.{◌&&◌, ◌==◌, not, nat_lt, nat_le}
+use Rattle.std.proofs.Common.{◌≡◌, ℕ, ◌+◌, ◌-◌, ◌*◌, ◌/◌, ◌%◌, ◌<◌, ◌≤◌, Bool, true, false, refl, ap, arith}
+use Rattle.std.specs.Prelude.{◌&&◌, ◌==◌, not, nat_lt}
 use Rattle.std.proofs.lemmas.Bool.{le-leb, lt-leb, lt-ltb, le-ltb, eq-eqb, ltb-true, ltb-false, ne_eqb}
 use Rattle.console_defs.specs.Words.{high, low, join, even, plus}
 use Rattle.console_defs.specs.Logic.{swapped}
 use Rattle.console_defs.specs.Shifts.{shifted}
 use Rattle.console_defs.specs.declared.instruction.ShiftOp.TheVariants.{SRL}
-use Rattle.sim_view.proofs.Seen.{spot, Spot, Code}
+use Rattle.sim_view.proofs.Seen.{spot, Code}
 
 -- a word of the interpreter at an address
 pub spot_code : (address number : ℕ) → address ≡ 0x2000 + 2 * number → number < 610 → spot address ≡ Code number

@@ -1,5 +1,5 @@
 -- The operations of the families.
-use Rattle.std.proofs.Common.{◌≡◌, ℕ, Bool, true, false, refl, sym, ap, subst, ◌∙◌, arith, Option, Some, None}
+use Rattle.std.proofs.Common.{◌≡◌, true, refl, arith, Option, Some}
 use Rattle.gpl_defs.specs.declared.instruction.PlainOp.TheVariants.{EXIT}
 use Rattle.gpl_defs.specs.declared.instruction.GoOp.TheVariants.{B}
 use Rattle.gpl_defs.specs.declared.instruction.TwoName.TheVariants.{ST}

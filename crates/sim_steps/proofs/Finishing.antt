@@ -1,10 +1,10 @@
 -- A row from its entry to the end of the step.
-use Rattle.std.proofs.Common.{◌≡◌, ℕ, ◌+◌, ◌*◌, ◌/◌, ◌%◌, ◌<◌, ◌≤◌, Bool, true, false, refl, sym, ap, subst, ◌∙◌, arith, List, Option, Some, None, Result, Ok, Err}
-use Rattle.std.specs.Prelude.{◌==◌, not, is_none, slice_index, if◌then◌else◌}
+use Rattle.std.proofs.Common.{◌≡◌, ℕ, ◌/◌, ◌%◌, ◌<◌, ◌≤◌, Bool, true, false, refl, sym, ap, subst, ◌∙◌, arith, List, Some, None, Result, Ok, Err}
+use Rattle.std.specs.Prelude.{◌==◌, not, is_none, slice_index}
 use Rattle.console_defs.specs.Flags.{Width, size_of}
 use Rattle.console_defs.specs.Grom.{GromState}
 use Rattle.console_defs.specs.Memory.{Memory}
-use Rattle.console_defs.specs.Machine.{MachineState, IsMachine}
+use Rattle.console_defs.specs.Machine.{MachineState}
 use Rattle.source_defs.specs.Refusals.{◌>>=◌}
 use Rattle.gpl_defs.specs.declared.instruction.TwoName.TheVariants.{ST}
 use Rattle.gpl_defs.specs.declared.instruction.GplOperation.TheVariants as operation
@@ -15,23 +15,23 @@ use Rattle.gpl_defs.specs.Reading.{operand_at, source_at}
 use Rattle.step_defs.specs.declared.reason.Reason.{Reason}
 use Rattle.step_defs.specs.declared.reason.Reason.TheVariants.{Cell}
 use Rattle.step_defs.specs.State.{GplState}
-use Rattle.step_defs.specs.Place.{Place, place_of, value_at}
+use Rattle.step_defs.specs.Place.{Place, place_of}
 use Rattle.step_defs.specs.Arithmetic.{Source}
 use Rattle.step_defs.specs.Changes.{Changes, unchanged, with_value, finished}
-use Rattle.step_defs.specs.Step.{step, source_of, width_of}
+use Rattle.step_defs.specs.Step.{step, source_of}
 use Rattle.step_defs.specs.Run.{bound}
 use Rattle.interp_defs.specs.declared.turn.Turn.TheVariants.{Stepped, Stopped}
 use Rattle.interp_defs.specs.Match.{PortsAreIdle}
 use Rattle.interp_defs.specs.Runs.{is_end}
 use Rattle.interp_defs.specs.Turned.{Turned}
 use Rattle.sim_view.specs.View.{View, view, view_of, Stands}
-use Rattle.sim_view.specs.Exits.{Exits, Exit, Comes}
+use Rattle.sim_view.specs.Exits.{Exits, Comes}
 use Rattle.sim_view.proofs.Bridge.{is_view}
 use Rattle.sim_operands.specs.Values.{IsVisible, number_of_space}
 use Rattle.sim_operands.specs.Subroutines.{grom_at, StoresValue, marked_by}
 use Rattle.sim_steps.specs.Pieces as pieces
 use Rattle.sim_steps.specs.States.{Sees, is_alu}
-use Rattle.sim_steps.specs.Rows.{code_of, behind_code, word_of, row_width, behind_first, next_of, moved, first_of, second_of, operands_of, AtRow, To, StoppedBy, LoadsOperands}
+use Rattle.sim_steps.specs.Rows.{code_of, behind_code, word_of, row_width, behind_first, next_of, moved, first_of, second_of, operands_of, AtRow, StoppedBy, LoadsOperands}
 use Rattle.sim_steps.proofs.Steps.{step_store, stored_of, bound_stop, bound_made}
 use Rattle.sim_steps.proofs.Ends.{matches, bars, reaches, turned_by}
 use Rattle.sim_steps.proofs.Places.{Lies, place_lies, lies_at}

@@ -1,32 +1,29 @@
 -- The operands of a row, piece by piece: the front of every row of two operands.
-use Rattle.std.proofs.Common.{◌≡◌, ℕ, ◌+◌, ◌-◌, ◌/◌, ◌%◌, ◌<◌, ◌≤◌, Bool, true, false, refl, sym, ap, subst, ◌∙◌, arith, eqb, List, Option, Some, None, Result, Ok, Err}
-use Rattle.std.specs.Prelude.{◌==◌, ◌&&◌, not, nat_lt, nat_le, slice_index, if◌then◌else◌}
-use Rattle.std.proofs.lemmas.Bool.{eqb-true, eq-eqb, ltb-true, le-ltb, agree_below_at}
-use Rattle.console_defs.specs.Words.{high, low, join, even}
-use Rattle.console_defs.specs.Flags.{Width, Byte, Word, size_of, sum_of}
-use Rattle.console_defs.specs.Shifts.{shifted, last_out}
-use Rattle.console_defs.specs.declared.instruction.ShiftOp.TheVariants.{SRL, SLA}
-use Rattle.console_defs.specs.Grom.{GromState, next_in_grom, previous_in_grom}
+use Rattle.std.proofs.Common.{◌≡◌, ℕ, ◌+◌, ◌%◌, ◌<◌, Bool, true, false, refl, sym, ap, subst, ◌∙◌, arith, List, Result}
+use Rattle.std.specs.Prelude.{◌==◌}
+use Rattle.std.proofs.lemmas.Bool.{eqb-true, eq-eqb}
+use Rattle.console_defs.specs.Words.{even}
+use Rattle.console_defs.specs.Flags.{size_of}
+use Rattle.console_defs.specs.Grom.{GromState, previous_in_grom}
 use Rattle.console_defs.proofs.GromLaws.{previous-next}
 use Rattle.console_defs.specs.Machine.{MachineState}
 use Rattle.gpl_defs.specs.declared.instruction.Space.{Space}
 use Rattle.gpl_defs.specs.declared.instruction.Space.TheVariants.{Cpu, Vdp}
-use Rattle.gpl_defs.specs.declared.instruction.GplOperand.{GplOperand}
 use Rattle.gpl_defs.specs.Reading.{operand_at}
 use Rattle.step_defs.specs.declared.reason.Reason.{Reason}
 use Rattle.step_defs.specs.State.{GplState}
-use Rattle.step_defs.specs.Place.{Place, place_of, value_at, byte_at}
+use Rattle.step_defs.specs.Place.{Place, place_of}
 use Rattle.step_defs.specs.Step.{width_of}
-use Rattle.sim_view.specs.View.{View, view, Stands}
-use Rattle.sim_view.specs.Exits.{Exits, Exit, Comes}
+use Rattle.sim_view.specs.View.{View, view}
+use Rattle.sim_view.specs.Exits.{Exits, Comes}
 use Rattle.sim_view.proofs.Compose.{Goes, comes, comes_then, comes_as, comes_on}
-use Rattle.sim_operands.specs.Pieces.{exit, return_of}
-use Rattle.sim_operands.specs.Values.{width_in, in_register, number_of_space, IsVisible}
-use Rattle.sim_operands.specs.Subroutines.{grom_at, state_of, next_at, Addressed, Placed, Barred, Finds, FindsOperand, place_in, Loaded, LoadsValue}
+use Rattle.sim_operands.specs.Pieces.{return_of}
+use Rattle.sim_operands.specs.Values.{width_in, number_of_space}
+use Rattle.sim_operands.specs.Subroutines.{grom_at, state_of, next_at, Addressed, Placed, Barred, Finds, FindsOperand, place_in, Loaded}
 use Rattle.sim_steps.specs.Pieces as pieces
-use Rattle.sim_steps.specs.Rows.{code_of, behind_code, word_of, Holds, To, Ended, StoppedBy}
-use Rattle.sim_steps.specs.States.{Sees, Dispatched}
-use Rattle.sim_steps.proofs.Beginning.{just, from, known}
+use Rattle.sim_steps.specs.Rows.{code_of, behind_code, word_of, Holds, StoppedBy}
+use Rattle.sim_steps.specs.States.{Dispatched}
+use Rattle.sim_steps.proofs.Beginning.{just, from}
 use Rattle.sim_steps.proofs.Steps.{place_same}
 
 -- ---- numbers
@@ -44,6 +41,7 @@ size_is code = by (code % 2 == 1) refl
       where
         not_both : (b : Bool) → b ≡ true → b ≡ false → ⊥
         not_both b f g = cc
+
         not_one : (code % 2 == 1) ≡ false → code % 2 ≡ 0
         not_one f = let g : code % 2 ≡ 1 → ⊥ = λ m. not_both (code % 2 == 1) (eq-eqb (code % 2) 1 m) f in omega arith
 

@@ -1,16 +1,13 @@
 -- B, EXIT, and the code bytes that stop.
-use Rattle.std.proofs.Common.{◌≡◌, ℕ, ◌+◌, ◌<◌, ◌≤◌, Bool, true, false, refl, sym, ap, subst, ◌∙◌, arith, List, Option, Some, None, Result, Ok, Err}
-use Rattle.std.specs.Prelude.{◌==◌, slice_index}
-use Rattle.console_defs.specs.Words.{high, low, join}
+use Rattle.std.proofs.Common.{◌≡◌, ℕ, ◌<◌, refl, ap, arith, Some, Ok, Err}
+use Rattle.std.specs.Prelude.{slice_index}
 use Rattle.console_defs.specs.Grom.{GromState, next_in_grom}
 use Rattle.console_defs.specs.Machine.{MachineState}
 use Rattle.gpl_defs.specs.declared.instruction.PlainOp.TheVariants.{EXIT}
 use Rattle.gpl_defs.specs.declared.instruction.GoOp.TheVariants.{B}
-use Rattle.gpl_defs.specs.declared.instruction.GplOperation.{GplOperation}
 use Rattle.gpl_defs.specs.declared.instruction.GplOperation.TheVariants as operation
 use Rattle.gpl_defs.specs.Codes.{operation_at}
 use Rattle.gpl_defs.specs.Reading.{word_at}
-use Rattle.step_defs.specs.declared.reason.Reason.{Reason}
 use Rattle.step_defs.specs.declared.reason.Reason.TheVariants.{Exit, Opcode}
 use Rattle.step_defs.specs.State.{GplState}
 use Rattle.step_defs.specs.Step.{step}
@@ -19,7 +16,7 @@ use Rattle.interp_defs.specs.declared.turn.Turn.TheVariants.{Stepped, Stopped}
 use Rattle.interp_defs.specs.Runs.{is_end}
 use Rattle.interp_defs.specs.Turned.{Turned}
 use Rattle.sim_view.specs.View.{View, view, Stands}
-use Rattle.sim_view.specs.Exits.{Exits, Exit as Ending, Comes}
+use Rattle.sim_view.specs.Exits.{Exits, Exit as Ending}
 use Rattle.sim_view.proofs.Compose.{Goes, comes, comes_then}
 use Rattle.sim_operands.specs.Pieces as operands
 use Rattle.sim_operands.specs.Pieces.{exit, past, set_to}
@@ -29,7 +26,7 @@ use Rattle.sim_steps.specs.Pieces as pieces
 use Rattle.sim_steps.specs.Rows.{code_of, behind_code, Ended, StoppedBy}
 use Rattle.sim_steps.specs.States.{Sees, Dispatched}
 use Rattle.sim_steps.proofs.Beginning.{just, from, known}
-use Rattle.sim_steps.proofs.Steps.{step_none, step_unbuilt, step_exit, step_jump, bound_stop, bound_made}
+use Rattle.sim_steps.proofs.Steps.{step_exit, step_jump, bound_stop, bound_made}
 use Rattle.sim_steps.proofs.Ends.{matches, leaves, stops, reaches, turned_by}
 
 module _ (s : GplState) (x y : MachineState) (t u : ℕ) (d : Dispatched s (view x)) where

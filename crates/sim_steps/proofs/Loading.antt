@@ -1,8 +1,8 @@
 -- The pieces and subroutines that load the operands of a row, one after the other.
-use Rattle.std.proofs.Common.{◌≡◌, ℕ, ◌+◌, ◌/◌, ◌%◌, ◌<◌, ◌≤◌, Bool, true, false, refl, sym, ap, subst, ◌∙◌, arith, List, Option, Some, None, Result, Ok, Err}
-use Rattle.std.specs.Prelude.{◌==◌, nat_lt, slice_index}
+use Rattle.std.proofs.Common.{◌≡◌, ℕ, ◌+◌, ◌/◌, ◌%◌, ◌<◌, ◌≤◌, Bool, true, false, refl, sym, ap, subst, ◌∙◌, arith, Some, None, Result, Ok, Err}
+use Rattle.std.specs.Prelude.{◌==◌, nat_lt}
 use Rattle.std.proofs.lemmas.Bool.{le-ltb}
-use Rattle.console_defs.specs.Flags.{Width, size_of}
+use Rattle.console_defs.specs.Flags.{size_of}
 use Rattle.console_defs.specs.Machine.{MachineState}
 use Rattle.source_defs.specs.Refusals.{◌>>=◌}
 use Rattle.gpl_defs.specs.declared.instruction.Space.{Space}
@@ -13,21 +13,20 @@ use Rattle.step_defs.specs.declared.reason.Reason.{Reason}
 use Rattle.step_defs.specs.State.{GplState}
 use Rattle.step_defs.specs.Place.{Place, place_of, value_at}
 use Rattle.step_defs.specs.Arithmetic.{Source}
-use Rattle.step_defs.specs.Step.{source_of, width_of}
-use Rattle.interp_defs.specs.Match.{PortsAreIdle, IsFetched}
-use Rattle.sim_view.specs.View.{View, view, Stands}
-use Rattle.sim_view.specs.Exits.{Exits, Exit, Comes}
-use Rattle.sim_view.proofs.Bridge.{is_view}
+use Rattle.step_defs.specs.Step.{source_of}
+use Rattle.interp_defs.specs.Match.{IsFetched}
+use Rattle.sim_view.specs.View.{View, view}
+use Rattle.sim_view.specs.Exits.{Exits, Comes}
 use Rattle.sim_view.proofs.Compose.{comes_as}
 use Rattle.sim_operands.specs.Values.{IsVisible, number_of_space}
 use Rattle.sim_operands.specs.Subroutines.{Finds, FindsOperand, LoadsValue, LoadsStream}
 use Rattle.sim_steps.specs.Pieces as pieces
-use Rattle.sim_steps.specs.States.{Sees, Dispatched, is_alu}
-use Rattle.sim_steps.specs.Rows.{code_of, behind_code, word_of, row_width, behind_first, next_of, moved, first_of, second_of, operands_of, Valued, AtRow, StoppedBy, LoadsDestination, LoadsOperands}
-use Rattle.sim_steps.proofs.Ends.{idle_of, fetched_of}
-use Rattle.sim_steps.proofs.Places.{Lies, place_lies, lies_at}
+use Rattle.sim_steps.specs.States.{Dispatched, is_alu}
+use Rattle.sim_steps.specs.Rows.{code_of, behind_code, word_of, row_width, behind_first, next_of, moved, first_of, second_of, operands_of, Valued, AtRow, LoadsDestination, LoadsOperands}
+use Rattle.sim_steps.proofs.Ends.{fetched_of}
+use Rattle.sim_steps.proofs.Places.{place_lies, lies_at}
 use Rattle.sim_steps.proofs.Fronting.{Asking, Located, asked, located, barred, finds_of}
-use Rattle.sim_steps.proofs.Operands.{Loading, asks_first, loads, visible_of, Second, Immediate, Operand, immediates, operands, Streaming, asks_immediate, streams, Found, finds_second, bars_second, LoadingSecond, asks_second, loads_second, goes_to_row, code_is, value_same}
+use Rattle.sim_steps.proofs.Operands.{Loading, asks_first, loads, visible_of, Immediate, Operand, immediates, operands, Streaming, asks_immediate, streams, Found, finds_second, bars_second, LoadingSecond, asks_second, loads_second, goes_to_row, code_is, value_same}
 use Rattle.gpl_defs.specs.declared.instruction.GplOperand.{GplOperand}
 
 space_small : (space : Space) (r5 : ℕ) → r5 ≡ number_of_space space → r5 < 2

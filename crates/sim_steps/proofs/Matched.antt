@@ -1,11 +1,10 @@
 -- A matching machine at the beginning of a step.
-use Rattle.std.proofs.Common.{◌≡◌, ℕ, ◌<◌, Bool, true, false, refl, sym, ap, ◌∙◌, arith, Option, Some, None}
-use Rattle.std.specs.Prelude.{not, is_none, slice_index}
-use Rattle.console_defs.specs.Grom.{GromState, is_grom_idle, previous_in_grom}
+use Rattle.std.proofs.Common.{◌≡◌, ℕ, ◌<◌, refl, arith}
+use Rattle.std.specs.Prelude.{slice_index}
 use Rattle.console_defs.specs.Memory.{Memory, IsMemory}
 use Rattle.console_defs.specs.Machine.{MachineState, IsMachine}
-use Rattle.interp_defs.specs.Match.{PortsAreIdle, IsFetched, IsMatching, shown_by}
-use Rattle.sim_view.specs.View.{View, view, view_of, Stands}
+use Rattle.interp_defs.specs.Match.{PortsAreIdle, IsMatching, shown_by}
+use Rattle.sim_view.specs.View.{view, view_of, Stands}
 use Rattle.sim_operands.specs.Subroutines.{grom_at, next_at}
 use Rattle.sim_operands.proofs.Ready.{ready, idle_video}
 use Rattle.sim_steps.specs.States.{Sees}

@@ -1,5 +1,5 @@
 -- The values of the operands of a row.
-use Rattle.std.proofs.Common.{◌≡◌, ℕ, ◌+◌, ◌-◌, ◌*◌, ◌/◌, ◌%◌, ◌<◌, ◌≤◌, Bool, true, false, refl, sym, ap, subst, ◌∙◌, arith, eqb, List, Option, Some, None, Result, Ok, Err}
+use Rattle.std.proofs.Common.{◌≡◌, ℕ, ◌+◌, ◌-◌, ◌*◌, ◌/◌, ◌%◌, ◌<◌, ◌≤◌, Bool, true, false, refl, sym, ap, subst, ◌∙◌, arith, eqb, List}
 use Rattle.std.proofs.lemmas.Bool.{agree_below_at, eqb-true, leb-true, ltb-true, and_parts}
 use Rattle.gpl_defs.specs.Codes.{operation_at}
 use Rattle.native_interp.specs.declared.words.TheConstants.{INTERP}
@@ -7,27 +7,26 @@ use Rattle.step_defs.specs.declared.reason.Reason.{Reason}
 use Rattle.std.specs.Prelude.{◌==◌, ◌&&◌, not, nat_lt, nat_le, slice_index, if◌then◌else◌}
 use Rattle.console_defs.specs.Words.{join, even, plus}
 use Rattle.console_defs.specs.Flags.{Width, Byte, Word, size_of}
-use Rattle.console_defs.specs.Shifts.{shifted, last_out}
-use Rattle.console_defs.specs.declared.instruction.ShiftOp.TheVariants.{SRL, SLA}
-use Rattle.console_defs.specs.Grom.{GromState, next_in_grom, previous_in_grom}
+use Rattle.console_defs.specs.Shifts.{last_out}
+use Rattle.console_defs.specs.declared.instruction.ShiftOp.TheVariants.{SRL}
+use Rattle.console_defs.specs.Grom.{GromState, previous_in_grom}
 use Rattle.console_defs.proofs.GromLaws.{previous-next}
 use Rattle.console_defs.specs.Machine.{MachineState}
 use Rattle.gpl_defs.specs.declared.instruction.Space.{Space}
 use Rattle.gpl_defs.specs.declared.instruction.Space.TheVariants.{Cpu, Vdp}
 use Rattle.gpl_defs.specs.Reading.{value_at as value_in}
 use Rattle.step_defs.specs.State.{GplState}
-use Rattle.step_defs.specs.Place.{Place, value_at, byte_in, behind}
+use Rattle.step_defs.specs.Place.{Place, value_at, byte_in}
 use Rattle.step_defs.specs.Step.{width_of}
-use Rattle.sim_view.specs.View.{View, view, Stands}
-use Rattle.sim_view.specs.Exits.{Exits, Exit, Comes}
-use Rattle.sim_view.proofs.Compose.{Goes, comes, comes_then, comes_as, comes_on}
-use Rattle.sim_operands.specs.Pieces.{exit, return_of}
+use Rattle.sim_view.specs.View.{View, view}
+use Rattle.sim_view.specs.Exits.{Exits, Comes}
+use Rattle.sim_view.proofs.Compose.{comes_then, comes_as, comes_on}
+use Rattle.sim_operands.specs.Pieces.{return_of}
 use Rattle.sim_operands.specs.Values.{width_in, in_register, number_of_space, IsVisible}
 use Rattle.sim_operands.specs.Subroutines.{grom_at, state_of, next_at, Addressed, Placed, Barred, place_in, Loaded, LoadsValue, LoadsStream, streamed}
 use Rattle.sim_steps.specs.Pieces as pieces
-use Rattle.sim_steps.specs.Rows.{code_of, behind_code, word_of, Holds, To, Valued, AtRow, StoppedBy}
-use Rattle.sim_steps.specs.States.{Sees, Dispatched, is_alu}
-use Rattle.sim_steps.proofs.Beginning.{just, from, known}
+use Rattle.sim_steps.specs.Rows.{code_of, word_of, Holds, To, Valued, AtRow, StoppedBy}
+use Rattle.sim_steps.specs.States.{is_alu}
 use Rattle.sim_steps.proofs.Fronting.{width_is, size_is, width_of_size, place_is, From, Located, holds_loaded, holds_addressed, from_placed, barred_stops}
 
 -- ---- a value is one of cells and video memory alone
@@ -80,11 +79,14 @@ loads s place kept next to most x y z t u w even_to c d =
     let e : return_of v ≡ to = ap even c.holds.link ∙ even_to in
     let number = value_at (state_of v) (width_in v.r.r3) (place_in v.r.r5 v.r.r2) in
     let d2 : Comes 17 y z u w to (Loaded v number) = subst (λ (p : ℕ). Comes 17 y z u w p (Loaded v number)) e d in
-    comes_as (most + 17) _ (comes_on most 17 c d2 refl) (omega arith) (λ q a. (record {
-      holds = holds_loaded s next number v q h a;
-      value = ap (λ (u : View). u.r.r6) a.is ∙ register_width s next v number h ∙ ap (in_register (width_of (word_of s))) (number_is s place next v h c.holds.from);
-      to_kept = record { address = ap (λ (u : View). u.r.r7) a.is ∙ c.holds.to_kept.address; space = ap (λ (u : View). u.r.r8) a.is ∙ c.holds.to_kept.space };
-    }, ap (λ (u : View). u.r.r9) a.is))
+    comes_as (most + 17) _ (comes_on most 17 c d2 refl) (omega arith) (λ q a. (
+      record {
+        holds = holds_loaded s next number v q h a;
+        value = ap (λ (u : View). u.r.r6) a.is ∙ register_width s next v number h ∙ ap (in_register (width_of (word_of s))) (number_is s place next v h c.holds.from);
+        to_kept = record { address = ap (λ (u : View). u.r.r7) a.is ∙ c.holds.to_kept.address; space = ap (λ (u : View). u.r.r8) a.is ∙ c.holds.to_kept.space };
+      },
+      ap (λ (u : View). u.r.r9) a.is,
+    ))
 
 -- the first operand's place is asked for, and kept
 pub asks_first : (s : GplState) (place : Place) (next most : ℕ) (x y z : MachineState) (t u w : ℕ) → Comes most x y t u 0x2434 (Located s place next) → Exits y z u w (pieces.load_first (view y)) →

@@ -1,10 +1,8 @@
 -- The runs of the pieces on the view.
-use Rattle.std.proofs.Common.{◌≡◌, ℕ, ◌+◌, ◌-◌, ◌/◌, ◌<◌, ◌≤◌, Bool, true, false, refl, sym, ap, subst, ◌∙◌, arith, List, [], ◌∷◌}
-use Rattle.std.specs.Prelude.{◌==◌, ◌&&◌, not, nat_lt, slice_index}
-use Rattle.console_defs.specs.Words.{high, low, join, even, plus}
-use Rattle.console_defs.specs.Flags.{Word, sum_of}
+use Rattle.std.proofs.Common.{◌≡◌, ℕ, ◌<◌, ◌≤◌, true, false, refl, sym, subst, arith, List, [], ◌∷◌}
+use Rattle.std.specs.Prelude.{◌==◌, nat_lt}
 use Rattle.console_defs.specs.Shifts.{shifted, last_out}
-use Rattle.console_defs.specs.declared.instruction.ShiftOp.TheVariants.{SRL, SLA}
+use Rattle.console_defs.specs.declared.instruction.ShiftOp.TheVariants.{SRL}
 use Rattle.sim_view.specs.View.{View}
 use Rattle.sim_view.specs.Exits.{Exit}
 use Rattle.sim_view.proofs.Bridge.{Leads, IsView}
@@ -110,8 +108,8 @@ second_operand v =
     leads ends
     (pick (nat_lt v.r.r0 0xA0)
     (λ c. pick (pieces.width_of_code v.r.r0 == 1)
-        (λ d. rest_is (rw (c, d, pieces.second_operand) refl) (part_then ends 7 0 9 (unit_row v c) (unit_byte (told v) d)))
-        (λ d. rest_is (rw (c, d, pieces.second_operand) refl) (part_then ends 7 0 9 (unit_row v c) (unit_word (told v) d))))
+    (λ d. rest_is (rw (c, d, pieces.second_operand) refl) (part_then ends 7 0 9 (unit_row v c) (unit_byte (told v) d)))
+    (λ d. rest_is (rw (c, d, pieces.second_operand) refl) (part_then ends 7 0 9 (unit_row v c) (unit_word (told v) d))))
     (λ c. pick (last_out SRL v.r.r0 2)
-        (λ d. rest_is (rw (c, d, pieces.second_operand) refl) (part_then ends 7 0 9 (two_rows v c) (immediate (told v) d)))
-        (λ d. rest_is (rw (c, d, pieces.second_operand) refl) (part_then ends 7 0 9 (two_rows v c) (operand (told v) d)))))
+    (λ d. rest_is (rw (c, d, pieces.second_operand) refl) (part_then ends 7 0 9 (two_rows v c) (immediate (told v) d)))
+    (λ d. rest_is (rw (c, d, pieces.second_operand) refl) (part_then ends 7 0 9 (two_rows v c) (operand (told v) d)))))

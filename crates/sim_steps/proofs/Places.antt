@@ -1,6 +1,6 @@
 -- What is true of the places that operands have.
-use Rattle.std.proofs.Common.{◌≡◌, ℕ, ◌+◌, ◌<◌, ◌≤◌, Bool, true, false, refl, sym, ap, subst, ◌∙◌, arith, Option, Some, None, Result, Ok, Err}
-use Rattle.std.specs.Prelude.{◌==◌, ◌&&◌, not, nat_le, if◌then◌else◌}
+use Rattle.std.proofs.Common.{◌≡◌, ℕ, ◌+◌, ◌≤◌, Bool, true, false, refl, subst, arith, Option, Some, None, Result, Ok, Err}
+use Rattle.std.specs.Prelude.{◌==◌, ◌&&◌, not, if◌then◌else◌}
 use Rattle.std.proofs.lemmas.Bool.{leb-true}
 use Rattle.source_defs.specs.Refusals.{◌>>=◌}
 use Rattle.gpl_defs.specs.declared.instruction.Space.{Space}
@@ -11,7 +11,7 @@ use Rattle.step_defs.specs.declared.reason.Reason.TheVariants.{Cell}
 use Rattle.step_defs.specs.State.{GplState}
 use Rattle.step_defs.specs.Place.{Place, place_of, pointed, indexed, ranged, is_visible, word_at}
 use Rattle.console_defs.specs.Words.{plus}
-use Rattle.sim_operands.specs.Values.{IsVisible, number_of_space}
+use Rattle.sim_operands.specs.Values.{number_of_space}
 
 -- A place is visible where it lies in the cells, and there is none for one reason alone.
 abbrev pub Lies : ℕ → Result Place Reason → Type 0

@@ -1,11 +1,9 @@
 -- The step of GPL by the operation of its code byte.
-use Rattle.std.proofs.Common.{◌≡◌, ℕ, ◌+◌, ◌/◌, ◌%◌, ◌<◌, Bool, true, false, refl, sym, ap, subst, ◌∙◌, List, Option, Some, None, Result, Ok, Err}
-use Rattle.std.specs.Prelude.{◌==◌, ◌&&◌, not, slice_index, if◌then◌else◌}
+use Rattle.std.proofs.Common.{◌≡◌, ℕ, Bool, true, false, refl, ap, ◌∙◌, List, Option, Some, None, Result, Ok, Err}
+use Rattle.std.specs.Prelude.{◌==◌, ◌&&◌, not, if◌then◌else◌}
 use Rattle.console_defs.specs.Words.{plus}
 use Rattle.console_defs.specs.Bytes.{word_in}
 use Rattle.gpl_defs.specs.declared.instruction.GplOperand.{GplOperand}
-use Rattle.console_defs.specs.Flags.{Width, size_of}
-use Rattle.console_defs.specs.Grom.{next_in_grom}
 use Rattle.source_defs.specs.Refusals.{◌>>=◌}
 use Rattle.gpl_defs.specs.declared.instruction.PlainOp.TheVariants.{EXIT}
 use Rattle.gpl_defs.specs.declared.instruction.GoOp.TheVariants.{B}
@@ -15,7 +13,7 @@ use Rattle.gpl_defs.specs.declared.instruction.GplOperation.{GplOperation}
 use Rattle.gpl_defs.specs.declared.instruction.GplOperation.TheVariants as operation
 use Rattle.gpl_defs.specs.declared.instruction.GplRead.{GplRead}
 use Rattle.gpl_defs.specs.Codes.{operation_at}
-use Rattle.gpl_defs.specs.Reading.{reading, read_by, instr_at, operand_at, source_at, word_at}
+use Rattle.gpl_defs.specs.Reading.{reading, read_by, instr_at, word_at}
 use Rattle.step_defs.specs.declared.reason.Reason.{Reason}
 use Rattle.step_defs.specs.declared.reason.Reason.TheVariants.{Exit, Opcode, Cell}
 use Rattle.step_defs.specs.State.{GplState}
@@ -23,8 +21,8 @@ use Rattle.step_defs.specs.Place.{Place, place_of, pointed, indexed, ranged, is_
 use Rattle.step_defs.specs.Changes.{Changes, unchanged, with_value, finished}
 use Rattle.step_defs.specs.Arithmetic.{Source}
 use Rattle.step_defs.specs.Built.{is_built, is_built_operation}
-use Rattle.step_defs.specs.Step.{step, executed, after, source_of, width_of}
-use Rattle.sim_steps.specs.Rows.{code_of, behind_code, word_of, next_of, moved, first_of, second_of}
+use Rattle.step_defs.specs.Step.{step, executed, after, width_of}
+use Rattle.sim_steps.specs.Rows.{code_of, behind_code, word_of, moved, first_of, second_of}
 use Rattle.step_defs.specs.Run.{bound, bound_by, bound_at}
 
 reading_is : (s : GplState) → reading s.image s.pc ≡ read_by (operation_at (code_of s)) (code_of s) s.image (behind_code s)
@@ -86,6 +84,7 @@ step_store s e =
     then_ok : (r : Result Source Reason) (f : Source → Changes) → (r >>= λ source. Ok (f source)) >>= (λ (c : Changes). Ok (finished c)) ≡ r >>= λ source. Ok (finished (f source))
     then_ok (Ok source) f = refl
     then_ok (Err reason) f = refl
+
     by : (r : Result Place Reason) →
         ((r >>= λ place. (second_of s >>= λ source. Ok (with_value (width_of (word_of s)) place source.number (unchanged (moved s))))) >>= λ (c : Changes). Ok (finished c))
         ≡ (r >>= λ place. (second_of s >>= λ source. Ok (stored_of s place source)))

@@ -1,12 +1,11 @@
 -- The result of a row is stored, and the character goes to the screen.
-use Rattle.std.proofs.Common.{◌≡◌, ℕ, ◌+◌, ◌-◌, ◌*◌, ◌/◌, ◌%◌, ◌<◌, ◌≤◌, Bool, true, false, refl, sym, ap, subst, ◌∙◌, arith, eqb, List, Option, Some, None, Result, Ok, Err}
-use Rattle.std.specs.Prelude.{◌==◌, not, nat_lt, slice_index, slice_set, if◌then◌else◌}
-use Rattle.std.proofs.lemmas.Bool.{eqb-true, ne_eqb}
+use Rattle.std.proofs.Common.{◌≡◌, ℕ, ◌+◌, ◌*◌, ◌%◌, ◌<◌, true, false, refl, sym, ap, subst, ◌∙◌, arith, List, None}
+use Rattle.std.specs.Prelude.{◌==◌, slice_index, slice_set}
 use Rattle.console_defs.specs.Words.{high, low, join, even}
-use Rattle.console_defs.specs.Flags.{Width, Byte, Word, size_of, sum_of}
+use Rattle.console_defs.specs.Flags.{Width, Byte, Word, sum_of}
 use Rattle.console_defs.specs.Shifts.{shifted}
 use Rattle.console_defs.specs.declared.instruction.ShiftOp.TheVariants.{SRL, SLA}
-use Rattle.console_defs.specs.Grom.{GromState, next_in_grom, previous_in_grom}
+use Rattle.console_defs.specs.Grom.{GromState, previous_in_grom}
 use Rattle.console_defs.proofs.GromLaws.{previous-next}
 use Rattle.console_defs.specs.Machine.{MachineState}
 use Rattle.gpl_defs.specs.declared.instruction.Space.{Space}
@@ -15,17 +14,17 @@ use Rattle.step_defs.specs.State.{GplState}
 use Rattle.step_defs.specs.Place.{Place}
 use Rattle.step_defs.specs.Changes.{Changes, unchanged, with_value, with_byte_in, finished, shown}
 use Rattle.step_defs.specs.Step.{width_of}
-use Rattle.sim_view.specs.View.{View, view, Stands}
-use Rattle.sim_view.specs.Exits.{Exits, Exit, Comes}
+use Rattle.sim_view.specs.View.{View, view}
+use Rattle.sim_view.specs.Exits.{Exits, Comes}
 use Rattle.sim_view.proofs.Bridge.{IsView}
-use Rattle.sim_view.proofs.Compose.{Goes, comes, comes_then, comes_as, comes_on}
-use Rattle.sim_operands.specs.Pieces.{exit, return_of}
-use Rattle.sim_operands.specs.Values.{width_in, in_register, of_register, number_of_space, IsVisible}
+use Rattle.sim_view.proofs.Compose.{comes, comes_then, comes_as, comes_on}
+use Rattle.sim_operands.specs.Pieces.{return_of}
+use Rattle.sim_operands.specs.Values.{width_in, in_register, of_register, number_of_space}
 use Rattle.sim_operands.specs.Subroutines.{grom_at, state_of, place_in, Stored, StoresValue, marked_by}
 use Rattle.sim_steps.specs.Pieces as pieces
-use Rattle.sim_steps.specs.Rows.{code_of, word_of, Holds, To, AtRow}
-use Rattle.sim_steps.specs.States.{Sees, Dispatched}
-use Rattle.sim_steps.proofs.Beginning.{just, from, known}
+use Rattle.sim_steps.specs.Rows.{word_of, Holds, To, AtRow}
+use Rattle.sim_steps.specs.States.{Sees}
+use Rattle.sim_steps.proofs.Beginning.{just, from}
 use Rattle.sim_steps.proofs.Fronting.{width_of_size, place_is}
 use Rattle.sim_steps.proofs.Ends.{same_state}
 

@@ -1,5 +1,5 @@
 -- The turn from the dispatch of a step.
-use Rattle.std.proofs.Common.{◌≡◌, ℕ, Bool, true, false, refl, sym, ap, subst, ◌∙◌, arith, Option, Some, None, Result, Ok, Err}
+use Rattle.std.proofs.Common.{◌≡◌, ℕ, true, false, refl, sym, subst, ◌∙◌, arith, Option, Some, None, Err}
 use Rattle.std.specs.Prelude.{slice_index}
 use Rattle.console_defs.specs.Machine.{MachineState}
 use Rattle.gpl_defs.specs.declared.instruction.PlainOp.TheVariants.{EXIT}
@@ -76,6 +76,6 @@ module _ (s : GplState) (x y : MachineState) (t u : ℕ) (c : Comes 29 x y t u (
   pub stopped : (p : ℕ) → p ≡ y.cpu.pc → p ≡ 0x22AE → (z : MachineState) (after : ℕ) → Exits y z u after (pieces.stop_code (view y)) → Turned s 0 x z t after (Stopped Opcode)
   stopped p a e z after run =
       let leads : operation_entry (operation_at (code_of s)) ≡ 0x22AE =
-          subst (λ (z : GplState). operation_entry (operation_at (slice_index z.image z.pc)) ≡ 0x22AE) seen (entry p 0x22AE a e) in
+      subst (λ (z : GplState). operation_entry (operation_at (slice_index z.image z.pc)) ≡ 0x22AE) seen (entry p 0x22AE a e) in
       let is = refused s (operation_at (code_of s)) refl leads in
       turned_from z after s (Stopped Opcode) c (enters (operation_at (code_of s))) (refuses s y z u after c.holds is (stands_at p 0x22AE a e) run)

@@ -1,7 +1,7 @@
 -- What the pieces of boot, of the step and of the instructions come to: how many instructions they have, where they end, and
 -- what they change of the view, in the words of the processor. Registers, cells and ports that are not named stay.
-use Rattle.std.specs.Prelude.{ℕ, ◌+◌, ◌-◌, ◌/◌, ◌==◌, Bool, true, false, not, nat_lt, if◌then◌else◌, slice_index, slice_set}
-use Rattle.console_defs.specs.Words.{high, low, join, even}
+use Rattle.std.specs.Prelude.{ℕ, ◌+◌, ◌-◌, ◌/◌, ◌==◌, nat_lt, if◌then◌else◌, slice_index, slice_set}
+use Rattle.console_defs.specs.Words.{low, join, even}
 use Rattle.console_defs.specs.Flags.{Word, sum_of, difference_of}
 use Rattle.console_defs.specs.Shifts.{shifted, last_out}
 use Rattle.console_defs.specs.Grom.{GromState, grom_address_read}
@@ -108,15 +108,15 @@ second_operand v =
     let told = record v { r = record v.r { r3 = width; r9 = v.r.r6 } } in
     if nat_lt v.r.r0 0xA0
     then (
-      if width == 1
-      then exit 10 GO (record told { r = record told.r { r6 = 0x0100 } })
-      else exit 11 GO (record told { r = record told.r { r6 = 1 } })
+    if width == 1
+    then exit 10 GO (record told { r = record told.r { r6 = 0x0100 } })
+    else exit 11 GO (record told { r = record told.r { r6 = 1 } })
     )
     else (
-      let form = record told { r = record told.r { r4 = shifted SRL v.r.r0 2 } } in
-      if last_out SRL v.r.r0 2
-      then exit 12 OPVAL (record form { r = record form.r { r5 = 2 } })
-      else exit 11 ADDR (record form { r = record form.r { r11 = OPVAL } })
+    let form = record told { r = record told.r { r4 = shifted SRL v.r.r0 2 } } in
+    if last_out SRL v.r.r0 2
+    then exit 12 OPVAL (record form { r = record form.r { r5 = 2 } })
+    else exit 11 ADDR (record form { r = record form.r { r11 = OPVAL } })
     )
 
 -- OPVAL: the value of the second operand is asked for.

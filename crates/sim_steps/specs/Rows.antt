@@ -12,7 +12,7 @@ use Rattle.step_defs.specs.Place.{Place, place_of, value_at}
 use Rattle.step_defs.specs.Arithmetic.{Source}
 use Rattle.step_defs.specs.Step.{source_of, width_of}
 use Rattle.native_interp.specs.declared.addresses.TheConstants.{GSTOP, OPS, STV}
-use Rattle.sim_view.specs.View.{View, view}
+use Rattle.sim_view.specs.View.{View}
 use Rattle.sim_view.specs.Exits.{Comes}
 use Rattle.sim_operands.specs.Values.{in_register, number_of_space}
 use Rattle.sim_steps.specs.States.{Sees}

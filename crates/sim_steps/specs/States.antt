@@ -1,6 +1,5 @@
 -- Views of the interpreter's machine at the beginning of a step, at its dispatch, and at the entry of a row.
-use Rattle.std.specs.Prelude.{◌≡◌, ◌<◌, ◌≤◌, ℕ, Bool, true, false, Option, Some, None, slice_index}
-use Rattle.console_defs.specs.Flags.{Width, size_of}
+use Rattle.std.specs.Prelude.{◌≡◌, ℕ, Bool, true, false, Option, Some, None, slice_index}
 use Rattle.console_defs.specs.Grom.{next_in_grom, previous_in_grom}
 use Rattle.gpl_defs.specs.declared.instruction.PlainOp.TheVariants.{EXIT}
 use Rattle.gpl_defs.specs.declared.instruction.GoOp.TheVariants.{B}

@@ -11,6 +11,11 @@ mod turn;
 pub use alu::{run_alu, show, store_result, take_source};
 pub use flow::{ask_target, go_on, leave, run_flow};
 pub use interp_defs::Turn;
-pub use row::{ask_first, go_to_row, load_destination, load_first, load_operands, load_second, row_width, second_operand};
-pub use step::{ask_address, ask_byte, begin_step, boot, dispatch, keep_address, stop_code, where_next};
+pub use row::{
+    ask_first, go_to_row, load_destination, load_first, load_operands, load_second, row_width,
+    second_operand,
+};
+pub use step::{
+    ask_address, ask_byte, begin_step, boot, dispatch, keep_address, stop_code, where_next,
+};
 pub use turn::gpl_turn;

@@ -106,9 +106,17 @@ fn compares_words() -> bool {
     is_word(b"Rtn", b"RTN") && !is_word(b"RTNC", b"RTN") && !is_word(b"RTC", b"RTN")
 }
 
+/// Whether a text is read as a name that shows the same text.
+fn is_name(text: &[u8]) -> bool {
+    match Name::read(text) {
+        Some(name) => name.as_bytes() == text,
+        None => false,
+    }
+}
+
 /// Texts that are names and texts that are none.
 fn reads_names() -> bool {
-    Name::read(b"!~a.$1").is_some_and(|name| name.as_bytes() == b"!~a.$1".as_slice())
+    is_name(b"!~a.$1")
         && Name::read(b"").is_none()
         && Name::read(b"ABCDEFG").is_none()
         && Name::read(b"A B").is_none()

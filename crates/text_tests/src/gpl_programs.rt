@@ -5,126 +5,183 @@ use source_defs::ExprError;
 use std::alloc::Global;
 use std::test::Fail;
 
-/// A line with each instruction of one operand or none, and its bytes from >6000 on.
+/// Each instruction of one operand or none, by bytes and by words, and its bytes from >6000 on.
 const ONE_OPERAND: &[(&[u8], &[u8])] = &[
-    (b" RTN\n", b"\x00"),
-    (b" RTNC\n", b"\x01"),
-    (b" H\n", b"\x09"),
-    (b" GT\n", b"\x0A"),
-    (b" EXIT\n", b"\x0B"),
-    (b" CARRY\n", b"\x0C"),
-    (b" OVF\n", b"\x0D"),
-    (b" RAND >12\n", b"\x02\x12"),
-    (b" BACK >12\n", b"\x04\x12"),
-    (b" ALL >12\n", b"\x07\x12"),
-    (b" B >1234\n", b"\x05\x12\x34"),
-    (b" CALL >1234\n", b"\x06\x12\x34"),
-    (b" BR >7123\n", b"\x51\x23"),
-    (b" BS >6001\n", b"\x60\x01"),
-    (b" ABS @>8305\n", b"\x80\x05"),
-    (b" DABS @>8305\n", b"\x81\x05"),
-    (b" NEG @>8305\n", b"\x82\x05"),
-    (b" DNEG @>8305\n", b"\x83\x05"),
-    (b" INV @>8305\n", b"\x84\x05"),
-    (b" DINV @>8305\n", b"\x85\x05"),
-    (b" CLR @>8305\n", b"\x86\x05"),
-    (b" DCLR @>8305\n", b"\x87\x05"),
-    (b" CASE @>8305\n", b"\x8A\x05"),
-    (b" DCASE @>8305\n", b"\x8B\x05"),
-    (b" CZ @>8305\n", b"\x8E\x05"),
-    (b" DCZ @>8305\n", b"\x8F\x05"),
-    (b" INC @>8305\n", b"\x90\x05"),
-    (b" DINC @>8305\n", b"\x91\x05"),
-    (b" DEC @>8305\n", b"\x92\x05"),
-    (b" DDEC @>8305\n", b"\x93\x05"),
-    (b" INCT @>8305\n", b"\x94\x05"),
-    (b" DINCT @>8305\n", b"\x95\x05"),
-    (b" DECT @>8305\n", b"\x96\x05"),
-    (b" DDECT @>8305\n", b"\x97\x05"),
-    (b" FETCH @>8305\n", b"\x88\x05"),
-    (b" PUSH @>8305\n", b"\x8C\x05"),
+    (b" RTN\n RTNC\n", b"\x00\x01"),
+    (b" H\n GT\n EXIT\n CARRY\n OVF\n", b"\x09\x0A\x0B\x0C\x0D"),
+    (
+        b" RAND >12\n BACK >12\n ALL >12\n",
+        b"\x02\x12\x04\x12\x07\x12",
+    ),
+    (b" B >1234\n CALL >1234\n", b"\x05\x12\x34\x06\x12\x34"),
+    (b" BR >7123\n BS >6001\n", b"\x51\x23\x60\x01"),
+    (b" ABS @>8305\n DABS @>8305\n", b"\x80\x05\x81\x05"),
+    (b" NEG @>8305\n DNEG @>8305\n", b"\x82\x05\x83\x05"),
+    (b" INV @>8305\n DINV @>8305\n", b"\x84\x05\x85\x05"),
+    (b" CLR @>8305\n DCLR @>8305\n", b"\x86\x05\x87\x05"),
+    (b" CASE @>8305\n DCASE @>8305\n", b"\x8A\x05\x8B\x05"),
+    (b" CZ @>8305\n DCZ @>8305\n", b"\x8E\x05\x8F\x05"),
+    (b" INC @>8305\n DINC @>8305\n", b"\x90\x05\x91\x05"),
+    (b" DEC @>8305\n DDEC @>8305\n", b"\x92\x05\x93\x05"),
+    (b" INCT @>8305\n DINCT @>8305\n", b"\x94\x05\x95\x05"),
+    (b" DECT @>8305\n DDECT @>8305\n", b"\x96\x05\x97\x05"),
+    (b" FETCH @>8305\n PUSH @>8305\n", b"\x88\x05\x8C\x05"),
 ];
 
 /// With each of two operands in memory.
 const TWO_OPERANDS: &[(&[u8], &[u8])] = &[
-    (b" ADD @>8305,V@>0123\n", b"\xA0\x05\xA1\x23"),
-    (b" DADD @>8305,V@>0123\n", b"\xA1\x05\xA1\x23"),
-    (b" SUB @>8305,V@>0123\n", b"\xA4\x05\xA1\x23"),
-    (b" DSUB @>8305,V@>0123\n", b"\xA5\x05\xA1\x23"),
-    (b" MUL @>8305,V@>0123\n", b"\xA8\x05\xA1\x23"),
-    (b" DMUL @>8305,V@>0123\n", b"\xA9\x05\xA1\x23"),
-    (b" DIV @>8305,V@>0123\n", b"\xAC\x05\xA1\x23"),
-    (b" DDIV @>8305,V@>0123\n", b"\xAD\x05\xA1\x23"),
-    (b" AND @>8305,V@>0123\n", b"\xB0\x05\xA1\x23"),
-    (b" DAND @>8305,V@>0123\n", b"\xB1\x05\xA1\x23"),
-    (b" OR @>8305,V@>0123\n", b"\xB4\x05\xA1\x23"),
-    (b" DOR @>8305,V@>0123\n", b"\xB5\x05\xA1\x23"),
-    (b" XOR @>8305,V@>0123\n", b"\xB8\x05\xA1\x23"),
-    (b" DXOR @>8305,V@>0123\n", b"\xB9\x05\xA1\x23"),
-    (b" ST @>8305,V@>0123\n", b"\xBC\x05\xA1\x23"),
-    (b" DST @>8305,V@>0123\n", b"\xBD\x05\xA1\x23"),
-    (b" EX @>8305,V@>0123\n", b"\xC0\x05\xA1\x23"),
-    (b" DEX @>8305,V@>0123\n", b"\xC1\x05\xA1\x23"),
-    (b" CH @>8305,V@>0123\n", b"\xC4\x05\xA1\x23"),
-    (b" DCH @>8305,V@>0123\n", b"\xC5\x05\xA1\x23"),
-    (b" CHE @>8305,V@>0123\n", b"\xC8\x05\xA1\x23"),
-    (b" DCHE @>8305,V@>0123\n", b"\xC9\x05\xA1\x23"),
-    (b" CGT @>8305,V@>0123\n", b"\xCC\x05\xA1\x23"),
-    (b" DCGT @>8305,V@>0123\n", b"\xCD\x05\xA1\x23"),
-    (b" CGE @>8305,V@>0123\n", b"\xD0\x05\xA1\x23"),
-    (b" DCGE @>8305,V@>0123\n", b"\xD1\x05\xA1\x23"),
-    (b" CEQ @>8305,V@>0123\n", b"\xD4\x05\xA1\x23"),
-    (b" DCEQ @>8305,V@>0123\n", b"\xD5\x05\xA1\x23"),
-    (b" CLOG @>8305,V@>0123\n", b"\xD8\x05\xA1\x23"),
-    (b" DCLOG @>8305,V@>0123\n", b"\xD9\x05\xA1\x23"),
-    (b" SRA @>8305,V@>0123\n", b"\xDC\x05\xA1\x23"),
-    (b" DSRA @>8305,V@>0123\n", b"\xDD\x05\xA1\x23"),
-    (b" SLL @>8305,V@>0123\n", b"\xE0\x05\xA1\x23"),
-    (b" DSLL @>8305,V@>0123\n", b"\xE1\x05\xA1\x23"),
-    (b" SRL @>8305,V@>0123\n", b"\xE4\x05\xA1\x23"),
-    (b" DSRL @>8305,V@>0123\n", b"\xE5\x05\xA1\x23"),
-    (b" SRC @>8305,V@>0123\n", b"\xE8\x05\xA1\x23"),
-    (b" DSRC @>8305,V@>0123\n", b"\xE9\x05\xA1\x23"),
+    (
+        b" ADD @>8305,V@>0123\n DADD @>8305,V@>0123\n",
+        b"\xA0\x05\xA1\x23\xA1\x05\xA1\x23",
+    ),
+    (
+        b" SUB @>8305,V@>0123\n DSUB @>8305,V@>0123\n",
+        b"\xA4\x05\xA1\x23\xA5\x05\xA1\x23",
+    ),
+    (
+        b" MUL @>8305,V@>0123\n DMUL @>8305,V@>0123\n",
+        b"\xA8\x05\xA1\x23\xA9\x05\xA1\x23",
+    ),
+    (
+        b" DIV @>8305,V@>0123\n DDIV @>8305,V@>0123\n",
+        b"\xAC\x05\xA1\x23\xAD\x05\xA1\x23",
+    ),
+    (
+        b" AND @>8305,V@>0123\n DAND @>8305,V@>0123\n",
+        b"\xB0\x05\xA1\x23\xB1\x05\xA1\x23",
+    ),
+    (
+        b" OR @>8305,V@>0123\n DOR @>8305,V@>0123\n",
+        b"\xB4\x05\xA1\x23\xB5\x05\xA1\x23",
+    ),
+    (
+        b" XOR @>8305,V@>0123\n DXOR @>8305,V@>0123\n",
+        b"\xB8\x05\xA1\x23\xB9\x05\xA1\x23",
+    ),
+    (
+        b" ST @>8305,V@>0123\n DST @>8305,V@>0123\n",
+        b"\xBC\x05\xA1\x23\xBD\x05\xA1\x23",
+    ),
+    (
+        b" EX @>8305,V@>0123\n DEX @>8305,V@>0123\n",
+        b"\xC0\x05\xA1\x23\xC1\x05\xA1\x23",
+    ),
+    (
+        b" CH @>8305,V@>0123\n DCH @>8305,V@>0123\n",
+        b"\xC4\x05\xA1\x23\xC5\x05\xA1\x23",
+    ),
+    (
+        b" CHE @>8305,V@>0123\n DCHE @>8305,V@>0123\n",
+        b"\xC8\x05\xA1\x23\xC9\x05\xA1\x23",
+    ),
+    (
+        b" CGT @>8305,V@>0123\n DCGT @>8305,V@>0123\n",
+        b"\xCC\x05\xA1\x23\xCD\x05\xA1\x23",
+    ),
+    (
+        b" CGE @>8305,V@>0123\n DCGE @>8305,V@>0123\n",
+        b"\xD0\x05\xA1\x23\xD1\x05\xA1\x23",
+    ),
+    (
+        b" CEQ @>8305,V@>0123\n DCEQ @>8305,V@>0123\n",
+        b"\xD4\x05\xA1\x23\xD5\x05\xA1\x23",
+    ),
+    (
+        b" CLOG @>8305,V@>0123\n DCLOG @>8305,V@>0123\n",
+        b"\xD8\x05\xA1\x23\xD9\x05\xA1\x23",
+    ),
+    (
+        b" SRA @>8305,V@>0123\n DSRA @>8305,V@>0123\n",
+        b"\xDC\x05\xA1\x23\xDD\x05\xA1\x23",
+    ),
+    (
+        b" SLL @>8305,V@>0123\n DSLL @>8305,V@>0123\n",
+        b"\xE0\x05\xA1\x23\xE1\x05\xA1\x23",
+    ),
+    (
+        b" SRL @>8305,V@>0123\n DSRL @>8305,V@>0123\n",
+        b"\xE4\x05\xA1\x23\xE5\x05\xA1\x23",
+    ),
+    (
+        b" SRC @>8305,V@>0123\n DSRC @>8305,V@>0123\n",
+        b"\xE8\x05\xA1\x23\xE9\x05\xA1\x23",
+    ),
 ];
 
 /// With each that has an immediate source.
 const IMMEDIATE_SOURCES: &[(&[u8], &[u8])] = &[
-    (b" ADD @>8305,>12\n", b"\xA2\x05\x12"),
-    (b" DADD @>8305,>1234\n", b"\xA3\x05\x12\x34"),
-    (b" SUB @>8305,>12\n", b"\xA6\x05\x12"),
-    (b" DSUB @>8305,>1234\n", b"\xA7\x05\x12\x34"),
-    (b" MUL @>8305,>12\n", b"\xAA\x05\x12"),
-    (b" DMUL @>8305,>1234\n", b"\xAB\x05\x12\x34"),
-    (b" DIV @>8305,>12\n", b"\xAE\x05\x12"),
-    (b" DDIV @>8305,>1234\n", b"\xAF\x05\x12\x34"),
-    (b" AND @>8305,>12\n", b"\xB2\x05\x12"),
-    (b" DAND @>8305,>1234\n", b"\xB3\x05\x12\x34"),
-    (b" OR @>8305,>12\n", b"\xB6\x05\x12"),
-    (b" DOR @>8305,>1234\n", b"\xB7\x05\x12\x34"),
-    (b" XOR @>8305,>12\n", b"\xBA\x05\x12"),
-    (b" DXOR @>8305,>1234\n", b"\xBB\x05\x12\x34"),
-    (b" ST @>8305,>12\n", b"\xBE\x05\x12"),
-    (b" DST @>8305,>1234\n", b"\xBF\x05\x12\x34"),
-    (b" CH @>8305,>12\n", b"\xC6\x05\x12"),
-    (b" DCH @>8305,>1234\n", b"\xC7\x05\x12\x34"),
-    (b" CHE @>8305,>12\n", b"\xCA\x05\x12"),
-    (b" DCHE @>8305,>1234\n", b"\xCB\x05\x12\x34"),
-    (b" CGT @>8305,>12\n", b"\xCE\x05\x12"),
-    (b" DCGT @>8305,>1234\n", b"\xCF\x05\x12\x34"),
-    (b" CGE @>8305,>12\n", b"\xD2\x05\x12"),
-    (b" DCGE @>8305,>1234\n", b"\xD3\x05\x12\x34"),
-    (b" CEQ @>8305,>12\n", b"\xD6\x05\x12"),
-    (b" DCEQ @>8305,>1234\n", b"\xD7\x05\x12\x34"),
-    (b" CLOG @>8305,>12\n", b"\xDA\x05\x12"),
-    (b" DCLOG @>8305,>1234\n", b"\xDB\x05\x12\x34"),
-    (b" SRA @>8305,>12\n", b"\xDE\x05\x12"),
-    (b" DSRA @>8305,>1234\n", b"\xDF\x05\x12\x34"),
-    (b" SLL @>8305,>12\n", b"\xE2\x05\x12"),
-    (b" DSLL @>8305,>1234\n", b"\xE3\x05\x12\x34"),
-    (b" SRL @>8305,>12\n", b"\xE6\x05\x12"),
-    (b" DSRL @>8305,>1234\n", b"\xE7\x05\x12\x34"),
-    (b" SRC @>8305,>12\n", b"\xEA\x05\x12"),
-    (b" DSRC @>8305,>1234\n", b"\xEB\x05\x12\x34"),
+    (
+        b" ADD @>8305,>12\n DADD @>8305,>1234\n",
+        b"\xA2\x05\x12\xA3\x05\x12\x34",
+    ),
+    (
+        b" SUB @>8305,>12\n DSUB @>8305,>1234\n",
+        b"\xA6\x05\x12\xA7\x05\x12\x34",
+    ),
+    (
+        b" MUL @>8305,>12\n DMUL @>8305,>1234\n",
+        b"\xAA\x05\x12\xAB\x05\x12\x34",
+    ),
+    (
+        b" DIV @>8305,>12\n DDIV @>8305,>1234\n",
+        b"\xAE\x05\x12\xAF\x05\x12\x34",
+    ),
+    (
+        b" AND @>8305,>12\n DAND @>8305,>1234\n",
+        b"\xB2\x05\x12\xB3\x05\x12\x34",
+    ),
+    (
+        b" OR @>8305,>12\n DOR @>8305,>1234\n",
+        b"\xB6\x05\x12\xB7\x05\x12\x34",
+    ),
+    (
+        b" XOR @>8305,>12\n DXOR @>8305,>1234\n",
+        b"\xBA\x05\x12\xBB\x05\x12\x34",
+    ),
+    (
+        b" ST @>8305,>12\n DST @>8305,>1234\n",
+        b"\xBE\x05\x12\xBF\x05\x12\x34",
+    ),
+    (
+        b" CH @>8305,>12\n DCH @>8305,>1234\n",
+        b"\xC6\x05\x12\xC7\x05\x12\x34",
+    ),
+    (
+        b" CHE @>8305,>12\n DCHE @>8305,>1234\n",
+        b"\xCA\x05\x12\xCB\x05\x12\x34",
+    ),
+    (
+        b" CGT @>8305,>12\n DCGT @>8305,>1234\n",
+        b"\xCE\x05\x12\xCF\x05\x12\x34",
+    ),
+    (
+        b" CGE @>8305,>12\n DCGE @>8305,>1234\n",
+        b"\xD2\x05\x12\xD3\x05\x12\x34",
+    ),
+    (
+        b" CEQ @>8305,>12\n DCEQ @>8305,>1234\n",
+        b"\xD6\x05\x12\xD7\x05\x12\x34",
+    ),
+    (
+        b" CLOG @>8305,>12\n DCLOG @>8305,>1234\n",
+        b"\xDA\x05\x12\xDB\x05\x12\x34",
+    ),
+    (
+        b" SRA @>8305,>12\n DSRA @>8305,>1234\n",
+        b"\xDE\x05\x12\xDF\x05\x12\x34",
+    ),
+    (
+        b" SLL @>8305,>12\n DSLL @>8305,>1234\n",
+        b"\xE2\x05\x12\xE3\x05\x12\x34",
+    ),
+    (
+        b" SRL @>8305,>12\n DSRL @>8305,>1234\n",
+        b"\xE6\x05\x12\xE7\x05\x12\x34",
+    ),
+    (
+        b" SRC @>8305,>12\n DSRC @>8305,>1234\n",
+        b"\xEA\x05\x12\xEB\x05\x12\x34",
+    ),
 ];
 
 /// Whether a source gives these bytes from >6000 on.
@@ -156,6 +213,18 @@ fn takes_a_forward_branch(alloc: Global) -> bool {
     }
 }
 
+/// The refusal of the second line.
+const UNKNOWN_OPERATION: GplError = GplError::At {
+    line: 2,
+    cause: GplCause::UnknownOperation,
+};
+
+/// The refusal of the first line.
+const UNKNOWN_NAME: GplError = GplError::At {
+    line: 1,
+    cause: GplCause::Expr(ExprError::UnknownName),
+};
+
 /// A builder that has taken a line whose name is not known yet, and then refuses one.
 fn refuses_a_line(alloc: Global) -> bool {
     let mut builder = match GplLines::new(alloc) {
@@ -165,14 +234,12 @@ fn refuses_a_line(alloc: Global) -> bool {
     if builder.line(b" DATA Q").is_err() || builder.is_ended() || builder.taken() != 1 {
         return false;
     }
-    let cause = GplCause::UnknownOperation;
-    if builder.line(b"Q FMT") != Err(GplError::At { line: 2, cause }) || builder.taken() != 1 {
+    if builder.line(b"Q FMT") != Err(UNKNOWN_OPERATION) || builder.taken() != 1 {
         return false;
     }
-    let cause = GplCause::Expr(ExprError::UnknownName);
     match builder.finish() {
         Ok(_) => false,
-        Err(error) => error == GplError::At { line: 1, cause },
+        Err(error) => error == UNKNOWN_NAME,
     }
 }
 

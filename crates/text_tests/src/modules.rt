@@ -124,20 +124,30 @@ fn refuses_sources(rt: HostRuntime) -> Result<(), Fail> {
     Ok(())
 }
 
+/// The refusal of the second line.
+const UNKNOWN_OPERATION: AsmError = AsmError::At {
+    line: 2,
+    cause: AsmCause::Form(FormError::UnknownOperation),
+};
+
+/// The refusal of the first line.
+const UNKNOWN_NAME: AsmError = AsmError::At {
+    line: 1,
+    cause: AsmCause::Expr(ExprError::UnknownName),
+};
+
 /// A builder that has taken a line whose name is not known yet, and then refuses one.
 fn refuses_a_line(alloc: Global) -> bool {
     let mut builder = AsmLines::new(alloc);
     if builder.line(b" DATA Q").is_err() || builder.is_ended() || builder.taken() != 1 {
         return false;
     }
-    let cause = AsmCause::Form(FormError::UnknownOperation);
-    if builder.line(b" FOO") != Err(AsmError::At { line: 2, cause }) || builder.taken() != 1 {
+    if builder.line(b" FOO") != Err(UNKNOWN_OPERATION) || builder.taken() != 1 {
         return false;
     }
-    let cause = AsmCause::Expr(ExprError::UnknownName);
     match builder.finish() {
         Ok(_) => false,
-        Err(error) => error == AsmError::At { line: 1, cause },
+        Err(error) => error == UNKNOWN_NAME,
     }
 }
 

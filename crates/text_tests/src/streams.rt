@@ -68,14 +68,25 @@ fn reads_as(
         return Ok(false);
     }
     let mut source = MemSource::new(vec![in alloc; 9; size]?, Vec::from_slice(alloc, &[fails])?);
-    let got = read_all(alloc, &mut source, limit).map(|bytes| bytes.len());
+    let got = match read_all(alloc, &mut source, limit) {
+        Ok(bytes) => Ok(bytes.len()),
+        Err(error) => Err(error),
+    };
     Ok(got == want && source.faults() == u64::from(want == Err(ReadError::Fault)))
+}
+
+/// Whether these bytes were read.
+fn are_read(read: Result<Vec<u8>, ReadError>, bytes: &[u8]) -> bool {
+    match read {
+        Ok(found) => found.as_slice() == bytes,
+        Err(_) => false,
+    }
 }
 
 /// Whether a steady source is read whole.
 fn reads_steadily(alloc: Global) -> Result<bool, AllocError> {
     let mut source = SteadySource::new(Vec::from_slice(alloc, b"one")?);
-    Ok(read_all(alloc, &mut source, 3).is_ok_and(|bytes| bytes.as_slice() == b"one".as_slice()))
+    Ok(are_read(read_all(alloc, &mut source, 3), b"one"))
 }
 
 #[test]
@@ -118,7 +129,7 @@ fn passes_a_pipe(rt: &HostRuntime) -> io::Result<bool> {
         }
     }
     let read = read_all(rt.alloc(), &mut StdSource::new(reader), 100);
-    Ok(read.is_ok_and(|bytes| bytes.as_slice() == b"through a pipe".as_slice()))
+    Ok(are_read(read, b"through a pipe"))
 }
 
 /// Whether a reader that fails behind its first bytes gives these, then fails, and goes on failing.
@@ -127,7 +138,7 @@ fn fails_behind_its_front(alloc: Global) -> bool {
     let mut buffer = [0; 8];
     source.take(&mut buffer) == Ok(5)
         && source.take(&mut buffer) == Err(Failed)
-        && read_all(alloc, &mut source, 100).is_err_and(|error| error == ReadError::Fault)
+        && matches!(read_all(alloc, &mut source, 100), Err(ReadError::Fault))
 }
 
 /// Whether a writer with room for four bytes takes three, then fails, whether by an error or by taking nothing.

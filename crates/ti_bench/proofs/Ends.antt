@@ -1,12 +1,11 @@
 -- How a run ends by its report.
-use Rattle.std.proofs.Common.{◌≡◌, ℕ, ◌≤◌, List, [], length, Option, Some, None, Ok, Err, Bool, true, false, refl, sym, subst, arith, rules}
-use Rattle.std.specs.Prelude.{nat_lt, IsSome}
+use Rattle.std.proofs.Common.{◌≡◌, ℕ, List, length, Option, Some, None, Ok, Err, Bool, true, false, refl, sym, subst, arith}
+use Rattle.std.specs.Prelude.{nat_lt}
 use Rattle.std.proofs.lemmas.Bool.Decides.{nat_tests}
 use Rattle.bench_io.specs.Stream.{SourceState}
-use Rattle.bench_io.specs.ReadAll.{Took, GaveUp}
+use Rattle.bench_io.specs.ReadAll.{GaveUp}
 use Rattle.bench_io.specs.declared.failed.Failed.{Failed}
 use Rattle.bench_io.specs.declared.whole.ReadError.TheVariants as error
-use Rattle.bench_io.proofs.Taking.{took_none}
 use Rattle.console_defs.specs.declared.ends.RunEnd.TheVariants.{Reached, Limit, Refused, Port, SelfJump}
 use Rattle.report_defs.specs.declared.command.Command.{Command}
 use Rattle.report_defs.specs.declared.fault.Fault.TheVariants as fault
@@ -17,7 +16,7 @@ use Rattle.report_defs.specs.Report as spec
 use Rattle.ti_bench.specs.declared.report.Report.{Report}
 use Rattle.ti_bench.specs.declared.report.Report.TheVariants as made
 use Rattle.ti_bench.specs.Made.{defined_report}
-use Rattle.ti_bench.specs.Run.{Outputs, Run, ReadsInput, Reads, TakesWhole, ReportsOn, Reports, WroteReport, WrittenReport, EndsWith, WroteNothing, EndsBy}
+use Rattle.ti_bench.specs.Run.{Outputs, Run, ReadsInput, Reads, TakesWhole, ReportsOn, Reports, WroteReport, WrittenReport, EndsWith, EndsBy}
 
 -- a report that was written ends by its status
 written_ends : (o : Outputs) (report : Report) → WroteReport o (defined_report report) → EndsWith o (defined_report report) (spec.status_of (defined_report report))
@@ -35,6 +34,7 @@ written_ends o (made.Refused line) wrote = (refl, wrote)
 written_ends o (made.Fault fault.Usage) wrote = (refl, wrote)
 written_ends o (made.Fault fault.TooLarge) wrote = (refl, wrote)
 written_ends o (made.Fault fault.PastEnd) wrote = (refl, wrote)
+written_ends o (made.Fault (fault.Interpreter why)) wrote = (refl, wrote)
 
 wrote_report : (o : Outputs) (report : spec.Report) (done : Unit {0}) → WrittenReport {E = Failed} (Ok done) o report → WroteReport o report
 wrote_report o (spec.Whole status pieces) done written = written
@@ -60,6 +60,7 @@ by_report run report status.Usage reports ends = (report, reports, ends)
 by_report run report status.ReadFault reports ends = absurd ends
 by_report run report status.WriteFault reports ends = (report, reports, ends)
 by_report run report status.Memory reports ends = absurd ends
+by_report run report status.Interpreter reports ends = (report, reports, ends)
 by_report run report status.Stopped reports ends = (report, reports, ends)
 
 -- an input that was taken whole
@@ -69,10 +70,6 @@ reads_whole true before after bytes whole =
     let below : nat_lt spec.largest_input (length bytes) ≡ false = grind (arith, nat_tests) in
     record { took = rw below whole.took; within = omega arith; whole = λ le. whole.end }
 reads_whole false before after bytes nothing = nothing
-
-pub takes_within : (reading : Bool) (before after : SourceState) (bytes : List ℕ) → TakesWhole reading before after bytes → length bytes ≤ spec.largest_input
-takes_within true before after bytes whole = whole.within
-takes_within false before after bytes nothing = rw nothing.1 (omega arith)
 
 -- an input that is too large
 pub reads_too_much : (run : Run) (command : Command) → reads command ≡ true → GaveUp error.TooLarge spec.largest_input run.input run.input' → ReportsOn (Some command) run (spec.Faulty fault.TooLarge)
@@ -93,16 +90,3 @@ reports_usage run None none is same =
     let P : Option Command → Type 0 = λ found. ReportsOn found run (spec.Faulty fault.Usage) in
     subst P is (refl, same)
 reports_usage run (Some command) none is same = absurd (none command refl)
-
-some_command : (run : Run) (command : Command) → Some command ≡ command_of run.words → IsSome (command_of run.words)
-some_command run command is = let P : Option Command → Type 0 = λ found. IsSome found in subst P is (search rules)
-
--- what was taken where memory was wanting after it
-pub nothing_written : (run : Run) (command : Command) (bytes : List ℕ) → Some command ≡ command_of run.words → TakesWhole (reads command) run.input run.input' bytes → run.outputs.out' ≡ run.outputs.out → run.outputs.err' ≡ run.outputs.err → WroteNothing run
-nothing_written run command bytes is takes out err = by (reads command) takes
-  where
-    by : (reading : Bool) → TakesWhole reading run.input run.input' bytes → WroteNothing run
-    by true whole = record { command = some_command run command is; bytes = bytes; within = whole.within; empty = 1; one = omega arith; took = whole.took; out = out; err = err }
-    by false (same, none) =
-        let took : Took run.input run.input' [] 0 = rw same (took_none run.input) in
-        record { command = some_command run command is; bytes = []; within = omega arith; empty = 0; one = omega arith; took = took; out = out; err = err }

@@ -61,6 +61,7 @@ reported run status.Usage (report, reports, (is, wrote)) none some = (report, re
 reported run status.ReadFault (nothing, rose) none some = absurd (none.input rose)
 reported run status.WriteFault (report, reports, missed) none some = absurd (no_miss run report none missed)
 reported run status.Memory nothing none some = absurd (some refl)
+reported run status.Interpreter (report, reports, (is, wrote)) none some = (report, reports, sym is, wrote)
 reported run status.Stopped (report, reports, (is, wrote)) none some = (report, reports, sym is, wrote)
 
 pub completeness : Completeness

@@ -1,12 +1,13 @@
 -- One run of the program: how it may end, and what the input and the two outputs are then.
-use Rattle.std.specs.Prelude.{◌≡◌, ℕ, ◌+◌, ◌≤◌, nat_lt, Bool, MatchBool, if◌then◌else◌, List, [], ◌∷◌, length, Option, Some, None, IsSome, Result}
+use Rattle.std.specs.Prelude.{◌≡◌, ℕ, ◌+◌, ◌≤◌, nat_lt, Bool, false, MatchBool, if◌then◌else◌, List, [], ◌∷◌, length, Option, Some, None, IsSome, Result}
 use Rattle.count_defs.specs.Counts.{Rose}
 use Rattle.bench_io.specs.Stream.{SourceState, SinkState, IsAtEnd}
 use Rattle.bench_io.specs.ReadAll.{Took, ReadWhole}
 use Rattle.bench_io.specs.Written.{Wrote, Missed, Written}
 use Rattle.report_defs.specs.declared.command.Command.{Command}
 use Rattle.report_defs.specs.declared.status.Status.{Status}
-use Rattle.report_defs.specs.declared.status.Status.TheVariants.{Done, Refused, Usage, ReadFault, WriteFault, Memory, Stopped}
+use Rattle.report_defs.specs.declared.status.Status.TheVariants.{Done, Refused, Usage, ReadFault, WriteFault}
+use Rattle.report_defs.specs.declared.status.Status.TheVariants.{Memory, Interpreter, Stopped}
 use Rattle.report_defs.specs.declared.fault.Fault.TheVariants as fault
 use Rattle.report_defs.specs.FaultLine.{fault_line}
 use Rattle.report_defs.specs.Commands.{command_of, reads}
@@ -81,10 +82,16 @@ EndsWith o report Usage = (status_of report ≡ Usage) × WroteReport o report
 EndsWith o report ReadFault = ⊥
 EndsWith o report WriteFault = MissedReport o report
 EndsWith o report Memory = ⊥
+EndsWith o report Interpreter = (status_of report ≡ Interpreter) × WroteReport o report
 EndsWith o report Stopped = (status_of report ≡ Stopped) × WroteReport o report
 
+-- a command that reads no input leaves it as it was
+abbrev pub LeavesInput : Run → Type 0
+LeavesInput run =
+    (command : Command) → command_of run.words ≡ Some command → reads command ≡ false → run.input' ≡ run.input
+
 -- nothing was written, and no more of the input was taken than an input may have, by calls of which one at most gave
--- no byte
+-- no byte; and nothing of it by a command that reads none
 pub record WroteNothing (run : Run) : Type 0 where
   pub command : IsSome (command_of run.words)
   pub bytes : List ℕ
@@ -92,6 +99,7 @@ pub record WroteNothing (run : Run) : Type 0 where
   pub empty : ℕ
   pub one : empty ≤ 1
   pub took : Took run.input run.input' bytes empty
+  pub unread : LeavesInput run
   pub out : run.outputs.out' ≡ run.outputs.out
   pub err : run.outputs.err' ≡ run.outputs.err
 
@@ -108,4 +116,5 @@ EndsBy run Usage = EndsByReport run Usage
 EndsBy run ReadFault = WroteNothing run × Rose run.input.faults run.input'.faults
 EndsBy run WriteFault = EndsByReport run WriteFault
 EndsBy run Memory = WroteNothing run
+EndsBy run Interpreter = EndsByReport run Interpreter
 EndsBy run Stopped = EndsByReport run Stopped

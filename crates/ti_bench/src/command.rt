@@ -18,6 +18,7 @@ pub(crate) fn read_command(words: &Words) -> Option<Command>
         [name] if name.as_slice() == b"asm".as_slice() => Some(Command::Asm),
         [name] if name.as_slice() == b"gasm".as_slice() => Some(Command::Gasm),
         [name] if name.as_slice() == b"link".as_slice() => Some(Command::Link),
+        [name] if name.as_slice() == b"interp".as_slice() => Some(Command::Interp),
         [name, limit] if name.as_slice() == b"exec".as_slice() => {
             let limit = number_word(limit.as_slice(), MOST_INSTRUCTIONS)?;
             Some(Command::Exec { limit })

@@ -5,6 +5,7 @@ mod dis;
 mod exec;
 mod gasm;
 mod gdis;
+mod interp;
 mod link;
 
 ghost use Rattle.std.specs.Prelude.{◌≤◌, vec_len, IfOk};
@@ -16,6 +17,7 @@ use crate::commands::dis::dis;
 use crate::commands::exec::exec;
 use crate::commands::gasm::gasm;
 use crate::commands::gdis::gdis;
+use crate::commands::interp::interp;
 use crate::commands::link::link;
 use crate::report::Report;
 use report_defs::Command;
@@ -37,5 +39,6 @@ pub(crate) fn make_report(
         Command::Gdis { at } => gdis(alloc, at, input.as_slice()),
         Command::Link => link(alloc, input.as_slice()),
         Command::Exec { limit } => exec(alloc, limit, input.as_slice()),
+        Command::Interp => interp(alloc),
     }
 }

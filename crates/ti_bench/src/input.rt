@@ -40,5 +40,6 @@ fn reads(command: Command) -> bool
         | Command::Gdis { .. }
         | Command::Link
         | Command::Exec { .. } => true,
+        Command::Interp => false,
     }
 }

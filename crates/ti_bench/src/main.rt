@@ -6,6 +6,7 @@ mod command;
 mod commands;
 mod fault_line;
 mod input;
+mod interpreter;
 mod listing;
 mod listing_lines;
 mod object_input;

@@ -174,5 +174,6 @@ fn fault_status(fault: Fault) -> Status
     match fault {
         Fault::Usage => Status::Usage,
         Fault::TooLarge | Fault::PastEnd => Status::Refused,
+        Fault::Interpreter(_) => Status::Interpreter,
     }
 }

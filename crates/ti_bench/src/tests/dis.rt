@@ -1,6 +1,6 @@
 //! Raw bytes, and what `dis` lists of them.
 
-use super::run::run;
+use super::run::{answers, behind_blanks};
 use report_defs::Status;
 use std::alloc::{AllocError, Global};
 use std::test::Fail;
@@ -31,32 +31,27 @@ const LISTINGS: &[(&[u8], &[u8], &[u8])] = &[
 
 /// Whether bytes from an address on have this listing.
 fn lists(alloc: Global, at: &[u8], bytes: &[u8], listing: &[u8]) -> Result<bool, AllocError> {
-    let ended = run(alloc, &[b"dis", at], bytes.to_vec(alloc)?, &[], &[])?;
-    let mut expected = Vec::new(alloc);
-    for line in listing.split_inclusive(|&byte| byte == b'\n') {
-        expected.extend_from_slice(b"       ")?;
-        expected.extend_from_slice(line)?;
-    }
-    Ok(
-        ended.status == Status::Done
-            && ended.out.bytes() == expected.as_slice()
-            && ended.err.bytes().is_empty(),
+    let lines = behind_blanks(alloc, listing)?;
+    answers(
+        alloc,
+        &[b"dis", at],
+        bytes,
+        Status::Done,
+        lines.as_slice(),
+        b"",
     )
 }
 
 /// Whether three bytes from >FFFE on are refused.
 fn refuses_past_the_end(alloc: Global) -> Result<bool, AllocError> {
-    let ended = run(
+    let line = b"past the end of memory\n";
+    answers(
         alloc,
         &[b"dis", b"FFFE"],
-        b"\x00\x00\x00".to_vec(alloc)?,
-        &[],
-        &[],
-    )?;
-    Ok(
-        ended.status == Status::Refused
-            && ended.out.bytes().is_empty()
-            && ended.err.bytes() == b"past the end of memory\n".as_slice(),
+        b"\x00\x00\x00",
+        Status::Refused,
+        b"",
+        line,
     )
 }
 

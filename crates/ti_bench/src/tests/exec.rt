@@ -1,6 +1,6 @@
 //! Object texts and what `exec` reports of them.
 
-use super::run::run;
+use super::run::{answers, run};
 use report_defs::Status;
 use std::alloc::{AllocError, Global};
 use std::test::Fail;
@@ -211,12 +211,14 @@ fn reports(
     status: Status,
     lines: &[&str],
 ) -> Result<bool, AllocError> {
-    let ended = run(alloc, &[b"exec", limit], program.to_vec(alloc)?, &[], &[])?;
     let text = text_of(alloc, lines)?;
-    Ok(
-        ended.status == status
-            && ended.err.bytes().is_empty()
-            && ended.out.bytes() == text.as_bytes(),
+    answers(
+        alloc,
+        &[b"exec", limit],
+        program,
+        status,
+        text.as_bytes(),
+        b"",
     )
 }
 

@@ -1,6 +1,6 @@
 //! Bytes of GROM, and what `gdis` lists of them.
 
-use super::run::run;
+use super::run::{answers, behind_blanks};
 use report_defs::Status;
 use std::alloc::{AllocError, Global};
 use std::test::Fail;
@@ -30,32 +30,24 @@ const LISTINGS: &[(&[u8], &[u8], &[u8])] = &[
 
 /// Whether bytes from an address on have this listing, and `gasm` makes the bytes of it again.
 fn lists(alloc: Global, at: &[u8], bytes: &[u8], listing: &[u8]) -> Result<bool, AllocError> {
-    let ended = run(alloc, &[b"gdis", at], bytes.to_vec(alloc)?, &[], &[])?;
-    let mut expected = Vec::new(alloc);
-    for line in listing.split_inclusive(|&byte| byte == b'\n') {
-        expected.extend_from_slice(b"       ")?;
-        expected.extend_from_slice(line)?;
-    }
-    let is_listed = ended.status == Status::Done
-        && ended.out.bytes() == expected.as_slice()
-        && ended.err.bytes().is_empty();
-    let again = run(alloc, &[b"gasm"], expected, &[], &[])?;
-    Ok(is_listed && again.status == Status::Done && again.out.bytes() == bytes)
+    let lines = behind_blanks(alloc, listing)?;
+    let source = lines.as_slice();
+    Ok(
+        answers(alloc, &[b"gdis", at], bytes, Status::Done, source, b"")?
+            && answers(alloc, &[b"gasm"], source, Status::Done, bytes, b"")?,
+    )
 }
 
 /// Whether two bytes from >FFFF on are refused.
 fn refuses_past_the_end(alloc: Global) -> Result<bool, AllocError> {
-    let ended = run(
+    let line = b"past the end of memory\n";
+    answers(
         alloc,
         &[b"gdis", b"FFFF"],
-        b"\x00\x00".to_vec(alloc)?,
-        &[],
-        &[],
-    )?;
-    Ok(
-        ended.status == Status::Refused
-            && ended.out.bytes().is_empty()
-            && ended.err.bytes() == b"past the end of memory\n".as_slice(),
+        b"\x00\x00",
+        Status::Refused,
+        b"",
+        line,
     )
 }
 

@@ -1,6 +1,6 @@
 //! Object texts and what `link` says of them.
 
-use super::run::run;
+use super::run::{answers, run};
 use report_defs::Status;
 use std::alloc::{AllocError, Global};
 use std::test::Fail;
@@ -115,11 +115,13 @@ fn links_as(
     out: &str,
     err: &str,
 ) -> Result<bool, AllocError> {
-    let ended = run(alloc, &[b"link"], text.to_vec(alloc)?, &[], &[])?;
-    Ok(
-        ended.status == status
-            && ended.out.bytes() == out.as_bytes()
-            && ended.err.bytes() == err.as_bytes(),
+    answers(
+        alloc,
+        &[b"link"],
+        text,
+        status,
+        out.as_bytes(),
+        err.as_bytes(),
     )
 }
 
@@ -154,23 +156,33 @@ fn each_front_is_refused(alloc: Global) -> Result<bool, AllocError> {
 }
 
 #[test]
-fn an_object_text_is_linked_or_refused(rt: HostRuntime) -> Result<(), Fail> {
+fn an_object_text_is_linked(rt: HostRuntime) -> Result<(), Fail> {
     for &(text, out) in LINKED {
         assert!(rt;
             links_as(rt.alloc(), text.as_bytes(), Status::Done, out, "")?,
             "{text}"
         );
     }
+    assert!(rt; each_front_is_refused(rt.alloc())?);
+    assert!(rt; module_65_is_refused(rt.alloc())?);
+    Ok(())
+}
+
+#[test]
+fn a_bad_object_text_is_refused(rt: HostRuntime) -> Result<(), Fail> {
     for &(text, err) in REFUSED {
         assert!(rt;
             links_as(rt.alloc(), text.as_bytes(), Status::Refused, "", err)?,
             "{text}"
         );
     }
+    Ok(())
+}
+
+#[test]
+fn compressed_text_is_linked_or_refused(rt: HostRuntime) -> Result<(), Fail> {
     for &(text, status, out, err) in COMPRESSED {
         assert!(rt; links_as(rt.alloc(), text, status, out, err)?, "{out}{err}");
     }
-    assert!(rt; module_65_is_refused(rt.alloc())?);
-    assert!(rt; each_front_is_refused(rt.alloc())?);
     Ok(())
 }

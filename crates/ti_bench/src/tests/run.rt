@@ -42,3 +42,26 @@ pub(crate) fn run(
         input,
     })
 }
+
+/// Whether a run over an input ends with this status, and writes this and nothing else.
+pub(crate) fn answers(
+    alloc: Global,
+    words: &[&[u8]],
+    input: &[u8],
+    status: Status,
+    out: &[u8],
+    err: &[u8],
+) -> Result<bool, AllocError> {
+    let ended = run(alloc, words, input.to_vec(alloc)?, &[], &[])?;
+    Ok(ended.status == status && ended.out.bytes() == out && ended.err.bytes() == err)
+}
+
+/// The lines of a listing, each behind seven blanks.
+pub(crate) fn behind_blanks(alloc: Global, listing: &[u8]) -> Result<Vec<u8>, AllocError> {
+    let mut lines = Vec::new(alloc);
+    for line in listing.split_inclusive(|&byte| byte == b'\n') {
+        lines.extend_from_slice(b"       ")?;
+        lines.extend_from_slice(line)?;
+    }
+    Ok(lines)
+}

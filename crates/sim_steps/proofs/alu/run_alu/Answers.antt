@@ -1,4 +1,4 @@
-use Rattle.std.proofs.Common.{◌≡◌, ◌<◌, ℕ, true, false, ap, sym, subst, ◌∙◌, arith}
+use Rattle.std.proofs.Common.{◌≡◌, ◌<◌, subst, arith}
 use Rattle.sim_view.specs.View.{view}
 use Rattle.sim_steps.specs.States.{state_at_dispatch}
 use Rattle.sim_steps.specs.Rows.{next_of, operands_of, LoadsOperands}

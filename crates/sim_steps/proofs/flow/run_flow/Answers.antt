@@ -1,4 +1,4 @@
-use Rattle.std.proofs.Common.{◌≡◌, ℕ, refl, ap, sym, subst, ◌∙◌, arith}
+use Rattle.std.proofs.Common.{◌≡◌, ℕ, refl, ap, subst, arith}
 use Rattle.native_interp.specs.Entries.{operation_entry}
 use Rattle.sim_view.specs.View.{view, Stands}
 use Rattle.sim_view.proofs.Bridge.{is_view}

@@ -1,5 +1,4 @@
-use Rattle.interp_defs.specs.Match.{IsMatching, shown_by}
-use Rattle.interp_defs.specs.Turned.{Turned}
+use Rattle.interp_defs.specs.Match.{shown_by}
 use Rattle.sim_steps.proofs.Turning.{dispatched, stands, at_row, at_flow, stands_at, turned, stopped}
 use Rattle.sim_steps.proofs.turn.gpl_turn.Goals as goal
 

@@ -1,0 +1,4 @@
+pub mod Differences
+pub mod Building
+pub mod Interpreter
+pub mod Laws

@@ -1,0 +1,175 @@
+-- How many bytes an instruction has, told by the addresses before and behind them.
+use Rattle.std.proofs.Common.{◌≡◌, ◌≢◌, ℕ, suc, ◌+◌, ◌*◌, ◌/◌, ◌%◌, ◌<◌, ◌≤◌, Bool, true, false}
+use Rattle.std.proofs.Common.{List, [], ◌∷◌, ◌++◌, length, length-append, refl, sym, ◌∙◌, arith}
+use Rattle.std.specs.Prelude.{slice_index, ◌==◌, ◌&&◌, IsTrue, Option, Some, None}
+use Rattle.std.proofs.lemmas.Bool.Decides.{nat_tests}
+use Rattle.console_defs.specs.Grom.{next_in_grom}
+use Rattle.gpl_defs.specs.declared.instruction.GplOperand.{GplOperand}
+use Rattle.gpl_defs.specs.declared.instruction.GplSource.{GplSource}
+use Rattle.gpl_defs.specs.declared.instruction.GplSource.TheVariants as source
+use Rattle.gpl_defs.specs.declared.instruction.MoveLength.{MoveLength}
+use Rattle.gpl_defs.specs.declared.instruction.MoveLength.TheVariants as count
+use Rattle.gpl_defs.specs.declared.instruction.MoveTarget.{MoveTarget}
+use Rattle.gpl_defs.specs.declared.instruction.MoveTarget.TheVariants as target
+use Rattle.gpl_defs.specs.declared.instruction.MoveSource.{MoveSource}
+use Rattle.gpl_defs.specs.declared.instruction.MoveSource.TheVariants as from
+use Rattle.gpl_defs.specs.declared.instruction.GplInstr.{GplInstr}
+use Rattle.gpl_defs.specs.declared.instruction.GplInstr.TheVariants.{Plain, Byte, Jump, Branch, One, Two, Move}
+use Rattle.gpl_defs.specs.declared.instruction.GplRead.TheVariants.{Instr}
+use Rattle.gpl_defs.specs.Valid.{is_valid}
+use Rattle.gpl_defs.specs.Bytes.{index_bytes, value_bytes, bytes_of}
+use Rattle.gpl_defs.specs.Spellings.{Spelling, OneByte, TwelveBits, SixteenBits, spelled}
+use Rattle.gpl_defs.specs.Spellings.{SpellsOperand, SpellsSource, SpellsLength}
+use Rattle.gpl_defs.specs.Spellings.{SpellsTarget, SpellsFrom, SpellsRest, Spells, Stand}
+use Rattle.gpl_defs.specs.Reading.{reading, stand, ReadsInstr}
+use Rattle.gpl_forms.specs.Sizes.{size_between}
+use Rattle.gpl_defs.proofs.MeaningLaws.{bytes_read}
+use Rattle.gpl_defs.proofs.ShortLaws.{bytes_shortest}
+
+-- ---- no spelling has more than 13 bytes
+
+index_few : (index : Option ℕ) → length (index_bytes index) ≤ 1
+index_few None = omega arith
+index_few (Some index) = omega arith
+
+spelled_few : (spelling : Spelling) (operand : GplOperand) → length (spelled spelling operand) ≤ 4
+spelled_few OneByte operand = omega arith
+spelled_few TwelveBits operand = omega (arith, index_few operand.index)
+spelled_few SixteenBits operand = omega (arith, index_few operand.index)
+
+operand_few : (operand : GplOperand) (bytes : List ℕ) → SpellsOperand operand bytes → length bytes ≤ 4
+operand_few operand bytes spells = rw spells.is (spelled_few spells.spelling operand)
+
+value_few : (word : Bool) (value : ℕ) → length (value_bytes word value) ≤ 4
+value_few true value = omega arith
+value_few false value = omega arith
+
+source_few : (word : Bool) (src : GplSource) (bytes : List ℕ) → SpellsSource word src bytes → length bytes ≤ 4
+source_few word (source.At operand) bytes spells = operand_few operand bytes spells
+source_few word (source.Immediate value) bytes spells = rw spells (value_few word value)
+
+length_few : (amount : MoveLength) (bytes : List ℕ) → SpellsLength amount bytes → length bytes ≤ 4
+length_few (count.At operand) bytes spells = operand_few operand bytes spells
+length_few (count.Immediate number) bytes spells = rw spells (omega arith)
+
+target_few : (to : MoveTarget) (bytes : List ℕ) → SpellsTarget to bytes → length bytes ≤ 4
+target_few (target.At operand) bytes spells = operand_few operand bytes spells
+target_few (target.Register number) bytes spells = rw spells (omega arith)
+
+from_few : (source : MoveSource) (bytes : List ℕ) → SpellsFrom source bytes → length bytes ≤ 4
+from_few (from.At operand) bytes spells = operand_few operand bytes spells
+from_few (from.Grom address) bytes spells = rw spells (omega arith)
+from_few (from.GromIndexed address index) bytes spells = rw spells (omega arith)
+
+both_few : (first second bytes : List ℕ) (few more : ℕ) → length first ≤ few → length second ≤ more →
+    bytes ≡ first ++ second → length bytes ≤ few + more
+both_few first second bytes few more left right same = rw (same, length-append first second) (omega arith)
+
+rest_few : (instr : GplInstr) (bytes : List ℕ) → SpellsRest instr bytes → length bytes ≤ 12
+rest_few (Plain op) bytes spells = rw spells (omega arith)
+rest_few (Byte op value) bytes spells = rw spells (omega arith)
+rest_few (Jump op to) bytes spells = rw spells (omega arith)
+rest_few (Branch on offset) bytes spells = rw spells (omega arith)
+rest_few (One op word at) bytes spells = omega (arith, operand_few at bytes spells)
+rest_few (Two op word dst src) bytes spells =
+    let few = both_few spells.first spells.second bytes 4 4 (operand_few dst spells.first spells.is_first)
+    (source_few word src spells.second spells.is_second) spells.is in
+    omega (arith, few)
+rest_few (Move amount to source) bytes spells =
+    let ends = spells.is_second in
+    let rest = both_few ends.first ends.second spells.second 4 4 (target_few to ends.first ends.is_first)
+    (from_few source ends.second ends.is_second) ends.is in
+    let few = both_few spells.first spells.second bytes 4 8 (length_few amount spells.first spells.is_first) rest
+    spells.is in
+    omega (arith, few)
+
+pub spelled_in_13 : (instr : GplInstr) (bytes : List ℕ) → Spells instr bytes → length bytes ≤ 13
+spelled_in_13 instr bytes spells = rw spells.is (omega (arith, rest_few instr spells.rest spells.is_rest))
+
+-- ---- the address behind bytes
+
+-- the address so many bytes behind another in one GROM
+abbrev pub behind : ℕ → ℕ → ℕ
+behind at count = at / 8192 * 8192 + (at + count) % 8192
+
+behind-next : (at count : ℕ) → behind (next_in_grom at) count ≡ behind at (suc count)
+behind-next at count = omega arith
+
+stand_behind : (image bytes : List ℕ) (at next : ℕ) → Stand image bytes at next → next ≡ behind at (length bytes)
+stand_behind image [] at next stands = omega arith
+stand_behind image (byte ∷ bytes) at next stands =
+    stand_behind image bytes (next_in_grom at) next stands.1 ∙ behind-next at (length bytes)
+
+same_by_test : (a b : ℕ) → (a == b) ≡ true → a ≡ b
+same_by_test a b e = grind (arith, nat_tests)
+
+other_by_test : (a b : ℕ) → (a == b) ≡ false → a ≢ b
+other_by_test a b e same = grind (arith, nat_tests)
+
+stand_first : (image bytes : List ℕ) (byte at : ℕ) (same stands : Bool) → (slice_index image at == byte) ≡ same →
+    stand image bytes (next_in_grom at) ≡ stands → (same && stands) ≡ true →
+    (slice_index image at ≡ byte) × (stand image bytes (next_in_grom at) ≡ true)
+stand_first image bytes byte at true true e f test = (same_by_test (slice_index image at) byte e, f)
+stand_first image bytes byte at true false e f test = absurd (cc)
+stand_first image bytes byte at false stands e f test = absurd (cc)
+
+-- a test that bytes stand says where they end
+test_stands : (image bytes : List ℕ) (at : ℕ) → stand image bytes at ≡ true →
+    Stand image bytes at (behind at (length bytes))
+test_stands image [] at test = omega arith
+test_stands image (byte ∷ bytes) at test =
+    let parts =
+    stand_first image bytes byte at (slice_index image at == byte) (stand image bytes (next_in_grom at)) refl refl
+    test in
+    let rest = test_stands image bytes (next_in_grom at) parts.1 in
+    (parts.0, rw (behind-next at (length bytes)) at rest)
+
+stands_test : (image bytes : List ℕ) (at next : ℕ) → Stand image bytes at next → stand image bytes at ≡ true
+stands_test image [] at next stands = refl
+stands_test image (byte ∷ bytes) at next stands =
+    let same : (slice_index image at == byte) ≡ true = grind (arith, nat_tests) in
+    rw (same, stands_test image bytes (next_in_grom at) next stands.1) refl
+
+-- ---- the shortest spelling
+
+size-behind : (at count : ℕ) → at < 65536 → count ≤ 13 → size_between at (behind at count) ≡ count
+size-behind at count lt few = omega arith
+
+-- an instruction stands in its shortest spelling where that has as many bytes as those from which it was read
+pub stands_by_size : (image : List ℕ) (at next : ℕ) (instr : GplInstr) → at < 65536 →
+    ReadsInstr image at instr next → reading image at ≡ Instr instr next →
+    stand image (bytes_of instr) at ≡ (length (bytes_of instr) == size_between at next)
+stands_by_size image at next instr lt reads read =
+    by (stand image (bytes_of instr) at) (length (bytes_of instr) == size_between at next) refl refl
+  where
+    valid : IsTrue (is_valid instr)
+    valid = reads.means.is_kind.valid
+
+    few : length reads.means.bytes ≤ 13
+    few = spelled_in_13 instr reads.means.bytes reads.means.is_kind
+
+    there : size_between at next ≡ length reads.means.bytes
+    there =
+        rw (stand_behind image reads.means.bytes at next reads.means.stand)
+        (size-behind at (length reads.means.bytes) lt few)
+
+    by : (stands same : Bool) → stand image (bytes_of instr) at ≡ stands →
+        (length (bytes_of instr) == size_between at next) ≡ same → stands ≡ same
+    by true true e f = refl
+    by false false e f = refl
+    by true false e f =
+        let back = test_stands image (bytes_of instr) at e in
+        let again = bytes_read instr valid image at (behind at (length (bytes_of instr))) back in
+        let end : next ≡ behind at (length (bytes_of instr)) = cc in
+        let short : length (bytes_of instr) ≤ 13 =
+        spelled_in_13 instr (bytes_of instr) (bytes_shortest instr valid).spells in
+        let size : size_between at next ≡ length (bytes_of instr) =
+        rw end (size-behind at (length (bytes_of instr)) lt short) in
+        absurd (other_by_test (length (bytes_of instr)) (size_between at next) f (sym size))
+    by false true e f =
+        let size : length reads.means.bytes ≡ length (bytes_of instr) =
+        sym there ∙ sym (same_by_test (length (bytes_of instr)) (size_between at next) f) in
+        let same = (bytes_shortest instr valid).alone reads.means.bytes reads.means.is_kind size in
+        let stands : Stand image (bytes_of instr) at next = rw same at reads.means.stand in
+        let test = stands_test image (bytes_of instr) at next stands in
+        absurd (cc)

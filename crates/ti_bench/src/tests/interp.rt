@@ -1,0 +1,31 @@
+//! The listing of the interpreter.
+
+use super::run::run;
+use report_defs::Status;
+use std::alloc::{AllocError, Global};
+use std::test::Fail;
+
+/// The first lines of the listing: GBOOT; then GBOOT, GSTEP, GSTOP, GEXIT and the first entries of the table by code byte.
+const FRONT: &[u8] = b"entry >2274\n>2000 2274 228C 22B8 22BA 22AE 22AE 22AE 22AE\n\
+      >2010 22AE 24B0 22AE 22AE 22AE 22AE 22AE 24C0\n";
+
+/// The last line: the branch to GEXIT.
+const END: &[u8] = b">24C0 0460 22BA\n";
+
+/// Whether `interp` lists the interpreter, over a source whose first call would fail.
+fn is_listed(alloc: Global) -> Result<bool, AllocError> {
+    let ended = run(alloc, &[b"interp"], Vec::new(alloc), &[0], &[])?;
+    Ok(
+        ended.status == Status::Done
+            && ended.out.bytes().starts_with(FRONT)
+            && ended.out.bytes().ends_with(END)
+            && ended.err.bytes().is_empty()
+            && ended.input.faults() == 0,
+    )
+}
+
+#[test]
+fn the_interpreter_is_listed_and_nothing_is_read(rt: HostRuntime) -> Result<(), Fail> {
+    assert!(rt; is_listed(rt.alloc())?);
+    Ok(())
+}
