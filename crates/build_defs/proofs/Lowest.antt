@@ -1,9 +1,9 @@
 -- The lowest address at which two memories differ.
-use Rattle.std.proofs.Common.{◌≡◌, ◌≢◌, ℕ, zero, suc, ◌+◌, ◌-◌, ◌<◌, ◌≤◌, ◌==◌, Bool, true, false, Option, Some, None, refl, sym, ap, ◌∙◌, subst, arith, below_more}
+use Rattle.std.proofs.Common.{◌≡◌, ◌≢◌, ℕ, zero, suc, ◌+◌, ◌-◌, ◌<◌, ◌≤◌, Bool, true, false, Option, Some, None, refl, ap, subst, arith, below_more}
 use Rattle.std.specs.Prelude.{if◌then◌else◌}
 use Rattle.std.proofs.lemmas.Bool.Decides.{nat_tests}
 use Rattle.build_defs.specs.Differences.{same_word, difference_from, addresses, first_difference}
-use Rattle.build_defs.specs.Laws.{DifferFirst, IsFirstDifference, FirstDifferencesAreLowest}
+use Rattle.build_defs.specs.Laws.{IsFirstDifference, FirstDifferencesAreLowest}
 
 -- the test says whether the words are the same
 pub same_words : (one other : Option ℕ) → same_word one other ≡ true → one ≡ other

@@ -1,5 +1,5 @@
 -- What is built, from the parts that it is made of.
-use Rattle.std.proofs.Common.{◌≡◌, ℕ, ◌<◌, ◌^◌, List, length, Result, Ok, Err, refl, sym, subst, lit<}
+use Rattle.std.proofs.Common.{◌≡◌, ℕ, ◌<◌, ◌^◌, List, length, Result, Ok, refl, sym, subst, lit<}
 use Rattle.source_defs.specs.Refusals.{◌>>=◌}
 use Rattle.module_defs.specs.Modules.{module_of_source}
 use Rattle.link_defs.specs.LinkedMemory.{LinkedMemory}
