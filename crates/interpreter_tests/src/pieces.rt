@@ -1,0 +1,173 @@
+//! Boot, the step, B, EXIT and the stop at a code byte that is no instruction's, piece by piece, on small GPL programs.
+
+ghost use Rattle.std.specs.Prelude.{◌≡◌, ◌<◌};
+
+use console_bus::Bus;
+use gpl_forms::GromImage;
+use grom_counter::Grom;
+use native_interp::{
+    FETCH, GBOOT, GEXIT, GOB, GOEXIT, GOTO, GSTEP, GSTOP, INTERP, SEEK, STREAM, UNKN, WHERE,
+    WORKSPACE,
+};
+use sim_operands::{fetch_byte, seek_address, stream_value};
+use sim_steps::{
+    ask_address, ask_byte, ask_target, boot, dispatch, go_on, keep_address, leave, stop_code,
+    where_next,
+};
+use sim_view::{is_ready, register};
+use std::alloc::{AllocError, Global};
+use std::marker::Brand;
+use std::sync::ledger::{Blank, Ledger};
+use std::test::Fail;
+use tms_step::{Machine, Steps};
+use vdp_ports::Vdp;
+
+/// Where a step goes on behind WHERE.
+const BEHIND_WHERE: u16 = GSTEP + 4;
+
+/// Where it goes on behind SEEK.
+const BEHIND_SEEK: u16 = GSTEP + 10;
+
+/// Where it goes on behind FETCH.
+const BEHIND_FETCH: u16 = GSTEP + 14;
+
+/// More pieces than any of the programs runs.
+const MOST_PIECES: u32 = 60;
+
+/// A GPL program that begins at >6000, as bytes from addresses on.
+type Program = &'static [(u16, &'static [u8])];
+
+/// A program's name, the program, the address where the machine ends, and registers 0 and 1 there.
+const RUNS: &[(&str, Program, u16, [u16; 2])] = &[
+    ("EXIT", &[(0x6000, &[0x0B])], GEXIT, [0x000B, 0x6000]),
+    (
+        "B >6010; EXIT",
+        &[(0x6000, &[0x05, 0x60, 0x10]), (0x6010, &[0x0B])],
+        GEXIT,
+        [0x000B, 0x6010],
+    ),
+    (
+        "B >6010; B >7800; EXIT",
+        &[
+            (0x6000, &[0x05, 0x60, 0x10]),
+            (0x6010, &[0x05, 0x78, 0x00]),
+            (0x7800, &[0x0B]),
+        ],
+        GEXIT,
+        [0x000B, 0x7800],
+    ),
+    (
+        "B >7FFF; EXIT in the last byte of a GROM",
+        &[(0x6000, &[0x05, 0x7F, 0xFF]), (0x7FFF, &[0x0B])],
+        GEXIT,
+        [0x000B, 0x7FFF],
+    ),
+    (
+        "B >E000; EXIT in the first byte of the last GROM",
+        &[(0x6000, &[0x05, 0xE0, 0x00]), (0xE000, &[0x0B])],
+        GEXIT,
+        [0x000B, 0xE000],
+    ),
+    ("no instruction", &[(0x6000, &[0xF4])], GSTOP, [1, 0x6000]),
+    (
+        "B >6010; no instruction",
+        &[(0x6000, &[0x05, 0x60, 0x10]), (0x6010, &[0xF4])],
+        GSTOP,
+        [1, 0x6010],
+    ),
+];
+
+/// Puts bytes from an address on.
+fn put_all(image: &mut GromImage, at: u16, bytes: &[u8]) {
+    let mut place = at;
+    for &byte in bytes {
+        image.put(place, byte);
+        place = place.wrapping_add(1);
+    }
+}
+
+/// GROMs that hold a program.
+fn holding(alloc: Global, program: Program) -> Result<Grom, AllocError> {
+    let mut image = GromImage::new(alloc)?;
+    for &(at, bytes) in program {
+        put_all(&mut image, at, bytes);
+    }
+    Grom::new(alloc, image.bytes())
+}
+
+/// A machine at the interpreter's boot, with the GROMs and >6000 as the entry of their program.
+fn booting(alloc: Global, grom: Grom) -> Result<Machine, AllocError> {
+    let mut bus = Bus::new(alloc, Vdp::new(alloc)?, grom)?;
+    for (i, word) in INTERP.iter().enumerate() {
+        bus.place(0x2000 + 2 * i as u16, *word);
+    }
+    bus.set_cell(0xE0, 0x60);
+    bus.set_cell(0xE1, 0x00);
+    Ok(Machine::new(bus, WORKSPACE, GBOOT))
+}
+
+/// Runs the piece where the machine stands; none where it stands at no piece.
+fn run_piece<L: Ledger>(machine: &mut Machine, steps: &mut Steps<L>) {
+    let at = machine.pc();
+    if !is_ready(machine, at) {
+        return;
+    }
+    match at {
+        GBOOT => boot(machine, steps),
+        GSTEP => ask_address(machine, steps),
+        BEHIND_WHERE => keep_address(machine, steps),
+        BEHIND_SEEK => ask_byte(machine, steps),
+        BEHIND_FETCH => dispatch(machine, steps),
+        UNKN => stop_code(machine, steps),
+        WHERE => where_next(machine, steps),
+        SEEK => seek_address(machine, steps),
+        FETCH => fetch_byte(machine, steps),
+        STREAM => stream_value(machine, steps),
+        GOB => ask_target(machine, steps),
+        GOTO => go_on(machine, steps),
+        GOEXIT => leave(machine, steps),
+        _ => {}
+    }
+}
+
+/// Runs the pieces up to the machine's end, on a counter of their own.
+fn run<L: Ledger>(blank: Blank, machine: &mut Machine)
+    requires name { blank.name ≡ L.name }
+    requires parts { blank.parts ≡ L.parts }
+    requires some { 0 < L.parts }
+{
+    let mut steps: Steps<L> = Steps::new(blank);
+    for _ in 0..MOST_PIECES {
+        run_piece(machine, &mut steps);
+    }
+}
+
+/// The machine after the pieces of a program.
+fn after(alloc: Global, program: Program) -> Result<Machine, AllocError> {
+    let mut machine = booting(alloc, holding(alloc, program)?)?;
+    run::<Brand>(Blank::new(1), &mut machine);
+    Ok(machine)
+}
+
+/// The machine stands at an end with these words in registers 0 and 1.
+fn has_ended(machine: &Machine, end: u16, registers: [u16; 2]) -> bool {
+    let [zero, one] = registers;
+    is_ready(machine, end) && register(machine, 0) == zero && register(machine, 1) == one
+}
+
+/// The cells of the two stack pointers are as boot sets them.
+fn has_empty_stacks(machine: &Machine) -> bool {
+    machine.bus().cell(0x72) == 0x9F && machine.bus().cell(0x73) == 0x7E
+}
+
+#[test]
+fn pieces_run_to_the_end_of_the_program(rt: HostRuntime) -> Result<(), Fail> {
+    for &(name, program, end, registers) in RUNS {
+        let machine = after(rt.alloc(), program)?;
+        assert!(rt;
+            has_ended(&machine, end, registers) && has_empty_stacks(&machine),
+            "{name}"
+        );
+    }
+    Ok(())
+}
