@@ -13,3 +13,4 @@ pub mod Families
 pub mod Loading
 pub mod Finishing
 pub mod Turning
+pub mod Booting

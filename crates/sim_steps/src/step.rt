@@ -7,9 +7,9 @@ ghost use Rattle.sim_steps.specs.Pieces as piece;
 ghost use Rattle.std.specs.Prelude.{◌+◌, slice_index};
 ghost use Rattle.gpl_defs.specs.Codes.{operation_at};
 ghost use Rattle.native_interp.specs.Entries.{operation_entry};
-ghost use Rattle.interp_defs.specs.Match.{IsMatching, shown_by};
+ghost use Rattle.interp_defs.specs.Match.{IsMatching, PortsAreIdle, shown_by};
 ghost use Rattle.sim_view.specs.Exits.{Comes};
-ghost use Rattle.sim_steps.specs.States.{Dispatched};
+ghost use Rattle.sim_steps.specs.States.{Begins, Dispatched, booted};
 
 use native_interp::{FETCH, SEEK, WHERE};
 use sim_operands::{fetch_byte, seek_address};
@@ -23,6 +23,17 @@ pub fn boot<L: Ledger>(machine: &mut Machine, steps: &mut Steps<L>)
     ensures { Exits machine.old machine.new steps.old steps.new (piece.boot (view machine.old)) }
 {
     run_piece(machine, steps, &[SEEK]);
+}
+
+/// From boot to the first step: the machine matches the state in which a program begins whose entry is in register 0, with
+/// empty stacks. It takes at most 11 instructions.
+pub fn start_program<L: Ledger>(machine: &mut Machine, steps: &mut Steps<L>)
+    requires stands { Stands machine.old address.GBOOT }
+    requires idle { PortsAreIdle machine.old.cpu.memory }
+    ensures { Begins (booted (view machine.old)) 11 machine.old machine.new steps.old steps.new }
+{
+    boot(machine, steps);
+    seek_address(machine, steps);
 }
 
 /// The piece of a step that asks WHERE for the address of the code byte.
