@@ -14,3 +14,4 @@ pub mod Loading
 pub mod Finishing
 pub mod Turning
 pub mod Booting
+pub mod Starting

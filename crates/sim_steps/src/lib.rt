@@ -4,6 +4,7 @@
 
 mod alu;
 mod flow;
+mod laws;
 mod row;
 mod step;
 mod turn;
@@ -11,6 +12,7 @@ mod turn;
 pub use alu::{run_alu, show, store_result, take_source};
 pub use flow::{ask_target, go_on, leave, run_flow};
 pub use interp_defs::Turn;
+pub use laws::machines_start;
 pub use row::{
     ask_first, go_to_row, load_destination, load_first, load_operands, load_second, row_width,
     second_operand,

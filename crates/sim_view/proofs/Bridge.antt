@@ -158,7 +158,7 @@ words_at (suc n) (b ∷ []) k q h = absurd (omega arith)
 words_at (suc n) (b ∷ d ∷ bs) zero q h = refl
 words_at (suc n) (b ∷ d ∷ bs) (suc k) q h = rw (double_suc k) (words_at n bs k (omega arith) (omega arith))
 
-reg_word : (m : Memory) (k : ℕ) → IsMemory m → k < 16 → get_or (listed (view_of m).r) k 0 ≡ word_in m.scratchpad (224 + 2 * k)
+pub reg_word : (m : Memory) (k : ℕ) → IsMemory m → k < 16 → get_or (listed (view_of m).r) k 0 ≡ word_in m.scratchpad (224 + 2 * k)
 unfolding view_of
 reg_word m k h b =
     let bytes : List ℕ = drop 194 m.scratchpad in

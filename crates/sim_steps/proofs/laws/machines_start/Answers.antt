@@ -1,0 +1,5 @@
+use Rattle.sim_steps.proofs.Starting as starting
+use Rattle.sim_steps.proofs.laws.machines_start.Goals as goal
+
+pub returns : goal.returns
+returns g = starting.machines_start
