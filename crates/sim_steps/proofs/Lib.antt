@@ -15,3 +15,4 @@ pub mod Finishing
 pub mod Turning
 pub mod Booting
 pub mod Starting
+pub mod Running

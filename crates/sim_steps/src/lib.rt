@@ -5,6 +5,7 @@
 mod alu;
 mod flow;
 mod laws;
+mod program;
 mod row;
 mod step;
 mod turn;
@@ -13,6 +14,7 @@ pub use alu::{run_alu, show, store_result, take_source};
 pub use flow::{ask_target, go_on, leave, run_flow};
 pub use interp_defs::Turn;
 pub use laws::machines_start;
+pub use program::run_turns;
 pub use row::{
     ask_first, go_to_row, load_destination, load_first, load_operands, load_second, row_width,
     second_operand,

@@ -1,0 +1,6 @@
+use Rattle.interp_defs.specs.Match.{IsMatching, shown_by}
+use Rattle.sim_steps.proofs.Running.{Stepping}
+use Rattle.sim_steps.proofs.program.run_turns.Given as goal
+
+abbrev pub invariant-loop-made : goal.invariant-loop-made
+invariant-loop-made g l = Stepping l.made (shown_by l.fn.machine.cpu.memory) l.fn.machine l.machine l.fn.steps l.steps
