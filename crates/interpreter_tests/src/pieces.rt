@@ -2,12 +2,9 @@
 
 ghost use Rattle.std.specs.Prelude.{◌≡◌, ◌<◌};
 
-use console_bus::Bus;
-use gpl_forms::GromImage;
-use grom_counter::Grom;
+use crate::machines::{Program, booting};
 use native_interp::{
-    FETCH, GBOOT, GEXIT, GOB, GOEXIT, GOTO, GSTEP, GSTOP, INTERP, SEEK, STREAM, UNKN, WHERE,
-    WORKSPACE,
+    FETCH, GBOOT, GEXIT, GOB, GOEXIT, GOTO, GSTEP, GSTOP, SEEK, STREAM, UNKN, WHERE,
 };
 use sim_operands::{fetch_byte, seek_address, stream_value};
 use sim_steps::{
@@ -20,7 +17,6 @@ use std::marker::Brand;
 use std::sync::ledger::{Blank, Ledger};
 use std::test::Fail;
 use tms_step::{Machine, Steps};
-use vdp_ports::Vdp;
 
 /// Where a step goes on behind WHERE.
 const BEHIND_WHERE: u16 = GSTEP + 4;
@@ -33,9 +29,6 @@ const BEHIND_FETCH: u16 = GSTEP + 14;
 
 /// More pieces than any of the programs runs.
 const MOST_PIECES: u32 = 60;
-
-/// A GPL program that begins at >6000, as bytes from addresses on.
-type Program = &'static [(u16, &'static [u8])];
 
 /// A program's name, the program, the address where the machine ends, and registers 0 and 1 there.
 const RUNS: &[(&str, Program, u16, [u16; 2])] = &[
@@ -77,35 +70,6 @@ const RUNS: &[(&str, Program, u16, [u16; 2])] = &[
     ),
 ];
 
-/// Puts bytes from an address on.
-fn put_all(image: &mut GromImage, at: u16, bytes: &[u8]) {
-    let mut place = at;
-    for &byte in bytes {
-        image.put(place, byte);
-        place = place.wrapping_add(1);
-    }
-}
-
-/// GROMs that hold a program.
-fn holding(alloc: Global, program: Program) -> Result<Grom, AllocError> {
-    let mut image = GromImage::new(alloc)?;
-    for &(at, bytes) in program {
-        put_all(&mut image, at, bytes);
-    }
-    Grom::new(alloc, image.bytes())
-}
-
-/// A machine at the interpreter's boot, with the GROMs and >6000 as the entry of their program.
-fn booting(alloc: Global, grom: Grom) -> Result<Machine, AllocError> {
-    let mut bus = Bus::new(alloc, Vdp::new(alloc)?, grom)?;
-    for (i, word) in INTERP.iter().enumerate() {
-        bus.place(0x2000 + 2 * i as u16, *word);
-    }
-    bus.set_cell(0xE0, 0x60);
-    bus.set_cell(0xE1, 0x00);
-    Ok(Machine::new(bus, WORKSPACE, GBOOT))
-}
-
 /// Runs the piece where the machine stands; none where it stands at no piece.
 fn run_piece<L: Ledger>(machine: &mut Machine, steps: &mut Steps<L>) {
     let at = machine.pc();
@@ -144,7 +108,7 @@ fn run<L: Ledger>(blank: Blank, machine: &mut Machine)
 
 /// The machine after the pieces of a program.
 fn after(alloc: Global, program: Program) -> Result<Machine, AllocError> {
-    let mut machine = booting(alloc, holding(alloc, program)?)?;
+    let mut machine = booting(alloc, program)?;
     run::<Brand>(Blank::new(1), &mut machine);
     Ok(machine)
 }

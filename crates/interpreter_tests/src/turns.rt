@@ -1,0 +1,162 @@
+//! Small GPL programs, run turn by turn.
+
+ghost use Rattle.std.specs.Prelude.{◌≡◌, ◌<◌};
+
+use crate::machines::{Program, booting};
+use native_interp::{GBOOT, GEXIT, GSTEP, GSTOP};
+use sim_steps::{run_turns, start_program};
+use sim_view::is_ready;
+use std::alloc::{AllocError, Global};
+use std::marker::Brand;
+use std::sync::ledger::{Blank, Ledger};
+use std::test::Fail;
+use step_defs::Reason;
+use tms_step::{Machine, Steps};
+
+/// Bytes of the scratchpad, by their number.
+type Cells = &'static [(u8, u8)];
+
+/// Bytes of video memory, by their address.
+type Video = &'static [(u16, u8)];
+
+/// A program's name, the program and the most steps; then how many are made, why there is no further one, where the machine
+/// ends, and what the cells and video memory hold.
+const RUNS: &[(&str, Program, u32, u32, Option<Reason>, u16, Cells, Video)] = &[
+    (
+        "ST @>8300,>12; EXIT",
+        &[(0x6000, &[0xBE, 0x00, 0x12, 0x0B])],
+        10,
+        1,
+        Some(Reason::Exit),
+        GEXIT,
+        &[(0x00, 0x12), (0x01, 0x00)],
+        &[],
+    ),
+    (
+        "the first step of it",
+        &[(0x6000, &[0xBE, 0x00, 0x12, 0x0B])],
+        1,
+        1,
+        None,
+        GSTEP,
+        &[(0x00, 0x12)],
+        &[],
+    ),
+    (
+        "no step",
+        &[(0x6000, &[0xBE, 0x00, 0x12, 0x0B])],
+        0,
+        0,
+        None,
+        GSTEP,
+        &[(0x00, 0x00), (0x72, 0x9F), (0x73, 0x7E)],
+        &[],
+    ),
+    (
+        "DST @>8302,>1234; DST V@>0010,@>8302; EXIT",
+        &[(
+            0x6000,
+            &[0xBF, 0x02, 0x12, 0x34, 0xBD, 0xA0, 0x10, 0x02, 0x0B],
+        )],
+        10,
+        2,
+        Some(Reason::Exit),
+        GEXIT,
+        &[(0x02, 0x12), (0x03, 0x34)],
+        &[(0x10, 0x12), (0x11, 0x34)],
+    ),
+    (
+        "ST @>837E,2; ST @>837F,3; ST @>837D,>41; EXIT: a character on the screen",
+        &[(
+            0x6000,
+            &[0xBE, 0x7E, 2, 0xBE, 0x7F, 3, 0xBE, 0x7D, 0x41, 0x0B],
+        )],
+        10,
+        3,
+        Some(Reason::Exit),
+        GEXIT,
+        &[(0x7D, 0x41)],
+        &[(67, 0x41)],
+    ),
+    (
+        "ST at the first cell that is not visible",
+        &[(0x6000, &[0xBE, 0x01, 0x12, 0xBE, 0x80, 0xC2, 0x12])],
+        10,
+        1,
+        Some(Reason::Cell),
+        GSTOP,
+        &[(0x01, 0x12)],
+        &[],
+    ),
+    (
+        "B to itself",
+        &[(0x6000, &[0x05, 0x60, 0x00])],
+        500,
+        500,
+        None,
+        GSTEP,
+        &[],
+        &[],
+    ),
+    (
+        "no instruction",
+        &[(0x6000, &[0xF4])],
+        10,
+        0,
+        Some(Reason::Opcode),
+        GSTOP,
+        &[],
+        &[],
+    ),
+];
+
+/// How a run ended: how many steps were made, and why there was no further one.
+type Ended = (u32, Option<Reason>);
+
+/// Runs up to so many steps of the program, on a counter of their own; none where the machine is not at boot.
+fn run<L: Ledger>(blank: Blank, machine: &mut Machine, most: u32) -> Option<Ended>
+    requires name { blank.name ≡ L.name }
+    requires parts { blank.parts ≡ L.parts }
+    requires some { 0 < L.parts }
+{
+    let mut steps: Steps<L> = Steps::new(blank);
+    let is_idle = machine.bus().vdp().is_idle() && machine.bus().grom().is_idle();
+    if !is_idle || !is_ready(machine, GBOOT) {
+        return None;
+    }
+    start_program(machine, &mut steps);
+    Some(run_turns(machine, &mut steps, most))
+}
+
+/// The machine after so many steps of a program, and how they ended.
+fn after(
+    alloc: Global,
+    program: Program,
+    most: u32,
+) -> Result<(Machine, Option<Ended>), AllocError> {
+    let mut machine = booting(alloc, program)?;
+    let ended = run::<Brand>(Blank::new(1), &mut machine, most);
+    Ok((machine, ended))
+}
+
+/// The cells and video memory hold these bytes.
+fn holds(machine: &Machine, cells: Cells, video: Video) -> bool {
+    cells
+        .iter()
+        .all(|&(number, byte)| machine.bus().cell(number) == byte)
+        && video
+            .iter()
+            .all(|&(address, byte)| address < 16384 && machine.bus().vdp().byte_at(address) == byte)
+}
+
+#[test]
+fn programs_run_turn_by_turn(rt: HostRuntime) -> Result<(), Fail> {
+    for &(name, program, most, made, stop, end, cells, video) in RUNS {
+        let (machine, ended) = after(rt.alloc(), program, most)?;
+        assert!(rt;
+            ended == Some((made, stop)) && is_ready(&machine, end) && holds(&machine, cells, video),
+            "{name}"
+        );
+    }
+    Ok(())
+}
