@@ -144,9 +144,8 @@ fn holds(machine: &Machine, cells: Cells, video: Video) -> bool {
     cells
         .iter()
         .all(|&(number, byte)| machine.bus().cell(number) == byte)
-        && video
-            .iter()
-            .all(|&(address, byte)| address < 16384 && machine.bus().vdp().byte_at(address) == byte)
+        && video.iter().all(|&(address, byte)| address < 16384
+            && machine.bus().vdp().byte_at(address) == byte)
 }
 
 #[test]

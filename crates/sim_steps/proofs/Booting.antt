@@ -1,12 +1,11 @@
 -- From boot to the first step.
-use Rattle.std.proofs.Common.{◌≡◌, ℕ, zero, suc, ◌+◌, ◌<◌, ◌≤◌, Bool, true, false, refl, sym, ap, ◌∙◌, arith, Option, None, eqb}
+use Rattle.std.proofs.Common.{◌≡◌, ℕ, zero, suc, ◌<◌, Bool, true, false, refl, sym, ap, ◌∙◌, arith, None, eqb}
 use Rattle.std.specs.Prelude.{◌||◌}
 use Rattle.console_defs.specs.Accesses.{Gives}
 use Rattle.console_defs.specs.Machine.{MachineState, steps}
-use Rattle.interp_defs.specs.Runs.{Runs, is_end}
-use Rattle.interp_defs.specs.Turns.{Boots}
+use Rattle.interp_defs.specs.Runs.{Runs}
 use Rattle.sim_view.specs.View.{View, view, Stands}
-use Rattle.sim_view.specs.Exits.{Exits, Comes}
+use Rattle.sim_view.specs.Exits.{Exits}
 use Rattle.sim_view.proofs.Answers.{given}
 use Rattle.sim_view.proofs.Compose.{Goes, comes, comes_then}
 use Rattle.sim_operands.specs.Pieces as operands

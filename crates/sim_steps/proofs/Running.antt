@@ -120,8 +120,8 @@ module _ (made : ℕ) (s : GplState) (x z w : MachineState) (t u v : ℕ) (h : S
         count = h.count + r.1.count;
         counted = omega arith;
         turns_are = subst (λ (q : GplRun). AreTurns (with_stop q.stop q.done) (h.count + r.1.count) x w) (sym is)
-        (subst (λ (d : ℕ). AreTurns d (h.count + r.1.count) x w) (sym (next_is made))
-        (z, h.count, r.1.count, h.turns_are, r.1.turn, within_is r.1.count (let le = r.1.within in omega arith), refl));
+            (subst (λ (d : ℕ). AreTurns d (h.count + r.1.count) x w) (sym (next_is made))
+            (z, h.count, r.1.count, h.turns_are, r.1.turn, within_is r.1.count (let le = r.1.within in omega arith), refl));
         ends = subst (λ (q : GplRun). EndsWith q.stop q.last w) (sym is) r.2;
       }
 

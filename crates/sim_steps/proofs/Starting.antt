@@ -1,16 +1,13 @@
 -- The machine on which the interpreter begins.
-use Rattle.std.proofs.Common.{◌≡◌, ℕ, zero, suc, ◌+◌, ◌<◌, ◌≤◌, Bool, true, false, refl, sym, ap, ◌∙◌, arith, List, [], ◌∷◌, length, lit<}
+use Rattle.std.proofs.Common.{◌≡◌, ℕ, zero, suc, ◌<◌, ◌≤◌, refl, ap, ◌∙◌, arith, List, [], ◌∷◌, length, lit<}
 use Rattle.std.specs.Prelude.{not, is_none, slice_index, slice_set, take, replicate}
 use Rattle.console_defs.specs.Vdp.{IsNewVdp}
 use Rattle.console_defs.specs.Grom.{GromState, new_grom}
 use Rattle.console_defs.specs.Memory.{Memory, IsMemory}
-use Rattle.console_defs.specs.Machine.{MachineState, IsMachine}
-use Rattle.step_defs.specs.State.{zeros, start}
-use Rattle.interp_defs.specs.Match.{PortsAreIdle}
-use Rattle.interp_defs.specs.Boot.{HoldsEntry, IsBoot}
-use Rattle.sim_view.specs.View.{view, view_of, Stands}
+use Rattle.step_defs.specs.State.{zeros}
+use Rattle.interp_defs.specs.Boot.{HoldsEntry}
+use Rattle.sim_view.specs.View.{view, view_of}
 use Rattle.sim_view.proofs.Bridge.{reg_word}
-use Rattle.sim_steps.specs.States.{booted}
 use Rattle.sim_steps.specs.Starting.{MachinesStart}
 use Rattle.sim_steps.proofs.Ends.{same_state}
 
@@ -50,9 +47,10 @@ module _ (m : Memory) where
 pub machines_start : MachinesStart
 machines_start image entry x i b =
     let m = x.cpu.memory in
-    let w = view x in
-    (record { pc = b.pc; wp = b.wp; words = b.low_expansion.words; machine = i },
-    record { vdp = ap is_none b.vdp.held; grom = ap (λ (g : GromState). not g.half_written) b.grom },
-    same_state _ _ _ _ _ _ _ _ _ _
-    (ap (λ (cells : List ℕ). slice_set (slice_set cells 0x72 0x9F) 0x73 0x7E) (cells_are m entry b.scratchpad))
-    (memory_is m b.vdp) (registers_are m b.vdp) (entry_is m entry i.memory b.scratchpad) (image_is m image b.grom))
+    let w = view x in (
+      record { pc = b.pc; wp = b.wp; words = b.low_expansion.words; machine = i },
+      record { vdp = ap is_none b.vdp.held; grom = ap (λ (g : GromState). not g.half_written) b.grom },
+      same_state _ _ _ _ _ _ _ _ _ _
+          (ap (λ (cells : List ℕ). slice_set (slice_set cells 0x72 0x9F) 0x73 0x7E) (cells_are m entry b.scratchpad))
+          (memory_is m b.vdp) (registers_are m b.vdp) (entry_is m entry i.memory b.scratchpad) (image_is m image b.grom),
+    )

@@ -20,6 +20,7 @@ pub use row::{
     second_operand,
 };
 pub use step::{
-    ask_address, ask_byte, begin_step, boot, dispatch, keep_address, start_program, stop_code, where_next,
+    ask_address, ask_byte, begin_step, boot, dispatch, keep_address, start_program, stop_code,
+    where_next,
 };
 pub use turn::gpl_turn;

@@ -14,7 +14,11 @@ use tms_step::{Machine, Steps};
 ///
 /// The machine is as the run of the definitions leaves it: it matches the last state, or is halted with it and the reason.
 /// No turn takes more TMS9900 instructions than the bound of its step.
-pub fn run_turns<L: Ledger>(machine: &mut Machine, steps: &mut Steps<L>, limit: u32) -> (u32, Option<Reason>)
+pub fn run_turns<L: Ledger>(
+    machine: &mut Machine,
+    steps: &mut Steps<L>,
+    limit: u32,
+) -> (u32, Option<Reason>)
     requires { IsMatching machine.old }
     ensures { RunsTurns (shown_by machine.old.cpu.memory) limit machine.old machine.new steps.old steps.new result.0 result.1 }
 {

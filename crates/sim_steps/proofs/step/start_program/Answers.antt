@@ -1,4 +1,3 @@
-use Rattle.sim_view.specs.View.{view}
 use Rattle.sim_view.proofs.Bridge.{is_view}
 use Rattle.sim_operands.proofs.Ready.{idle_grom, idle_video}
 use Rattle.sim_steps.proofs.Booting.{begins}
