@@ -1,6 +1,6 @@
 //! Whether a machine is ready to run the interpreter.
 
-ghost use Rattle.std.specs.Prelude.{◌≡◌, ◌<◌, ◌*◌, true};
+ghost use Rattle.std.specs.Prelude.{◌≡◌, ◌<◌, ◌*◌, true, false};
 ghost use Rattle.console_defs.specs.Bytes.{word_in};
 ghost use Rattle.interp_defs.specs.Interpreter.{HoldsInterpreter};
 ghost use Rattle.sim_view.specs.View.{Stands};
@@ -11,7 +11,8 @@ use tms_step::Machine;
 
 /// Does the machine stand at an address, with the interpreter's words and its workspace?
 pub fn is_ready(machine: &Machine, address: u16) -> bool
-    ensures { result ≡ true → Stands machine.now address }
+    ensures stands { result ≡ true → Stands machine.now address }
+    ensures lacks { result ≡ false → Stands machine.now address → ⊥ }
 {
     machine.holds_bounds();
     machine.pc() == address && machine.wp() == WORKSPACE && holds_interpreter(machine.bus())
@@ -19,7 +20,8 @@ pub fn is_ready(machine: &Machine, address: u16) -> bool
 
 /// Do the interpreter's words stand from >2000 on?
 fn holds_interpreter(bus: &Bus) -> bool
-    ensures { result ≡ true → HoldsInterpreter bus.now.low_expansion }
+    ensures holds { result ≡ true → HoldsInterpreter bus.now.low_expansion }
+    ensures lacks { result ≡ false → HoldsInterpreter bus.now.low_expansion → ⊥ }
 {
     for (number, word) in INTERP.iter().enumerate() {
         if !holds_word(bus, number as u16, *word) {
@@ -32,7 +34,8 @@ fn holds_interpreter(bus: &Bus) -> bool
 /// Does a word stand in low expansion memory, as the one with a number from 0 on?
 fn holds_word(bus: &Bus, number: u16, word: u16) -> bool
     requires { number < 4096 }
-    ensures { result ≡ true → word_in bus.now.low_expansion (2 * number) ≡ word }
+    ensures holds { result ≡ true → word_in bus.now.low_expansion (2 * number) ≡ word }
+    ensures lacks { result ≡ false → word_in bus.now.low_expansion (2 * number) ≡ word → ⊥ }
 {
     match bus.word_at(0x2000 + 2 * number) {
         Ok(found) => found == word,
