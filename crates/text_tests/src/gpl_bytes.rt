@@ -544,8 +544,12 @@ fn each_instruction_is_written_and_read_again(rt: HostRuntime) -> Result<(), Fai
 fn is_read_from_the_last_byte(image: &mut GromImage, bytes: &[u8]) -> bool {
     put_all(image, 0x7FFF, bytes);
     match u16::try_from(bytes.len()) {
-        Ok(count) => is_read_as(image, 0x7FFF, ABS_CELL, HERE.wrapping_add(count).wrapping_sub(1))
-            && !stands_short(image, 0x7FFF),
+        Ok(count) => is_read_as(
+            image,
+            0x7FFF,
+            ABS_CELL,
+            HERE.wrapping_add(count).wrapping_sub(1),
+        ) && !stands_short(image, 0x7FFF),
         Err(_) => false,
     }
 }
