@@ -11,7 +11,8 @@ use Rattle.sim_view.proofs.Compose.{Goes, comes, comes_then}
 use Rattle.sim_operands.specs.Pieces as operands
 use Rattle.sim_operands.proofs.Ready.{set_is}
 use Rattle.sim_steps.specs.Pieces as pieces
-use Rattle.sim_steps.specs.States.{Sees, Begins, booted}
+use Rattle.sim_steps.specs.States.{Sees}
+use Rattle.sim_steps.specs.Starting.{Begins, booted}
 use Rattle.sim_steps.proofs.Beginning.{just, from}
 use Rattle.sim_steps.proofs.Ends.{matches}
 

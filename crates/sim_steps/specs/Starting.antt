@@ -1,15 +1,31 @@
--- The machine on which the interpreter begins.
-use Rattle.std.specs.Prelude.{◌≡◌, ℕ, List}
+-- From boot to the first step, and the machine on which the interpreter begins.
+use Rattle.std.specs.Prelude.{◌≡◌, ◌≤◌, ℕ, ◌+◌, List, slice_set}
 use Rattle.console_defs.specs.Machine.{MachineState, IsMachine}
 use Rattle.native_interp.specs.declared.addresses.TheConstants.{GBOOT}
-use Rattle.step_defs.specs.State.{start}
-use Rattle.interp_defs.specs.Match.{PortsAreIdle}
+use Rattle.step_defs.specs.declared.cells.TheConstants.{VALUE_STACK, RETURN_STACK}
+use Rattle.step_defs.specs.State.{GplState, start}
+use Rattle.interp_defs.specs.Match.{PortsAreIdle, Matches}
 use Rattle.interp_defs.specs.Boot.{IsBoot}
-use Rattle.sim_view.specs.View.{view, Stands}
-use Rattle.sim_steps.specs.States.{booted}
+use Rattle.interp_defs.specs.Turns.{Boots}
+use Rattle.sim_view.specs.View.{View, view, Stands}
+use Rattle.sim_operands.specs.Subroutines.{state_of}
 
--- The law, which is proved: such a machine stands at boot with its ports idle, and its first step is from the state in which
--- the program starts.
+-- The state at the first step of a program with its entry in register 0: its stacks are empty, and all else is as it was.
+abbrev pub booted : View → GplState
+booted w =
+    record (state_of w) { cells = slice_set (slice_set w.cells VALUE_STACK 0x9F) RETURN_STACK 0x7E; pc = w.r.r0 }
+
+-- From boot the machine comes to the first step, which it matches. It takes at most so many instructions, which the counter
+-- shows.
+pub record Begins (s : GplState) (most : ℕ) (x y : MachineState) (before after : ℕ) : Type 0 where
+  pub count : ℕ
+  pub within : count ≤ most
+  pub counted : after ≡ before + count
+  pub boots : Boots count x y
+  pub matches : Matches s y
+
+-- The law, which is proved: a new machine with the interpreter, an image and an entry stands at boot with its ports idle, and
+-- its first step is from the state in which the program starts.
 abbrev pub MachinesStart : Type 0
 MachinesStart =
     (image : List ℕ) (entry : ℕ) (x : MachineState) → IsMachine x → IsBoot image entry x

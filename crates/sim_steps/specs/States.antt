@@ -1,5 +1,6 @@
--- Views of the interpreter's machine at the beginning of a step, at its dispatch, and at the entry of a row.
-use Rattle.std.specs.Prelude.{◌≡◌, ℕ, Bool, true, false, Option, Some, None, ◌+◌, ◌≤◌, slice_index, slice_set}
+-- Views of the interpreter's machine at the beginning of a step and at its dispatch, and the families of instructions that
+-- begin there.
+use Rattle.std.specs.Prelude.{◌≡◌, ℕ, Bool, true, false, Option, Some, None, slice_index}
 use Rattle.console_defs.specs.Grom.{next_in_grom, previous_in_grom}
 use Rattle.gpl_defs.specs.declared.instruction.PlainOp.TheVariants.{EXIT}
 use Rattle.gpl_defs.specs.declared.instruction.GoOp.TheVariants.{B}
@@ -7,11 +8,7 @@ use Rattle.gpl_defs.specs.declared.instruction.TwoName.TheVariants.{ST}
 use Rattle.gpl_defs.specs.declared.instruction.GplOperation.{GplOperation}
 use Rattle.gpl_defs.specs.declared.instruction.GplOperation.TheVariants.{Plain, Jump, Two}
 use Rattle.gpl_defs.specs.Codes.{operation_at}
-use Rattle.console_defs.specs.Machine.{MachineState}
-use Rattle.step_defs.specs.declared.cells.TheConstants.{VALUE_STACK, RETURN_STACK}
 use Rattle.step_defs.specs.State.{GplState}
-use Rattle.interp_defs.specs.Match.{Matches}
-use Rattle.interp_defs.specs.Turns.{Boots}
 use Rattle.sim_view.specs.View.{View}
 use Rattle.sim_operands.specs.Subroutines.{grom_at, state_of}
 
@@ -46,17 +43,3 @@ abbrev pub is_flow : Option GplOperation → Bool
 is_flow (Some (Jump B)) = true
 is_flow (Some (Plain EXIT)) = true
 is_flow _ = false
-
--- The state at the first step of a program with its entry in register 0: its stacks are empty, and all else is as it was.
-abbrev pub booted : View → GplState
-booted w =
-    record (state_of w) { cells = slice_set (slice_set w.cells VALUE_STACK 0x9F) RETURN_STACK 0x7E; pc = w.r.r0 }
-
--- From boot the machine comes to the first step, which it matches. It takes at most so many instructions, which the counter
--- shows.
-pub record Begins (s : GplState) (most : ℕ) (x y : MachineState) (before after : ℕ) : Type 0 where
-  pub count : ℕ
-  pub within : count ≤ most
-  pub counted : after ≡ before + count
-  pub boots : Boots count x y
-  pub matches : Matches s y

@@ -9,7 +9,8 @@ ghost use Rattle.gpl_defs.specs.Codes.{operation_at};
 ghost use Rattle.native_interp.specs.Entries.{operation_entry};
 ghost use Rattle.interp_defs.specs.Match.{IsMatching, PortsAreIdle, shown_by};
 ghost use Rattle.sim_view.specs.Exits.{Comes};
-ghost use Rattle.sim_steps.specs.States.{Begins, Dispatched, booted};
+ghost use Rattle.sim_steps.specs.States.{Dispatched};
+ghost use Rattle.sim_steps.specs.Starting.{Begins, booted};
 
 use native_interp::{FETCH, SEEK, WHERE};
 use sim_operands::{fetch_byte, seek_address};
