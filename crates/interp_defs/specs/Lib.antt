@@ -4,3 +4,4 @@ pub mod Runs
 pub mod Boot
 pub mod Turns
 pub mod Turned
+pub mod Programs
