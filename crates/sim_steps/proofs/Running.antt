@@ -11,7 +11,9 @@ use Rattle.interp_defs.specs.declared.turn.Turn.{Turn}
 use Rattle.interp_defs.specs.declared.turn.Turn.TheVariants.{Stepped, Stopped}
 use Rattle.interp_defs.specs.Match.{IsMatching, Matches, shown_by}
 use Rattle.interp_defs.specs.Turned.{TurnedBy, Turned}
-use Rattle.sim_steps.specs.Running.{AreTurns, EndsWith, RunsTurns}
+use Rattle.interp_defs.specs.Turns.{IsTurn}
+use Rattle.interp_defs.specs.Programs.{AreTurns, EndsWith, RunsSteps}
+use Rattle.sim_steps.specs.Running.{RunsTurns}
 
 state_in : GplState → Result GplState Reason → GplState
 state_in other (Ok s) = s
@@ -79,14 +81,21 @@ pub record Stepping (made : ℕ) (s : GplState) (x z : MachineState) (t u : ℕ)
   pub matches : Matches now z
   pub count : ℕ
   pub counted : u ≡ t + count
-  pub turns_are : AreTurns made count x z
+  pub turns_are : AreTurns s made count x z
 
 pub none_yet : (x : MachineState) (t : ℕ) → IsMatching x → Stepping 0 (shown_by x.cpu.memory) x x t t
 none_yet x t m = record { now = shown_by x.cpu.memory; steps_are = refl; matches = record { matching = m; shows = refl }; count = 0; counted = omega arith; turns_are = (refl, refl) }
 
 module _ (made : ℕ) (s : GplState) (x z w : MachineState) (t u v : ℕ) (h : Stepping made s x z t u) where
-  within_is : (count : ℕ) → count ≤ bound h.now → count ≤ bound (shown_by z.cpu.memory)
-  within_is count le = subst (λ (q : GplState). count ≤ bound q) (sym h.matches.shows) le
+  -- the state after the steps that were made is the last of their run
+  last_is : (run made s).last ≡ h.now
+  last_is = ap (λ (q : GplRun). q.last) (run_whole made s h.now h.steps_are)
+
+  one_more_turn : (turn : ℕ) → IsTurn turn z w → turn ≤ bound h.now → AreTurns s (suc made) (h.count + turn) x w
+  one_more_turn turn is within =
+      let matches : Matches (run made s).last z = subst (λ (q : GplState). Matches q z) (sym last_is) h.matches in
+      let le : turn ≤ bound (run made s).last = subst (λ (q : GplState). turn ≤ bound q) (sym last_is) within in
+      (z, h.count, turn, h.turns_are, matches, is, le, refl)
 
   of_now : (turn : Turn) → Turned (shown_by z.cpu.memory) 0 z w u v turn → Turned h.now 0 z w u v turn
   of_now turn e = subst (λ (q : GplState). Turned q 0 z w u v turn) h.matches.shows e
@@ -101,7 +110,7 @@ module _ (made : ℕ) (s : GplState) (x z w : MachineState) (t u v : ℕ) (h : S
         matches = r.2;
         count = h.count + r.1.count;
         counted = omega arith;
-        turns_are = (z, h.count, r.1.count, h.turns_are, r.1.turn, within_is r.1.count (let le = r.1.within in omega arith), refl);
+        turns_are = one_more_turn r.1.count r.1.turn (let le = r.1.within in omega arith);
       }
   stepped_by (Err reason) e r = absurd (let a = r.0 in cc)
 
@@ -119,10 +128,12 @@ module _ (made : ℕ) (s : GplState) (x z w : MachineState) (t u v : ℕ) (h : S
         stop_is = ap Some (reason_is reason other r.0) ∙ sym (ap (λ (q : GplRun). q.stop) is);
         count = h.count + r.1.count;
         counted = omega arith;
-        turns_are = subst (λ (q : GplRun). AreTurns (with_stop q.stop q.done) (h.count + r.1.count) x w) (sym is)
-            (subst (λ (d : ℕ). AreTurns d (h.count + r.1.count) x w) (sym (next_is made))
-            (z, h.count, r.1.count, h.turns_are, r.1.turn, within_is r.1.count (let le = r.1.within in omega arith), refl));
-        ends = subst (λ (q : GplRun). EndsWith q.stop q.last w) (sym is) r.2;
+        runs = record {
+          turns_are = subst (λ (q : GplRun). AreTurns s (with_stop q.stop q.done) (h.count + r.1.count) x w) (sym is)
+              (subst (λ (d : ℕ). AreTurns s d (h.count + r.1.count) x w) (sym (next_is made))
+              (one_more_turn r.1.count r.1.turn (let le = r.1.within in omega arith)));
+          ends = subst (λ (q : GplRun). EndsWith q.stop q.last w) (sym is) r.2;
+        };
       }
 
   pub stopped : (limit : ℕ) (reason : Reason) → made < limit → Turned (shown_by z.cpu.memory) 0 z w u v (Stopped reason) → RunsTurns s limit x w t v made (Some reason)
@@ -136,6 +147,8 @@ whole limit s x z t u h =
       stop_is = sym (ap (λ (q : GplRun). q.stop) is);
       count = h.count;
       counted = h.counted;
-      turns_are = subst (λ (q : GplRun). AreTurns (with_stop q.stop q.done) h.count x z) (sym is) h.turns_are;
-      ends = subst (λ (q : GplRun). EndsWith q.stop q.last z) (sym is) h.matches;
+      runs = record {
+        turns_are = subst (λ (q : GplRun). AreTurns s (with_stop q.stop q.done) h.count x z) (sym is) h.turns_are;
+        ends = subst (λ (q : GplRun). EndsWith q.stop q.last z) (sym is) h.matches;
+      };
     }
