@@ -1,5 +1,5 @@
 -- The match of a machine that runs the interpreter with a state of GPL.
-use Rattle.std.specs.Prelude.{◌≡◌, ℕ, true, take, slice_index}
+use Rattle.std.specs.Prelude.{◌≡◌, true, take, slice_index}
 use Rattle.console_defs.specs.Vdp.{is_vdp_idle}
 use Rattle.console_defs.specs.Grom.{GromState, is_grom_idle, previous_in_grom}
 use Rattle.console_defs.specs.Memory.{Memory}

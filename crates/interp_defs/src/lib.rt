@@ -2,6 +2,8 @@
 //! match of the two, its halts, its start and its turns. The definitions stand in `specs/`.
 #![tactic(auto)]
 
+mod laws;
 mod turn;
 
+pub use laws::{one_machine_is_left, programs_are_turns};
 pub use turn::Turn;

@@ -1,0 +1,3 @@
+pub mod OneBoot
+pub mod OneMachine
+pub mod AfterTurns
