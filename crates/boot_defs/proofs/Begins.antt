@@ -1,5 +1,5 @@
 -- The interpreter's linked memory is loaded into the machine on which the interpreter begins.
-use Rattle.std.proofs.Common.{◌≡◌, ◌<◌, ◌≤◌, ℕ, ◌+◌, ◌*◌, ◌⊎◌, inl, inr, List, length, slice_index, refl, sym, ap, ◌∙◌, subst, arith, Ok}
+use Rattle.std.proofs.Common.{◌≡◌, ◌<◌, ◌≤◌, ℕ, ◌*◌, inr, List, length, slice_index, refl, sym, ap, ◌∙◌, subst, arith}
 use Rattle.std.specs.FinMap.{entries}
 use Rattle.console_defs.specs.Bytes.{HoldsZeros, word_in, with_word_in}
 use Rattle.console_defs.specs.Vdp.{VdpState, IsNewVdp}
@@ -44,8 +44,8 @@ record Stands (shipped image : List ℕ) (entry : ℕ) (memory : Memory) : Type 
   grom : memory.grom ≡ new_grom image
 
 -- what is placed in a new memory with the entry
-stands_placed : (shipped image : List ℕ) (linked : LinkedMemory) (entry : ℕ) (vdp : VdpState) (empty after : Memory) → length shipped ≤ 4096
-    → HasShipped shipped linked → IsNewVdp vdp → IsNewMemory empty vdp (new_grom image)
+stands_placed : (shipped image : List ℕ) (linked : LinkedMemory) (entry : ℕ) (vdp : VdpState) (empty after : Memory)
+    → length shipped ≤ 4096 → HasShipped shipped linked → IsNewVdp vdp → IsNewMemory empty vdp (new_grom image)
     → Placed shipped (entries linked.words) (with_first_word entry empty) after → Stands shipped image entry after
 stands_placed shipped image linked entry vdp empty after few has new_vdp fresh placed = record {
   scratchpad = subst (HoldsEntry entry) (sym placed.scratchpad) (holds_entry entry empty.scratchpad fresh.scratchpad);
@@ -66,22 +66,25 @@ stands_loaded : (shipped image : List ℕ) (linked : LinkedMemory) (entry : ℕ)
 stands_loaded shipped image linked entry memory few has loaded =
     let fresh = loaded.new_memory in
     subst (Stands shipped image entry) (sym loaded.loaded)
-    (stands_placed shipped image linked entry loaded.vdp loaded.empty (with_words (entries linked.words) (with_first_word entry loaded.empty)) few has loaded.new_vdp fresh
-      (all_placed shipped (entries linked.words) (with_first_word entry loaded.empty) few fresh.low_expansion.size fresh.high_expansion.size
-        (all_belong shipped linked has)))
+    (stands_placed shipped image linked entry loaded.vdp loaded.empty (with_words (entries linked.words) (with_first_word entry loaded.empty))
+    few has loaded.new_vdp fresh
+    (all_placed shipped (entries linked.words) (with_first_word entry loaded.empty) few fresh.low_expansion.size fresh.high_expansion.size
+    (all_belong shipped linked has)))
 
 -- the words, with nothing else said of them
 opaque_words : (shipped : List ℕ) × (shipped ≡ words) × (shipped ≡ INTERP) × (length shipped ≤ 4096)
 opaque_words = (INTERP, refl, refl, omega arith)
 
+-- the words are the interpreter's
 holds_words : (shipped bytes : List ℕ) → shipped ≡ INTERP → Holds shipped bytes → HoldsWords bytes
 holds_words shipped bytes same holds =
     let these : Holds INTERP bytes = subst (λ (list : List ℕ). Holds list bytes) same holds in
     record { size = these.size; words = these.words; behind = these.behind }
 
-boots : (shipped text image : List ℕ) (linked : LinkedMemory) (entry : ℕ) (x : MachineState) → HasShipped shipped linked → length shipped ≤ 4096
+-- what the interpreter's words are loaded into
+boots : (shipped image : List ℕ) (linked : LinkedMemory) (entry : ℕ) (x : MachineState) → HasShipped shipped linked → length shipped ≤ 4096
     → shipped ≡ INTERP → IsLoadedMachine linked image entry WORKSPACE GBOOT x → IsBoot image entry x
-boots shipped text image linked entry x has few same loaded =
+boots shipped image linked entry x has few same loaded =
     let stands = stands_loaded shipped image linked entry x.cpu.memory few has loaded.memory in
     record {
       scratchpad = stands.scratchpad;
@@ -98,5 +101,5 @@ boots shipped text image linked entry x has few same loaded =
 
 pub interpreters_boot : LoadedInterpretersBoot
 interpreters_boot memory image entry x is fits loaded =
-    boots opaque_words.0 source image memory entry x
+    boots opaque_words.0 image memory entry x
     (has_words source opaque_words.0 memory refl opaque_words.1 is) opaque_words.3 opaque_words.2 loaded

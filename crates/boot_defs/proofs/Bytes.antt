@@ -3,11 +3,8 @@ use Rattle.std.proofs.Common.{◌≡◌, ◌≢◌, ◌<◌, ◌≤◌, ℕ, ◌
 use Rattle.std.proofs.Common.{length-set, get_or-set_same, get_or-set_other}
 use Rattle.std.proofs.lemmas.List.{set_past}
 use Rattle.console_defs.specs.Words.{high, low, join}
+use Rattle.console_defs.proofs.WordLaws.{join-high-low}
 use Rattle.console_defs.specs.Bytes.{word_in, with_word_in}
-
--- a word is that of its two bytes
-pub join_bytes : (word : ℕ) → join (high word) (low word) ≡ word
-join_bytes word = omega arith
 
 -- a word that is put keeps the length
 pub length_with : (bytes : List ℕ) (at word : ℕ) → length (with_word_in bytes at word) ≡ length bytes
@@ -32,7 +29,7 @@ same_word bytes at word inside =
     get_or-set_other marked (at + 1) at (low word) 0 apart ∙ get_or-set_same bytes at (high word) 0 here in
     let second : slice_index (with_word_in bytes at word) (at + 1) ≡ low word =
     get_or-set_same marked (at + 1) (low word) 0 long in
-    ap₂ join first second ∙ join_bytes word
+    ap₂ join first second ∙ join-high-low word
 
 -- and a word that stands apart from it
 pub other_word : (bytes : List ℕ) (at word place : ℕ) → place ≢ at → place ≢ at + 1 → place + 1 ≢ at

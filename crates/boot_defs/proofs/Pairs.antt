@@ -1,13 +1,14 @@
 -- Pairs of a list whose first numbers rise, as the entries of a map.
-use Rattle.std.proofs.Common.{◌≡◌, ◌≢◌, ℕ, Bool, true, false, cond, T, ◌⊎◌, inl, inr, List, [], ◌∷◌, refl, sym, ap, ◌∙◌, subst, arith}
+use Rattle.std.proofs.Common.{◌≡◌, ℕ, Bool, true, false, cond, T, ◌⊎◌, inl, inr, List, [], ◌∷◌, refl, sym, ap, ◌∙◌}
 use Rattle.std.proofs.Common.{Option, Some, None, Ordering, Less, Equal, Greater, is_eq, is_lt, nat_cmp, eqb-true}
-use Rattle.std.specs.Prelude.{◌&&◌, ◌==◌}
+use Rattle.std.specs.Prelude.{◌&&◌}
 use Rattle.std.specs.Ordering.{eq_by_cmp}
 use Rattle.std.specs.Cmp.{unsigned_tied, nat_cmp_total}
 use Rattle.std.specs.FinMap.{find, is_sorted}
 use Rattle.std.specs.FinMap.Entries.{below_all}
 use Rattle.std.proofs.lemmas.Cmp.{tied_itself}
 
+-- the parts of a test
 first : (a b : Bool) → T (a && b) → T a
 first true b p = tt
 first false b p = p
@@ -16,6 +17,7 @@ second : (a b : Bool) → T (a && b) → T b
 second true b p = p
 second false b p = absurd p
 
+-- a smaller number does not tie
 skips : (order : Ordering) (here other : Option ℕ) → T (is_lt order) → cond (is_eq order) here other ≡ other
 skips Less here other below = refl
 skips Equal here other below = absurd below
@@ -32,7 +34,8 @@ found_first : (pair : ℕ × ℕ) (pairs : List (ℕ × ℕ)) → find nat_cmp p
 found_first pair pairs =
     ap (λ order. cond (is_eq order) (Some pair.1) (find nat_cmp pair.0 pairs)) (tied_itself nat_cmp_total pair.0)
 
-none_is_not : (word : ℕ) (found : Option ℕ) → found ≡ None → found ≡ Some word → ⊥
+-- what is none is no word
+pub none_is_not : (word : ℕ) (found : Option ℕ) → found ≡ None → found ≡ Some word → ⊥
 none_is_not word found none some = cc
 
 -- what is found behind the first pair is found
@@ -57,9 +60,10 @@ pub every_found : (said : ℕ × ℕ → Type 0) (pairs : List (ℕ × ℕ)) →
     → ((pair : ℕ × ℕ) → find nat_cmp pair.0 pairs ≡ Some pair.1 → said pair) → Every said pairs
 every_found said [] rises holds = tt
 every_found said (pair ∷ pairs) rises holds =
-    let below : T (below_all nat_cmp pair.0 pairs) = first _ _ rises in
-    (holds pair (found_first pair pairs),
-      every_found said pairs (second _ _ rises) (λ other found. holds other (found_later pair pairs other.0 other.1 below found)))
+    let below : T (below_all nat_cmp pair.0 pairs) = first _ _ rises in (
+      holds pair (found_first pair pairs),
+      every_found said pairs (second _ _ rises) (λ other found. holds other (found_later pair pairs other.0 other.1 below found)),
+    )
 
 -- a pair with a number is among them
 abbrev pub Occurs : ℕ → List (ℕ × ℕ) → Type 0

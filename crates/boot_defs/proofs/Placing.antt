@@ -1,30 +1,26 @@
 -- What comes of words that are placed.
-use Rattle.std.proofs.Common.{◌≡◌, ◌≢◌, ◌<◌, ◌≤◌, ℕ, ◌+◌, ◌-◌, ◌*◌, Bool, true, false, nat_eq, ◌⊎◌, inl, inr, List, [], ◌∷◌, length, slice_index, refl, sym, ap, ◌∙◌, subst, arith}
+use Rattle.std.proofs.Common.{◌≡◌, ◌≢◌, ◌<◌, ◌≤◌, ℕ, ◌+◌, ◌-◌, ◌*◌, Bool, true, false, nat_eq, ◌⊎◌, inl, inr}
+use Rattle.std.proofs.Common.{List, [], ◌∷◌, length, slice_index, refl, sym, ap, ◌∙◌, subst, arith}
 use Rattle.std.proofs.lemmas.Bool.Decides.{nat_tests}
-use Rattle.console_defs.specs.Vdp.{VdpState}
-use Rattle.console_defs.specs.Grom.{GromState}
 use Rattle.console_defs.specs.Bytes.{word_in, with_word_in}
-use Rattle.console_defs.specs.Memory.{Memory, Region, LowExpansion, HighExpansion, region, word_placed, word_placed_in}
+use Rattle.console_defs.specs.Memory.{Memory, Region, LowExpansion, word_placed, word_placed_in}
+use Rattle.console_defs.proofs.MemoryLaws.{region_low, region_high}
 use Rattle.load_defs.specs.Loaded.{with_words}
 use Rattle.boot_defs.proofs.Bytes.{length_with, other_byte, same_word, other_word, past_end}
 use Rattle.boot_defs.proofs.Pairs.{Every, Occurs}
-use Rattle.boot_defs.proofs.Shipped.{IsWord, Belongs}
-
-region_low : (address : ℕ) → 0x2000 ≤ address → address < 0x4000 → region address ≡ LowExpansion (address - 0x2000)
-region_low address from below = grind arith
-
-region_high : (address : ℕ) → 0xA000 ≤ address → region address ≡ HighExpansion (address - 0xA000)
-region_high address from = grind arith
+use Rattle.boot_defs.proofs.Shipped.{Belongs}
 
 -- a word behind the last address is not placed
-placed_nowhere : (memory : Memory) (address word : ℕ) → length memory.high_expansion ≡ 24576 → 65536 ≤ address → word_placed memory address word ≡ memory
+placed_nowhere : (memory : Memory) (address word : ℕ) → length memory.high_expansion ≡ 24576 → 65536 ≤ address
+    → word_placed memory address word ≡ memory
 placed_nowhere memory address word size past =
     let behind : length memory.high_expansion ≤ address - 0xA000 = omega arith in
     ap (λ (there : Region). word_placed_in there memory word) (region_high address (omega arith))
     ∙ ap (λ (bytes : List ℕ). record memory { high_expansion = bytes }) (past_end memory.high_expansion (address - 0xA000) word behind)
 
 -- a word in low expansion memory is placed there
-placed_low : (memory : Memory) (number word : ℕ) → number < 4096 → word_placed memory (0x2000 + 2 * number) word ≡ record memory { low_expansion = with_word_in memory.low_expansion (2 * number) word }
+placed_low : (memory : Memory) (number word : ℕ) → number < 4096
+    → word_placed memory (0x2000 + 2 * number) word ≡ record memory { low_expansion = with_word_in memory.low_expansion (2 * number) word }
 placed_low memory number word few =
     let at : 0x2000 + 2 * number - 0x2000 ≡ 2 * number = omega arith in
     ap (λ (there : Region). word_placed_in there memory word) (region_low (0x2000 + 2 * number) (omega arith) (omega arith) ∙ ap LowExpansion at)
@@ -56,12 +52,14 @@ placed_none shipped memory = record {
   behind = λ at past. refl;
 }
   where
-    right : (number : ℕ) → (word_in memory.low_expansion (2 * number) ≡ slice_index shipped number) ⊎ ⊥ → word_in memory.low_expansion (2 * number) ≡ slice_index shipped number
+    right : (number : ℕ) → (word_in memory.low_expansion (2 * number) ≡ slice_index shipped number) ⊎ ⊥
+        → word_in memory.low_expansion (2 * number) ≡ slice_index shipped number
     right number (inl is) = is
     right number (inr none) = absurd none
 
 -- a pair that stands at no address
-placed_past : (shipped : List ℕ) (pair : ℕ × ℕ) (pairs : List (ℕ × ℕ)) (before after : Memory) → length shipped ≤ 4096 → 65536 ≤ pair.0
+placed_past : (shipped : List ℕ) (pair : ℕ × ℕ) (pairs : List (ℕ × ℕ)) (before after : Memory) → length shipped ≤ 4096
+    → 65536 ≤ pair.0
     → Placed shipped pairs before after → Placed shipped (pair ∷ pairs) before after
 placed_past shipped pair pairs before after few past placed = record {
   scratchpad = placed.scratchpad;
@@ -91,6 +89,7 @@ right_with shipped bytes put number size few inside held = by (nat_eq put number
     here same = subst
         (λ (n : ℕ). word_in (with_word_in bytes (2 * put) (slice_index shipped put)) (2 * n) ≡ slice_index shipped n) same
         (same_word bytes (2 * put) (slice_index shipped put) (omega arith))
+
     by : (same : Bool) → nat_eq put number ≡ same → (word_in bytes (2 * number) ≡ slice_index shipped number) ⊎ (put ≡ number)
         → word_in (with_word_in bytes (2 * put) (slice_index shipped put)) (2 * number) ≡ slice_index shipped number
     by true same was = here (grind (arith, nat_tests))
@@ -144,4 +143,4 @@ all_placed shipped (pair ∷ pairs) memory few size high (belongs, every) =
         let comes : word_placed memory pair.0 pair.1 ≡ next = (λ i. word_placed memory (is.address i) (is.word i)) ∙ placed_low memory put word below in
         subst (λ (there : Memory). Placed shipped (pair ∷ pairs) memory (with_words pairs there)) (sym comes)
         (placed_word shipped pair pairs memory (with_words pairs next) put few size is.inside is.address
-          (rest next (length_with memory.low_expansion (2 * put) word ∙ size) high every))
+        (rest next (length_with memory.low_expansion (2 * put) word ∙ size) high every))

@@ -1,9 +1,10 @@
 -- The words that are shipped, as pairs of an address and a word.
-use Rattle.std.proofs.Common.{◌≡◌, ◌<◌, ◌≤◌, ℕ, ◌+◌, ◌-◌, ◌*◌, ◌/◌, ◌%◌, Bool, true, false, ◌⊎◌, inl, inr, List, length, slice_index, refl, sym, ap, ◌∙◌, subst, arith}
-use Rattle.std.proofs.Common.{Option, Some, None, Result, Ok, Err, nat_cmp, nat_le, ◌==◌, if◌then◌else◌, T}
+use Rattle.std.proofs.Common.{◌≡◌, ◌<◌, ◌≤◌, ℕ, ◌+◌, ◌-◌, ◌*◌, ◌/◌, ◌%◌, Bool, true, false, ◌⊎◌, inl, inr}
+use Rattle.std.proofs.Common.{List, length, slice_index, refl, sym, ap, ◌∙◌, subst, arith}
+use Rattle.std.proofs.Common.{Some, None, Result, Ok, nat_cmp, nat_le, ◌==◌, if◌then◌else◌}
 use Rattle.std.specs.Prelude.{◌&&◌}
 use Rattle.std.specs.List.{slice_get}
-use Rattle.std.specs.FinMap.{FinMap, get, get-entries, entries, entries_sorted, find, is_sorted}
+use Rattle.std.specs.FinMap.{get-entries, entries, entries_sorted, find}
 use Rattle.std.proofs.lemmas.Bool.Decides.{nat_tests}
 use Rattle.std.proofs.lemmas.Option.{get_or_from_slice_get, slice_get-get_or, slice_get_past}
 use Rattle.link_defs.specs.LinkedMemory.{LinkedMemory}
@@ -14,7 +15,7 @@ use Rattle.build_defs.specs.Building.{shipped_at, built}
 use Rattle.build_defs.specs.Interpreter.{built_interpreter}
 use Rattle.build_defs.specs.Laws.{BuildsAs, HasShipped}
 use Rattle.build_defs.proofs.Compared.{are_compared}
-use Rattle.boot_defs.proofs.Pairs.{Every, Occurs, every_found, occurs}
+use Rattle.boot_defs.proofs.Pairs.{Every, Occurs, every_found, occurs, none_is_not}
 
 -- a pair is one of the words that are shipped, at its address
 pub record IsWord (shipped : List ℕ) (pair : ℕ × ℕ) : Type 0 where
@@ -27,9 +28,7 @@ pub record IsWord (shipped : List ℕ) (pair : ℕ × ℕ) : Type 0 where
 abbrev pub Belongs : List ℕ → ℕ × ℕ → Type 0
 Belongs shipped pair = (65536 ≤ pair.0) ⊎ IsWord shipped pair
 
-none_is_not : (word : ℕ) (found : Option ℕ) → found ≡ None → found ≡ Some word → ⊥
-none_is_not word found none some = cc
-
+-- a word that is found is inside the list
 inside_of : (shipped : List ℕ) (number word : ℕ) → slice_get shipped number ≡ Some word → number < length shipped
 inside_of shipped number word found = by (nat_le (length shipped) number) refl
   where
@@ -43,6 +42,7 @@ inside_of shipped number word found = by (nat_le (length shipped) number) refl
 from_test : (at : ℕ) → (nat_le 0x2000 at && (at % 2 == 0)) ≡ true → (0x2000 ≤ at) × (at % 2 ≡ 0)
 from_test at holds = grind (arith, nat_tests)
 
+-- the address of each of the words passes it
 test_from : (number : ℕ) → (nat_le 0x2000 (0x2000 + 2 * number) && ((0x2000 + 2 * number) % 2 == 0)) ≡ true
 test_from number =
     let from : 0x2000 ≤ 0x2000 + 2 * number = omega arith in
@@ -66,7 +66,8 @@ is_word shipped at word is = by (nat_le 0x2000 at && (at % 2 == 0)) refl is
     by false holds found = absurd (none_is_not word None refl found)
 
 -- each of the words is shipped at its address
-shipped_word : (shipped : List ℕ) (number : ℕ) → number < length shipped → shipped_at shipped (0x2000 + 2 * number) ≡ Some (slice_index shipped number)
+shipped_word : (shipped : List ℕ) (number : ℕ) → number < length shipped
+    → shipped_at shipped (0x2000 + 2 * number) ≡ Some (slice_index shipped number)
 shipped_word shipped number inside =
     let at : (0x2000 + 2 * number - 0x2000) / 2 ≡ number = omega arith in
     ap (λ (holds : Bool). if holds then slice_get shipped ((0x2000 + 2 * number - 0x2000) / 2) else None) (test_from number)
@@ -100,10 +101,12 @@ has_shipped text shipped memory is =
     let P : Result LinkedMemory BuildFault → Type 0 = λ found. BuildsAs text shipped found in
     (subst P is (are_compared text shipped)).1
 
+-- the source and the words, with nothing else said of them
 built_is : (text shipped : List ℕ) → text ≡ source → shipped ≡ words → built_interpreter ≡ built text shipped
 unfolding built_interpreter
 built_is text shipped one two = sym (λ i. built (one i) (two i))
 
 -- the interpreter's linked memory has the interpreter's words
-pub has_words : (text shipped : List ℕ) (memory : LinkedMemory) → text ≡ source → shipped ≡ words → built_interpreter ≡ Ok memory → HasShipped shipped memory
+pub has_words : (text shipped : List ℕ) (memory : LinkedMemory) → text ≡ source → shipped ≡ words → built_interpreter ≡ Ok memory
+    → HasShipped shipped memory
 has_words text shipped memory one two is = has_shipped text shipped memory (sym (built_is text shipped one two) ∙ is)
