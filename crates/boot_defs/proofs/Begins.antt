@@ -100,6 +100,6 @@ boots shipped image linked entry x has few same loaded =
     }
 
 pub interpreters_boot : LoadedInterpretersBoot
-interpreters_boot memory image entry x is fits loaded =
+interpreters_boot memory image entry x is loaded =
     boots opaque_words.0 image memory entry x
     (has_words source opaque_words.0 memory refl opaque_words.1 is) opaque_words.3 opaque_words.2 loaded

@@ -1,5 +1,5 @@
 -- The machine that the interpreter's linked memory is loaded into.
-use Rattle.std.specs.Prelude.{◌≡◌, ◌<◌, ℕ, List, Ok}
+use Rattle.std.specs.Prelude.{◌≡◌, ℕ, List, Ok}
 use Rattle.console_defs.specs.Machine.{MachineState}
 use Rattle.link_defs.specs.LinkedMemory.{LinkedMemory}
 use Rattle.load_defs.specs.Loaded.{IsLoadedMachine}
@@ -12,5 +12,4 @@ use Rattle.interp_defs.specs.Boot.{IsBoot}
 abbrev pub LoadedInterpretersBoot : Type 0
 LoadedInterpretersBoot =
     (memory : LinkedMemory) (image : List ℕ) (entry : ℕ) (x : MachineState)
-    → built_interpreter ≡ Ok memory → entry < 65536
-    → IsLoadedMachine memory image entry WORKSPACE GBOOT x → IsBoot image entry x
+    → built_interpreter ≡ Ok memory → IsLoadedMachine memory image entry WORKSPACE GBOOT x → IsBoot image entry x
