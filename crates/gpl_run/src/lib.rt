@@ -1,10 +1,14 @@
-//! The interpreter, built from its source.
+//! The interpreter, built from its source, and GPL programs that it runs.
 #![tactic(auto)]
 
 mod build;
 mod compare;
 mod error;
+mod load;
+mod session;
 mod text;
 
 pub use build::build_interp;
 pub use error::BuildError;
+pub use load::load_interpreter;
+pub use session::Session;

@@ -12,17 +12,18 @@ use Rattle.native_interp.specs.declared.words.TheConstants.{INTERP}
 use Rattle.interp_defs.specs.Boot.{HoldsEntry, HoldsWords, IsBoot}
 
 -- Lists of one length are equal where they agree at each index.
-same_list : (xs ys : List ℕ) → length xs ≡ length ys → ((at : ℕ) → slice_index xs at ≡ slice_index ys at) → xs ≡ ys
+pub same_list : (xs ys : List ℕ) → length xs ≡ length ys →
+    ((at : ℕ) → at < length xs → slice_index xs at ≡ slice_index ys at) → xs ≡ ys
 same_list [] [] size all = refl
 same_list [] (y ∷ ys) size all = absurd (omega arith)
 same_list (x ∷ xs) [] size all = absurd (omega arith)
 same_list (x ∷ xs) (y ∷ ys) size all =
-    ap (λ head. head ∷ xs) (all 0)
-    ∙ ap (λ (tail : List ℕ). y ∷ tail) (same_list xs ys (omega arith) (λ at. all (suc at)))
+    ap (λ head. head ∷ xs) (all 0 (omega arith))
+    ∙ ap (λ (tail : List ℕ). y ∷ tail) (same_list xs ys (omega arith) (λ at below. all (suc at) (omega arith)))
 
 -- Zeros are one list.
-one_zeros : (count : ℕ) (xs ys : List ℕ) → HoldsZeros count xs → HoldsZeros count ys → xs ≡ ys
-one_zeros count xs ys p q = same_list xs ys (p.size ∙ sym q.size) (λ at. p.zeros at ∙ sym (q.zeros at))
+pub one_zeros : (count : ℕ) (xs ys : List ℕ) → HoldsZeros count xs → HoldsZeros count ys → xs ≡ ys
+one_zeros count xs ys p q = same_list xs ys (p.size ∙ sym q.size) (λ at below. p.zeros at ∙ sym (q.zeros at))
 
 -- The bytes of a word are its own.
 word_bytes : (more less more_too less_too : ℕ) → less < 256 → less_too < 256 →
@@ -81,18 +82,18 @@ one_scratchpad : (entry : ℕ) (xs ys : List ℕ) → HoldsBytes 256 xs → Hold
     HoldsEntry entry ys → xs ≡ ys
 one_scratchpad entry xs ys a b p q =
     same_list xs ys (p.size ∙ sym q.size)
-    (λ at. one_word xs ys a.fits b.fits 0xE0 at (p.word ∙ sym q.word) p.before q.before p.behind q.behind)
+    (λ at below. one_word xs ys a.fits b.fits 0xE0 at (p.word ∙ sym q.word) p.before q.before p.behind q.behind)
 
 -- One low expansion memory holds the interpreter.
 one_low : (xs ys : List ℕ) → HoldsBytes 8192 xs → HoldsBytes 8192 ys → HoldsWords xs → HoldsWords ys → xs ≡ ys
 one_low xs ys a b p q =
     same_list xs ys (p.size ∙ sym q.size)
-    (λ at.
+    (λ at below.
     let same = λ (number : ℕ) (lt : number < length INTERP). p.words number lt ∙ sym (q.words number lt) in
     one_words xs ys a.fits b.fits (length INTERP) at same p.behind q.behind)
 
 -- One video processor is new.
-one_vdp : (a b : VdpState) → IsNewVdp a → IsNewVdp b → a ≡ b
+pub one_vdp : (a b : VdpState) → IsNewVdp a → IsNewVdp b → a ≡ b
 one_vdp a b p q =
     ap (λ memory. record a { memory = memory }) (one_zeros 16384 a.memory b.memory p.memory q.memory)
     ∙ ap (λ registers. record a { memory = b.memory; registers = registers }) (one_zeros 8 a.registers b.registers p.registers q.registers)
@@ -101,7 +102,7 @@ one_vdp a b p q =
     ∙ ap (λ held. record b { held = held }) (p.held ∙ sym q.held)
 
 -- Memories are equal where their parts are.
-same_memory : (a b : Memory) → a.scratchpad ≡ b.scratchpad → a.low_expansion ≡ b.low_expansion →
+pub same_memory : (a b : Memory) → a.scratchpad ≡ b.scratchpad → a.low_expansion ≡ b.low_expansion →
     a.high_expansion ≡ b.high_expansion → a.rom ≡ b.rom → a.vdp ≡ b.vdp → a.grom ≡ b.grom → a ≡ b
 same_memory a b scratchpad low high rom vdp grom =
     ap (λ s. record a { scratchpad = s }) scratchpad

@@ -14,40 +14,34 @@ use Rattle.console_defs.specs.Machine.{MachineState, new_machine}
 use Rattle.console_defs.specs.Runs.{IsRun, end_at, after}
 use Rattle.console_defs.specs.declared.ends.RunEnd.{RunEnd}
 use Rattle.report_defs.specs.declared.command.Command.{Command}
-use Rattle.report_defs.specs.declared.command.Command.TheVariants.{Asm, Gasm, Dis, Gdis, Link, Exec, Interp}
+use Rattle.report_defs.specs.declared.command.Command.TheVariants.{Asm, Gasm, Dis, Gdis, Link, Exec, Interp, Run}
 use Rattle.report_defs.specs.Exec.{IsStart, Executes, exec_lines, end_status}
 use Rattle.report_defs.specs.declared.fault.Fault.TheVariants.{TooLarge}
-use Rattle.report_defs.specs.Report.{Report, Whole, Faulty, ReportsRun, ExecReport, AcceptedReport, largest_input}
+use Rattle.report_defs.specs.Report.{Report, Whole, Faulty, ReportsRun, ExecReport, AcceptedReport, largest_input, program_report}
+use Rattle.report_defs.specs.Report.{ReportsProgram, EnteredReport, ProgramReport, RunReport}
+use Rattle.source_defs.specs.Refusals.{Refusal}
+use Rattle.gpl_defs.specs.Image.{Image, AreBytesOf}
+use Rattle.program_defs.specs.declared.causes.GplCause.{GplCause}
+use Rattle.program_defs.specs.Programs.{Program, program_of_source}
+use Rattle.build_defs.specs.declared.fault.BuildFault.{BuildFault}
+use Rattle.build_defs.specs.Interpreter.{built_interpreter}
+use Rattle.step_defs.specs.State.{start}
+use Rattle.step_defs.specs.Run.{run}
+use Rattle.interp_defs.specs.Programs.{RunsProgram}
+use Rattle.interp_defs.proofs.OneBoot.{same_list, one_zeros, one_vdp, same_memory}
+use Rattle.interp_defs.proofs.OneMachine.{one_machine_is_left}
 use Rattle.report_defs.specs.Laws.{OneReport}
-
--- zeros are one list
-one_zeros : (n m : ℕ) (xs ys : List ℕ) → n ≡ m → HoldsZeros n xs → HoldsZeros m ys → xs ≡ ys
-one_zeros n m [] [] same p q = refl
-one_zeros n m [] (y ∷ ys) same p q = let a = p.size in let b = q.size in absurd (omega arith)
-one_zeros n m (x ∷ xs) [] same p q = let a = p.size in let b = q.size in absurd (omega arith)
-one_zeros n m (x ∷ xs) (y ∷ ys) same p q =
-    let a = p.size in
-    let b = q.size in
-    let rest : xs ≡ ys = one_zeros (n - 1) (m - 1) xs ys (omega arith) (record { size = omega arith; zeros = λ at. p.zeros (suc at) }) (record { size = omega arith; zeros = λ at. q.zeros (suc at) }) in
-    ap (λ head. head ∷ xs) (p.zeros 0 ∙ sym (q.zeros 0)) ∙ ap (λ tail. y ∷ tail) rest
-
-one_vdp : (a b : VdpState) → IsNewVdp a → IsNewVdp b → a ≡ b
-one_vdp a b p q =
-    ap (λ memory. record a { memory = memory }) (one_zeros 16384 16384 a.memory b.memory refl p.memory q.memory)
-    ∙ ap (λ registers. record a { memory = b.memory; registers = registers }) (one_zeros 8 8 a.registers b.registers refl p.registers q.registers)
-    ∙ ap (λ address. record a { memory = b.memory; registers = b.registers; address = address }) (p.address ∙ sym q.address)
-    ∙ ap (λ fetched. record b { fetched = fetched; held = a.held }) (p.fetched ∙ sym q.fetched)
-    ∙ ap (λ held. record b { held = held }) (p.held ∙ sym q.held)
 
 -- one memory is a new one
 one_new : (a b : Memory) (vdp_a vdp_b : VdpState) (grom_a grom_b : GromState) → vdp_a ≡ vdp_b → grom_a ≡ grom_b → IsNewMemory a vdp_a grom_a → IsNewMemory b vdp_b grom_b → a ≡ b
 one_new a b vdp_a vdp_b grom_a grom_b vdp grom p q =
-    ap (λ scratchpad. record a { scratchpad = scratchpad }) (one_zeros 256 256 a.scratchpad b.scratchpad refl p.scratchpad q.scratchpad)
-    ∙ ap (λ low. record a { scratchpad = b.scratchpad; low_expansion = low }) (one_zeros 8192 8192 a.low_expansion b.low_expansion refl p.low_expansion q.low_expansion)
-    ∙ ap (λ high. record a { scratchpad = b.scratchpad; low_expansion = b.low_expansion; high_expansion = high }) (one_zeros 24576 24576 a.high_expansion b.high_expansion refl p.high_expansion q.high_expansion)
-    ∙ ap (λ rom. record b { rom = rom; vdp = a.vdp; grom = a.grom }) (one_zeros 8192 8192 a.rom b.rom refl p.rom q.rom)
-    ∙ ap (λ v. record b { vdp = v; grom = a.grom }) (p.vdp_given ∙ vdp ∙ sym q.vdp_given)
-    ∙ ap (λ g. record b { grom = g }) (p.grom_given ∙ grom ∙ sym q.grom_given)
+    same_memory a b
+    (one_zeros 256 a.scratchpad b.scratchpad p.scratchpad q.scratchpad)
+    (one_zeros 8192 a.low_expansion b.low_expansion p.low_expansion q.low_expansion)
+    (one_zeros 24576 a.high_expansion b.high_expansion p.high_expansion q.high_expansion)
+    (one_zeros 8192 a.rom b.rom p.rom q.rom)
+    (p.vdp_given ∙ vdp ∙ sym q.vdp_given)
+    (p.grom_given ∙ grom ∙ sym q.grom_given)
 
 -- one memory is loaded
 one_memory : (linked : LinkedMemory) (image_a image_b : List ℕ) (a b : Memory) → image_a ≡ image_b → IsLoaded linked image_a 0 a → IsLoaded linked image_b 0 b → a ≡ b
@@ -58,7 +52,7 @@ one_memory linked image_a image_b a b image p q =
 
 one_start : (linked : LinkedMemory) (a b : MachineState) → IsStart linked a → IsStart linked b → a ≡ b
 one_start linked a b p q =
-    let image : p.image ≡ q.image = one_zeros 65536 65536 p.image q.image refl p.zeros q.zeros in
+    let image : p.image ≡ q.image = one_zeros 65536 p.image q.image p.zeros q.zeros in
     p.machine.machine
     ∙ ap (λ memory. new_machine memory 0x83E0 linked.entry) (one_memory linked p.image q.image a.cpu.memory b.cpu.memory image p.machine.memory q.machine.memory)
     ∙ sym q.machine.machine
@@ -104,6 +98,39 @@ one_exec : (limit : ℕ) (linked : Result LinkedMemory (List ℕ)) (first second
 one_exec limit (Ok linked) first second p q = one_run_report limit linked first second p q
 one_exec limit (Err line) first second p q = p ∙ sym q
 
+-- bytes of an image are one list
+one_bytes : (image : Image) (xs ys : List ℕ) → AreBytesOf image xs → AreBytesOf image ys → xs ≡ ys
+one_bytes image xs ys p q =
+    let size : length xs ≡ length ys = p.size ∙ sym q.size in
+    same_list xs ys size (λ at below. p.each at below ∙ sym (q.each at (omega arith)))
+
+-- one report of a program
+one_program : (limit : ℕ) (image : Image) (entry : ℕ) (first second : Report) → ReportsProgram limit image entry first →
+    ReportsProgram limit image entry second → first ≡ second
+one_program limit image entry first second p q =
+    let bytes : p.bytes ≡ q.bytes = one_bytes image p.bytes q.bytes p.of_image q.of_image in
+    let runs : RunsProgram q.bytes entry limit p.left = subst (λ (b : List ℕ). RunsProgram b entry limit p.left) bytes p.runs in
+    let left : p.left ≡ q.left = one_machine_is_left q.bytes entry limit p.left q.left runs q.runs in
+    p.is
+    ∙ ap (λ (b : List ℕ). program_report (run limit (start b entry)) p.left) bytes
+    ∙ ap (λ (x : MachineState). program_report (run limit (start q.bytes entry)) x) left
+    ∙ sym q.is
+
+one_entered : (limit : ℕ) (image : Image) (entry : Option ℕ) (first second : Report) →
+    EnteredReport limit image entry first → EnteredReport limit image entry second → first ≡ second
+one_entered limit image (Some entry) first second p q = one_program limit image entry first second p q
+one_entered limit image None first second p q = p ∙ sym q
+
+one_assembled : (limit : ℕ) (program : Result Program (Refusal GplCause)) (first second : Report) →
+    ProgramReport limit program first → ProgramReport limit program second → first ≡ second
+one_assembled limit (Ok program) first second p q = one_entered limit program.image program.entry first second p q
+one_assembled limit (Err refused) first second p q = p ∙ sym q
+
+one_run : (limit : ℕ) (interpreter : Result LinkedMemory BuildFault) (program : Result Program (Refusal GplCause))
+    (first second : Report) → RunReport limit interpreter program first → RunReport limit interpreter program second → first ≡ second
+one_run limit (Ok interpreter) program first second p q = one_assembled limit program first second p q
+one_run limit (Err fault) program first second p q = p ∙ sym q
+
 one_accepted : (command : Command) (input : List ℕ) (first second : Report) → AcceptedReport command input first → AcceptedReport command input second → first ≡ second
 one_accepted Asm input first second p q = p ∙ sym q
 one_accepted Gasm input first second p q = p ∙ sym q
@@ -112,6 +139,7 @@ one_accepted (Gdis at) input first second p q = p ∙ sym q
 one_accepted Link input first second p q = p ∙ sym q
 one_accepted (Exec limit) input first second p q = one_exec limit (linked_input input) first second p q
 one_accepted Interp input first second p q = p ∙ sym q
+one_accepted (Run limit) input first second p q = one_run limit built_interpreter (program_of_source input) first second p q
 
 pub one_report : OneReport
 one_report command input first second p q =

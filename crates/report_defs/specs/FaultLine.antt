@@ -6,7 +6,7 @@ use Rattle.std.specs.Fmt.{decimal}
 use Rattle.report_defs.specs.declared.status.Status.{Status}
 use Rattle.report_defs.specs.declared.status.Status.TheVariants as status
 use Rattle.report_defs.specs.declared.fault.Fault.{Fault}
-use Rattle.report_defs.specs.declared.fault.Fault.TheVariants.{Usage, TooLarge, PastEnd, Interpreter}
+use Rattle.report_defs.specs.declared.fault.Fault.TheVariants.{Usage, TooLarge, PastEnd, NoEntry, Interpreter}
 use Rattle.source_defs.specs.Digits.{marked_word}
 use Rattle.build_defs.specs.declared.fault.BuildFault.{BuildFault}
 use Rattle.build_defs.specs.declared.fault.BuildFault.TheVariants.{SourceRefused, ImageDiffers}
@@ -31,6 +31,7 @@ abbrev pub fault_line : Fault → List ℕ
 fault_line Usage = usage_line
 fault_line TooLarge = codes "too large\n"
 fault_line PastEnd = codes "past the end of memory\n"
+fault_line NoEntry = codes "no entry\n"
 fault_line (Interpreter fault) = interpreter_line fault
 
 -- Profile: words that are no command have a status of their own, and so has an interpreter that is not built; else the
@@ -39,4 +40,5 @@ abbrev pub fault_status : Fault → Status
 fault_status Usage = status.Usage
 fault_status TooLarge = status.Refused
 fault_status PastEnd = status.Refused
+fault_status NoEntry = status.Refused
 fault_status (Interpreter fault) = status.Interpreter

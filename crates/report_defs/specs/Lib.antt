@@ -6,6 +6,7 @@ pub mod GromListing
 pub mod Commands
 pub mod Dump
 pub mod Exec
+pub mod Program
 pub mod Listing
 pub mod ObjectFaults
 pub mod ObjectInput

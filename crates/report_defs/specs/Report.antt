@@ -1,10 +1,13 @@
 -- What a command reports on its input.
-use Rattle.std.specs.Prelude.{◌≡◌, ℕ, ◌+◌, nat_lt, if◌then◌else◌, List, [], ◌∷◌, length, Result, Ok, Err, MatchBool}
+use Rattle.std.specs.Prelude.{◌≡◌, ℕ, ◌+◌, nat_lt, if◌then◌else◌, List, [], ◌∷◌, length, Result, Ok, Err, MatchBool, Option, Some, None}
 use Rattle.console_defs.specs.Machine.{MachineState}
 use Rattle.console_defs.specs.declared.ends.RunEnd.{RunEnd}
 use Rattle.source_defs.specs.Refusals.{Refusal}
 use Rattle.std.specs.FinMap.{empty}
-use Rattle.gpl_defs.specs.Image.{written_bytes, placed}
+use Rattle.gpl_defs.specs.Image.{Image, AreBytesOf, written_bytes, placed}
+use Rattle.step_defs.specs.State.{start}
+use Rattle.step_defs.specs.Run.{GplRun, run}
+use Rattle.interp_defs.specs.Programs.{RunsProgram}
 use Rattle.program_defs.specs.declared.causes.GplCause.{GplCause}
 use Rattle.program_defs.specs.Programs.{Program, program_of_source}
 use Rattle.object_defs.specs.Modules.{Module}
@@ -12,11 +15,11 @@ use Rattle.object_defs.specs.Writing.{written}
 use Rattle.module_defs.specs.declared.causes.AsmCause.{AsmCause}
 use Rattle.module_defs.specs.Modules.{module_of_source}
 use Rattle.report_defs.specs.declared.command.Command.{Command}
-use Rattle.report_defs.specs.declared.command.Command.TheVariants.{Asm, Gasm, Dis, Gdis, Link, Exec, Interp}
+use Rattle.report_defs.specs.declared.command.Command.TheVariants.{Asm, Gasm, Dis, Gdis, Link, Exec, Interp, Run}
 use Rattle.report_defs.specs.declared.status.Status.{Status}
 use Rattle.report_defs.specs.declared.status.Status.TheVariants.{Done, Refused}
 use Rattle.report_defs.specs.declared.fault.Fault.{Fault}
-use Rattle.report_defs.specs.declared.fault.Fault.TheVariants.{TooLarge, PastEnd, Interpreter}
+use Rattle.report_defs.specs.declared.fault.Fault.TheVariants.{TooLarge, PastEnd, NoEntry, Interpreter}
 use Rattle.report_defs.specs.FaultLine.{fault_status}
 use Rattle.report_defs.specs.SourceFaults.{asm_line, gpl_line}
 use Rattle.report_defs.specs.TextLines.{text_lines}
@@ -28,6 +31,7 @@ use Rattle.build_defs.specs.Interpreter.{built_interpreter}
 use Rattle.report_defs.specs.MemoryListing.{linked_lines}
 use Rattle.report_defs.specs.ObjectInput.{linked_input}
 use Rattle.report_defs.specs.Exec.{Executes, exec_lines, end_status}
+use Rattle.report_defs.specs.Program.{program_lines, program_status}
 
 -- The pieces that standard output gets, each by one write, with the status; or the fault whose line standard error gets; or
 -- the line itself, of an input that is refused.
@@ -95,6 +99,32 @@ abbrev pub interp_report : Result LinkedMemory BuildFault → Report
 interp_report (Ok linked) = Whole Done (linked_lines linked)
 interp_report (Err fault) = Faulty (Interpreter fault)
 
+-- the report of a run of steps and the machine that the interpreter left
+abbrev pub program_report : GplRun → MachineState → Report
+program_report r left = Whole (program_status r.stop) (program_lines r.stop r.last left)
+
+-- The report of a program that the interpreter runs for up to so many steps from its entry.
+pub record ReportsProgram (limit : ℕ) (image : Image) (entry : ℕ) (report : Report) : Type 0 where
+  pub bytes : List ℕ
+  pub of_image : AreBytesOf image bytes
+  pub left : MachineState
+  pub runs : RunsProgram bytes entry limit left
+  pub is : report ≡ program_report (run limit (start bytes entry)) left
+
+-- Profile: a program without an entry is refused.
+abbrev pub EnteredReport : ℕ → Image → Option ℕ → Report → Type 0
+EnteredReport limit image (Some entry) report = ReportsProgram limit image entry report
+EnteredReport limit image None report = report ≡ Faulty NoEntry
+
+abbrev pub ProgramReport : ℕ → Result Program (Refusal GplCause) → Report → Type 0
+ProgramReport limit (Ok program) report = EnteredReport limit program.image program.entry report
+ProgramReport limit (Err refused) report = report ≡ Rejected (gpl_line refused)
+
+-- Profile: no program is looked at where the interpreter's source does not give its words.
+abbrev pub RunReport : ℕ → Result LinkedMemory BuildFault → Result Program (Refusal GplCause) → Report → Type 0
+RunReport limit (Ok interpreter) program report = ProgramReport limit program report
+RunReport limit (Err fault) program report = report ≡ Faulty (Interpreter fault)
+
 abbrev pub AcceptedReport : Command → List ℕ → Report → Type 0
 AcceptedReport Asm input report = report ≡ asm_report (module_of_source input)
 AcceptedReport Gasm input report = report ≡ gasm_report (program_of_source input)
@@ -103,6 +133,7 @@ AcceptedReport (Gdis at) input report = report ≡ gdis_report at input
 AcceptedReport Link input report = report ≡ link_report (linked_input input)
 AcceptedReport (Exec limit) input report = ExecReport limit (linked_input input) report
 AcceptedReport Interp input report = report ≡ interp_report built_interpreter
+AcceptedReport (Run limit) input report = RunReport limit built_interpreter (program_of_source input) report
 
 -- Whatever else holds, an input is refused that is too large.
 abbrev pub ReportOn : Command → List ℕ → Report → Type 0

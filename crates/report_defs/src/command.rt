@@ -26,4 +26,9 @@ pub enum Command {
     },
     /// `interp`: builds the interpreter from its source, and lists its memory.
     Interp,
+    /// `run N`: assembles a GPL source, and the interpreter runs up to so many of its steps from the entry.
+    Run {
+        /// The most steps, up to 100,000.
+        limit: u32,
+    },
 }

@@ -17,6 +17,7 @@ pub enum Status {
     Memory = 5,
     /// The interpreter's source does not give the interpreter's words.
     Interpreter = 6,
-    /// The report is whole, and its machine stopped at a word that is not executed, or at a port.
+    /// The report is whole, and its machine stopped at a word that is not executed or at a port, or its GPL program at a step
+    /// that cannot be made.
     Stopped = 7,
 }
