@@ -8,7 +8,7 @@ use asm_text::{byte_digits, word_digits};
 
 /// Appends a word by `>` and its four hexadecimal digits.
 #[tactic(auto, using(std::proofs::Common::append_assoc), unfolding(source_defs::specs::Digits::word_digits))]
-pub(crate) fn push_word<const N: usize>(text: &mut ArrayString<N>, word: u16)
+pub fn push_word<const N: usize>(text: &mut ArrayString<N>, word: u16)
     requires { array_string_len text.old + 5 ≤ N }
     ensures text { text.new.bytes ≡ text.old.bytes ++ marked_word word }
     ensures size { array_string_len text.new ≡ array_string_len text.old + 5 }

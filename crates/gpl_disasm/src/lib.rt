@@ -8,6 +8,7 @@ mod listing;
 mod operands;
 mod text;
 
+pub use digits::push_word;
 pub use laws::listings_come_back;
 pub use line::list_line;
 pub use listing::disassemble;

@@ -1,6 +1,5 @@
 -- What `run` reports: a GPL program that the interpreter runs.
-use Rattle.std.specs.Prelude.{◌≡◌, ℕ, List, [], ◌∷◌, ◌++◌, codes, drop, slice_index, Option, Some, None}
-use Rattle.std.specs.Fmt.{decimal}
+use Rattle.std.specs.Prelude.{ℕ, ◌+◌, List, [], ◌∷◌, ◌++◌, codes, drop, slice_index, Option, Some, None}
 use Rattle.console_defs.specs.Machine.{MachineState}
 use Rattle.source_defs.specs.Digits.{marked_word, byte_digits}
 use Rattle.step_defs.specs.declared.cells.TheConstants.{VISIBLE_CELLS, STATUS, VALUE_STACK, RETURN_STACK}
@@ -12,11 +11,14 @@ use Rattle.report_defs.specs.declared.status.Status.{Status}
 use Rattle.report_defs.specs.declared.status.Status.TheVariants as status
 use Rattle.report_defs.specs.Dump.{dump_lines}
 
--- Profile: where a program ended there is a line that says why and where.
+-- Profile: where a program ended there is a line that says why and where. EXIT is told by its name, the other reasons by their
+-- numbers, which are one digit.
+abbrev pub stop_text : Reason → List ℕ
+stop_text Exit = codes "exit at "
+stop_text reason = codes "stop " ++ (0x30 + number_of reason) ∷ codes " at "
+
 unfoldable pub stop_line : Reason → ℕ → List ℕ
-stop_line Exit address = codes "exit at " ++ (marked_word address ++ codes "\n")
-stop_line reason address =
-    codes "stop " ++ (decimal (number_of reason) ++ (codes " at " ++ (marked_word address ++ codes "\n")))
+stop_line reason address = stop_text reason ++ (marked_word address ++ codes "\n")
 
 abbrev pub stop_lines : Option Reason → ℕ → List (List ℕ)
 stop_lines None address = []
