@@ -50,8 +50,11 @@ showing s x =
     }
 
 -- Profile: the report of a program is why it ended, if it did; its last state; and a dump that shows the state in the machine.
+abbrev pub state_lines : GplState → MachineState → List (List ℕ)
+state_lines last left = state_line last ∷ dump_lines (showing last left)
+
 abbrev pub program_lines : Option Reason → GplState → MachineState → List (List ℕ)
-program_lines stop last left = stop_lines stop last.pc ++ state_line last ∷ dump_lines (showing last left)
+program_lines stop last left = stop_lines stop last.pc ++ state_lines last left
 
 -- Profile: a program that is stopped has a status of its own; one that leaves by EXIT is done.
 abbrev pub program_status : Option Reason → Status

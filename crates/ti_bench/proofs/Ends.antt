@@ -1,9 +1,9 @@
 -- How a run ends by its report.
-use Rattle.std.proofs.Common.{◌≡◌, ℕ, List, length, Option, Some, None, Ok, Err, Bool, true, false, refl, sym, subst, arith}
-use Rattle.std.specs.Prelude.{nat_lt}
+use Rattle.std.proofs.Common.{◌≡◌, ℕ, List, length, Option, Some, None, Ok, Err, Bool, true, false, [], refl, sym, ap, ◌∙◌, subst, arith, rules}
+use Rattle.std.specs.Prelude.{nat_lt, IsSome, unwrap_or}
 use Rattle.std.proofs.lemmas.Bool.Decides.{nat_tests}
 use Rattle.bench_io.specs.Stream.{SourceState}
-use Rattle.bench_io.specs.ReadAll.{GaveUp}
+use Rattle.bench_io.specs.ReadAll.{Took, GaveUp}
 use Rattle.bench_io.specs.declared.failed.Failed.{Failed}
 use Rattle.bench_io.specs.declared.whole.ReadError.TheVariants as error
 use Rattle.console_defs.specs.declared.ends.RunEnd.TheVariants.{Reached, Limit, Refused, Port, SelfJump}
@@ -13,10 +13,27 @@ use Rattle.report_defs.specs.declared.status.Status.{Status}
 use Rattle.report_defs.specs.declared.status.Status.TheVariants as status
 use Rattle.report_defs.specs.Commands.{command_of, reads}
 use Rattle.report_defs.specs.Report as spec
+use Rattle.report_defs.specs.Program.{program_lines, program_status}
+use Rattle.step_defs.specs.declared.reason.Reason.{Reason}
+use Rattle.step_defs.specs.declared.reason.Reason.TheVariants.{Exit, Opcode, Cell, Stack, Length, Register}
+use Rattle.gpl_run.specs.Sessions.{SessionState, seen}
 use Rattle.ti_bench.specs.declared.report.Report.{Report}
 use Rattle.ti_bench.specs.declared.report.Report.TheVariants as made
 use Rattle.ti_bench.specs.Made.{defined_report}
-use Rattle.ti_bench.specs.Run.{Outputs, Run, ReadsInput, Reads, TakesWhole, ReportsOn, Reports, WroteReport, WrittenReport, EndsWith, EndsBy}
+use Rattle.ti_bench.specs.Run.{Outputs, Run, ReadsInput, Reads, TakesWhole, ReportsOn, Reports, WroteReport, WrittenReport, EndsWith, EndsBy, LeavesInput, WroteNothing}
+
+-- the report of a program that was written ends by the program's status
+ends_program : (o : Outputs) (ended : Option Reason) (lines : List (List ℕ)) → WroteReport o (spec.Whole (program_status ended) lines) → EndsWith o (spec.Whole (program_status ended) lines) (program_status ended)
+ends_program o None lines wrote = (refl, wrote)
+ends_program o (Some Exit) lines wrote = (refl, wrote)
+ends_program o (Some Opcode) lines wrote = (refl, wrote)
+ends_program o (Some Cell) lines wrote = (refl, wrote)
+ends_program o (Some Stack) lines wrote = (refl, wrote)
+ends_program o (Some Length) lines wrote = (refl, wrote)
+ends_program o (Some Register) lines wrote = (refl, wrote)
+
+program_ends : (o : Outputs) (session : SessionState) → WroteReport o (defined_report (made.Program session)) → EndsWith o (defined_report (made.Program session)) (program_status session.ended)
+program_ends o session wrote = ends_program o session.ended (program_lines session.ended (seen session) session.machine) wrote
 
 -- a report that was written ends by its status
 written_ends : (o : Outputs) (report : Report) → WroteReport o (defined_report report) → EndsWith o (defined_report report) (spec.status_of (defined_report report))
@@ -29,11 +46,13 @@ written_ends o (made.Run Limit machine) wrote = (refl, wrote)
 written_ends o (made.Run (Refused address) machine) wrote = (refl, wrote)
 written_ends o (made.Run (Port address) machine) wrote = (refl, wrote)
 written_ends o (made.Run SelfJump machine) wrote = (refl, wrote)
+written_ends o (made.Program session) wrote = program_ends o session wrote
 written_ends o (made.Memory linked) wrote = (refl, wrote)
 written_ends o (made.Refused line) wrote = (refl, wrote)
 written_ends o (made.Fault fault.Usage) wrote = (refl, wrote)
 written_ends o (made.Fault fault.TooLarge) wrote = (refl, wrote)
 written_ends o (made.Fault fault.PastEnd) wrote = (refl, wrote)
+written_ends o (made.Fault fault.NoEntry) wrote = (refl, wrote)
 written_ends o (made.Fault (fault.Interpreter why)) wrote = (refl, wrote)
 
 wrote_report : (o : Outputs) (report : spec.Report) (done : Unit {0}) → WrittenReport {E = Failed} (Ok done) o report → WroteReport o report
@@ -90,3 +109,25 @@ reports_usage run None none is same =
     let P : Option Command → Type 0 = λ found. ReportsOn found run (spec.Faulty fault.Usage) in
     subst P is (refl, same)
 reports_usage run (Some command) none is same = absurd (none command refl)
+
+-- a command is the one that the words say
+one_command : (words : List (List ℕ)) (a b : Command) → Some a ≡ command_of words → command_of words ≡ Some b → reads a ≡ reads b
+one_command words a b first second = let same : Some a ≡ Some b = first ∙ second in ap (λ (found : Option Command). reads (unwrap_or found a)) same
+
+took_nothing : (input : SourceState) → Took input input [] 0
+took_nothing input = search rules
+
+-- nothing was written of an input that was taken whole
+pub wrote_nothing : (run : Run) (command : Command) (bytes : List ℕ) → Some command ≡ command_of run.words → TakesWhole (reads command) run.input run.input' bytes → run.outputs.out' ≡ run.outputs.out → run.outputs.err' ≡ run.outputs.err → WroteNothing run
+wrote_nothing run command bytes is takes out err = by (reads command) refl takes
+  where
+    some : IsSome (command_of run.words)
+    some = let P : Option Command → Type 0 = λ found. IsSome found in subst P is refl
+
+    by : (reading : Bool) → reads command ≡ reading → TakesWhole reading run.input run.input' bytes → WroteNothing run
+    by true reading whole =
+        let unread : LeavesInput run = λ other said unread. absurd (let same = one_command run.words command other is said in cc) in
+        record { command = some; bytes = bytes; within = whole.within; empty = 1; one = omega arith; took = whole.took; unread = unread; out = out; err = err }
+    by false reading nothing =
+        let took : Took run.input run.input' [] 0 = subst (λ (after : SourceState). Took run.input after [] 0) (sym nothing.0) (took_nothing run.input) in
+        record { command = some; bytes = []; within = omega arith; empty = 0; one = omega arith; took = took; unread = λ other said unread. nothing.0; out = out; err = err }

@@ -4,5 +4,6 @@ pub use Rattle.report_defs.specs.FaultLine
 pub use Rattle.report_defs.specs.Commands
 pub use Rattle.report_defs.specs.Report
 pub mod Run
+pub mod Ran
 pub mod Made
 pub mod Laws

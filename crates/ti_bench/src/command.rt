@@ -10,6 +10,9 @@ use report_defs::Command;
 /// The most instructions that `exec` makes.
 const MOST_INSTRUCTIONS: u32 = 10_000_000;
 
+/// The most steps that `run` makes.
+const MOST_STEPS: u32 = 100_000;
+
 /// The command that the words say, or `None` where they are in no shape of one.
 pub(crate) fn read_command(words: &Words) -> Option<Command>
     ensures { result ≡ spec.command_of words.now }
@@ -22,6 +25,10 @@ pub(crate) fn read_command(words: &Words) -> Option<Command>
         [name, limit] if name.as_slice() == b"exec".as_slice() => {
             let limit = number_word(limit.as_slice(), MOST_INSTRUCTIONS)?;
             Some(Command::Exec { limit })
+        }
+        [name, limit] if name.as_slice() == b"run".as_slice() => {
+            let limit = number_word(limit.as_slice(), MOST_STEPS)?;
+            Some(Command::Run { limit })
         }
         [name, address] if name.as_slice() == b"dis".as_slice() => dis_at(address.as_slice()),
         [name, address] if name.as_slice() == b"gdis".as_slice() => {

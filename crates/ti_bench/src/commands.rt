@@ -7,6 +7,7 @@ mod gasm;
 mod gdis;
 mod interp;
 mod link;
+mod run;
 
 ghost use Rattle.std.specs.Prelude.{◌≤◌, vec_len, IfOk};
 ghost use Rattle.report_defs.specs.Report as spec;
@@ -19,6 +20,7 @@ use crate::commands::gasm::gasm;
 use crate::commands::gdis::gdis;
 use crate::commands::interp::interp;
 use crate::commands::link::link;
+use crate::commands::run::run;
 use crate::report::Report;
 use report_defs::Command;
 use std::alloc::{AllocError, Global};
@@ -40,5 +42,6 @@ pub(crate) fn make_report(
         Command::Link => link(alloc, input.as_slice()),
         Command::Exec { limit } => exec(alloc, limit, input.as_slice()),
         Command::Interp => interp(alloc),
+        Command::Run { limit } => run(alloc, limit, input.as_slice()),
     }
 }

@@ -21,6 +21,7 @@ pub(crate) fn fault_line(fault: Fault) -> Line
         Fault::Usage => line_of(USAGE),
         Fault::TooLarge => line_of(b"too large\n"),
         Fault::PastEnd => line_of(b"past the end of memory\n"),
+        Fault::NoEntry => line_of(b"no entry\n"),
         Fault::Interpreter(fault) => interpreter_line(fault),
     }
 }

@@ -39,7 +39,8 @@ fn reads(command: Command) -> bool
         | Command::Dis { .. }
         | Command::Gdis { .. }
         | Command::Link
-        | Command::Exec { .. } => true,
+        | Command::Exec { .. }
+        | Command::Run { .. } => true,
         Command::Interp => false,
     }
 }

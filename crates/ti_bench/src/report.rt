@@ -4,8 +4,10 @@ ghost use Rattle.std.specs.Prelude.{◌≡◌, ◌≤◌, [], ◌++◌, length, 
 ghost use Rattle.source_defs.specs.Digits.{marked_word};
 ghost use Rattle.bench_io.specs.Written.{Written};
 ghost use Rattle.report_defs.specs.Exec as runs;
+ghost use Rattle.gpl_run.specs.Sessions.{seen};
 ghost use Rattle.report_defs.specs.FaultLine as faults;
 ghost use Rattle.report_defs.specs.GromListing.{image_listing};
+ghost use Rattle.report_defs.specs.Program as programs;
 ghost use Rattle.report_defs.specs.Report as spec;
 ghost use Rattle.ti_bench.specs.Made.{defined_report};
 ghost use Rattle.ti_bench.specs.Run.{WrittenReport, EndsWith};
@@ -16,12 +18,14 @@ use bench_io::{Failed, Sink, put_piece};
 use console_defs::RunEnd;
 use gpl_disasm::disassemble;
 use gpl_forms::GromImage;
+use gpl_run::Session;
 use link_loader::Linked;
 use memory_listing::put_memory;
 use report_defs::{Fault, Status};
 use report_lines::{Line, append, append_word, put_text};
+use step_defs::Reason;
 use tms_step::Machine;
-use trace_dump::dump;
+use trace_dump::{dump, state_line, stop_line};
 
 /// A report, made and not yet written. Nothing that is written takes memory.
 #[derive(Drop)]
@@ -41,6 +45,8 @@ pub(crate) enum Report {
         /// The machine that it left.
         machine: Machine,
     },
+    /// A GPL program that was run, whose end, state and dump go to standard output line by line.
+    Program(Session),
     /// Linked memory, whose listing goes to standard output line by line.
     Memory(Linked),
     /// The line of an input that is refused, which goes to standard error.
@@ -81,6 +87,7 @@ impl Report {
             Report::Listing(listing) => listing.write(out),
             Report::Grom(image) => put_grom(image, out),
             Report::Run { ending, machine } => put_run(out, *ending, machine),
+            Report::Program(session) => put_program(out, session),
             Report::Memory(linked) => put_memory(linked, out),
             Report::Refused(line) => put_piece(err, line.as_slice()),
             Report::Fault(fault) => put_piece(err, fault_line(*fault).as_slice()),
@@ -99,6 +106,7 @@ impl Report {
             | Report::Memory(_) => Status::Done,
             Report::Refused(_) => Status::Refused,
             Report::Run { ending, .. } => end_status(*ending),
+            Report::Program(session) => program_status(session.ended()),
             Report::Fault(fault) => fault_status(*fault),
         }
     }
@@ -128,6 +136,35 @@ fn put_run<O: Sink>(out: &mut O, ending: RunEnd, machine: &Machine) -> Result<()
 {
     put_piece(out, end_line(ending).as_slice())?;
     dump(machine, out)
+}
+
+/// Writes how a GPL program ended, if it did; its state; and the machine that ran it.
+fn put_program<O: Sink>(out: &mut O, session: &Session) -> Result<(), Failed>
+    ensures { Written result (O.state out.old) (O.state out.new)
+        (programs.program_lines session.now.ended (seen session.now) session.now.machine) }
+{
+    put_stop(out, session)?;
+    put_state(out, session)
+}
+
+/// Writes how a GPL program ended, if it did.
+#[tactic(auto, using(bench_io::proofs::Writing::wrote_none))]
+fn put_stop<O: Sink>(out: &mut O, session: &Session) -> Result<(), Failed>
+    ensures { Written result (O.state out.old) (O.state out.new)
+        (programs.stop_lines session.now.ended (seen session.now).pc) }
+{
+    match session.ended() {
+        Some(reason) => put_piece(out, stop_line(reason, session.pc()).as_bytes()),
+        None => Ok(()),
+    }
+}
+
+/// Writes the state of a GPL program, and the machine that ran it.
+fn put_state<O: Sink>(out: &mut O, session: &Session) -> Result<(), Failed>
+    ensures { Written result (O.state out.old) (O.state out.new) (programs.state_lines (seen session.now) session.now.machine) }
+{
+    put_piece(out, state_line(session).as_bytes())?;
+    dump(session.machine(), out)
 }
 
 /// The line that says how a run ended.
@@ -167,13 +204,25 @@ fn end_status(ending: RunEnd) -> Status
     }
 }
 
+/// The status of a GPL program's report: one that was stopped has its own.
+fn program_status(ended: Option<Reason>) -> Status
+    ensures { result ≡ programs.program_status ended }
+{
+    match ended {
+        None | Some(Reason::Exit) => Status::Done,
+        Some(Reason::Opcode | Reason::Cell | Reason::Stack | Reason::Length | Reason::Register) => {
+            Status::Stopped
+        }
+    }
+}
+
 /// The status of a fault.
 fn fault_status(fault: Fault) -> Status
     ensures { result ≡ faults.fault_status fault }
 {
     match fault {
         Fault::Usage => Status::Usage,
-        Fault::TooLarge | Fault::PastEnd => Status::Refused,
+        Fault::TooLarge | Fault::PastEnd | Fault::NoEntry => Status::Refused,
         Fault::Interpreter(_) => Status::Interpreter,
     }
 }

@@ -6,7 +6,7 @@ use Rattle.report_defs.specs.Commands.{reads}
 use Rattle.report_defs.specs.Report.{Faulty, largest_input, ReportOn}
 use Rattle.ti_bench.specs.Made.{defined_report}
 use Rattle.ti_bench.specs.Run.{Run, ReportsOn}
-use Rattle.ti_bench.proofs.Ends.{by_report, reads_whole, reads_too_much, reports_by, reports_usage}
+use Rattle.ti_bench.proofs.Ends.{by_report, reads_whole, reads_too_much, reports_by, reports_usage, wrote_nothing}
 use Rattle.ti_bench.proofs.bench.bench.Goals as goal
 
 pub returns-in_default-clause-ends : goal.returns-in_default-clause-ends
@@ -56,3 +56,16 @@ returns-in-Ok-make_report-clause-ends g c =
     let on : ReportOn command bytes report = c.in-Ok-make_report.ensures in
     let read : ReportsOn (Some command) run report = (bytes, reads_whole (reads command) run.input run.input' bytes c.in-Ok.ensures.ok, on) in
     by_report run report finish.result (reports_by run command report c.in-Some.ensures read) finish.ensures
+
+pub returns-in-Err-clause-ends : goal.returns-in-Err-clause-ends
+returns-in-Err-clause-ends g c =
+    let source = g.S.Source.state in
+    let out = g.O.Sink.state in
+    let err = g.E.Sink.state in
+    let run : Run = record {
+      words = c.args.words.now;
+      input = source c.args.input.now;
+      input' = source c.take_input.new.input;
+      outputs = record { out = out c.args.out.now; out' = out c.args.out.now; err = err c.args.err.now; err' = err c.args.err.now };
+    } in
+    wrote_nothing run c.in-Some.command c.in-Ok.bytes.items c.in-Some.ensures c.in-Ok.ensures.ok refl refl

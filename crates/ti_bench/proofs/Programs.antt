@@ -1,0 +1,73 @@
+-- Reports of GPL programs.
+use Rattle.std.proofs.Common.{◌≡◌, ℕ, List, Option, Some, None, refl, sym, ap, ◌∙◌, subst, lit<}
+use Rattle.std.proofs.lemmas.List.{take-append-drop}
+use Rattle.console_defs.specs.Grom.{GromState}
+use Rattle.console_defs.specs.Memory.{IsMemory}
+use Rattle.console_defs.specs.Machine.{MachineState}
+use Rattle.gpl_defs.specs.Image.{Image, AreBytesOf}
+use Rattle.step_defs.specs.declared.reason.Reason.{Reason}
+use Rattle.step_defs.specs.State.{GplState, start}
+use Rattle.step_defs.specs.Run.{run}
+use Rattle.interp_defs.specs.Match.{IsHalted, shown_by}
+use Rattle.interp_defs.specs.Programs.{EndsWith}
+use Rattle.interp_defs.specs.Boot.{IsBoot}
+use Rattle.sim_view.proofs.Bridge.{register_is, reg_word}
+use Rattle.gpl_run.specs.Sessions.{SessionState, seen, address_in, image_of, entry_of}
+use Rattle.report_defs.specs.Program.{showing, state_line, program_lines, program_status}
+use Rattle.report_defs.specs.Report.{Whole, ReportsProgram, program_report}
+use Rattle.ti_bench.specs.declared.report.Report.TheVariants as made
+use Rattle.ti_bench.specs.Made.{defined_report}
+use Rattle.ti_bench.specs.Ran.{Ran}
+
+-- A machine shows the state that is seen in it.
+pub showing_seen : (t : SessionState) → showing (seen t) t.machine ≡ t.machine
+showing_seen t =
+    let x = t.machine in
+    ap (λ (cells : List ℕ). record x { cpu = record x.cpu { memory = record x.cpu.memory { scratchpad = cells } } })
+    (take-append-drop 194 x.cpu.memory.scratchpad)
+
+-- The lines of a program are those of what is seen of its state.
+same_lines : (stop : Option Reason) (a b : GplState) (x : MachineState) → a.cells ≡ b.cells → a.vdp ≡ b.vdp →
+    a.registers ≡ b.registers → a.pc ≡ b.pc → program_lines stop a x ≡ program_lines stop b x
+unfolding state_line
+same_lines stop a b x cells vdp registers pc =
+    ap (λ (c : List ℕ). program_lines stop (record a { cells = c }) x) cells
+    ∙ ap (λ (v : List ℕ). program_lines stop (record a { cells = b.cells; vdp = v }) x) vdp
+    ∙ ap (λ (r : List ℕ). program_lines stop (record a { cells = b.cells; vdp = b.vdp; registers = r }) x) registers
+    ∙ ap (λ (p : ℕ). program_lines stop (record b { pc = p; image = a.image }) x) pc
+
+-- Register 1 of a halted machine has the address of the instruction that ended the program.
+address_is : (s : GplState) (reason : Reason) (x : MachineState) → IsMemory x.cpu.memory → IsHalted s reason x →
+    address_in (Some reason) x ≡ s.pc
+address_is s reason x memory halted =
+    let m = x.cpu.memory in
+    sym (register_is m 0x83E0 1 s.pc memory refl (lit< tt) (sym halted.address) ∙ reg_word m 1 memory (lit< tt))
+
+-- What is seen of a program at its end is its last state.
+ended_lines : (stop : Option Reason) (last : GplState) (x : MachineState) → IsMemory x.cpu.memory → EndsWith stop last x →
+    program_lines stop (seen (record { machine = x; ended = stop })) x ≡ program_lines stop last x
+ended_lines None last x memory matches =
+    same_lines None _ last x
+    (ap (λ (s : GplState). s.cells) matches.shows) (ap (λ (s : GplState). s.vdp) matches.shows)
+    (ap (λ (s : GplState). s.registers) matches.shows) (ap (λ (s : GplState). s.pc) matches.shows)
+ended_lines (Some reason) last x memory halted =
+    same_lines (Some reason) _ last x halted.cells halted.vdp halted.registers (address_is last reason x memory halted)
+
+-- The report of a session is that of the run of its program.
+reported : (image : List ℕ) (entry limit : ℕ) (t : SessionState) → Ran image entry limit t →
+    defined_report (made.Program t) ≡ program_report (run limit (start image entry)) t.machine
+reported image entry limit t ran =
+    let r = run limit (start image entry) in
+    let x = t.machine in
+    ap (λ (e : Option Reason). Whole (program_status e) (program_lines e (seen (record { machine = x; ended = e })) x)) ran.ended
+    ∙ ap (λ (lines : List (List ℕ)). Whole (program_status r.stop) lines)
+      (ended_lines r.stop r.last x ran.memory ran.runs.runs.ends)
+
+pub reports_program : (limit : ℕ) (image : Image) (entry : ℕ) (bytes : List ℕ) (x : MachineState) (t : SessionState) →
+    AreBytesOf image bytes → IsBoot bytes entry x → Ran (image_of x) (entry_of x) limit t →
+    ReportsProgram limit image entry (defined_report (made.Program t))
+reports_program limit image entry bytes x t are boot ran =
+    let of_bytes : image_of x ≡ bytes = ap (λ (g : GromState). g.image) boot.grom in
+    let entered = subst (λ (e : ℕ). Ran (image_of x) e limit t) boot.scratchpad.word ran in
+    let begun = subst (λ (i : List ℕ). Ran i entry limit t) of_bytes entered in
+    record { bytes = bytes; of_image = are; left = t.machine; runs = begun.runs; is = reported bytes entry limit t begun }

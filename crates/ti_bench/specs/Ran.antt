@@ -1,0 +1,13 @@
+-- A GPL program that was run.
+use Rattle.std.specs.Prelude.{◌≡◌, ℕ, List}
+use Rattle.console_defs.specs.Memory.{IsMemory}
+use Rattle.step_defs.specs.State.{start}
+use Rattle.step_defs.specs.Run.{run}
+use Rattle.interp_defs.specs.Programs.{RunsProgram}
+use Rattle.gpl_run.specs.Sessions.{SessionState}
+
+-- A session is the run of the program with an image and an entry, for up to so many steps.
+pub record Ran (image : List ℕ) (entry limit : ℕ) (session : SessionState) : Type 0 where
+  pub runs : RunsProgram image entry limit session.machine
+  pub ended : session.ended ≡ (run limit (start image entry)).stop
+  pub memory : IsMemory session.machine.cpu.memory
