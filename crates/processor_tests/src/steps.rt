@@ -26,7 +26,7 @@ fn loaded(alloc: Global, words: &[u16]) -> Result<Machine, AllocError>
     Ok(Machine::new(bus, 0x83E1, 0xA001))
 }
 
-/// A run on a counter of its own: its end, and the instructions that it executed.
+/// How a run ends, on a counter of its own.
 fn run<L: Ledger>(blank: Blank, machine: &mut Machine, stop: Option<u16>, limit: u64) -> RunEnd
     requires name { blank.name ≡ L.name }
     requires parts { blank.parts ≡ L.parts }
