@@ -2,8 +2,9 @@
 
 ghost use Rattle.std.specs.Prelude.{◌≡◌, ◌↔◌, ◌<◌, ◌-◌, ◌^◌, ℕ, false, List, [], length};
 ghost use Rattle.std.specs.List.{AllByRecursion};
+ghost use Rattle.source_defs.specs.Layout.{has_ended};
 ghost use Rattle.module_defs.specs.Modules.{module_of_lines, module_of_source, title};
-ghost use Rattle.asm_core.specs.Building.{HasTaken, IsOpen, CanCount, has_ended};
+ghost use Rattle.asm_core.specs.Building.{HasTaken, IsOpen, CanCount};
 ghost use Rattle.asm_core.specs.Finishing.{TakesText, GivesModule};
 ghost use Rattle.asm_core.specs.Laws.{IsOneLine, text_of};
 
