@@ -14,3 +14,4 @@ pub mod EndLaws
 pub mod TakenLaws
 pub mod SourceLaws
 pub mod TextLaws
+pub mod EndedLines

@@ -7,7 +7,8 @@ use Rattle.source_defs.specs.Layout.{laid, laid_behind, numbered}
 use Rattle.module_defs.specs.declared.causes.AsmCause.{AsmCause}
 use Rattle.module_defs.specs.Locations.{Line}
 use Rattle.module_defs.specs.FirstChecks.{check}
-use Rattle.asm_core.specs.Building.{has_ended, Takes, HasTaken}
+use Rattle.source_defs.specs.Layout.{has_ended}
+use Rattle.asm_core.specs.Building.{Takes, HasTaken}
 use Rattle.asm_core.specs.Finishing.{TakesText}
 use Rattle.asm_core.specs.declared.error.AsmError.{AsmError}
 use Rattle.asm_core.specs.declared.error.AsmError.TheVariants.{At, Memory}

@@ -1,9 +1,9 @@
 -- What a builder keeps of the lines that it has taken.
-use Rattle.std.specs.Prelude.{◌≡◌, ℕ, ◌+◌, ◌-◌, ◌<◌, ◌^◌, Bool, true, false, ◌||◌, ◌⊎◌, List, [], ◌∷◌, length, Option, Some, None, Result, Ok, Err}
+use Rattle.std.specs.Prelude.{◌≡◌, ℕ, ◌+◌, ◌-◌, ◌<◌, ◌^◌, true, false, ◌⊎◌, List, [], ◌∷◌, length, Option, Some, None, Result, Ok, Err}
 use Rattle.source_defs.specs.Orders.{onto}
 use Rattle.source_defs.specs.Symbols.{Names, look_up}
 use Rattle.source_defs.specs.Growing.{is_closed}
-use Rattle.source_defs.specs.Layout.{laid, numbered}
+use Rattle.source_defs.specs.Layout.{laid, numbered, has_ended}
 use Rattle.object_defs.specs.Modules.{Reference}
 use Rattle.module_defs.specs.declared.causes.AsmCause.{AsmCause}
 use Rattle.module_defs.specs.Statements.{said_of}
@@ -89,11 +89,6 @@ pub record IsStopped (refused : Refused) (lines : List Line) (names : Names) (wa
 abbrev pub IsWorked : List Line → Names → Option Image → List Pending → Option Refused → Type 0
 IsWorked lines known image waiting None = IsGoing lines known image waiting
 IsWorked lines known image waiting (Some refused) = IsStopped refused lines known waiting
-
--- one of the lines ends the source
-abbrev pub has_ended : List Line → Bool
-has_ended [] = false
-has_ended (line ∷ before) = line.last || has_ended before
 
 -- the builder behind lines, of which the nearest stands first
 pub record IsBehind (lines : List Line) (builder : AsmLines) : Type 0 where

@@ -1,9 +1,12 @@
 //! The calls of a builder.
 
 ghost use Rattle.std.specs.Prelude.{◌≡◌, ◌↔◌, ◌<◌, ◌-◌, ◌^◌, ℕ, false, List, [], length};
-ghost use Rattle.module_defs.specs.Modules.{module_of_lines, title};
-ghost use Rattle.asm_core.specs.Building.{HasTaken, IsOpen, CanCount, has_ended};
+ghost use Rattle.std.specs.List.{AllByRecursion};
+ghost use Rattle.source_defs.specs.Layout.{has_ended};
+ghost use Rattle.module_defs.specs.Modules.{module_of_lines, module_of_source, title};
+ghost use Rattle.asm_core.specs.Building.{HasTaken, IsOpen, CanCount};
 ghost use Rattle.asm_core.specs.Finishing.{TakesText, GivesModule};
+ghost use Rattle.asm_core.specs.Laws.{IsOneLine, text_of};
 
 use crate::error::AsmError;
 use crate::lines::AsmLines;
@@ -68,13 +71,17 @@ impl AsmLines {
         self.taken
     }
 
-    /// The module of the lines that were taken.
+    /// The module of the lines that were taken, which is that of their text: each line with a carriage return and a line feed
+    /// behind it.
     ///
     /// # Errors
     /// `At` carries the first line that the second checks refuse, and comes exactly where there is one. `Memory` is want of
     /// memory. After an error the lines are given up.
+    #[tactic(auto, using(crate::proofs::EndedLines::lines_make_texts))]
     pub fn finish(mut self) -> Result<Module, AsmError>
-        ensures { (texts : List (List ℕ)) → HasTaken texts self → GivesModule result (module_of_lines texts) }
+        ensures lines { (texts : List (List ℕ)) → HasTaken texts self → GivesModule result (module_of_lines texts) }
+        ensures text { (texts : List (List ℕ)) → HasTaken texts self → AllByRecursion IsOneLine texts →
+            GivesModule result (module_of_source (text_of texts)) }
     {
         self.module()
     }

@@ -9,7 +9,8 @@ use Rattle.module_defs.specs.Modules.{module_behind}
 use Rattle.std.specs.Prelude.{Result}
 use Rattle.source_defs.specs.Refusals.{Refusal}
 use Rattle.module_defs.specs.declared.causes.AsmCause.{AsmCause}
-use Rattle.asm_core.specs.Building.{IsBehind, has_ended}
+use Rattle.source_defs.specs.Layout.{has_ended}
+use Rattle.asm_core.specs.Building.{IsBehind}
 use Rattle.asm_core.specs.Finishing.{GivesModule}
 use Rattle.asm_core.proofs.SettleLaws.{refuses_on}
 use Rattle.asm_core.proofs.SourceLaws.{IsNumbered, lines_numbered, texts_of, refused_there, ends_there, goes_on, first_of_two, none_of_two}
