@@ -61,7 +61,7 @@ reported image entry limit t ran =
     let x = t.machine in
     ap (λ (e : Option Reason). Whole (program_status e) (program_lines e (seen (record { machine = x; ended = e })) x)) ran.ended
     ∙ ap (λ (lines : List (List ℕ)). Whole (program_status r.stop) lines)
-      (ended_lines r.stop r.last x ran.memory ran.runs.runs.ends)
+    (ended_lines r.stop r.last x ran.memory ran.runs.runs.ends)
 
 pub reports_program : (limit : ℕ) (image : Image) (entry : ℕ) (bytes : List ℕ) (x : MachineState) (t : SessionState) →
     AreBytesOf image bytes → IsBoot bytes entry x → Ran (image_of x) (entry_of x) limit t →

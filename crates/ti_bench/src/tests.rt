@@ -5,6 +5,7 @@ mod dis;
 mod exec;
 mod gasm;
 mod gdis;
+mod gpl_run;
 mod interp;
 mod link;
 mod run;

@@ -67,11 +67,7 @@ fn run_program(
         return Ok(Report::Fault(Fault::NoEntry));
     };
     let machine = load_interpreter(alloc, interpreter, image.bytes(), entry)?;
-    Ok(Report::Program(run_session::<Brand>(
-        machine,
-        limit,
-        Blank::new(1),
-    )))
+    Ok(Report::Program(run_session::<Brand>(machine, limit, Blank::new(1))))
 }
 
 /// Up to `limit` steps of the program that a machine holds on which the interpreter begins.

@@ -17,6 +17,7 @@ const NO_COMMANDS: &[&[&[u8]]] = &[
     &[b"--help"],
     &[b"run"],
     &[b"run", b"007"],
+    &[b"run", b"100001"],
     &[b"interp", b"1"],
     &[b"trace", b"100001"],
     &[b"dis"],
