@@ -4,3 +4,4 @@ pub mod LineLaws
 pub mod TakeLaws
 pub mod FinishLaws
 pub mod TakenLaws
+pub mod EndedLines

@@ -13,3 +13,4 @@ pub mod Replay
 pub mod Keeping
 pub mod Building
 pub mod Finishing
+pub mod Laws

@@ -2,7 +2,9 @@
 
 ghost use Rattle.std.specs.Prelude.{◌≡◌, ◌↔◌, ◌<◌, ◌-◌, ◌^◌, ℕ, false, List, [], length, IfOk};
 ghost use Rattle.source_defs.specs.Layout.{has_ended};
-ghost use Rattle.program_defs.specs.Programs.{program_of_lines};
+ghost use Rattle.std.specs.List.{AllByRecursion};
+ghost use Rattle.ended_lines.specs.Texts.{IsOneLine, text_of};
+ghost use Rattle.program_defs.specs.Programs.{program_of_lines, program_of_source};
 ghost use Rattle.gpl_asm.specs.Building.{HasTaken, IsOpen, CanCount};
 ghost use Rattle.gpl_asm.specs.Finishing.{TakesText, GivesProgram};
 
@@ -65,13 +67,17 @@ impl GplLines {
         self.taken
     }
 
-    /// The program of the lines that were taken.
+    /// The program of the lines that were taken, which is that of their text, each line ended by a carriage return and a
+    /// line feed.
     ///
     /// # Errors
     /// `At` carries the first line that the second checks refuse, and comes exactly where there is one. `Memory` is want of
     /// memory. After an error the lines are given up.
+    #[tactic(auto, using(crate::proofs::EndedLines::lines_make_texts))]
     pub fn finish(self) -> Result<GplProgram, GplError>
-        ensures { (texts : List (List ℕ)) → HasTaken texts self → GivesProgram result (program_of_lines texts) }
+        ensures lines { (texts : List (List ℕ)) → HasTaken texts self → GivesProgram result (program_of_lines texts) }
+        ensures text { (texts : List (List ℕ)) → HasTaken texts self → AllByRecursion IsOneLine texts →
+            GivesProgram result (program_of_source (text_of texts)) }
     {
         self.program()
     }

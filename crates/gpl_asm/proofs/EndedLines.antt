@@ -1,0 +1,8 @@
+-- The program of lines is that of their text.
+use Rattle.std.proofs.Common.{ap}
+use Rattle.program_defs.specs.Programs.{program_of}
+use Rattle.ended_lines.proofs.EndedLines.{texts_have_their_lines}
+use Rattle.gpl_asm.specs.Laws.{LinesMakeTexts}
+
+pub lines_make_texts : LinesMakeTexts
+lines_make_texts texts all = ap program_of (texts_have_their_lines texts all)
