@@ -4,12 +4,13 @@ ghost use Rattle.arrayvec.specs.ArrayString.{array_string_len};
 ghost use Rattle.gpl_defs.specs.Codes.{row_of};
 ghost use Rattle.gpl_defs.specs.Valid.{is_valid};
 ghost use Rattle.program_defs.specs.Mnemonics.{name_of_words};
+ghost use Rattle.source_defs.specs.ListedLines.{two_texts};
 ghost use Rattle.listing_defs.specs.Texts as spec;
 
 use crate::digits::{push_byte, push_word};
 use crate::operands::{push_from, push_length, push_operand, push_source, push_target};
 use arrayvec::ArrayString;
-use gpl_forms::{GplInstr, GplOperation, name_of};
+use gpl_forms::{GplInstr, GplOperation, MoveLength, MoveSource, MoveTarget, name_of};
 
 /// The text of a valid instruction that stands at the address `at`: the operation, and its operands behind a blank. The
 /// GROM of `at` completes the target of a BR or BS. GPL Programmer's Guide, the statements.
@@ -62,15 +63,29 @@ pub(crate) fn push_instr<const N: usize>(text: &mut ArrayString<N>, instr: &GplI
             length,
             target,
             source,
-        } => {
-            text.push_str("MOVE ");
-            push_length(text, length);
-            text.push_str(",");
-            push_target(text, target);
-            text.push_str(",");
-            push_from(text, source);
-        }
+        } => push_move(text, length, target, source),
     }
+}
+
+/// Appends a MOVE.
+#[tactic(auto, using(std::proofs::Common::append_assoc))]
+fn push_move<const N: usize>(
+    text: &mut ArrayString<N>,
+    length: &MoveLength,
+    target: &MoveTarget,
+    source: &MoveSource,
+)
+    requires { array_string_len text.old + 52 ≤ N }
+    ensures text { text.new.bytes ≡ text.old.bytes ++ (codes "MOVE "
+        ++ two_texts (spec.length_text length.now) (two_texts (spec.target_text target.now) (spec.from_text source.now))) }
+    ensures size { array_string_len text.new ≤ array_string_len text.old + 52 }
+{
+    text.push_str("MOVE ");
+    push_length(text, length);
+    text.push_str(",");
+    push_target(text, target);
+    text.push_str(",");
+    push_from(text, source);
 }
 
 /// Appends the name of an operation and a blank.
