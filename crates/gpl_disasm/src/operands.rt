@@ -12,6 +12,7 @@ use gpl_forms::{GplOperand, GplSource, MoveLength, MoveSource, MoveTarget, Space
 const SCRATCHPAD: u16 = 0x8300;
 
 /// Appends an operand in memory.
+#[inline]
 #[tactic(auto, using(std::proofs::Common::append_assoc), unfolding(listing_defs::specs::Texts::operand_text))]
 pub(crate) fn push_operand<const N: usize>(text: &mut ArrayString<N>, operand: GplOperand)
     requires { array_string_len text.old + 15 ≤ N }
