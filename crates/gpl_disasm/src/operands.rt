@@ -12,10 +12,11 @@ use gpl_forms::{GplOperand, GplSource, MoveLength, MoveSource, MoveTarget, Space
 const SCRATCHPAD: u16 = 0x8300;
 
 /// Appends an operand in memory.
+#[inline]
 #[tactic(auto, using(std::proofs::Common::append_assoc), unfolding(listing_defs::specs::Texts::operand_text))]
-pub(crate) fn push_operand<const N: usize>(text: &mut ArrayString<N>, operand: &GplOperand)
+pub(crate) fn push_operand<const N: usize>(text: &mut ArrayString<N>, operand: GplOperand)
     requires { array_string_len text.old + 15 ≤ N }
-    ensures text { text.new.bytes ≡ text.old.bytes ++ spec.operand_text operand.now }
+    ensures text { text.new.bytes ≡ text.old.bytes ++ spec.operand_text operand }
     ensures size { array_string_len text.new ≤ array_string_len text.old + 15 }
 {
     text.push_str(prefix(operand.space, operand.indirect));
@@ -37,8 +38,8 @@ fn prefix(space: Space, indirect: bool) -> &'static str
 }
 
 /// The address that an operand shows.
-fn shown_address(operand: &GplOperand) -> u16
-    ensures { result ≡ spec.shown_address operand.now.space operand.now.indirect operand.now.address }
+fn shown_address(operand: GplOperand) -> u16
+    ensures { result ≡ spec.shown_address operand.space operand.indirect operand.address }
 {
     match (operand.space, operand.indirect) {
         (Space::Vdp, false) => operand.address,
@@ -68,7 +69,7 @@ pub(crate) fn push_source<const N: usize>(text: &mut ArrayString<N>, word: bool,
     ensures size { array_string_len text.new ≤ array_string_len text.old + 15 }
 {
     match src {
-        GplSource::At(operand) => push_operand(text, operand),
+        GplSource::At(operand) => push_operand(text, *operand),
         GplSource::Immediate(value) => {
             if word {
                 push_word(text, *value);
@@ -86,7 +87,7 @@ pub(crate) fn push_length<const N: usize>(text: &mut ArrayString<N>, length: &Mo
     ensures size { array_string_len text.new ≤ array_string_len text.old + 15 }
 {
     match length {
-        MoveLength::At(operand) => push_operand(text, operand),
+        MoveLength::At(operand) => push_operand(text, *operand),
         MoveLength::Immediate(count) => push_word(text, *count),
     }
 }
@@ -99,7 +100,7 @@ pub(crate) fn push_target<const N: usize>(text: &mut ArrayString<N>, target: &Mo
     ensures size { array_string_len text.new ≤ array_string_len text.old + 15 }
 {
     match target {
-        MoveTarget::At(operand) => push_operand(text, operand),
+        MoveTarget::At(operand) => push_operand(text, *operand),
         MoveTarget::Register(number) => {
             text.push_str("R@");
             push_byte(text, *number);
@@ -115,7 +116,7 @@ pub(crate) fn push_from<const N: usize>(text: &mut ArrayString<N>, source: &Move
     ensures size { array_string_len text.new ≤ array_string_len text.old + 15 }
 {
     match source {
-        MoveSource::At(operand) => push_operand(text, operand),
+        MoveSource::At(operand) => push_operand(text, *operand),
         MoveSource::Grom(address) => {
             text.push_str("G@");
             push_word(text, *address);

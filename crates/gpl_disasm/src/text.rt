@@ -1,17 +1,16 @@
 //! The text of an instruction.
-ghost use Rattle.std.specs.Prelude.{◌≡◌, ◌≤◌, ◌+◌, ◌++◌, if◌then◌else◌, IsTrue, length};
+ghost use Rattle.std.specs.Prelude.{◌≡◌, ◌≤◌, ◌+◌, ◌++◌, if◌then◌else◌, IsTrue, codes};
 ghost use Rattle.arrayvec.specs.ArrayString.{array_string_len};
 ghost use Rattle.gpl_defs.specs.Codes.{row_of};
 ghost use Rattle.gpl_defs.specs.Valid.{is_valid};
-ghost use Rattle.program_defs.specs.Mnemonics.{name_of as mnemonic_name, name_of_words};
-ghost use Rattle.source_defs.specs.ListedLines.{with_operands};
+ghost use Rattle.program_defs.specs.Mnemonics.{name_of_words};
+ghost use Rattle.source_defs.specs.ListedLines.{two_texts};
 ghost use Rattle.listing_defs.specs.Texts as spec;
-ghost use Rattle.gpl_disasm.specs.Sizes.{most_operands};
 
 use crate::digits::{push_byte, push_word};
 use crate::operands::{push_from, push_length, push_operand, push_source, push_target};
 use arrayvec::ArrayString;
-use gpl_forms::{GplInstr, GplOperation, name_of};
+use gpl_forms::{GplInstr, GplOperation, MoveLength, MoveSource, MoveTarget, name_of};
 
 /// The text of a valid instruction that stands at the address `at`: the operation, and its operands behind a blank. The
 /// GROM of `at` completes the target of a BR or BS. GPL Programmer's Guide, the statements.
@@ -25,77 +24,38 @@ pub fn instr_text(instr: &GplInstr, at: u16) -> ArrayString<52>
 }
 
 /// Appends the text of a valid instruction that stands at an address.
-#[tactic(auto, using(crate::proofs::TextLaws::behind_text), unfolding(listing_defs::specs::Texts::instr_text))]
+#[tactic(auto, using(std::proofs::Common::append_assoc), unfolding(listing_defs::specs::Texts::instr_text))]
 pub(crate) fn push_instr<const N: usize>(text: &mut ArrayString<N>, instr: &GplInstr, at: u16)
     requires valid { IsTrue (is_valid instr.now) }
     requires room { array_string_len text.old + 52 ≤ N }
     ensures text { text.new.bytes ≡ text.old.bytes ++ spec.instr_text instr.now at }
     ensures size { array_string_len text.new ≤ array_string_len text.old + 52 }
 {
-    push_name(text, instr);
-    push_operands(text, instr, at);
-}
-
-/// Appends the name of an instruction.
-fn push_name<const N: usize>(text: &mut ArrayString<N>, instr: &GplInstr)
-    requires { array_string_len text.old + 6 ≤ N }
-    ensures name { text.new.bytes ≡ text.old.bytes ++ mnemonic_name (spec.mnemonic_of instr.now) }
-    ensures room { array_string_len text.new + most_operands instr.now ≤ array_string_len text.old + 52 }
-{
     match instr {
         GplInstr::Plain(op) => text.push_str(name_of(GplOperation::Plain(*op))),
-        GplInstr::Byte { op, .. } => text.push_str(name_of(GplOperation::Byte(*op))),
-        GplInstr::Jump { op, .. } => text.push_str(name_of(GplOperation::Jump(*op))),
-        GplInstr::Branch { on, .. } => text.push_str(name_of(GplOperation::Branch(*on))),
-        GplInstr::One { op, word, .. } => push_worded(text, *word, GplOperation::One(*op)),
-        GplInstr::Two { op, word, .. } => push_worded(text, *word, GplOperation::Two(*op)),
-        GplInstr::Move { .. } => text.push_str("MOVE"),
-    }
-}
-
-/// Appends the name of an operation, behind a D for the form of words.
-#[tactic(auto, using(std::proofs::Common::append_assoc))]
-fn push_worded<const N: usize>(text: &mut ArrayString<N>, word: bool, operation: GplOperation)
-    requires { array_string_len text.old + 6 ≤ N }
-    ensures name { text.new.bytes ≡ text.old.bytes
-        ++ (if word then name_of_words (row_of operation) else (row_of operation).name) }
-    ensures size { array_string_len text.new ≤ array_string_len text.old + 6 }
-{
-    if word {
-        text.push_str("D");
-    }
-    text.push_str(name_of(operation));
-}
-
-/// Appends the operands of an instruction behind a blank, where it has any.
-#[tactic(auto, using(std::proofs::Common::append_assoc))]
-fn push_operands<const N: usize>(text: &mut ArrayString<N>, instr: &GplInstr, at: u16)
-    requires valid { IsTrue (is_valid instr.now) }
-    requires room { array_string_len text.old + most_operands instr.now ≤ N }
-    ensures text { text.new.bytes ≡ with_operands text.old.bytes (spec.operands_text instr.now at) }
-    ensures size { array_string_len text.new ≤ array_string_len text.old + most_operands instr.now }
-{
-    match instr {
-        GplInstr::Plain(_) => {}
-        GplInstr::Byte { value, .. } => {
-            text.push_str(" ");
+        GplInstr::Byte { op, value } => {
+            push_name(text, GplOperation::Byte(*op));
             push_byte(text, *value);
         }
-        GplInstr::Jump { to, .. } => {
-            text.push_str(" ");
+        GplInstr::Jump { op, to } => {
+            push_name(text, GplOperation::Jump(*op));
             push_word(text, *to);
         }
-        GplInstr::Branch { low, .. } => {
-            text.push_str(" ");
+        GplInstr::Branch { on, low } => {
+            text.push_str(if *on { "BS " } else { "BR " });
             push_word(text, at / 0x2000 * 0x2000 + *low);
         }
-        GplInstr::One { at: operand, .. } => {
-            text.push_str(" ");
-            push_operand(text, operand);
+        GplInstr::One {
+            op,
+            word,
+            at: operand,
+        } => {
+            push_worded(text, *word, GplOperation::One(*op));
+            push_operand(text, *operand);
         }
-        GplInstr::Two { word, dst, src, .. } => {
-            text.push_str(" ");
-            push_operand(text, dst);
+        GplInstr::Two { op, word, dst, src } => {
+            push_worded(text, *word, GplOperation::Two(*op));
+            push_operand(text, *dst);
             text.push_str(",");
             push_source(text, *word, src);
         }
@@ -103,13 +63,52 @@ fn push_operands<const N: usize>(text: &mut ArrayString<N>, instr: &GplInstr, at
             length,
             target,
             source,
-        } => {
-            text.push_str(" ");
-            push_length(text, length);
-            text.push_str(",");
-            push_target(text, target);
-            text.push_str(",");
-            push_from(text, source);
-        }
+        } => push_move(text, length, target, source),
     }
+}
+
+/// Appends a MOVE.
+#[tactic(auto, using(std::proofs::Common::append_assoc))]
+fn push_move<const N: usize>(
+    text: &mut ArrayString<N>,
+    length: &MoveLength,
+    target: &MoveTarget,
+    source: &MoveSource,
+)
+    requires { array_string_len text.old + 52 ≤ N }
+    ensures text { text.new.bytes ≡ text.old.bytes ++ (codes "MOVE "
+        ++ two_texts (spec.length_text length.now) (two_texts (spec.target_text target.now) (spec.from_text source.now))) }
+    ensures size { array_string_len text.new ≤ array_string_len text.old + 52 }
+{
+    text.push_str("MOVE ");
+    push_length(text, length);
+    text.push_str(",");
+    push_target(text, target);
+    text.push_str(",");
+    push_from(text, source);
+}
+
+/// Appends the name of an operation and a blank.
+#[tactic(auto, using(std::proofs::Common::append_assoc))]
+fn push_name<const N: usize>(text: &mut ArrayString<N>, operation: GplOperation)
+    requires { array_string_len text.old + 6 ≤ N }
+    ensures name { text.new.bytes ≡ text.old.bytes ++ ((row_of operation).name ++ codes " ") }
+    ensures size { array_string_len text.new ≤ array_string_len text.old + 6 }
+{
+    text.push_str(name_of(operation));
+    text.push_str(" ");
+}
+
+/// Appends the name of an operation, behind a D for the form of words, and a blank.
+#[tactic(auto, using(std::proofs::Common::append_assoc))]
+fn push_worded<const N: usize>(text: &mut ArrayString<N>, word: bool, operation: GplOperation)
+    requires { array_string_len text.old + 7 ≤ N }
+    ensures name { text.new.bytes ≡ text.old.bytes
+        ++ ((if word then name_of_words (row_of operation) else (row_of operation).name) ++ codes " ") }
+    ensures size { array_string_len text.new ≤ array_string_len text.old + 7 }
+{
+    if word {
+        text.push_str("D");
+    }
+    push_name(text, operation);
 }
