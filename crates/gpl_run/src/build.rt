@@ -29,11 +29,15 @@ pub fn build_interp(alloc: Global) -> Result<Linked, BuildError>
     ensures { Gives result built_interpreter }
 {
     let text = interpreter_text(alloc)?;
-    build(alloc, text.as_slice(), interpreter_words())
+    build_words(alloc, text.as_slice(), interpreter_words())
 }
 
-/// The linked memory of a source's module, where it has the words that are shipped and no others.
-fn build(alloc: Global, source: &[u8], shipped: &[u16]) -> Result<Linked, BuildError>
+/// Builds a source of fewer than 2^32 bytes: assembles it, links the module, and compares the memory with words that are
+/// shipped, the first of them at >2000.
+///
+/// # Errors
+/// As those of [`build_interp`].
+pub fn build_words(alloc: Global, source: &[u8], shipped: &[u16]) -> Result<Linked, BuildError>
     requires { length source.now < 2 ^ 32 }
     ensures { Gives result (spec.built source.now shipped.now) }
 {

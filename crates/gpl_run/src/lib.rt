@@ -8,7 +8,7 @@ mod load;
 mod session;
 mod text;
 
-pub use build::build_interp;
+pub use build::{build_interp, build_words};
 pub use error::BuildError;
 pub use load::load_interpreter;
 pub use session::Session;

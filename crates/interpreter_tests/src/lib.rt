@@ -1,7 +1,9 @@
-//! Cases of the interpreter, run on a machine piece by piece and turn by turn, and worked out by hand. The crate holds tests
-//! alone, so that the crates below it are proved once.
+//! Cases of the interpreter, worked out by hand: words that are built from a source, and the interpreter's words, run on a
+//! machine piece by piece and turn by turn. The crate holds tests alone, so that the crates below it are proved once.
 #![tactic(auto)]
 
+#[cfg(test)]
+mod building;
 #[cfg(test)]
 mod machines;
 #[cfg(test)]

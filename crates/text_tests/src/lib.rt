@@ -1,6 +1,5 @@
 //! Cases of lines, expressions, instruction lines, modules, object text, bytes of GPL, their listings, GPL sources, images
-//! and streams, worked out by hand, and the source of the interpreter against its words. The crate holds tests alone, so
-//! that the crates below it are proved once.
+//! and streams, worked out by hand. The crate holds tests alone, so that the crates below it are proved once.
 #![tactic(auto)]
 
 #[cfg(test)]
@@ -17,8 +16,6 @@ mod gpl_programs;
 mod images;
 #[cfg(test)]
 mod instruction_lines;
-#[cfg(test)]
-mod interpreter;
 #[cfg(test)]
 mod modules;
 #[cfg(test)]

@@ -1,6 +1,6 @@
 use Rattle.std.proofs.Common.{rules}
 use Rattle.gpl_run.proofs.Built.{refused_there, compared_there}
-use Rattle.gpl_run.proofs.build.build.Goals as goal
+use Rattle.gpl_run.proofs.build.build_words.Goals as goal
 
 pub returns-in_err-linked : goal.returns-in_err-linked
 returns-in_err-linked c =
