@@ -5,7 +5,7 @@ mod dis;
 mod exec;
 mod gasm;
 mod gdis;
-mod gpl_run;
+mod gpl_programs;
 mod interp;
 mod link;
 mod run;
