@@ -11,4 +11,5 @@ mod text;
 pub use build::{build_interp, build_words};
 pub use error::BuildError;
 pub use load::load_interpreter;
+pub use machine_load::load_machine;
 pub use session::Session;

@@ -21,6 +21,17 @@ HoldsRegister memory number word = word_read memory (register_in WORKSPACE numbe
 abbrev pub constants : List (ℕ × ℕ)
 constants = []
 
+-- At the dispatch of a step, where the first table has led, these two registers hold the code byte and its address.
+abbrev pub code_register : ℕ
+code_register = 0
+
+abbrev pub address_register : ℕ
+address_register = 1
+
+-- No more instructions than these lead to the dispatch from the beginning of a step.
+abbrev pub most_to_dispatch : ℕ
+most_to_dispatch = 29
+
 abbrev pub HoldsConstants : Memory → List (ℕ × ℕ) → Type 0
 HoldsConstants memory [] = Unit {0}
 HoldsConstants memory (constant ∷ others) =

@@ -10,7 +10,7 @@ use Rattle.step_defs.specs.declared.reason.Reason.{Reason}
 use Rattle.step_defs.specs.declared.reason.Reason.TheVariants.{Exit}
 use Rattle.step_defs.specs.Reasons.{number_of}
 use Rattle.step_defs.specs.State.{GplState}
-use Rattle.interp_defs.specs.Interpreter.{HoldsInterpreter, HoldsRegister, HoldsConstants, constants}
+use Rattle.interp_defs.specs.Interpreter.{HoldsInterpreter, HoldsRegister, HoldsConstants, constants, address_register}
 
 -- The state of GPL that a memory shows. The counter of the GROMs stands one past the byte to come.
 abbrev pub shown_by : Memory → GplState
@@ -59,5 +59,5 @@ pub record IsHalted (s : GplState) (reason : Reason) (x : MachineState) : Type 0
   pub vdp : x.cpu.memory.vdp.memory ≡ s.vdp
   pub registers : x.cpu.memory.vdp.registers ≡ s.registers
   pub wp : x.cpu.wp ≡ WORKSPACE
-  pub address : HoldsRegister x.cpu.memory 1 s.pc
+  pub address : HoldsRegister x.cpu.memory address_register s.pc
   pub stands : StandsBy reason x

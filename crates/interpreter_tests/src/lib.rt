@@ -9,4 +9,6 @@ mod machines;
 #[cfg(test)]
 mod pieces;
 #[cfg(test)]
+mod sessions;
+#[cfg(test)]
 mod turns;

@@ -1,12 +1,13 @@
 //! Boot, the step, B, EXIT and the stop at a code byte that is no instruction's, piece by piece, on small GPL programs.
 
-ghost use Rattle.std.specs.Prelude.{◌≡◌, ◌<◌};
+ghost use Rattle.std.specs.Prelude.{◌≡◌, ◌<◌, true};
+ghost use Rattle.interp_defs.specs.Match.{PortsAreIdle};
 
 use crate::machines::{Program, booting};
 use native_interp::{
     FETCH, GBOOT, GEXIT, GOB, GOEXIT, GOTO, GSTEP, GSTOP, SEEK, STREAM, UNKN, WHERE,
 };
-use sim_operands::{fetch_byte, seek_address, stream_value};
+use sim_operands::{fetch_byte, run_seek, stream_value};
 use sim_steps::{
     ask_address, ask_byte, ask_target, boot, dispatch, go_on, keep_address, leave, stop_code,
     where_next,
@@ -70,6 +71,13 @@ const RUNS: &[(&str, Program, u16, [u16; 2])] = &[
     ),
 ];
 
+/// No half of an address was written to either port.
+fn is_idle(machine: &Machine) -> bool
+    ensures { result ≡ true → PortsAreIdle machine.now.cpu.memory }
+{
+    machine.bus().vdp().is_idle() && machine.bus().grom().is_idle()
+}
+
 /// Runs the piece where the machine stands; none where it stands at no piece.
 fn run_piece<L: Ledger>(machine: &mut Machine, steps: &mut Steps<L>) {
     let at = machine.pc();
@@ -84,7 +92,7 @@ fn run_piece<L: Ledger>(machine: &mut Machine, steps: &mut Steps<L>) {
         BEHIND_FETCH => dispatch(machine, steps),
         UNKN => stop_code(machine, steps),
         WHERE => where_next(machine, steps),
-        SEEK => seek_address(machine, steps),
+        SEEK if is_idle(machine) => run_seek(machine, steps),
         FETCH => fetch_byte(machine, steps),
         STREAM => stream_value(machine, steps),
         GOB => ask_target(machine, steps),

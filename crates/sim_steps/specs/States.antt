@@ -9,7 +9,8 @@ use Rattle.gpl_defs.specs.declared.instruction.GplOperation.{GplOperation}
 use Rattle.gpl_defs.specs.declared.instruction.GplOperation.TheVariants.{Plain, Jump, Two}
 use Rattle.gpl_defs.specs.Codes.{operation_at}
 use Rattle.step_defs.specs.State.{GplState}
-use Rattle.sim_view.specs.View.{View}
+use Rattle.interp_defs.specs.Interpreter.{code_register, address_register}
+use Rattle.sim_view.specs.View.{View, listed}
 use Rattle.sim_operands.specs.Subroutines.{grom_at, state_of}
 
 -- A view shows a state; GROM gives the byte at an address next, and both ports are idle.
@@ -20,11 +21,11 @@ pub record Sees (s : GplState) (next : ℕ) (w : View) : Type 0 where
   pub held : w.vdp.held ≡ None
   pub grom : w.grom ≡ grom_at s.image next
 
--- At the dispatch of a step: the code byte was read, and registers 0 and 1 hold it and its address.
+-- At the dispatch of a step: the code byte was read, and two registers hold it and its address.
 pub record Dispatched (s : GplState) (w : View) : Type 0 where
   pub sees : Sees s (next_in_grom s.pc) w
-  pub code : w.r.r0 ≡ slice_index s.image s.pc
-  pub address : w.r.r1 ≡ s.pc
+  pub code : slice_index (listed w.r) code_register ≡ slice_index s.image s.pc
+  pub address : slice_index (listed w.r) address_register ≡ s.pc
 
 -- the state that a view shows there, with the address of the code byte
 abbrev pub state_at_dispatch : View → GplState

@@ -4,6 +4,7 @@ ghost use Rattle.native_interp.specs.declared.addresses.TheConstants as address;
 ghost use Rattle.sim_view.specs.View.{view, Stands};
 ghost use Rattle.sim_view.specs.Exits.{Exits};
 ghost use Rattle.std.specs.Prelude.{◌≡◌, true};
+ghost use Rattle.interp_defs.specs.Interpreter.{most_to_dispatch};
 ghost use Rattle.interp_defs.specs.Turned.{Turned};
 ghost use Rattle.sim_steps.specs.Pieces as piece;
 ghost use Rattle.sim_steps.specs.States.{Dispatched, state_at_dispatch, operation_of, is_alu};
@@ -46,7 +47,7 @@ pub fn run_alu<L: Ledger>(machine: &mut Machine, steps: &mut Steps<L>) -> Turn
     requires stands { Stands machine.old address.ROW }
     requires dispatched { let v = view machine.old in Dispatched (state_at_dispatch v) v }
     requires family { is_alu (operation_of (view machine.old)) ≡ true }
-    ensures { Turned (state_at_dispatch (view machine.old)) 29 machine.old machine.new steps.old steps.new result }
+    ensures { Turned (state_at_dispatch (view machine.old)) most_to_dispatch machine.old machine.new steps.old steps.new result }
 {
     if !load_operands(machine, steps) {
         return Turn::Stopped(Reason::Cell);

@@ -23,4 +23,5 @@ pub use step::{
     ask_address, ask_byte, begin_step, boot, dispatch, keep_address, start_program, stop_code,
     where_next,
 };
+pub use step_defs::Reason;
 pub use turn::gpl_turn;

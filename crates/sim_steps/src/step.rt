@@ -7,6 +7,7 @@ ghost use Rattle.sim_steps.specs.Pieces as piece;
 ghost use Rattle.std.specs.Prelude.{◌+◌, slice_index};
 ghost use Rattle.gpl_defs.specs.Codes.{operation_at};
 ghost use Rattle.native_interp.specs.Entries.{operation_entry};
+ghost use Rattle.interp_defs.specs.Interpreter.{most_to_dispatch};
 ghost use Rattle.interp_defs.specs.Match.{IsMatching, PortsAreIdle, shown_by};
 ghost use Rattle.sim_view.specs.Exits.{Comes};
 ghost use Rattle.sim_steps.specs.States.{Dispatched};
@@ -90,7 +91,7 @@ pub fn stop_code<L: Ledger>(machine: &mut Machine, steps: &mut Steps<L>)
 pub fn begin_step<L: Ledger>(machine: &mut Machine, steps: &mut Steps<L>)
     requires { IsMatching machine.old }
     ensures { let s = shown_by machine.old.cpu.memory in
-        Comes 29 machine.old machine.new steps.old steps.new (operation_entry (operation_at (slice_index s.image s.pc))) (Dispatched s) }
+        Comes most_to_dispatch machine.old machine.new steps.old steps.new (operation_entry (operation_at (slice_index s.image s.pc))) (Dispatched s) }
 {
     machine.holds_bounds();
     ask_address(machine, steps);
