@@ -18,13 +18,6 @@ pub record SinkState : Type 0 where
   pub puts : ℕ
   pub faults : ℕ
 
--- what is counted of a source that tells nothing of its bytes
-pub record SourceCounts : Type 0 where
-  pub calls : ℕ
-  pub taken : ℕ
-  pub empty : ℕ
-  pub faults : ℕ
-
 -- what is counted of a sink that tells nothing of its bytes
 pub record SinkCounts : Type 0 where
   pub puts : ℕ

@@ -77,8 +77,7 @@ completeness run command input report s is told none on ends some =
 alike : (a b : Run) (found : Option Command) (x y : Report) → BeginAlike a b → ReportsOn found a x → ReportsOn found b y → x ≡ y
 alike a b None x y begin p q = p.0 ∙ sym q.0
 alike a b (Some command) x y begin p q =
-    let told : b.input.left ≡ Some begin.bytes = ap (λ s. s.left) (sym begin.input) ∙ begin.told in
-    one_report command (read_of command begin.bytes) x y (on_input a command begin.bytes x begin.told p) (on_input b command begin.bytes y told q)
+    one_report command (read_of command begin.bytes) x y (on_input a command begin.bytes x begin.one p) (on_input b command begin.bytes y begin.other q)
 
 pub one_answer : OneAnswer
 one_answer a b s t begin none other ends ends' some some' =

@@ -29,12 +29,12 @@ Completeness =
     → EndsBy run status → status ≢ Memory
     → (status ≡ status_of report) × WroteReport run.outputs report
 
--- two runs begin with the same words and with the same input, whose bytes are told
+-- two runs begin with the same words and with inputs of the same bytes, which are told
 pub record BeginAlike (first second : Run) : Type 0 where
   pub words : first.words ≡ second.words
-  pub input : first.input ≡ second.input
   pub bytes : List ℕ
-  pub told : first.input.left ≡ Some bytes
+  pub one : first.input.left ≡ Some bytes
+  pub other : second.input.left ≡ Some bytes
 
 -- the law, which is proved: two such runs in which no count rose have one answer, if neither is want of memory
 abbrev pub OneAnswer : Type 0

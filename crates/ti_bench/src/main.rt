@@ -26,7 +26,7 @@ use std::io::{BufWriter, ErrorKind, Write};
 use std::process::ExitCode;
 
 /// Runs the command that the words of the command line say, over the standard streams. Standard output is buffered, where
-/// there is memory for that: so words that are no command never meet want of memory.
+/// there is memory for that, and else it is not: so `bench` is called in either case.
 fn main(rt: HostRuntime) -> ExitCode {
     let Ok(words) = command_words(&rt) else {
         return ExitCode::from(Status::Memory as u8);

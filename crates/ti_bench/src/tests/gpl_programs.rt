@@ -83,6 +83,11 @@ const PROGRAMS: &[(&[u8], &[u8], Status, &[u8], &[u8])] = &[
     ),
 ];
 
+/// Whether a text has a part, which is not empty.
+fn has_part(text: &[u8], part: &[u8]) -> bool {
+    !part.is_empty() && text.windows(part.len()).any(|window| window == part)
+}
+
 /// Whether a run reports a program so, with nothing on the error output.
 fn reports(
     alloc: Global,
@@ -93,7 +98,7 @@ fn reports(
     Ok(
         ended.status == status
             && out.starts_with(front)
-            && out.windows(part.len()).any(|window| window == part)
+            && has_part(out, part)
             && ended.err.bytes().is_empty(),
     )
 }
