@@ -19,22 +19,22 @@ pub(crate) fn push_operand<const N: usize>(text: &mut ArrayString<N>, operand: G
     ensures text { text.new.bytes ≡ text.old.bytes ++ spec.operand_text operand }
     ensures size { array_string_len text.new ≤ array_string_len text.old + 15 }
 {
-    text.push_str(prefix(operand.space, operand.indirect));
+    push_prefix(text, operand.space, operand.indirect);
     push_word(text, shown_address(operand));
     push_index(text, operand.index);
 }
 
-/// What an operand begins with.
-fn prefix(space: Space, indirect: bool) -> &'static str
-    ensures text { result.now ≡ spec.prefix space indirect }
-    ensures size { length result.now ≤ 2 }
+/// Appends what an operand begins with.
+#[tactic(auto, using(std::proofs::Common::append_assoc))]
+fn push_prefix<const N: usize>(text: &mut ArrayString<N>, space: Space, indirect: bool)
+    requires { array_string_len text.old + 2 ≤ N }
+    ensures text { text.new.bytes ≡ text.old.bytes ++ spec.prefix space indirect }
+    ensures size { array_string_len text.new ≤ array_string_len text.old + 2 }
 {
-    match (space, indirect) {
-        (Space::Cpu, false) => "@",
-        (Space::Cpu, true) => "*",
-        (Space::Vdp, false) => "V@",
-        (Space::Vdp, true) => "V*",
+    if let Space::Vdp = space {
+        text.push('V');
     }
+    text.push(if indirect { '*' } else { '@' });
 }
 
 /// The address that an operand shows.

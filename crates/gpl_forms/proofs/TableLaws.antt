@@ -1,14 +1,16 @@
 -- What the tables of an image say of it, and what a write does to them.
-use Rattle.std.proofs.Common.{◌≡◌, ℕ, zero, suc, ◌+◌, ◌<◌, ◌≤◌, ◌≢◌, ◌⊎◌, inl, inr, Bool, true, false, cond, length, get_or, set, List, [], ◌∷◌, refl, sym, ap, ◌∙◌, min, max, arith, Option, Some, None}
+use Rattle.std.proofs.Common.{◌≡◌, ℕ, zero, suc, ◌+◌, ◌<◌, ◌≤◌, ◌≢◌, ◌⊎◌, inl, inr, ◌++◌, take, drop, Bool, true, false, cond, length, get_or, set, List, [], ◌∷◌, refl, sym, ap, ◌∙◌, min, max, arith, Option, Some, None}
 use Rattle.std.specs.Prelude.{unwrap_or, nat_lt, ◌==◌, if◌then◌else◌, is_some}
 use Rattle.std.proofs.lemmas.Bool.Decides.{nat_tests}
-use Rattle.std.proofs.lemmas.List.{length-set, get_or-set_same, get_or-set_other, get_or_past}
+use Rattle.std.proofs.lemmas.List.{length-replicate, length-set, get_or-set_same, get_or-set_other, get_or_past}
+use Rattle.std.proofs.lemmas.List.Edits.{sets, sets-eq}
+use Rattle.std.specs.Prelude.{replicate}
 use Rattle.std.proofs.lemmas.Bool.{cases_eq}
 use Rattle.std.specs.Ordering.{nat_cmp, eq_by_cmp}
 use Rattle.std.specs.Cmp.{nat_cmp_total}
 use Rattle.std.proofs.lemmas.Cmp.{eq_by_cmp_equiv}
 use Rattle.std.specs.FinMap.{get, insert, empty, same_map, get-insert, get-empty, nat_cmp-IsAntisymmetric}
-use Rattle.gpl_defs.specs.Image.{Image, byte_at, low_of, high_of}
+use Rattle.gpl_defs.specs.Image.{Image, byte_at, low_of, high_of, placed}
 use Rattle.gpl_defs.proofs.ImageLaws.{ties-other, high_of-insert, low_of-insert, high_of-empty, low_of-empty}
 use Rattle.gpl_forms.specs.Tables.{image_from, image_of, IsImage}
 
@@ -145,6 +147,48 @@ IsImage-set bytes marks low high at byte next_low is lt low_is = record {
 
     zero_else : (k : ℕ) → get_or (set marks at true) k false ≡ false → get_or (set bytes at byte) k 0 ≡ 0
     zero_else k unmarked = zero_at k (cases_eq k at) unmarked
+
+-- what writes from an address on leave of the tables, where that address is neither below the lowest written one nor past the end
+IsImage-more : (bs : List ℕ) (bytes : List ℕ) (marks : List Bool) (low high at : ℕ) → IsImage bytes marks low high → 0 < high → low ≤ at → at ≤ high → at + length bs ≤ 65536 → IsImage (sets bytes at bs) (sets marks at (replicate (length bs) true)) low (max high (at + length bs)) × (image_of (sets bytes at bs) (sets marks at (replicate (length bs) true)) ≡ placed (image_of bytes marks) at bs)
+IsImage-more [] bytes marks low high at is some above within fits =
+    let still : max high (at + 0) ≡ high = omega arith in
+    (rw still is, refl)
+IsImage-more (b ∷ bs) bytes marks low high at is some above within fits =
+    let same : length bytes ≡ length marks = omega (arith, is.bytes_size, is.marks_size) in
+    let lt : at < 65536 = omega arith in
+    let lt_bytes : at < length bytes = omega (arith, is.bytes_size) in
+    let low_is : low ≡ (if high == 0 then at else min low at) = grind (arith, nat_tests) in
+    let next : suc at ≡ at + 1 = omega arith in
+    let end : max (max high (at + 1)) (suc at + length bs) ≡ max high (at + suc (length bs)) = omega arith in
+    let wrote = image_of-set bytes marks at b same lt_bytes in
+    let first = IsImage-set bytes marks low high at b low is lt low_is in
+    let rest = IsImage-more bs (set bytes at b) (set marks at true) low (max high (at + 1)) (suc at) first (omega arith) (omega arith) (omega arith) (omega arith) in
+    (rw (← end) rest.0, rest.1 ∙ ap (λ (m : Image). placed m (suc at) bs) wrote ∙ ap (λ (n : ℕ). placed (insert (image_of bytes marks) at b) n bs) next)
+
+-- one byte or more, written one after the other to the tables and ends, are so written to the image, and keep what holds of every image
+pub IsImage-sets : (b : ℕ) (bs : List ℕ) (bytes : List ℕ) (marks : List Bool) (low high at next_low : ℕ) → IsImage bytes marks low high → at + suc (length bs) ≤ 65536 → next_low ≡ (if high == 0 then at else min low at) → IsImage (sets bytes at (b ∷ bs)) (sets marks at (replicate (suc (length bs)) true)) next_low (max high (at + suc (length bs))) × (image_of (sets bytes at (b ∷ bs)) (sets marks at (replicate (suc (length bs)) true)) ≡ placed (image_of bytes marks) at (b ∷ bs))
+IsImage-sets b bs bytes marks low high at next_low is fits low_is =
+    let same : length bytes ≡ length marks = omega (arith, is.bytes_size, is.marks_size) in
+    let lt : at < 65536 = omega arith in
+    let lt_bytes : at < length bytes = omega (arith, is.bytes_size) in
+    let above : next_low ≤ suc at = grind (arith, nat_tests) in
+    let next : suc at ≡ at + 1 = omega arith in
+    let end : max (max high (at + 1)) (suc at + length bs) ≡ max high (at + suc (length bs)) = omega arith in
+    let wrote = image_of-set bytes marks at b same lt_bytes in
+    let first = IsImage-set bytes marks low high at b next_low is lt low_is in
+    let rest = IsImage-more bs (set bytes at b) (set marks at true) next_low (max high (at + 1)) (suc at) first (omega arith) above (omega arith) (omega arith) in
+    (rw (← end) rest.0, rest.1 ∙ ap (λ (m : Image). placed m (suc at) bs) wrote ∙ ap (λ (n : ℕ). placed (insert (image_of bytes marks) at b) n bs) next)
+
+-- one byte or more over the bytes of the table from an address on, and as many marks, are writes to the image one after the other
+pub IsImage-written : (bs bytes next_bytes : List ℕ) (marks next_marks : List Bool) (low high at next_low : ℕ) → IsImage bytes marks low high → 0 < length bs → at + length bs ≤ 65536 → next_low ≡ (if high == 0 then at else min low at) → next_bytes ≡ take at bytes ++ bs ++ drop (at + length bs) bytes → next_marks ≡ take at marks ++ replicate (length bs) true ++ drop (at + length bs) marks → IsImage next_bytes next_marks next_low (max high (at + length bs)) × (image_of next_bytes next_marks ≡ placed (image_of bytes marks) at bs)
+IsImage-written [] bytes next_bytes marks next_marks low high at next_low is some fits low_is bytes_are marks_are = absurd (omega arith)
+IsImage-written (b ∷ bs) bytes next_bytes marks next_marks low high at next_low is some fits low_is bytes_are marks_are =
+    let count : length (replicate (suc (length bs)) true) ≡ suc (length bs) = length-replicate (suc (length bs)) true in
+    let as_bytes : next_bytes ≡ sets bytes at (b ∷ bs) = bytes_are ∙ sym (sets-eq (b ∷ bs) bytes at (omega (arith, is.bytes_size))) in
+    let marks_eq = sets-eq (replicate (suc (length bs)) true) marks at (omega (arith, count, is.marks_size)) in
+    let as_marks : next_marks ≡ sets marks at (replicate (suc (length bs)) true) = marks_are ∙ ap (λ n. take at marks ++ replicate (suc (length bs)) true ++ drop (at + n) marks) (sym count) ∙ sym marks_eq in
+    let wrote = IsImage-sets b bs bytes marks low high at next_low is fits low_is in
+    rw (as_bytes, as_marks) wrote
 
 all_within : {A : Type 0} (xs : List A) (d : A) → ((k : ℕ) → k < length xs → get_or xs k d ≡ d) → (k : ℕ) → get_or xs k d ≡ d
 all_within xs d each k = by (nat_lt k (length xs)) refl

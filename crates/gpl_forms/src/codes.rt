@@ -1,111 +1,160 @@
 //! The table of codes.
-ghost use Rattle.std.specs.Prelude.{◌≡◌, ◌≤◌, ◌<◌, ◌+◌, ℕ};
+ghost use Rattle.std.specs.Prelude.{◌≡◌, ◌≤◌, ◌<◌, ◌+◌, ℕ, None, slice_index_or};
 ghost use Rattle.gpl_defs.specs.Codes.{row_of, operation_at as spec_operation_at};
 ghost use Rattle.gpl_defs.specs.declared.instruction.GplOperation.TheVariants.{Plain, Byte, Jump, Branch, One, Two, Move};
 
 use gpl_defs::{ByteOp, GoOp, GplOperation, MoveKind, OneName, PlainOp, TwoName};
 
+/// The operation that each code byte belongs to.
+const OPERATIONS: &[Option<GplOperation>; 256] = &[
+    // >00
+    RTN, RTNC, RAND, NONE, BACK, B, CALL, ALL, NONE, H, GT, EXIT, CARRY, OVF, NONE, NONE,
+    // >10
+    NONE, NONE, NONE, NONE, NONE, NONE, NONE, NONE, NONE, NONE, NONE, NONE, NONE, NONE, NONE, NONE,
+    // >20
+    NONE, NONE, NONE, NONE, NONE, NONE, NONE, NONE, NONE, NONE, NONE, NONE, NONE, NONE, NONE, NONE,
+    // >30
+    FROM_GROM, FROM_GROM, INDEXED, INDEXED, IN_MEMORY, IN_MEMORY, NONE, NONE, REGISTERS, REGISTERS,
+    NONE, NONE, NONE, NONE, NONE, NONE,
+    // >40
+    BR, BR, BR, BR, BR, BR, BR, BR, BR, BR, BR, BR, BR, BR, BR, BR,
+    // >50
+    BR, BR, BR, BR, BR, BR, BR, BR, BR, BR, BR, BR, BR, BR, BR, BR,
+    // >60
+    BS, BS, BS, BS, BS, BS, BS, BS, BS, BS, BS, BS, BS, BS, BS, BS,
+    // >70
+    BS, BS, BS, BS, BS, BS, BS, BS, BS, BS, BS, BS, BS, BS, BS, BS,
+    // >80
+    ABS, ABS, NEG, NEG, INV, INV, CLR, CLR, FETCH, NONE, CASE, CASE, PUSH, NONE, CZ, CZ,
+    // >90
+    INC, INC, DEC, DEC, INCT, INCT, DECT, DECT, NONE, NONE, NONE, NONE, NONE, NONE, NONE, NONE,
+    // >A0
+    ADD, ADD, ADD, ADD, SUB, SUB, SUB, SUB, MUL, MUL, MUL, MUL, DIV, DIV, DIV, DIV,
+    // >B0
+    AND, AND, AND, AND, OR, OR, OR, OR, XOR, XOR, XOR, XOR, ST, ST, ST, ST,
+    // >C0
+    EX, EX, NONE, NONE, CH, CH, CH, CH, CHE, CHE, CHE, CHE, CGT, CGT, CGT, CGT,
+    // >D0
+    CGE, CGE, CGE, CGE, CEQ, CEQ, CEQ, CEQ, CLOG, CLOG, CLOG, CLOG, SRA, SRA, SRA, SRA,
+    // >E0
+    SLL, SLL, SLL, SLL, SRL, SRL, SRL, SRL, SRC, SRC, SRC, SRC, NONE, NONE, NONE, NONE,
+    // >F0
+    NONE, NONE, NONE, NONE, NONE, NONE, NONE, NONE, NONE, NONE, NONE, NONE, NONE, NONE, NONE, NONE,
+];
+
+// The entries of the table: none, and each operation by its name.
+const NONE: Option<GplOperation> = None;
+
+const RTN: Option<GplOperation> = Some(GplOperation::Plain(PlainOp::RTN));
+
+const RTNC: Option<GplOperation> = Some(GplOperation::Plain(PlainOp::RTNC));
+
+const RAND: Option<GplOperation> = Some(GplOperation::Byte(ByteOp::RAND));
+
+const BACK: Option<GplOperation> = Some(GplOperation::Byte(ByteOp::BACK));
+
+const B: Option<GplOperation> = Some(GplOperation::Jump(GoOp::B));
+
+const CALL: Option<GplOperation> = Some(GplOperation::Jump(GoOp::CALL));
+
+const ALL: Option<GplOperation> = Some(GplOperation::Byte(ByteOp::ALL));
+
+const H: Option<GplOperation> = Some(GplOperation::Plain(PlainOp::H));
+
+const GT: Option<GplOperation> = Some(GplOperation::Plain(PlainOp::GT));
+
+const EXIT: Option<GplOperation> = Some(GplOperation::Plain(PlainOp::EXIT));
+
+const CARRY: Option<GplOperation> = Some(GplOperation::Plain(PlainOp::CARRY));
+
+const OVF: Option<GplOperation> = Some(GplOperation::Plain(PlainOp::OVF));
+
+const FROM_GROM: Option<GplOperation> = Some(GplOperation::Move(MoveKind::GromToMemory));
+
+const INDEXED: Option<GplOperation> = Some(GplOperation::Move(MoveKind::GromIndexedToMemory));
+
+const IN_MEMORY: Option<GplOperation> = Some(GplOperation::Move(MoveKind::MemoryToMemory));
+
+const REGISTERS: Option<GplOperation> = Some(GplOperation::Move(MoveKind::GromToRegisters));
+
+const BR: Option<GplOperation> = Some(GplOperation::Branch(false));
+
+const BS: Option<GplOperation> = Some(GplOperation::Branch(true));
+
+const ABS: Option<GplOperation> = Some(GplOperation::One(OneName::ABS));
+
+const NEG: Option<GplOperation> = Some(GplOperation::One(OneName::NEG));
+
+const INV: Option<GplOperation> = Some(GplOperation::One(OneName::INV));
+
+const CLR: Option<GplOperation> = Some(GplOperation::One(OneName::CLR));
+
+const FETCH: Option<GplOperation> = Some(GplOperation::One(OneName::FETCH));
+
+const CASE: Option<GplOperation> = Some(GplOperation::One(OneName::CASE));
+
+const PUSH: Option<GplOperation> = Some(GplOperation::One(OneName::PUSH));
+
+const CZ: Option<GplOperation> = Some(GplOperation::One(OneName::CZ));
+
+const INC: Option<GplOperation> = Some(GplOperation::One(OneName::INC));
+
+const DEC: Option<GplOperation> = Some(GplOperation::One(OneName::DEC));
+
+const INCT: Option<GplOperation> = Some(GplOperation::One(OneName::INCT));
+
+const DECT: Option<GplOperation> = Some(GplOperation::One(OneName::DECT));
+
+const ADD: Option<GplOperation> = Some(GplOperation::Two(TwoName::ADD));
+
+const SUB: Option<GplOperation> = Some(GplOperation::Two(TwoName::SUB));
+
+const MUL: Option<GplOperation> = Some(GplOperation::Two(TwoName::MUL));
+
+const DIV: Option<GplOperation> = Some(GplOperation::Two(TwoName::DIV));
+
+const AND: Option<GplOperation> = Some(GplOperation::Two(TwoName::AND));
+
+const OR: Option<GplOperation> = Some(GplOperation::Two(TwoName::OR));
+
+const XOR: Option<GplOperation> = Some(GplOperation::Two(TwoName::XOR));
+
+const ST: Option<GplOperation> = Some(GplOperation::Two(TwoName::ST));
+
+const EX: Option<GplOperation> = Some(GplOperation::Two(TwoName::EX));
+
+const CH: Option<GplOperation> = Some(GplOperation::Two(TwoName::CH));
+
+const CHE: Option<GplOperation> = Some(GplOperation::Two(TwoName::CHE));
+
+const CGT: Option<GplOperation> = Some(GplOperation::Two(TwoName::CGT));
+
+const CGE: Option<GplOperation> = Some(GplOperation::Two(TwoName::CGE));
+
+const CEQ: Option<GplOperation> = Some(GplOperation::Two(TwoName::CEQ));
+
+const CLOG: Option<GplOperation> = Some(GplOperation::Two(TwoName::CLOG));
+
+const SRA: Option<GplOperation> = Some(GplOperation::Two(TwoName::SRA));
+
+const SLL: Option<GplOperation> = Some(GplOperation::Two(TwoName::SLL));
+
+const SRL: Option<GplOperation> = Some(GplOperation::Two(TwoName::SRL));
+
+const SRC: Option<GplOperation> = Some(GplOperation::Two(TwoName::SRC));
+
 /// The operation that a code byte belongs to, and None exactly where it belongs to none.
 pub(crate) fn operation_at(code: u8) -> Option<GplOperation>
     ensures { result ≡ spec_operation_at code }
 {
-    match code {
-        0xA0..=0xEF => two_at(code),
-        0x40..=0x5F => Some(GplOperation::Branch(false)),
-        0x60..=0x7F => Some(GplOperation::Branch(true)),
-        0x80..=0x9F => one_at(code),
-        0x00..=0x0F => simple_at(code),
-        0x30..=0x3F => move_at(code),
-        _ => None,
-    }
+    entry(OPERATIONS, code)
 }
 
-/// The operation of a code byte of an instruction without operand, with a byte or with an address.
-fn simple_at(code: u8) -> Option<GplOperation>
-    requires { code < 0x10 }
-    ensures { result ≡ spec_operation_at code }
+/// The entry of a code byte in a table of operations.
+fn entry(table: &[Option<GplOperation>; 256], code: u8) -> Option<GplOperation>
+    ensures { result ≡ slice_index_or table.now code None }
 {
-    match code {
-        0x00 => Some(GplOperation::Plain(PlainOp::RTN)),
-        0x01 => Some(GplOperation::Plain(PlainOp::RTNC)),
-        0x02 => Some(GplOperation::Byte(ByteOp::RAND)),
-        0x04 => Some(GplOperation::Byte(ByteOp::BACK)),
-        0x05 => Some(GplOperation::Jump(GoOp::B)),
-        0x06 => Some(GplOperation::Jump(GoOp::CALL)),
-        0x07 => Some(GplOperation::Byte(ByteOp::ALL)),
-        0x09 => Some(GplOperation::Plain(PlainOp::H)),
-        0x0A => Some(GplOperation::Plain(PlainOp::GT)),
-        0x0B => Some(GplOperation::Plain(PlainOp::EXIT)),
-        0x0C => Some(GplOperation::Plain(PlainOp::CARRY)),
-        0x0D => Some(GplOperation::Plain(PlainOp::OVF)),
-        _ => None,
-    }
-}
-
-/// The operation of a code byte of MOVE.
-fn move_at(code: u8) -> Option<GplOperation>
-    requires { (0x30 ≤ code) × (code < 0x40) }
-    ensures { result ≡ spec_operation_at code }
-{
-    match code {
-        0x30 | 0x31 => Some(GplOperation::Move(MoveKind::GromToMemory)),
-        0x32 | 0x33 => Some(GplOperation::Move(MoveKind::GromIndexedToMemory)),
-        0x34 | 0x35 => Some(GplOperation::Move(MoveKind::MemoryToMemory)),
-        0x38 | 0x39 => Some(GplOperation::Move(MoveKind::GromToRegisters)),
-        _ => None,
-    }
-}
-
-/// The operation of a code byte of an instruction with one operand.
-fn one_at(code: u8) -> Option<GplOperation>
-    requires { (0x80 ≤ code) × (code < 0xA0) }
-    ensures { result ≡ spec_operation_at code }
-{
-    match code {
-        0x80 | 0x81 => Some(GplOperation::One(OneName::ABS)),
-        0x82 | 0x83 => Some(GplOperation::One(OneName::NEG)),
-        0x84 | 0x85 => Some(GplOperation::One(OneName::INV)),
-        0x86 | 0x87 => Some(GplOperation::One(OneName::CLR)),
-        0x88 => Some(GplOperation::One(OneName::FETCH)),
-        0x8A | 0x8B => Some(GplOperation::One(OneName::CASE)),
-        0x8C => Some(GplOperation::One(OneName::PUSH)),
-        0x8E | 0x8F => Some(GplOperation::One(OneName::CZ)),
-        0x90 | 0x91 => Some(GplOperation::One(OneName::INC)),
-        0x92 | 0x93 => Some(GplOperation::One(OneName::DEC)),
-        0x94 | 0x95 => Some(GplOperation::One(OneName::INCT)),
-        0x96 | 0x97 => Some(GplOperation::One(OneName::DECT)),
-        _ => None,
-    }
-}
-
-/// The operation of a code byte of an instruction with two operands.
-fn two_at(code: u8) -> Option<GplOperation>
-    requires { (0xA0 ≤ code) × (code < 0xF0) }
-    ensures { result ≡ spec_operation_at code }
-{
-    let op = match code {
-        0xA0..=0xA3 => TwoName::ADD,
-        0xA4..=0xA7 => TwoName::SUB,
-        0xA8..=0xAB => TwoName::MUL,
-        0xAC..=0xAF => TwoName::DIV,
-        0xB0..=0xB3 => TwoName::AND,
-        0xB4..=0xB7 => TwoName::OR,
-        0xB8..=0xBB => TwoName::XOR,
-        0xBC..=0xBF => TwoName::ST,
-        0xC0 | 0xC1 => TwoName::EX,
-        0xC4..=0xC7 => TwoName::CH,
-        0xC8..=0xCB => TwoName::CHE,
-        0xCC..=0xCF => TwoName::CGT,
-        0xD0..=0xD3 => TwoName::CGE,
-        0xD4..=0xD7 => TwoName::CEQ,
-        0xD8..=0xDB => TwoName::CLOG,
-        0xDC..=0xDF => TwoName::SRA,
-        0xE0..=0xE3 => TwoName::SLL,
-        0xE4..=0xE7 => TwoName::SRL,
-        0xE8..=0xEB => TwoName::SRC,
-        _ => return None,
-    };
-    Some(GplOperation::Two(op))
+    table[usize::from(code)]
 }
 
 /// The first code byte of an operation.

@@ -1,7 +1,7 @@
 //! The image of a GROM, which grows byte by byte.
-ghost use Rattle.std.specs.Prelude.{◌≡◌, ℕ, ◌<◌, ◌≤◌, ◌↔◌, Bool, false, length, slice_index, slice_index_or, EachIndex, IfOk, IsTrue};
+ghost use Rattle.std.specs.Prelude.{◌≡◌, ℕ, ◌+◌, ◌<◌, ◌≤◌, ◌↔◌, ◌++◌, Bool, false, true, length, take, drop, replicate, slice_index, slice_index_or, EachIndex, IfOk, IsTrue};
 ghost use Rattle.std.specs.FinMap.{empty, insert, contains_key};
-ghost use Rattle.gpl_defs.specs.Image.{byte_at, low_of, high_of, written_bytes};
+ghost use Rattle.gpl_defs.specs.Image.{byte_at, low_of, high_of, placed, written_bytes};
 
 use std::alloc::{AllocError, Global};
 use std::marker::Model;
@@ -67,6 +67,27 @@ impl GromImage {
         self.high = self.high.max(address + 1);
     }
 
+    /// Writes `bytes` one after the other, the first at the address `at`, over what was written there before.
+    pub fn put_all(&mut self, at: u16, bytes: &[u8])
+        requires { at + length bytes.now ≤ 65536 }
+        ensures { self.new ≡ placed self.old at bytes.now }
+    {
+        if bytes.is_empty() {
+            return;
+        }
+        let address = u32::from(at);
+        let place = usize::from(at);
+        let end = place + bytes.len();
+        write_at(&mut self.bytes, place, bytes);
+        mark_at(&mut self.marks, place, bytes.len());
+        self.low = if self.high == 0 {
+            address
+        } else {
+            self.low.min(address)
+        };
+        self.high = self.high.max(end as u32);
+    }
+
     /// The 65,536 bytes, each at its address, 0 where none was written.
     pub fn bytes(&self) -> &[u8]
         ensures size { length result.now ≡ 65536 }
@@ -105,6 +126,22 @@ impl GromImage {
     {
         &self.bytes[self.low as usize..self.high as usize]
     }
+}
+
+/// Puts `bytes` over those from a place on.
+fn write_at(to: &mut [u8], place: usize, bytes: &[u8])
+    requires { place + length bytes.now ≤ length to.old }
+    ensures { to.new ≡ take place to.old ++ bytes.now ++ drop (place + length bytes.now) to.old }
+{
+    to[place..place + bytes.len()].copy_from_slice(bytes);
+}
+
+/// Marks as many places as `count` says from one on.
+fn mark_at(marks: &mut [bool], place: usize, count: usize)
+    requires { place + count ≤ length marks.old }
+    ensures { marks.new ≡ take place marks.old ++ replicate count true ++ drop (place + count) marks.old }
+{
+    marks[place..place + count].fill(true);
 }
 
 /// `count` bytes of 0.

@@ -28,8 +28,6 @@ fn image_of(alloc: Global, at: u16, bytes: &[u8]) -> Result<GromImage, AllocErro
     ensures { IfOk result (λ image. image ≡ placed empty at bytes.now) }
 {
     let mut image = GromImage::new(alloc)?;
-    for place in 0..bytes.len() {
-        image.put(at + place as u16, bytes[place]);
-    }
+    image.put_all(at, bytes);
     Ok(image)
 }

@@ -1,10 +1,7 @@
-use Rattle.std.proofs.Common.{sym, arith}
-use Rattle.std.proofs.lemmas.Bool.Decides.{nat_tests}
-use Rattle.gpl_defs.proofs.CodeLaws.{refused}
+use Rattle.std.proofs.Common.{◌∙◌, None, arith}
+use Rattle.std.proofs.lemmas.List.FromFn.{get_or-map-range_with_len}
+use Rattle.gpl_defs.specs.Codes.{operation_at}
 use Rattle.gpl_forms.proofs.codes.operation_at.Goals as goal
 
-pub returns-in_default : goal.returns-in_default
-returns-in_default c = sym (refused c.args.code (omega arith) (grind (arith, nat_tests)))
-
-pub returns-in_default-2 : goal.returns-in_default-2
-returns-in_default-2 c = sym (refused c.args.code (omega arith) (grind (arith, nat_tests)))
+pub returns : goal.returns
+returns c = c.entry.ensures ∙ get_or-map-range_with_len operation_at 0 256 c.args.code c.args.code None (omega arith) (omega arith)
