@@ -8,7 +8,7 @@ ghost use Rattle.interp_defs.specs.Programs.{most_of_boot};
 ghost use Rattle.interp_defs.specs.Turned.{Turned};
 ghost use Rattle.sim_steps.specs.Running.{RunsTurns};
 ghost use Rattle.sim_steps.specs.Starting.{Begins};
-ghost use Rattle.gpl_run.specs.Sessions.{IsNew, image_of, entry_of, ended_by, address_in};
+ghost use Rattle.gpl_run.specs.Sessions.{IsSession, IsNew, image_of, entry_of, ended_by, address_in};
 
 use interp_defs::Turn;
 use sim_steps::{gpl_turn, machines_start, run_turns, start_program};
@@ -81,9 +81,10 @@ impl Session {
         made
     }
 
-    /// Is the program running?
+    /// Is the program running? Where it is, its machine matches the state that it shows; else its machine is halted.
     pub fn is_running(&self) -> bool
-        ensures { result ≡ is_none self.now.ended }
+        ensures running { result ≡ is_none self.now.ended }
+        ensures machine { IsSession self.now.machine self.now.ended }
     {
         self.ended.is_none()
     }
