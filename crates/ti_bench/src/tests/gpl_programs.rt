@@ -74,6 +74,14 @@ const PROGRAMS: &[(&[u8], &[u8], Status, &[u8], &[u8])] = &[
         b"exit at >6007\ngpl >6007 S00 D9F R7E\npad\n",
         b"\n>0020 00 00 41 00 00 00 00 00 00 00 00 00 00 00 00 00\n",
     ),
+    // so does one that is the second byte of a word, of which the first is the status
+    (
+        b"5",
+        b"S DST @>837C,>2041\n EXIT\n END S\n",
+        Status::Done,
+        b"exit at >6004\ngpl >6004 S20 D9F R7E\npad\n",
+        b"\nvdp\n>0000 41 00 00 00 00 00 00 00 00 00 00 00 00 00 00 00\n",
+    ),
     (
         b"0",
         b"S EXIT\n END S\n",
