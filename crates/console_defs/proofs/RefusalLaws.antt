@@ -3,7 +3,7 @@
 use Rattle.std.proofs.Common.{◌≡◌, ℕ, Bool, true, false, refl, ap, Option, Some, None, List, [], ◌∷◌}
 use Rattle.std.specs.Prelude.{eqb, ℤ, if◌then◌else◌}
 use Rattle.console_defs.specs.Words.{even, plus}
-use Rattle.console_defs.specs.Flags.{Width, Byte, Word, width_of}
+use Rattle.console_defs.specs.Flags.{Width, Byte, Word, byte_or_word}
 use Rattle.console_defs.specs.Instructions.{instr_at}
 use Rattle.console_defs.specs.Accesses.{Answer, Gives, AtPort, NoInstruction, ◌>>=◌}
 use Rattle.console_defs.specs.Memory.{Memory, Region, Rom, LowExpansion, HighExpansion, Scratchpad, PortOf, Unmapped}
@@ -233,7 +233,7 @@ bare_executes LREX x e = absurd (cc)
 -- An instruction whose operation is executed gives a state, or meets a port.
 pub instr_executes : (instr : Instr) (x : Cpu Memory) → is_stopping instr ≡ false →
     Executes (executed Memory console instr x)
-instr_executes (Two op byte dst src) x e = two_operands_executes op (width_of byte) dst src x
+instr_executes (Two op byte dst src) x e = two_operands_executes op (byte_or_word byte) dst src x
 instr_executes (Reg op number src) x e = source_executes op number src x e
 instr_executes (Shift op count number) x e = shift_executes op count number x
 instr_executes (One op at) x e = one_operand_executes op at x e

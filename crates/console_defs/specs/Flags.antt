@@ -10,9 +10,9 @@ pub data Width : Type 0 where
   Word : Width
 
 -- The width of an instruction's operands: true is the form of bytes.
-abbrev pub width_of : Bool → Width
-width_of true = Byte
-width_of false = Word
+abbrev pub byte_or_word : Bool → Width
+byte_or_word true = Byte
+byte_or_word false = Word
 
 -- One past the largest number of a width.
 abbrev pub modulus : Width → ℕ

@@ -1,6 +1,6 @@
 -- One step of the processor.
 use Rattle.std.specs.Prelude.{ℕ, Bool, true, false, Option, Some, None, if◌then◌else◌}
-use Rattle.console_defs.specs.Flags.{width_of}
+use Rattle.console_defs.specs.Flags.{byte_or_word}
 use Rattle.console_defs.specs.Instructions.{instr_at}
 use Rattle.console_defs.specs.Accesses.{Answer, Gives, AtPort, NoInstruction, ◌>>=◌, Accesses}
 use Rattle.console_defs.specs.Operand.{Cpu, next_word}
@@ -40,7 +40,7 @@ module _ (M : Type 0) (access : Accesses M) where
   -- An instruction is executed; the program counter stands behind its first word.
   -- TMS9900 data manual, "Instructions".
   abbrev pub executed : Instr → Cpu M → Answer (Cpu M)
-  executed (Two op byte dst src) x = two_operands M access op (width_of byte) dst src x
+  executed (Two op byte dst src) x = two_operands M access op (byte_or_word byte) dst src x
   executed (Reg op number src) x = with_source M access op number src x
   executed (Shift op count number) x = shift M access op count number x
   executed (One op at) x = one_operand M access op at x

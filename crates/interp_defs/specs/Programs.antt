@@ -17,14 +17,14 @@ AreTurns s (suc earlier) count x y =
     × IsTurn turn z y × (turn ≤ bound (run earlier s).last) × (count ≡ led + turn)
 
 -- At its end the machine matches the last state, or is halted with it and the reason.
-abbrev pub EndsWith : Option Reason → GplState → MachineState → Type 0
-EndsWith None last y = Matches last y
-EndsWith (Some reason) last y = IsHalted last reason y
+abbrev pub EndsAs : Option Reason → GplState → MachineState → Type 0
+EndsAs None last y = Matches last y
+EndsAs (Some reason) last y = IsHalted last reason y
 
 -- The turns from x to y are the run of up to so many steps from a state, and have so many instructions in all.
 pub record RunsSteps (s : GplState) (limit count : ℕ) (x y : MachineState) : Type 0 where
   pub turns_are : AreTurns s (turns limit s) count x y
-  pub ends : EndsWith (run limit s).stop (run limit s).last y
+  pub ends : EndsAs (run limit s).stop (run limit s).last y
 
 -- Profile: from its start the interpreter takes at most 400 instructions to its first step.
 abbrev pub most_of_boot : ℕ

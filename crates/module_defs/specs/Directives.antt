@@ -22,7 +22,7 @@ use Rattle.module_defs.specs.declared.directive.Directive.TheVariants.{
 }
 
 -- The directive that an operation field names. Editor/Assembler manual, "Assembler Directives".
--- Profile: PAGE, LIST and UNL have no effect.
+-- Profile: PAGE, LIST and UNL have no effect, and TITL has none but that its text must be one in quotes.
 unfoldable pub directive : List ℕ → Option Directive
 directive text =
     if is_word text (codes "DATA") then Some Data

@@ -53,7 +53,7 @@ spot_of _ = spot.Absolute 0
 abbrev pub definition_in : Names → List ℕ → Definition
 definition_in known name = record { name = name; value = spot_of (look_up known name) }
 
--- the entry that END gives
+-- The entry that END gives. Profile: a source whose last line is no END is a module without an entry.
 abbrev pub entry_by : Option Spot → Outcome → Option Spot
 entry_by entry (Entry found) = Some found
 entry_by entry Nothing = entry

@@ -17,7 +17,7 @@ use Rattle.report_defs.specs.declared.command.Command.{Command}
 use Rattle.report_defs.specs.declared.command.Command.TheVariants.{Asm, Gasm, Dis, Gdis, Link, Exec, Interp, Run}
 use Rattle.report_defs.specs.Exec.{IsStart, Executes, exec_lines, end_status}
 use Rattle.report_defs.specs.declared.fault.Fault.TheVariants.{TooLarge}
-use Rattle.report_defs.specs.Report.{Report, Whole, Faulty, ReportsRun, ExecReport, AcceptedReport, largest_input, program_report}
+use Rattle.report_defs.specs.Report.{Report, Whole, Faulty, ReportsExecution, ExecReport, AcceptedReport, largest_input, program_report}
 use Rattle.report_defs.specs.Report.{ReportsProgram, EnteredReport, ProgramReport, RunReport}
 use Rattle.source_defs.specs.Refusals.{Refusal}
 use Rattle.gpl_defs.specs.Image.{Image, AreBytesOf}
@@ -84,8 +84,8 @@ one_execution limit linked e f left right p q =
     let made : p.made ≡ q.made = one_number None limit p.made q.made p.start left right e f p.run run in
     same_run None limit p.made q.made p.start left right e f made p.run run
 
-one_run_report : (limit : ℕ) (linked : LinkedMemory) (first second : Report) → ReportsRun limit linked first → ReportsRun limit linked second → first ≡ second
-one_run_report limit linked first second p q =
+one_execution_report : (limit : ℕ) (linked : LinkedMemory) (first second : Report) → ReportsExecution limit linked first → ReportsExecution limit linked second → first ≡ second
+one_execution_report limit linked first second p q =
     let same = one_execution limit linked p.ending q.ending p.left q.left p.executes q.executes in
     p.is ∙ ap (λ ending. Whole (end_status ending) (exec_lines ending p.left)) same.0 ∙ ap (λ left. Whole (end_status q.ending) (exec_lines q.ending left)) same.1 ∙ sym q.is
 
@@ -95,7 +95,7 @@ one_by true fault first second Other one p q = p ∙ sym q
 one_by false fault first second Other one p q = one first second p q
 
 one_exec : (limit : ℕ) (linked : Result LinkedMemory (List ℕ)) (first second : Report) → ExecReport limit linked first → ExecReport limit linked second → first ≡ second
-one_exec limit (Ok linked) first second p q = one_run_report limit linked first second p q
+one_exec limit (Ok linked) first second p q = one_execution_report limit linked first second p q
 one_exec limit (Err line) first second p q = p ∙ sym q
 
 -- bytes of an image are one list

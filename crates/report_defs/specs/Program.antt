@@ -24,10 +24,11 @@ abbrev pub stop_lines : Option Reason → ℕ → List (List ℕ)
 stop_lines None address = []
 stop_lines (Some reason) address = stop_line reason address ∷ []
 
--- Profile: the line of a state has the address of the next instruction, the status and the pointers of the two stacks.
+-- a cell in two digits
 abbrev pub cell_text : List ℕ → ℕ → List ℕ
 cell_text cells cell = byte_digits (slice_index cells cell)
 
+-- Profile: the line of a state has the address of the next instruction, the status and the pointers of the two stacks.
 unfoldable pub state_line : GplState → List ℕ
 state_line s =
     codes "gpl "
@@ -49,10 +50,11 @@ showing s x =
       };
     }
 
--- Profile: the report of a program is why it ended, if it did; its last state; and a dump that shows the state in the machine.
+-- the line of a state, and the dump of a machine with the state in it
 abbrev pub state_lines : GplState → MachineState → List (List ℕ)
 state_lines last left = state_line last ∷ dump_lines (showing last left)
 
+-- Profile: the report of a program is why it ended, if it did; its last state; and a dump that shows the state in the machine.
 abbrev pub program_lines : Option Reason → GplState → MachineState → List (List ℕ)
 program_lines stop last left = stop_lines stop last.pc ++ state_lines last left
 

@@ -82,7 +82,7 @@ link_report (Ok linked) = Whole Done (linked_lines linked)
 link_report (Err line) = Rejected line
 
 -- the report of a run of the machine
-pub record ReportsRun (limit : ℕ) (linked : LinkedMemory) (report : Report) : Type 0 where
+pub record ReportsExecution (limit : ℕ) (linked : LinkedMemory) (report : Report) : Type 0 where
   pub ending : RunEnd
   pub left : MachineState
   pub executes : Executes limit linked ending left
@@ -90,7 +90,7 @@ pub record ReportsRun (limit : ℕ) (linked : LinkedMemory) (report : Report) : 
 
 -- the report of exec, by the linked memory of its input
 abbrev pub ExecReport : ℕ → Result LinkedMemory (List ℕ) → Report → Type 0
-ExecReport limit (Ok linked) report = ReportsRun limit linked report
+ExecReport limit (Ok linked) report = ReportsExecution limit linked report
 ExecReport limit (Err line) report = report ≡ Rejected line
 
 -- Profile: the report of interp is the listing of the interpreter's linked memory, unless its source does not give its

@@ -13,7 +13,7 @@ use Rattle.gpl_defs.specs.Reading.{operand_at}
 use Rattle.step_defs.specs.declared.reason.Reason.{Reason}
 use Rattle.step_defs.specs.State.{GplState}
 use Rattle.step_defs.specs.Place.{Place, place_of}
-use Rattle.step_defs.specs.Step.{width_of}
+use Rattle.step_defs.specs.Step.{word_or_byte}
 use Rattle.sim_view.specs.View.{View, view}
 use Rattle.sim_view.specs.Exits.{Exits, Comes}
 use Rattle.sim_view.proofs.Compose.{Goes, comes, comes_then, comes_as, comes_on}
@@ -32,10 +32,10 @@ use Rattle.sim_steps.proofs.Steps.{place_same}
 pub width_is : (code : ℕ) → code < 256 → pieces.width_of_code code ≡ code % 2 + 1
 width_is code h = omega arith
 
-pub size_is : (code : ℕ) → size_of (width_of (code % 2 == 1)) ≡ code % 2 + 1
+pub size_is : (code : ℕ) → size_of (word_or_byte (code % 2 == 1)) ≡ code % 2 + 1
 size_is code = by (code % 2 == 1) refl
   where
-    by : (b : Bool) → (code % 2 == 1) ≡ b → size_of (width_of b) ≡ code % 2 + 1
+    by : (b : Bool) → (code % 2 == 1) ≡ b → size_of (word_or_byte b) ≡ code % 2 + 1
     by true e = let n : code % 2 ≡ 1 = eqb-true (code % 2) 1 e in omega arith
     by false e = let n : code % 2 ≡ 0 = not_one e in omega arith
       where
@@ -46,7 +46,7 @@ size_is code = by (code % 2 == 1) refl
         not_one f = let g : code % 2 ≡ 1 → ⊥ = λ m. not_both (code % 2 == 1) (eq-eqb (code % 2) 1 m) f in omega arith
 
 -- register 3 says that width
-pub width_of_size : (w : Bool) → width_in (size_of (width_of w)) ≡ width_of w
+pub width_of_size : (w : Bool) → width_in (size_of (word_or_byte w)) ≡ word_or_byte w
 width_of_size true = refl
 width_of_size false = refl
 
@@ -118,11 +118,11 @@ barred_stops s at reason v w h a =
 -- ---- what ADDR finds, said of the state
 
 pub finds_of : (s t : GplState) (at : ℕ) (x y : MachineState) (before after : ℕ) → Holds s at (view x) → t.cells ≡ s.cells → FindsOperand x y before after →
-    (let read = operand_at s.image at in Finds x y before after read.1 (place_of t (size_of (width_of (word_of s))) read.0))
+    (let read = operand_at s.image at in Finds x y before after read.1 (place_of t (size_of (word_or_byte (word_of s))) read.0))
 finds_of s t at x y before after h same f =
     let v : View = view x in
     let image : List ℕ → ℕ → ℕ → Type 0 = λ image from bytes. (let read = operand_at image from in Finds x y before after read.1 (place_of (state_of v) bytes read.0)) in
-    let a : Type 0 = image s.image at (size_of (width_of (word_of s))) in
+    let a : Type 0 = image s.image at (size_of (word_or_byte (word_of s))) in
     let i : v.grom.image ≡ s.image = ap (λ (g : GromState). g.image) h.sees.grom in
     let n : next_at v ≡ at = ap (λ (g : GromState). previous_in_grom g.counter) h.sees.grom ∙ previous-next at in
     let f1 : image s.image (next_at v) v.r.r3 = subst (λ (l : List ℕ). image l (next_at v) v.r.r3) i f in
@@ -130,7 +130,7 @@ finds_of s t at x y before after h same f =
     let f3 : a = subst (λ (k : ℕ). image s.image at k) h.width f2 in
     let read = operand_at s.image at in
     let to : Result Place Reason → Type 0 = λ r. Finds x y before after read.1 r in
-    subst to (place_same (state_of v) t (size_of (width_of (word_of s))) read.0 (h.sees.cells ∙ sym same)) f3
+    subst to (place_same (state_of v) t (size_of (word_or_byte (word_of s))) read.0 (h.sees.cells ∙ sym same)) f3
 
 -- ---- the first operand
 

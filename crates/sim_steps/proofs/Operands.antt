@@ -17,7 +17,7 @@ use Rattle.gpl_defs.specs.declared.instruction.Space.TheVariants.{Cpu, Vdp}
 use Rattle.gpl_defs.specs.Reading.{value_at as value_in}
 use Rattle.step_defs.specs.State.{GplState}
 use Rattle.step_defs.specs.Place.{Place, value_at, byte_in}
-use Rattle.step_defs.specs.Step.{width_of}
+use Rattle.step_defs.specs.Step.{word_or_byte}
 use Rattle.sim_view.specs.View.{View, view}
 use Rattle.sim_view.specs.Exits.{Exits, Comes}
 use Rattle.sim_view.proofs.Compose.{comes_then, comes_as, comes_on}
@@ -50,29 +50,29 @@ pub record Loading (s : GplState) (place kept : Place) (next to : ℕ) (w : View
   pub link : w.r.r11 ≡ to
 
 -- the place is visible
-pub visible_of : (s : GplState) (place : Place) (space address width : ℕ) → space ≡ number_of_space place.space → address ≡ place.address → width ≡ size_of (width_of (word_of s)) →
-    (number_of_space place.space ≡ 0 → place.address + size_of (width_of (word_of s)) ≤ 0xC2) → IsVisible space address width
+pub visible_of : (s : GplState) (place : Place) (space address width : ℕ) → space ≡ number_of_space place.space → address ≡ place.address → width ≡ size_of (word_or_byte (word_of s)) →
+    (number_of_space place.space ≡ 0 → place.address + size_of (word_or_byte (word_of s)) ≤ 0xC2) → IsVisible space address width
 visible_of s place space address width a b c h =
     let P : ℕ → ℕ → ℕ → Type 0 = λ p q r. IsVisible p q r in
-    let w = size_of (width_of (word_of s)) in
+    let w = size_of (word_or_byte (word_of s)) in
     let goal : IsVisible (number_of_space place.space) place.address w = λ z. subst (λ (v : Width). place.address + size_of v ≤ 0xC2) (sym (width_of_size (word_of s))) (h z) in
     subst (λ p. P p address width) (sym a) (subst (λ q. P (number_of_space place.space) q width) (sym b) (subst (λ r. P (number_of_space place.space) place.address r) (sym c) goal))
 
 -- the value that it gives
-number_is : (s : GplState) (place : Place) (next : ℕ) (v : View) → Holds s next v → From place v → value_at (state_of v) (width_in v.r.r3) (place_in v.r.r5 v.r.r2) ≡ value_at s (width_of (word_of s)) place
+number_is : (s : GplState) (place : Place) (next : ℕ) (v : View) → Holds s next v → From place v → value_at (state_of v) (width_in v.r.r3) (place_in v.r.r5 v.r.r2) ≡ value_at s (word_or_byte (word_of s)) place
 number_is s place next v h f =
     ap (λ (n : ℕ). value_at (state_of v) (width_in n) (place_in v.r.r5 v.r.r2)) h.width
     ∙ ap (λ (w : Width). value_at (state_of v) w (place_in v.r.r5 v.r.r2)) (width_of_size (word_of s))
-    ∙ ap (λ (n : ℕ). value_at (state_of v) (width_of (word_of s)) (place_in n v.r.r2)) f.space
-    ∙ ap (λ (n : ℕ). value_at (state_of v) (width_of (word_of s)) (place_in (number_of_space place.space) n)) f.address
-    ∙ ap (λ (p : Place). value_at (state_of v) (width_of (word_of s)) p) (place_is place)
-    ∙ value_same (state_of v) s (width_of (word_of s)) place h.sees.cells h.sees.vdp
+    ∙ ap (λ (n : ℕ). value_at (state_of v) (word_or_byte (word_of s)) (place_in n v.r.r2)) f.space
+    ∙ ap (λ (n : ℕ). value_at (state_of v) (word_or_byte (word_of s)) (place_in (number_of_space place.space) n)) f.address
+    ∙ ap (λ (p : Place). value_at (state_of v) (word_or_byte (word_of s)) p) (place_is place)
+    ∙ value_same (state_of v) s (word_or_byte (word_of s)) place h.sees.cells h.sees.vdp
 
-register_width : (s : GplState) (next : ℕ) (v : View) (number : ℕ) → Holds s next v → in_register (width_in v.r.r3) number ≡ in_register (width_of (word_of s)) number
+register_width : (s : GplState) (next : ℕ) (v : View) (number : ℕ) → Holds s next v → in_register (width_in v.r.r3) number ≡ in_register (word_or_byte (word_of s)) number
 register_width s next v number h = ap (λ (n : ℕ). in_register (width_in n) number) h.width ∙ ap (λ (w : Width). in_register w number) (width_of_size (word_of s))
 
 pub loads : (s : GplState) (place kept : Place) (next to most : ℕ) (x y z : MachineState) (t u w : ℕ) → even to ≡ to → Comes most x y t u 0x2368 (Loading s place kept next to) → LoadsValue y z u w →
-    Comes (most + 17) x z t w to (λ q. Valued s (value_at s (width_of (word_of s)) place) kept next q × (q.r.r9 ≡ (view y).r.r9))
+    Comes (most + 17) x z t w to (λ q. Valued s (value_at s (word_or_byte (word_of s)) place) kept next q × (q.r.r9 ≡ (view y).r.r9))
 loads s place kept next to most x y z t u w even_to c d =
     let v : View = view y in
     let h = c.holds.holds in
@@ -82,7 +82,7 @@ loads s place kept next to most x y z t u w even_to c d =
     comes_as (most + 17) _ (comes_on most 17 c d2 refl) (omega arith) (λ q a. (
       record {
         holds = holds_loaded s next number v q h a;
-        value = ap (λ (u : View). u.r.r6) a.is ∙ register_width s next v number h ∙ ap (in_register (width_of (word_of s))) (number_is s place next v h c.holds.from);
+        value = ap (λ (u : View). u.r.r6) a.is ∙ register_width s next v number h ∙ ap (in_register (word_or_byte (word_of s))) (number_is s place next v h c.holds.from);
         to_kept = record { address = ap (λ (u : View). u.r.r7) a.is ∙ c.holds.to_kept.address; space = ap (λ (u : View). u.r.r8) a.is ∙ c.holds.to_kept.space };
       },
       ap (λ (u : View). u.r.r9) a.is,
@@ -111,7 +111,7 @@ asks_first s place next most x y z t u w c e =
 pub record Second (s : GplState) (kept : Place) (next : ℕ) (w : View) : Type 0 where
   pub holds : Holds s next w
   pub to_kept : To kept w
-  pub destination : w.r.r9 ≡ in_register (width_of (word_of s)) (value_at s (width_of (word_of s)) kept)
+  pub destination : w.r.r9 ≡ in_register (word_or_byte (word_of s)) (value_at s (word_or_byte (word_of s)) kept)
 
 pub record Immediate (s : GplState) (kept : Place) (next : ℕ) (w : View) : Type 0 where
   pub second : Second s kept next w
@@ -124,11 +124,11 @@ pub record Operand (s : GplState) (kept : Place) (next : ℕ) (w : View) : Type 
 immediate_bit : (code : ℕ) → code < 256 → last_out SRL code 2 ≡ (code / 2 % 2 == 1)
 immediate_bit code h = let n : (65536 * 0 + code) / 2 % 2 ≡ code / 2 % 2 = omega arith in ap (λ (k : ℕ). eqb k 1) n
 
-width_kept : (s : GplState) (next : ℕ) (v : View) → code_of s < 256 → Holds s next v → pieces.width_of_code v.r.r0 ≡ size_of (width_of (word_of s))
+width_kept : (s : GplState) (next : ℕ) (v : View) → code_of s < 256 → Holds s next v → pieces.width_of_code v.r.r0 ≡ size_of (word_or_byte (word_of s))
 width_kept s next v h d = ap pieces.width_of_code d.code ∙ width_is (code_of s) h ∙ sym (size_is (code_of s))
 
 pub immediates : (s : GplState) (kept : Place) (next most : ℕ) (x y z : MachineState) (t u w : ℕ) → code_of s < 256 → nat_lt (code_of s) 0xA0 ≡ false → (code_of s / 2 % 2 == 1) ≡ true →
-    Comes most x y t u 0x243C (Valued s (value_at s (width_of (word_of s)) kept) kept next) → Exits y z u w (pieces.second_operand (view y)) →
+    Comes most x y t u 0x243C (Valued s (value_at s (word_or_byte (word_of s)) kept) kept next) → Exits y z u w (pieces.second_operand (view y)) →
     Comes (most + 12) x z t w 0x245C (Immediate s kept next)
 immediates s kept next most x y z t u w fits two is c e =
     let v : View = view y in
@@ -149,7 +149,7 @@ immediates s kept next most x y z t u w fits two is c e =
     })) refl
 
 pub operands : (s : GplState) (kept : Place) (next most : ℕ) (x y z : MachineState) (t u w : ℕ) → code_of s < 256 → nat_lt (code_of s) 0xA0 ≡ false → (code_of s / 2 % 2 == 1) ≡ false →
-    Comes most x y t u 0x243C (Valued s (value_at s (width_of (word_of s)) kept) kept next) → Exits y z u w (pieces.second_operand (view y)) →
+    Comes most x y t u 0x243C (Valued s (value_at s (word_or_byte (word_of s)) kept) kept next) → Exits y z u w (pieces.second_operand (view y)) →
     Comes (most + 12) x z t w 0x22EC (Operand s kept next)
 operands s kept next most x y z t u w fits two is c e =
     let v : View = view y in
@@ -197,7 +197,7 @@ asks_immediate s kept next most x y z t u w c e =
     }) refl
 
 -- words are told by the width in register 3
-word_is : (w : Bool) → not (size_of (width_of w) == 1) ≡ w
+word_is : (w : Bool) → not (size_of (word_or_byte w) == 1) ≡ w
 word_is true = refl
 word_is false = refl
 
@@ -262,7 +262,7 @@ bars_second s kept at most reason x y z t u w c d =
 -- LOAD is asked for its value
 pub record LoadingSecond (s : GplState) (place kept : Place) (next : ℕ) (w : View) : Type 0 where
   pub loading : Loading s place kept next 0x2472 w
-  pub destination : w.r.r9 ≡ in_register (width_of (word_of s)) (value_at s (width_of (word_of s)) kept)
+  pub destination : w.r.r9 ≡ in_register (word_or_byte (word_of s)) (value_at s (word_or_byte (word_of s)) kept)
 
 pub asks_second : (s : GplState) (place kept : Place) (next most : ℕ) (x y z : MachineState) (t u w : ℕ) → Comes most x y t u 0x245C (Found s place kept next) → Exits y z u w (pieces.load_second (view y)) →
     Comes (most + 2) x z t w 0x2368 (LoadingSecond s place kept next)
@@ -285,7 +285,7 @@ asks_second s place kept next most x y z t u w c e =
     }) refl
 
 pub loads_second : (s : GplState) (place kept : Place) (next most : ℕ) (x y z : MachineState) (t u w : ℕ) → Comes most x y t u 0x2368 (LoadingSecond s place kept next) → LoadsValue y z u w →
-    Comes (most + 17) x z t w 0x2472 (AtRow s kept (value_at s (width_of (word_of s)) place) next)
+    Comes (most + 17) x z t w 0x2472 (AtRow s kept (value_at s (word_or_byte (word_of s)) place) next)
 loads_second s place kept next most x y z t u w c d =
     let c2 : Comes most x y t u 0x2368 (Loading s place kept next 0x2472) = comes_as most _ c (omega arith) (λ v a. a.loading) in
     comes_as (most + 17) _ (loads s place kept next 0x2472 most x y z t u w refl c2 d) (omega arith) (λ v a. record {

@@ -12,7 +12,7 @@ use Rattle.interp_defs.specs.declared.turn.Turn.TheVariants.{Stepped, Stopped}
 use Rattle.interp_defs.specs.Match.{IsMatching, Matches, shown_by}
 use Rattle.interp_defs.specs.Turned.{TurnedBy, Turned}
 use Rattle.interp_defs.specs.Turns.{IsTurn}
-use Rattle.interp_defs.specs.Programs.{AreTurns, EndsWith, RunsSteps}
+use Rattle.interp_defs.specs.Programs.{AreTurns, EndsAs, RunsSteps}
 use Rattle.sim_steps.specs.Running.{RunsTurns}
 
 state_in : GplState → Result GplState Reason → GplState
@@ -132,7 +132,7 @@ module _ (made : ℕ) (s : GplState) (x z w : MachineState) (t u v : ℕ) (h : S
           turns_are = subst (λ (q : GplRun). AreTurns s (with_stop q.stop q.done) (h.count + r.1.count) x w) (sym is)
               (subst (λ (d : ℕ). AreTurns s d (h.count + r.1.count) x w) (sym (next_is made))
               (one_more_turn r.1.count r.1.turn (let le = r.1.within in omega arith)));
-          ends = subst (λ (q : GplRun). EndsWith q.stop q.last w) (sym is) r.2;
+          ends = subst (λ (q : GplRun). EndsAs q.stop q.last w) (sym is) r.2;
         };
       }
 
@@ -149,6 +149,6 @@ whole limit s x z t u h =
       counted = h.counted;
       runs = record {
         turns_are = subst (λ (q : GplRun). AreTurns s (with_stop q.stop q.done) h.count x z) (sym is) h.turns_are;
-        ends = subst (λ (q : GplRun). EndsWith q.stop q.last z) (sym is) h.matches;
+        ends = subst (λ (q : GplRun). EndsAs q.stop q.last z) (sym is) h.matches;
       };
     }

@@ -21,7 +21,7 @@ use Rattle.step_defs.specs.Place.{Place, place_of, pointed, indexed, ranged, is_
 use Rattle.step_defs.specs.Changes.{Changes, unchanged, with_value, finished}
 use Rattle.step_defs.specs.Arithmetic.{Source}
 use Rattle.step_defs.specs.Built.{is_built, is_built_operation}
-use Rattle.step_defs.specs.Step.{step, executed, after, width_of}
+use Rattle.step_defs.specs.Step.{step, executed, after, word_or_byte}
 use Rattle.sim_steps.specs.Rows.{code_of, behind_code, word_of, moved, first_of, second_of}
 use Rattle.step_defs.specs.Run.{bound, bound_by, bound_at}
 
@@ -73,7 +73,7 @@ step_jump s e = step_is s (Some (operation.Jump B)) e
 
 -- ST: the state after it
 abbrev pub stored_of : GplState → Place → Source → GplState
-stored_of s place source = finished (with_value (width_of (word_of s)) place source.number (unchanged (moved s)))
+stored_of s place source = finished (with_value (word_or_byte (word_of s)) place source.number (unchanged (moved s)))
 
 pub step_store : (s : GplState) → operation_at (code_of s) ≡ Some (operation.Two ST) →
     step s ≡ (first_of s >>= λ place. (second_of s >>= λ source. Ok (stored_of s place source)))
@@ -86,9 +86,9 @@ step_store s e =
     then_ok (Err reason) f = refl
 
     by : (r : Result Place Reason) →
-        ((r >>= λ place. (second_of s >>= λ source. Ok (with_value (width_of (word_of s)) place source.number (unchanged (moved s))))) >>= λ (c : Changes). Ok (finished c))
+        ((r >>= λ place. (second_of s >>= λ source. Ok (with_value (word_or_byte (word_of s)) place source.number (unchanged (moved s))))) >>= λ (c : Changes). Ok (finished c))
         ≡ (r >>= λ place. (second_of s >>= λ source. Ok (stored_of s place source)))
-    by (Ok place) = then_ok (second_of s) (λ source. with_value (width_of (word_of s)) place source.number (unchanged (moved s)))
+    by (Ok place) = then_ok (second_of s) (λ source. with_value (word_or_byte (word_of s)) place source.number (unchanged (moved s)))
     by (Err reason) = refl
 
 -- The bound of a step: 400 where it stops, and else that of its instruction.

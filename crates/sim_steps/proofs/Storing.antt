@@ -13,7 +13,7 @@ use Rattle.gpl_defs.specs.declared.instruction.Space.TheVariants.{Cpu, Vdp}
 use Rattle.step_defs.specs.State.{GplState}
 use Rattle.step_defs.specs.Place.{Place}
 use Rattle.step_defs.specs.Changes.{Changes, unchanged, with_value, with_byte_in, finished, shown}
-use Rattle.step_defs.specs.Step.{width_of}
+use Rattle.step_defs.specs.Step.{word_or_byte}
 use Rattle.sim_view.specs.View.{View, view}
 use Rattle.sim_view.specs.Exits.{Exits, Comes}
 use Rattle.sim_view.proofs.Bridge.{IsView}
@@ -34,7 +34,7 @@ use Rattle.sim_steps.proofs.Ends.{same_state}
 pub record Storing (s : GplState) (kept : Place) (number next : ℕ) (w : View) : Type 0 where
   pub holds : Holds s next w
   pub to_kept : To kept w
-  pub value : w.r.r9 ≡ in_register (width_of (word_of s)) number
+  pub value : w.r.r9 ≡ in_register (word_or_byte (word_of s)) number
   pub link : w.r.r11 ≡ 0x247A
 
 -- the value of ST
@@ -66,10 +66,10 @@ register_back Word number = refl
 pub moved_to : GplState → ℕ → GplState
 moved_to s next = record s { pc = next }
 
-changes_are : (s : GplState) (kept : Place) (number next : ℕ) (v : View) → Holds s next v → To kept v → v.r.r9 ≡ in_register (width_of (word_of s)) number →
-    with_value (width_in v.r.r3) (place_in v.r.r8 v.r.r7) (of_register (width_in v.r.r3) v.r.r9) (unchanged (state_of v)) ≡ with_value (width_of (word_of s)) kept number (unchanged (record s { pc = next }))
+changes_are : (s : GplState) (kept : Place) (number next : ℕ) (v : View) → Holds s next v → To kept v → v.r.r9 ≡ in_register (word_or_byte (word_of s)) number →
+    with_value (width_in v.r.r3) (place_in v.r.r8 v.r.r7) (of_register (width_in v.r.r3) v.r.r9) (unchanged (state_of v)) ≡ with_value (word_or_byte (word_of s)) kept number (unchanged (record s { pc = next }))
 changes_are s kept number next v h k e =
-    let w : Width = width_of (word_of s) in
+    let w : Width = word_or_byte (word_of s) in
     let width : width_in v.r.r3 ≡ w = ap width_in h.width ∙ width_of_size (word_of s) in
     let place : place_in v.r.r8 v.r.r7 ≡ kept = ap (λ n. place_in n v.r.r7) k.space ∙ ap (λ n. place_in (number_of_space kept.space) n) k.address ∙ place_is kept in
     let n : of_register w v.r.r9 ≡ number = ap (of_register w) e ∙ register_back w number in
@@ -105,11 +105,11 @@ pub record Showing (c : Changes) (image : List ℕ) (next : ℕ) (w : View) : Ty
   pub mark : w.r.r13 ≡ marked_by c.shows 0
 
 pub stores : (s : GplState) (kept : Place) (number next most : ℕ) (x y z : MachineState) (t u w : ℕ) → Comes most x y t u 0x23C2 (Storing s kept number next) → StoresValue y z u w →
-    Comes (most + 16) x z t w 0x247A (Showing (with_value (width_of (word_of s)) kept number (unchanged (record s { pc = next }))) s.image next)
+    Comes (most + 16) x z t w 0x247A (Showing (with_value (word_or_byte (word_of s)) kept number (unchanged (record s { pc = next }))) s.image next)
 stores s kept number next most x y z t u w c d =
     let v : View = view y in
     let h = c.holds.holds in
-    let done : Changes = with_value (width_of (word_of s)) kept number (unchanged (record s { pc = next })) in
+    let done : Changes = with_value (word_or_byte (word_of s)) kept number (unchanged (record s { pc = next })) in
     let is = changes_are s kept number next v h c.holds.to_kept c.holds.value in
     let d1 : Comes 16 y z u w (return_of v) (Stored v done) = subst (λ (k : Changes). Comes 16 y z u w (return_of v) (Stored v k)) is d in
     let e : return_of v ≡ 0x247A = ap even c.holds.link in
@@ -219,8 +219,8 @@ ends_here c most x z t w none d =
 
 -- The changes of ST keep the image and the place where GROM goes on.
 pub at_done : (s : GplState) (kept : Place) (number next most : ℕ) (x z : MachineState) (t w to : ℕ) →
-    (let c = with_value (width_of (word_of s)) kept number (unchanged (record s { pc = next })) in Comes most x z t w to (Showing c s.image next) → Comes most x z t w to (Showing c c.state.image c.state.pc))
+    (let c = with_value (word_or_byte (word_of s)) kept number (unchanged (record s { pc = next })) in Comes most x z t w to (Showing c s.image next) → Comes most x z t w to (Showing c c.state.image c.state.pc))
 at_done s kept number next most x z t w to d =
-    let c : Changes = with_value (width_of (word_of s)) kept number (unchanged (record s { pc = next })) in
-    let k = value_keeps (width_of (word_of s)) kept number (unchanged (record s { pc = next })) in
+    let c : Changes = with_value (word_or_byte (word_of s)) kept number (unchanged (record s { pc = next })) in
+    let k = value_keeps (word_or_byte (word_of s)) kept number (unchanged (record s { pc = next })) in
     subst (λ (l : List ℕ). Comes most x z t w to (Showing c l c.state.pc)) (sym k.0) (subst (λ (n : ℕ). Comes most x z t w to (Showing c s.image n)) (sym k.1) d)

@@ -10,7 +10,7 @@ use Rattle.step_defs.specs.Reasons.{number_of}
 use Rattle.step_defs.specs.State.{GplState}
 use Rattle.step_defs.specs.Place.{Place, place_of, value_at}
 use Rattle.step_defs.specs.Arithmetic.{Source}
-use Rattle.step_defs.specs.Step.{source_of, width_of}
+use Rattle.step_defs.specs.Step.{source_of, word_or_byte}
 use Rattle.native_interp.specs.declared.addresses.TheConstants.{GSTOP, OPS, STV}
 use Rattle.sim_view.specs.View.{View}
 use Rattle.sim_view.specs.Exits.{Comes}
@@ -29,7 +29,7 @@ abbrev pub word_of : GplState → Bool
 word_of s = code_of s % 2 == 1
 
 abbrev pub row_width : GplState → Width
-row_width s = width_of (word_of s)
+row_width s = word_or_byte (word_of s)
 
 -- the address behind the first operand, and the one behind both
 abbrev pub behind_first : GplState → ℕ

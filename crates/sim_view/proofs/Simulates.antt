@@ -6,7 +6,7 @@ use Rattle.std.proofs.lemmas.Bool.{ne_eqb, cases_eq}
 use Rattle.std.proofs.Math.Nat.{pos_of_ne-zero}
 use Rattle.std.proofs.lemmas.List.{get_or-append_right, get_or_append_left, set-append_right, set-append_left, length-set}
 use Rattle.console_defs.specs.Words.{high, low, join, even, plus}
-use Rattle.console_defs.specs.Flags.{Width, size_of, Byte, Word, width_of}
+use Rattle.console_defs.specs.Flags.{Width, size_of, Byte, Word, byte_or_word}
 use Rattle.console_defs.specs.Status.{with_result, with_order, with_extension, with_mask, status_word, status_at}
 use Rattle.console_defs.specs.Logic.{swapped, by_ones, by_zeros}
 use Rattle.console_defs.specs.MultiplyDivide.{product_of, division_of, by_division}
@@ -382,9 +382,9 @@ module _ (y : Cpu View) (m : Memory) (h : Shows m y.memory) where
 module _ (y : Cpu View) (m : Memory) (h : Shows m y.memory) where
   do_instr : (i : Instr) → SimCpu (executed Memory console i (carry m y)) (executed View shown i y)
   do_instr (instr.Two o b d s) =
-      sim_then _ _ _ _ (at_operand y m h (mode_of s.mode) (width_of b) s.reg) (λ a n k.
-      sim_then _ _ _ _ (at_value a.1 n k (width_of b) a.0) (λ v n2 k2.
-      sim_then _ _ _ _ (at_operand v.1 n2 k2 (mode_of d.mode) (width_of b) d.reg) (λ p n3 k3. do_two p.1 n3 k3 o (width_of b) v.0 p.0)))
+      sim_then _ _ _ _ (at_operand y m h (mode_of s.mode) (byte_or_word b) s.reg) (λ a n k.
+      sim_then _ _ _ _ (at_value a.1 n k (byte_or_word b) a.0) (λ v n2 k2.
+      sim_then _ _ _ _ (at_operand v.1 n2 k2 (mode_of d.mode) (byte_or_word b) d.reg) (λ p n3 k3. do_two p.1 n3 k3 o (byte_or_word b) v.0 p.0)))
   do_instr (instr.Reg o d s) =
       sim_then _ _ _ _ (at_operand y m h (mode_of s.mode) Word s.reg) (λ a n k. do_reg a.1 n k o d a.0)
   do_instr (instr.Shift o c n) = do_shift y m h o c n

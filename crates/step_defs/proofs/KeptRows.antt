@@ -33,7 +33,7 @@ use Rattle.step_defs.specs.Place.{Place, behind, is_visible, word_at}
 use Rattle.step_defs.specs.Changes.{Changes, condition, with_pc, with_value, with_cell, with_overflow, status_of}
 use Rattle.step_defs.specs.Arithmetic.{with_result, Source, with_quotient, divided, exchanged, count_of, repeated, repeated_sign, shifted_left, shifted_right, two}
 use Rattle.step_defs.specs.Flow.{is_taken, branched, selected, cells_at, with_word, top_of, on_stack, grown_by, called, returned, pushed, fetched, next_seed, drawn}
-use Rattle.step_defs.specs.Step.{width_of, plain, with_immediate, jump, one}
+use Rattle.step_defs.specs.Step.{word_or_byte, plain, with_immediate, jump, one}
 use Rattle.step_defs.proofs.Kept.{Kept, with_cell_keeps, with_register_keeps, with_pc_keeps, with_byte_keeps, with_value_keeps, with_double_keeps, with_flags_keeps, with_condition_keeps, with_overflow_keeps, sum_fits, difference_fits, negation_fits, complement_fits}
 
 -- what follows a check that passes
@@ -214,18 +214,18 @@ pub jump_keeps : (op : GoOp) (to : ℕ) (c : Changes) → to < 65536 → Kept c 
 jump_keeps B to c lt h = with_pc_keeps to c lt h
 jump_keeps CALL to c lt h = called_keeps to c lt h
 
-pub one_keeps : (op : OneName) (word : Bool) (at : Place) (x : ℕ) (c : Changes) → (has_words op || not word) ≡ true → x < modulus (width_of word) → Kept c → IfOk (one op (width_of word) at x c) Kept
-one_keeps ABS word at x c may lt h = result_keeps (width_of word) at (absolute_of (width_of word) x) (absolute_flags (width_of word) x) c (absolute_fits (width_of word) x lt) h
-one_keeps NEG word at x c may lt h = result_keeps (width_of word) at (negation_of (width_of word) x) (negation_flags (width_of word) x) c (negation_fits (width_of word) x) h
-one_keeps INV word at x c may lt h = with_value_keeps (width_of word) at (complement_of (width_of word) x) c (complement_fits (width_of word) x) h
+pub one_keeps : (op : OneName) (word : Bool) (at : Place) (x : ℕ) (c : Changes) → (has_words op || not word) ≡ true → x < modulus (word_or_byte word) → Kept c → IfOk (one op (word_or_byte word) at x c) Kept
+one_keeps ABS word at x c may lt h = result_keeps (word_or_byte word) at (absolute_of (word_or_byte word) x) (absolute_flags (word_or_byte word) x) c (absolute_fits (word_or_byte word) x lt) h
+one_keeps NEG word at x c may lt h = result_keeps (word_or_byte word) at (negation_of (word_or_byte word) x) (negation_flags (word_or_byte word) x) c (negation_fits (word_or_byte word) x) h
+one_keeps INV word at x c may lt h = with_value_keeps (word_or_byte word) at (complement_of (word_or_byte word) x) c (complement_fits (word_or_byte word) x) h
 one_keeps CLR true at x c may lt h = with_value_keeps Word at 0 c (omega arith) h
 one_keeps CLR false at x c may lt h = with_value_keeps Byte at 0 c (omega arith) h
 one_keeps CASE word at x c may lt h = selected_keeps x c h
 one_keeps CZ word at x c may lt h = with_condition_keeps (x == 0) c h
-one_keeps INC word at x c may lt h = result_keeps (width_of word) at (sum_of (width_of word) x 1) (sum_flags (width_of word) x 1) c (sum_fits (width_of word) x 1) h
-one_keeps DEC word at x c may lt h = result_keeps (width_of word) at (difference_of (width_of word) x 1) (difference_flags (width_of word) x 1) c (difference_fits (width_of word) x 1) h
-one_keeps INCT word at x c may lt h = result_keeps (width_of word) at (sum_of (width_of word) x 2) (sum_flags (width_of word) x 2) c (sum_fits (width_of word) x 2) h
-one_keeps DECT word at x c may lt h = result_keeps (width_of word) at (difference_of (width_of word) x 2) (difference_flags (width_of word) x 2) c (difference_fits (width_of word) x 2) h
+one_keeps INC word at x c may lt h = result_keeps (word_or_byte word) at (sum_of (word_or_byte word) x 1) (sum_flags (word_or_byte word) x 1) c (sum_fits (word_or_byte word) x 1) h
+one_keeps DEC word at x c may lt h = result_keeps (word_or_byte word) at (difference_of (word_or_byte word) x 1) (difference_flags (word_or_byte word) x 1) c (difference_fits (word_or_byte word) x 1) h
+one_keeps INCT word at x c may lt h = result_keeps (word_or_byte word) at (sum_of (word_or_byte word) x 2) (sum_flags (word_or_byte word) x 2) c (sum_fits (word_or_byte word) x 2) h
+one_keeps DECT word at x c may lt h = result_keeps (word_or_byte word) at (difference_of (word_or_byte word) x 2) (difference_flags (word_or_byte word) x 2) c (difference_fits (word_or_byte word) x 2) h
 one_keeps FETCH word at x c may lt h = fetched_keeps at c h
 one_keeps PUSH false at x c may lt h = pushed_keeps x c lt h
 one_keeps PUSH true at x c may lt h = absurd cc

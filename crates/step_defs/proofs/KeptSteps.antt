@@ -36,7 +36,7 @@ use Rattle.step_defs.specs.Changes.{Changes, unchanged, shown, finished}
 use Rattle.step_defs.specs.Flow.{in_grom_of}
 use Rattle.step_defs.specs.Copy.{From, FromMemory, FromGrom, To, ToMemory, ToRegisters, byte_from, next_from, with_byte_to, next_to, copied, length_of, within_limit, target_of, origin_of, moved}
 use Rattle.step_defs.specs.Built.{is_built}
-use Rattle.step_defs.specs.Step.{width_of, destination_size, source_of, changes_of, after, executed, step}
+use Rattle.step_defs.specs.Step.{word_or_byte, destination_size, source_of, changes_of, after, executed, step}
 use Rattle.step_defs.proofs.Kept.{Kept, set_keeps, byte_fits, value_fits, with_byte_keeps, with_register_keeps}
 use Rattle.step_defs.proofs.KeptRows.{then_if_ok, plain_keeps, immediate_keeps, jump_keeps, branched_keeps, one_keeps, two_keeps}
 
@@ -52,7 +52,7 @@ InstrFits (OfByte op value) = value < 256
 InstrFits (Jump op to) = to < 65536
 InstrFits (Branch on low) = low < 8192
 InstrFits (One op word at) = (has_words op || not word) ≡ true
-InstrFits (Two op word dst src) = SourceFits (width_of word) src
+InstrFits (Two op word dst src) = SourceFits (word_or_byte word) src
 InstrFits (Move length target source) = Unit {0}
 
 abbrev ReadFits : GplRead → Type 0
@@ -88,7 +88,7 @@ module _ (image : List ℕ) (fits : (k : ℕ) → slice_index image k < 256) whe
       by true = next-fits at lt
       by false = index_next (slice_index image at) (address_at (slice_index image at) image (next_in_grom at)).1 (address_next (slice_index image at) (next_in_grom at) (next-fits at lt))
 
-  source_fits : (immediate word : Bool) (at : ℕ) → SourceFits (width_of word) (source_at immediate word image at).0
+  source_fits : (immediate word : Bool) (at : ℕ) → SourceFits (word_or_byte word) (source_at immediate word image at).0
   source_fits true true at = word_fits at
   source_fits true false at = fits at
   source_fits false word at = tt
@@ -186,12 +186,12 @@ changes_keep (Jump op to) at c fits lt h = jump_keeps op to c fits h
 changes_keep (Branch on low) at c fits lt h =
     let to : in_grom_of at low < 65536 = omega (arith, fits, lt) in branched_keeps on (in_grom_of at low) c to h
 changes_keep (One op word operand) at c fits lt h =
-    then_if_ok Any Kept (place_of c.state (size_of (width_of word)) operand) _ (any_if_ok (place_of c.state (size_of (width_of word)) operand))
-    (λ p _. one_keeps op word p (value_at c.state (width_of word) p) c fits (value_fits c.state (width_of word) p h) h)
+    then_if_ok Any Kept (place_of c.state (size_of (word_or_byte word)) operand) _ (any_if_ok (place_of c.state (size_of (word_or_byte word)) operand))
+    (λ p _. one_keeps op word p (value_at c.state (word_or_byte word) p) c fits (value_fits c.state (word_or_byte word) p h) h)
 changes_keep (Two op word dst src) at c fits lt h =
-    then_if_ok Any Kept (place_of c.state (destination_size op (width_of word)) dst) _ (any_if_ok (place_of c.state (destination_size op (width_of word)) dst))
-    (λ p _. then_if_ok (λ source. source.number < modulus (width_of word)) Kept (source_of c.state (width_of word) src) _ (number_fits c.state (width_of word) src fits h)
-    (λ source small. two_keeps op (width_of word) p (value_at c.state (width_of word) p) source c (value_fits c.state (width_of word) p h) small h))
+    then_if_ok Any Kept (place_of c.state (destination_size op (word_or_byte word)) dst) _ (any_if_ok (place_of c.state (destination_size op (word_or_byte word)) dst))
+    (λ p _. then_if_ok (λ source. source.number < modulus (word_or_byte word)) Kept (source_of c.state (word_or_byte word) src) _ (number_fits c.state (word_or_byte word) src fits h)
+    (λ source small. two_keeps op (word_or_byte word) p (value_at c.state (word_or_byte word) p) source c (value_fits c.state (word_or_byte word) p h) small h))
 changes_keep (Move length target source) at c fits lt h = moved_keeps length target source c h
 
 finished_keeps : (c : Changes) → Kept c → IsState (finished c)

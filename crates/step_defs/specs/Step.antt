@@ -51,9 +51,9 @@ use Rattle.step_defs.specs.Flow.{in_grom_of, branched, selected, called, returne
 use Rattle.step_defs.specs.Copy.{moved}
 use Rattle.step_defs.specs.Built.{is_built}
 
-abbrev pub width_of : Bool → Width
-width_of true = Word
-width_of false = Byte
+abbrev pub word_or_byte : Bool → Width
+word_or_byte true = Word
+word_or_byte false = Byte
 
 -- COND is set where a bit of the status is, or cleared. GPL Programmer's Guide, H, GT, CARRY and OVF.
 -- Profile: no other bit changes.
@@ -119,12 +119,12 @@ changes_of (OfByte op value) at c = Ok (with_immediate op value c)
 changes_of (Jump op to) at c = jump op to c
 changes_of (Branch on low) at c = Ok (branched on (in_grom_of at low) c)
 changes_of (One op word operand) at c = do
-  p ← place_of c.state (size_of (width_of word)) operand
-  one op (width_of word) p (value_at c.state (width_of word) p) c
+  p ← place_of c.state (size_of (word_or_byte word)) operand
+  one op (word_or_byte word) p (value_at c.state (word_or_byte word) p) c
 changes_of (Two op word dst src) at c = do
-  p ← place_of c.state (destination_size op (width_of word)) dst
-  source ← source_of c.state (width_of word) src
-  Ok (two op (width_of word) p (value_at c.state (width_of word) p) source c)
+  p ← place_of c.state (destination_size op (word_or_byte word)) dst
+  source ← source_of c.state (word_or_byte word) src
+  Ok (two op (word_or_byte word) p (value_at c.state (word_or_byte word) p) source c)
 changes_of (Move length target source) at c = moved length target source c
 
 -- the state after an instruction that stands at the state's pc, or why it stops

@@ -9,7 +9,7 @@ use Rattle.step_defs.specs.declared.reason.Reason.{Reason}
 use Rattle.step_defs.specs.State.{GplState, start}
 use Rattle.step_defs.specs.Run.{run}
 use Rattle.interp_defs.specs.Match.{IsHalted, shown_by}
-use Rattle.interp_defs.specs.Programs.{EndsWith}
+use Rattle.interp_defs.specs.Programs.{EndsAs}
 use Rattle.interp_defs.specs.Boot.{IsBoot}
 use Rattle.sim_view.proofs.Bridge.{register_is, reg_word}
 use Rattle.gpl_run.specs.Sessions.{SessionState, seen, address_in, image_of, entry_of}
@@ -17,7 +17,7 @@ use Rattle.report_defs.specs.Program.{showing, state_line, program_lines, progra
 use Rattle.report_defs.specs.Report.{Whole, ReportsProgram, program_report}
 use Rattle.ti_bench.specs.declared.report.Report.TheVariants as made
 use Rattle.ti_bench.specs.Made.{defined_report}
-use Rattle.ti_bench.specs.Ran.{Ran}
+use Rattle.ti_bench.specs.Ran.{RanProgram}
 
 -- A machine shows the state that is seen in it.
 pub showing_seen : (t : SessionState) → showing (seen t) t.machine ≡ t.machine
@@ -44,7 +44,7 @@ address_is s reason x memory halted =
     sym (register_is m 0x83E0 1 s.pc memory refl (lit< tt) (sym halted.address) ∙ reg_word m 1 memory (lit< tt))
 
 -- What is seen of a program at its end is its last state.
-ended_lines : (stop : Option Reason) (last : GplState) (x : MachineState) → IsMemory x.cpu.memory → EndsWith stop last x →
+ended_lines : (stop : Option Reason) (last : GplState) (x : MachineState) → IsMemory x.cpu.memory → EndsAs stop last x →
     program_lines stop (seen (record { machine = x; ended = stop })) x ≡ program_lines stop last x
 ended_lines None last x memory matches =
     same_lines None _ last x
@@ -54,7 +54,7 @@ ended_lines (Some reason) last x memory halted =
     same_lines (Some reason) _ last x halted.cells halted.vdp halted.registers (address_is last reason x memory halted)
 
 -- The report of a session is that of the run of its program.
-reported : (image : List ℕ) (entry limit : ℕ) (t : SessionState) → Ran image entry limit t →
+reported : (image : List ℕ) (entry limit : ℕ) (t : SessionState) → RanProgram image entry limit t →
     defined_report (made.Program t) ≡ program_report (run limit (start image entry)) t.machine
 reported image entry limit t ran =
     let r = run limit (start image entry) in
@@ -64,10 +64,10 @@ reported image entry limit t ran =
     (ended_lines r.stop r.last x ran.memory ran.runs.runs.ends)
 
 pub reports_program : (limit : ℕ) (image : Image) (entry : ℕ) (bytes : List ℕ) (x : MachineState) (t : SessionState) →
-    AreBytesOf image bytes → IsBoot bytes entry x → Ran (image_of x) (entry_of x) limit t →
+    AreBytesOf image bytes → IsBoot bytes entry x → RanProgram (image_of x) (entry_of x) limit t →
     ReportsProgram limit image entry (defined_report (made.Program t))
 reports_program limit image entry bytes x t are boot ran =
     let of_bytes : image_of x ≡ bytes = ap (λ (g : GromState). g.image) boot.grom in
-    let entered = subst (λ (e : ℕ). Ran (image_of x) e limit t) boot.scratchpad.word ran in
-    let begun = subst (λ (i : List ℕ). Ran i entry limit t) of_bytes entered in
+    let entered = subst (λ (e : ℕ). RanProgram (image_of x) e limit t) boot.scratchpad.word ran in
+    let begun = subst (λ (i : List ℕ). RanProgram i entry limit t) of_bytes entered in
     record { bytes = bytes; of_image = are; left = t.machine; runs = begun.runs; is = reported bytes entry limit t begun }

@@ -19,7 +19,7 @@ defined_report (made.Text text) = spec.Whole Done (text_lines text.items)
 defined_report (made.Image image) = spec.Whole Done (spec.one_piece (written_bytes image))
 defined_report (made.Listing listing) = spec.Whole Done (memory_listing listing.at listing.bytes.items)
 defined_report (made.Grom image) = spec.Whole Done (image_listing image)
-defined_report (made.Run ending machine) = spec.Whole (end_status ending) (exec_lines ending machine)
+defined_report (made.Execution ending machine) = spec.Whole (end_status ending) (exec_lines ending machine)
 defined_report (made.Program session) =
     spec.Whole (program_status session.ended) (program_lines session.ended (seen session) session.machine)
 defined_report (made.Memory linked) = spec.Whole Done (linked_lines (defined_linked linked))

@@ -7,7 +7,7 @@ use Rattle.interp_defs.specs.Programs.{RunsProgram}
 use Rattle.gpl_run.specs.Sessions.{SessionState}
 
 -- A session is the run of the program with an image and an entry, for up to so many steps.
-pub record Ran (image : List ℕ) (entry limit : ℕ) (session : SessionState) : Type 0 where
+pub record RanProgram (image : List ℕ) (entry limit : ℕ) (session : SessionState) : Type 0 where
   pub runs : RunsProgram image entry limit session.machine
   pub ended : session.ended ≡ (run limit (start image entry)).stop
   pub memory : IsMemory session.machine.cpu.memory

@@ -39,7 +39,7 @@ pub(crate) enum Report {
     /// An image of GROM, whose listing goes to standard output line by line.
     Grom(GromImage),
     /// A run of the machine, whose end and whose dump go to standard output line by line.
-    Run {
+    Execution {
         /// What ended the run.
         ending: RunEnd,
         /// The machine that it left.
@@ -86,7 +86,7 @@ impl Report {
             Report::Image(image) => put_image(out, image.written()),
             Report::Listing(listing) => listing.write(out),
             Report::Grom(image) => put_grom(image, out),
-            Report::Run { ending, machine } => put_run(out, *ending, machine),
+            Report::Execution { ending, machine } => put_execution(out, *ending, machine),
             Report::Program(session) => put_program(out, session),
             Report::Memory(linked) => put_memory(linked, out),
             Report::Refused(line) => put_piece(err, line.as_slice()),
@@ -105,7 +105,7 @@ impl Report {
             | Report::Grom(_)
             | Report::Memory(_) => Status::Done,
             Report::Refused(_) => Status::Refused,
-            Report::Run { ending, .. } => end_status(*ending),
+            Report::Execution { ending, .. } => end_status(*ending),
             Report::Program(session) => program_status(session.ended()),
             Report::Fault(fault) => fault_status(*fault),
         }
@@ -131,7 +131,7 @@ fn put_grom<O: Sink>(image: &GromImage, out: &mut O) -> Result<(), Failed>
 }
 
 /// Writes how a run ended, and the machine that it left.
-fn put_run<O: Sink>(out: &mut O, ending: RunEnd, machine: &Machine) -> Result<(), Failed>
+fn put_execution<O: Sink>(out: &mut O, ending: RunEnd, machine: &Machine) -> Result<(), Failed>
     ensures { Written result (O.state out.old) (O.state out.new) (runs.exec_lines ending machine.now) }
 {
     put_piece(out, end_line(ending).as_slice())?;

@@ -1,7 +1,7 @@
 //! Operands: where they stand, what they are, and the growth of a register.
 
 ghost use Rattle.std.specs.Prelude.{◌≡◌, ◌<◌, IfOk, IsOk, OnErr, Some, None, true, false};
-ghost use Rattle.console_defs.specs.Flags.{Word, modulus, width_of};
+ghost use Rattle.console_defs.specs.Flags.{Word, modulus, byte_or_word};
 ghost use Rattle.console_defs.specs.Memory.{Memory, console};
 ghost use Rattle.console_defs.specs.Operand.{mode_of, index_of, operand, value_at, with_value};
 ghost use Rattle.console_defs.specs.Instructions.{IsPlace};
@@ -38,7 +38,7 @@ impl Cpu {
     pub(crate) fn operand(&mut self, place: Place, byte: bool) -> Result<Operand, Stop>
         requires { IsPlace place }
         ensures value { left_by result (λ found. (found.address, self.new))
-            ≡ operand Memory console (mode_of place.mode) (width_of byte) place.reg self.old }
+            ≡ operand Memory console (mode_of place.mode) (byte_or_word byte) place.reg self.old }
         ensures undo { IfOk result (λ found. SameButPc self.old (put_back found.grown self.new)) }
         ensures stopped { OnErr result (SameButPc self.old self.new) }
     {
@@ -54,7 +54,7 @@ impl Cpu {
         requires place { IsPlace place }
         requires mode { 0 < place.mode }
         ensures value { left_by result (λ found. (found.address, self.new))
-            ≡ operand Memory console (mode_of place.mode) (width_of byte) place.reg self.old }
+            ≡ operand Memory console (mode_of place.mode) (byte_or_word byte) place.reg self.old }
         ensures undo { IfOk result (λ found. SameButPc self.old (put_back found.grown self.new)) }
         ensures stopped { OnErr result (SameButPc self.old self.new) }
     {
@@ -83,7 +83,7 @@ impl Cpu {
     fn grown(&mut self, number: u8, byte: bool) -> Result<Operand, Stop>
         requires { number < 16 }
         ensures value { left_by result (λ found. (found.address, self.new))
-            ≡ operand Memory console (mode_of 3) (width_of byte) number self.old }
+            ≡ operand Memory console (mode_of 3) (byte_or_word byte) number self.old }
         ensures undo { IfOk result (λ found. SameButPc self.old (put_back found.grown self.new)) }
         ensures stopped { OnErr result (SameButPc self.old self.new) }
     {
@@ -101,8 +101,8 @@ impl Cpu {
     #[inline(always)]
     pub(crate) fn value_at(&mut self, byte: bool, at: u16) -> Result<u16, Stop>
         ensures value { left_by result (λ value. (value, self.new))
-            ≡ value_at Memory console (width_of byte) at self.old }
-        ensures fits { IfOk result (λ value. value < modulus (width_of byte)) }
+            ≡ value_at Memory console (byte_or_word byte) at self.old }
+        ensures fits { IfOk result (λ value. value < modulus (byte_or_word byte)) }
         ensures stopped { OnErr result (self.new ≡ self.old) }
         ensures word { byte ≡ false → self.new ≡ self.old }
     {
@@ -115,8 +115,8 @@ impl Cpu {
     /// Writes a word or a byte to an address. Nothing stops a byte.
     #[inline(always)]
     pub(crate) fn write_value(&mut self, byte: bool, at: u16, value: u16) -> Result<(), Stop>
-        requires { value < modulus (width_of byte) }
-        ensures value { left_by result (λ _. self.new) ≡ with_value Memory console (width_of byte) at value self.old }
+        requires { value < modulus (byte_or_word byte) }
+        ensures value { left_by result (λ _. self.new) ≡ with_value Memory console (byte_or_word byte) at value self.old }
         ensures stopped { OnErr result (self.new ≡ self.old) }
         ensures byte { byte ≡ true → IsOk result }
     {

@@ -1,7 +1,7 @@
 //! Results and their status bits, of words and of bytes.
 
 ghost use Rattle.std.specs.Prelude.{◌≡◌, ◌<◌};
-ghost use Rattle.console_defs.specs.Flags.{modulus, width_of, by_result, sum_of, sum_flags, difference_of};
+ghost use Rattle.console_defs.specs.Flags.{modulus, byte_or_word, by_result, sum_of, sum_flags, difference_of};
 ghost use Rattle.console_defs.specs.Flags.{difference_flags, by_order, no_flags};
 ghost use Rattle.console_defs.specs.Logic.{ones_set, ones_cleared};
 ghost use Rattle.console_defs.specs.Status.{IsStatus, with_result, with_order};
@@ -13,8 +13,8 @@ use tms_words::{add8, add16, compare8, compare16, odd8, sub8, sub16};
 #[inline(always)]
 #[tactic(auto, using(crate::proofs::Results::signed_above))]
 pub(crate) fn result_flags(byte: bool, value: u16, flags: Flags) -> Flags
-    requires { value < modulus (width_of byte) }
-    ensures { result ≡ by_result (width_of byte) value flags }
+    requires { value < modulus (byte_or_word byte) }
+    ensures { result ≡ by_result (byte_or_word byte) value flags }
 {
     let half = if byte { 0x80 } else { 0x8000 };
     Flags {
@@ -28,10 +28,10 @@ pub(crate) fn result_flags(byte: bool, value: u16, flags: Flags) -> Flags
 /// The sum of two words or of two bytes, with its status bits (TMS9900 data manual, "Add words", "Add bytes").
 #[inline(always)]
 pub(crate) fn sum(byte: bool, destination: u16, source: u16) -> Out16
-    requires destination { destination < modulus (width_of byte) }
-    requires source { source < modulus (width_of byte) }
-    ensures value { result.value ≡ sum_of (width_of byte) destination source }
-    ensures flags { result.flags ≡ sum_flags (width_of byte) destination source }
+    requires destination { destination < modulus (byte_or_word byte) }
+    requires source { source < modulus (byte_or_word byte) }
+    ensures value { result.value ≡ sum_of (byte_or_word byte) destination source }
+    ensures flags { result.flags ≡ sum_flags (byte_or_word byte) destination source }
 {
     if byte {
         widened(add8(destination as u8, source as u8))
@@ -44,10 +44,10 @@ pub(crate) fn sum(byte: bool, destination: u16, source: u16) -> Out16
 /// bytes").
 #[inline(always)]
 pub(crate) fn difference(byte: bool, destination: u16, source: u16) -> Out16
-    requires destination { destination < modulus (width_of byte) }
-    requires source { source < modulus (width_of byte) }
-    ensures value { result.value ≡ difference_of (width_of byte) destination source }
-    ensures flags { result.flags ≡ difference_flags (width_of byte) destination source }
+    requires destination { destination < modulus (byte_or_word byte) }
+    requires source { source < modulus (byte_or_word byte) }
+    ensures value { result.value ≡ difference_of (byte_or_word byte) destination source }
+    ensures flags { result.flags ≡ difference_flags (byte_or_word byte) destination source }
 {
     if byte {
         widened(sub8(destination as u8, source as u8))
@@ -60,10 +60,10 @@ pub(crate) fn difference(byte: bool, destination: u16, source: u16) -> Out16
 /// corresponding bytes").
 #[inline]
 pub(crate) fn ones_set(byte: bool, destination: u16, source: u16) -> u16
-    requires destination { destination < modulus (width_of byte) }
-    requires source { source < modulus (width_of byte) }
+    requires destination { destination < modulus (byte_or_word byte) }
+    requires source { source < modulus (byte_or_word byte) }
     ensures value { result ≡ ones_set destination source }
-    ensures fits { result < modulus (width_of byte) }
+    ensures fits { result < modulus (byte_or_word byte) }
 {
     if byte {
         u16::from(destination as u8 | source as u8)
@@ -76,10 +76,10 @@ pub(crate) fn ones_set(byte: bool, destination: u16, source: u16) -> u16
 /// corresponding bytes").
 #[inline]
 pub(crate) fn ones_cleared(byte: bool, destination: u16, source: u16) -> u16
-    requires destination { destination < modulus (width_of byte) }
-    requires source { source < modulus (width_of byte) }
-    ensures value { result ≡ ones_cleared (width_of byte) destination source }
-    ensures fits { result < modulus (width_of byte) }
+    requires destination { destination < modulus (byte_or_word byte) }
+    requires source { source < modulus (byte_or_word byte) }
+    ensures value { result ≡ ones_cleared (byte_or_word byte) destination source }
+    ensures fits { result < modulus (byte_or_word byte) }
 {
     if byte {
         u16::from(destination as u8 & !(source as u8))
@@ -104,9 +104,9 @@ fn widened(out: Out8) -> Out16
 /// register").
 #[inline(always)]
 pub(crate) fn with_result(byte: bool, value: u16, flags: Flags, status: Status) -> Status
-    requires fits { value < modulus (width_of byte) }
+    requires fits { value < modulus (byte_or_word byte) }
     requires status { IsStatus status }
-    ensures status { result ≡ with_result (width_of byte) value flags status }
+    ensures status { result ≡ with_result (byte_or_word byte) value flags status }
     ensures room { IsStatus result }
 {
     let op = if byte { odd8(value as u8) } else { status.op };
@@ -121,10 +121,10 @@ pub(crate) fn with_result(byte: bool, value: u16, flags: Flags, status: Status) 
 /// data manual, "Compare words", "Compare bytes", "Compare immediate").
 #[inline]
 pub(crate) fn with_order(byte: bool, first: u16, second: u16, status: Status) -> Status
-    requires first { first < modulus (width_of byte) }
-    requires second { second < modulus (width_of byte) }
+    requires first { first < modulus (byte_or_word byte) }
+    requires second { second < modulus (byte_or_word byte) }
     requires status { IsStatus status }
-    ensures status { result ≡ with_order (width_of byte) first second status }
+    ensures status { result ≡ with_order (byte_or_word byte) first second status }
     ensures room { IsStatus result }
 {
     let Flags { lgt, agt, eq, .. } = order(byte, first, second);
@@ -145,9 +145,9 @@ pub(crate) fn with_order(byte: bool, first: u16, second: u16, status: Status) ->
 /// L>, A> and EQ of a first number against a second; C and OV are false.
 #[inline]
 fn order(byte: bool, first: u16, second: u16) -> Flags
-    requires first { first < modulus (width_of byte) }
-    requires second { second < modulus (width_of byte) }
-    ensures { result ≡ by_order (width_of byte) first second no_flags }
+    requires first { first < modulus (byte_or_word byte) }
+    requires second { second < modulus (byte_or_word byte) }
+    ensures { result ≡ by_order (byte_or_word byte) first second no_flags }
 {
     if byte {
         compare8(first as u8, second as u8)

@@ -1,7 +1,7 @@
 //! Results that are stored with their status bits.
 
 ghost use Rattle.std.specs.Prelude.{◌≡◌, ◌<◌, IsOk, OnErr, true};
-ghost use Rattle.console_defs.specs.Flags.{Word, modulus, width_of};
+ghost use Rattle.console_defs.specs.Flags.{Word, modulus, byte_or_word};
 ghost use Rattle.console_defs.specs.Memory.{Memory, console};
 ghost use Rattle.console_defs.specs.forms.Results.{stored, stored_by_result};
 ghost use Rattle.tms_step.specs.Stops.{left_by};
@@ -21,9 +21,9 @@ impl Cpu {
         value: u16,
         flags: Flags,
     ) -> Result<(), Stop>
-        requires { value < modulus (width_of byte) }
+        requires { value < modulus (byte_or_word byte) }
         ensures value { left_by result (λ _. self.new)
-            ≡ stored Memory console (width_of byte) address value flags self.old }
+            ≡ stored Memory console (byte_or_word byte) address value flags self.old }
         ensures stopped { OnErr result (self.new ≡ self.old) }
         ensures byte { byte ≡ true → IsOk result }
     {
@@ -50,9 +50,9 @@ impl Cpu {
         address: u16,
         value: u16,
     ) -> Result<(), Stop>
-        requires { value < modulus (width_of byte) }
+        requires { value < modulus (byte_or_word byte) }
         ensures value { left_by result (λ _. self.new)
-            ≡ stored_by_result Memory console (width_of byte) address value self.old }
+            ≡ stored_by_result Memory console (byte_or_word byte) address value self.old }
         ensures stopped { OnErr result (self.new ≡ self.old) }
         ensures byte { byte ≡ true → IsOk result }
     {

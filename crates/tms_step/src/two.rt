@@ -1,7 +1,7 @@
 //! Instructions with two operands in any mode.
 
 ghost use Rattle.std.specs.Prelude.{◌≡◌, ◌<◌, OnErr, true, false};
-ghost use Rattle.console_defs.specs.Flags.{modulus, width_of};
+ghost use Rattle.console_defs.specs.Flags.{modulus, byte_or_word};
 ghost use Rattle.console_defs.specs.Instructions.{IsPlace};
 ghost use Rattle.console_defs.specs.Memory.{Memory, console, is_port_address};
 ghost use Rattle.console_defs.specs.forms.Two.{two, two_operands};
@@ -30,7 +30,7 @@ impl Cpu {
         requires dst { IsPlace dst }
         requires src { IsPlace src }
         ensures value { left_by result (λ _. self.new)
-            ≡ two_operands Memory console op (width_of byte) dst src self.old }
+            ≡ two_operands Memory console op (byte_or_word byte) dst src self.old }
         ensures stopped { OnErr result (SameButPc self.old self.new) }
     {
         let source = self.operand(src, byte)?;
@@ -43,7 +43,7 @@ impl Cpu {
     #[tactic(auto, using(crate::proofs::PutBack::put_back_later))]
     fn from_source(&mut self, op: TwoOp, byte: bool, source: u16, dst: Place) -> Result<(), Stop>
         requires { IsPlace dst }
-        ensures value { left_by result (λ _. self.new) ≡ from_source op (width_of byte) source dst self.old }
+        ensures value { left_by result (λ _. self.new) ≡ from_source op (byte_or_word byte) source dst self.old }
         ensures stopped { OnErr result (SameButPc self.old self.new) }
     {
         if byte && is_port(source) {
@@ -58,7 +58,7 @@ impl Cpu {
     fn from_memory(&mut self, op: TwoOp, byte: bool, source: u16, dst: Place) -> Result<(), Stop>
         requires dst { IsPlace dst }
         requires memory { byte ≡ true → is_port_address source ≡ false }
-        ensures value { left_by result (λ _. self.new) ≡ from_source op (width_of byte) source dst self.old }
+        ensures value { left_by result (λ _. self.new) ≡ from_source op (byte_or_word byte) source dst self.old }
         ensures stopped { OnErr result (SameButPc self.old self.new) }
     {
         let value = self.value_at(byte, source)?;
@@ -100,8 +100,8 @@ impl Cpu {
         source: u16,
         address: u16,
     ) -> Result<(), Stop>
-        requires { source < modulus (width_of byte) }
-        ensures value { left_by result (λ _. self.new) ≡ two Memory console op (width_of byte) source address self.old }
+        requires { source < modulus (byte_or_word byte) }
+        ensures value { left_by result (λ _. self.new) ≡ two Memory console op (byte_or_word byte) source address self.old }
         ensures stopped { OnErr result (self.new ≡ self.old) }
     {
         if op == TwoOp::MOV {
@@ -116,8 +116,8 @@ impl Cpu {
     /// A source is stored at an address, and what stands there is not read.
     #[inline(always)]
     fn moved(&mut self, byte: bool, source: u16, address: u16) -> Result<(), Stop>
-        requires { source < modulus (width_of byte) }
-        ensures value { left_by result (λ _. self.new) ≡ two Memory console MOV (width_of byte) source address self.old }
+        requires { source < modulus (byte_or_word byte) }
+        ensures value { left_by result (λ _. self.new) ≡ two Memory console MOV (byte_or_word byte) source address self.old }
         ensures stopped { OnErr result (self.new ≡ self.old) }
     {
         self.stored_by_result(byte, address, source)
@@ -126,9 +126,9 @@ impl Cpu {
     /// A sum, a difference or a comparison of a source and the destination at an address.
     #[inline(always)]
     fn arithmetic(&mut self, op: TwoOp, byte: bool, source: u16, address: u16) -> Result<(), Stop>
-        requires source { source < modulus (width_of byte) }
+        requires source { source < modulus (byte_or_word byte) }
         requires op { is_arithmetic op ≡ true }
-        ensures value { left_by result (λ _. self.new) ≡ two Memory console op (width_of byte) source address self.old }
+        ensures value { left_by result (λ _. self.new) ≡ two Memory console op (byte_or_word byte) source address self.old }
         ensures stopped { OnErr result (self.new ≡ self.old) }
     {
         let found = self.value_at(byte, address)?;
@@ -147,9 +147,9 @@ impl Cpu {
     /// The ones of a source are set or cleared in the destination at an address.
     #[inline(always)]
     fn bitwise(&mut self, op: TwoOp, byte: bool, source: u16, address: u16) -> Result<(), Stop>
-        requires source { source < modulus (width_of byte) }
+        requires source { source < modulus (byte_or_word byte) }
         requires op { is_bitwise op ≡ true }
-        ensures value { left_by result (λ _. self.new) ≡ two Memory console op (width_of byte) source address self.old }
+        ensures value { left_by result (λ _. self.new) ≡ two Memory console op (byte_or_word byte) source address self.old }
         ensures stopped { OnErr result (self.new ≡ self.old) }
     {
         let found = self.value_at(byte, address)?;

@@ -38,11 +38,11 @@ pub(crate) fn exec(alloc: Global, limit: u32, input: &[u8]) -> Result<Report, Al
 
 /// The report of up to `limit` instructions of linked memory, from its entry on.
 fn execute(alloc: Global, limit: u32, linked: &Linked) -> Result<Report, AllocError>
-    ensures { IfOk result (λ report. spec.ReportsRun limit (defined_linked linked.now) (defined_report report)) }
+    ensures { IfOk result (λ report. spec.ReportsExecution limit (defined_linked linked.now) (defined_report report)) }
 {
     let mut machine = start(alloc, linked)?;
     let ending = run::<Brand>(&mut machine, u64::from(limit), Blank::new(1));
-    Ok(Report::Run { ending, machine })
+    Ok(Report::Execution { ending, machine })
 }
 
 /// A machine at the entry of linked memory.

@@ -7,7 +7,7 @@ ghost use Rattle.link_loader.specs.View.{defined_linked};
 ghost use Rattle.program_defs.specs.Programs.{program_of_source};
 ghost use Rattle.report_defs.specs.Report as spec;
 ghost use Rattle.ti_bench.specs.Made.{defined_report};
-ghost use Rattle.ti_bench.specs.Ran.{Ran};
+ghost use Rattle.ti_bench.specs.Ran.{RanProgram};
 
 use crate::interpreter::{BuiltInterpreter, build_interpreter};
 use crate::report::Report;
@@ -76,7 +76,7 @@ fn run_session<L: Ledger>(machine: Machine, limit: u32, blank: Blank) -> Session
     requires parts { blank.parts ≡ L.parts }
     requires some { 0 < L.parts }
     requires new { IsNew machine }
-    ensures { Ran (image_of machine) (entry_of machine) limit result }
+    ensures { RanProgram (image_of machine) (entry_of machine) limit result }
 {
     let mut steps = Steps::<L>::new(blank);
     machine.holds_bounds();

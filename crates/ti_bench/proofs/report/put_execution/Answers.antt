@@ -3,7 +3,7 @@ use Rattle.std.proofs.lemmas.Result.{err_from_is_err_and}
 use Rattle.bench_io.proofs.Writing.{missed_early, written_more}
 use Rattle.report_defs.specs.Dump.{dump_lines}
 use Rattle.report_defs.specs.Exec.{end_line}
-use Rattle.ti_bench.proofs.report.put_run.Goals as goal
+use Rattle.ti_bench.proofs.report.put_execution.Goals as goal
 
 pub returns-in_err-put_piece : goal.returns-in_err-put_piece
 returns-in_err-put_piece g c =
