@@ -20,11 +20,45 @@ use Rattle.std.specs.Prelude.{
   Some,
   None,
 }
-use Rattle.gpl_defs.specs.declared.instruction.PlainOp.TheVariants.{EXIT}
+use Rattle.gpl_defs.specs.declared.instruction.PlainOp.TheVariants.{H, GT, EXIT, CARRY, OVF}
 use Rattle.gpl_defs.specs.declared.instruction.GoOp.TheVariants.{B}
-use Rattle.gpl_defs.specs.declared.instruction.TwoName.TheVariants.{ST}
+use Rattle.gpl_defs.specs.declared.instruction.OneName.TheVariants.{
+  ABS,
+  NEG,
+  INV,
+  CLR,
+  CASE,
+  CZ,
+  INC,
+  DEC,
+  INCT,
+  DECT,
+  FETCH,
+  PUSH,
+}
+use Rattle.gpl_defs.specs.declared.instruction.TwoName.TheVariants.{
+  ADD,
+  SUB,
+  MUL,
+  DIV,
+  AND,
+  OR,
+  XOR,
+  ST,
+  EX,
+  CH,
+  CHE,
+  CGT,
+  CGE,
+  CEQ,
+  CLOG,
+  SRA,
+  SLL,
+  SRL,
+  SRC,
+}
 use Rattle.gpl_defs.specs.declared.instruction.GplOperation.{GplOperation}
-use Rattle.gpl_defs.specs.declared.instruction.GplOperation.TheVariants.{Plain, Jump, Two}
+use Rattle.gpl_defs.specs.declared.instruction.GplOperation.TheVariants.{Plain, Jump, One, Two}
 use Rattle.gpl_defs.specs.Codes.{operation_at}
 use Rattle.step_defs.specs.Built.{is_built_operation}
 use Rattle.native_interp.specs.declared.addresses.TheConstants.{
@@ -39,6 +73,36 @@ use Rattle.native_interp.specs.declared.addresses.TheConstants.{
   STV,
   GOB,
   GOEXIT,
+  INCTV,
+  ADDV,
+  DECTV,
+  SUBV,
+  ABSV,
+  NEGV,
+  ANDV,
+  ORV,
+  XORV,
+  INVV,
+  CLRV,
+  EXV,
+  SRAV,
+  SLLV,
+  SRLV,
+  SRCV,
+  WIDE,
+  MULV,
+  DIVV,
+  CHV,
+  CHEV,
+  CGTV,
+  CGEV,
+  CEQV,
+  CLOGV,
+  CZV,
+  GOH,
+  GOGT,
+  GOCARY,
+  GOOVF,
 }
 use Rattle.native_interp.specs.Words.{origin, routines, words, word_at}
 
@@ -54,17 +118,54 @@ follow address (routine ∷ rest) = nat_eq address routine.0 && follow (address 
 abbrev pub RoutinesStand : Type 0
 RoutinesStand = follow origin routines ≡ true
 
--- Where the instruction of an operation begins: B, EXIT or the operands of a row. What is not built stops as a code byte
--- does that is no instruction's.
+-- Where the instruction of an operation begins: its own place, or that of the operands of all rows, where MUL and DIV have a
+-- wider destination. What is not built stops as a code byte does that is no instruction's.
 abbrev pub operation_entry : Option GplOperation → ℕ
+operation_entry (Some (Plain H)) = GOH
+operation_entry (Some (Plain GT)) = GOGT
 operation_entry (Some (Plain EXIT)) = GOEXIT
+operation_entry (Some (Plain CARRY)) = GOCARY
+operation_entry (Some (Plain OVF)) = GOOVF
 operation_entry (Some (Jump B)) = GOB
-operation_entry (Some (Two ST)) = ROW
+operation_entry (Some (One CASE)) = UNKN
+operation_entry (Some (One FETCH)) = UNKN
+operation_entry (Some (One PUSH)) = UNKN
+operation_entry (Some (One op)) = ROW
+operation_entry (Some (Two MUL)) = WIDE
+operation_entry (Some (Two DIV)) = WIDE
+operation_entry (Some (Two op)) = ROW
 operation_entry _ = UNKN
 
--- Where the row of an operation begins, once its operands are there.
+-- Where the row of an operation begins, once its operands are there. INC and DEC are the sum and the difference with 1.
 abbrev pub row_entry : Option GplOperation → ℕ
+row_entry (Some (One ABS)) = ABSV
+row_entry (Some (One NEG)) = NEGV
+row_entry (Some (One INV)) = INVV
+row_entry (Some (One CLR)) = CLRV
+row_entry (Some (One CZ)) = CZV
+row_entry (Some (One INC)) = ADDV
+row_entry (Some (One DEC)) = SUBV
+row_entry (Some (One INCT)) = INCTV
+row_entry (Some (One DECT)) = DECTV
+row_entry (Some (Two ADD)) = ADDV
+row_entry (Some (Two SUB)) = SUBV
+row_entry (Some (Two MUL)) = MULV
+row_entry (Some (Two DIV)) = DIVV
+row_entry (Some (Two AND)) = ANDV
+row_entry (Some (Two OR)) = ORV
+row_entry (Some (Two XOR)) = XORV
 row_entry (Some (Two ST)) = STV
+row_entry (Some (Two EX)) = EXV
+row_entry (Some (Two CH)) = CHV
+row_entry (Some (Two CHE)) = CHEV
+row_entry (Some (Two CGT)) = CGTV
+row_entry (Some (Two CGE)) = CGEV
+row_entry (Some (Two CEQ)) = CEQV
+row_entry (Some (Two CLOG)) = CLOGV
+row_entry (Some (Two SRA)) = SRAV
+row_entry (Some (Two SLL)) = SLLV
+row_entry (Some (Two SRL)) = SRLV
+row_entry (Some (Two SRC)) = SRCV
 row_entry _ = UNKN
 
 -- a code byte of an operation that is built

@@ -104,3 +104,144 @@ pub const GOTO: u16 = 0x24B8;
 
 /// The instruction EXIT.
 pub const GOEXIT: u16 = 0x24C0;
+
+/// The row of INCT.
+pub const INCTV: u16 = 0x24C4;
+
+/// The row of ADD and INC.
+pub const ADDV: u16 = 0x24C6;
+
+/// The row of DECT.
+pub const DECTV: u16 = 0x24CA;
+
+/// The row of SUB and DEC.
+pub const SUBV: u16 = 0x24CC;
+
+/// The row of ABS.
+pub const ABSV: u16 = 0x24D0;
+
+/// The row of NEG, and the tail of all that set the status.
+pub const NEGV: u16 = 0x24D4;
+
+/// Sets the status, once the result is stored.
+pub const STATB: u16 = 0x24E0;
+
+/// The row of AND.
+pub const ANDV: u16 = 0x24E8;
+
+/// The row of OR.
+pub const ORV: u16 = 0x24EE;
+
+/// The row of XOR.
+pub const XORV: u16 = 0x24F2;
+
+/// The row of INV.
+pub const INVV: u16 = 0x24F6;
+
+/// The row of CLR.
+pub const CLRV: u16 = 0x24FA;
+
+/// The row of EX.
+pub const EXV: u16 = 0x24FE;
+
+/// Stores the old destination of EX at the source, once the source is stored.
+pub const EXB: u16 = 0x2506;
+
+/// Gives the count of a shift.
+pub const COUNT: u16 = 0x250E;
+
+/// The row of SRA.
+pub const SRAV: u16 = 0x2520;
+
+/// Shifts the value of SRA by its count.
+pub const SRAB: u16 = 0x2524;
+
+/// The row of SLL.
+pub const SLLV: u16 = 0x2528;
+
+/// Shifts the value of SLL by its count.
+pub const SLLB: u16 = 0x252C;
+
+/// The row of SRL.
+pub const SRLV: u16 = 0x2530;
+
+/// Shifts the value of SRL by its count.
+pub const SRLB: u16 = 0x2534;
+
+/// The row of SRC.
+pub const SRCV: u16 = 0x2538;
+
+/// Turns the value of SRC by its count.
+pub const SRCB: u16 = 0x253C;
+
+/// Loads the operands of MUL and DIV and goes to their row.
+pub const WIDE: u16 = 0x254C;
+
+/// The row of MUL.
+pub const MULV: u16 = 0x2558;
+
+/// Stores the low word of a product, once the high word is stored.
+pub const MULB: u16 = 0x2570;
+
+/// The row of DIV.
+pub const DIVV: u16 = 0x2576;
+
+/// The part of DIV for bytes.
+pub const DIVBY: u16 = 0x2580;
+
+/// The part of DIV for words.
+pub const DIVW: u16 = 0x2592;
+
+/// The part of DIV for words, once the second word of the destination is loaded.
+pub const DIVL: u16 = 0x259E;
+
+/// Takes the remainder of a DIV of words, once the quotient is stored.
+pub const DIVQ: u16 = 0x25A6;
+
+/// Stores the last word of DIV.
+pub const DIVS: u16 = 0x25AA;
+
+/// Ends DIV, once all is stored: the overflow is cleared.
+pub const DIVE: u16 = 0x25AE;
+
+/// Ends a DIV whose quotient does not fit: the overflow is set.
+pub const OVER: u16 = 0x25BA;
+
+/// The row of CH.
+pub const CHV: u16 = 0x25C6;
+
+/// The row of CHE.
+pub const CHEV: u16 = 0x25CC;
+
+/// The row of CGT.
+pub const CGTV: u16 = 0x25D2;
+
+/// The row of CGE.
+pub const CGEV: u16 = 0x25D8;
+
+/// The row of CEQ.
+pub const CEQV: u16 = 0x25DE;
+
+/// The row of CLOG.
+pub const CLOGV: u16 = 0x25E4;
+
+/// The row of CZ.
+pub const CZV: u16 = 0x25EA;
+
+/// The instruction H.
+pub const GOH: u16 = 0x25F0;
+
+/// The instruction GT.
+pub const GOGT: u16 = 0x25FA;
+
+/// The instruction CARRY.
+pub const GOCARY: u16 = 0x2604;
+
+/// The instruction OVF.
+pub const GOOVF: u16 = 0x260E;
+
+/// Sets the condition.
+pub const CTRUE: u16 = 0x2618;
+
+/// Clears the condition.
+pub const CFALSE: u16 = 0x2624;
