@@ -143,8 +143,9 @@ const SRL: Option<GplOperation> = Some(GplOperation::Two(TwoName::SRL));
 
 const SRC: Option<GplOperation> = Some(GplOperation::Two(TwoName::SRC));
 
-/// The operation that a code byte belongs to, and None exactly where it belongs to none.
-pub(crate) fn operation_at(code: u8) -> Option<GplOperation>
+/// The operation that a code byte belongs to, and None exactly where it belongs to none. GPL Programmer's Guide, the
+/// statements and their codes.
+pub fn operation_at(code: u8) -> Option<GplOperation>
     ensures { result ≡ spec_operation_at code }
 {
     entry(OPERATIONS, code)
