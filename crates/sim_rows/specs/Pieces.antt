@@ -1,41 +1,40 @@
--- What the pieces of boot, of the step and of the instructions come to: how many instructions they have, where they end, and
--- what they change of the view, in the words of the processor. Registers, cells and ports that are not named stay.
-use Rattle.std.specs.Prelude.{ℕ, ◌+◌, ◌-◌, ◌/◌, ◌==◌, nat_lt, if◌then◌else◌, slice_index, slice_set}
+-- What the pieces of a step up to its dispatch, of the operands of a row and of the end of a row come to: how many instructions
+-- they have, where they end, and what they change of the view, in the words of the processor. Registers, cells and ports that
+-- are not named stay.
+use Rattle.std.specs.Prelude.{ℕ, ◌+◌, ◌-◌, ◌/◌, ◌==◌, nat_lt, if◌then◌else◌, slice_index}
 use Rattle.console_defs.specs.Words.{low, join, even}
 use Rattle.console_defs.specs.Flags.{Word, sum_of, difference_of}
 use Rattle.console_defs.specs.Shifts.{shifted, last_out}
 use Rattle.console_defs.specs.Grom.{GromState, grom_address_read}
 use Rattle.console_defs.specs.declared.instruction.ShiftOp.TheVariants.{SRL, SLA}
 use Rattle.native_interp.specs.declared.addresses.TheConstants.{
+  TABLE,
+  OPTAB,
   GSTEP,
-  GSTOP,
-  GEXIT,
   WHERE,
   SEEK,
   FETCH,
   ADDR,
   LOAD,
-  STREAM,
   STORE,
   OPS,
   OPVAL,
   GO,
   SHOW,
-  STO,
-  GOTO,
 }
 use Rattle.native_interp.specs.declared.words.TheConstants.{INTERP}
+use Rattle.native_interp.specs.Words.{origin}
+use Rattle.step_defs.specs.declared.cells.TheConstants.{CHARACTER, ROW, COLUMN}
 use Rattle.sim_view.specs.View.{View}
 use Rattle.sim_view.specs.Exits.{Exit}
 use Rattle.sim_operands.specs.Pieces.{exit, return_of}
 
--- GBOOT: the stacks' pointers are stored, and SEEK is asked for the entry in register 0.
-abbrev pub boot : View → Exit
-boot v =
-    exit 7 SEEK (record v {
-      r = record v.r { r4 = 0x7E9F; r6 = v.r.r0; r11 = GSTEP };
-      cells = slice_set (slice_set v.cells 0x72 0x9F) 0x73 0x7E;
-    })
+-- the numbers of the first words of both tables, among the words of the interpreter
+abbrev pub first_entry : ℕ
+first_entry = (TABLE - origin) / 2
+
+abbrev pub first_row : ℕ
+first_row = (OPTAB - origin) / 2
 
 -- GSTEP: the address of the next byte is asked for.
 abbrev pub ask_address : View → Exit
@@ -67,24 +66,8 @@ ask_byte v = exit 1 FETCH (record v { r = record v.r { r11 = GSTEP + 14 } })
 abbrev pub dispatch : View → Exit
 dispatch v =
     let code = shifted SRL v.r.r6 8 in
-    let entry = slice_index INTERP (4 + code) in
+    let entry = slice_index INTERP (first_entry + code) in
     exit 6 (even entry) (record v { r = record v.r { r0 = code; r4 = entry } })
-
--- UNKN: the stop by reason 1.
-abbrev pub stop_code : View → Exit
-stop_code v = exit 2 GSTOP (record v { r = record v.r { r0 = 1 } })
-
--- GOEXIT.
-abbrev pub leave : View → Exit
-leave v = exit 1 GEXIT v
-
--- GOB: the address that follows is asked for.
-abbrev pub ask_target : View → Exit
-ask_target v = exit 2 STREAM (record v { r = record v.r { r3 = 2; r11 = GOTO } })
-
--- GOTO: GROM goes on at the address.
-abbrev pub go_on : View → Exit
-go_on v = exit 2 SEEK (record v { r = record v.r { r11 = GSTEP } })
 
 -- ROW: the width of the operands.
 abbrev pub width_of_code : ℕ → ℕ
@@ -92,6 +75,11 @@ width_of_code code = sum_of Word (shifted SRL (shifted SLA code 15) 15) 1
 
 abbrev pub row_width : View → Exit
 row_width v = exit 4 OPS (record v { r = record v.r { r3 = width_of_code v.r.r0 } })
+
+-- WIDE: twice that width.
+abbrev pub wide_width : View → Exit
+wide_width v =
+    exit 5 OPS (record v { r = record v.r { r3 = sum_of Word (shifted SRL (shifted SLA v.r.r0 15) 14) 2 } })
 
 -- OPS: the place of the first operand is asked for; nothing was stored yet.
 abbrev pub ask_first : View → Exit
@@ -126,12 +114,8 @@ load_second v = exit 2 LOAD (record v { r = record v.r { r11 = GO } })
 -- GO: the second table leads on by the code byte.
 abbrev pub go_to_row : View → Exit
 go_to_row v =
-    let entry = slice_index INTERP (260 + (v.r.r0 - 0x80) / 2) in
+    let entry = slice_index INTERP (first_row + (v.r.r0 - 0x80) / 2) in
     exit 3 (even entry) (record v { r = record v.r { r4 = entry } })
-
--- STV: the value of ST.
-abbrev pub take_source : View → Exit
-take_source v = exit 1 STO (record v { r = record v.r { r9 = v.r.r6 } })
 
 -- STO: the value is stored.
 abbrev pub store_result : View → Exit
@@ -140,8 +124,8 @@ store_result v = exit 2 STORE (record v { r = record v.r { r11 = SHOW } })
 -- SHOW: the step ends, or the character's byte is stored on the screen.
 abbrev pub show : View → Exit
 show v =
-    let row = shifted SLA (shifted SRL (join (slice_index v.cells 0x7E) (low v.r.r7)) 8) 5 in
-    let column = shifted SRL (join (slice_index v.cells 0x7F) (low v.r.r4)) 8 in
+    let row = shifted SLA (shifted SRL (join (slice_index v.cells ROW) (low v.r.r7)) 8) 5 in
+    let column = shifted SRL (join (slice_index v.cells COLUMN) (low v.r.r4)) 8 in
     if v.r.r13 == 0
     then exit 3 GSTEP v
     else exit 13 STORE (record v {
@@ -150,7 +134,7 @@ show v =
         r4 = column;
         r7 = sum_of Word row column;
         r8 = 1;
-        r9 = join (slice_index v.cells 0x7D) (low v.r.r9);
+        r9 = join (slice_index v.cells CHARACTER) (low v.r.r9);
         r11 = GSTEP;
       };
     })

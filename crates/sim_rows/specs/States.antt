@@ -1,13 +1,10 @@
--- Views of the interpreter's machine at the beginning of a step and at its dispatch, and the families of instructions that
--- begin there.
-use Rattle.std.specs.Prelude.{◌≡◌, ℕ, Bool, true, false, Option, Some, None, slice_index}
+-- Views of the interpreter's machine at the beginning of a step, at its dispatch, and at the ends of a program.
+use Rattle.std.specs.Prelude.{◌≡◌, ℕ, Option, None, slice_index}
 use Rattle.console_defs.specs.Grom.{next_in_grom, previous_in_grom}
-use Rattle.gpl_defs.specs.declared.instruction.PlainOp.TheVariants.{EXIT}
-use Rattle.gpl_defs.specs.declared.instruction.GoOp.TheVariants.{B}
-use Rattle.gpl_defs.specs.declared.instruction.TwoName.TheVariants.{ST}
 use Rattle.gpl_defs.specs.declared.instruction.GplOperation.{GplOperation}
-use Rattle.gpl_defs.specs.declared.instruction.GplOperation.TheVariants.{Plain, Jump, Two}
 use Rattle.gpl_defs.specs.Codes.{operation_at}
+use Rattle.step_defs.specs.declared.reason.Reason.{Reason}
+use Rattle.step_defs.specs.Reasons.{number_of}
 use Rattle.step_defs.specs.State.{GplState}
 use Rattle.interp_defs.specs.Interpreter.{code_register, address_register}
 use Rattle.sim_view.specs.View.{View, listed}
@@ -31,16 +28,27 @@ pub record Dispatched (s : GplState) (w : View) : Type 0 where
 abbrev pub state_at_dispatch : View → GplState
 state_at_dispatch w = record (state_of w) { pc = previous_in_grom (state_of w).pc }
 
--- the operation of the code byte there
-abbrev pub operation_of : View → Option GplOperation
-operation_of w = let s = state_at_dispatch w in operation_at (slice_index s.image s.pc)
+-- The code byte of a state, its operation, and the address behind it.
+abbrev pub code_byte : GplState → ℕ
+code_byte s = slice_index s.image s.pc
 
--- The families: the instructions that a function runs.
-abbrev pub is_alu : Option GplOperation → Bool
-is_alu (Some (Two ST)) = true
-is_alu _ = false
+abbrev pub operation_in : GplState → Option GplOperation
+operation_in s = operation_at (code_byte s)
 
-abbrev pub is_flow : Option GplOperation → Bool
-is_flow (Some (Jump B)) = true
-is_flow (Some (Plain EXIT)) = true
-is_flow _ = false
+abbrev pub behind_code : GplState → ℕ
+behind_code s = next_in_grom s.pc
+
+-- the operation of the code byte that is shown at dispatch
+abbrev pub operation_seen : View → Option GplOperation
+operation_seen w = operation_in (state_at_dispatch w)
+
+-- What is seen where a program ends.
+pub record Ended (s : GplState) (w : View) : Type 0 where
+  pub cells : w.cells ≡ s.cells
+  pub vdp : w.vdp.memory ≡ s.vdp
+  pub registers : w.vdp.registers ≡ s.registers
+  pub address : w.r.r1 ≡ s.pc
+
+pub record StoppedBy (s : GplState) (reason : Reason) (w : View) : Type 0 where
+  pub ended : Ended s w
+  pub reason_is : w.r.r0 ≡ number_of reason

@@ -1,0 +1,4 @@
+pub mod Pieces
+pub mod States
+pub mod Rows
+pub mod Results
