@@ -1,0 +1,6 @@
+//! The rows that no other family has, run on the machine: EX, which exchanges two values.
+#![tactic(auto)]
+
+mod piece;
+
+pub use piece::{keep_destination, turn_to_source};
