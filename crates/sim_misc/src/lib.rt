@@ -2,5 +2,7 @@
 #![tactic(auto)]
 
 mod piece;
+mod row;
 
 pub use piece::{keep_destination, turn_to_source};
+pub use row::run_misc;

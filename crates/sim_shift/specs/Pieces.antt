@@ -63,3 +63,8 @@ turn_right v =
       r = record v.r { r4 = swapped v.r.r9; r9 = shifted SRC (ones_set v.r.r9 (swapped v.r.r9)) v.r.r0 };
     })
     else exit 4 STO (record v { r = record v.r { r9 = shifted SRC v.r.r9 v.r.r0 } })
+
+-- The last piece of each shift.
+abbrev pub shifts : ShiftOp → View → Exit
+shifts SRC v = turn_right v
+shifts op v = shifting op v
