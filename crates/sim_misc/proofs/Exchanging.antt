@@ -93,33 +93,34 @@ visible_by space address bytes space2 address2 bytes2 e f g h =
     let R : ℕ → Type 0 = λ n. IsVisible space address n in
     subst P (sym e) (subst Q (sym f) (subst R (sym g) h))
 
-module _ (x y z p : MachineState) (t u v w : ℕ) (e1 : Exits x y t u (pieces.keep_destination (view x))) (space : (view x).r.r8 < 2) (stored : (view y).r.r8 < 2 → StoresValue y z u v) (e2 : Exits z p v w (pieces.turn_to_source (view z))) where
+module _ (x y : MachineState) (t u : ℕ) (e1 : Exits x y t u (pieces.keep_destination (view x))) where
   pub idle_asked : PortsAreIdle x.cpu.memory → PortsAreIdle y.cpu.memory
   idle_asked i = idle_again x.cpu.memory y.cpu.memory (ap (λ (a : View). a.vdp) e1.shows) (ap (λ (a : View). a.grom) e1.shows) i
 
-  near : (view y).r.r8 < 2
-  near = let e = ap (λ (a : View). a.r.r8) e1.shows in omega arith
+  pub near : (view x).r.r8 < 2 → (view y).r.r8 < 2
+  near h = let e = ap (λ (a : View). a.r.r8) e1.shows in omega arith
 
-  pub stands_stored : Stands z 0x2506
-  stands_stored = subst (λ (n : ℕ). Stands z n) (ap return_of e1.shows) (stored near).stands
+pub stands_stored : (x y z : MachineState) (t u v : ℕ) → Exits x y t u (pieces.keep_destination (view x)) → (view x).r.r8 < 2 → ((view y).r.r8 < 2 → StoresValue y z u v) → Stands z 0x2506
+stands_stored x y z t u v e1 space stored = subst (λ (n : ℕ). Stands z n) (ap return_of e1.shows) (stored (near x y t u e1 space)).stands
+
+module _ (x y z p : MachineState) (t u v w : ℕ) (e1 : Exits x y t u (pieces.keep_destination (view x))) (space : (view x).r.r8 < 2) (may : (view y).r.r8 < 2 → StoresValue y z u v) (e2 : Exits z p v w (pieces.turn_to_source (view z))) where
+  stored : StoresValue y z u v
+  stored = may (near x y t u e1 space)
 
   pub idle_turned : PortsAreIdle x.cpu.memory → PortsAreIdle p.cpu.memory
   idle_turned i =
       idle_again z.cpu.memory p.cpu.memory (ap (λ (a : View). a.vdp) e2.shows) (ap (λ (a : View). a.grom) e2.shows)
-      (stored_idle y z u v (idle_asked i) (stored near))
+      (stored_idle y z u v (idle_asked x y t u e1 i) stored)
 
   -- the registers that hold the source's place
-  kept : (get : View → ℕ) → get (view z) ≡ get (view y) → get (view y) ≡ get (view x) → get (view z) ≡ get (view x)
-  kept get a b = a ∙ b
-
   source_space_is : (view p).r.r8 ≡ (view x).r.r5
-  source_space_is = ap (λ (a : View). a.r.r8) e2.shows ∙ ap (λ (a : View). a.r.r5) (stored near).holds.is ∙ ap (λ (a : View). a.r.r5) e1.shows
+  source_space_is = ap (λ (a : View). a.r.r8) e2.shows ∙ ap (λ (a : View). a.r.r5) stored.holds.is ∙ ap (λ (a : View). a.r.r5) e1.shows
 
   source_address_is : (view p).r.r7 ≡ (view x).r.r2
-  source_address_is = ap (λ (a : View). a.r.r7) e2.shows ∙ ap (λ (a : View). a.r.r2) (stored near).holds.is ∙ ap (λ (a : View). a.r.r2) e1.shows
+  source_address_is = ap (λ (a : View). a.r.r7) e2.shows ∙ ap (λ (a : View). a.r.r2) stored.holds.is ∙ ap (λ (a : View). a.r.r2) e1.shows
 
   bytes_is : (view p).r.r3 ≡ (view x).r.r3
-  bytes_is = ap (λ (a : View). a.r.r3) e2.shows ∙ ap (λ (a : View). a.r.r3) (stored near).holds.is ∙ ap (λ (a : View). a.r.r3) e1.shows
+  bytes_is = ap (λ (a : View). a.r.r3) e2.shows ∙ ap (λ (a : View). a.r.r3) stored.holds.is ∙ ap (λ (a : View). a.r.r3) e1.shows
 
   pub near_source : (view x).r.r5 < 2 → (view p).r.r8 < 2
   near_source h = let e = source_space_is in omega arith
@@ -150,7 +151,7 @@ module _ (x y z p : MachineState) (t u v w : ℕ) (e1 : Exits x y t u (pieces.ke
     first =
         let c1 : Comes 3 x y t u 0x23C2 (λ b. b ≡ (pieces.keep_destination (view x)).left) = comes e1 (record { within = omega arith; to_is = refl; holds = refl }) in
         let c2 : Comes 16 y z u v 0x2506 (ChangedFrom between (view y)) =
-        subst (λ (n : ℕ). Comes 16 y z u v n (ChangedFrom between (view y))) (ap return_of e1.shows) (store_then before width place source.number y z u v storing_first (stored near)) in
+        subst (λ (n : ℕ). Comes 16 y z u v n (ChangedFrom between (view y))) (ap return_of e1.shows) (store_then before width place source.number y z u v storing_first stored) in
         comes_on 3 16 c1 c2 refl
 
     old_is : (view z).r.r12 ≡ in_register width (value_at s width place)

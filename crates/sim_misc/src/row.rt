@@ -45,9 +45,9 @@ pub fn run_misc<L: Ledger>(machine: &mut Machine, steps: &mut Steps<L>) -> Turn
     requires family { is_misc (operation_seen (view machine.old)) ≡ true }
     ensures { Turned (state_at_dispatch (view machine.old)) most_to_dispatch machine.old machine.new steps.old steps.new result }
 {
-    let Some(_) = start_row(machine, steps) else {
+    if start_row(machine, steps).is_none() {
         return Turn::Stopped(Reason::Cell);
-    };
+    }
     run_exchange(machine, steps);
     Turn::Stepped
 }
