@@ -1,7 +1,7 @@
 use Rattle.sim_view.proofs.Bridge.{is_view}
 use Rattle.sim_operands.proofs.Ready.{idle_grom, idle_video}
 use Rattle.sim_steps.proofs.Booting.{begins}
-use Rattle.sim_steps.proofs.step.start_program.Goals as goal
+use Rattle.sim_steps.proofs.start.start_program.Goals as goal
 
 pub returns : goal.returns
 returns g c =

@@ -3,7 +3,7 @@ use Rattle.sim_view.specs.View.{view}
 use Rattle.sim_view.proofs.Bridge.{exits}
 use Rattle.sim_steps.specs.Pieces as piece
 use Rattle.sim_steps.proofs.Paths
-use Rattle.sim_steps.proofs.step.boot.Goals as goal
+use Rattle.sim_steps.proofs.start.boot.Goals as goal
 
 pub returns : goal.returns
 returns g c =
