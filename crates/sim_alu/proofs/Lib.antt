@@ -1,2 +1,4 @@
 pub mod Status
 pub mod Paths
+pub mod Bytes
+pub mod Numbers
