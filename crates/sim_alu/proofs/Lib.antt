@@ -2,3 +2,4 @@ pub mod Status
 pub mod Paths
 pub mod Bytes
 pub mod Numbers
+pub mod Making

@@ -3,6 +3,7 @@
 #![tactic(auto)]
 
 mod logic;
+mod row;
 mod sums;
 
 pub use logic::{clear, exclude_ones, invert, keep_common_ones, set_ones, take_source};
