@@ -3,3 +3,6 @@ pub mod Paths
 pub mod Bytes
 pub mod Numbers
 pub mod Making
+pub mod Frames
+pub mod Finishing
+pub mod Turning

@@ -41,15 +41,12 @@ use Rattle.sim_rows.specs.States.{operation_in, code_byte}
 use Rattle.sim_rows.specs.Rows.{row_width, bytes_by, destination_bytes, has_source, second_by, first_of, operands_of, unit, gone_on, AtRow}
 use Rattle.sim_rows.specs.Results.{row_result, Storing}
 use Rattle.sim_rows.proofs.Codes.{one_below}
+use Rattle.sim_rows.proofs.Storing.{width_again}
 use Rattle.sim_alu.specs.Pieces.{kept}
 use Rattle.sim_alu.specs.Family.{is_alu, result_piece}
 use Rattle.sim_alu.proofs.Numbers
 
 -- ---- widths and values
-
-width_again : (w : Width) → width_in (size_of w) ≡ w
-width_again Byte = refl
-width_again Word = refl
 
 -- a word that has a number in a register
 fits : (w : Width) (number word : ℕ) → word < 65536 → word ≡ in_register w number → number < modulus w
