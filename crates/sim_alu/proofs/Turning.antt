@@ -1,5 +1,5 @@
 -- A turn of the family.
-use Rattle.std.proofs.Common.{◌≡◌, ℕ, ◌+◌, ◌<◌, ◌≤◌, true, false, sym, ap, ◌∙◌, arith, Option, Some}
+use Rattle.std.proofs.Common.{◌≡◌, ℕ, ◌+◌, ◌<◌, ◌≤◌, true, false, sym, ap, ◌∙◌, arith, Option, Some, None}
 use Rattle.console_defs.specs.Flags.{size_of}
 use Rattle.console_defs.specs.Machine.{MachineState}
 use Rattle.gpl_defs.specs.declared.instruction.GplOperation.{GplOperation}
@@ -28,13 +28,13 @@ module _ (x : MachineState) (t : ℕ) (stands : Stands x (operation_entry (opera
   abbrev s : GplState
   s = state_at_dispatch (view x)
 
-  known : Entered (operation_in s)
+  pub known : Entered (operation_in s)
   known = entered (operation_in s) family
 
-  fits : code_byte s < 256
+  pub fits : code_byte s < 256
   fits = (is_view x stands.machine).grom.image.fits s.pc
 
-  start : is_end x.cpu.pc ≡ false
+  pub start : is_end x.cpu.pc ≡ false
   start = ap is_end stands.pc ∙ known.start
 
   abbrev Start : GplOperation → MachineState → ℕ → Type 0
@@ -64,3 +64,7 @@ module _ (x : MachineState) (t : ℕ) (stands : Stands x (operation_entry (opera
 
   pub turned : (op : GplOperation) (y z : MachineState) (u w : ℕ) → Start op y u → RunsRow op 54 y z u w → Turned s 29 x z t w Stepped
   turned op y z u w b r = Rowing.turned_row s x t fits start known.row op y z u w 54 b (entered (Some op) (told op y u b)).entry r (omega arith)
+
+  -- an operand is not visible
+  pub stopped : (y : MachineState) (u : ℕ) (told : Option GplOperation) → told ≡ None → StartsRow s x y t u told (operands_of s) → Turned s 29 x y t u (Stopped Cell)
+  stopped y u told none l = Rowing.stopped_row s x t fits start known.row y u told none l

@@ -8,7 +8,8 @@ pub start_row-requires-clause-row : goal.start_row-requires-clause-row
 start_row-requires-clause-row g c = (entered (operation_seen (view c.args.machine.now)) c.requires.family).row
 
 pub returns-in_default : goal.returns-in_default
-returns-in_default g c = ?
+returns-in_default g c =
+    Turning.stopped c.args.machine.now c.args.steps.now c.requires.stands c.requires.family c.start_row.new.machine c.start_row.new.steps c.start_row.result c.in_default.is c.start_row.ensures
 
 pub run_row-requires-clause-stands : goal.run_row-requires-clause-stands
 run_row-requires-clause-stands g c =
