@@ -1,2 +1,5 @@
 pub mod Numbers
 pub mod Paths
+pub mod Ends
+pub mod Telling
+pub mod Testing

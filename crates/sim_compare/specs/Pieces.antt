@@ -1,6 +1,6 @@
 -- What the pieces of the comparisons and the tests come to: how many instructions they have, where they end, and what they
 -- change of the view, in the words of the processor. Registers, cells and ports that are not named stay.
-use Rattle.std.specs.Prelude.{ℕ, ◌+◌, ◌==◌, Bool, true, false, nat_lt, int_lt, bit_and, if◌then◌else◌, slice_index, slice_set}
+use Rattle.std.specs.Prelude.{ℕ, ◌+◌, ◌==◌, Bool, true, false, not, nat_lt, int_lt, bit_and, if◌then◌else◌, slice_index, slice_set}
 use Rattle.console_defs.specs.Words.{low, join}
 use Rattle.console_defs.specs.Flags.{Byte, Word, signed}
 use Rattle.console_defs.specs.Logic.{ones_set, ones_cleared}
@@ -12,45 +12,47 @@ use Rattle.sim_view.specs.View.{View}
 use Rattle.sim_view.specs.Exits.{Exit}
 use Rattle.sim_operands.specs.Pieces.{exit}
 
--- what holds leads to CTRUE, the rest to CFALSE; where it does not branch at once, that takes one instruction more
-abbrev pub told : Bool → View → Exit
-told holds v = if holds then exit 2 CTRUE v else exit 3 CFALSE v
+-- what holds leads to CTRUE, what does not to CFALSE; each takes so many instructions
+abbrev pub end_of : Bool → ℕ
+end_of true = CTRUE
+end_of false = CFALSE
+
+abbrev pub told : ℕ → ℕ → Bool → View → Exit
+told held failed holds v = exit (if holds then held else failed) (end_of holds) v
 
 -- CH: the destination is above the source.
 abbrev pub compare_higher : View → Exit
-compare_higher v = told (nat_lt v.r.r6 v.r.r9) v
+compare_higher v = told 2 3 (nat_lt v.r.r6 v.r.r9) v
 
 -- CHE: it is not below it.
 abbrev pub compare_higher_or_equal : View → Exit
-compare_higher_or_equal v = if nat_lt v.r.r9 v.r.r6 then exit 3 CFALSE v else exit 2 CTRUE v
+compare_higher_or_equal v = told 2 3 (not (nat_lt v.r.r9 v.r.r6)) v
 
 -- CGT: it is above it as a signed number.
 abbrev pub compare_greater : View → Exit
-compare_greater v = told (int_lt (signed Word v.r.r6) (signed Word v.r.r9)) v
+compare_greater v = told 2 3 (int_lt (signed Word v.r.r6) (signed Word v.r.r9)) v
 
 -- CGE: it is not below it as a signed number.
 abbrev pub compare_greater_or_equal : View → Exit
-compare_greater_or_equal v =
-    if int_lt (signed Word v.r.r9) (signed Word v.r.r6) then exit 2 CFALSE v else exit 3 CTRUE v
+compare_greater_or_equal v = told 3 2 (not (int_lt (signed Word v.r.r9) (signed Word v.r.r6))) v
 
 -- CEQ: they are equal.
 abbrev pub compare_equal : View → Exit
-compare_equal v = told (v.r.r9 == v.r.r6) v
+compare_equal v = told 2 3 (v.r.r9 == v.r.r6) v
 
 -- CLOG: no one of the source is a one in the destination.
 abbrev pub compare_ones : View → Exit
-compare_ones v = told (bit_and v.r.r6 v.r.r9 == 0) v
+compare_ones v = told 2 3 (bit_and v.r.r6 v.r.r9 == 0) v
 
 -- CZ: the operand is 0.
 abbrev pub compare_with_zero : View → Exit
-compare_with_zero v = told (v.r.r9 == 0) v
+compare_with_zero v = told 2 3 (v.r.r9 == 0) v
 
 -- H, GT, CARRY, OVF: a bit of the status is shifted out to the left.
 abbrev pub test_bit : ℕ → View → Exit
 test_bit places v =
     let word = join (slice_index v.cells STATUS) (low v.r.r4) in
-    let left = record v { r = record v.r { r4 = shifted SLA word places } } in
-    if last_out SLA word places then exit 3 CTRUE left else exit 4 CFALSE left
+    told 3 4 (last_out SLA word places) (record v { r = record v.r { r4 = shifted SLA word places } })
 
 abbrev pub test_higher : View → Exit
 test_higher v = test_bit 1 v

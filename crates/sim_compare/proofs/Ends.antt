@@ -1,0 +1,160 @@
+-- What a view at one of the interpreter's ends says of its machine.
+use Rattle.std.proofs.Common.{◌≡◌, ℕ, zero, suc, ◌+◌, ◌<◌, ◌≤◌, Bool, true, false, refl, sym, ap, subst, ◌∙◌, arith, List, Result, Ok, Err, lit<}
+use Rattle.std.specs.Prelude.{not, is_none, slice_index}
+use Rattle.console_defs.specs.Vdp.{VdpState}
+use Rattle.console_defs.specs.Grom.{GromState, next_in_grom, previous_in_grom}
+use Rattle.console_defs.proofs.GromLaws.{previous-next}
+use Rattle.console_defs.specs.Memory.{Memory}
+use Rattle.console_defs.specs.Machine.{MachineState}
+use Rattle.step_defs.specs.declared.reason.Reason.{Reason}
+use Rattle.step_defs.specs.declared.reason.Reason.TheVariants.{Exit, Opcode, Cell}
+use Rattle.step_defs.specs.State.{GplState}
+use Rattle.step_defs.specs.Step.{step}
+use Rattle.step_defs.specs.Run.{bound}
+use Rattle.interp_defs.specs.declared.turn.Turn.{Turn}
+use Rattle.interp_defs.specs.Match.{PortsAreIdle, IsFetched, Matches, IsHalted, shown_by}
+use Rattle.interp_defs.specs.Runs.{Runs, is_end}
+use Rattle.interp_defs.specs.Turned.{Reaches, TurnedBy, Turned}
+use Rattle.console_defs.specs.Accesses.{Gives}
+use Rattle.sim_view.specs.View.{View, view, view_of, Stands}
+use Rattle.sim_view.specs.Exits.{Comes}
+use Rattle.sim_view.proofs.Answers.{given}
+use Rattle.sim_view.proofs.Bridge.{holds_register}
+use Rattle.sim_view.proofs.Compose.{runs_then}
+use Rattle.sim_operands.specs.Subroutines.{grom_at, state_of}
+
+use Rattle.sim_compare.specs.States.{Sees, Dispatched, Ended, StoppedBy, state_at_dispatch}
+
+-- a state of parts
+abbrev pub made : List ℕ → List ℕ → List ℕ → ℕ → List ℕ → GplState
+made cells vdp registers pc image = record { cells = cells; vdp = vdp; registers = registers; pc = pc; image = image }
+
+pub same_state : (c c2 v v2 r r2 : List ℕ) (p p2 : ℕ) (i i2 : List ℕ) → c ≡ c2 → v ≡ v2 → r ≡ r2 → p ≡ p2 → i ≡ i2 → made c v r p i ≡ made c2 v2 r2 p2 i2
+same_state c c2 v v2 r r2 p p2 i i2 a b d e f =
+    ap (λ x. made x v r p i) a ∙ ap (λ x. made c2 x r p i) b ∙ ap (λ x. made c2 v2 x p i) d ∙ ap (λ x. made c2 v2 r2 x i) e ∙ ap (λ x. made c2 v2 r2 p2 x) f
+
+fetched_at : (image : List ℕ) (at : ℕ) → IsFetched (grom_at image at)
+fetched_at image at = ap (slice_index image) (sym (previous-next at))
+
+-- The ports of a memory whose view shows a state.
+pub idle_of : (m : Memory) (s : GplState) (at : ℕ) → Sees s at (view_of m) → PortsAreIdle m
+unfolding view_of
+idle_of m s at h = record { vdp = ap is_none h.held; grom = ap (λ (g : GromState). not g.half_written) h.grom }
+
+pub fetched_of : (m : Memory) (s : GplState) (at : ℕ) → Sees s at (view_of m) → IsFetched m.grom
+unfolding view_of
+fetched_of m s at h = subst IsFetched (sym h.grom) (fetched_at s.image at)
+
+pub shown_is : (m : Memory) → shown_by m ≡ state_of (view_of m)
+unfolding view_of
+shown_is m = refl
+
+state_is : (w : View) (s : GplState) → Sees s s.pc w → state_of w ≡ s
+state_is w s h =
+    same_state w.cells s.cells w.vdp.memory s.vdp w.vdp.registers s.registers (previous_in_grom w.grom.counter) s.pc w.grom.image s.image
+    h.cells h.vdp h.registers (ap (λ (g : GromState). previous_in_grom g.counter) h.grom ∙ previous-next s.pc) (ap (λ (g : GromState). g.image) h.grom)
+
+-- the state that is shown at dispatch
+pub state_at : (w : View) (s : GplState) → Dispatched s w → state_at_dispatch w ≡ s
+state_at w s d =
+    let h = d.sees in
+    let counter = ap (λ (g : GromState). previous_in_grom (previous_in_grom g.counter)) h.grom in
+    same_state w.cells s.cells w.vdp.memory s.vdp w.vdp.registers s.registers (previous_in_grom (previous_in_grom w.grom.counter)) s.pc w.grom.image s.image
+    h.cells h.vdp h.registers (counter ∙ ap previous_in_grom (previous-next (next_in_grom s.pc)) ∙ previous-next s.pc) (ap (λ (g : GromState). g.image) h.grom)
+
+pub matches : (s : GplState) (y : MachineState) → Stands y 0x228C → Sees s s.pc (view y) → Matches s y
+matches s y stands h = record {
+  matching = record {
+    pc = stands.pc;
+    wp = stands.wp;
+    words = stands.words;
+    idle = idle_of y.cpu.memory s s.pc h;
+    fetched = fetched_of y.cpu.memory s s.pc h;
+    constants = tt;
+  };
+  shows = shown_is y.cpu.memory ∙ state_is (view y) s h;
+}
+
+cells_of : (m : Memory) → (shown_by m).cells ≡ (view_of m).cells
+unfolding view_of
+cells_of m = refl
+
+vdp_of : (m : Memory) → m.vdp ≡ (view_of m).vdp
+unfolding view_of
+vdp_of m = refl
+
+pub leaves : (s : GplState) (y : MachineState) → Stands y 0x22BA → Ended s (view y) → IsHalted s Exit y
+leaves s y stands h = record {
+  cells = cells_of y.cpu.memory ∙ h.cells;
+  vdp = ap (λ (d : VdpState). d.memory) (vdp_of y.cpu.memory) ∙ h.vdp;
+  registers = ap (λ (d : VdpState). d.registers) (vdp_of y.cpu.memory) ∙ h.registers;
+  wp = stands.wp;
+  address = holds_register y.cpu.memory 1 stands.machine.memory (lit< tt) ∙ ap Gives h.address;
+  stands = stands.pc;
+}
+
+pub stops : (s : GplState) (y : MachineState) → Stands y 0x22B8 → StoppedBy s Opcode (view y) → IsHalted s Opcode y
+stops s y stands h = record {
+  cells = cells_of y.cpu.memory ∙ h.ended.cells;
+  vdp = ap (λ (d : VdpState). d.memory) (vdp_of y.cpu.memory) ∙ h.ended.vdp;
+  registers = ap (λ (d : VdpState). d.registers) (vdp_of y.cpu.memory) ∙ h.ended.registers;
+  wp = stands.wp;
+  address = holds_register y.cpu.memory 1 stands.machine.memory (lit< tt) ∙ ap Gives h.ended.address;
+  stands = (stands.pc, holds_register y.cpu.memory 0 stands.machine.memory (lit< tt) ∙ ap Gives h.reason_is);
+}
+
+pub bars : (s : GplState) (y : MachineState) → Stands y 0x22B8 → StoppedBy s Cell (view y) → IsHalted s Cell y
+bars s y stands h = record {
+  cells = cells_of y.cpu.memory ∙ h.ended.cells;
+  vdp = ap (λ (d : VdpState). d.memory) (vdp_of y.cpu.memory) ∙ h.ended.vdp;
+  registers = ap (λ (d : VdpState). d.registers) (vdp_of y.cpu.memory) ∙ h.ended.registers;
+  wp = stands.wp;
+  address = holds_register y.cpu.memory 1 stands.machine.memory (lit< tt) ∙ ap Gives h.ended.address;
+  stands = (stands.pc, holds_register y.cpu.memory 0 stands.machine.memory (lit< tt) ∙ ap Gives h.reason_is);
+}
+
+-- ---- turns
+
+-- a run from elsewhere to an end has an instruction
+some_of : (count : ℕ) (x y : MachineState) → Runs count x y → is_end x.cpu.pc ≡ false → is_end y.cpu.pc ≡ true → 0 < count
+some_of zero x y r a b = absurd (not_both (is_end x.cpu.pc) (ap (λ (z : MachineState). is_end z.cpu.pc) (given x y r.leads) ∙ b) a)
+  where
+    not_both : (b : Bool) → b ≡ true → b ≡ false → ⊥
+    not_both b e f = cc
+some_of (suc count) x y r a b = omega arith
+
+-- what is come to from a dispatch
+pub reaches : {x y : MachineState} {before after most to : ℕ} {Q : View → Type 0} (led bound : ℕ) → Comes most x y before after to Q → is_end x.cpu.pc ≡ false → is_end to ≡ true → led + most ≤ bound → Reaches led bound x y before after
+reaches {x = x} {y = y} led bound c start end fits =
+    let w = c.within in
+    let there = ap is_end c.stands.pc ∙ end in
+    record { count = c.count; within = omega arith; counted = c.counted; turn = record { some = some_of c.count x y c.runs start there; runs = c.runs; there = there } }
+
+-- the beginning of a step before a turn from its dispatch
+pub reaches_from : {x y z : MachineState} {before middle after to bound : ℕ} {Q : View → Type 0} → Comes 29 x y before middle to Q → Reaches 29 bound y z middle after → is_end to ≡ false → Reaches 0 bound x z before after
+reaches_from {x = x} {y = y} {z = z} c r start =
+    let w = c.within in
+    let a = c.counted in
+    let b = r.counted in
+    let d = r.within in
+    let e = r.turn.some in
+    record {
+      count = c.count + r.count;
+      within = omega arith;
+      counted = omega arith;
+      turn = record { some = omega arith; runs = runs_then c.count r.count x y z c.runs r.turn.runs (ap is_end c.stands.pc ∙ start); there = r.turn.there };
+    }
+
+from_by : {x y : MachineState} {before middle to : ℕ} {Q : View → Type 0} (z : MachineState) (after : ℕ) (s : GplState) (r : Result GplState Reason) (turn : Turn) → Comes 29 x y before middle to Q → is_end to ≡ false →
+    TurnedBy r s 29 y z middle after turn → TurnedBy r s 0 x z before after turn
+from_by z after s (Ok next) turn c e t = (t.0, reaches_from c t.1 e, t.2)
+from_by z after s (Err reason) turn c e t = (t.0, reaches_from c t.1 e, t.2)
+
+pub turned_from : {x y : MachineState} {before middle to : ℕ} {Q : View → Type 0} (z : MachineState) (after : ℕ) (s : GplState) (turn : Turn) → Comes 29 x y before middle to Q → is_end to ≡ false →
+    Turned s 29 y z middle after turn → Turned s 0 x z before after turn
+turned_from z after s turn c e t = from_by z after s (step s) turn c e t
+
+-- a turn by what the step is
+pub turned_by : (x y : MachineState) (before after led : ℕ) (turn : Turn) (s : GplState) (r : Result GplState Reason) → step s ≡ r →
+    TurnedBy r s led x y before after turn → Turned s led x y before after turn
+turned_by x y before after led turn s r e t = subst (λ (q : Result GplState Reason). TurnedBy q s led x y before after turn) (sym e) t
