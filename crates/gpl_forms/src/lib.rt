@@ -10,11 +10,11 @@ mod size;
 mod valid;
 mod write;
 
+pub use codes::operation_at;
 pub use gpl_defs::{
     ByteOp, GoOp, GplInstr, GplOperand, GplOperation, GplRead, GplSource, MoveKind, MoveLength,
     MoveSource, MoveTarget, OneName, PlainOp, Space, TwoName,
 };
-pub use codes::operation_at;
 pub use image::GromImage;
 pub use laws::bytes_mean_one_instruction;
 pub use names::name_of;

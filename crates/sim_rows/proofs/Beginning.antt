@@ -19,8 +19,8 @@ use Rattle.sim_operands.specs.Pieces as operands
 use Rattle.sim_operands.specs.Pieces.{exit, past, set_to}
 use Rattle.sim_operands.specs.Subroutines.{grom_at}
 use Rattle.sim_operands.proofs.Ready.{set_is}
-use Rattle.sim_steps.specs.Pieces as pieces
-use Rattle.sim_steps.specs.States.{Sees, Dispatched}
+use Rattle.sim_rows.specs.Pieces as pieces
+use Rattle.sim_rows.specs.States.{Sees, Dispatched}
 
 -- the first table's word for each code byte is the address of its instruction, and even
 abbrev leads : ℕ → Bool

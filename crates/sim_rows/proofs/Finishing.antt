@@ -29,15 +29,15 @@ use Rattle.sim_view.specs.Exits.{Exits, Comes}
 use Rattle.sim_view.proofs.Bridge.{is_view}
 use Rattle.sim_operands.specs.Values.{IsVisible, number_of_space}
 use Rattle.sim_operands.specs.Subroutines.{grom_at, StoresValue, marked_by}
-use Rattle.sim_steps.specs.Pieces as pieces
-use Rattle.sim_steps.specs.States.{Sees, is_alu}
-use Rattle.sim_steps.specs.Rows.{code_of, behind_code, word_of, row_width, behind_first, next_of, moved, first_of, second_of, operands_of, AtRow, StoppedBy, LoadsOperands}
-use Rattle.sim_steps.proofs.Steps.{step_store, stored_of, bound_stop, bound_made}
-use Rattle.sim_steps.proofs.Ends.{matches, bars, reaches, turned_by}
-use Rattle.sim_steps.proofs.Places.{Lies, place_lies, lies_at}
-use Rattle.sim_steps.proofs.Operands.{visible_of}
-use Rattle.sim_steps.proofs.Families.{alu_store}
-use Rattle.sim_steps.proofs.Storing.{Storing, takes, Showing, stores, shows_none, Drawing, shows_one, draws, ends_here, at_done}
+use Rattle.sim_rows.specs.Pieces as pieces
+use Rattle.sim_rows.specs.States.{Sees, is_alu}
+use Rattle.sim_rows.specs.Rows.{code_of, behind_code, word_of, row_width, behind_first, next_of, moved, first_of, second_of, operands_of, AtRow, StoppedBy, LoadsOperands}
+use Rattle.sim_rows.proofs.Steps.{step_store, stored_of, bound_stop, bound_made}
+use Rattle.sim_rows.proofs.Ends.{matches, bars, reaches, turned_by}
+use Rattle.sim_rows.proofs.Places.{Lies, place_lies, lies_at}
+use Rattle.sim_rows.proofs.Operands.{visible_of}
+use Rattle.sim_rows.proofs.Families.{alu_store}
+use Rattle.sim_rows.proofs.Storing.{Storing, takes, Showing, stores, shows_none, Drawing, shows_one, draws, ends_here, at_done}
 
 not_both : true ≡ false → ⊥
 not_both e = cc

@@ -1,9 +1,12 @@
--- The operands of a row, piece by piece: the front of every row of two operands.
-use Rattle.std.proofs.Common.{◌≡◌, ℕ, ◌+◌, ◌%◌, ◌<◌, Bool, true, false, refl, sym, ap, subst, ◌∙◌, arith, List, Result}
+-- The operands of a row, piece by piece: the first operand is asked for and found.
+use Rattle.std.proofs.Common.{◌≡◌, ℕ, ◌+◌, ◌*◌, ◌%◌, ◌<◌, Bool, true, false, refl, sym, ap, subst, ◌∙◌, arith, List, Result}
 use Rattle.std.specs.Prelude.{◌==◌}
 use Rattle.std.proofs.lemmas.Bool.{eqb-true, eq-eqb}
 use Rattle.console_defs.specs.Words.{even}
-use Rattle.console_defs.specs.Flags.{size_of}
+use Rattle.console_defs.specs.Flags.{Word, size_of, sum_of}
+use Rattle.console_defs.specs.Shifts.{shifted}
+use Rattle.console_defs.specs.declared.instruction.ShiftOp.TheVariants.{SRL, SLA}
+use Rattle.console_defs.specs.Vdp.{VdpState}
 use Rattle.console_defs.specs.Grom.{GromState, previous_in_grom}
 use Rattle.console_defs.proofs.GromLaws.{previous-next}
 use Rattle.console_defs.specs.Machine.{MachineState}
@@ -20,17 +23,19 @@ use Rattle.sim_view.proofs.Compose.{Goes, comes, comes_then, comes_as, comes_on}
 use Rattle.sim_operands.specs.Pieces.{return_of}
 use Rattle.sim_operands.specs.Values.{width_in, number_of_space}
 use Rattle.sim_operands.specs.Subroutines.{grom_at, state_of, next_at, Addressed, Placed, Barred, Finds, FindsOperand, place_in, Loaded}
-use Rattle.sim_steps.specs.Pieces as pieces
-use Rattle.sim_steps.specs.Rows.{code_of, behind_code, word_of, Holds, StoppedBy}
-use Rattle.sim_steps.specs.States.{Dispatched}
-use Rattle.sim_steps.proofs.Beginning.{just, from}
-use Rattle.sim_steps.proofs.Steps.{place_same}
+use Rattle.sim_rows.specs.Pieces as pieces
+use Rattle.sim_rows.specs.Rows.{row_width, destination_bytes, Holds, LoadsFrom, AtOperands}
+use Rattle.sim_rows.specs.States.{Sees, Dispatched, StoppedBy, code_byte, behind_code}
+use Rattle.sim_rows.proofs.Steps.{place_same}
 
 -- ---- numbers
 
 -- the width of a code byte's operands
 pub width_is : (code : ℕ) → code < 256 → pieces.width_of_code code ≡ code % 2 + 1
 width_is code h = omega arith
+
+twice_is : (code : ℕ) → code < 256 → sum_of Word (shifted SRL (shifted SLA code 15) 14) 2 ≡ 2 * (code % 2 + 1)
+twice_is code h = omega arith
 
 pub size_is : (code : ℕ) → size_of (word_or_byte (code % 2 == 1)) ≡ code % 2 + 1
 size_is code = by (code % 2 == 1) refl
@@ -57,15 +62,34 @@ place_by Vdp address = refl
 pub place_is : (place : Place) → place_in (number_of_space place.space) place.address ≡ place
 place_is place = place_by place.space place.address
 
+pub space_small : (space : Space) (number : ℕ) → number ≡ number_of_space space → number < 2
+space_small Cpu number e = omega arith
+space_small Vdp number e = omega arith
+
 -- ---- what the front holds
 
--- a place to load from
-pub record From (place : Place) (w : View) : Type 0 where
-  pub address : w.r.r2 ≡ place.address
-  pub space : w.r.r5 ≡ number_of_space place.space
+-- a view with the same cells and ports sees the same
+pub sees_again : (s : GplState) (next : ℕ) (v w : View) → Sees s next v → w.cells ≡ v.cells → w.vdp ≡ v.vdp → w.grom ≡ v.grom → Sees s next w
+sees_again s next v w h c d g = record {
+  cells = c ∙ h.cells;
+  vdp = ap (λ (p : VdpState). p.memory) d ∙ h.vdp;
+  registers = ap (λ (p : VdpState). p.registers) d ∙ h.registers;
+  held = ap (λ (p : VdpState). p.held) d ∙ h.held;
+  grom = g ∙ h.grom;
+}
 
-pub holds_addressed : (s : GplState) (at next : ℕ) (v w : View) {address form : ℕ} → Holds s at v → Addressed v address form next w → Holds s next w
-holds_addressed s at next v w h a =
+pub holds_again : (s : GplState) (bytes more next : ℕ) (v w : View) → Holds s bytes next v → w.cells ≡ v.cells → w.vdp ≡ v.vdp → w.grom ≡ v.grom →
+    w.r.r0 ≡ v.r.r0 → w.r.r1 ≡ v.r.r1 → w.r.r13 ≡ v.r.r13 → w.r.r3 ≡ more → Holds s more next w
+holds_again s bytes more next v w h c d g r0 r1 r13 r3 = record {
+  sees = sees_again s next v w h.sees c d g;
+  code = r0 ∙ h.code;
+  address = r1 ∙ h.address;
+  bytes_are = r3;
+  mark = r13 ∙ h.mark;
+}
+
+pub holds_addressed : (s : GplState) (bytes at next : ℕ) (v w : View) {address form : ℕ} → Holds s bytes at v → Addressed v address form next w → Holds s bytes next w
+holds_addressed s bytes at next v w h a =
     let e = a.is in
     record {
       sees = record {
@@ -77,15 +101,15 @@ holds_addressed s at next v w h a =
       };
       code = ap (λ (u : View). u.r.r0) e ∙ h.code;
       address = ap (λ (u : View). u.r.r1) e ∙ h.address;
-      width = ap (λ (u : View). u.r.r3) e ∙ h.width;
+      bytes_are = ap (λ (u : View). u.r.r3) e ∙ h.bytes_are;
       mark = ap (λ (u : View). u.r.r13) e ∙ h.mark;
     }
 
-pub from_placed : (next : ℕ) (place : Place) (v w : View) → Placed v next place w → From place w
+pub from_placed : (next : ℕ) (place : Place) (v w : View) → Placed v next place w → LoadsFrom place w
 from_placed next place v w a = record { address = ap (λ (u : View). u.r.r2) a.is; space = ap (λ (u : View). u.r.r5) a.is }
 
-pub holds_loaded : (s : GplState) (at number : ℕ) (v w : View) → Holds s at v → Loaded v number w → Holds s at w
-holds_loaded s at number v w h a =
+pub holds_loaded : (s : GplState) (bytes at number : ℕ) (v w : View) → Holds s bytes at v → Loaded v number w → Holds s bytes at w
+holds_loaded s bytes at number v w h a =
     let e = a.is in
     record {
       sees = record {
@@ -97,13 +121,13 @@ holds_loaded s at number v w h a =
       };
       code = ap (λ (u : View). u.r.r0) e ∙ h.code;
       address = ap (λ (u : View). u.r.r1) e ∙ h.address;
-      width = ap (λ (u : View). u.r.r3) e ∙ h.width;
+      bytes_are = ap (λ (u : View). u.r.r3) e ∙ h.bytes_are;
       mark = ap (λ (u : View). u.r.r13) e ∙ h.mark;
     }
 
 -- A stop by the cells keeps the state.
-pub barred_stops : (s : GplState) (at : ℕ) (reason : Reason) (v w : View) → Holds s at v → Barred v reason w → StoppedBy s reason w
-barred_stops s at reason v w h a =
+pub barred_stops : (s : GplState) (bytes at : ℕ) (reason : Reason) (v w : View) → Holds s bytes at v → Barred v reason w → StoppedBy s reason w
+barred_stops s bytes at reason v w h a =
     let e = a.is in
     record {
       ended = record {
@@ -117,66 +141,80 @@ barred_stops s at reason v w h a =
 
 -- ---- what ADDR finds, said of the state
 
-pub finds_of : (s t : GplState) (at : ℕ) (x y : MachineState) (before after : ℕ) → Holds s at (view x) → t.cells ≡ s.cells → FindsOperand x y before after →
-    (let read = operand_at s.image at in Finds x y before after read.1 (place_of t (size_of (word_or_byte (word_of s))) read.0))
-finds_of s t at x y before after h same f =
+pub finds_of : (s t : GplState) (bytes at : ℕ) (x y : MachineState) (before after : ℕ) → Holds s bytes at (view x) → t.cells ≡ s.cells → FindsOperand x y before after →
+    (let read = operand_at s.image at in Finds x y before after read.1 (place_of t bytes read.0))
+finds_of s t bytes at x y before after h same f =
     let v : View = view x in
     let image : List ℕ → ℕ → ℕ → Type 0 = λ image from bytes. (let read = operand_at image from in Finds x y before after read.1 (place_of (state_of v) bytes read.0)) in
-    let a : Type 0 = image s.image at (size_of (word_or_byte (word_of s))) in
     let i : v.grom.image ≡ s.image = ap (λ (g : GromState). g.image) h.sees.grom in
     let n : next_at v ≡ at = ap (λ (g : GromState). previous_in_grom g.counter) h.sees.grom ∙ previous-next at in
     let f1 : image s.image (next_at v) v.r.r3 = subst (λ (l : List ℕ). image l (next_at v) v.r.r3) i f in
     let f2 : image s.image at v.r.r3 = subst (λ (k : ℕ). image s.image k v.r.r3) n f1 in
-    let f3 : a = subst (λ (k : ℕ). image s.image at k) h.width f2 in
+    let f3 : image s.image at bytes = subst (λ (k : ℕ). image s.image at k) h.bytes_are f2 in
     let read = operand_at s.image at in
     let to : Result Place Reason → Type 0 = λ r. Finds x y before after read.1 r in
-    subst to (place_same (state_of v) t (size_of (word_or_byte (word_of s))) read.0 (h.sees.cells ∙ sym same)) f3
+    subst to (place_same (state_of v) t bytes read.0 (h.sees.cells ∙ sym same)) f3
+
+-- ---- the width of the first operand
+
+pub row_sets : (s : GplState) (v : View) → Dispatched s v → code_byte s < 256 → destination_bytes s ≡ size_of (row_width s) → Goes (pieces.row_width v) 4 0x242E (AtOperands s)
+row_sets s v d h e = record {
+  within = omega arith;
+  to_is = refl;
+  holds = record {
+    sees = sees_again s (behind_code s) v (pieces.row_width v).left d.sees refl refl refl;
+    code = d.code;
+    address = d.address;
+    bytes_are = ap pieces.width_of_code d.code ∙ width_is (code_byte s) h ∙ sym (size_is (code_byte s)) ∙ sym e;
+  };
+}
+
+pub wide_sets : (s : GplState) (v : View) → Dispatched s v → code_byte s < 256 → destination_bytes s ≡ 2 * size_of (row_width s) → Goes (pieces.wide_width v) 5 0x242E (AtOperands s)
+wide_sets s v d h e = record {
+  within = omega arith;
+  to_is = refl;
+  holds = record {
+    sees = sees_again s (behind_code s) v (pieces.wide_width v).left d.sees refl refl refl;
+    code = d.code;
+    address = d.address;
+    bytes_are = ap (λ n. sum_of Word (shifted SRL (shifted SLA n 15) 14) 2) d.code ∙ twice_is (code_byte s) h ∙ ap (λ n. 2 * n) (sym (size_is (code_byte s))) ∙ sym e;
+  };
+}
 
 -- ---- the first operand
 
 -- ADDR is asked for it
-pub record Asking (s : GplState) (at to : ℕ) (w : View) : Type 0 where
-  pub holds : Holds s at w
+pub record Asking (s : GplState) (bytes at to : ℕ) (w : View) : Type 0 where
+  pub holds : Holds s bytes at w
   pub link : w.r.r11 ≡ to
 
-asks : (s : GplState) (v : View) → Dispatched s v → code_of s < 256 → Goes (pieces.ask_first (pieces.row_width v).left) 2 0x22EC (Asking s (behind_code s) 0x2434)
-asks s v d h = record {
+pub asks : (s : GplState) (v : View) → AtOperands s v → Goes (pieces.ask_first v) 2 0x22EC (Asking s (destination_bytes s) (behind_code s) 0x2434)
+asks s v d = record {
   within = omega arith;
   to_is = refl;
   holds = record {
-    holds = record {
-      sees = record { cells = d.sees.cells; vdp = d.sees.vdp; registers = d.sees.registers; held = d.sees.held; grom = d.sees.grom };
-      code = d.code;
-      address = d.address;
-      width = ap pieces.width_of_code d.code ∙ width_is (code_of s) h ∙ sym (size_is (code_of s));
-      mark = refl;
-    };
+    holds = record { sees = sees_again s (behind_code s) v (pieces.ask_first v).left d.sees refl refl refl; code = d.code; address = d.address; bytes_are = d.bytes_are; mark = refl };
     link = refl;
   };
 }
 
-pub asked : (s : GplState) (x a b : MachineState) (t t1 t2 : ℕ) → Dispatched s (view x) → code_of s < 256 → Exits x a t t1 (pieces.row_width (view x)) → Exits a b t1 t2 (pieces.ask_first (view a)) →
-    Comes 6 x b t t2 0x22EC (Asking s (behind_code s) 0x2434)
-asked s x a b t t1 t2 d h e1 e2 =
-    let c1 = comes e1 (just (pieces.row_width (view x)) 4 0x242E (omega arith) refl) in
-    comes_then 4 2 c1 e2 (from pieces.ask_first c1.holds (asks s (view x) d h)) refl
-
 -- it is found, or not
-pub record Located (s : GplState) (place : Place) (next : ℕ) (w : View) : Type 0 where
-  pub holds : Holds s next w
-  pub from : From place w
+pub record Located (s : GplState) (bytes : ℕ) (place : Place) (next : ℕ) (w : View) : Type 0 where
+  pub holds : Holds s bytes next w
+  pub from : LoadsFrom place w
 
-link_is : (s : GplState) (at to : ℕ) (w : View) → even to ≡ to → Asking s at to w → return_of w ≡ to
-link_is s at to w e a = ap even a.link ∙ e
+link_is : (s : GplState) (bytes at to : ℕ) (w : View) → even to ≡ to → Asking s bytes at to w → return_of w ≡ to
+link_is s bytes at to w e a = ap even a.link ∙ e
 
-pub located : (s : GplState) (at next to most : ℕ) (x y z : MachineState) (t u w : ℕ) (place : Place) → even to ≡ to → Comes most x y t u 0x22EC (Asking s at to) → Comes 45 y z u w (return_of (view y)) (Placed (view y) next place) →
-    Comes (most + 45) x z t w to (Located s place next)
-located s at next to most x y z t u w place even_to c d =
-    let e : return_of (view y) ≡ to = link_is s at to (view y) even_to c.holds in
+pub located : (s : GplState) (bytes at next to most : ℕ) (x y z : MachineState) (t u w : ℕ) (place : Place) → even to ≡ to → Comes most x y t u 0x22EC (Asking s bytes at to) →
+    Comes 45 y z u w (return_of (view y)) (Placed (view y) next place) → Comes (most + 45) x z t w to (Located s bytes place next)
+located s bytes at next to most x y z t u w place even_to c d =
+    let e : return_of (view y) ≡ to = link_is s bytes at to (view y) even_to c.holds in
     let d2 : Comes 45 y z u w to (Placed (view y) next place) = subst (λ (p : ℕ). Comes 45 y z u w p (Placed (view y) next place)) e d in
-    comes_as (most + 45) (Located s place next) (comes_on most 45 c d2 refl) (omega arith) (λ v a. record { holds = holds_addressed s at next (view y) v c.holds.holds a; from = from_placed next place (view y) v a })
+    comes_as (most + 45) (Located s bytes place next) (comes_on most 45 c d2 refl) (omega arith)
+    (λ v a. record { holds = holds_addressed s bytes at next (view y) v c.holds.holds a; from = from_placed next place (view y) v a })
 
-pub barred : (s : GplState) (at to most : ℕ) (reason : Reason) (x y z : MachineState) (t u w : ℕ) → Comes most x y t u 0x22EC (Asking s at to) → Comes 45 y z u w 0x22B8 (Barred (view y) reason) →
+pub barred : (s : GplState) (bytes at to most : ℕ) (reason : Reason) (x y z : MachineState) (t u w : ℕ) → Comes most x y t u 0x22EC (Asking s bytes at to) → Comes 45 y z u w 0x22B8 (Barred (view y) reason) →
     Comes (most + 45) x z t w 0x22B8 (StoppedBy s reason)
-barred s at to most reason x y z t u w c d =
-    comes_as (most + 45) (StoppedBy s reason) (comes_on most 45 c d refl) (omega arith) (λ v a. barred_stops s at reason (view y) v c.holds.holds a)
+barred s bytes at to most reason x y z t u w c d =
+    comes_as (most + 45) (StoppedBy s reason) (comes_on most 45 c d refl) (omega arith) (λ v a. barred_stops s bytes at reason (view y) v c.holds.holds a)

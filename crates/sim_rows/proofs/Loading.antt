@@ -20,13 +20,13 @@ use Rattle.sim_view.specs.Exits.{Exits, Comes}
 use Rattle.sim_view.proofs.Compose.{comes_as}
 use Rattle.sim_operands.specs.Values.{IsVisible, number_of_space}
 use Rattle.sim_operands.specs.Subroutines.{Finds, FindsOperand, LoadsValue, LoadsStream}
-use Rattle.sim_steps.specs.Pieces as pieces
-use Rattle.sim_steps.specs.States.{Dispatched, is_alu}
-use Rattle.sim_steps.specs.Rows.{code_of, behind_code, word_of, row_width, behind_first, next_of, moved, first_of, second_of, operands_of, Valued, AtRow, LoadsDestination, LoadsOperands}
-use Rattle.sim_steps.proofs.Ends.{fetched_of}
-use Rattle.sim_steps.proofs.Places.{place_lies, lies_at}
-use Rattle.sim_steps.proofs.Fronting.{Asking, Located, asked, located, barred, finds_of}
-use Rattle.sim_steps.proofs.Operands.{Loading, asks_first, loads, visible_of, Immediate, Operand, immediates, operands, Streaming, asks_immediate, streams, Found, finds_second, bars_second, LoadingSecond, asks_second, loads_second, goes_to_row, code_is, value_same}
+use Rattle.sim_rows.specs.Pieces as pieces
+use Rattle.sim_rows.specs.States.{Dispatched, is_alu}
+use Rattle.sim_rows.specs.Rows.{code_of, behind_code, word_of, row_width, behind_first, next_of, moved, first_of, second_of, operands_of, Valued, AtRow, LoadsDestination, LoadsOperands}
+use Rattle.sim_rows.proofs.Ends.{fetched_of}
+use Rattle.sim_rows.proofs.Places.{place_lies, lies_at}
+use Rattle.sim_rows.proofs.Fronting.{Asking, Located, asked, located, barred, finds_of}
+use Rattle.sim_rows.proofs.Operands.{Loading, asks_first, loads, visible_of, Immediate, Operand, immediates, operands, Streaming, asks_immediate, streams, Found, finds_second, bars_second, LoadingSecond, asks_second, loads_second, goes_to_row, code_is, value_same}
 use Rattle.gpl_defs.specs.declared.instruction.GplOperand.{GplOperand}
 
 space_small : (space : Space) (r5 : ℕ) → r5 ≡ number_of_space space → r5 < 2

@@ -7,7 +7,7 @@ use Rattle.interp_defs.specs.Match.{PortsAreIdle, IsMatching, shown_by}
 use Rattle.sim_view.specs.View.{view, view_of, Stands}
 use Rattle.sim_operands.specs.Subroutines.{grom_at, next_at}
 use Rattle.sim_operands.proofs.Ready.{ready, idle_video}
-use Rattle.sim_steps.specs.States.{Sees}
+use Rattle.sim_rows.specs.States.{Sees}
 
 pub stands_at : (x : MachineState) → IsMachine x → IsMatching x → Stands x 0x228C
 stands_at x i m = record { pc = m.pc; wp = m.wp; words = m.words; machine = i }

@@ -9,11 +9,8 @@ use Rattle.sim_view.proofs.Bridge.{Leads, IsView}
 use Rattle.sim_view.proofs.Parts.{Part, Rest, part_then, leads}
 use Rattle.sim_view.proofs.Places.{pick}
 use Rattle.sim_operands.specs.Pieces.{exit}
-use Rattle.sim_steps.specs.Pieces as pieces
-use Rattle.sim_steps.proofs.Facts.{spot_table, spot_rows, counter_is, not_above}
-
-pub boot : (v : View) → Leads (0x22D8 ∷ []) v 0x2274 (pieces.boot v)
-boot v = record { by = λ f q. refl }
+use Rattle.sim_rows.specs.Pieces as pieces
+use Rattle.sim_rows.proofs.Facts.{spot_table, spot_rows, counter_is, not_above}
 
 pub ask_address : (v : View) → Leads (0x22BC ∷ []) v 0x228C (pieces.ask_address v)
 ask_address v = record { by = λ f q. refl }
@@ -24,20 +21,11 @@ keep_address v = record { by = λ f q. refl }
 pub ask_byte : (v : View) → Leads (0x22E4 ∷ []) v 0x2296 (pieces.ask_byte v)
 ask_byte v = record { by = λ f q. refl }
 
-pub stop_code : (v : View) → Leads [] v 0x22AE (pieces.stop_code v)
-stop_code v = record { by = λ f q. refl }
-
-pub leave : (v : View) → Leads [] v 0x24C0 (pieces.leave v)
-leave v = record { by = λ f q. refl }
-
-pub ask_target : (v : View) → Leads (0x23AC ∷ []) v 0x24B0 (pieces.ask_target v)
-ask_target v = record { by = λ f q. refl }
-
-pub go_on : (v : View) → Leads (0x22D8 ∷ []) v 0x24B8 (pieces.go_on v)
-go_on v = record { by = λ f q. refl }
-
 pub row_width : (v : View) → Leads (0x242E ∷ []) v 0x2426 (pieces.row_width v)
 row_width v = record { by = λ f q. refl }
+
+pub wide_width : (v : View) → Leads (0x242E ∷ []) v 0x254C (pieces.wide_width v)
+wide_width v = record { by = λ f q. refl }
 
 pub ask_first : (v : View) → Leads (0x22EC ∷ []) v 0x242E (pieces.ask_first v)
 ask_first v = record { by = λ f q. refl }
@@ -47,9 +35,6 @@ load_first v = record { by = λ f q. refl }
 
 pub load_second : (v : View) → Leads (0x2368 ∷ []) v 0x245C (pieces.load_second v)
 load_second v = record { by = λ f q. refl }
-
-pub take_source : (v : View) → Leads (0x24A8 ∷ []) v 0x24A6 (pieces.take_source v)
-take_source v = record { by = λ f q. refl }
 
 pub store_result : (v : View) → Leads (0x23C2 ∷ []) v 0x24A8 (pieces.store_result v)
 store_result v = record { by = λ f q. refl }

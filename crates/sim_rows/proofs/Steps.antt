@@ -1,45 +1,51 @@
 -- The step of GPL by the operation of its code byte.
-use Rattle.std.proofs.Common.{◌≡◌, ℕ, Bool, true, false, refl, ap, ◌∙◌, List, Option, Some, None, Result, Ok, Err}
-use Rattle.std.specs.Prelude.{◌==◌, ◌&&◌, not, if◌then◌else◌}
+use Rattle.std.proofs.Common.{◌≡◌, ℕ, ◌<◌, Bool, true, false, refl, ap, ◌∙◌, List, Option, Some, None, Result, Ok, Err}
+use Rattle.std.specs.Prelude.{◌==◌, ◌&&◌, not, nat_lt, if◌then◌else◌}
 use Rattle.console_defs.specs.Words.{plus}
 use Rattle.console_defs.specs.Bytes.{word_in}
 use Rattle.gpl_defs.specs.declared.instruction.GplOperand.{GplOperand}
 use Rattle.source_defs.specs.Refusals.{◌>>=◌}
 use Rattle.gpl_defs.specs.declared.instruction.PlainOp.TheVariants.{EXIT}
 use Rattle.gpl_defs.specs.declared.instruction.GoOp.TheVariants.{B}
-use Rattle.gpl_defs.specs.declared.instruction.TwoName.TheVariants.{ST}
+use Rattle.gpl_defs.specs.declared.instruction.TwoName.{TwoName}
+use Rattle.gpl_defs.specs.declared.instruction.OneName.{OneName}
+use Rattle.gpl_defs.specs.declared.instruction.OneName.TheVariants.{ABS, NEG, INV, CLR, CASE, CZ, INC, DEC, INCT, DECT, FETCH, PUSH}
+use Rattle.console_defs.specs.Flags.{size_of}
 use Rattle.gpl_defs.specs.declared.instruction.GplInstr.{GplInstr}
 use Rattle.gpl_defs.specs.declared.instruction.GplOperation.{GplOperation}
 use Rattle.gpl_defs.specs.declared.instruction.GplOperation.TheVariants as operation
 use Rattle.gpl_defs.specs.declared.instruction.GplRead.{GplRead}
 use Rattle.gpl_defs.specs.Codes.{operation_at}
-use Rattle.gpl_defs.specs.Reading.{reading, read_by, instr_at, word_at}
+use Rattle.gpl_defs.specs.Reading.{reading, read_by, instr_at, word_at, operand_at}
 use Rattle.step_defs.specs.declared.reason.Reason.{Reason}
 use Rattle.step_defs.specs.declared.reason.Reason.TheVariants.{Exit, Opcode, Cell}
 use Rattle.step_defs.specs.State.{GplState}
-use Rattle.step_defs.specs.Place.{Place, place_of, pointed, indexed, ranged, is_visible}
-use Rattle.step_defs.specs.Changes.{Changes, unchanged, with_value, finished}
-use Rattle.step_defs.specs.Arithmetic.{Source}
+use Rattle.step_defs.specs.Place.{Place, place_of, value_at, pointed, indexed, ranged, is_visible}
+use Rattle.step_defs.specs.Changes.{Changes, unchanged, finished}
+use Rattle.step_defs.specs.Arithmetic.{Source, two}
 use Rattle.step_defs.specs.Built.{is_built, is_built_operation}
-use Rattle.step_defs.specs.Step.{step, executed, after, word_or_byte}
-use Rattle.sim_steps.specs.Rows.{code_of, behind_code, word_of, moved, first_of, second_of}
+use Rattle.step_defs.specs.Step.{step, executed, after, one, source_of, destination_size}
+use Rattle.sim_rows.specs.States.{code_byte, behind_code, operation_in}
+use Rattle.sim_rows.specs.Rows.{is_row, row_width, has_source, behind_first, source_read, next_of, gone_on, bytes_by, destination_bytes, first_of, unit, second_by, second_of, operands_of}
+use Rattle.sim_rows.specs.Results.{result_of}
+use Rattle.sim_rows.proofs.Codes.{one_below, two_above}
 use Rattle.step_defs.specs.Run.{bound, bound_by, bound_at}
 
-reading_is : (s : GplState) → reading s.image s.pc ≡ read_by (operation_at (code_of s)) (code_of s) s.image (behind_code s)
+reading_is : (s : GplState) → reading s.image s.pc ≡ read_by (operation_at (code_byte s)) (code_byte s) s.image (behind_code s)
 unfolding reading
 reading_is s = refl
 
 -- the step, and the bound of one that is made, by an operation
 abbrev by_operation : GplState → Option GplOperation → Result GplState Reason
-by_operation s o = executed (read_by o (code_of s) s.image (behind_code s)) s
+by_operation s o = executed (read_by o (code_byte s) s.image (behind_code s)) s
 
 abbrev bound_by_operation : GplState → Option GplOperation → ℕ
-bound_by_operation s o = bound_at (read_by o (code_of s) s.image (behind_code s)) s
+bound_by_operation s o = bound_at (read_by o (code_byte s) s.image (behind_code s)) s
 
-step_is : (s : GplState) (o : Option GplOperation) → operation_at (code_of s) ≡ o → step s ≡ by_operation s o
+step_is : (s : GplState) (o : Option GplOperation) → operation_at (code_byte s) ≡ o → step s ≡ by_operation s o
 step_is s o e =
     let run : GplRead → Result GplState Reason = λ r. executed r s in
-    let read : Option GplOperation → GplRead = λ o. read_by o (code_of s) s.image (behind_code s) in
+    let read : Option GplOperation → GplRead = λ o. read_by o (code_byte s) s.image (behind_code s) in
     ap run (reading_is s ∙ ap read e)
 
 -- an operation that is not built is no instruction that is
@@ -52,52 +58,141 @@ unbuilt (operation.One op) code image at e = refl
 unbuilt (operation.Two op) code image at e = e
 unbuilt (operation.Move kind) code image at e = refl
 
-pub step_none : (s : GplState) → operation_at (code_of s) ≡ None → step s ≡ Err Opcode
+pub step_none : (s : GplState) → operation_at (code_byte s) ≡ None → step s ≡ Err Opcode
 step_none s e = step_is s None e
 
 abbrev where_built : Bool → GplState → GplInstr → ℕ → Result GplState Reason
 where_built built s instr next = if built then after instr next s else Err Opcode
 
-pub step_unbuilt : (s : GplState) (op : GplOperation) → operation_at (code_of s) ≡ Some op → is_built_operation op ≡ false → step s ≡ Err Opcode
+pub step_unbuilt : (s : GplState) (op : GplOperation) → operation_at (code_byte s) ≡ Some op → is_built_operation op ≡ false → step s ≡ Err Opcode
 step_unbuilt s op e u =
-    let instr = instr_at op (code_of s) s.image (behind_code s) in
-    step_is s (Some op) e ∙ ap (λ (b : Bool). where_built b s instr.0 instr.1) (unbuilt op (code_of s) s.image (behind_code s) u)
+    let instr = instr_at op (code_byte s) s.image (behind_code s) in
+    step_is s (Some op) e ∙ ap (λ (b : Bool). where_built b s instr.0 instr.1) (unbuilt op (code_byte s) s.image (behind_code s) u)
 
-pub step_exit : (s : GplState) → operation_at (code_of s) ≡ Some (operation.Plain EXIT) → step s ≡ Err Exit
+pub step_exit : (s : GplState) → operation_at (code_byte s) ≡ Some (operation.Plain EXIT) → step s ≡ Err Exit
 unfolding after
 step_exit s e = step_is s (Some (operation.Plain EXIT)) e
 
-pub step_jump : (s : GplState) → operation_at (code_of s) ≡ Some (operation.Jump B) → step s ≡ Ok (record s { pc = (word_at s.image (behind_code s)).0 })
+pub step_jump : (s : GplState) → operation_at (code_byte s) ≡ Some (operation.Jump B) → step s ≡ Ok (record s { pc = (word_at s.image (behind_code s)).0 })
 unfolding after
 step_jump s e = step_is s (Some (operation.Jump B)) e
 
--- ST: the state after it
-abbrev pub stored_of : GplState → Place → Source → GplState
-stored_of s place source = finished (with_value (word_or_byte (word_of s)) place source.number (unchanged (moved s)))
+-- ---- rows
 
-pub step_store : (s : GplState) → operation_at (code_of s) ≡ Some (operation.Two ST) →
-    step s ≡ (first_of s >>= λ place. (second_of s >>= λ source. Ok (stored_of s place source)))
+-- a step of two operands, by the address behind it, the bytes of its destination, and its source
+abbrev two_from : GplState → TwoName → ℕ → ℕ → Result Source Reason → Result GplState Reason
+two_from s op next bytes second =
+    let t : GplState = record s { pc = next } in
+    place_of t bytes (operand_at s.image (behind_code s)).0 >>= λ place. (second >>= λ source. Ok (finished (two op (row_width s) place (value_at t (row_width s) place) source (unchanged t))))
+
+two_after : (s : GplState) (op : TwoName) → by_operation s (Some (operation.Two op)) ≡
+    two_from s op (source_read s).1 (destination_size op (row_width s)) (source_of (record s { pc = (source_read s).1 }) (row_width s) (source_read s).0)
 unfolding after
-step_store s e =
-    step_is s (Some (operation.Two ST)) e ∙ by (first_of s)
+two_after s op = let t : GplState = record s { pc = (source_read s).1 } in by t (place_of t (destination_size op (row_width s)) (operand_at s.image (behind_code s)).0) (source_of t (row_width s) (source_read s).0)
   where
-    then_ok : (r : Result Source Reason) (f : Source → Changes) → (r >>= λ source. Ok (f source)) >>= (λ (c : Changes). Ok (finished c)) ≡ r >>= λ source. Ok (finished (f source))
+    then_ok : (r : Result Source Reason) (f : Source → Changes) → ((r >>= λ source. Ok (f source)) >>= λ (c : Changes). Ok (finished c)) ≡ (r >>= λ source. Ok (finished (f source)))
     then_ok (Ok source) f = refl
     then_ok (Err reason) f = refl
 
-    by : (r : Result Place Reason) →
-        ((r >>= λ place. (second_of s >>= λ source. Ok (with_value (word_or_byte (word_of s)) place source.number (unchanged (moved s))))) >>= λ (c : Changes). Ok (finished c))
-        ≡ (r >>= λ place. (second_of s >>= λ source. Ok (stored_of s place source)))
-    by (Ok place) = then_ok (second_of s) (λ source. with_value (word_or_byte (word_of s)) place source.number (unchanged (moved s)))
-    by (Err reason) = refl
+    by : (t : GplState) (first : Result Place Reason) (second : Result Source Reason) →
+        ((first >>= λ place. (second >>= λ source. Ok (two op (row_width s) place (value_at t (row_width s) place) source (unchanged t)))) >>= λ (c : Changes). Ok (finished c))
+        ≡ (first >>= λ place. (second >>= λ source. Ok (finished (two op (row_width s) place (value_at t (row_width s) place) source (unchanged t)))))
+    by t (Ok place) second = then_ok second (λ source. two op (row_width s) place (value_at t (row_width s) place) source (unchanged t))
+    by t (Err reason) second = refl
+
+-- both operands, and then what is made of them
+pub together : {X : Type 0} (first : Result Place Reason) (second : Result Source Reason) (f : Place → Source → Result X Reason) →
+    (first >>= λ place. (second >>= λ source. f place source)) ≡ ((first >>= λ place. (second >>= λ source. Ok (place, source))) >>= λ (o : Place × Source). f o.0 o.1)
+together (Ok place) (Ok source) f = refl
+together (Ok place) (Err reason) f = refl
+together (Err reason) second f = refl
+
+abbrev pub row_after : GplState → GplOperation → Place × Source → Result GplState Reason
+row_after s op o = result_of op (row_width s) o.0 (value_at (gone_on s) (row_width s) o.0) o.1 (unchanged (gone_on s)) >>= λ (c : Changes). Ok (finished c)
+
+abbrev next_by : GplState → Bool → ℕ
+next_by s b = if b then (source_read s).1 else behind_first s
+
+pub step_two : (s : GplState) (op : TwoName) → operation_in s ≡ Some (operation.Two op) → has_source s ≡ true → step s ≡ (operands_of s >>= row_after s (operation.Two op))
+step_two s op e has =
+    let next : next_of s ≡ (source_read s).1 = ap (next_by s) has in
+    let bytes : destination_bytes s ≡ destination_size op (row_width s) = ap (λ (o : Option GplOperation). bytes_by o (row_width s)) e in
+    let second : second_of s ≡ source_of (record s { pc = (source_read s).1 }) (row_width s) (source_read s).0 =
+    ap (λ (b : Bool). second_by b s) has ∙ ap (λ (n : ℕ). source_of (record s { pc = n }) (row_width s) (source_read s).0) next in
+    step_is s (Some (operation.Two op)) e
+    ∙ two_after s op
+    ∙ ap (λ (n : ℕ). two_from s op n (destination_size op (row_width s)) (source_of (record s { pc = (source_read s).1 }) (row_width s) (source_read s).0)) (sym next)
+    ∙ ap (λ (n : ℕ). two_from s op (next_of s) n (source_of (record s { pc = (source_read s).1 }) (row_width s) (source_read s).0)) (sym bytes)
+    ∙ ap (λ (r : Result Source Reason). two_from s op (next_of s) (destination_bytes s) r) (sym second)
+    ∙ together (first_of s) (second_of s) (λ place source. Ok (finished (two op (row_width s) place (value_at (gone_on s) (row_width s) place) source (unchanged (gone_on s)))))
+
+-- a step of one operand, by the address behind it
+abbrev one_from : GplState → OneName → ℕ → ℕ → Result Source Reason → Result GplState Reason
+one_from s op next bytes second =
+    let t : GplState = record s { pc = next } in
+    place_of t bytes (operand_at s.image (behind_code s)).0
+    >>= λ place. (second >>= λ (source : Source). (one op (row_width s) place (value_at t (row_width s) place) (unchanged t) >>= λ (c : Changes). Ok (finished c)))
+
+one_after : (s : GplState) (op : OneName) → is_built_operation (operation.One op) ≡ true → by_operation s (Some (operation.One op)) ≡ one_from s op (behind_first s) (size_of (row_width s)) (Ok unit)
+unfolding after
+one_after s op built =
+    let t : GplState = record s { pc = behind_first s } in
+    let instr = instr_at (operation.One op) (code_byte s) s.image (behind_code s) in
+    ap (λ (b : Bool). where_built b s instr.0 instr.1) built ∙ by t (place_of t (size_of (row_width s)) (operand_at s.image (behind_code s)).0)
+  where
+    by : (t : GplState) (first : Result Place Reason) →
+        ((first >>= λ place. one op (row_width s) place (value_at t (row_width s) place) (unchanged t)) >>= λ (c : Changes). Ok (finished c))
+        ≡ (first >>= λ place. (one op (row_width s) place (value_at t (row_width s) place) (unchanged t) >>= λ (c : Changes). Ok (finished c)))
+    by t (Ok place) = refl
+    by t (Err reason) = refl
+
+pub step_one : (s : GplState) (op : OneName) → operation_in s ≡ Some (operation.One op) → has_source s ≡ false → is_built_operation (operation.One op) ≡ true → step s ≡ (operands_of s >>= row_after s (operation.One op))
+step_one s op e has built =
+    let next : next_of s ≡ behind_first s = ap (next_by s) has in
+    let bytes : destination_bytes s ≡ size_of (row_width s) = ap (λ (o : Option GplOperation). bytes_by o (row_width s)) e in
+    let second : second_of s ≡ Ok unit = ap (λ (b : Bool). second_by b s) has in
+    step_is s (Some (operation.One op)) e
+    ∙ one_after s op built
+    ∙ ap (λ (n : ℕ). one_from s op n (size_of (row_width s)) (Ok unit)) (sym next)
+    ∙ ap (λ (n : ℕ). one_from s op (next_of s) n (Ok unit)) (sym bytes)
+    ∙ ap (λ (r : Result Source Reason). one_from s op (next_of s) (destination_bytes s) r) (sym second)
+    ∙ together (first_of s) (second_of s) (λ place source. (one op (row_width s) place (value_at (gone_on s) (row_width s) place) (unchanged (gone_on s)) >>= λ (c : Changes). Ok (finished c)))
+
+row_built : (op : OneName) → is_row (Some (operation.One op)) ≡ true → is_built_operation (operation.One op) ≡ true
+row_built ABS e = refl
+row_built NEG e = refl
+row_built INV e = refl
+row_built CLR e = refl
+row_built CASE e = absurd (cc)
+row_built CZ e = refl
+row_built INC e = refl
+row_built DEC e = refl
+row_built INCT e = refl
+row_built DECT e = refl
+row_built FETCH e = absurd (cc)
+row_built PUSH e = absurd (cc)
+
+not_is : (b : Bool) → b ≡ true → not b ≡ false
+not_is true e = refl
+not_is false e = absurd (cc)
+
+-- The step of a row: its operands are found, and then it does what its operation does with them.
+pub step_row : (s : GplState) (op : GplOperation) → code_byte s < 256 → operation_in s ≡ Some op → is_row (Some op) ≡ true → step s ≡ (operands_of s >>= row_after s op)
+step_row s (operation.One op) fits e row = step_one s op e (not_is (nat_lt (code_byte s) 0xA0) (one_below (code_byte s) fits op e)) (row_built op row)
+step_row s (operation.Two op) fits e row = step_two s op e (two_above (code_byte s) fits op e)
+step_row s (operation.Plain op) fits e row = absurd (cc)
+step_row s (operation.Byte op) fits e row = absurd (cc)
+step_row s (operation.Jump op) fits e row = absurd (cc)
+step_row s (operation.Branch on) fits e row = absurd (cc)
+step_row s (operation.Move kind) fits e row = absurd (cc)
 
 -- The bound of a step: 400 where it stops, and else that of its instruction.
 pub bound_stop : (s : GplState) (reason : Reason) → step s ≡ Err reason → bound s ≡ 400
 bound_stop s reason e = ap (λ (r : Result GplState Reason). bound_by r s) e
 
-pub bound_made : (s next : GplState) (o : Option GplOperation) → operation_at (code_of s) ≡ o → step s ≡ Ok next → bound s ≡ bound_by_operation s o
+pub bound_made : (s next : GplState) (o : Option GplOperation) → operation_at (code_byte s) ≡ o → step s ≡ Ok next → bound s ≡ bound_by_operation s o
 bound_made s next o e f =
-    let read : Option GplOperation → GplRead = λ o. read_by o (code_of s) s.image (behind_code s) in
+    let read : Option GplOperation → GplRead = λ o. read_by o (code_byte s) s.image (behind_code s) in
     ap (λ (r : Result GplState Reason). bound_by r s) f ∙ ap (λ (r : GplRead). bound_at r s) (reading_is s ∙ ap read e)
 
 -- ---- a place is one of the cells alone

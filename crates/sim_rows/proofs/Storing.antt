@@ -21,12 +21,12 @@ use Rattle.sim_view.proofs.Compose.{comes, comes_then, comes_as, comes_on}
 use Rattle.sim_operands.specs.Pieces.{return_of}
 use Rattle.sim_operands.specs.Values.{width_in, in_register, of_register, number_of_space}
 use Rattle.sim_operands.specs.Subroutines.{grom_at, state_of, place_in, Stored, StoresValue, marked_by}
-use Rattle.sim_steps.specs.Pieces as pieces
-use Rattle.sim_steps.specs.Rows.{word_of, Holds, To, AtRow}
-use Rattle.sim_steps.specs.States.{Sees}
-use Rattle.sim_steps.proofs.Beginning.{just, from}
-use Rattle.sim_steps.proofs.Fronting.{width_of_size, place_is}
-use Rattle.sim_steps.proofs.Ends.{same_state}
+use Rattle.sim_rows.specs.Pieces as pieces
+use Rattle.sim_rows.specs.Rows.{word_of, Holds, To, AtRow}
+use Rattle.sim_rows.specs.States.{Sees}
+use Rattle.sim_rows.proofs.Beginning.{just, from}
+use Rattle.sim_rows.proofs.Fronting.{width_of_size, place_is}
+use Rattle.sim_rows.proofs.Ends.{same_state}
 
 -- ---- STO
 

@@ -8,7 +8,7 @@ use Rattle.gpl_defs.specs.declared.instruction.OneName.TheVariants.{CASE, FETCH,
 use Rattle.gpl_defs.specs.declared.instruction.GplOperation.{GplOperation}
 use Rattle.gpl_defs.specs.declared.instruction.GplOperation.TheVariants.{One, Two}
 use Rattle.gpl_defs.specs.declared.instruction.GplSource.{GplSource}
-use Rattle.gpl_defs.specs.Reading.{operand_at, source_at}
+use Rattle.gpl_defs.specs.Reading.{operand_at, source_at, value_at as value_in}
 use Rattle.step_defs.specs.declared.reason.Reason.{Reason}
 use Rattle.step_defs.specs.State.{GplState}
 use Rattle.step_defs.specs.Place.{Place, place_of, value_at}
@@ -16,7 +16,7 @@ use Rattle.step_defs.specs.Arithmetic.{Source}
 use Rattle.step_defs.specs.Step.{source_of, word_or_byte, destination_size}
 use Rattle.native_interp.specs.declared.addresses.TheConstants.{GSTOP, OPS}
 use Rattle.native_interp.specs.Entries.{row_entry}
-use Rattle.sim_view.specs.View.{View}
+use Rattle.sim_view.specs.View.{View, view}
 use Rattle.sim_view.specs.Exits.{Comes}
 use Rattle.sim_operands.specs.Values.{width_in, in_register, number_of_space}
 use Rattle.sim_rows.specs.States.{Sees, StoppedBy, code_byte, operation_in, behind_code}
@@ -113,14 +113,33 @@ abbrev pub loaded_of : GplState → Place → ℕ
 loaded_of s place =
     let width = width_in (destination_bytes s) in in_register width (value_at s width place)
 
--- At the entry of a row: the destination's place is in registers 7 and 8 and its value in register 9; the source's place, if
--- it has one, is in registers 2 and 5, and its value in register 6.
-pub record AtRow (s : GplState) (place : Place) (source : Source) (w : View) : Type 0 where
-  pub holds : Holds s (size_of (row_width s)) (next_of s) w
+-- The destination's place is in registers 7 and 8, and its value in register 9.
+pub record Kept (s : GplState) (place : Place) (next : ℕ) (w : View) : Type 0 where
+  pub holds : Holds s (size_of (row_width s)) next w
+  pub to_place : StoresTo place w
+  pub destination : w.r.r9 ≡ loaded_of s place
+
+-- At OPVAL: so, and the source is the immediate value that follows, or its place is in registers 2 and 5.
+pub record Immediate (s : GplState) (place : Place) (next : ℕ) (w : View) : Type 0 where
+  pub kept : Kept s place next w
+  pub space : w.r.r5 ≡ 2
+
+pub record Found (s : GplState) (place source : Place) (next : ℕ) (w : View) : Type 0 where
+  pub kept : Kept s place next w
+  pub from : LoadsFrom source w
+
+-- The destination's place is in registers 7 and 8 and its value in register 9; the source's place, if it has one, is in
+-- registers 2 and 5, and its value in register 6.
+pub record Sourced (s : GplState) (place : Place) (source : Source) (next : ℕ) (w : View) : Type 0 where
+  pub holds : Holds s (size_of (row_width s)) next w
   pub to_place : StoresTo place w
   pub destination : w.r.r9 ≡ loaded_of s place
   pub from_source : LoadsFromSource source.place w
   pub value : w.r.r6 ≡ in_register (row_width s) source.number
+
+-- At the entry of a row GROM is behind the instruction.
+abbrev pub AtRow : GplState → Place → Source → View → Type 0
+AtRow s place source w = Sourced s place source (next_of s) w
 
 -- At OPS: the number of bytes of the destination is in register 3.
 pub record AtOperands (s : GplState) (w : View) : Type 0 where
@@ -148,3 +167,16 @@ LoadsOperands s x y before after went (Ok operands) =
     (went ≡ true) × Comes 146 x y before after (row_entry (operation_in s)) (AtRow s operands.0 operands.1)
 LoadsOperands s x y before after went (Err reason) =
     (went ≡ false) × Comes 124 x y before after GSTOP (StoppedBy s reason)
+
+-- From OPVAL the value of the source is loaded, and the machine comes to the entry of the row.
+abbrev pub LoadsPlaced : MachineState → MachineState → ℕ → ℕ → Type 0
+LoadsPlaced x y before after =
+    (s : GplState) → (place source : Place) → (next : ℕ) → is_row (operation_in s) ≡ true → Found s place source next (view x)
+    → Comes 22 x y before after (row_entry (operation_in s))
+      (Sourced s place (record { number = value_at s (row_width s) source; place = Some source }) next)
+
+abbrev pub LoadsImmediate : MachineState → MachineState → ℕ → ℕ → Type 0
+LoadsImmediate x y before after =
+    (s : GplState) → (place : Place) → (next : ℕ) → is_row (operation_in s) ≡ true → Immediate s place next (view x)
+    → let read = value_in (word_of s) s.image next in
+      Comes 16 x y before after (row_entry (operation_in s)) (Sourced s place (record { number = read.0; place = None }) read.1)

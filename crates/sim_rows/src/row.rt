@@ -3,14 +3,21 @@
 ghost use Rattle.native_interp.specs.declared.addresses.TheConstants as address;
 ghost use Rattle.sim_view.specs.View.{view, Stands};
 ghost use Rattle.sim_view.specs.Exits.{Exits};
-ghost use Rattle.sim_steps.specs.Pieces as piece;
+ghost use Rattle.sim_rows.specs.Pieces as piece;
 ghost use Rattle.std.specs.Prelude.{◌≡◌, ◌+◌, ◌<◌, ◌≤◌, true};
-ghost use Rattle.sim_steps.specs.States.{Dispatched, state_at_dispatch, operation_of, is_alu};
-ghost use Rattle.sim_steps.specs.Rows.{first_of, operands_of, LoadsDestination, LoadsOperands};
+ghost use Rattle.interp_defs.specs.Match.{PortsAreIdle, IsFetched};
+ghost use Rattle.native_interp.specs.Entries.{operation_entry};
+ghost use Rattle.sim_operands.specs.Values.{IsVisible};
+ghost use Rattle.sim_view.specs.Exits.{Comes};
+ghost use Rattle.sim_rows.specs.States.{Dispatched, state_at_dispatch, operation_seen};
+ghost use Rattle.sim_rows.specs.Rows.{is_row, first_of, operands_of, AtOperands};
+ghost use Rattle.sim_rows.specs.Rows.{LoadsDestination, LoadsOperands, LoadsPlaced, LoadsImmediate};
+ghost use Rattle.sim_rows.specs.Results.{StartsRow};
 
-use native_interp::{ADDR, GO, GSTOP, LOAD, OPS, OPVAL};
+use gpl_forms::{GplOperation, operation_at};
+use native_interp::{ADDR, GO, GSTOP, LOAD, OPS, OPVAL, WIDE};
 use sim_operands::{run_address, run_load};
-use sim_view::run_piece;
+use sim_view::{register, run_piece};
 use std::sync::ledger::Ledger;
 use tms_step::{Machine, Steps};
 
@@ -18,6 +25,14 @@ use tms_step::{Machine, Steps};
 pub fn row_width<L: Ledger>(machine: &mut Machine, steps: &mut Steps<L>)
     requires { Stands machine.old address.ROW }
     ensures { Exits machine.old machine.new steps.old steps.new (piece.row_width (view machine.old)) }
+{
+    run_piece(machine, steps, &[OPS]);
+}
+
+/// The piece of MUL and DIV that tells twice that width, which their destination has.
+pub fn wide_width<L: Ledger>(machine: &mut Machine, steps: &mut Steps<L>)
+    requires { Stands machine.old address.WIDE }
+    ensures { Exits machine.old machine.new steps.old steps.new (piece.wide_width (view machine.old)) }
 {
     run_piece(machine, steps, &[OPS]);
 }
@@ -64,14 +79,14 @@ pub fn go_to_row<L: Ledger>(machine: &mut Machine, steps: &mut Steps<L>)
     run_piece(machine, steps, &[]);
 }
 
-/// Finds the destination of a row and loads its value. Is it visible? If not, the machine stops by reason 2.
+/// Finds the destination of a row, whose number of bytes is in register 3, and loads its value. Is it visible? If not, the
+/// machine stops by reason 2.
 pub fn load_destination<L: Ledger>(machine: &mut Machine, steps: &mut Steps<L>) -> bool
-    requires stands { Stands machine.old address.ROW }
-    requires dispatched { let v = view machine.old in Dispatched (state_at_dispatch v) v }
+    requires stands { Stands machine.old address.OPS }
+    requires operands { let v = view machine.old in AtOperands (state_at_dispatch v) v }
     ensures { let s = state_at_dispatch (view machine.old) in
         LoadsDestination s machine.old machine.new steps.old steps.new result (first_of s) }
 {
-    row_width(machine, steps);
     ask_first(machine, steps);
     run_address(machine, steps);
     if machine.pc() == GSTOP {
@@ -82,11 +97,29 @@ pub fn load_destination<L: Ledger>(machine: &mut Machine, steps: &mut Steps<L>) 
     true
 }
 
-/// Loads both operands of a row and goes to its entry. Are they visible? If not, the machine stops by reason 2.
+/// Loads the value of the source, which is immediate or at a place that was found, and goes to the entry of the row.
+pub fn load_source<L: Ledger>(machine: &mut Machine, steps: &mut Steps<L>)
+    requires stands { Stands machine.old address.OPVAL }
+    requires idle { PortsAreIdle machine.old.cpu.memory }
+    requires fetched { IsFetched machine.old.cpu.memory.grom }
+    requires visible { let r = (view machine.old).r in IsVisible r.r5 r.r2 r.r3 }
+    requires low { 0x80 ≤ (view machine.old).r.r0 }
+    requires high { (view machine.old).r.r0 < 0xEC }
+    ensures placed { LoadsPlaced machine.old machine.new steps.old steps.new }
+    ensures immediate { LoadsImmediate machine.old machine.new steps.old steps.new }
+{
+    machine.holds_bounds();
+    load_second(machine, steps);
+    run_load(machine, steps);
+    go_to_row(machine, steps);
+}
+
+/// Loads both operands of a row and goes to its entry; a row of one operand has 1 for the source. Are they visible? If not,
+/// the machine stops by reason 2.
 pub fn load_operands<L: Ledger>(machine: &mut Machine, steps: &mut Steps<L>) -> bool
-    requires stands { Stands machine.old address.ROW }
-    requires dispatched { let v = view machine.old in Dispatched (state_at_dispatch v) v }
-    requires family { is_alu (operation_of (view machine.old)) ≡ true }
+    requires stands { Stands machine.old address.OPS }
+    requires operands { let v = view machine.old in AtOperands (state_at_dispatch v) v }
+    requires row { is_row (operation_seen (view machine.old)) ≡ true }
     ensures { let s = state_at_dispatch (view machine.old) in
         LoadsOperands s machine.old machine.new steps.old steps.new result (operands_of s) }
 {
@@ -94,18 +127,49 @@ pub fn load_operands<L: Ledger>(machine: &mut Machine, steps: &mut Steps<L>) -> 
         return false;
     }
     second_operand(machine, steps);
-    if machine.pc() == OPVAL {
-        load_second(machine, steps);
-        run_load(machine, steps);
+    if machine.pc() == GO {
         go_to_row(machine, steps);
+        return true;
+    }
+    if machine.pc() == OPVAL {
+        load_source(machine, steps);
         return true;
     }
     run_address(machine, steps);
     if machine.pc() == GSTOP {
         return false;
     }
-    load_second(machine, steps);
-    run_load(machine, steps);
-    go_to_row(machine, steps);
+    load_source(machine, steps);
     true
+}
+
+/// Tells the number of bytes of a row's destination.
+fn tell_width<L: Ledger>(machine: &mut Machine, steps: &mut Steps<L>)
+    requires stands { Stands machine.old (operation_entry (operation_seen (view machine.old))) }
+    requires dispatched { let v = view machine.old in Dispatched (state_at_dispatch v) v }
+    requires row { is_row (operation_seen (view machine.old)) ≡ true }
+    ensures { Comes 5 machine.old machine.new steps.old steps.new address.OPS (AtOperands (state_at_dispatch (view machine.old))) }
+{
+    if machine.pc() == WIDE {
+        wide_width(machine, steps);
+    } else {
+        row_width(machine, steps);
+    }
+}
+
+/// Begins a row at its dispatch: both operands are loaded, and the machine is at the entry of the row. The answer is the
+/// operation, and None where an operand is not visible: the machine then stops by reason 2.
+pub fn start_row<L: Ledger>(machine: &mut Machine, steps: &mut Steps<L>) -> Option<GplOperation>
+    requires stands { Stands machine.old (operation_entry (operation_seen (view machine.old))) }
+    requires dispatched { let v = view machine.old in Dispatched (state_at_dispatch v) v }
+    requires row { is_row (operation_seen (view machine.old)) ≡ true }
+    ensures { let s = state_at_dispatch (view machine.old) in
+        StartsRow s machine.old machine.new steps.old steps.new result (operands_of s) }
+{
+    let code = register(machine, 0) as u8;
+    tell_width(machine, steps);
+    if !load_operands(machine, steps) {
+        return None;
+    }
+    operation_at(code)
 }

@@ -1,42 +1,22 @@
-//! Boot, and a step up to its dispatch.
+//! A step up to its dispatch.
 
 ghost use Rattle.native_interp.specs.declared.addresses.TheConstants as address;
 ghost use Rattle.sim_view.specs.View.{view, Stands};
 ghost use Rattle.sim_view.specs.Exits.{Exits};
-ghost use Rattle.sim_steps.specs.Pieces as piece;
+ghost use Rattle.sim_rows.specs.Pieces as piece;
 ghost use Rattle.std.specs.Prelude.{◌+◌, slice_index};
 ghost use Rattle.gpl_defs.specs.Codes.{operation_at};
 ghost use Rattle.native_interp.specs.Entries.{operation_entry};
 ghost use Rattle.interp_defs.specs.Interpreter.{most_to_dispatch};
-ghost use Rattle.interp_defs.specs.Match.{IsMatching, PortsAreIdle, shown_by};
+ghost use Rattle.interp_defs.specs.Match.{IsMatching, shown_by};
 ghost use Rattle.sim_view.specs.Exits.{Comes};
-ghost use Rattle.sim_steps.specs.States.{Dispatched};
-ghost use Rattle.sim_steps.specs.Starting.{Begins, booted};
+ghost use Rattle.sim_rows.specs.States.{Dispatched};
 
 use native_interp::{FETCH, SEEK, WHERE};
 use sim_operands::{fetch_byte, seek_address};
 use sim_view::run_piece;
 use std::sync::ledger::Ledger;
 use tms_step::{Machine, Steps};
-
-/// The piece of boot: the stacks are made empty, and SEEK is asked for the entry.
-pub fn boot<L: Ledger>(machine: &mut Machine, steps: &mut Steps<L>)
-    requires { Stands machine.old address.GBOOT }
-    ensures { Exits machine.old machine.new steps.old steps.new (piece.boot (view machine.old)) }
-{
-    run_piece(machine, steps, &[SEEK]);
-}
-
-/// From boot to the first step: the machine matches the state in which a program begins whose entry is in register 0, with
-/// empty stacks. It takes at most 11 instructions.
-pub fn start_program<L: Ledger>(machine: &mut Machine, steps: &mut Steps<L>)
-    requires stands { Stands machine.old address.GBOOT }
-    requires idle { PortsAreIdle machine.old.cpu.memory }
-    ensures { Begins (booted (view machine.old)) 11 machine.old machine.new steps.old steps.new }
-{
-    boot(machine, steps);
-    seek_address(machine, steps);
-}
 
 /// The piece of a step that asks WHERE for the address of the code byte.
 pub fn ask_address<L: Ledger>(machine: &mut Machine, steps: &mut Steps<L>)
@@ -74,14 +54,6 @@ pub fn ask_byte<L: Ledger>(machine: &mut Machine, steps: &mut Steps<L>)
 pub fn dispatch<L: Ledger>(machine: &mut Machine, steps: &mut Steps<L>)
     requires { Stands machine.old (address.GSTEP + 14) }
     ensures { Exits machine.old machine.new steps.old steps.new (piece.dispatch (view machine.old)) }
-{
-    run_piece(machine, steps, &[]);
-}
-
-/// The piece of the stop by reason 1.
-pub fn stop_code<L: Ledger>(machine: &mut Machine, steps: &mut Steps<L>)
-    requires { Stands machine.old address.UNKN }
-    ensures { Exits machine.old machine.new steps.old steps.new (piece.stop_code (view machine.old)) }
 {
     run_piece(machine, steps, &[]);
 }

@@ -1,30 +1,19 @@
-//! Rows that store a result.
+//! The end of a row.
 
 ghost use Rattle.native_interp.specs.declared.addresses.TheConstants as address;
 ghost use Rattle.sim_view.specs.View.{view, Stands};
 ghost use Rattle.sim_view.specs.Exits.{Exits};
-ghost use Rattle.std.specs.Prelude.{◌≡◌, true};
-ghost use Rattle.interp_defs.specs.Interpreter.{most_to_dispatch};
-ghost use Rattle.interp_defs.specs.Turned.{Turned};
-ghost use Rattle.sim_steps.specs.Pieces as piece;
-ghost use Rattle.sim_steps.specs.States.{Dispatched, state_at_dispatch, operation_of, is_alu};
+ghost use Rattle.std.specs.Prelude.{◌<◌};
+ghost use Rattle.interp_defs.specs.Match.{PortsAreIdle};
+ghost use Rattle.sim_operands.specs.Values.{IsVisible};
+ghost use Rattle.sim_rows.specs.Pieces as piece;
+ghost use Rattle.sim_rows.specs.Results.{EndsRow, StoresResult};
 
-use crate::row::load_operands;
-use interp_defs::Turn;
-use native_interp::{STO, STORE};
+use native_interp::STORE;
 use sim_operands::run_store;
 use sim_view::{register, run_piece};
 use std::sync::ledger::Ledger;
-use step_defs::Reason;
 use tms_step::{Machine, Steps};
-
-/// The piece of ST: its result is the value of the source.
-pub fn take_source<L: Ledger>(machine: &mut Machine, steps: &mut Steps<L>)
-    requires { Stands machine.old address.STV }
-    ensures { Exits machine.old machine.new steps.old steps.new (piece.take_source (view machine.old)) }
-{
-    run_piece(machine, steps, &[STO]);
-}
 
 /// The piece that asks STORE for the result of a row.
 pub fn store_result<L: Ledger>(machine: &mut Machine, steps: &mut Steps<L>)
@@ -42,24 +31,30 @@ pub fn show<L: Ledger>(machine: &mut Machine, steps: &mut Steps<L>)
     run_piece(machine, steps, &[STORE]);
 }
 
-/// Runs ST from its dispatch to the end of the step.
-pub fn run_alu<L: Ledger>(machine: &mut Machine, steps: &mut Steps<L>) -> Turn
-    requires stands { Stands machine.old address.ROW }
-    requires dispatched { let v = view machine.old in Dispatched (state_at_dispatch v) v }
-    requires family { is_alu (operation_of (view machine.old)) ≡ true }
-    ensures { Turned (state_at_dispatch (view machine.old)) most_to_dispatch machine.old machine.new steps.old steps.new result }
+/// Ends a row whose results are stored: the character goes to the screen if a byte was stored at its cell.
+pub fn end_row<L: Ledger>(machine: &mut Machine, steps: &mut Steps<L>)
+    requires stands { Stands machine.old address.SHOW }
+    requires idle { PortsAreIdle machine.old.cpu.memory }
+    ensures { EndsRow machine.old machine.new steps.old steps.new }
 {
-    if !load_operands(machine, steps) {
-        return Turn::Stopped(Reason::Cell);
-    }
-    take_source(machine, steps);
-    store_result(machine, steps);
-    run_store(machine, steps);
+    machine.holds_bounds();
     if register(machine, 13) == 0 {
         show(machine, steps);
-        return Turn::Stepped;
+        return;
     }
     show(machine, steps);
     run_store(machine, steps);
-    Turn::Stepped
+}
+
+/// Stores the result of a row, which is in register 9, and ends the row.
+pub fn finish_row<L: Ledger>(machine: &mut Machine, steps: &mut Steps<L>)
+    requires stands { Stands machine.old address.STO }
+    requires idle { PortsAreIdle machine.old.cpu.memory }
+    requires space { (view machine.old).r.r8 < 2 }
+    requires visible { let r = (view machine.old).r in IsVisible r.r8 r.r7 r.r3 }
+    ensures { StoresResult machine.old machine.new steps.old steps.new }
+{
+    store_result(machine, steps);
+    run_store(machine, steps);
+    end_row(machine, steps);
 }

@@ -1,11 +1,11 @@
 use Rattle.std.proofs.Common.{◌≡◌, arith}
 use Rattle.sim_view.specs.View.{view}
 use Rattle.sim_view.proofs.Bridge.{is_view}
-use Rattle.sim_steps.specs.States.{state_at_dispatch}
-use Rattle.sim_steps.specs.Rows.{behind_code, behind_first}
-use Rattle.sim_steps.proofs.Ends.{idle_of, fetched_of}
-use Rattle.sim_steps.proofs.Loading
-use Rattle.sim_steps.proofs.row.load_destination.Goals as goal
+use Rattle.sim_rows.specs.States.{state_at_dispatch}
+use Rattle.sim_rows.specs.Rows.{behind_code, behind_first}
+use Rattle.sim_rows.proofs.Ends.{idle_of, fetched_of}
+use Rattle.sim_rows.proofs.Loading
+use Rattle.sim_rows.proofs.row.load_destination.Goals as goal
 
 pub run_address-requires-clause-idle : goal.run_address-requires-clause-idle
 run_address-requires-clause-idle g c =

@@ -1,11 +1,11 @@
 use Rattle.std.proofs.Common.{◌≡◌, subst, arith}
 use Rattle.sim_view.specs.View.{view}
 use Rattle.sim_view.proofs.Bridge.{is_view}
-use Rattle.sim_steps.specs.States.{state_at_dispatch}
-use Rattle.sim_steps.specs.Rows.{behind_first, first_of, LoadsDestination}
-use Rattle.sim_steps.proofs.Ends.{idle_of, fetched_of}
-use Rattle.sim_steps.proofs.Loading
-use Rattle.sim_steps.proofs.row.load_operands.Goals as goal
+use Rattle.sim_rows.specs.States.{state_at_dispatch}
+use Rattle.sim_rows.specs.Rows.{behind_first, first_of, LoadsDestination}
+use Rattle.sim_rows.proofs.Ends.{idle_of, fetched_of}
+use Rattle.sim_rows.proofs.Loading
+use Rattle.sim_rows.proofs.row.load_operands.Goals as goal
 
 pub returns-then-not-load_destination : goal.returns-then-not-load_destination
 returns-then-not-load_destination g c =

@@ -1,9 +1,9 @@
 use Rattle.std.proofs.Common.{refl}
 use Rattle.interp_defs.specs.Match.{shown_by}
 use Rattle.sim_view.specs.View.{view}
-use Rattle.sim_steps.proofs.Matched.{sees_at, pc_fits, bytes_fit}
-use Rattle.sim_steps.proofs.Beginning.{begins}
-use Rattle.sim_steps.proofs.step.begin_step.Goals as goal
+use Rattle.sim_rows.proofs.Matched.{sees_at, pc_fits, bytes_fit}
+use Rattle.sim_rows.proofs.Beginning.{begins}
+use Rattle.sim_rows.proofs.step.begin_step.Goals as goal
 
 pub returns : goal.returns
 returns g c =

@@ -1,9 +1,9 @@
 use Rattle.std.proofs.Common.{[], ◌∷◌}
 use Rattle.sim_view.specs.View.{view}
 use Rattle.sim_view.proofs.Bridge.{exits}
-use Rattle.sim_steps.specs.Pieces as piece
-use Rattle.sim_steps.proofs.Paths
-use Rattle.sim_steps.proofs.alu.show.Goals as goal
+use Rattle.sim_rows.specs.Pieces as piece
+use Rattle.sim_rows.proofs.Paths
+use Rattle.sim_rows.proofs.tail.show.Goals as goal
 
 pub returns : goal.returns
 returns g c =

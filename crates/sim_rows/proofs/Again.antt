@@ -1,0 +1,35 @@
+-- What a machine keeps whose view has the same ports, and where a run begins.
+use Rattle.std.proofs.Common.{◌≡◌, ℕ, ◌<◌, refl, sym, ap, subst, ◌∙◌, arith, None}
+use Rattle.std.specs.Prelude.{is_none, not}
+use Rattle.console_defs.specs.Vdp.{VdpState}
+use Rattle.console_defs.specs.Grom.{GromState}
+use Rattle.console_defs.specs.Accesses.{Gives}
+use Rattle.console_defs.specs.Memory.{Memory}
+use Rattle.console_defs.specs.Machine.{MachineState, steps}
+use Rattle.interp_defs.specs.Match.{PortsAreIdle, IsFetched}
+use Rattle.interp_defs.specs.Runs.{Runs, is_end}
+use Rattle.sim_view.specs.View.{View, view, view_of, Stands}
+use Rattle.sim_view.specs.Exits.{Comes}
+
+pub idle_again : (m n : Memory) → (view_of n).vdp ≡ (view_of m).vdp → (view_of n).grom ≡ (view_of m).grom → PortsAreIdle m → PortsAreIdle n
+unfolding view_of
+idle_again m n d g i = record { vdp = ap (λ (v : VdpState). is_none v.held) d ∙ i.vdp; grom = ap (λ (v : GromState). not v.half_written) g ∙ i.grom }
+
+pub fetched_again : (m n : Memory) → (view_of n).grom ≡ (view_of m).grom → IsFetched m.grom → IsFetched n.grom
+unfolding view_of
+fetched_again m n g f = subst IsFetched (sym g) f
+
+-- idle ports, as a view tells them
+pub idle_told : (m : Memory) → (view_of m).vdp.held ≡ None → (view_of m).grom.half_written ≡ false → PortsAreIdle m
+unfolding view_of
+idle_told m h g = record { vdp = ap is_none h; grom = ap not g }
+
+nothing_before : (before : ℕ) → 0 < before → before < 0 → ⊥
+nothing_before before a b = omega arith
+
+-- a run of no instruction
+pub no_run : (x : MachineState) → Runs 0 x x
+no_run x = record { leads = refl; clear = λ before some less z e. absurd (nothing_before before some less) }
+
+pub begins : (x : MachineState) (t p : ℕ) (Q : View → Type 0) → Stands x p → Q (view x) → Comes 0 x x t t p Q
+begins x t p Q stands holds = record { count = 0; within = omega arith; counted = omega arith; runs = no_run x; holds = holds; stands = stands }

@@ -1,0 +1,15 @@
+pub mod Facts
+pub mod Paths
+pub mod Again
+pub mod Beginning
+pub mod Steps
+pub mod Ends
+pub mod Places
+pub mod Codes
+pub mod Fronting
+pub mod Operands
+pub mod Sources
+pub mod Matched
+pub mod Loading
+pub mod Storing
+pub mod Rowing

@@ -1,0 +1,17 @@
+//! The rows of the interpreter: the instructions of GPL on one and two operands. A step up to its dispatch, the operands, and
+//! the end of a row; what stands between is one row's own. All is built of pieces: stretches of at most 16 instructions without
+//! a loop.
+#![tactic(auto)]
+
+mod row;
+mod step;
+mod tail;
+
+pub use row::{
+    ask_first, go_to_row, load_destination, load_first, load_operands, load_second, load_source,
+    row_width, second_operand, start_row, wide_width,
+};
+pub use step::{
+    ask_address, ask_byte, begin_step, dispatch, keep_address, where_next,
+};
+pub use tail::{end_row, finish_row, show, store_result};
