@@ -1,5 +1,4 @@
 pub mod Numbers
 pub mod Paths
-pub mod Ends
 pub mod Telling
 pub mod Testing

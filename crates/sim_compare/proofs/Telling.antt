@@ -20,9 +20,9 @@ use Rattle.sim_view.proofs.Compose.{Goes, comes, comes_then}
 use Rattle.sim_operands.specs.Values.{width_in, in_register}
 use Rattle.sim_compare.specs.Pieces.{told, end_of}
 use Rattle.sim_compare.specs.Family.{is_comparison, compared, comparison, IsTold, ending}
-use Rattle.sim_compare.specs.States.{Sees, operation_in}
-use Rattle.sim_compare.specs.Rows.{row_width, bytes_by, next_of, gone_on, operands_of, loaded_of, AtRow}
-use Rattle.sim_compare.specs.Results.{row_result, SeesFinished, SeesResult, RunsRow}
+use Rattle.sim_rows.specs.States.{Sees, operation_in}
+use Rattle.sim_rows.specs.Rows.{row_width, bytes_by, next_of, gone_on, operands_of, loaded_of, AtRow}
+use Rattle.sim_rows.specs.Results.{row_result, SeesFinished, SeesResult, RunsRow}
 use Rattle.sim_compare.proofs.Numbers.{number_fits, below_in_register, equal_in_register, zero_in_register, at_most, ones_in_register, order_in_register, at_most_signed}
 
 -- ---- the two ends

@@ -20,7 +20,7 @@ use Rattle.step_defs.specs.State.{GplState}
 use Rattle.step_defs.specs.Changes.{Changes, unchanged, with_condition, finished, status_of}
 use Rattle.step_defs.specs.Step.{step, executed, after, with_tested}
 use Rattle.step_defs.specs.Run.{bound, bound_by, bound_at}
-use Rattle.native_interp.specs.Entries.{operation_entry}
+use Rattle.native_interp.specs.Entries.{operation_entry, row_entry}
 use Rattle.interp_defs.specs.declared.turn.Turn.TheVariants.{Stepped}
 use Rattle.interp_defs.specs.Runs.{is_end}
 use Rattle.interp_defs.specs.Turned.{Turned}
@@ -31,12 +31,12 @@ use Rattle.sim_view.proofs.Compose.{Goes, comes}
 use Rattle.sim_compare.specs.Pieces as pieces
 use Rattle.sim_compare.specs.Pieces.{end_of}
 use Rattle.sim_compare.specs.Family.{is_comparison, is_test, is_compare, tested, test, IsTold, ending}
-use Rattle.sim_compare.specs.States.{Sees, Dispatched, code_byte, operation_in, behind_code}
-use Rattle.sim_compare.specs.Rows.{is_row}
-use Rattle.sim_compare.specs.Results.{SeesFinished}
+use Rattle.sim_rows.specs.States.{Sees, Dispatched, code_byte, operation_in, behind_code}
+use Rattle.sim_rows.specs.Rows.{is_row}
+use Rattle.sim_rows.specs.Results.{SeesFinished}
 use Rattle.sim_compare.proofs.Numbers.{bit_out_1, bit_out_2, bit_out_4, bit_out_5}
 use Rattle.sim_compare.proofs.Telling.{told_goes, is_told, tells}
-use Rattle.sim_compare.proofs.Ends.{matches, reaches, turned_by}
+use Rattle.sim_rows.proofs.Ends.{matches, reaches, turned_by}
 
 -- ---- which operation stands where
 
@@ -105,6 +105,26 @@ comparison_row (Some (Two CGE)) e = refl
 comparison_row (Some (Two CEQ)) e = refl
 comparison_row (Some (Two CLOG)) e = refl
 comparison_row _ e = absurd (cc)
+
+pub comparison_starts : (o : Option GplOperation) → is_comparison o ≡ true → is_end (operation_entry o) ≡ false
+comparison_starts (Some (One CZ)) e = refl
+comparison_starts (Some (Two CH)) e = refl
+comparison_starts (Some (Two CHE)) e = refl
+comparison_starts (Some (Two CGT)) e = refl
+comparison_starts (Some (Two CGE)) e = refl
+comparison_starts (Some (Two CEQ)) e = refl
+comparison_starts (Some (Two CLOG)) e = refl
+comparison_starts _ e = absurd (cc)
+
+pub comparison_goes : (op : GplOperation) → is_comparison (Some op) ≡ true → is_end (row_entry (Some op)) ≡ false
+comparison_goes (One CZ) e = refl
+comparison_goes (Two CH) e = refl
+comparison_goes (Two CHE) e = refl
+comparison_goes (Two CGT) e = refl
+comparison_goes (Two CGE) e = refl
+comparison_goes (Two CEQ) e = refl
+comparison_goes (Two CLOG) e = refl
+comparison_goes _ e = absurd (cc)
 
 starts : (o : Option GplOperation) → is_test o ≡ true → is_end (operation_entry o) ≡ false
 starts (Some (Plain H)) e = refl

@@ -7,8 +7,8 @@ ghost use Rattle.sim_view.specs.View.{view, Stands};
 ghost use Rattle.sim_view.specs.Exits.{Exits};
 ghost use Rattle.interp_defs.specs.Interpreter.{most_to_dispatch};
 ghost use Rattle.interp_defs.specs.Turned.{Turned};
-ghost use Rattle.sim_compare.specs.States.{Dispatched, state_at_dispatch, operation_seen};
-ghost use Rattle.sim_compare.specs.Results.{RunsRow};
+ghost use Rattle.sim_rows.specs.States.{Dispatched, state_at_dispatch, operation_seen};
+ghost use Rattle.sim_rows.specs.Results.{RunsRow};
 ghost use Rattle.sim_compare.specs.Family.{is_comparison, is_test, is_compare, comparison, test};
 
 use crate::compare::{
@@ -16,11 +16,12 @@ use crate::compare::{
     compare_ones, compare_with_zero,
 };
 use crate::condition::end_comparison;
-use crate::rows::start_row;
+
 use crate::test::{test_carry, test_greater, test_higher, test_overflow};
 use gpl_defs::{GplOperation, OneName, TwoName};
 use interp_defs::Turn;
 use native_interp::{GOCARY, GOGT, GOH, ROW};
+use sim_rows::start_row;
 use std::sync::ledger::Ledger;
 use step_defs::Reason;
 use tms_step::{Machine, Steps};

@@ -5,7 +5,6 @@
 mod compare;
 mod condition;
 mod family;
-mod rows;
 mod test;
 
 pub use compare::{compare_equal, compare_greater, compare_greater_or_equal, compare_higher, compare_higher_or_equal, compare_ones, compare_with_zero};

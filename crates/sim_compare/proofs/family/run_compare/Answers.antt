@@ -1,7 +1,7 @@
 use Rattle.std.proofs.Common.{◌≡◌, arith}
 use Rattle.native_interp.specs.Entries.{operation_entry}
 use Rattle.sim_view.specs.View.{view}
-use Rattle.sim_compare.specs.States.{operation_seen}
+use Rattle.sim_rows.specs.States.{operation_seen}
 use Rattle.sim_compare.proofs.Testing
 use Rattle.sim_compare.proofs.family.run_compare.Goals as goal
 

@@ -1,6 +1,6 @@
 use Rattle.std.proofs.Common.{refl}
 use Rattle.sim_view.specs.View.{view}
-use Rattle.sim_compare.specs.States.{state_at_dispatch, operation_seen}
+use Rattle.sim_rows.specs.States.{state_at_dispatch, operation_seen}
 use Rattle.sim_compare.proofs.Testing
 use Rattle.sim_compare.proofs.family.run_test.Goals as goal
 

@@ -3,7 +3,7 @@ use Rattle.gpl_defs.specs.declared.instruction.GplOperation.{GplOperation}
 use Rattle.native_interp.specs.Entries.{operation_entry}
 use Rattle.sim_view.specs.View.{view, Stands}
 use Rattle.sim_view.specs.Exits.{Exits}
-use Rattle.sim_compare.specs.States.{operation_seen}
+use Rattle.sim_rows.specs.States.{operation_seen}
 use Rattle.sim_compare.specs.Family.{test}
 use Rattle.sim_compare.proofs.Testing
 use Rattle.sim_compare.proofs.family.test_status.Goals as goal
