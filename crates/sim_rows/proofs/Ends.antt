@@ -22,8 +22,7 @@ use Rattle.sim_view.proofs.Answers.{given}
 use Rattle.sim_view.proofs.Bridge.{holds_register}
 use Rattle.sim_view.proofs.Compose.{runs_then}
 use Rattle.sim_operands.specs.Subroutines.{grom_at, state_of}
-use Rattle.sim_rows.specs.Rows.{Ended, StoppedBy}
-use Rattle.sim_rows.specs.States.{Sees, Dispatched, state_at_dispatch}
+use Rattle.sim_rows.specs.States.{Sees, Dispatched, state_at_dispatch, Ended, StoppedBy}
 
 -- a state of parts
 abbrev pub made : List ℕ → List ℕ → List ℕ → ℕ → List ℕ → GplState

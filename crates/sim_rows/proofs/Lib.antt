@@ -2,10 +2,10 @@ pub mod Facts
 pub mod Paths
 pub mod Again
 pub mod Beginning
+pub mod Codes
 pub mod Steps
 pub mod Ends
 pub mod Places
-pub mod Codes
 pub mod Fronting
 pub mod Operands
 pub mod Sources
@@ -13,3 +13,4 @@ pub mod Matched
 pub mod Loading
 pub mod Storing
 pub mod Rowing
+pub mod Telling

@@ -1,102 +1,125 @@
 -- The pieces and subroutines that load the operands of a row, one after the other.
-use Rattle.std.proofs.Common.{◌≡◌, ℕ, ◌+◌, ◌/◌, ◌%◌, ◌<◌, ◌≤◌, Bool, true, false, refl, sym, ap, subst, ◌∙◌, arith, Some, None, Result, Ok, Err}
-use Rattle.std.specs.Prelude.{◌==◌, nat_lt}
-use Rattle.std.proofs.lemmas.Bool.{le-ltb}
-use Rattle.console_defs.specs.Flags.{size_of}
+use Rattle.std.proofs.Common.{◌≡◌, ℕ, ◌+◌, ◌/◌, ◌%◌, ◌<◌, ◌≤◌, Bool, true, false, refl, sym, ap, subst, ◌∙◌, arith, Option, Some, None, Result, Ok, Err, ◌⊎◌, inl, inr}
+use Rattle.std.specs.Prelude.{◌==◌, not, nat_lt, if◌then◌else◌, slice_index}
+use Rattle.console_defs.specs.Flags.{Width, Byte, Word, size_of}
+use Rattle.console_defs.specs.Grom.{GromState}
 use Rattle.console_defs.specs.Machine.{MachineState}
 use Rattle.source_defs.specs.Refusals.{◌>>=◌}
-use Rattle.gpl_defs.specs.declared.instruction.Space.{Space}
-use Rattle.gpl_defs.specs.declared.instruction.Space.TheVariants.{Cpu, Vdp}
-use Rattle.gpl_defs.specs.Codes.{operation_at}
 use Rattle.gpl_defs.specs.Reading.{operand_at, source_at, value_at as value_in}
+use Rattle.gpl_defs.specs.declared.instruction.TwoName.{TwoName}
+use Rattle.gpl_defs.specs.declared.instruction.TwoName.TheVariants.{MUL, DIV}
+use Rattle.gpl_defs.specs.declared.instruction.GplOperand.{GplOperand}
+use Rattle.gpl_defs.specs.declared.instruction.GplOperation.{GplOperation}
+use Rattle.gpl_defs.specs.declared.instruction.GplOperation.TheVariants as operation
+use Rattle.native_interp.specs.Entries.{row_entry}
 use Rattle.step_defs.specs.declared.reason.Reason.{Reason}
 use Rattle.step_defs.specs.State.{GplState}
 use Rattle.step_defs.specs.Place.{Place, place_of, value_at}
 use Rattle.step_defs.specs.Arithmetic.{Source}
-use Rattle.step_defs.specs.Step.{source_of}
+use Rattle.step_defs.specs.Step.{source_of, word_or_byte, destination_size}
 use Rattle.interp_defs.specs.Match.{IsFetched}
-use Rattle.sim_view.specs.View.{View, view}
+use Rattle.sim_view.specs.View.{View, view, Stands}
 use Rattle.sim_view.specs.Exits.{Exits, Comes}
-use Rattle.sim_view.proofs.Compose.{comes_as}
+use Rattle.sim_view.proofs.Bridge.{IsView}
+use Rattle.sim_view.proofs.Compose.{comes, comes_as, comes_on}
 use Rattle.sim_operands.specs.Values.{IsVisible, number_of_space}
-use Rattle.sim_operands.specs.Subroutines.{Finds, FindsOperand, LoadsValue, LoadsStream}
+use Rattle.sim_operands.specs.Subroutines.{Finds, FindsOperand, LoadsValue}
 use Rattle.sim_rows.specs.Pieces as pieces
-use Rattle.sim_rows.specs.States.{Dispatched, is_alu}
-use Rattle.sim_rows.specs.Rows.{code_of, behind_code, word_of, row_width, behind_first, next_of, moved, first_of, second_of, operands_of, Valued, AtRow, LoadsDestination, LoadsOperands}
-use Rattle.sim_rows.proofs.Ends.{fetched_of}
+use Rattle.sim_rows.specs.States.{Sees, code_byte, operation_in, behind_code, StoppedBy}
+use Rattle.sim_rows.specs.Rows.{is_row, word_of, row_width, has_source, is_immediate, behind_first, source_read, next_of, gone_on, bytes_by, destination_bytes, first_of, unit, second_by, second_of, operands_of, AtOperands, Valued, Immediate, Found, Sourced, AtRow, LoadsDestination, LoadsOperands, LoadsPlaced, LoadsImmediate}
 use Rattle.sim_rows.proofs.Places.{place_lies, lies_at}
-use Rattle.sim_rows.proofs.Fronting.{Asking, Located, asked, located, barred, finds_of}
-use Rattle.sim_rows.proofs.Operands.{Loading, asks_first, loads, visible_of, Immediate, Operand, immediates, operands, Streaming, asks_immediate, streams, Found, finds_second, bars_second, LoadingSecond, asks_second, loads_second, goes_to_row, code_is, value_same}
-use Rattle.gpl_defs.specs.declared.instruction.GplOperand.{GplOperand}
+use Rattle.sim_rows.proofs.Codes.{row_code}
+use Rattle.sim_rows.proofs.Fronting.{Asking, Located, asks, located, barred, finds_of, space_small}
+use Rattle.sim_rows.proofs.Operands.{Loading, LoadedFrom, asks_first, loads, visible_of, units, immediates, Operand, operands, finds_second, bars_second, goes_to_row, value_same}
 
-space_small : (space : Space) (r5 : ℕ) → r5 ≡ number_of_space space → r5 < 2
-space_small Cpu r5 e = omega arith
-space_small Vdp r5 e = omega arith
+-- ---- how many bytes a destination takes
+
+pub some_bytes : (o : Option GplOperation) (w : Bool) → (0 < bytes_by o (word_or_byte w)) × (bytes_by o (word_or_byte w) ≤ 4)
+some_bytes o w = by o w
+  where
+    by_two : (op : TwoName) (w : Bool) → (0 < destination_size op (word_or_byte w)) × (destination_size op (word_or_byte w) ≤ 4)
+    by_two MUL true = (omega arith, omega arith)
+    by_two MUL false = (omega arith, omega arith)
+    by_two DIV true = (omega arith, omega arith)
+    by_two DIV false = (omega arith, omega arith)
+    by_two _ true = (omega arith, omega arith)
+    by_two _ false = (omega arith, omega arith)
+
+    by : (o : Option GplOperation) (w : Bool) → (0 < bytes_by o (word_or_byte w)) × (bytes_by o (word_or_byte w) ≤ 4)
+    by (Some (operation.Two op)) w = by_two op w
+    by _ true = (omega arith, omega arith)
+    by _ false = (omega arith, omega arith)
+
+pub few_bytes : (w : Bool) → (0 < size_of (word_or_byte w)) × (size_of (word_or_byte w) ≤ 2)
+few_bytes true = (omega arith, omega arith)
+few_bytes false = (omega arith, omega arith)
 
 -- ---- the destination
 
-module _ (s : GplState) (x : MachineState) (t : ℕ) (d : Dispatched s (view x)) (fits : code_of s < 256) where
+module _ (s : GplState) (x : MachineState) (t : ℕ) (d : AtOperands s (view x)) where
   -- the place was found, and the machine is behind ADDR
   pub record Destination (y : MachineState) (u : ℕ) : Type 0 where
     pub place : Place
     pub is_place : first_of s ≡ Ok place
-    pub comes : Comes 51 x y t u 0x2434 (Located s place (behind_first s))
+    pub comes : Comes 47 x y t u 0x2434 (Located s (destination_bytes s) place (behind_first s))
 
-  pub asks : (a b : MachineState) (t1 t2 : ℕ) → Exits x a t t1 (pieces.row_width (view x)) → Exits a b t1 t2 (pieces.ask_first (view a)) → Comes 6 x b t t2 0x22EC (Asking s (behind_code s) 0x2434)
-  asks a b t1 t2 e1 e2 = asked s x a b t t1 t2 d fits e1 e2
+  pub asking : (b : MachineState) (t2 : ℕ) → Exits x b t t2 (pieces.ask_first (view x)) → Comes 2 x b t t2 0x22EC (Asking s (destination_bytes s) (behind_code s) 0x2434)
+  asking b t2 e = comes e (asks s (view x) d)
 
-  found_by : (b y : MachineState) (t2 u : ℕ) → Comes 6 x b t t2 0x22EC (Asking s (behind_code s) 0x2434) → (y.cpu.pc ≡ 0x22B8 → ⊥) →
+  found_by : (b y : MachineState) (t2 u : ℕ) → Comes 2 x b t t2 0x22EC (Asking s (destination_bytes s) (behind_code s) 0x2434) → (y.cpu.pc ≡ 0x22B8 → ⊥) →
       (r : Result Place Reason) → first_of s ≡ r → Finds b y t2 u (behind_first s) r → Destination y u
-  found_by b y t2 u c n (Ok place) e f = record { place = place; is_place = e; comes = located s (behind_code s) (behind_first s) 0x2434 6 x b y t t2 u place refl c f }
+  found_by b y t2 u c n (Ok place) e f = record { place = place; is_place = e; comes = located s (destination_bytes s) (behind_code s) (behind_first s) 0x2434 2 x b y t t2 u place refl c f }
   found_by b y t2 u c n (Err reason) e f = absurd (n f.stands.pc)
 
-  pub found : (b y : MachineState) (t2 u : ℕ) → Comes 6 x b t t2 0x22EC (Asking s (behind_code s) 0x2434) → (y.cpu.pc ≡ 0x22B8 → ⊥) → FindsOperand b y t2 u → Destination y u
-  found b y t2 u c n f = found_by b y t2 u c n (first_of s) refl (finds_of s (moved s) (behind_code s) b y t2 u c.holds.holds refl f)
+  pub found : (b y : MachineState) (t2 u : ℕ) → Comes 2 x b t t2 0x22EC (Asking s (destination_bytes s) (behind_code s) 0x2434) → (y.cpu.pc ≡ 0x22B8 → ⊥) → FindsOperand b y t2 u → Destination y u
+  found b y t2 u c n f = found_by b y t2 u c n (first_of s) refl (finds_of s (gone_on s) (destination_bytes s) (behind_code s) b y t2 u c.holds.holds refl f)
 
-  stops_by : (b y : MachineState) (t2 u : ℕ) → Comes 6 x b t t2 0x22EC (Asking s (behind_code s) 0x2434) → y.cpu.pc ≡ 0x22B8 →
+  stops_by : (b y : MachineState) (t2 u : ℕ) → Comes 2 x b t t2 0x22EC (Asking s (destination_bytes s) (behind_code s) 0x2434) → y.cpu.pc ≡ 0x22B8 →
       (r : Result Place Reason) → Finds b y t2 u (behind_first s) r → LoadsDestination s x y t u false r
-  stops_by b y t2 u c e (Ok place) f = let there = (located s (behind_code s) (behind_first s) 0x2434 6 x b y t t2 u place refl c f).stands.pc in absurd (omega arith)
-  stops_by b y t2 u c e (Err reason) f = (refl, barred s (behind_code s) 0x2434 6 reason x b y t t2 u c f)
+  stops_by b y t2 u c e (Ok place) f =
+      let there = (located s (destination_bytes s) (behind_code s) (behind_first s) 0x2434 2 x b y t t2 u place refl c f).stands.pc in absurd (omega arith)
+  stops_by b y t2 u c e (Err reason) f = (refl, barred s (destination_bytes s) (behind_code s) 0x2434 2 reason x b y t t2 u c f)
 
-  pub stops : (b y : MachineState) (t2 u : ℕ) → Comes 6 x b t t2 0x22EC (Asking s (behind_code s) 0x2434) → y.cpu.pc ≡ 0x22B8 → FindsOperand b y t2 u → LoadsDestination s x y t u false (first_of s)
-  stops b y t2 u c e f = stops_by b y t2 u c e (first_of s) (finds_of s (moved s) (behind_code s) b y t2 u c.holds.holds refl f)
+  pub stops : (b y : MachineState) (t2 u : ℕ) → Comes 2 x b t t2 0x22EC (Asking s (destination_bytes s) (behind_code s) 0x2434) → y.cpu.pc ≡ 0x22B8 → FindsOperand b y t2 u → LoadsDestination s x y t u false (first_of s)
+  stops b y t2 u c e f = stops_by b y t2 u c e (first_of s) (finds_of s (gone_on s) (destination_bytes s) (behind_code s) b y t2 u c.holds.holds refl f)
 
   -- its value is asked for
-  pub loading : (y z : MachineState) (u v : ℕ) (f : Destination y u) → Exits y z u v (pieces.load_first (view y)) → Comes 54 x z t v 0x2368 (Loading s f.place f.place (behind_first s) 0x243C)
-  loading y z u v f e = asks_first s f.place (behind_first s) 51 x y z t u v f.comes e
+  pub loading : (y z : MachineState) (u v : ℕ) (f : Destination y u) → Exits y z u v (pieces.load_first (view y)) → Comes 50 x z t v 0x2368 (Loading s (destination_bytes s) f.place f.place (behind_first s) 0x243C)
+  loading y z u v f e = asks_first s (destination_bytes s) f.place (behind_first s) 47 x y z t u v f.comes e
 
-  pub first_visible : (place : Place) → first_of s ≡ Ok place → number_of_space place.space ≡ 0 → place.address + size_of (row_width s) ≤ 0xC2
-  first_visible place e = lies_at (size_of (row_width s)) (first_of s) place (place_lies (moved s) (size_of (row_width s)) (operand_at s.image (behind_code s)).0) e
-
-  pub loaded : (y z q : MachineState) (u v w : ℕ) (f : Destination y u) → Comes 54 x z t v 0x2368 (Loading s f.place f.place (behind_first s) 0x243C) → ((view z).r.r5 < 2 → LoadsValue z q v w) →
+  pub loaded : (y z q : MachineState) (u v w : ℕ) (f : Destination y u) → Comes 50 x z t v 0x2368 (Loading s (destination_bytes s) f.place f.place (behind_first s) 0x243C) → ((view z).r.r5 < 2 → LoadsValue z q v w) →
       LoadsDestination s x q t w true (first_of s)
   loaded y z q u v w f c l =
       let value = l (space_small f.place.space (view z).r.r5 c.holds.from.space) in
       let P : Result Place Reason → Type 0 = λ r. LoadsDestination s x q t w true r in
-      subst P (sym f.is_place) (refl, comes_as 71 _ (loads s f.place f.place (behind_first s) 0x243C 54 x z q t v w refl c value) (omega arith) (λ k a. a.0))
+      let run = loads s (destination_bytes s) f.place f.place (behind_first s) 0x243C 50 x z q t v w refl c value in
+      subst P (sym f.is_place) (refl, comes_as 67 (Valued s f.place) run (omega arith) (λ k a. record { holds = a.holds; to_place = a.to_place; value = a.value }))
 
--- what must be visible
-pub visible_at : (s : GplState) (place kept : Place) (next to : ℕ) (w : View) → Loading s place kept next to w → (number_of_space place.space ≡ 0 → place.address + size_of (row_width s) ≤ 0xC2) → IsVisible w.r.r5 w.r.r2 w.r.r3
-visible_at s place kept next to w l h = visible_of s place w.r.r5 w.r.r2 w.r.r3 l.from.space l.from.address l.holds.width h
+-- the destination's bytes are visible
+pub first_visible : (s : GplState) (place : Place) → first_of s ≡ Ok place → number_of_space place.space ≡ 0 → place.address + destination_bytes s ≤ 0xC2
+first_visible s place e = lies_at (destination_bytes s) (first_of s) place (place_lies (gone_on s) (destination_bytes s) (operand_at s.image (behind_code s)).0) e
+
+pub visible_at : (s : GplState) (bytes : ℕ) (place kept : Place) (next to : ℕ) (w : View) → Loading s bytes place kept next to w → 0 < bytes → (number_of_space place.space ≡ 0 → place.address + bytes ≤ 0xC2) → IsVisible w.r.r5 w.r.r2 w.r.r3
+visible_at s bytes place kept next to w l some h = visible_of place bytes w.r.r5 w.r.r2 w.r.r3 l.from.space l.from.address l.holds.bytes_are some h
 
 -- ---- the source
 
-module _ (s : GplState) (x : MachineState) (t : ℕ) (fits : code_of s < 256) (alu : is_alu (operation_at (code_of s)) ≡ true) where
+module _ (s : GplState) (x : MachineState) (t : ℕ) (fits : code_byte s < 256) (row : is_row (operation_in s) ≡ true) where
   -- the destination that was loaded
-  pub record Kept (y : MachineState) (u : ℕ) : Type 0 where
+  pub record Begun (y : MachineState) (u : ℕ) : Type 0 where
     pub place : Place
     pub is_place : first_of s ≡ Ok place
-    pub comes : Comes 71 x y t u 0x243C (Valued s (value_at s (row_width s) place) place (behind_first s))
+    pub comes : Comes 67 x y t u 0x243C (Valued s place)
 
-  kept_by : (y : MachineState) (u : ℕ) (r : Result Place Reason) → first_of s ≡ r → LoadsDestination s x y t u true r → Kept y u
-  kept_by y u (Ok place) e l = record { place = place; is_place = e; comes = l.1 }
-  kept_by y u (Err reason) e l = absurd (not_both l.0)
+  begun_by : (y : MachineState) (u : ℕ) (r : Result Place Reason) → first_of s ≡ r → LoadsDestination s x y t u true r → Begun y u
+  begun_by y u (Ok place) e l = record { place = place; is_place = e; comes = l.1 }
+  begun_by y u (Err reason) e l = absurd (not_both l.0)
     where
       not_both : true ≡ false → ⊥
       not_both e = cc
 
-  pub kept : (y : MachineState) (u : ℕ) → LoadsDestination s x y t u true (first_of s) → Kept y u
-  kept y u l = kept_by y u (first_of s) refl l
+  pub begun : (y : MachineState) (u : ℕ) → LoadsDestination s x y t u true (first_of s) → Begun y u
+  begun y u l = begun_by y u (first_of s) refl l
 
   -- an operand that is not visible stops the step
   none_by : (y : MachineState) (u : ℕ) (r : Result Place Reason) → LoadsDestination s x y t u false r → LoadsOperands s x y t u false (r >>= λ place. (second_of s >>= λ source. Ok (place, source)))
@@ -104,79 +127,93 @@ module _ (s : GplState) (x : MachineState) (t : ℕ) (fits : code_of s < 256) (a
     where
       not_both : false ≡ true → ⊥
       not_both e = cc
-  none_by y u (Err reason) l = (refl, comes_as 128 _ l.1 (omega arith) (λ v a. a))
+  none_by y u (Err reason) l = (refl, comes_as 124 _ l.1 (omega arith) (λ v a. a))
 
   pub none : (y : MachineState) (u : ℕ) → LoadsDestination s x y t u false (first_of s) → LoadsOperands s x y t u false (operands_of s)
   none y u l = none_by y u (first_of s) l
 
-  two : nat_lt (code_of s) 0xA0 ≡ false
-  two = le-ltb (code_of s) 0xA0 (let r = code_is (code_of s) fits alu in let low = r.0 in omega arith)
+  pub low : 0x80 ≤ code_byte s
+  low = (row_code (code_byte s) fits row).0
 
-  pub low : 0x80 ≤ code_of s
-  low = let r = code_is (code_of s) fits alu in let a = r.0 in omega arith
+  pub high : code_byte s < 0xEC
+  high = (row_code (code_byte s) fits row).1
 
-  pub high : code_of s < 0xEC
-  high = let r = code_is (code_of s) fits alu in let a = r.1 in omega arith
+  -- where the machine goes on tells what the source is
+  pub record ByUnit (place : Place) (y : MachineState) (u : ℕ) : Type 0 where
+    pub one : nat_lt (code_byte s) 0xA0 ≡ true
+    pub comes : Comes 78 x y t u 0x2472 (Sourced s place unit (behind_first s))
 
-  abbrev pub is_immediate : Bool
-  is_immediate = code_of s / 2 % 2 == 1
+  pub record ByImmediate (place : Place) (y : MachineState) (u : ℕ) : Type 0 where
+    pub two : nat_lt (code_byte s) 0xA0 ≡ false
+    pub bit : is_immediate s ≡ true
+    pub comes : Comes 79 x y t u 0x245C (Immediate s place (behind_first s))
 
-  -- the immediate value of a source
-  abbrev pub value_read : ℕ × ℕ
-  value_read = value_in (word_of s) s.image (behind_first s)
+  pub record ByOperand (place : Place) (y : MachineState) (u : ℕ) : Type 0 where
+    pub two : nat_lt (code_byte s) 0xA0 ≡ false
+    pub bit : is_immediate s ≡ false
+    pub comes : Comes 79 x y t u 0x22EC (Operand s place (behind_first s))
 
-  -- an immediate source is told by where the machine goes on, and so is one at a place
-  pub record AtImmediate (place : Place) (y : MachineState) (u : ℕ) : Type 0 where
-    pub bit : is_immediate ≡ true
-    pub comes : Comes 83 x y t u 0x245C (Immediate s place (behind_first s))
+  abbrev pub Ways : Place → MachineState → ℕ → Type 0
+  Ways place y u = ByUnit place y u ⊎ (ByImmediate place y u ⊎ ByOperand place y u)
 
-  pub record AtOperand (place : Place) (y : MachineState) (u : ℕ) : Type 0 where
-    pub bit : is_immediate ≡ false
-    pub comes : Comes 83 x y t u 0x22EC (Operand s place (behind_first s))
+  ways_by : (a y : MachineState) (v u : ℕ) (k : Begun a v) → Exits a y v u (pieces.second_operand (view a)) → (b : Bool) → nat_lt (code_byte s) 0xA0 ≡ b → (i : Bool) → is_immediate s ≡ i → Ways k.place y u
+  ways_by a y v u k e true one i bit = inl (record { one = one; comes = units s k.place 67 x a y t v u fits one k.comes e })
+  ways_by a y v u k e false two true bit = inr (inl (record { two = two; bit = bit; comes = immediates s k.place 67 x a y t v u fits two bit k.comes e }))
+  ways_by a y v u k e false two false bit = inr (inr (record { two = two; bit = bit; comes = operands s k.place 67 x a y t v u fits two bit k.comes e }))
 
-  immediate_by : (a y : MachineState) (v u : ℕ) (k : Kept a v) → Exits a y v u (pieces.second_operand (view a)) → y.cpu.pc ≡ 0x245C → (b : Bool) → is_immediate ≡ b → AtImmediate k.place y u
-  immediate_by a y v u k e here true bit = record { bit = bit; comes = immediates s k.place (behind_first s) 71 x a y t v u fits two bit k.comes e }
-  immediate_by a y v u k e here false bit = let there = (operands s k.place (behind_first s) 71 x a y t v u fits two bit k.comes e).stands.pc in absurd (omega arith)
+  pub ways : (a y : MachineState) (v u : ℕ) (k : Begun a v) → Exits a y v u (pieces.second_operand (view a)) → Ways k.place y u
+  ways a y v u k e = ways_by a y v u k e (nat_lt (code_byte s) 0xA0) refl (is_immediate s) refl
 
-  pub immediate : (a y : MachineState) (v u : ℕ) (k : Kept a v) → Exits a y v u (pieces.second_operand (view a)) → y.cpu.pc ≡ 0x245C → AtImmediate k.place y u
-  immediate a y v u k e here = immediate_by a y v u k e here is_immediate refl
+  pub by_unit : (place : Place) (y : MachineState) (u : ℕ) → y.cpu.pc ≡ 0x2472 → Ways place y u → ByUnit place y u
+  by_unit place y u here (inl w) = w
+  by_unit place y u here (inr (inl w)) = let there = w.comes.stands.pc in absurd (omega arith)
+  by_unit place y u here (inr (inr w)) = let there = w.comes.stands.pc in absurd (omega arith)
 
-  operand_by : (a y : MachineState) (v u : ℕ) (k : Kept a v) → Exits a y v u (pieces.second_operand (view a)) → (y.cpu.pc ≡ 0x245C → ⊥) → (b : Bool) → is_immediate ≡ b → AtOperand k.place y u
-  operand_by a y v u k e away true bit = absurd (away (immediates s k.place (behind_first s) 71 x a y t v u fits two bit k.comes e).stands.pc)
-  operand_by a y v u k e away false bit = record { bit = bit; comes = operands s k.place (behind_first s) 71 x a y t v u fits two bit k.comes e }
+  pub by_immediate : (place : Place) (y : MachineState) (u : ℕ) → y.cpu.pc ≡ 0x245C → Ways place y u → ByImmediate place y u
+  by_immediate place y u here (inl w) = let there = w.comes.stands.pc in absurd (omega arith)
+  by_immediate place y u here (inr (inl w)) = w
+  by_immediate place y u here (inr (inr w)) = let there = w.comes.stands.pc in absurd (omega arith)
 
-  pub operand : (a y : MachineState) (v u : ℕ) (k : Kept a v) → Exits a y v u (pieces.second_operand (view a)) → (y.cpu.pc ≡ 0x245C → ⊥) → AtOperand k.place y u
-  operand a y v u k e away = operand_by a y v u k e away is_immediate refl
+  pub by_operand : (place : Place) (y : MachineState) (u : ℕ) → (y.cpu.pc ≡ 0x2472 → ⊥) → (y.cpu.pc ≡ 0x245C → ⊥) → Ways place y u → ByOperand place y u
+  by_operand place y u a b (inl w) = absurd (a w.comes.stands.pc)
+  by_operand place y u a b (inr (inl w)) = absurd (b w.comes.stands.pc)
+  by_operand place y u a b (inr (inr w)) = w
+
+  -- ---- a row of one operand
+
+  next_by : Bool → ℕ
+  next_by b = (source_at b (word_of s) s.image (behind_first s)).1
+
+  next_two : (b : Bool) → nat_lt (code_byte s) 0xA0 ≡ false → is_immediate s ≡ b → next_of s ≡ (source_at b (word_of s) s.image (behind_first s)).1
+  next_two b two bit = ap (λ (o : Bool). if not o then (source_read s).1 else behind_first s) two ∙ ap (λ (i : Bool). (source_at i (word_of s) s.image (behind_first s)).1) bit
+
+  second_two : (b : Bool) → nat_lt (code_byte s) 0xA0 ≡ false → is_immediate s ≡ b → second_of s ≡ source_of (gone_on s) (row_width s) (source_at b (word_of s) s.image (behind_first s)).0
+  second_two b two bit = ap (λ (o : Bool). second_by (not o) s) two ∙ ap (λ (i : Bool). source_of (gone_on s) (row_width s) (source_at i (word_of s) s.image (behind_first s)).0) bit
+
+  -- both operands by their parts
+  with_both : (place : Place) (source : Source) (next : ℕ) (y : MachineState) (u most : ℕ) → first_of s ≡ Ok place → second_of s ≡ Ok source → next_of s ≡ next → most ≤ 146 →
+      Comes most x y t u (row_entry (operation_in s)) (Sourced s place source next) → LoadsOperands s x y t u true (operands_of s)
+  with_both place source next y u most is second at le c =
+      let P : Result Place Reason → Type 0 = λ r. LoadsOperands s x y t u true (r >>= λ place. (second_of s >>= λ source. Ok (place, source))) in
+      let Q : Result Source Reason → Type 0 = λ r. LoadsOperands s x y t u true (r >>= λ source. Ok (place, source)) in
+      let N : ℕ → Type 0 = λ n. Comes 146 x y t u (row_entry (operation_in s)) (Sourced s place source n) in
+      subst P (sym is) (subst Q (sym second) (refl, subst N (sym at) (comes_as 146 _ c le (λ v a. a))))
+
+  pub at_unit : (place : Place) (y z : MachineState) (u v : ℕ) → first_of s ≡ Ok place → nat_lt (code_byte s) 0xA0 ≡ true → Comes 78 x y t u 0x2472 (Sourced s place unit (behind_first s)) → Exits y z u v (pieces.go_to_row (view y)) →
+      LoadsOperands s x z t v true (operands_of s)
+  at_unit place y z u v is one c e =
+      let next : next_of s ≡ behind_first s = ap (λ (o : Bool). if not o then (source_read s).1 else behind_first s) one in
+      let second : second_of s ≡ Ok unit = ap (λ (o : Bool). second_by (not o) s) one in
+      with_both place unit (behind_first s) z v 81 is second next (omega arith) (goes_to_row s place unit (behind_first s) 78 x y z t u v fits row c e)
 
   -- ---- an immediate source
 
-  pub streaming : (place : Place) (y z : MachineState) (u v : ℕ) → AtImmediate place y u → Exits y z u v (pieces.load_second (view y)) → Comes 85 x z t v 0x2368 (Streaming s place (behind_first s))
-  streaming place y z u v a e = asks_immediate s place (behind_first s) 83 x y z t u v a.comes e
-
-  pub streamed : (place : Place) (z q : MachineState) (v w : ℕ) → Comes 85 x z t v 0x2368 (Streaming s place (behind_first s)) → (1 < (view z).r.r5 → IsFetched z.cpu.memory.grom → LoadsStream z q v w) →
-      Comes 96 x q t w 0x2472 (AtRow s place value_read.0 value_read.1)
-  streamed place z q v w c l =
-      let space = c.holds.space in
-      streams s place (behind_first s) 85 x z q t v w c (l (omega arith) (fetched_of z.cpu.memory s (behind_first s) c.holds.second.holds.sees))
-
-  -- what the definition says of it
-  abbrev pub second_by : Bool → Result Source Reason
-  second_by b = source_of (moved s) (row_width s) (source_at b (word_of s) s.image (behind_first s)).0
-
-  abbrev next_by : Bool → ℕ
-  next_by b = (source_at b (word_of s) s.image (behind_first s)).1
-
-  pub with_immediate : (place : Place) (q z : MachineState) (w v : ℕ) → first_of s ≡ Ok place → is_immediate ≡ true → Comes 96 x q t w 0x2472 (AtRow s place value_read.0 value_read.1) → Exits q z w v (pieces.go_to_row (view q)) →
+  pub at_immediate : (place : Place) (y z : MachineState) (u v : ℕ) → first_of s ≡ Ok place → nat_lt (code_byte s) 0xA0 ≡ false → is_immediate s ≡ true → Comes 79 x y t u 0x245C (Immediate s place (behind_first s)) → LoadsImmediate y z u v →
       LoadsOperands s x z t v true (operands_of s)
-  with_immediate place q z w v is bit c e =
-      let row = goes_to_row s place value_read.0 value_read.1 96 x q z t w v fits alu c e in
-      let next : next_of s ≡ value_read.1 = ap next_by bit in
-      let source : Source = record { number = value_read.0; place = None } in
-      let second : second_of s ≡ Ok source = ap second_by bit in
-      let P : Result Place Reason → Type 0 = λ r. LoadsOperands s x z t v true (r >>= λ place. (second_of s >>= λ source. Ok (place, source))) in
-      let Q : Result Source Reason → Type 0 = λ r. LoadsOperands s x z t v true (r >>= λ source. Ok (place, source)) in
-      let N : ℕ → Type 0 = λ n. Comes 150 x z t v 0x24A6 (AtRow s place value_read.0 n) in
-      subst P (sym is) (subst Q (sym second) (refl, subst N (sym next) (comes_as 150 _ row (omega arith) (λ v a. a))))
+  at_immediate place y z u v is two bit c l =
+      let read = value_in (word_of s) s.image (behind_first s) in
+      let source : Source = record { number = read.0; place = None } in
+      with_both place source read.1 z v 95 is (second_two true two bit) (next_two true two bit) (omega arith) (comes_on 79 16 c (l s place (behind_first s) row c.holds) refl)
 
   -- ---- a source at a place
 
@@ -184,54 +221,51 @@ module _ (s : GplState) (x : MachineState) (t : ℕ) (fits : code_of s < 256) (a
   source_operand = operand_at s.image (behind_first s)
 
   abbrev pub source_place : Result Place Reason
-  source_place = place_of (moved s) (size_of (row_width s)) source_operand.0
+  source_place = place_of (gone_on s) (size_of (row_width s)) source_operand.0
 
-  pub record Source_at (kept : Place) (y : MachineState) (u : ℕ) : Type 0 where
-    pub place : Place
-    pub is_place : source_place ≡ Ok place
-    pub comes : Comes 128 x y t u 0x245C (Found s place kept source_operand.1)
+  pub record SourceAt (place : Place) (y : MachineState) (u : ℕ) : Type 0 where
+    pub source : Place
+    pub is_place : source_place ≡ Ok source
+    pub comes : Comes 124 x y t u 0x245C (Found s place source source_operand.1)
 
-  source_by : (kept : Place) (b y : MachineState) (v u : ℕ) → AtOperand kept b v → (y.cpu.pc ≡ 0x22B8 → ⊥) → (r : Result Place Reason) → source_place ≡ r → Finds b y v u source_operand.1 r → Source_at kept y u
-  source_by kept b y v u a n (Ok place) e f = record { place = place; is_place = e; comes = finds_second s kept place (behind_first s) source_operand.1 83 x b y t v u a.comes f }
-  source_by kept b y v u a n (Err reason) e f = absurd (n f.stands.pc)
+  source_by : (place : Place) (b y : MachineState) (v u : ℕ) → Comes 79 x b t v 0x22EC (Operand s place (behind_first s)) → (y.cpu.pc ≡ 0x22B8 → ⊥) → (r : Result Place Reason) → source_place ≡ r → Finds b y v u source_operand.1 r → SourceAt place y u
+  source_by place b y v u c n (Ok source) e f = record { source = source; is_place = e; comes = finds_second s place source (behind_first s) source_operand.1 79 x b y t v u c f }
+  source_by place b y v u c n (Err reason) e f = absurd (n f.stands.pc)
 
-  pub source : (kept : Place) (b y : MachineState) (v u : ℕ) → AtOperand kept b v → (y.cpu.pc ≡ 0x22B8 → ⊥) → FindsOperand b y v u → Source_at kept y u
-  source kept b y v u a n f = source_by kept b y v u a n source_place refl (finds_of s (moved s) (behind_first s) b y v u a.comes.holds.second.holds refl f)
+  pub source : (place : Place) (b y : MachineState) (v u : ℕ) → Comes 79 x b t v 0x22EC (Operand s place (behind_first s)) → (y.cpu.pc ≡ 0x22B8 → ⊥) → FindsOperand b y v u → SourceAt place y u
+  source place b y v u c n f = source_by place b y v u c n source_place refl (finds_of s (gone_on s) (size_of (row_width s)) (behind_first s) b y v u c.holds.kept.holds refl f)
 
   -- what the definition says of it
-  second_place : is_immediate ≡ false → second_of s ≡ (source_place >>= λ p. Ok (record { number = value_at (moved s) (row_width s) p; place = Some p }))
-  second_place bit = ap second_by bit
+  second_place : nat_lt (code_byte s) 0xA0 ≡ false → is_immediate s ≡ false → second_of s ≡ (source_place >>= λ p. Ok (record { number = value_at (gone_on s) (row_width s) p; place = Some p }))
+  second_place two bit = second_two false two bit
 
-  bars_by : (kept : Place) (b y : MachineState) (v u : ℕ) → AtOperand kept b v → first_of s ≡ Ok kept → y.cpu.pc ≡ 0x22B8 → (r : Result Place Reason) → source_place ≡ r → Finds b y v u source_operand.1 r → LoadsOperands s x y t u false (operands_of s)
-  bars_by kept b y v u a is here (Ok place) e f = let there = (finds_second s kept place (behind_first s) source_operand.1 83 x b y t v u a.comes f).stands.pc in absurd (omega arith)
-  bars_by kept b y v u a is here (Err reason) e f =
-      let second : second_of s ≡ Err reason = second_place a.bit ∙ ap (λ (r : Result Place Reason). r >>= λ p. Ok (record { number = value_at (moved s) (row_width s) p; place = Some p })) e in
+  bars_by : (place : Place) (b y : MachineState) (v u : ℕ) → Comes 79 x b t v 0x22EC (Operand s place (behind_first s)) → nat_lt (code_byte s) 0xA0 ≡ false → is_immediate s ≡ false → first_of s ≡ Ok place → y.cpu.pc ≡ 0x22B8 →
+      (r : Result Place Reason) → source_place ≡ r → Finds b y v u source_operand.1 r → LoadsOperands s x y t u false (operands_of s)
+  bars_by place b y v u c two bit is here (Ok source) e f = let there = (finds_second s place source (behind_first s) source_operand.1 79 x b y t v u c f).stands.pc in absurd (omega arith)
+  bars_by place b y v u c two bit is here (Err reason) e f =
+      let second : second_of s ≡ Err reason = second_place two bit ∙ ap (λ (r : Result Place Reason). r >>= λ p. Ok (record { number = value_at (gone_on s) (row_width s) p; place = Some p })) e in
       let P : Result Place Reason → Type 0 = λ r. LoadsOperands s x y t u false (r >>= λ place. (second_of s >>= λ source. Ok (place, source))) in
-      let Q : Result Source Reason → Type 0 = λ r. LoadsOperands s x y t u false (r >>= λ source. Ok (kept, source)) in
-      subst P (sym is) (subst Q (sym second) (refl, bars_second s kept (behind_first s) 83 reason x b y t v u a.comes f))
+      let Q : Result Source Reason → Type 0 = λ r. LoadsOperands s x y t u false (r >>= λ source. Ok (place, source)) in
+      subst P (sym is) (subst Q (sym second) (refl, bars_second s place (behind_first s) 79 reason x b y t v u c f))
 
-  pub bars : (kept : Place) (b y : MachineState) (v u : ℕ) → AtOperand kept b v → first_of s ≡ Ok kept → y.cpu.pc ≡ 0x22B8 → FindsOperand b y v u → LoadsOperands s x y t u false (operands_of s)
-  bars kept b y v u a is here f = bars_by kept b y v u a is here source_place refl (finds_of s (moved s) (behind_first s) b y v u a.comes.holds.second.holds refl f)
+  pub bars : (place : Place) (b y : MachineState) (v u : ℕ) → Comes 79 x b t v 0x22EC (Operand s place (behind_first s)) → nat_lt (code_byte s) 0xA0 ≡ false → is_immediate s ≡ false → first_of s ≡ Ok place → y.cpu.pc ≡ 0x22B8 → FindsOperand b y v u →
+      LoadsOperands s x y t u false (operands_of s)
+  bars place b y v u c two bit is here f =
+      bars_by place b y v u c two bit is here source_place refl (finds_of s (gone_on s) (size_of (row_width s)) (behind_first s) b y v u c.holds.kept.holds refl f)
 
-  pub loading_source : (kept : Place) (y z : MachineState) (u v : ℕ) (a : Source_at kept y u) → Exits y z u v (pieces.load_second (view y)) → Comes 130 x z t v 0x2368 (LoadingSecond s a.place kept source_operand.1)
-  loading_source kept y z u v a e = asks_second s a.place kept source_operand.1 128 x y z t u v a.comes e
+  pub source_visible : (source : Place) → source_place ≡ Ok source → number_of_space source.space ≡ 0 → source.address + size_of (row_width s) ≤ 0xC2
+  source_visible source e = lies_at (size_of (row_width s)) source_place source (place_lies (gone_on s) (size_of (row_width s)) source_operand.0) e
 
-  pub source_visible : (place : Place) → source_place ≡ Ok place → number_of_space place.space ≡ 0 → place.address + size_of (row_width s) ≤ 0xC2
-  source_visible place e = lies_at (size_of (row_width s)) source_place place (place_lies (moved s) (size_of (row_width s)) source_operand.0) e
+  pub found_visible : (place : Place) (y : MachineState) (u : ℕ) (a : SourceAt place y u) → (let r = (view y).r in IsVisible r.r5 r.r2 r.r3)
+  found_visible place y u a =
+      let f = a.comes.holds in
+      let r = (view y).r in
+      visible_of a.source (size_of (row_width s)) r.r5 r.r2 r.r3 f.from.space f.from.address f.kept.holds.bytes_are (few_bytes (word_of s)).0 (source_visible a.source a.is_place)
 
-  pub loaded_source : (kept : Place) (y z q : MachineState) (u v w : ℕ) (a : Source_at kept y u) → Comes 130 x z t v 0x2368 (LoadingSecond s a.place kept source_operand.1) → ((view z).r.r5 < 2 → LoadsValue z q v w) →
-      Comes 147 x q t w 0x2472 (AtRow s kept (value_at s (row_width s) a.place) source_operand.1)
-  loaded_source kept y z q u v w a c l = loads_second s a.place kept source_operand.1 130 x z q t v w c (l (space_small a.place.space (view z).r.r5 c.holds.loading.from.space))
-
-  pub with_source : (kept : Place) (y q z : MachineState) (u w v : ℕ) (a : Source_at kept y u) → first_of s ≡ Ok kept → is_immediate ≡ false → Comes 147 x q t w 0x2472 (AtRow s kept (value_at s (row_width s) a.place) source_operand.1) →
-      Exits q z w v (pieces.go_to_row (view q)) → LoadsOperands s x z t v true (operands_of s)
-  with_source kept y q z u w v a is bit c e =
-      let row = goes_to_row s kept (value_at s (row_width s) a.place) source_operand.1 147 x q z t w v fits alu c e in
-      let next : next_of s ≡ source_operand.1 = ap next_by bit in
-      let number : value_at s (row_width s) a.place ≡ value_at (moved s) (row_width s) a.place = value_same s (moved s) (row_width s) a.place refl refl in
-      let source : Source = record { number = value_at (moved s) (row_width s) a.place; place = Some a.place } in
-      let second : second_of s ≡ Ok source = second_place bit ∙ ap (λ (r : Result Place Reason). r >>= λ p. Ok (record { number = value_at (moved s) (row_width s) p; place = Some p })) a.is_place in
-      let P : Result Place Reason → Type 0 = λ r. LoadsOperands s x z t v true (r >>= λ place. (second_of s >>= λ source. Ok (place, source))) in
-      let Q : Result Source Reason → Type 0 = λ r. LoadsOperands s x z t v true (r >>= λ source. Ok (kept, source)) in
-      let N : ℕ → ℕ → Type 0 = λ m n. Comes 150 x z t v 0x24A6 (AtRow s kept m n) in
-      subst P (sym is) (subst Q (sym second) (refl, subst (λ n. N source.number n) (sym next) (subst (λ m. N m source_operand.1) number (comes_as 150 _ row (omega arith) (λ v a. a)))))
+  pub at_place : (place : Place) (y z : MachineState) (u v : ℕ) (a : SourceAt place y u) → first_of s ≡ Ok place → nat_lt (code_byte s) 0xA0 ≡ false → is_immediate s ≡ false → LoadsPlaced y z u v → LoadsOperands s x z t v true (operands_of s)
+  at_place place y z u v a is two bit l =
+      let number : value_at s (row_width s) a.source ≡ value_at (gone_on s) (row_width s) a.source = value_same s (gone_on s) (row_width s) a.source refl refl in
+      let made : ℕ → Source = λ n. record { number = n; place = Some a.source } in
+      let second : second_of s ≡ Ok (made (value_at s (row_width s) a.source)) =
+      second_place two bit ∙ ap (λ (r : Result Place Reason). r >>= λ p. Ok (record { number = value_at (gone_on s) (row_width s) p; place = Some p })) a.is_place ∙ ap (λ (n : ℕ). Ok (made n)) (sym number) in
+      with_both place (made (value_at s (row_width s) a.source)) source_operand.1 z v 146 is second (next_two false two bit) (omega arith) (comes_on 124 22 a.comes (l s place a.source source_operand.1 row a.comes.holds) refl)

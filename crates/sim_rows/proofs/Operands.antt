@@ -144,7 +144,7 @@ told s kept v w fits a c d g r0 r1 r13 r3 r7 r8 r9 = record {
 }
 
 -- with its value, the source is there
-sourced : {s : GplState} {place : Place} {source : Source} {next : ℕ} {w : View} → Kept s place next w → LoadsFromSource source.place w → w.r.r6 ≡ in_register (row_width s) source.number → Sourced s place source next w
+pub sourced : {s : GplState} {place : Place} {source : Source} {next : ℕ} {w : View} → Kept s place next w → LoadsFromSource source.place w → w.r.r6 ≡ in_register (row_width s) source.number → Sourced s place source next w
 sourced k f v = record { holds = k.holds; to_place = k.to_place; destination = k.destination; from_source = f; value = v }
 
 -- a row of one operand
@@ -199,8 +199,8 @@ immediates s kept most x y z t u w fits two is c e =
     })) refl
 
 -- a source at a place, which is asked for
-pub record Operand (s : GplState) (kept : Place) (next : ℕ) (w : View) : Type 0 where
-  pub second : Kept s kept next w
+pub record Operand (s : GplState) (place : Place) (next : ℕ) (w : View) : Type 0 where
+  pub kept : Kept s place next w
   pub link : w.r.r11 ≡ 0x245C
 
 pub operands : (s : GplState) (kept : Place) (most : ℕ) (x y z : MachineState) (t u w : ℕ) → code_byte s < 256 → nat_lt (code_byte s) 0xA0 ≡ false → (code_byte s / 2 % 2 == 1) ≡ false →

@@ -18,12 +18,13 @@ use Rattle.sim_view.specs.Exits.{Exits, Comes}
 use Rattle.sim_view.proofs.Bridge.{IsView}
 use Rattle.sim_view.proofs.Compose.{comes, comes_as, comes_on}
 use Rattle.sim_operands.specs.Pieces.{return_of}
-use Rattle.sim_operands.specs.Values.{width_in, in_register}
+use Rattle.sim_operands.specs.Values.{width_in, in_register, IsVisible}
 use Rattle.sim_operands.specs.Subroutines.{grom_at, next_at, LoadsValue, LoadsStream, streamed}
 use Rattle.sim_rows.specs.Pieces as pieces
 use Rattle.sim_rows.specs.Rows.{is_row, word_of, row_width, Holds, Kept, Immediate, Found, Sourced, LoadsPlaced, LoadsImmediate}
 use Rattle.sim_rows.specs.States.{Sees, code_byte, operation_in}
 use Rattle.sim_rows.proofs.Ends.{fetched_of}
+use Rattle.sim_rows.proofs.Again.{fetched_again}
 use Rattle.sim_rows.proofs.Fronting.{width_of_size, holds_again, space_small}
 use Rattle.sim_rows.proofs.Operands.{Loading, LoadedFrom, loads, goes_to_row, sourced}
 
@@ -116,7 +117,18 @@ module _ (x a b y : MachineState) (t t1 t2 t3 : ℕ) (i : IsView (view x)) (e1 :
         destination = ap (λ (q : View). q.r.r9) is ∙ k.destination;
         from_source = tt;
         value = ap (λ (q : View). q.r.r6) is ∙ ap (λ (n : ℕ). in_register (width_in n) (value_in (not (u.r.r3 == 1)) u.grom.image (next_at u)).0) k.holds.bytes_are
-        ∙ ap (λ (w : Width). in_register w (value_in (not (u.r.r3 == 1)) u.grom.image (next_at u)).0) (width_of_size (word_of s))
-        ∙ ap (λ (r : ℕ × ℕ). in_register (row_width s) r.0) read;
+            ∙ ap (λ (w : Width). in_register w (value_in (not (u.r.r3 == 1)) u.grom.image (next_at u)).0) (width_of_size (word_of s))
+            ∙ ap (λ (r : ℕ × ℕ). in_register (row_width s) r.0) read;
       }) in
       goes_to_row s place (record { number = value.0; place = None }) value.1 13 x b y t t2 t3 fits row c3 e3
+
+-- LOAD is asked for with the place as it was, and comes back to GO
+pub visible_there : (x a : MachineState) (t t1 : ℕ) → Exits x a t t1 (pieces.load_second (view x)) → (let r = (view x).r in IsVisible r.r5 r.r2 r.r3) → (let r = (view a).r in IsVisible r.r5 r.r2 r.r3)
+visible_there x a t t1 e h = subst (λ (v : View). IsVisible v.r.r5 v.r.r2 v.r.r3) (sym e.shows) h
+
+pub at_go : (x a b : MachineState) (t t1 t2 : ℕ) → Exits x a t t1 (pieces.load_second (view x)) → ((view a).r.r5 < 2 → LoadsValue a b t1 t2) → (1 < (view a).r.r5 → IsFetched a.cpu.memory.grom → LoadsStream a b t1 t2) →
+    IsFetched x.cpu.memory.grom → ((view b).r.r0 ≡ (view x).r.r0) × Stands b 0x2472
+at_go x a b t t1 t2 e value stream fetched =
+    let r = kept_code a b t1 t2 value stream (fetched_again x.cpu.memory a.cpu.memory (ap (λ (v : View). v.grom) e.shows) fetched) in
+    let to : return_of (view a) ≡ 0x2472 = ap (λ (v : View). even v.r.r11) e.shows in
+    (r.0 ∙ ap (λ (v : View). v.r.r0) e.shows, subst (λ (p : ℕ). Stands b p) to r.1)

@@ -1,5 +1,5 @@
 -- The step of GPL by the operation of its code byte.
-use Rattle.std.proofs.Common.{◌≡◌, ℕ, ◌<◌, Bool, true, false, refl, ap, ◌∙◌, List, Option, Some, None, Result, Ok, Err}
+use Rattle.std.proofs.Common.{◌≡◌, ℕ, ◌<◌, Bool, true, false, refl, sym, ap, ◌∙◌, List, Option, Some, None, Result, Ok, Err}
 use Rattle.std.specs.Prelude.{◌==◌, ◌&&◌, not, nat_lt, if◌then◌else◌}
 use Rattle.console_defs.specs.Words.{plus}
 use Rattle.console_defs.specs.Bytes.{word_in}
@@ -54,7 +54,7 @@ unbuilt (operation.Plain op) code image at e = e
 unbuilt (operation.Byte op) code image at e = refl
 unbuilt (operation.Jump op) code image at e = e
 unbuilt (operation.Branch on) code image at e = refl
-unbuilt (operation.One op) code image at e = refl
+unbuilt (operation.One op) code image at e = e
 unbuilt (operation.Two op) code image at e = e
 unbuilt (operation.Move kind) code image at e = refl
 

@@ -1,8 +1,9 @@
--- The result of a row is stored, and the character goes to the screen.
-use Rattle.std.proofs.Common.{◌≡◌, ℕ, ◌+◌, ◌*◌, ◌%◌, ◌<◌, true, false, refl, sym, ap, subst, ◌∙◌, arith, List, None}
-use Rattle.std.specs.Prelude.{◌==◌, slice_index, slice_set}
+-- Results are stored, and the character goes to the screen.
+use Rattle.std.proofs.Common.{◌≡◌, ℕ, ◌+◌, ◌*◌, ◌%◌, ◌<◌, Bool, true, false, refl, sym, ap, subst, ◌∙◌, arith, List, None}
+use Rattle.std.specs.Prelude.{◌==◌, ◌||◌, slice_index, slice_set}
+use Rattle.std.proofs.lemmas.Bool.{ne_eqb}
 use Rattle.console_defs.specs.Words.{high, low, join, even}
-use Rattle.console_defs.specs.Flags.{Width, Byte, Word, sum_of}
+use Rattle.console_defs.specs.Flags.{Width, Byte, Word, size_of, sum_of}
 use Rattle.console_defs.specs.Shifts.{shifted}
 use Rattle.console_defs.specs.declared.instruction.ShiftOp.TheVariants.{SRL, SLA}
 use Rattle.console_defs.specs.Grom.{GromState, previous_in_grom}
@@ -10,139 +11,214 @@ use Rattle.console_defs.proofs.GromLaws.{previous-next}
 use Rattle.console_defs.specs.Machine.{MachineState}
 use Rattle.gpl_defs.specs.declared.instruction.Space.{Space}
 use Rattle.gpl_defs.specs.declared.instruction.Space.TheVariants.{Cpu, Vdp}
+use Rattle.interp_defs.specs.Match.{PortsAreIdle}
 use Rattle.step_defs.specs.State.{GplState}
 use Rattle.step_defs.specs.Place.{Place}
 use Rattle.step_defs.specs.Changes.{Changes, unchanged, with_value, with_byte_in, finished, shown}
-use Rattle.step_defs.specs.Step.{word_or_byte}
-use Rattle.sim_view.specs.View.{View, view}
-use Rattle.sim_view.specs.Exits.{Exits, Comes}
+use Rattle.sim_view.specs.View.{View, view, Stands}
+use Rattle.sim_view.specs.Exits.{Exit, Exits, Comes}
 use Rattle.sim_view.proofs.Bridge.{IsView}
-use Rattle.sim_view.proofs.Compose.{comes, comes_then, comes_as, comes_on}
-use Rattle.sim_operands.specs.Pieces.{return_of}
-use Rattle.sim_operands.specs.Values.{width_in, in_register, of_register, number_of_space}
+use Rattle.sim_view.proofs.Compose.{Goes, comes, comes_as, comes_on}
+use Rattle.sim_operands.specs.Pieces.{exit, return_of}
+use Rattle.sim_operands.specs.Values.{width_in, in_register, of_register, number_of_space, IsVisible}
 use Rattle.sim_operands.specs.Subroutines.{grom_at, state_of, place_in, Stored, StoresValue, marked_by}
+use Rattle.sim_operands.proofs.Ready.{idle_video, idle_grom}
 use Rattle.sim_rows.specs.Pieces as pieces
-use Rattle.sim_rows.specs.Rows.{word_of, Holds, To, AtRow}
+use Rattle.sim_rows.specs.Rows.{StoresTo}
 use Rattle.sim_rows.specs.States.{Sees}
-use Rattle.sim_rows.proofs.Beginning.{just, from}
-use Rattle.sim_rows.proofs.Fronting.{width_of_size, place_is}
+use Rattle.sim_rows.specs.Results.{Changed, Storing, SeesFinished, EndsRow, StoresResult}
+use Rattle.sim_rows.proofs.Again.{idle_told, idle_again}
+use Rattle.sim_rows.proofs.Fronting.{place_is, space_small}
 use Rattle.sim_rows.proofs.Ends.{same_state}
-
--- ---- STO
-
--- STORE is asked for the result
-pub record Storing (s : GplState) (kept : Place) (number next : ℕ) (w : View) : Type 0 where
-  pub holds : Holds s next w
-  pub to_kept : To kept w
-  pub value : w.r.r9 ≡ in_register (word_or_byte (word_of s)) number
-  pub link : w.r.r11 ≡ 0x247A
-
--- the value of ST
-pub takes : (s : GplState) (kept : Place) (number next most : ℕ) (x y z q : MachineState) (t u w p : ℕ) → Comes most x y t u 0x24A6 (AtRow s kept number next) →
-    Exits y z u w (pieces.take_source (view y)) → Exits z q w p (pieces.store_result (view z)) → Comes (most + 3) x q t p 0x23C2 (Storing s kept number next)
-takes s kept number next most x y z q t u w p c e1 e2 =
-    let a = c.holds in
-    let h = a.holds in
-    let c1 = comes e1 (just (pieces.take_source (view y)) 1 0x24A8 (omega arith) refl) in
-    let v : View = view y in
-    let c2 = comes_then 1 2 c1 e2 (from pieces.store_result c1.holds (record {
-      within = omega arith;
-      to_is = refl;
-      holds = record {
-        holds = record { sees = record { cells = h.sees.cells; vdp = h.sees.vdp; registers = h.sees.registers; held = h.sees.held; grom = h.sees.grom }; code = h.code; address = h.address; width = h.width; mark = h.mark };
-        to_kept = record { address = a.to_kept.address; space = a.to_kept.space };
-        value = a.value;
-        link = refl;
-      };
-    })) refl in
-    comes_on most 3 c c2 refl
 
 -- ---- the changes that STORE makes
 
-register_back : (w : Width) (number : ℕ) → of_register w (in_register w number) ≡ number
-register_back Byte number = omega arith
-register_back Word number = refl
+pub width_again : (w : Width) → width_in (size_of w) ≡ w
+width_again Byte = refl
+width_again Word = refl
 
-pub moved_to : GplState → ℕ → GplState
-moved_to s next = record s { pc = next }
-
-changes_are : (s : GplState) (kept : Place) (number next : ℕ) (v : View) → Holds s next v → To kept v → v.r.r9 ≡ in_register (word_or_byte (word_of s)) number →
-    with_value (width_in v.r.r3) (place_in v.r.r8 v.r.r7) (of_register (width_in v.r.r3) v.r.r9) (unchanged (state_of v)) ≡ with_value (word_or_byte (word_of s)) kept number (unchanged (record s { pc = next }))
-changes_are s kept number next v h k e =
-    let w : Width = word_or_byte (word_of s) in
-    let width : width_in v.r.r3 ≡ w = ap width_in h.width ∙ width_of_size (word_of s) in
-    let place : place_in v.r.r8 v.r.r7 ≡ kept = ap (λ n. place_in n v.r.r7) k.space ∙ ap (λ n. place_in (number_of_space kept.space) n) k.address ∙ place_is kept in
-    let n : of_register w v.r.r9 ≡ number = ap (of_register w) e ∙ register_back w number in
-    let state : state_of v ≡ record s { pc = next } =
-    same_state v.cells s.cells v.vdp.memory s.vdp v.vdp.registers s.registers (previous_in_grom v.grom.counter) next v.grom.image s.image
-    h.sees.cells h.sees.vdp h.sees.registers (ap (λ (g : GromState). previous_in_grom g.counter) h.sees.grom ∙ previous-next next) (ap (λ (g : GromState). g.image) h.sees.grom) in
-    ap (λ x. with_value x (place_in v.r.r8 v.r.r7) (of_register x v.r.r9) (unchanged (state_of v))) width
-    ∙ ap (λ p. with_value w p (of_register w v.r.r9) (unchanged (state_of v))) place
-    ∙ ap (λ m. with_value w kept m (unchanged (state_of v))) n
-    ∙ ap (λ q. with_value w kept number (unchanged q)) state
-
--- they leave the place in GROM and the image
+-- they keep the image and the place in GROM
 byte_keeps : (space : Space) (address byte : ℕ) (c : Changes) → ((with_byte_in space address byte c).state.image ≡ c.state.image) × ((with_byte_in space address byte c).state.pc ≡ c.state.pc)
 byte_keeps Cpu address byte c = (refl, refl)
 byte_keeps Vdp address byte c = (refl, refl)
 
-value_keeps : (w : Width) (place : Place) (number : ℕ) (c : Changes) → ((with_value w place number c).state.image ≡ c.state.image) × ((with_value w place number c).state.pc ≡ c.state.pc)
+pub value_keeps : (w : Width) (place : Place) (number : ℕ) (c : Changes) → ((with_value w place number c).state.image ≡ c.state.image) × ((with_value w place number c).state.pc ≡ c.state.pc)
 value_keeps Byte place number c = byte_keeps place.space place.address number c
 value_keeps Word place number c =
     let a = byte_keeps place.space place.address (high number) c in
     let b = byte_keeps place.space ((place.address + 1) % 65536) (low number) (with_byte_in place.space place.address (high number) c) in
     (b.0 ∙ a.0, b.1 ∙ a.1)
 
--- ---- SHOW
+-- after other changes the same is stored, and what was marked stays marked
+one_mark : (a s : Bool) → marked_by (a || s) 0 ≡ marked_by (a || false) (marked_by s 0)
+one_mark true s = refl
+one_mark false s = refl
 
--- Everything is stored but the character.
-pub record Showing (c : Changes) (image : List ℕ) (next : ℕ) (w : View) : Type 0 where
-  pub cells : w.cells ≡ c.state.cells
-  pub vdp : w.vdp.memory ≡ c.state.vdp
-  pub registers : w.vdp.registers ≡ c.state.registers
-  pub held : w.vdp.held ≡ None
-  pub grom : w.grom ≡ grom_at image next
-  pub mark : w.r.r13 ≡ marked_by c.shows 0
+two_marks : (a b s : Bool) → marked_by (a || (b || s)) 0 ≡ marked_by (a || (b || false)) (marked_by s 0)
+two_marks true b s = refl
+two_marks false true s = refl
+two_marks false false s = refl
 
-pub stores : (s : GplState) (kept : Place) (number next most : ℕ) (x y z : MachineState) (t u w : ℕ) → Comes most x y t u 0x23C2 (Storing s kept number next) → StoresValue y z u w →
-    Comes (most + 16) x z t w 0x247A (Showing (with_value (word_or_byte (word_of s)) kept number (unchanged (record s { pc = next }))) s.image next)
-stores s kept number next most x y z t u w c d =
-    let v : View = view y in
-    let h = c.holds.holds in
-    let done : Changes = with_value (word_or_byte (word_of s)) kept number (unchanged (record s { pc = next })) in
-    let is = changes_are s kept number next v h c.holds.to_kept c.holds.value in
-    let d1 : Comes 16 y z u w (return_of v) (Stored v done) = subst (λ (k : Changes). Comes 16 y z u w (return_of v) (Stored v k)) is d in
-    let e : return_of v ≡ 0x247A = ap even c.holds.link in
-    let d2 : Comes 16 y z u w 0x247A (Stored v done) = subst (λ (p : ℕ). Comes 16 y z u w p (Stored v done)) e d1 in
-    comes_as (most + 16) _ (comes_on most 16 c d2 refl) (omega arith) (λ q a. record {
-      cells = ap (λ (u : View). u.cells) a.is;
-      vdp = ap (λ (u : View). u.vdp.memory) a.is;
-      registers = ap (λ (u : View). u.vdp.registers) a.is;
-      held = ap (λ (u : View). u.vdp.held) a.is ∙ h.sees.held;
-      grom = ap (λ (u : View). u.grom) a.is ∙ h.sees.grom;
-      mark = ap (λ (u : View). u.r.r13) a.is ∙ ap (λ n. marked_by done.shows n) h.mark;
+abbrev Splits : Changes → Changes → Changes → Type 0
+Splits c alone both = (both.state ≡ alone.state) × (marked_by both.shows 0 ≡ marked_by alone.shows (marked_by c.shows 0))
+
+byte_splits : (space : Space) (address byte : ℕ) (c : Changes) → Splits c (with_byte_in space address byte (unchanged c.state)) (with_byte_in space address byte c)
+byte_splits Cpu address byte c = (refl, one_mark (address == 0x7D) c.shows)
+byte_splits Vdp address byte c = (refl, refl)
+
+word_splits : (space : Space) (first second more less : ℕ) (c : Changes) →
+    Splits c (with_byte_in space second less (with_byte_in space first more (unchanged c.state))) (with_byte_in space second less (with_byte_in space first more c))
+word_splits Cpu first second more less c = (refl, two_marks (second == 0x7D) (first == 0x7D) c.shows)
+word_splits Vdp first second more less c = (refl, refl)
+
+value_splits : (w : Width) (place : Place) (number : ℕ) (c : Changes) → Splits c (with_value w place number (unchanged c.state)) (with_value w place number c)
+value_splits Byte place number c = byte_splits place.space place.address number c
+value_splits Word place number c = word_splits place.space place.address ((place.address + 1) % 65536) (high number) (low number) c
+
+-- the state that a view shows with the changes
+pub state_is : (c : Changes) (v : View) → Changed c v → state_of v ≡ c.state
+state_is c v h =
+    same_state v.cells c.state.cells v.vdp.memory c.state.vdp v.vdp.registers c.state.registers (previous_in_grom v.grom.counter) c.state.pc v.grom.image c.state.image
+    h.cells h.vdp h.registers (ap (λ (g : GromState). previous_in_grom g.counter) h.grom ∙ previous-next c.state.pc) (ap (λ (g : GromState). g.image) h.grom)
+
+changes_are : (c : Changes) (width : Width) (place : Place) (number : ℕ) (v : View) → Storing c width place number v →
+    with_value (width_in v.r.r3) (place_in v.r.r8 v.r.r7) (of_register (width_in v.r.r3) v.r.r9) (unchanged (state_of v)) ≡ with_value width place number (unchanged c.state)
+changes_are c width place number v h =
+    let w : width_in v.r.r3 ≡ width = ap width_in h.bytes_are ∙ width_again width in
+    let p : place_in v.r.r8 v.r.r7 ≡ place = ap (λ n. place_in n v.r.r7) h.to_place.space ∙ ap (λ n. place_in (number_of_space place.space) n) h.to_place.address ∙ place_is place in
+    ap (λ x. with_value x (place_in v.r.r8 v.r.r7) (of_register x v.r.r9) (unchanged (state_of v))) w
+    ∙ ap (λ q. with_value width q (of_register width v.r.r9) (unchanged (state_of v))) p
+    ∙ ap (λ m. with_value width place m (unchanged (state_of v))) h.value
+    ∙ ap (λ s. with_value width place number (unchanged s)) (state_is c v h.changed)
+
+-- the registers that STORE keeps
+pub record Keeps (v w : View) : Type 0 where
+  pub r0 : w.r.r0 ≡ v.r.r0
+  pub r1 : w.r.r1 ≡ v.r.r1
+  pub r2 : w.r.r2 ≡ v.r.r2
+  pub r3 : w.r.r3 ≡ v.r.r3
+  pub r5 : w.r.r5 ≡ v.r.r5
+  pub r6 : w.r.r6 ≡ v.r.r6
+  pub r7 : w.r.r7 ≡ v.r.r7
+  pub r8 : w.r.r8 ≡ v.r.r8
+  pub r10 : w.r.r10 ≡ v.r.r10
+  pub r12 : w.r.r12 ≡ v.r.r12
+
+pub record ChangedFrom (c : Changes) (v w : View) : Type 0 where
+  pub changed : Changed c w
+  pub keeps : Keeps v w
+
+-- A number is stored after some changes.
+pub store_then : (c : Changes) (width : Width) (place : Place) (number : ℕ) (x y : MachineState) (t u : ℕ) → Storing c width place number (view x) → StoresValue x y t u →
+    Comes 16 x y t u (return_of (view x)) (ChangedFrom (with_value width place number c) (view x))
+store_then c width place number x y t u h l =
+    let v : View = view x in
+    let alone : Changes = with_value width place number (unchanged c.state) in
+    let both : Changes = with_value width place number c in
+    let l1 : Comes 16 x y t u (return_of v) (Stored v alone) = subst (λ (k : Changes). Comes 16 x y t u (return_of v) (Stored v k)) (changes_are c width place number v h) l in
+    let splits = value_splits width place number c in
+    let keeps = value_keeps width place number c in
+    comes_as 16 (ChangedFrom both v) l1 (omega arith) (λ w a. record {
+      changed = record {
+        cells = ap (λ (u : View). u.cells) a.is ∙ ap (λ (s : GplState). s.cells) (sym splits.0);
+        vdp = ap (λ (u : View). u.vdp.memory) a.is ∙ ap (λ (s : GplState). s.vdp) (sym splits.0);
+        registers = ap (λ (u : View). u.vdp.registers) a.is ∙ ap (λ (s : GplState). s.registers) (sym splits.0);
+        held = ap (λ (u : View). u.vdp.held) a.is ∙ h.changed.held;
+        grom = ap (λ (u : View). u.grom) a.is ∙ h.changed.grom ∙ ap (λ (l : List ℕ). grom_at l c.state.pc) (sym keeps.0) ∙ ap (λ (n : ℕ). grom_at both.state.image n) (sym keeps.1);
+        mark = ap (λ (u : View). u.r.r13) a.is ∙ ap (λ n. marked_by alone.shows n) h.changed.mark ∙ sym splits.1;
+      };
+      keeps = record {
+        r0 = ap (λ (u : View). u.r.r0) a.is;
+        r1 = ap (λ (u : View). u.r.r1) a.is;
+        r2 = ap (λ (u : View). u.r.r2) a.is;
+        r3 = ap (λ (u : View). u.r.r3) a.is;
+        r5 = ap (λ (u : View). u.r.r5) a.is;
+        r6 = ap (λ (u : View). u.r.r6) a.is;
+        r7 = ap (λ (u : View). u.r.r7) a.is;
+        r8 = ap (λ (u : View). u.r.r8) a.is;
+        r10 = ap (λ (u : View). u.r.r10) a.is;
+        r12 = ap (λ (u : View). u.r.r12) a.is;
+      };
     })
 
--- without a character the step has ended
-pub shows_none : (c : Changes) (image : List ℕ) (next most : ℕ) (x y z : MachineState) (t u w : ℕ) → c.shows ≡ false → Comes most x y t u 0x247A (Showing c image next) → Exits y z u w (pieces.show (view y)) →
-    Comes (most + 3) x z t w 0x228C (Showing c image next)
-shows_none c image next most x y z t u w none d e =
-    let a = d.holds in
-    let mark : ((view y).r.r13 == 0) ≡ true = ap (λ n. n == 0) (a.mark ∙ ap (λ b. marked_by b 0) none) in
-    comes_then most 3 d e (rw (mark, pieces.show) (record { within = omega arith; to_is = refl; holds = record { cells = a.cells; vdp = a.vdp; registers = a.registers; held = a.held; grom = a.grom; mark = a.mark } })) refl
+-- STORE leaves the ports idle.
+pub stored_idle : (x y : MachineState) (t u : ℕ) → PortsAreIdle x.cpu.memory → StoresValue x y t u → PortsAreIdle y.cpu.memory
+stored_idle x y t u i l =
+    let is = l.holds.is in
+    idle_told y.cpu.memory (ap (λ (w : View). w.vdp.held) is ∙ idle_video x.cpu.memory i) (ap (λ (w : View). w.grom.half_written) is ∙ idle_grom x.cpu.memory i)
 
--- with one STORE is asked for it
-pub record Drawing (c : Changes) (image : List ℕ) (next : ℕ) (w : View) : Type 0 where
-  pub cells : w.cells ≡ c.state.cells
-  pub vdp : w.vdp.memory ≡ c.state.vdp
-  pub registers : w.vdp.registers ≡ c.state.registers
-  pub held : w.vdp.held ≡ None
-  pub grom : w.grom ≡ grom_at image next
-  pub width : w.r.r3 ≡ 1
-  pub space : w.r.r8 ≡ 1
-  pub address : w.r.r7 ≡ 32 * slice_index c.state.cells 0x7E + slice_index c.state.cells 0x7F
-  pub byte : high w.r.r9 ≡ slice_index c.state.cells 0x7D
-  pub link : w.r.r11 ≡ 0x228C
+-- ---- views with the same changes
+
+pub changed_again : (c : Changes) (v w : View) → Changed c v → w.cells ≡ v.cells → w.vdp ≡ v.vdp → w.grom ≡ v.grom → w.r.r13 ≡ v.r.r13 → Changed c w
+changed_again c v w h a d g m = record {
+  cells = a ∙ h.cells;
+  vdp = ap (λ p. p.memory) d ∙ h.vdp;
+  registers = ap (λ p. p.registers) d ∙ h.registers;
+  held = ap (λ p. p.held) d ∙ h.held;
+  grom = g ∙ h.grom;
+  mark = m ∙ h.mark;
+}
+
+pub storing_again : (c : Changes) (width : Width) (place : Place) (number : ℕ) (v w : View) → Storing c width place number v → w.cells ≡ v.cells → w.vdp ≡ v.vdp → w.grom ≡ v.grom →
+    w.r.r13 ≡ v.r.r13 → w.r.r3 ≡ v.r.r3 → w.r.r7 ≡ v.r.r7 → w.r.r8 ≡ v.r.r8 → w.r.r9 ≡ v.r.r9 → Storing c width place number w
+storing_again c width place number v w h a d g m r3 r7 r8 r9 = record {
+  changed = changed_again c v w h.changed a d g m;
+  bytes_are = r3 ∙ h.bytes_are;
+  to_place = record { address = r7 ∙ h.to_place.address; space = r8 ∙ h.to_place.space };
+  value = ap (of_register width) r9 ∙ h.value;
+}
+
+-- ---- SHOW
+
+mark_none : (shows : Bool) (mark : ℕ) → mark ≡ marked_by shows 0 → mark ≡ 0 → shows ≡ false
+mark_none false mark e f = refl
+mark_none true mark e f = absurd (omega arith)
+
+mark_one : (shows : Bool) (mark : ℕ) → mark ≡ marked_by shows 0 → (mark ≡ 0 → ⊥) → shows ≡ true
+mark_one true mark e f = refl
+mark_one false mark e f = absurd (f e)
+
+not_zero : (n : ℕ) → (n ≡ 0 → ⊥) → (n == 0) ≡ false
+not_zero n f = ne_eqb n 0 f
+
+-- STORE is asked for the character
+abbrev drawn : View → View
+drawn v = record v {
+  r = record v.r {
+    r3 = 1;
+    r4 = shifted SRL (join (slice_index v.cells 0x7F) (low v.r.r4)) 8;
+    r7 = sum_of Word (shifted SLA (shifted SRL (join (slice_index v.cells 0x7E) (low v.r.r7)) 8) 5) (shifted SRL (join (slice_index v.cells 0x7F) (low v.r.r4)) 8);
+    r8 = 1;
+    r9 = join (slice_index v.cells 0x7D) (low v.r.r9);
+    r11 = 0x228C;
+  };
+}
+
+ends_by : (v : View) → v.r.r13 ≡ 0 → pieces.show v ≡ exit 3 0x228C v
+ends_by v e = let c : (v.r.r13 == 0) ≡ true = ap (λ n. n == 0) e in rw (c, pieces.show) refl
+
+draws_by : (v : View) → (v.r.r13 ≡ 0 → ⊥) → pieces.show v ≡ exit 13 0x23C2 (drawn v)
+draws_by v n = let c : (v.r.r13 == 0) ≡ false = not_zero v.r.r13 n in rw (c, pieces.show) refl
+
+exits_by : {x y : MachineState} {t u : ℕ} (d e : Exit) → d ≡ e → Exits x y t u d → Exits x y t u e
+exits_by {x = x} {y = y} {t = t} {u = u} d e is h = subst (λ (k : Exit). Exits x y t u k) is h
+
+-- without a character the row has ended
+pub ends_plain : (x y : MachineState) (t u : ℕ) → (view x).r.r13 ≡ 0 → Exits x y t u (pieces.show (view x)) → EndsRow x y t u
+ends_plain x y t u none_marked e c h =
+    let v : View = view x in
+    let none = mark_none c.shows v.r.r13 h.mark none_marked in
+    let same : finished c ≡ c.state = ap (λ b. shown b c.state) none in
+    let e2 = exits_by (pieces.show v) (exit 3 0x228C v) (ends_by v none_marked) e in
+    let run : Comes 3 x y t u 0x228C (Sees c.state c.state.pc) = comes e2 (record {
+      within = omega arith;
+      to_is = refl;
+      holds = record { cells = h.cells; vdp = h.vdp; registers = h.registers; held = h.held; grom = h.grom };
+    }) in
+    subst (λ (g : GplState). Comes 29 x y t u 0x228C (Sees g g.pc)) (sym same) (comes_as 29 (Sees c.state c.state.pc) run (omega arith) (λ w a. a))
+
+pub drawing : (x y : MachineState) (t u : ℕ) → ((view x).r.r13 ≡ 0 → ⊥) → Exits x y t u (pieces.show (view x)) → Stands y 0x23C2 × (view y ≡ drawn (view x))
+drawing x y t u some e = let e2 = exits_by (pieces.show (view x)) (exit 13 0x23C2 (drawn (view x))) (draws_by (view x) some) e in (e2.stands, e2.shows)
 
 screen_at : (row column r7 r4 : ℕ) → row < 256 → column < 256 → r7 < 65536 → r4 < 65536 →
     sum_of Word (shifted SLA (shifted SRL (join row (low r7)) 8) 5) (shifted SRL (join column (low r4)) 8) ≡ 32 * row + column
@@ -151,76 +227,59 @@ screen_at row column r7 r4 h k a b = omega arith
 high_of : (byte word : ℕ) → high (join byte (low word)) ≡ byte
 high_of byte word = omega arith
 
-pub shows_one : (c : Changes) (image : List ℕ) (next most : ℕ) (x y z : MachineState) (t u w : ℕ) → c.shows ≡ true → IsView (view y) → Comes most x y t u 0x247A (Showing c image next) → Exits y z u w (pieces.show (view y)) →
-    Comes (most + 13) x z t w 0x23C2 (Drawing c image next)
-shows_one c image next most x y z t u w one i d e =
-    let a = d.holds in
-    let v : View = view y in
-    let mark : (v.r.r13 == 0) ≡ false = ap (λ n. n == 0) (a.mark ∙ ap (λ b. marked_by b 0) one) in
-    let cell : (k : ℕ) → slice_index v.cells k ≡ slice_index c.state.cells k = λ k. ap (λ (l : List ℕ). slice_index l k) a.cells in
-    comes_then most 13 d e (rw (mark, pieces.show) (record {
-      within = omega arith;
-      to_is = refl;
-      holds = record {
-        cells = a.cells;
-        vdp = a.vdp;
-        registers = a.registers;
-        held = a.held;
-        grom = a.grom;
-        width = refl;
-        space = refl;
-        address = screen_at (slice_index v.cells 0x7E) (slice_index v.cells 0x7F) v.r.r7 v.r.r4 (i.cells 0x7E) (i.cells 0x7F) (i.r 7) (i.r 4) ∙ ap (λ n. 32 * n + slice_index v.cells 0x7F) (cell 0x7E) ∙ ap (λ n. 32 * slice_index c.state.cells 0x7E + n) (cell 0x7F);
-        byte = high_of (slice_index v.cells 0x7D) v.r.r9 ∙ cell 0x7D;
-        link = refl;
-      };
-    })) refl
-
--- ---- the end of the step
-
--- the character goes to the screen
-draws_are : (v : View) → v.r.r3 ≡ 1 → v.r.r8 ≡ 1 → with_value (width_in v.r.r3) (place_in v.r.r8 v.r.r7) (of_register (width_in v.r.r3) v.r.r9) (unchanged (state_of v)) ≡ with_byte_in Vdp v.r.r7 (high v.r.r9) (unchanged (state_of v))
-draws_are v a b = ap (λ n. with_value (width_in n) (place_in v.r.r8 v.r.r7) (of_register (width_in n) v.r.r9) (unchanged (state_of v))) a ∙ ap (λ n. with_value Byte (place_in n v.r.r7) (high v.r.r9) (unchanged (state_of v))) b
-
 in_video : (address : ℕ) → address < 16384 → address % 16384 ≡ address
 in_video address h = omega arith
 
-pub draws : (c : Changes) (most : ℕ) (x y z : MachineState) (t u w : ℕ) → c.shows ≡ true → IsView (view y) → ((k : ℕ) → slice_index c.state.cells k < 256) →
-    Comes most x y t u 0x23C2 (Drawing c c.state.image c.state.pc) → StoresValue y z u w → Comes (most + 16) x z t w 0x228C (Sees (finished c) (finished c).pc)
-draws c most x y z t u w one i bytes d e =
-    let v : View = view y in
-    let a = d.holds in
-    let done : Changes = with_byte_in Vdp v.r.r7 (high v.r.r9) (unchanged (state_of v)) in
-    let d1 : Comes 16 y z u w (return_of v) (Stored v done) = subst (λ (k : Changes). Comes 16 y z u w (return_of v) (Stored v k)) (draws_are v a.width a.space) e in
-    let to : return_of v ≡ 0x228C = ap even a.link in
-    let d2 : Comes 16 y z u w 0x228C (Stored v done) = subst (λ (p : ℕ). Comes 16 y z u w p (Stored v done)) to d1 in
+-- the character goes to the screen
+pub ends_drawn : (x y z : MachineState) (t u w : ℕ) → IsView (view x) → ((view x).r.r13 ≡ 0 → ⊥) → Exits x y t u (pieces.show (view x)) → ((view y).r.r8 < 2 → StoresValue y z u w) → EndsRow x z t w
+ends_drawn x y z t u w i some e store c h =
+    let v : View = view x in
+    let one = mark_one c.shows v.r.r13 h.mark some in
+    let e2 = exits_by (pieces.show v) (exit 13 0x23C2 (drawn v)) (draws_by v some) e in
     let at : ℕ = 32 * slice_index c.state.cells 0x7E + slice_index c.state.cells 0x7F in
-    let small : at < 16384 = let p = bytes 0x7E in let q = bytes 0x7F in omega arith in
-    let memory : slice_set v.vdp.memory (v.r.r7 % 16384) (high v.r.r9) ≡ slice_set c.state.vdp at (slice_index c.state.cells 0x7D) =
-    ap (λ n. slice_set v.vdp.memory (n % 16384) (high v.r.r9)) a.address
-    ∙ ap (λ n. slice_set v.vdp.memory n (high v.r.r9)) (in_video at small)
-    ∙ ap (λ n. slice_set v.vdp.memory at n) a.byte
-    ∙ ap (λ (l : List ℕ). slice_set l at (slice_index c.state.cells 0x7D)) a.vdp in
+    let cell : (k : ℕ) → slice_index v.cells k ≡ slice_index c.state.cells k = λ k. ap (λ (l : List ℕ). slice_index l k) h.cells in
+    let p : slice_index c.state.cells 0x7E < 256 = subst (λ n. n < 256) (cell 0x7E) (i.cells 0x7E) in
+    let q : slice_index c.state.cells 0x7F < 256 = subst (λ n. n < 256) (cell 0x7F) (i.cells 0x7F) in
+    let small : at < 16384 = omega arith in
+    let address : (drawn v).r.r7 ≡ at =
+    screen_at (slice_index v.cells 0x7E) (slice_index v.cells 0x7F) v.r.r7 v.r.r4 (i.cells 0x7E) (i.cells 0x7F) (i.r 7) (i.r 4)
+    ∙ ap (λ n. 32 * n + slice_index v.cells 0x7F) (cell 0x7E)
+    ∙ ap (λ n. 32 * slice_index c.state.cells 0x7E + n) (cell 0x7F) in
+    let byte : high (drawn v).r.r9 ≡ slice_index c.state.cells 0x7D = high_of (slice_index v.cells 0x7D) v.r.r9 ∙ cell 0x7D in
+    let c1 : Comes 13 x y t u 0x23C2 (λ q. q ≡ drawn v) = comes e2 (record { within = omega arith; to_is = refl; holds = refl }) in
+    let r8 : (view y).r.r8 ≡ 1 = ap (λ (q : View). q.r.r8) c1.holds in
+    let s1 = store (omega arith) in
+    let s2 : Comes 16 y z u w 0x228C (Stored (drawn v) (with_byte_in Vdp (drawn v).r.r7 (high (drawn v).r.r9) (unchanged (state_of (drawn v))))) =
+    subst (λ (q : View). Comes 16 y z u w (return_of q) (Stored q (with_value (width_in q.r.r3) (place_in q.r.r8 q.r.r7) (of_register (width_in q.r.r3) q.r.r9) (unchanged (state_of q))))) c1.holds s1 in
+    let memory : slice_set v.vdp.memory ((drawn v).r.r7 % 16384) (high (drawn v).r.r9) ≡ slice_set c.state.vdp at (slice_index c.state.cells 0x7D) =
+    ap (λ n. slice_set v.vdp.memory (n % 16384) (high (drawn v).r.r9)) address
+    ∙ ap (λ n. slice_set v.vdp.memory n (high (drawn v).r.r9)) (in_video at small)
+    ∙ ap (λ n. slice_set v.vdp.memory at n) byte
+    ∙ ap (λ (l : List ℕ). slice_set l at (slice_index c.state.cells 0x7D)) h.vdp in
     let final : GplState = shown true c.state in
     let same : finished c ≡ final = ap (λ b. shown b c.state) one in
-    subst (λ (g : GplState). Comes (most + 16) x z t w 0x228C (Sees g g.pc)) (sym same)
-    (comes_as (most + 16) (Sees final final.pc) (comes_on most 16 d d2 refl) (omega arith) (λ q b. record {
-      cells = ap (λ (u : View). u.cells) b.is ∙ a.cells;
+    subst (λ (g : GplState). Comes 29 x z t w 0x228C (Sees g g.pc)) (sym same)
+    (comes_as 29 (Sees final final.pc) (comes_on 13 16 c1 s2 refl) (omega arith) (λ q b. record {
+      cells = ap (λ (u : View). u.cells) b.is ∙ h.cells;
       vdp = ap (λ (u : View). u.vdp.memory) b.is ∙ memory;
-      registers = ap (λ (u : View). u.vdp.registers) b.is ∙ a.registers;
-      held = ap (λ (u : View). u.vdp.held) b.is ∙ a.held;
-      grom = ap (λ (u : View). u.grom) b.is ∙ a.grom;
+      registers = ap (λ (u : View). u.vdp.registers) b.is ∙ h.registers;
+      held = ap (λ (u : View). u.vdp.held) b.is ∙ h.held;
+      grom = ap (λ (u : View). u.grom) b.is ∙ h.grom;
     }))
 
-pub ends_here : (c : Changes) (most : ℕ) (x z : MachineState) (t w : ℕ) → c.shows ≡ false → Comes most x z t w 0x228C (Showing c c.state.image c.state.pc) → Comes most x z t w 0x228C (Sees (finished c) (finished c).pc)
-ends_here c most x z t w none d =
-    let same : finished c ≡ c.state = ap (λ b. shown b c.state) none in
-    subst (λ (g : GplState). Comes most x z t w 0x228C (Sees g g.pc)) (sym same)
-    (comes_as most (Sees c.state c.state.pc) d (omega arith) (λ q b. record { cells = b.cells; vdp = b.vdp; registers = b.registers; held = b.held; grom = b.grom }))
+-- ---- STO
 
--- The changes of ST keep the image and the place where GROM goes on.
-pub at_done : (s : GplState) (kept : Place) (number next most : ℕ) (x z : MachineState) (t w to : ℕ) →
-    (let c = with_value (word_or_byte (word_of s)) kept number (unchanged (record s { pc = next })) in Comes most x z t w to (Showing c s.image next) → Comes most x z t w to (Showing c c.state.image c.state.pc))
-at_done s kept number next most x z t w to d =
-    let c : Changes = with_value (word_or_byte (word_of s)) kept number (unchanged (record s { pc = next })) in
-    let k = value_keeps (word_or_byte (word_of s)) kept number (unchanged (record s { pc = next })) in
-    subst (λ (l : List ℕ). Comes most x z t w to (Showing c l c.state.pc)) (sym k.0) (subst (λ (n : ℕ). Comes most x z t w to (Showing c s.image n)) (sym k.1) d)
+pub asks_store : (x y : MachineState) (t u : ℕ) → Exits x y t u (pieces.store_result (view x)) → (view y ≡ (pieces.store_result (view x)).left)
+asks_store x y t u e = e.shows
+
+pub finishes : (x a b y : MachineState) (t t1 t2 t3 : ℕ) → Exits x a t t1 (pieces.store_result (view x)) → StoresValue a b t1 t2 → EndsRow b y t2 t3 → StoresResult x y t t3
+finishes x a b y t t1 t2 t3 e l r c width place number h =
+    let v : View = view x in
+    let u : View = (pieces.store_result v).left in
+    let c1 : Comes 2 x a t t1 0x23C2 (λ w. w ≡ u) = comes e (record { within = omega arith; to_is = refl; holds = refl }) in
+    let there : Storing c width place number (view a) = subst (λ (w : View). Storing c width place number w) (sym c1.holds) (storing_again c width place number v u h refl refl refl refl refl refl refl refl) in
+    let s1 = store_then c width place number a b t1 t2 there l in
+    let to : return_of (view a) ≡ 0x247A = ap (λ (w : View). even w.r.r11) c1.holds in
+    let s2 : Comes 16 a b t1 t2 0x247A (ChangedFrom (with_value width place number c) (view a)) = subst (λ (p : ℕ). Comes 16 a b t1 t2 p (ChangedFrom (with_value width place number c) (view a))) to s1 in
+    let c2 = comes_on 2 16 c1 s2 refl in
+    comes_on 18 29 c2 (r (with_value width place number c) c2.holds.changed) refl

@@ -173,10 +173,10 @@ abbrev pub LoadsPlaced : MachineState → MachineState → ℕ → ℕ → Type 
 LoadsPlaced x y before after =
     (s : GplState) → (place source : Place) → (next : ℕ) → is_row (operation_in s) ≡ true → Found s place source next (view x)
     → Comes 22 x y before after (row_entry (operation_in s))
-      (Sourced s place (record { number = value_at s (row_width s) source; place = Some source }) next)
+    (Sourced s place (record { number = value_at s (row_width s) source; place = Some source }) next)
 
 abbrev pub LoadsImmediate : MachineState → MachineState → ℕ → ℕ → Type 0
 LoadsImmediate x y before after =
     (s : GplState) → (place : Place) → (next : ℕ) → is_row (operation_in s) ≡ true → Immediate s place next (view x)
     → let read = value_in (word_of s) s.image next in
-      Comes 16 x y before after (row_entry (operation_in s)) (Sourced s place (record { number = read.0; place = None }) read.1)
+    Comes 16 x y before after (row_entry (operation_in s)) (Sourced s place (record { number = read.0; place = None }) read.1)

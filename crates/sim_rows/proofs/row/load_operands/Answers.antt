@@ -1,8 +1,9 @@
-use Rattle.std.proofs.Common.{◌≡◌, subst, arith}
+use Rattle.std.proofs.Common.{◌≡◌, ◌≤◌, ◌<◌, subst, sym, arith}
+use Rattle.console_defs.specs.Flags.{size_of}
 use Rattle.sim_view.specs.View.{view}
 use Rattle.sim_view.proofs.Bridge.{is_view}
 use Rattle.sim_rows.specs.States.{state_at_dispatch}
-use Rattle.sim_rows.specs.Rows.{behind_first, first_of, LoadsDestination}
+use Rattle.sim_rows.specs.Rows.{row_width, word_of, behind_first, first_of, LoadsDestination}
 use Rattle.sim_rows.proofs.Ends.{idle_of, fetched_of}
 use Rattle.sim_rows.proofs.Loading
 use Rattle.sim_rows.proofs.row.load_operands.Goals as goal
@@ -13,8 +14,8 @@ returns-then-not-load_destination g c =
     let t = c.args.steps.now in
     let s = state_at_dispatch (view x) in
     let fits = (is_view x c.requires.stands.machine).grom.image.fits s.pc in
-    let alu = c.requires.family in
-    Loading.none s x t fits alu c.load_destination.new.machine c.load_destination.new.steps (subst (λ b. LoadsDestination s x c.load_destination.new.machine t c.load_destination.new.steps b (first_of s)) c.if-not-load_destination.true c.load_destination.ensures)
+    let row = c.requires.row in
+    Loading.none s x t fits row c.load_destination.new.machine c.load_destination.new.steps (subst (λ b. LoadsDestination s x c.load_destination.new.machine t c.load_destination.new.steps b (first_of s)) c.if-not-load_destination.true c.load_destination.ensures)
 
 pub second_operand-requires : goal.second_operand-requires
 second_operand-requires g c =
@@ -22,35 +23,9 @@ second_operand-requires g c =
     let t = c.args.steps.now in
     let s = state_at_dispatch (view x) in
     let fits = (is_view x c.requires.stands.machine).grom.image.fits s.pc in
-    let alu = c.requires.family in
-    let k = Loading.kept s x t fits alu c.load_destination.new.machine c.load_destination.new.steps (subst (λ b. LoadsDestination s x c.load_destination.new.machine t c.load_destination.new.steps b (first_of s)) c.if-not-load_destination.false c.load_destination.ensures) in
+    let row = c.requires.row in
+    let k = Loading.begun s x t fits row c.load_destination.new.machine c.load_destination.new.steps (subst (λ b. LoadsDestination s x c.load_destination.new.machine t c.load_destination.new.steps b (first_of s)) c.if-not-load_destination.false c.load_destination.ensures) in
     k.comes.stands
-
-pub run_load-requires-clause-idle : goal.run_load-requires-clause-idle
-run_load-requires-clause-idle g c =
-    let x = c.args.machine.now in
-    let t = c.args.steps.now in
-    let s = state_at_dispatch (view x) in
-    let fits = (is_view x c.requires.stands.machine).grom.image.fits s.pc in
-    let alu = c.requires.family in
-    let k = Loading.kept s x t fits alu c.load_destination.new.machine c.load_destination.new.steps (subst (λ b. LoadsDestination s x c.load_destination.new.machine t c.load_destination.new.steps b (first_of s)) c.if-not-load_destination.false c.load_destination.ensures) in
-    let here : c.second_operand.new.machine.cpu.pc ≡ 0x245C = let a = c.pc.ensures.value in let b = c.if-pc-eq-OPVAL.true in omega arith in
-    let i = Loading.immediate s x t fits alu c.load_destination.new.machine c.second_operand.new.machine c.load_destination.new.steps c.second_operand.new.steps k c.second_operand.ensures here in
-    let l = Loading.streaming s x t fits alu k.place c.second_operand.new.machine c.load_second.new.machine c.second_operand.new.steps c.load_second.new.steps i c.load_second.ensures in
-    idle_of c.load_second.new.machine.cpu.memory s (behind_first s) l.holds.second.holds.sees
-
-pub run_load-requires-clause-visible : goal.run_load-requires-clause-visible
-run_load-requires-clause-visible g c =
-    let x = c.args.machine.now in
-    let t = c.args.steps.now in
-    let s = state_at_dispatch (view x) in
-    let fits = (is_view x c.requires.stands.machine).grom.image.fits s.pc in
-    let alu = c.requires.family in
-    let k = Loading.kept s x t fits alu c.load_destination.new.machine c.load_destination.new.steps (subst (λ b. LoadsDestination s x c.load_destination.new.machine t c.load_destination.new.steps b (first_of s)) c.if-not-load_destination.false c.load_destination.ensures) in
-    let here : c.second_operand.new.machine.cpu.pc ≡ 0x245C = let a = c.pc.ensures.value in let b = c.if-pc-eq-OPVAL.true in omega arith in
-    let i = Loading.immediate s x t fits alu c.load_destination.new.machine c.second_operand.new.machine c.load_destination.new.steps c.second_operand.new.steps k c.second_operand.ensures here in
-    let l = Loading.streaming s x t fits alu k.place c.second_operand.new.machine c.load_second.new.machine c.second_operand.new.steps c.load_second.new.steps i c.load_second.ensures in
-    λ z. let two = l.holds.space in absurd (omega arith)
 
 pub go_to_row-requires-clause-stands : goal.go_to_row-requires-clause-stands
 go_to_row-requires-clause-stands g c =
@@ -58,13 +33,12 @@ go_to_row-requires-clause-stands g c =
     let t = c.args.steps.now in
     let s = state_at_dispatch (view x) in
     let fits = (is_view x c.requires.stands.machine).grom.image.fits s.pc in
-    let alu = c.requires.family in
-    let k = Loading.kept s x t fits alu c.load_destination.new.machine c.load_destination.new.steps (subst (λ b. LoadsDestination s x c.load_destination.new.machine t c.load_destination.new.steps b (first_of s)) c.if-not-load_destination.false c.load_destination.ensures) in
-    let here : c.second_operand.new.machine.cpu.pc ≡ 0x245C = let a = c.pc.ensures.value in let b = c.if-pc-eq-OPVAL.true in omega arith in
-    let i = Loading.immediate s x t fits alu c.load_destination.new.machine c.second_operand.new.machine c.load_destination.new.steps c.second_operand.new.steps k c.second_operand.ensures here in
-    let l = Loading.streaming s x t fits alu k.place c.second_operand.new.machine c.load_second.new.machine c.second_operand.new.steps c.load_second.new.steps i c.load_second.ensures in
-    let r = Loading.streamed s x t fits alu k.place c.load_second.new.machine c.run_load.new.machine c.load_second.new.steps c.run_load.new.steps l c.run_load.ensures.stream in
-    r.stands
+    let row = c.requires.row in
+    let k = Loading.begun s x t fits row c.load_destination.new.machine c.load_destination.new.steps (subst (λ b. LoadsDestination s x c.load_destination.new.machine t c.load_destination.new.steps b (first_of s)) c.if-not-load_destination.false c.load_destination.ensures) in
+    let w = Loading.ways s x t fits row c.load_destination.new.machine c.second_operand.new.machine c.load_destination.new.steps c.second_operand.new.steps k c.second_operand.ensures in
+    let here : c.second_operand.new.machine.cpu.pc ≡ 0x2472 = let a = c.pc.ensures.value in let b = c.if-pc-eq-GO.true in omega arith in
+    let way = Loading.by_unit s x t fits row k.place c.second_operand.new.machine c.second_operand.new.steps here w in
+    way.comes.stands
 
 pub go_to_row-requires-clause-low : goal.go_to_row-requires-clause-low
 go_to_row-requires-clause-low g c =
@@ -72,13 +46,12 @@ go_to_row-requires-clause-low g c =
     let t = c.args.steps.now in
     let s = state_at_dispatch (view x) in
     let fits = (is_view x c.requires.stands.machine).grom.image.fits s.pc in
-    let alu = c.requires.family in
-    let k = Loading.kept s x t fits alu c.load_destination.new.machine c.load_destination.new.steps (subst (λ b. LoadsDestination s x c.load_destination.new.machine t c.load_destination.new.steps b (first_of s)) c.if-not-load_destination.false c.load_destination.ensures) in
-    let here : c.second_operand.new.machine.cpu.pc ≡ 0x245C = let a = c.pc.ensures.value in let b = c.if-pc-eq-OPVAL.true in omega arith in
-    let i = Loading.immediate s x t fits alu c.load_destination.new.machine c.second_operand.new.machine c.load_destination.new.steps c.second_operand.new.steps k c.second_operand.ensures here in
-    let l = Loading.streaming s x t fits alu k.place c.second_operand.new.machine c.load_second.new.machine c.second_operand.new.steps c.load_second.new.steps i c.load_second.ensures in
-    let r = Loading.streamed s x t fits alu k.place c.load_second.new.machine c.run_load.new.machine c.load_second.new.steps c.run_load.new.steps l c.run_load.ensures.stream in
-    let code = r.holds.holds.code in let low = Loading.low s x t fits alu in omega arith
+    let row = c.requires.row in
+    let k = Loading.begun s x t fits row c.load_destination.new.machine c.load_destination.new.steps (subst (λ b. LoadsDestination s x c.load_destination.new.machine t c.load_destination.new.steps b (first_of s)) c.if-not-load_destination.false c.load_destination.ensures) in
+    let w = Loading.ways s x t fits row c.load_destination.new.machine c.second_operand.new.machine c.load_destination.new.steps c.second_operand.new.steps k c.second_operand.ensures in
+    let here : c.second_operand.new.machine.cpu.pc ≡ 0x2472 = let a = c.pc.ensures.value in let b = c.if-pc-eq-GO.true in omega arith in
+    let way = Loading.by_unit s x t fits row k.place c.second_operand.new.machine c.second_operand.new.steps here w in
+    let code = way.comes.holds.holds.code in let low = Loading.low s x t fits row in omega arith
 
 pub go_to_row-requires-clause-high : goal.go_to_row-requires-clause-high
 go_to_row-requires-clause-high g c =
@@ -86,13 +59,103 @@ go_to_row-requires-clause-high g c =
     let t = c.args.steps.now in
     let s = state_at_dispatch (view x) in
     let fits = (is_view x c.requires.stands.machine).grom.image.fits s.pc in
-    let alu = c.requires.family in
-    let k = Loading.kept s x t fits alu c.load_destination.new.machine c.load_destination.new.steps (subst (λ b. LoadsDestination s x c.load_destination.new.machine t c.load_destination.new.steps b (first_of s)) c.if-not-load_destination.false c.load_destination.ensures) in
-    let here : c.second_operand.new.machine.cpu.pc ≡ 0x245C = let a = c.pc.ensures.value in let b = c.if-pc-eq-OPVAL.true in omega arith in
-    let i = Loading.immediate s x t fits alu c.load_destination.new.machine c.second_operand.new.machine c.load_destination.new.steps c.second_operand.new.steps k c.second_operand.ensures here in
-    let l = Loading.streaming s x t fits alu k.place c.second_operand.new.machine c.load_second.new.machine c.second_operand.new.steps c.load_second.new.steps i c.load_second.ensures in
-    let r = Loading.streamed s x t fits alu k.place c.load_second.new.machine c.run_load.new.machine c.load_second.new.steps c.run_load.new.steps l c.run_load.ensures.stream in
-    let code = r.holds.holds.code in let high = Loading.high s x t fits alu in omega arith
+    let row = c.requires.row in
+    let k = Loading.begun s x t fits row c.load_destination.new.machine c.load_destination.new.steps (subst (λ b. LoadsDestination s x c.load_destination.new.machine t c.load_destination.new.steps b (first_of s)) c.if-not-load_destination.false c.load_destination.ensures) in
+    let w = Loading.ways s x t fits row c.load_destination.new.machine c.second_operand.new.machine c.load_destination.new.steps c.second_operand.new.steps k c.second_operand.ensures in
+    let here : c.second_operand.new.machine.cpu.pc ≡ 0x2472 = let a = c.pc.ensures.value in let b = c.if-pc-eq-GO.true in omega arith in
+    let way = Loading.by_unit s x t fits row k.place c.second_operand.new.machine c.second_operand.new.steps here w in
+    let code = way.comes.holds.holds.code in let high = Loading.high s x t fits row in omega arith
+
+pub returns-then-pc-eq-GO : goal.returns-then-pc-eq-GO
+returns-then-pc-eq-GO g c =
+    let x = c.args.machine.now in
+    let t = c.args.steps.now in
+    let s = state_at_dispatch (view x) in
+    let fits = (is_view x c.requires.stands.machine).grom.image.fits s.pc in
+    let row = c.requires.row in
+    let k = Loading.begun s x t fits row c.load_destination.new.machine c.load_destination.new.steps (subst (λ b. LoadsDestination s x c.load_destination.new.machine t c.load_destination.new.steps b (first_of s)) c.if-not-load_destination.false c.load_destination.ensures) in
+    let w = Loading.ways s x t fits row c.load_destination.new.machine c.second_operand.new.machine c.load_destination.new.steps c.second_operand.new.steps k c.second_operand.ensures in
+    let here : c.second_operand.new.machine.cpu.pc ≡ 0x2472 = let a = c.pc.ensures.value in let b = c.if-pc-eq-GO.true in omega arith in
+    let way = Loading.by_unit s x t fits row k.place c.second_operand.new.machine c.second_operand.new.steps here w in
+    Loading.at_unit s x t fits row k.place c.second_operand.new.machine c.go_to_row.new.machine c.second_operand.new.steps c.go_to_row.new.steps k.is_place way.one way.comes c.go_to_row.ensures
+
+pub load_source-requires-clause-stands : goal.load_source-requires-clause-stands
+load_source-requires-clause-stands g c =
+    let x = c.args.machine.now in
+    let t = c.args.steps.now in
+    let s = state_at_dispatch (view x) in
+    let fits = (is_view x c.requires.stands.machine).grom.image.fits s.pc in
+    let row = c.requires.row in
+    let k = Loading.begun s x t fits row c.load_destination.new.machine c.load_destination.new.steps (subst (λ b. LoadsDestination s x c.load_destination.new.machine t c.load_destination.new.steps b (first_of s)) c.if-not-load_destination.false c.load_destination.ensures) in
+    let w = Loading.ways s x t fits row c.load_destination.new.machine c.second_operand.new.machine c.load_destination.new.steps c.second_operand.new.steps k c.second_operand.ensures in
+    let here : c.second_operand.new.machine.cpu.pc ≡ 0x245C = let a = c.pc-2.ensures.value in let b = c.if-pc-eq-OPVAL.true in omega arith in
+    let way = Loading.by_immediate s x t fits row k.place c.second_operand.new.machine c.second_operand.new.steps here w in
+    way.comes.stands
+
+pub load_source-requires-clause-idle : goal.load_source-requires-clause-idle
+load_source-requires-clause-idle g c =
+    let x = c.args.machine.now in
+    let t = c.args.steps.now in
+    let s = state_at_dispatch (view x) in
+    let fits = (is_view x c.requires.stands.machine).grom.image.fits s.pc in
+    let row = c.requires.row in
+    let k = Loading.begun s x t fits row c.load_destination.new.machine c.load_destination.new.steps (subst (λ b. LoadsDestination s x c.load_destination.new.machine t c.load_destination.new.steps b (first_of s)) c.if-not-load_destination.false c.load_destination.ensures) in
+    let w = Loading.ways s x t fits row c.load_destination.new.machine c.second_operand.new.machine c.load_destination.new.steps c.second_operand.new.steps k c.second_operand.ensures in
+    let here : c.second_operand.new.machine.cpu.pc ≡ 0x245C = let a = c.pc-2.ensures.value in let b = c.if-pc-eq-OPVAL.true in omega arith in
+    let way = Loading.by_immediate s x t fits row k.place c.second_operand.new.machine c.second_operand.new.steps here w in
+    idle_of c.second_operand.new.machine.cpu.memory s (behind_first s) way.comes.holds.kept.holds.sees
+
+pub load_source-requires-clause-fetched : goal.load_source-requires-clause-fetched
+load_source-requires-clause-fetched g c =
+    let x = c.args.machine.now in
+    let t = c.args.steps.now in
+    let s = state_at_dispatch (view x) in
+    let fits = (is_view x c.requires.stands.machine).grom.image.fits s.pc in
+    let row = c.requires.row in
+    let k = Loading.begun s x t fits row c.load_destination.new.machine c.load_destination.new.steps (subst (λ b. LoadsDestination s x c.load_destination.new.machine t c.load_destination.new.steps b (first_of s)) c.if-not-load_destination.false c.load_destination.ensures) in
+    let w = Loading.ways s x t fits row c.load_destination.new.machine c.second_operand.new.machine c.load_destination.new.steps c.second_operand.new.steps k c.second_operand.ensures in
+    let here : c.second_operand.new.machine.cpu.pc ≡ 0x245C = let a = c.pc-2.ensures.value in let b = c.if-pc-eq-OPVAL.true in omega arith in
+    let way = Loading.by_immediate s x t fits row k.place c.second_operand.new.machine c.second_operand.new.steps here w in
+    fetched_of c.second_operand.new.machine.cpu.memory s (behind_first s) way.comes.holds.kept.holds.sees
+
+pub load_source-requires-clause-visible : goal.load_source-requires-clause-visible
+load_source-requires-clause-visible g c =
+    let x = c.args.machine.now in
+    let t = c.args.steps.now in
+    let s = state_at_dispatch (view x) in
+    let fits = (is_view x c.requires.stands.machine).grom.image.fits s.pc in
+    let row = c.requires.row in
+    let k = Loading.begun s x t fits row c.load_destination.new.machine c.load_destination.new.steps (subst (λ b. LoadsDestination s x c.load_destination.new.machine t c.load_destination.new.steps b (first_of s)) c.if-not-load_destination.false c.load_destination.ensures) in
+    let w = Loading.ways s x t fits row c.load_destination.new.machine c.second_operand.new.machine c.load_destination.new.steps c.second_operand.new.steps k c.second_operand.ensures in
+    let here : c.second_operand.new.machine.cpu.pc ≡ 0x245C = let a = c.pc-2.ensures.value in let b = c.if-pc-eq-OPVAL.true in omega arith in
+    let way = Loading.by_immediate s x t fits row k.place c.second_operand.new.machine c.second_operand.new.steps here w in
+    λ z. let two = way.comes.holds.space in absurd (omega arith)
+
+pub load_source-requires-clause-low : goal.load_source-requires-clause-low
+load_source-requires-clause-low g c =
+    let x = c.args.machine.now in
+    let t = c.args.steps.now in
+    let s = state_at_dispatch (view x) in
+    let fits = (is_view x c.requires.stands.machine).grom.image.fits s.pc in
+    let row = c.requires.row in
+    let k = Loading.begun s x t fits row c.load_destination.new.machine c.load_destination.new.steps (subst (λ b. LoadsDestination s x c.load_destination.new.machine t c.load_destination.new.steps b (first_of s)) c.if-not-load_destination.false c.load_destination.ensures) in
+    let w = Loading.ways s x t fits row c.load_destination.new.machine c.second_operand.new.machine c.load_destination.new.steps c.second_operand.new.steps k c.second_operand.ensures in
+    let here : c.second_operand.new.machine.cpu.pc ≡ 0x245C = let a = c.pc-2.ensures.value in let b = c.if-pc-eq-OPVAL.true in omega arith in
+    let way = Loading.by_immediate s x t fits row k.place c.second_operand.new.machine c.second_operand.new.steps here w in
+    let code = way.comes.holds.kept.holds.code in let low = Loading.low s x t fits row in omega arith
+
+pub load_source-requires-clause-high : goal.load_source-requires-clause-high
+load_source-requires-clause-high g c =
+    let x = c.args.machine.now in
+    let t = c.args.steps.now in
+    let s = state_at_dispatch (view x) in
+    let fits = (is_view x c.requires.stands.machine).grom.image.fits s.pc in
+    let row = c.requires.row in
+    let k = Loading.begun s x t fits row c.load_destination.new.machine c.load_destination.new.steps (subst (λ b. LoadsDestination s x c.load_destination.new.machine t c.load_destination.new.steps b (first_of s)) c.if-not-load_destination.false c.load_destination.ensures) in
+    let w = Loading.ways s x t fits row c.load_destination.new.machine c.second_operand.new.machine c.load_destination.new.steps c.second_operand.new.steps k c.second_operand.ensures in
+    let here : c.second_operand.new.machine.cpu.pc ≡ 0x245C = let a = c.pc-2.ensures.value in let b = c.if-pc-eq-OPVAL.true in omega arith in
+    let way = Loading.by_immediate s x t fits row k.place c.second_operand.new.machine c.second_operand.new.steps here w in
+    let code = way.comes.holds.kept.holds.code in let high = Loading.high s x t fits row in omega arith
 
 pub returns-then-pc-eq-OPVAL : goal.returns-then-pc-eq-OPVAL
 returns-then-pc-eq-OPVAL g c =
@@ -100,13 +163,12 @@ returns-then-pc-eq-OPVAL g c =
     let t = c.args.steps.now in
     let s = state_at_dispatch (view x) in
     let fits = (is_view x c.requires.stands.machine).grom.image.fits s.pc in
-    let alu = c.requires.family in
-    let k = Loading.kept s x t fits alu c.load_destination.new.machine c.load_destination.new.steps (subst (λ b. LoadsDestination s x c.load_destination.new.machine t c.load_destination.new.steps b (first_of s)) c.if-not-load_destination.false c.load_destination.ensures) in
-    let here : c.second_operand.new.machine.cpu.pc ≡ 0x245C = let a = c.pc.ensures.value in let b = c.if-pc-eq-OPVAL.true in omega arith in
-    let i = Loading.immediate s x t fits alu c.load_destination.new.machine c.second_operand.new.machine c.load_destination.new.steps c.second_operand.new.steps k c.second_operand.ensures here in
-    let l = Loading.streaming s x t fits alu k.place c.second_operand.new.machine c.load_second.new.machine c.second_operand.new.steps c.load_second.new.steps i c.load_second.ensures in
-    let r = Loading.streamed s x t fits alu k.place c.load_second.new.machine c.run_load.new.machine c.load_second.new.steps c.run_load.new.steps l c.run_load.ensures.stream in
-    Loading.with_immediate s x t fits alu k.place c.run_load.new.machine c.go_to_row.new.machine c.run_load.new.steps c.go_to_row.new.steps k.is_place i.bit r c.go_to_row.ensures
+    let row = c.requires.row in
+    let k = Loading.begun s x t fits row c.load_destination.new.machine c.load_destination.new.steps (subst (λ b. LoadsDestination s x c.load_destination.new.machine t c.load_destination.new.steps b (first_of s)) c.if-not-load_destination.false c.load_destination.ensures) in
+    let w = Loading.ways s x t fits row c.load_destination.new.machine c.second_operand.new.machine c.load_destination.new.steps c.second_operand.new.steps k c.second_operand.ensures in
+    let here : c.second_operand.new.machine.cpu.pc ≡ 0x245C = let a = c.pc-2.ensures.value in let b = c.if-pc-eq-OPVAL.true in omega arith in
+    let way = Loading.by_immediate s x t fits row k.place c.second_operand.new.machine c.second_operand.new.steps here w in
+    Loading.at_immediate s x t fits row k.place c.second_operand.new.machine c.load_source.new.machine c.second_operand.new.steps c.load_source.new.steps k.is_place way.two way.bit way.comes c.load_source.ensures.immediate
 
 pub run_address-requires-clause-stands : goal.run_address-requires-clause-stands
 run_address-requires-clause-stands g c =
@@ -114,11 +176,13 @@ run_address-requires-clause-stands g c =
     let t = c.args.steps.now in
     let s = state_at_dispatch (view x) in
     let fits = (is_view x c.requires.stands.machine).grom.image.fits s.pc in
-    let alu = c.requires.family in
-    let k = Loading.kept s x t fits alu c.load_destination.new.machine c.load_destination.new.steps (subst (λ b. LoadsDestination s x c.load_destination.new.machine t c.load_destination.new.steps b (first_of s)) c.if-not-load_destination.false c.load_destination.ensures) in
-    let away : c.second_operand.new.machine.cpu.pc ≡ 0x245C → ⊥ = λ here. let a = c.pc.ensures.value in let b = c.if-pc-eq-OPVAL.false in absurd (omega arith) in
-    let o = Loading.operand s x t fits alu c.load_destination.new.machine c.second_operand.new.machine c.load_destination.new.steps c.second_operand.new.steps k c.second_operand.ensures away in
-    o.comes.stands
+    let row = c.requires.row in
+    let k = Loading.begun s x t fits row c.load_destination.new.machine c.load_destination.new.steps (subst (λ b. LoadsDestination s x c.load_destination.new.machine t c.load_destination.new.steps b (first_of s)) c.if-not-load_destination.false c.load_destination.ensures) in
+    let w = Loading.ways s x t fits row c.load_destination.new.machine c.second_operand.new.machine c.load_destination.new.steps c.second_operand.new.steps k c.second_operand.ensures in
+    let not_go : c.second_operand.new.machine.cpu.pc ≡ 0x2472 → ⊥ = λ here. let a = c.pc.ensures.value in let b = c.if-pc-eq-GO.false in absurd (omega arith) in
+    let not_opval : c.second_operand.new.machine.cpu.pc ≡ 0x245C → ⊥ = λ here. let a = c.pc-2.ensures.value in let b = c.if-pc-eq-OPVAL.false in absurd (omega arith) in
+    let way = Loading.by_operand s x t fits row k.place c.second_operand.new.machine c.second_operand.new.steps not_go not_opval w in
+    way.comes.stands
 
 pub run_address-requires-clause-idle : goal.run_address-requires-clause-idle
 run_address-requires-clause-idle g c =
@@ -126,11 +190,13 @@ run_address-requires-clause-idle g c =
     let t = c.args.steps.now in
     let s = state_at_dispatch (view x) in
     let fits = (is_view x c.requires.stands.machine).grom.image.fits s.pc in
-    let alu = c.requires.family in
-    let k = Loading.kept s x t fits alu c.load_destination.new.machine c.load_destination.new.steps (subst (λ b. LoadsDestination s x c.load_destination.new.machine t c.load_destination.new.steps b (first_of s)) c.if-not-load_destination.false c.load_destination.ensures) in
-    let away : c.second_operand.new.machine.cpu.pc ≡ 0x245C → ⊥ = λ here. let a = c.pc.ensures.value in let b = c.if-pc-eq-OPVAL.false in absurd (omega arith) in
-    let o = Loading.operand s x t fits alu c.load_destination.new.machine c.second_operand.new.machine c.load_destination.new.steps c.second_operand.new.steps k c.second_operand.ensures away in
-    idle_of c.second_operand.new.machine.cpu.memory s (behind_first s) o.comes.holds.second.holds.sees
+    let row = c.requires.row in
+    let k = Loading.begun s x t fits row c.load_destination.new.machine c.load_destination.new.steps (subst (λ b. LoadsDestination s x c.load_destination.new.machine t c.load_destination.new.steps b (first_of s)) c.if-not-load_destination.false c.load_destination.ensures) in
+    let w = Loading.ways s x t fits row c.load_destination.new.machine c.second_operand.new.machine c.load_destination.new.steps c.second_operand.new.steps k c.second_operand.ensures in
+    let not_go : c.second_operand.new.machine.cpu.pc ≡ 0x2472 → ⊥ = λ here. let a = c.pc.ensures.value in let b = c.if-pc-eq-GO.false in absurd (omega arith) in
+    let not_opval : c.second_operand.new.machine.cpu.pc ≡ 0x245C → ⊥ = λ here. let a = c.pc-2.ensures.value in let b = c.if-pc-eq-OPVAL.false in absurd (omega arith) in
+    let way = Loading.by_operand s x t fits row k.place c.second_operand.new.machine c.second_operand.new.steps not_go not_opval w in
+    idle_of c.second_operand.new.machine.cpu.memory s (behind_first s) way.comes.holds.kept.holds.sees
 
 pub run_address-requires-clause-fetched : goal.run_address-requires-clause-fetched
 run_address-requires-clause-fetched g c =
@@ -138,11 +204,27 @@ run_address-requires-clause-fetched g c =
     let t = c.args.steps.now in
     let s = state_at_dispatch (view x) in
     let fits = (is_view x c.requires.stands.machine).grom.image.fits s.pc in
-    let alu = c.requires.family in
-    let k = Loading.kept s x t fits alu c.load_destination.new.machine c.load_destination.new.steps (subst (λ b. LoadsDestination s x c.load_destination.new.machine t c.load_destination.new.steps b (first_of s)) c.if-not-load_destination.false c.load_destination.ensures) in
-    let away : c.second_operand.new.machine.cpu.pc ≡ 0x245C → ⊥ = λ here. let a = c.pc.ensures.value in let b = c.if-pc-eq-OPVAL.false in absurd (omega arith) in
-    let o = Loading.operand s x t fits alu c.load_destination.new.machine c.second_operand.new.machine c.load_destination.new.steps c.second_operand.new.steps k c.second_operand.ensures away in
-    fetched_of c.second_operand.new.machine.cpu.memory s (behind_first s) o.comes.holds.second.holds.sees
+    let row = c.requires.row in
+    let k = Loading.begun s x t fits row c.load_destination.new.machine c.load_destination.new.steps (subst (λ b. LoadsDestination s x c.load_destination.new.machine t c.load_destination.new.steps b (first_of s)) c.if-not-load_destination.false c.load_destination.ensures) in
+    let w = Loading.ways s x t fits row c.load_destination.new.machine c.second_operand.new.machine c.load_destination.new.steps c.second_operand.new.steps k c.second_operand.ensures in
+    let not_go : c.second_operand.new.machine.cpu.pc ≡ 0x2472 → ⊥ = λ here. let a = c.pc.ensures.value in let b = c.if-pc-eq-GO.false in absurd (omega arith) in
+    let not_opval : c.second_operand.new.machine.cpu.pc ≡ 0x245C → ⊥ = λ here. let a = c.pc-2.ensures.value in let b = c.if-pc-eq-OPVAL.false in absurd (omega arith) in
+    let way = Loading.by_operand s x t fits row k.place c.second_operand.new.machine c.second_operand.new.steps not_go not_opval w in
+    fetched_of c.second_operand.new.machine.cpu.memory s (behind_first s) way.comes.holds.kept.holds.sees
+
+pub run_address-requires-clause-bytes : goal.run_address-requires-clause-bytes
+run_address-requires-clause-bytes g c =
+    let x = c.args.machine.now in
+    let t = c.args.steps.now in
+    let s = state_at_dispatch (view x) in
+    let fits = (is_view x c.requires.stands.machine).grom.image.fits s.pc in
+    let row = c.requires.row in
+    let k = Loading.begun s x t fits row c.load_destination.new.machine c.load_destination.new.steps (subst (λ b. LoadsDestination s x c.load_destination.new.machine t c.load_destination.new.steps b (first_of s)) c.if-not-load_destination.false c.load_destination.ensures) in
+    let w = Loading.ways s x t fits row c.load_destination.new.machine c.second_operand.new.machine c.load_destination.new.steps c.second_operand.new.steps k c.second_operand.ensures in
+    let not_go : c.second_operand.new.machine.cpu.pc ≡ 0x2472 → ⊥ = λ here. let a = c.pc.ensures.value in let b = c.if-pc-eq-GO.false in absurd (omega arith) in
+    let not_opval : c.second_operand.new.machine.cpu.pc ≡ 0x245C → ⊥ = λ here. let a = c.pc-2.ensures.value in let b = c.if-pc-eq-OPVAL.false in absurd (omega arith) in
+    let way = Loading.by_operand s x t fits row k.place c.second_operand.new.machine c.second_operand.new.steps not_go not_opval w in
+    let is = way.comes.holds.kept.holds.bytes_are in let few = (Loading.few_bytes (word_of s)).1 in omega arith
 
 pub returns-then-pc-eq-GSTOP : goal.returns-then-pc-eq-GSTOP
 returns-then-pc-eq-GSTOP g c =
@@ -150,104 +232,110 @@ returns-then-pc-eq-GSTOP g c =
     let t = c.args.steps.now in
     let s = state_at_dispatch (view x) in
     let fits = (is_view x c.requires.stands.machine).grom.image.fits s.pc in
-    let alu = c.requires.family in
-    let k = Loading.kept s x t fits alu c.load_destination.new.machine c.load_destination.new.steps (subst (λ b. LoadsDestination s x c.load_destination.new.machine t c.load_destination.new.steps b (first_of s)) c.if-not-load_destination.false c.load_destination.ensures) in
-    let away : c.second_operand.new.machine.cpu.pc ≡ 0x245C → ⊥ = λ here. let a = c.pc.ensures.value in let b = c.if-pc-eq-OPVAL.false in absurd (omega arith) in
-    let o = Loading.operand s x t fits alu c.load_destination.new.machine c.second_operand.new.machine c.load_destination.new.steps c.second_operand.new.steps k c.second_operand.ensures away in
-    let stopped : c.run_address.new.machine.cpu.pc ≡ 0x22B8 = let a = c.pc-2.ensures.value in let b = c.if-pc-eq-GSTOP.true in omega arith in
-    Loading.bars s x t fits alu k.place c.second_operand.new.machine c.run_address.new.machine c.second_operand.new.steps c.run_address.new.steps o k.is_place stopped c.run_address.ensures
+    let row = c.requires.row in
+    let k = Loading.begun s x t fits row c.load_destination.new.machine c.load_destination.new.steps (subst (λ b. LoadsDestination s x c.load_destination.new.machine t c.load_destination.new.steps b (first_of s)) c.if-not-load_destination.false c.load_destination.ensures) in
+    let w = Loading.ways s x t fits row c.load_destination.new.machine c.second_operand.new.machine c.load_destination.new.steps c.second_operand.new.steps k c.second_operand.ensures in
+    let not_go : c.second_operand.new.machine.cpu.pc ≡ 0x2472 → ⊥ = λ here. let a = c.pc.ensures.value in let b = c.if-pc-eq-GO.false in absurd (omega arith) in
+    let not_opval : c.second_operand.new.machine.cpu.pc ≡ 0x245C → ⊥ = λ here. let a = c.pc-2.ensures.value in let b = c.if-pc-eq-OPVAL.false in absurd (omega arith) in
+    let way = Loading.by_operand s x t fits row k.place c.second_operand.new.machine c.second_operand.new.steps not_go not_opval w in
+    let here : c.run_address.new.machine.cpu.pc ≡ 0x22B8 = let a = c.pc-3.ensures.value in let b = c.if-pc-eq-GSTOP.true in omega arith in
+    Loading.bars s x t fits row k.place c.second_operand.new.machine c.run_address.new.machine c.second_operand.new.steps c.run_address.new.steps way.comes way.two way.bit k.is_place here c.run_address.ensures
 
-pub load_second-requires-2 : goal.load_second-requires-2
-load_second-requires-2 g c =
+pub load_source-requires-2-clause-stands : goal.load_source-requires-2-clause-stands
+load_source-requires-2-clause-stands g c =
     let x = c.args.machine.now in
     let t = c.args.steps.now in
     let s = state_at_dispatch (view x) in
     let fits = (is_view x c.requires.stands.machine).grom.image.fits s.pc in
-    let alu = c.requires.family in
-    let k = Loading.kept s x t fits alu c.load_destination.new.machine c.load_destination.new.steps (subst (λ b. LoadsDestination s x c.load_destination.new.machine t c.load_destination.new.steps b (first_of s)) c.if-not-load_destination.false c.load_destination.ensures) in
-    let away : c.second_operand.new.machine.cpu.pc ≡ 0x245C → ⊥ = λ here. let a = c.pc.ensures.value in let b = c.if-pc-eq-OPVAL.false in absurd (omega arith) in
-    let o = Loading.operand s x t fits alu c.load_destination.new.machine c.second_operand.new.machine c.load_destination.new.steps c.second_operand.new.steps k c.second_operand.ensures away in
-    let seen : c.run_address.new.machine.cpu.pc ≡ 0x22B8 → ⊥ = λ here. let a = c.pc-2.ensures.value in let b = c.if-pc-eq-GSTOP.false in absurd (omega arith) in
-    let p = Loading.source s x t fits alu k.place c.second_operand.new.machine c.run_address.new.machine c.second_operand.new.steps c.run_address.new.steps o seen c.run_address.ensures in
+    let row = c.requires.row in
+    let k = Loading.begun s x t fits row c.load_destination.new.machine c.load_destination.new.steps (subst (λ b. LoadsDestination s x c.load_destination.new.machine t c.load_destination.new.steps b (first_of s)) c.if-not-load_destination.false c.load_destination.ensures) in
+    let w = Loading.ways s x t fits row c.load_destination.new.machine c.second_operand.new.machine c.load_destination.new.steps c.second_operand.new.steps k c.second_operand.ensures in
+    let not_go : c.second_operand.new.machine.cpu.pc ≡ 0x2472 → ⊥ = λ here. let a = c.pc.ensures.value in let b = c.if-pc-eq-GO.false in absurd (omega arith) in
+    let not_opval : c.second_operand.new.machine.cpu.pc ≡ 0x245C → ⊥ = λ here. let a = c.pc-2.ensures.value in let b = c.if-pc-eq-OPVAL.false in absurd (omega arith) in
+    let way = Loading.by_operand s x t fits row k.place c.second_operand.new.machine c.second_operand.new.steps not_go not_opval w in
+    let seen : c.run_address.new.machine.cpu.pc ≡ 0x22B8 → ⊥ = λ here. let a = c.pc-3.ensures.value in let b = c.if-pc-eq-GSTOP.false in absurd (omega arith) in
+    let p = Loading.source s x t fits row k.place c.second_operand.new.machine c.run_address.new.machine c.second_operand.new.steps c.run_address.new.steps way.comes seen c.run_address.ensures in
     p.comes.stands
 
-pub run_load-requires-2-clause-idle : goal.run_load-requires-2-clause-idle
-run_load-requires-2-clause-idle g c =
+pub load_source-requires-2-clause-idle : goal.load_source-requires-2-clause-idle
+load_source-requires-2-clause-idle g c =
     let x = c.args.machine.now in
     let t = c.args.steps.now in
     let s = state_at_dispatch (view x) in
     let fits = (is_view x c.requires.stands.machine).grom.image.fits s.pc in
-    let alu = c.requires.family in
-    let k = Loading.kept s x t fits alu c.load_destination.new.machine c.load_destination.new.steps (subst (λ b. LoadsDestination s x c.load_destination.new.machine t c.load_destination.new.steps b (first_of s)) c.if-not-load_destination.false c.load_destination.ensures) in
-    let away : c.second_operand.new.machine.cpu.pc ≡ 0x245C → ⊥ = λ here. let a = c.pc.ensures.value in let b = c.if-pc-eq-OPVAL.false in absurd (omega arith) in
-    let o = Loading.operand s x t fits alu c.load_destination.new.machine c.second_operand.new.machine c.load_destination.new.steps c.second_operand.new.steps k c.second_operand.ensures away in
-    let seen : c.run_address.new.machine.cpu.pc ≡ 0x22B8 → ⊥ = λ here. let a = c.pc-2.ensures.value in let b = c.if-pc-eq-GSTOP.false in absurd (omega arith) in
-    let p = Loading.source s x t fits alu k.place c.second_operand.new.machine c.run_address.new.machine c.second_operand.new.steps c.run_address.new.steps o seen c.run_address.ensures in
-    let l = Loading.loading_source s x t fits alu k.place c.run_address.new.machine c.load_second-2.new.machine c.run_address.new.steps c.load_second-2.new.steps p c.load_second-2.ensures in
-    idle_of c.load_second-2.new.machine.cpu.memory s (Loading.source_operand s x t fits alu).1 l.holds.loading.holds.sees
+    let row = c.requires.row in
+    let k = Loading.begun s x t fits row c.load_destination.new.machine c.load_destination.new.steps (subst (λ b. LoadsDestination s x c.load_destination.new.machine t c.load_destination.new.steps b (first_of s)) c.if-not-load_destination.false c.load_destination.ensures) in
+    let w = Loading.ways s x t fits row c.load_destination.new.machine c.second_operand.new.machine c.load_destination.new.steps c.second_operand.new.steps k c.second_operand.ensures in
+    let not_go : c.second_operand.new.machine.cpu.pc ≡ 0x2472 → ⊥ = λ here. let a = c.pc.ensures.value in let b = c.if-pc-eq-GO.false in absurd (omega arith) in
+    let not_opval : c.second_operand.new.machine.cpu.pc ≡ 0x245C → ⊥ = λ here. let a = c.pc-2.ensures.value in let b = c.if-pc-eq-OPVAL.false in absurd (omega arith) in
+    let way = Loading.by_operand s x t fits row k.place c.second_operand.new.machine c.second_operand.new.steps not_go not_opval w in
+    let seen : c.run_address.new.machine.cpu.pc ≡ 0x22B8 → ⊥ = λ here. let a = c.pc-3.ensures.value in let b = c.if-pc-eq-GSTOP.false in absurd (omega arith) in
+    let p = Loading.source s x t fits row k.place c.second_operand.new.machine c.run_address.new.machine c.second_operand.new.steps c.run_address.new.steps way.comes seen c.run_address.ensures in
+    idle_of c.run_address.new.machine.cpu.memory s (Loading.source_operand s x t fits row).1 p.comes.holds.kept.holds.sees
 
-pub run_load-requires-2-clause-visible : goal.run_load-requires-2-clause-visible
-run_load-requires-2-clause-visible g c =
+pub load_source-requires-2-clause-fetched : goal.load_source-requires-2-clause-fetched
+load_source-requires-2-clause-fetched g c =
     let x = c.args.machine.now in
     let t = c.args.steps.now in
     let s = state_at_dispatch (view x) in
     let fits = (is_view x c.requires.stands.machine).grom.image.fits s.pc in
-    let alu = c.requires.family in
-    let k = Loading.kept s x t fits alu c.load_destination.new.machine c.load_destination.new.steps (subst (λ b. LoadsDestination s x c.load_destination.new.machine t c.load_destination.new.steps b (first_of s)) c.if-not-load_destination.false c.load_destination.ensures) in
-    let away : c.second_operand.new.machine.cpu.pc ≡ 0x245C → ⊥ = λ here. let a = c.pc.ensures.value in let b = c.if-pc-eq-OPVAL.false in absurd (omega arith) in
-    let o = Loading.operand s x t fits alu c.load_destination.new.machine c.second_operand.new.machine c.load_destination.new.steps c.second_operand.new.steps k c.second_operand.ensures away in
-    let seen : c.run_address.new.machine.cpu.pc ≡ 0x22B8 → ⊥ = λ here. let a = c.pc-2.ensures.value in let b = c.if-pc-eq-GSTOP.false in absurd (omega arith) in
-    let p = Loading.source s x t fits alu k.place c.second_operand.new.machine c.run_address.new.machine c.second_operand.new.steps c.run_address.new.steps o seen c.run_address.ensures in
-    let l = Loading.loading_source s x t fits alu k.place c.run_address.new.machine c.load_second-2.new.machine c.run_address.new.steps c.load_second-2.new.steps p c.load_second-2.ensures in
-    Loading.visible_at s p.place k.place (Loading.source_operand s x t fits alu).1 0x2472 (view c.load_second-2.new.machine) l.holds.loading (Loading.source_visible s x t fits alu p.place p.is_place)
+    let row = c.requires.row in
+    let k = Loading.begun s x t fits row c.load_destination.new.machine c.load_destination.new.steps (subst (λ b. LoadsDestination s x c.load_destination.new.machine t c.load_destination.new.steps b (first_of s)) c.if-not-load_destination.false c.load_destination.ensures) in
+    let w = Loading.ways s x t fits row c.load_destination.new.machine c.second_operand.new.machine c.load_destination.new.steps c.second_operand.new.steps k c.second_operand.ensures in
+    let not_go : c.second_operand.new.machine.cpu.pc ≡ 0x2472 → ⊥ = λ here. let a = c.pc.ensures.value in let b = c.if-pc-eq-GO.false in absurd (omega arith) in
+    let not_opval : c.second_operand.new.machine.cpu.pc ≡ 0x245C → ⊥ = λ here. let a = c.pc-2.ensures.value in let b = c.if-pc-eq-OPVAL.false in absurd (omega arith) in
+    let way = Loading.by_operand s x t fits row k.place c.second_operand.new.machine c.second_operand.new.steps not_go not_opval w in
+    let seen : c.run_address.new.machine.cpu.pc ≡ 0x22B8 → ⊥ = λ here. let a = c.pc-3.ensures.value in let b = c.if-pc-eq-GSTOP.false in absurd (omega arith) in
+    let p = Loading.source s x t fits row k.place c.second_operand.new.machine c.run_address.new.machine c.second_operand.new.steps c.run_address.new.steps way.comes seen c.run_address.ensures in
+    fetched_of c.run_address.new.machine.cpu.memory s (Loading.source_operand s x t fits row).1 p.comes.holds.kept.holds.sees
 
-pub go_to_row-requires-2-clause-stands : goal.go_to_row-requires-2-clause-stands
-go_to_row-requires-2-clause-stands g c =
+pub load_source-requires-2-clause-visible : goal.load_source-requires-2-clause-visible
+load_source-requires-2-clause-visible g c =
     let x = c.args.machine.now in
     let t = c.args.steps.now in
     let s = state_at_dispatch (view x) in
     let fits = (is_view x c.requires.stands.machine).grom.image.fits s.pc in
-    let alu = c.requires.family in
-    let k = Loading.kept s x t fits alu c.load_destination.new.machine c.load_destination.new.steps (subst (λ b. LoadsDestination s x c.load_destination.new.machine t c.load_destination.new.steps b (first_of s)) c.if-not-load_destination.false c.load_destination.ensures) in
-    let away : c.second_operand.new.machine.cpu.pc ≡ 0x245C → ⊥ = λ here. let a = c.pc.ensures.value in let b = c.if-pc-eq-OPVAL.false in absurd (omega arith) in
-    let o = Loading.operand s x t fits alu c.load_destination.new.machine c.second_operand.new.machine c.load_destination.new.steps c.second_operand.new.steps k c.second_operand.ensures away in
-    let seen : c.run_address.new.machine.cpu.pc ≡ 0x22B8 → ⊥ = λ here. let a = c.pc-2.ensures.value in let b = c.if-pc-eq-GSTOP.false in absurd (omega arith) in
-    let p = Loading.source s x t fits alu k.place c.second_operand.new.machine c.run_address.new.machine c.second_operand.new.steps c.run_address.new.steps o seen c.run_address.ensures in
-    let l = Loading.loading_source s x t fits alu k.place c.run_address.new.machine c.load_second-2.new.machine c.run_address.new.steps c.load_second-2.new.steps p c.load_second-2.ensures in
-    let r = Loading.loaded_source s x t fits alu k.place c.run_address.new.machine c.load_second-2.new.machine c.run_load-2.new.machine c.run_address.new.steps c.load_second-2.new.steps c.run_load-2.new.steps p l c.run_load-2.ensures.value in
-    r.stands
+    let row = c.requires.row in
+    let k = Loading.begun s x t fits row c.load_destination.new.machine c.load_destination.new.steps (subst (λ b. LoadsDestination s x c.load_destination.new.machine t c.load_destination.new.steps b (first_of s)) c.if-not-load_destination.false c.load_destination.ensures) in
+    let w = Loading.ways s x t fits row c.load_destination.new.machine c.second_operand.new.machine c.load_destination.new.steps c.second_operand.new.steps k c.second_operand.ensures in
+    let not_go : c.second_operand.new.machine.cpu.pc ≡ 0x2472 → ⊥ = λ here. let a = c.pc.ensures.value in let b = c.if-pc-eq-GO.false in absurd (omega arith) in
+    let not_opval : c.second_operand.new.machine.cpu.pc ≡ 0x245C → ⊥ = λ here. let a = c.pc-2.ensures.value in let b = c.if-pc-eq-OPVAL.false in absurd (omega arith) in
+    let way = Loading.by_operand s x t fits row k.place c.second_operand.new.machine c.second_operand.new.steps not_go not_opval w in
+    let seen : c.run_address.new.machine.cpu.pc ≡ 0x22B8 → ⊥ = λ here. let a = c.pc-3.ensures.value in let b = c.if-pc-eq-GSTOP.false in absurd (omega arith) in
+    let p = Loading.source s x t fits row k.place c.second_operand.new.machine c.run_address.new.machine c.second_operand.new.steps c.run_address.new.steps way.comes seen c.run_address.ensures in
+    Loading.found_visible s x t fits row k.place c.run_address.new.machine c.run_address.new.steps p
 
-pub go_to_row-requires-2-clause-low : goal.go_to_row-requires-2-clause-low
-go_to_row-requires-2-clause-low g c =
+pub load_source-requires-2-clause-low : goal.load_source-requires-2-clause-low
+load_source-requires-2-clause-low g c =
     let x = c.args.machine.now in
     let t = c.args.steps.now in
     let s = state_at_dispatch (view x) in
     let fits = (is_view x c.requires.stands.machine).grom.image.fits s.pc in
-    let alu = c.requires.family in
-    let k = Loading.kept s x t fits alu c.load_destination.new.machine c.load_destination.new.steps (subst (λ b. LoadsDestination s x c.load_destination.new.machine t c.load_destination.new.steps b (first_of s)) c.if-not-load_destination.false c.load_destination.ensures) in
-    let away : c.second_operand.new.machine.cpu.pc ≡ 0x245C → ⊥ = λ here. let a = c.pc.ensures.value in let b = c.if-pc-eq-OPVAL.false in absurd (omega arith) in
-    let o = Loading.operand s x t fits alu c.load_destination.new.machine c.second_operand.new.machine c.load_destination.new.steps c.second_operand.new.steps k c.second_operand.ensures away in
-    let seen : c.run_address.new.machine.cpu.pc ≡ 0x22B8 → ⊥ = λ here. let a = c.pc-2.ensures.value in let b = c.if-pc-eq-GSTOP.false in absurd (omega arith) in
-    let p = Loading.source s x t fits alu k.place c.second_operand.new.machine c.run_address.new.machine c.second_operand.new.steps c.run_address.new.steps o seen c.run_address.ensures in
-    let l = Loading.loading_source s x t fits alu k.place c.run_address.new.machine c.load_second-2.new.machine c.run_address.new.steps c.load_second-2.new.steps p c.load_second-2.ensures in
-    let r = Loading.loaded_source s x t fits alu k.place c.run_address.new.machine c.load_second-2.new.machine c.run_load-2.new.machine c.run_address.new.steps c.load_second-2.new.steps c.run_load-2.new.steps p l c.run_load-2.ensures.value in
-    let code = r.holds.holds.code in let low = Loading.low s x t fits alu in omega arith
+    let row = c.requires.row in
+    let k = Loading.begun s x t fits row c.load_destination.new.machine c.load_destination.new.steps (subst (λ b. LoadsDestination s x c.load_destination.new.machine t c.load_destination.new.steps b (first_of s)) c.if-not-load_destination.false c.load_destination.ensures) in
+    let w = Loading.ways s x t fits row c.load_destination.new.machine c.second_operand.new.machine c.load_destination.new.steps c.second_operand.new.steps k c.second_operand.ensures in
+    let not_go : c.second_operand.new.machine.cpu.pc ≡ 0x2472 → ⊥ = λ here. let a = c.pc.ensures.value in let b = c.if-pc-eq-GO.false in absurd (omega arith) in
+    let not_opval : c.second_operand.new.machine.cpu.pc ≡ 0x245C → ⊥ = λ here. let a = c.pc-2.ensures.value in let b = c.if-pc-eq-OPVAL.false in absurd (omega arith) in
+    let way = Loading.by_operand s x t fits row k.place c.second_operand.new.machine c.second_operand.new.steps not_go not_opval w in
+    let seen : c.run_address.new.machine.cpu.pc ≡ 0x22B8 → ⊥ = λ here. let a = c.pc-3.ensures.value in let b = c.if-pc-eq-GSTOP.false in absurd (omega arith) in
+    let p = Loading.source s x t fits row k.place c.second_operand.new.machine c.run_address.new.machine c.second_operand.new.steps c.run_address.new.steps way.comes seen c.run_address.ensures in
+    let code = p.comes.holds.kept.holds.code in let low = Loading.low s x t fits row in omega arith
 
-pub go_to_row-requires-2-clause-high : goal.go_to_row-requires-2-clause-high
-go_to_row-requires-2-clause-high g c =
+pub load_source-requires-2-clause-high : goal.load_source-requires-2-clause-high
+load_source-requires-2-clause-high g c =
     let x = c.args.machine.now in
     let t = c.args.steps.now in
     let s = state_at_dispatch (view x) in
     let fits = (is_view x c.requires.stands.machine).grom.image.fits s.pc in
-    let alu = c.requires.family in
-    let k = Loading.kept s x t fits alu c.load_destination.new.machine c.load_destination.new.steps (subst (λ b. LoadsDestination s x c.load_destination.new.machine t c.load_destination.new.steps b (first_of s)) c.if-not-load_destination.false c.load_destination.ensures) in
-    let away : c.second_operand.new.machine.cpu.pc ≡ 0x245C → ⊥ = λ here. let a = c.pc.ensures.value in let b = c.if-pc-eq-OPVAL.false in absurd (omega arith) in
-    let o = Loading.operand s x t fits alu c.load_destination.new.machine c.second_operand.new.machine c.load_destination.new.steps c.second_operand.new.steps k c.second_operand.ensures away in
-    let seen : c.run_address.new.machine.cpu.pc ≡ 0x22B8 → ⊥ = λ here. let a = c.pc-2.ensures.value in let b = c.if-pc-eq-GSTOP.false in absurd (omega arith) in
-    let p = Loading.source s x t fits alu k.place c.second_operand.new.machine c.run_address.new.machine c.second_operand.new.steps c.run_address.new.steps o seen c.run_address.ensures in
-    let l = Loading.loading_source s x t fits alu k.place c.run_address.new.machine c.load_second-2.new.machine c.run_address.new.steps c.load_second-2.new.steps p c.load_second-2.ensures in
-    let r = Loading.loaded_source s x t fits alu k.place c.run_address.new.machine c.load_second-2.new.machine c.run_load-2.new.machine c.run_address.new.steps c.load_second-2.new.steps c.run_load-2.new.steps p l c.run_load-2.ensures.value in
-    let code = r.holds.holds.code in let high = Loading.high s x t fits alu in omega arith
+    let row = c.requires.row in
+    let k = Loading.begun s x t fits row c.load_destination.new.machine c.load_destination.new.steps (subst (λ b. LoadsDestination s x c.load_destination.new.machine t c.load_destination.new.steps b (first_of s)) c.if-not-load_destination.false c.load_destination.ensures) in
+    let w = Loading.ways s x t fits row c.load_destination.new.machine c.second_operand.new.machine c.load_destination.new.steps c.second_operand.new.steps k c.second_operand.ensures in
+    let not_go : c.second_operand.new.machine.cpu.pc ≡ 0x2472 → ⊥ = λ here. let a = c.pc.ensures.value in let b = c.if-pc-eq-GO.false in absurd (omega arith) in
+    let not_opval : c.second_operand.new.machine.cpu.pc ≡ 0x245C → ⊥ = λ here. let a = c.pc-2.ensures.value in let b = c.if-pc-eq-OPVAL.false in absurd (omega arith) in
+    let way = Loading.by_operand s x t fits row k.place c.second_operand.new.machine c.second_operand.new.steps not_go not_opval w in
+    let seen : c.run_address.new.machine.cpu.pc ≡ 0x22B8 → ⊥ = λ here. let a = c.pc-3.ensures.value in let b = c.if-pc-eq-GSTOP.false in absurd (omega arith) in
+    let p = Loading.source s x t fits row k.place c.second_operand.new.machine c.run_address.new.machine c.second_operand.new.steps c.run_address.new.steps way.comes seen c.run_address.ensures in
+    let code = p.comes.holds.kept.holds.code in let high = Loading.high s x t fits row in omega arith
 
 pub returns : goal.returns
 returns g c =
@@ -255,12 +343,12 @@ returns g c =
     let t = c.args.steps.now in
     let s = state_at_dispatch (view x) in
     let fits = (is_view x c.requires.stands.machine).grom.image.fits s.pc in
-    let alu = c.requires.family in
-    let k = Loading.kept s x t fits alu c.load_destination.new.machine c.load_destination.new.steps (subst (λ b. LoadsDestination s x c.load_destination.new.machine t c.load_destination.new.steps b (first_of s)) c.if-not-load_destination.false c.load_destination.ensures) in
-    let away : c.second_operand.new.machine.cpu.pc ≡ 0x245C → ⊥ = λ here. let a = c.pc.ensures.value in let b = c.if-pc-eq-OPVAL.false in absurd (omega arith) in
-    let o = Loading.operand s x t fits alu c.load_destination.new.machine c.second_operand.new.machine c.load_destination.new.steps c.second_operand.new.steps k c.second_operand.ensures away in
-    let seen : c.run_address.new.machine.cpu.pc ≡ 0x22B8 → ⊥ = λ here. let a = c.pc-2.ensures.value in let b = c.if-pc-eq-GSTOP.false in absurd (omega arith) in
-    let p = Loading.source s x t fits alu k.place c.second_operand.new.machine c.run_address.new.machine c.second_operand.new.steps c.run_address.new.steps o seen c.run_address.ensures in
-    let l = Loading.loading_source s x t fits alu k.place c.run_address.new.machine c.load_second-2.new.machine c.run_address.new.steps c.load_second-2.new.steps p c.load_second-2.ensures in
-    let r = Loading.loaded_source s x t fits alu k.place c.run_address.new.machine c.load_second-2.new.machine c.run_load-2.new.machine c.run_address.new.steps c.load_second-2.new.steps c.run_load-2.new.steps p l c.run_load-2.ensures.value in
-    Loading.with_source s x t fits alu k.place c.run_address.new.machine c.run_load-2.new.machine c.go_to_row-2.new.machine c.run_address.new.steps c.run_load-2.new.steps c.go_to_row-2.new.steps p k.is_place o.bit r c.go_to_row-2.ensures
+    let row = c.requires.row in
+    let k = Loading.begun s x t fits row c.load_destination.new.machine c.load_destination.new.steps (subst (λ b. LoadsDestination s x c.load_destination.new.machine t c.load_destination.new.steps b (first_of s)) c.if-not-load_destination.false c.load_destination.ensures) in
+    let w = Loading.ways s x t fits row c.load_destination.new.machine c.second_operand.new.machine c.load_destination.new.steps c.second_operand.new.steps k c.second_operand.ensures in
+    let not_go : c.second_operand.new.machine.cpu.pc ≡ 0x2472 → ⊥ = λ here. let a = c.pc.ensures.value in let b = c.if-pc-eq-GO.false in absurd (omega arith) in
+    let not_opval : c.second_operand.new.machine.cpu.pc ≡ 0x245C → ⊥ = λ here. let a = c.pc-2.ensures.value in let b = c.if-pc-eq-OPVAL.false in absurd (omega arith) in
+    let way = Loading.by_operand s x t fits row k.place c.second_operand.new.machine c.second_operand.new.steps not_go not_opval w in
+    let seen : c.run_address.new.machine.cpu.pc ≡ 0x22B8 → ⊥ = λ here. let a = c.pc-3.ensures.value in let b = c.if-pc-eq-GSTOP.false in absurd (omega arith) in
+    let p = Loading.source s x t fits row k.place c.second_operand.new.machine c.run_address.new.machine c.second_operand.new.steps c.run_address.new.steps way.comes seen c.run_address.ensures in
+    Loading.at_place s x t fits row k.place c.run_address.new.machine c.load_source-2.new.machine c.run_address.new.steps c.load_source-2.new.steps p k.is_place way.two way.bit c.load_source-2.ensures.placed

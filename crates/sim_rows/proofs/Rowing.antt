@@ -1,0 +1,187 @@
+-- A row from its dispatch to the end of the step.
+use Rattle.std.proofs.Common.{◌≡◌, ℕ, ◌+◌, ◌<◌, ◌≤◌, Bool, true, false, refl, sym, ap, subst, ◌∙◌, arith, Option, Some, None, Result, Ok, Err}
+use Rattle.std.specs.Prelude.{◌==◌, nat_lt}
+use Rattle.console_defs.specs.Flags.{Width, size_of}
+use Rattle.console_defs.specs.Machine.{MachineState}
+use Rattle.source_defs.specs.Refusals.{◌>>=◌}
+use Rattle.gpl_defs.specs.declared.instruction.GplSource.{GplSource}
+use Rattle.gpl_defs.specs.declared.instruction.GplSource.TheVariants as source
+use Rattle.gpl_defs.specs.declared.instruction.GplOperation.{GplOperation}
+use Rattle.gpl_defs.specs.declared.instruction.GplOperation.TheVariants as operation
+use Rattle.gpl_defs.specs.Reading.{operand_at}
+use Rattle.native_interp.specs.Entries.{row_entry}
+use Rattle.step_defs.specs.declared.reason.Reason.{Reason}
+use Rattle.step_defs.specs.declared.reason.Reason.TheVariants.{Cell}
+use Rattle.step_defs.specs.State.{GplState}
+use Rattle.step_defs.specs.Place.{Place, place_of, value_at}
+use Rattle.step_defs.specs.Changes.{Changes, unchanged, finished}
+use Rattle.step_defs.specs.Arithmetic.{Source}
+use Rattle.step_defs.specs.Step.{step, source_of}
+use Rattle.step_defs.specs.Run.{bound}
+use Rattle.interp_defs.specs.declared.turn.Turn.TheVariants.{Stepped, Stopped}
+use Rattle.interp_defs.specs.Runs.{is_end}
+use Rattle.interp_defs.specs.Turned.{Turned}
+use Rattle.sim_view.specs.View.{View, view, Stands}
+use Rattle.sim_view.specs.Exits.{Comes}
+use Rattle.sim_view.proofs.Compose.{comes_as, comes_on}
+use Rattle.sim_operands.specs.Values.{number_of_space}
+use Rattle.sim_rows.specs.States.{Sees, StoppedBy, code_byte, operation_in, behind_code}
+use Rattle.sim_rows.specs.Rows.{is_row, row_width, gone_on, destination_bytes, has_source, source_read, first_of, unit, second_by, second_of, operands_of, AtRow}
+use Rattle.sim_rows.specs.Results.{result_of, row_result, Changed, SeesFinished, SeesResult, StartsRow, RunsRow}
+use Rattle.sim_rows.proofs.Places.{Lies, place_lies, lies_at}
+use Rattle.sim_rows.proofs.Steps.{step_row, row_after, bound_stop, bound_made}
+use Rattle.sim_rows.proofs.Ends.{matches, bars, reaches, turned_by}
+use Rattle.sim_rows.proofs.Fronting.{space_small}
+use Rattle.sim_rows.proofs.Loading.{first_visible}
+use Rattle.sim_rows.proofs.Operands.{value_same}
+
+-- ---- at the entry of a row
+
+-- nothing was changed yet
+pub row_changed : (s : GplState) (place : Place) (source : Source) (w : View) → AtRow s place source w → Changed (unchanged (gone_on s)) w
+row_changed s place source w h = record { cells = h.holds.sees.cells; vdp = h.holds.sees.vdp; registers = h.holds.sees.registers; held = h.holds.sees.held; grom = h.holds.sees.grom; mark = h.holds.mark }
+
+-- ---- both operands
+
+value_in : {X : Type 0} → X → Result X Reason → X
+value_in other (Ok x) = x
+value_in other (Err reason) = other
+
+both_by : (first : Result Place Reason) (second : Result Source Reason) (o : Place × Source) → (first >>= λ place. (second >>= λ source. Ok (place, source))) ≡ Ok o → (first ≡ Ok o.0) × (second ≡ Ok o.1)
+unfolding value_in
+both_by (Ok place) (Ok source) o e = (ap (λ (p : Place × Source). Ok p.0) (ap (value_in o) e), ap (λ (p : Place × Source). Ok p.1) (ap (value_in o) e))
+both_by (Ok place) (Err reason) o e = absurd (cc)
+both_by (Err reason) second o e = absurd (cc)
+
+pub both : (s : GplState) (place : Place) (source : Source) → operands_of s ≡ Ok (place, source) → (first_of s ≡ Ok place) × (second_of s ≡ Ok source)
+both s place source e = both_by (first_of s) (second_of s) (place, source) e
+
+-- the destination is visible
+pub destination_visible : (s : GplState) (place : Place) (source : Source) → operands_of s ≡ Ok (place, source) → number_of_space place.space ≡ 0 → place.address + destination_bytes s ≤ 0xC2
+destination_visible s place source e = first_visible s place (both s place source e).0
+
+-- a source's place is visible
+abbrev SourceLies : ℕ → Option Place → Type 0
+SourceLies bytes None = Unit {0}
+SourceLies bytes (Some place) = number_of_space place.space ≡ 0 → place.address + bytes ≤ 0xC2
+
+abbrev AllLie : ℕ → Result Source Reason → Type 0
+AllLie bytes (Ok source) = SourceLies bytes source.place
+AllLie bytes (Err reason) = reason ≡ Cell
+
+place_in_lies : (s : GplState) (w : Width) (r : Result Place Reason) → Lies (size_of w) r → AllLie (size_of w) (r >>= λ p. Ok (record { number = value_at s w p; place = Some p }))
+place_in_lies s w (Ok place) h = h
+place_in_lies s w (Err reason) h = h
+
+source_lies : (s : GplState) (w : Width) (read : GplSource) → AllLie (size_of w) (source_of s w read)
+source_lies s w (source.At operand) = place_in_lies s w (place_of s (size_of w) operand) (place_lies s (size_of w) operand)
+source_lies s w (source.Immediate value) = tt
+
+second_lies : (s : GplState) (b : Bool) → AllLie (size_of (row_width s)) (second_by b s)
+second_lies s true = source_lies (gone_on s) (row_width s) (source_read s).0
+second_lies s false = tt
+
+pub source_visible : (s : GplState) (place : Place) (source : Source) → operands_of s ≡ Ok (place, source) → SourceLies (size_of (row_width s)) source.place
+source_visible s place source e = subst (AllLie (size_of (row_width s))) (both s place source e).1 (second_lies s (has_source s))
+
+-- ---- they stop for one reason
+
+abbrev Alone : {X : Type 0} → Result X Reason → Type 0
+Alone (Ok x) = Unit {0}
+Alone (Err reason) = reason ≡ Cell
+
+lies_alone : (bytes : ℕ) (r : Result Place Reason) → Lies bytes r → Alone r
+lies_alone bytes (Ok place) h = tt
+lies_alone bytes (Err reason) h = h
+
+source_alone : (bytes : ℕ) (r : Result Source Reason) → AllLie bytes r → Alone r
+source_alone bytes (Ok source) h = tt
+source_alone bytes (Err reason) h = h
+
+then_alone : {X Y : Type 0} (r : Result X Reason) (f : X → Result Y Reason) → Alone r → ((x : X) → Alone (f x)) → Alone (r >>= f)
+then_alone (Ok x) f a g = g x
+then_alone (Err reason) f a g = a
+
+operands_alone : (s : GplState) → Alone (operands_of s)
+operands_alone s =
+    then_alone (first_of s) _ (lies_alone (destination_bytes s) (first_of s) (place_lies (gone_on s) (destination_bytes s) (operand_at s.image (behind_code s)).0))
+    (λ place. then_alone (second_of s) _ (source_alone (size_of (row_width s)) (second_of s) (second_lies s (has_source s))) (λ source. tt))
+
+reason_in : {X : Type 0} → Result X Reason → Reason
+reason_in (Ok x) = Cell
+reason_in (Err reason) = reason
+
+reason_is : {X : Type 0} (r : Result X Reason) (reason : Reason) → Alone r → r ≡ Err reason → reason ≡ Cell
+unfolding reason_in
+reason_is (Ok x) reason a e = absurd (cc)
+reason_is (Err other) reason a e = sym (ap reason_in e) ∙ a
+
+no_row : is_row None ≡ true → ⊥
+no_row e = cc
+
+some_is : (o : Option GplOperation) → is_row o ≡ true → (op : GplOperation) × (o ≡ Some op)
+some_is (Some op) e = (op, refl)
+some_is None e = absurd (no_row e)
+
+none_some : (op : GplOperation) → None ≡ Some op → ⊥
+none_some op e = cc
+
+-- ---- the step of a row
+
+bound_row : (s next : GplState) (op : GplOperation) → operation_in s ≡ Some op → is_row (Some op) ≡ true → step s ≡ Ok next → bound s ≡ 440
+bound_row s next (operation.One op) e row is = bound_made s next (Some (operation.One op)) e is
+bound_row s next (operation.Two op) e row is = bound_made s next (Some (operation.Two op)) e is
+bound_row s next (operation.Plain op) e row is = absurd (cc)
+bound_row s next (operation.Byte op) e row is = absurd (cc)
+bound_row s next (operation.Jump op) e row is = absurd (cc)
+bound_row s next (operation.Branch on) e row is = absurd (cc)
+bound_row s next (operation.Move kind) e row is = absurd (cc)
+
+module _ (s : GplState) (x : MachineState) (t : ℕ) (fits : code_byte s < 256) (start : is_end x.cpu.pc ≡ false) (row : is_row (operation_in s) ≡ true) where
+  -- the operands are there, and the operation is told
+  pub record Started (op : GplOperation) (y : MachineState) (u : ℕ) : Type 0 where
+    pub place : Place
+    pub source : Source
+    pub is_both : operands_of s ≡ Ok (place, source)
+    pub is_operation : operation_in s ≡ Some op
+    pub comes : Comes 151 x y t u (row_entry (Some op)) (AtRow s place source)
+
+  started_by : (op : GplOperation) (y : MachineState) (u : ℕ) (told : Option GplOperation) → told ≡ Some op → (r : Result (Place × Source) Reason) → operands_of s ≡ r → StartsRow s x y t u told r → Started op y u
+  started_by op y u told e (Ok o) is l =
+      let same : operation_in s ≡ Some op = sym l.0 ∙ e in
+      record { place = o.0; source = o.1; is_both = is; is_operation = same; comes = subst (λ (p : Option GplOperation). Comes 151 x y t u (row_entry p) (AtRow s o.0 o.1)) same l.1 }
+  started_by op y u told e (Err reason) is l = absurd (none_some op (sym l.0 ∙ e))
+
+  pub started : (op : GplOperation) (y : MachineState) (u : ℕ) (told : Option GplOperation) → told ≡ Some op → StartsRow s x y t u told (operands_of s) → Started op y u
+  started op y u told e l = started_by op y u told e (operands_of s) refl l
+
+  -- an operand that is not visible
+  stopped_by : (y : MachineState) (u : ℕ) (told : Option GplOperation) → told ≡ None → (r : Result (Place × Source) Reason) → operands_of s ≡ r → StartsRow s x y t u told r → Turned s 29 x y t u (Stopped Cell)
+  stopped_by y u told none (Ok o) e l = let op = some_is (operation_in s) row in absurd (none_some op.0 (sym none ∙ l.0 ∙ op.1))
+  stopped_by y u told none (Err reason) e l =
+      let op = some_is (operation_in s) row in
+      let cell : reason ≡ Cell = reason_is (operands_of s) reason (operands_alone s) e in
+      let run : Comes 129 x y t u 0x22B8 (StoppedBy s Cell) = subst (λ (r : Reason). Comes 129 x y t u 0x22B8 (StoppedBy s r)) cell l.1 in
+      let is : step s ≡ Err Cell = step_row s op.0 fits op.1 (subst (λ (o : Option GplOperation). is_row o ≡ true) op.1 row) ∙ ap (λ (r : Result (Place × Source) Reason). r >>= row_after s op.0) (e ∙ ap Err cell) in
+      let b = bound_stop s Cell is in
+      turned_by x y t u 29 (Stopped Cell) s (Err Cell) is (refl, reaches 29 (bound s) run start refl (omega arith), bars s y run.stands run.holds)
+
+  pub stopped_row : (y : MachineState) (u : ℕ) (told : Option GplOperation) → told ≡ None → StartsRow s x y t u told (operands_of s) → Turned s 29 x y t u (Stopped Cell)
+  stopped_row y u told none l = stopped_by y u told none (operands_of s) refl l
+
+  -- what was made of the operands is the step
+  made : (y : MachineState) (u most : ℕ) (place : Place) (source : Source) (op : GplOperation) → operation_in s ≡ Some op → operands_of s ≡ Ok (place, source) → most ≤ 411 →
+      (r : Result Changes Reason) → row_result op s place source ≡ r → Comes most x y t u 0x228C (SeesResult r) → Turned s 29 x y t u Stepped
+  made y u most place source op e is le (Ok c) f run =
+      let same : value_at (gone_on s) (row_width s) place ≡ value_at s (row_width s) place = value_same (gone_on s) s (row_width s) place refl refl in
+      let after : row_after s op (place, source) ≡ Ok (finished c) =
+      ap (λ (n : ℕ). result_of op (row_width s) place n source (unchanged (gone_on s)) >>= λ (c : Changes). Ok (finished c)) same ∙ ap (λ (r : Result Changes Reason). r >>= λ (c : Changes). Ok (finished c)) f in
+      let row2 : is_row (Some op) ≡ true = subst (λ (o : Option GplOperation). is_row o ≡ true) e row in
+      let step_is : step s ≡ Ok (finished c) = step_row s op fits e row2 ∙ ap (λ (r : Result (Place × Source) Reason). r >>= row_after s op) is ∙ after in
+      let b = bound_row s (finished c) op e row2 step_is in
+      turned_by x y t u 29 Stepped s (Ok (finished c)) step_is (refl, reaches 29 (bound s) run start refl (omega arith), matches (finished c) y run.stands run.holds)
+  made y u most place source op e is le (Err reason) f run = absurd (run.holds)
+
+  pub turned_row : (op : GplOperation) (y z : MachineState) (u v most : ℕ) (b : Started op y u) → is_end (row_entry (Some op)) ≡ false → RunsRow op most y z u v → most ≤ 260 → Turned s 29 x z t v Stepped
+  turned_row op y z u v most b entry r le =
+      made z v (151 + most) b.place b.source op b.is_operation b.is_both (omega arith) (row_result op s b.place b.source) refl (comes_on 151 most b.comes (r s b.place b.source b.is_operation b.comes.holds b.is_both) entry)
