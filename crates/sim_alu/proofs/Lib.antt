@@ -1,0 +1,8 @@
+pub mod Status
+pub mod Paths
+pub mod Bytes
+pub mod Numbers
+pub mod Making
+pub mod Frames
+pub mod Finishing
+pub mod Turning

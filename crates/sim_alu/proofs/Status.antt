@@ -1,0 +1,29 @@
+-- The word of the status register, shifted to the right and back: the five status bits in its high byte.
+use Rattle.std.proofs.Common.{◌≡◌, ℕ, ◌*◌, ◌<◌, Bool, true, false, arith}
+use Rattle.console_defs.specs.declared.flags.Flags.{Flags}
+use Rattle.console_defs.specs.declared.status.Status.{Status}
+use Rattle.console_defs.specs.Status.{IsStatus, bit_of, status_word}
+use Rattle.console_defs.specs.Shifts.{shifted}
+use Rattle.console_defs.specs.declared.instruction.ShiftOp.TheVariants.{SRL, SLA}
+use Rattle.step_defs.specs.Changes.{status_byte}
+use Rattle.sim_alu.specs.Pieces.{kept}
+
+-- a bit is the weight or nothing
+bit_is : (b : Bool) (weight : ℕ) → (bit_of b weight ≡ bit_of b 1 * weight) × (bit_of b 1 < 2)
+bit_is true weight = (omega arith, omega arith)
+bit_is false weight = (omega arith, omega arith)
+
+pub kept_is : (flags : Flags) (status : Status) → IsStatus status → shifted SLA (shifted SRL (status_word (record status { flags = flags })) 11) 11 ≡ kept flags
+kept_is flags status room =
+    let lgt = bit_is flags.lgt 0x8000 in
+    let agt = bit_is flags.agt 0x4000 in
+    let eq = bit_is flags.eq 0x2000 in
+    let c = bit_is flags.c 0x1000 in
+    let ov = bit_is flags.ov 0x0800 in
+    let op = bit_is status.op 0x0400 in
+    let lgt2 = bit_is flags.lgt 0x80 in
+    let agt2 = bit_is flags.agt 0x40 in
+    let eq2 = bit_is flags.eq 0x20 in
+    let c2 = bit_is flags.c 0x10 in
+    let ov2 = bit_is flags.ov 0x08 in
+    omega arith
