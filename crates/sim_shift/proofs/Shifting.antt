@@ -208,9 +208,6 @@ count_is Word bytes word number e f h =
     ap (λ (n : ℕ). low_four (if n == 1 then swapped word else word)) e ∙ ap low_four f ∙ count_of_word number (omega arith)
 
 -- the value of the last piece, whose register held a number
-register_by : (op : ShiftOp) (width : Width) (x count : ℕ) (v : View) → v.r.r3 ≡ size_of width → (pieces.shifts op v).left.r.r9 ≡ (pieces.shifts op (record v { r = record v.r { r3 = size_of width } })).left.r.r9
-register_by op width x count v e = ap (λ (n : ℕ). (pieces.shifts op (record v { r = record v.r { r3 = n } })).left.r.r9) e
-
 number_in : (op : ShiftOp) (width : Width) (x count : ℕ) (v : View) → x < modulus width → count < 16 →
     of_register width (pieces.shifts op (record v { r = record v.r { r0 = count; r3 = size_of width; r9 = in_register width x } })).left.r.r9 ≡ number_by op width x count
 number_in SRA width x count v h k = arithmetic width x count h k

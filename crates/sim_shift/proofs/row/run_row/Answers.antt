@@ -1,6 +1,6 @@
-use Rattle.std.proofs.Common.{◌∙◌, sym}
-use Rattle.sim_view.specs.View.{view}
-use Rattle.sim_shift.proofs.Shifting.{keeps_then, shown_keeps, shifts, idle_kept}
+use Rattle.std.proofs.Common.{ℕ, ◌∙◌, sym, subst}
+use Rattle.sim_view.specs.View.{view, Stands}
+use Rattle.sim_shift.proofs.Shifting.{keeps_then, shown_keeps, shifts, idle_kept, near_kept, visible_kept}
 use Rattle.sim_shift.proofs.Rowing
 use Rattle.sim_shift.proofs.row.run_row.Goals as goal
 
@@ -38,3 +38,69 @@ returns g c =
     λ s place source known a both.
     Rowing.runs_some c.args.op x y z c.args.steps.now c.ask_count.new.steps c.take_count.new.steps c.ask_count.ensures c.take_count.ensures.exits s place source known a c.requires.stands.machine
     p c.finish_row-2.new.machine c.shift_value.new.steps c.finish_row-2.new.steps (sym c.take_count.ensures.some ∙ c.if-not-take_count.false) c.shift_value.ensures c.finish_row-2.ensures
+
+pub finish_row-requires-clause-stands : goal.finish_row-requires-clause-stands
+finish_row-requires-clause-stands g c =
+    let x = c.args.machine.now in
+    let y = c.ask_count.new.machine in
+    let z = c.take_count.new.machine in
+    Rowing.stands_none c.args.op x y z c.args.steps.now c.ask_count.new.steps c.take_count.new.steps c.ask_count.ensures c.take_count.ensures.exits (sym c.take_count.ensures.some ∙ c.if-not-take_count.true)
+
+pub shift_value-requires-clause-stands : goal.shift_value-requires-clause-stands
+shift_value-requires-clause-stands g c =
+    let x = c.args.machine.now in
+    let y = c.ask_count.new.machine in
+    let z = c.take_count.new.machine in
+    Rowing.stands_some c.args.op x y z c.args.steps.now c.ask_count.new.steps c.take_count.new.steps c.ask_count.ensures c.take_count.ensures.exits (sym c.take_count.ensures.some ∙ c.if-not-take_count.false)
+
+pub shift_value-requires-clause-some : goal.shift_value-requires-clause-some
+shift_value-requires-clause-some g c =
+    let x = c.args.machine.now in
+    let y = c.ask_count.new.machine in
+    let z = c.take_count.new.machine in
+    Rowing.count_some c.args.op x y z c.args.steps.now c.ask_count.new.steps c.take_count.new.steps c.ask_count.ensures c.take_count.ensures.exits (sym c.take_count.ensures.some ∙ c.if-not-take_count.false)
+
+pub shift_value-requires-clause-few : goal.shift_value-requires-clause-few
+shift_value-requires-clause-few g c =
+    let x = c.args.machine.now in
+    let y = c.ask_count.new.machine in
+    let z = c.take_count.new.machine in
+    Rowing.count_few c.args.op x y z c.args.steps.now c.ask_count.new.steps c.take_count.new.steps c.ask_count.ensures c.take_count.ensures.exits
+
+pub finish_row-requires-clause-space : goal.finish_row-requires-clause-space
+finish_row-requires-clause-space g c =
+    let x = c.args.machine.now in
+    let y = c.ask_count.new.machine in
+    let z = c.take_count.new.machine in
+    near_kept (view x) (view z) (Rowing.keeps c.args.op x y z c.args.steps.now c.ask_count.new.steps c.take_count.new.steps c.ask_count.ensures c.take_count.ensures.exits) c.requires.space
+
+pub finish_row-requires-clause-visible : goal.finish_row-requires-clause-visible
+finish_row-requires-clause-visible g c =
+    let x = c.args.machine.now in
+    let y = c.ask_count.new.machine in
+    let z = c.take_count.new.machine in
+    visible_kept (view x) (view z) (Rowing.keeps c.args.op x y z c.args.steps.now c.ask_count.new.steps c.take_count.new.steps c.ask_count.ensures c.take_count.ensures.exits) c.requires.visible
+
+pub finish_row-requires-2-clause-stands : goal.finish_row-requires-2-clause-stands
+finish_row-requires-2-clause-stands g c =
+    let x = c.args.machine.now in
+    let y = c.ask_count.new.machine in
+    let z = c.take_count.new.machine in
+    let p = c.shift_value.new.machine in
+    subst (λ (n : ℕ). Stands p n) (shifts c.args.op (view z)).to_is c.shift_value.ensures.stands
+
+pub finish_row-requires-2-clause-space : goal.finish_row-requires-2-clause-space
+finish_row-requires-2-clause-space g c =
+    let x = c.args.machine.now in
+    let y = c.ask_count.new.machine in
+    let z = c.take_count.new.machine in
+    let p = c.shift_value.new.machine in
+    near_kept (view x) (view p) (keeps_then (Rowing.keeps c.args.op x y z c.args.steps.now c.ask_count.new.steps c.take_count.new.steps c.ask_count.ensures c.take_count.ensures.exits) (shown_keeps c.shift_value.ensures.shows (shifts c.args.op (view z)).keeps)) c.requires.space
+
+pub finish_row-requires-2-clause-visible : goal.finish_row-requires-2-clause-visible
+finish_row-requires-2-clause-visible g c =
+    let x = c.args.machine.now in
+    let y = c.ask_count.new.machine in
+    let z = c.take_count.new.machine in
+    let p = c.shift_value.new.machine in
+    visible_kept (view x) (view p) (keeps_then (Rowing.keeps c.args.op x y z c.args.steps.now c.ask_count.new.steps c.take_count.new.steps c.ask_count.ensures c.take_count.ensures.exits) (shown_keeps c.shift_value.ensures.shows (shifts c.args.op (view z)).keeps)) c.requires.visible
