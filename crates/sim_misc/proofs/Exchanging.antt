@@ -1,13 +1,10 @@
 -- EX from its row to the end of the step.
-use Rattle.std.proofs.Common.{◌≡◌, ℕ, ◌+◌, ◌/◌, ◌%◌, ◌<◌, ◌≤◌, Bool, true, false, refl, sym, ap, subst, ◌∙◌, arith, Option, Some, None, Result, Ok, Err}
-use Rattle.std.specs.Prelude.{◌==◌, not, nat_lt, if◌then◌else◌}
+use Rattle.std.proofs.Common.{◌≡◌, ℕ, ◌/◌, ◌%◌, ◌<◌, Bool, true, false, refl, sym, ap, subst, ◌∙◌, arith, Option, Some, Result, Ok, Err}
+use Rattle.std.specs.Prelude.{◌==◌, not, if◌then◌else◌}
 use Rattle.std.proofs.lemmas.Bool.{agree_below_at}
 use Rattle.console_defs.specs.Flags.{Width, Byte, Word, size_of}
 use Rattle.console_defs.specs.Machine.{MachineState, IsMachine}
 use Rattle.source_defs.specs.Refusals.{◌>>=◌}
-use Rattle.gpl_defs.specs.declared.instruction.GplSource.{GplSource}
-use Rattle.gpl_defs.specs.declared.instruction.GplSource.TheVariants as source
-use Rattle.gpl_defs.specs.declared.instruction.GplOperation.{GplOperation}
 use Rattle.gpl_defs.specs.declared.instruction.GplOperation.TheVariants.{Two}
 use Rattle.gpl_defs.specs.declared.instruction.TwoName.TheVariants.{EX}
 use Rattle.gpl_defs.specs.Codes.{operation_at}
@@ -22,13 +19,13 @@ use Rattle.interp_defs.specs.Match.{PortsAreIdle}
 use Rattle.sim_view.specs.View.{View, view, Stands}
 use Rattle.sim_view.specs.Exits.{Exits, Comes}
 use Rattle.sim_view.proofs.Bridge.{is_view}
-use Rattle.sim_view.proofs.Compose.{comes, comes_then, comes_on, comes_as}
+use Rattle.sim_view.proofs.Compose.{comes, comes_then, comes_on}
 use Rattle.sim_operands.specs.Pieces.{return_of}
 use Rattle.sim_operands.specs.Values.{width_in, in_register, of_register, IsVisible}
 use Rattle.sim_operands.specs.Subroutines.{StoresValue}
 use Rattle.sim_rows.specs.States.{code_byte, operation_in}
-use Rattle.sim_rows.specs.Rows.{row_width, gone_on, is_immediate, word_of, has_source, behind_first, source_read, second_by, second_of, operands_of, bytes_by, destination_bytes, AtRow, LoadsFrom, LoadsFromSource}
-use Rattle.sim_rows.specs.Results.{Changed, Storing, SeesFinished, SeesResult, row_result, StoresResult}
+use Rattle.sim_rows.specs.Rows.{row_width, gone_on, is_immediate, word_of, has_source, behind_first, second_by, operands_of, bytes_by, destination_bytes, AtRow, LoadsFrom, LoadsFromSource}
+use Rattle.sim_rows.specs.Results.{Storing, SeesFinished, SeesResult, row_result, StoresResult}
 use Rattle.sim_rows.proofs.Codes.{two_above}
 use Rattle.sim_rows.proofs.Again.{idle_again}
 use Rattle.sim_rows.proofs.Sources.{code_fits}

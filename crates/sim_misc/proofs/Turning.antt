@@ -1,12 +1,12 @@
 -- EX from its dispatch to the end of the step.
-use Rattle.std.proofs.Common.{◌≡◌, ℕ, ◌+◌, ◌<◌, ◌≤◌, Bool, true, false, refl, sym, ap, subst, ◌∙◌, arith, Option, Some, None}
+use Rattle.std.proofs.Common.{◌≡◌, ℕ, ◌+◌, ◌<◌, ◌≤◌, true, false, refl, sym, ap, subst, ◌∙◌, arith, Option, Some, None}
 use Rattle.std.specs.Option.{is_some}
 use Rattle.console_defs.specs.Flags.{Width, Byte, Word, size_of}
 use Rattle.console_defs.specs.Machine.{MachineState}
 use Rattle.gpl_defs.specs.declared.instruction.TwoName.TheVariants.{EX}
 use Rattle.gpl_defs.specs.declared.instruction.GplOperation.{GplOperation}
 use Rattle.gpl_defs.specs.declared.instruction.GplOperation.TheVariants.{Two}
-use Rattle.native_interp.specs.Entries.{operation_entry, row_entry}
+use Rattle.native_interp.specs.Entries.{operation_entry}
 use Rattle.step_defs.specs.State.{GplState}
 use Rattle.step_defs.specs.Place.{Place}
 use Rattle.step_defs.specs.declared.reason.Reason.TheVariants.{Cell}
@@ -14,7 +14,7 @@ use Rattle.interp_defs.specs.declared.turn.Turn.TheVariants.{Stepped, Stopped}
 use Rattle.interp_defs.specs.Match.{PortsAreIdle}
 use Rattle.interp_defs.specs.Runs.{is_end}
 use Rattle.interp_defs.specs.Turned.{Turned}
-use Rattle.sim_view.specs.View.{View, view, Stands}
+use Rattle.sim_view.specs.View.{view, Stands}
 use Rattle.sim_view.proofs.Bridge.{is_view}
 use Rattle.sim_operands.specs.Values.{number_of_space, IsVisible}
 use Rattle.sim_rows.specs.States.{Dispatched, state_at_dispatch, code_byte, operation_in, operation_seen, behind_code}

@@ -15,9 +15,9 @@ ghost use Rattle.sim_rows.specs.Results.{RunsRow};
 ghost use Rattle.sim_misc.specs.Family.{is_misc};
 
 use crate::piece::{keep_destination, turn_to_source};
-use sim_rows::{finish_row, start_row};
 use interp_defs::Turn;
 use sim_operands::run_store;
+use sim_rows::{finish_row, start_row};
 use std::sync::ledger::Ledger;
 use step_defs::Reason;
 use tms_step::{Machine, Steps};

@@ -1,5 +1,5 @@
 -- The pieces of a shift, one after the other, to the end of the step.
-use Rattle.std.proofs.Common.{◌≡◌, ℕ, ◌+◌, ◌<◌, ◌≤◌, Bool, true, false, refl, sym, ap, subst, ◌∙◌, arith, eqb, Some}
+use Rattle.std.proofs.Common.{◌≡◌, ℕ, ◌<◌, ◌≤◌, Bool, true, false, refl, sym, ap, subst, ◌∙◌, arith, eqb, Some}
 use Rattle.std.specs.Prelude.{not}
 use Rattle.std.proofs.lemmas.Bool.{eqb-true}
 use Rattle.console_defs.specs.Words.{even}
@@ -11,21 +11,19 @@ use Rattle.step_defs.specs.State.{GplState}
 use Rattle.step_defs.specs.Place.{Place, value_at}
 use Rattle.step_defs.specs.Changes.{Changes, unchanged}
 use Rattle.step_defs.specs.Arithmetic.{Source, count_of}
-use Rattle.interp_defs.specs.Match.{PortsAreIdle}
 use Rattle.interp_defs.specs.Runs.{is_end}
 use Rattle.sim_view.specs.View.{View, view, Stands}
-use Rattle.sim_view.specs.Exits.{Exit, Exits, Comes}
+use Rattle.sim_view.specs.Exits.{Exits, Comes}
 use Rattle.sim_view.proofs.Bridge.{is_view}
-use Rattle.sim_view.proofs.Compose.{Goes, comes, comes_then, comes_on, comes_as}
+use Rattle.sim_view.proofs.Compose.{comes, comes_then, comes_on, comes_as}
 use Rattle.sim_operands.specs.Pieces.{return_of}
-use Rattle.sim_operands.specs.Values.{IsVisible}
 use Rattle.sim_rows.specs.States.{operation_in}
 use Rattle.sim_rows.specs.Rows.{row_width, gone_on, AtRow}
 use Rattle.sim_rows.specs.Results.{Storing, SeesFinished, SeesResult, row_result, StoresResult}
 use Rattle.sim_shift.specs.Pieces as pieces
 use Rattle.sim_shift.specs.Pieces.{low_four}
 use Rattle.sim_shift.specs.Family.{name_of, shift_entry}
-use Rattle.sim_shift.proofs.Shifting.{Keeps, keeps_then, shown_keeps, asking_keeps, count_keeps, counts_few, counted_word, told, told_is, none, some, shifts, number_by, two_is, entry_even, Told, told_at, stores_none, stores_some}
+use Rattle.sim_shift.proofs.Shifting.{Keeps, keeps_then, shown_keeps, asking_keeps, count_keeps, counts_few, counted_word, told_is, none, some, shifts, number_by, two_is, entry_even, Told, told_at, stores_none, stores_some}
 
 not_false : (b : Bool) → not b ≡ false → b ≡ true
 not_false true e = refl

@@ -1,15 +1,14 @@
 -- A shift from its row to STO.
-use Rattle.std.proofs.Common.{◌≡◌, ℕ, ◌+◌, ◌/◌, ◌<◌, ◌≤◌, Bool, true, false, refl, sym, ap, subst, ◌∙◌, arith, eqb, Some}
-use Rattle.std.specs.Prelude.{◌==◌, not, if◌then◌else◌}
-use Rattle.std.proofs.lemmas.Bool.{eqb-true, eqb-false, eq-eqb}
+use Rattle.std.proofs.Common.{◌≡◌, ℕ, ◌+◌, ◌<◌, ◌≤◌, true, false, refl, sym, ap, subst, ◌∙◌, arith, eqb, Some}
+use Rattle.std.specs.Prelude.{◌==◌, if◌then◌else◌}
+use Rattle.std.proofs.lemmas.Bool.{eqb-true, eqb-false}
 use Rattle.console_defs.specs.Words.{even}
 use Rattle.console_defs.specs.Flags.{Width, Byte, Word, modulus, size_of}
 use Rattle.console_defs.specs.Logic.{swapped, ones_set}
 use Rattle.console_defs.specs.Shifts.{shifted}
 use Rattle.console_defs.specs.Vdp.{VdpState, is_vdp_idle}
-use Rattle.console_defs.specs.Grom.{GromState, is_grom_idle}
+use Rattle.console_defs.specs.Grom.{is_grom_idle}
 use Rattle.console_defs.specs.Memory.{Memory}
-use Rattle.console_defs.specs.Machine.{MachineState}
 use Rattle.console_defs.specs.declared.instruction.ShiftOp.{ShiftOp}
 use Rattle.console_defs.specs.declared.instruction.ShiftOp.TheVariants.{SRA, SRL, SLA, SRC}
 use Rattle.gpl_defs.specs.declared.instruction.GplOperation.TheVariants.{Two}
@@ -17,18 +16,16 @@ use Rattle.step_defs.specs.State.{GplState}
 use Rattle.step_defs.specs.Place.{Place, value_at}
 use Rattle.step_defs.specs.Changes.{Changes, unchanged, with_value}
 use Rattle.step_defs.specs.Arithmetic.{Source, two, shifted_right, shifted_left, repeated_sign, repeated, count_of}
-use Rattle.step_defs.specs.Step.{destination_size}
 use Rattle.interp_defs.specs.Match.{PortsAreIdle}
-use Rattle.sim_view.specs.View.{View, view, view_of, Stands}
-use Rattle.sim_view.specs.Exits.{Exit, Exits, Comes}
+use Rattle.sim_view.specs.View.{View, view_of}
+use Rattle.sim_view.specs.Exits.{Exit}
 use Rattle.sim_view.proofs.Bridge.{IsView}
-use Rattle.sim_view.proofs.Compose.{Goes, comes, comes_then, comes_on}
 use Rattle.sim_view.proofs.Places.{pick}
 use Rattle.sim_operands.specs.Pieces.{exit, return_of}
 use Rattle.sim_operands.specs.Values.{width_in, in_register, of_register, IsVisible}
 use Rattle.sim_rows.specs.States.{operation_in}
-use Rattle.sim_rows.specs.Rows.{row_width, gone_on, next_of, bytes_by, destination_bytes, AtRow, StoresTo}
-use Rattle.sim_rows.specs.Results.{Changed, Storing, SeesFinished, SeesResult, row_result, StoresResult}
+use Rattle.sim_rows.specs.Rows.{row_width, gone_on, bytes_by, destination_bytes, AtRow, StoresTo}
+use Rattle.sim_rows.specs.Results.{Changed, Storing}
 use Rattle.sim_shift.specs.Pieces as pieces
 use Rattle.sim_shift.specs.Pieces.{low_four, counted}
 use Rattle.sim_shift.specs.Family.{name_of, shift_entry}

@@ -14,7 +14,7 @@ use Rattle.interp_defs.specs.Match.{PortsAreIdle}
 use Rattle.interp_defs.specs.Runs.{is_end}
 use Rattle.interp_defs.specs.Turned.{Turned}
 use Rattle.step_defs.specs.declared.reason.Reason.TheVariants.{Cell}
-use Rattle.sim_view.specs.View.{View, view, Stands}
+use Rattle.sim_view.specs.View.{view, Stands}
 use Rattle.sim_view.proofs.Bridge.{is_view}
 use Rattle.sim_operands.specs.Values.{number_of_space, IsVisible}
 use Rattle.sim_rows.specs.States.{Dispatched, state_at_dispatch, code_byte, operation_in, operation_seen, behind_code}

@@ -4,6 +4,8 @@
 mod piece;
 mod row;
 
-pub use piece::{ask_arithmetic_count, ask_left_count, ask_right_count, ask_turn_count, take_count};
-pub use piece::{shift_arithmetic, shift_left, shift_right, turn_right};
+pub use piece::{
+    ask_arithmetic_count, ask_left_count, ask_right_count, ask_turn_count, shift_arithmetic,
+    shift_left, shift_right, take_count, turn_right,
+};
 pub use row::run_shift;

@@ -14,12 +14,14 @@ ghost use Rattle.sim_rows.specs.Results.{RunsRow};
 ghost use Rattle.sim_shift.specs.Pieces.{asking, shifts};
 ghost use Rattle.sim_shift.specs.Family as family;
 
-use crate::piece::{ask_arithmetic_count, ask_left_count, ask_right_count, ask_turn_count, take_count};
-use crate::piece::{shift_arithmetic, shift_left, shift_right, turn_right};
-use sim_rows::{finish_row, start_row};
+use crate::piece::{
+    ask_arithmetic_count, ask_left_count, ask_right_count, ask_turn_count, shift_arithmetic,
+    shift_left, shift_right, take_count, turn_right,
+};
 use console_defs::ShiftOp;
 use gpl_defs::{GplOperation, TwoName};
 use interp_defs::Turn;
+use sim_rows::{finish_row, start_row};
 use std::sync::ledger::Ledger;
 use step_defs::Reason;
 use tms_step::{Machine, Steps};

@@ -1,4 +1,4 @@
-use Rattle.std.proofs.Common.{subst, sym, ◌<◌, ℕ}
+use Rattle.std.proofs.Common.{subst, sym}
 use Rattle.console_defs.specs.declared.instruction.ShiftOp.{ShiftOp}
 use Rattle.gpl_defs.specs.declared.instruction.GplOperation.TheVariants.{Two}
 use Rattle.sim_view.specs.View.{view, Stands}
