@@ -8,10 +8,8 @@ use native_interp::{
     FETCH, GBOOT, GEXIT, GOB, GOEXIT, GOTO, GSTEP, GSTOP, SEEK, STREAM, UNKN, WHERE,
 };
 use sim_operands::{fetch_byte, run_seek, stream_value};
-use sim_steps::{
-    ask_address, ask_byte, ask_target, boot, dispatch, go_on, keep_address, leave, stop_code,
-    where_next,
-};
+use sim_rows::{ask_address, ask_byte, dispatch, keep_address, where_next};
+use sim_steps::{ask_target, boot, go_on, leave, stop_code};
 use sim_view::{is_ready, register};
 use std::alloc::{AllocError, Global};
 use std::marker::Brand;

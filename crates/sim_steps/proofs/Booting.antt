@@ -11,10 +11,10 @@ use Rattle.sim_view.proofs.Compose.{Goes, comes, comes_then}
 use Rattle.sim_operands.specs.Pieces as operands
 use Rattle.sim_operands.proofs.Ready.{set_is}
 use Rattle.sim_steps.specs.Pieces as pieces
-use Rattle.sim_steps.specs.States.{Sees}
+use Rattle.sim_rows.specs.States.{Sees}
 use Rattle.sim_steps.specs.Starting.{Begins, booted}
-use Rattle.sim_steps.proofs.Beginning.{just, from}
-use Rattle.sim_steps.proofs.Ends.{matches}
+use Rattle.sim_rows.proofs.Beginning.{just, from}
+use Rattle.sim_rows.proofs.Ends.{matches}
 
 left_is : (a b : Bool) → (a || b) ≡ false → a ≡ false
 left_is true b e = absurd (cc)

@@ -1,12 +1,22 @@
 -- The operations of the families.
-use Rattle.std.proofs.Common.{◌≡◌, true, refl, arith, Option, Some}
-use Rattle.gpl_defs.specs.declared.instruction.PlainOp.TheVariants.{EXIT}
-use Rattle.gpl_defs.specs.declared.instruction.GoOp.TheVariants.{B}
-use Rattle.gpl_defs.specs.declared.instruction.TwoName.TheVariants.{ST}
+use Rattle.std.proofs.Common.{◌≡◌, ℕ, Bool, true, false, refl, sym, subst, arith, Option, Some, None}
+use Rattle.gpl_defs.specs.declared.instruction.PlainOp.TheVariants.{RTN, RTNC, H, GT, EXIT, CARRY, OVF}
+use Rattle.gpl_defs.specs.declared.instruction.GoOp.TheVariants.{B, CALL}
+use Rattle.gpl_defs.specs.declared.instruction.OneName.TheVariants.{ABS, NEG, INV, CLR, CASE, CZ, INC, DEC, INCT, DECT, FETCH, PUSH}
+use Rattle.gpl_defs.specs.declared.instruction.TwoName.TheVariants as two
 use Rattle.gpl_defs.specs.declared.instruction.GplOperation.{GplOperation}
 use Rattle.gpl_defs.specs.declared.instruction.GplOperation.TheVariants as operation
 use Rattle.native_interp.specs.Entries.{operation_entry}
-use Rattle.sim_steps.specs.States.{is_alu, is_flow}
+use Rattle.step_defs.specs.Built.{is_built_operation}
+use Rattle.interp_defs.specs.Runs.{is_end}
+use Rattle.sim_alu.specs.Family.{is_alu}
+use Rattle.sim_shift.specs.Family.{is_shift}
+use Rattle.sim_muldiv.specs.Family.{is_muldiv}
+use Rattle.sim_compare.specs.Family.{is_compare}
+use Rattle.sim_misc.specs.Family.{is_misc}
+use Rattle.sim_steps.specs.declared.family.Family.{Family}
+use Rattle.sim_steps.specs.declared.family.Family.TheVariants.{Alu, Shift, MulDiv, Compare, Flow, Misc, Refused}
+use Rattle.sim_steps.specs.Families.{family_of, is_flow}
 
 pub flow_exit : (o : Option GplOperation) → is_flow o ≡ true → operation_entry o ≡ 0x24C0 → o ≡ Some (operation.Plain EXIT)
 flow_exit (Some (operation.Plain EXIT)) e f = refl
@@ -18,19 +28,154 @@ flow_jump (Some (operation.Plain EXIT)) e f = absurd (f refl)
 flow_jump (Some (operation.Jump B)) e f = refl
 flow_jump _ e f = absurd (cc)
 
-pub alu_store : (o : Option GplOperation) → is_alu o ≡ true → o ≡ Some (operation.Two ST)
-alu_store (Some (operation.Two ST)) e = refl
-alu_store _ e = absurd (cc)
+-- what is true of the operations of each family
+abbrev pub IsIn : Family → Option GplOperation → Type 0
+IsIn Alu o = is_alu o ≡ true
+IsIn Shift o = is_shift o ≡ true
+IsIn MulDiv o = is_muldiv o ≡ true
+IsIn Compare o = is_compare o ≡ true
+IsIn Flow o = is_flow o ≡ true
+IsIn Misc o = is_misc o ≡ true
+IsIn Refused o = operation_entry o ≡ 0x22AE
 
-pub at_row : (o : Option GplOperation) → operation_entry o ≡ 0x2426 → is_alu o ≡ true
-at_row (Some (operation.Two ST)) e = refl
-at_row (Some (operation.Plain EXIT)) e = absurd (omega arith)
-at_row (Some (operation.Jump B)) e = absurd (omega arith)
-at_row _ e = absurd (omega arith)
+is_in : (o : Option GplOperation) → IsIn (family_of o) o
+is_in (Some (operation.Plain RTN)) = refl
+is_in (Some (operation.Plain RTNC)) = refl
+is_in (Some (operation.Plain H)) = refl
+is_in (Some (operation.Plain GT)) = refl
+is_in (Some (operation.Plain EXIT)) = refl
+is_in (Some (operation.Plain CARRY)) = refl
+is_in (Some (operation.Plain OVF)) = refl
+is_in (Some (operation.Byte op)) = refl
+is_in (Some (operation.Jump B)) = refl
+is_in (Some (operation.Jump CALL)) = refl
+is_in (Some (operation.Branch on)) = refl
+is_in (Some (operation.One ABS)) = refl
+is_in (Some (operation.One NEG)) = refl
+is_in (Some (operation.One INV)) = refl
+is_in (Some (operation.One CLR)) = refl
+is_in (Some (operation.One CASE)) = refl
+is_in (Some (operation.One CZ)) = refl
+is_in (Some (operation.One INC)) = refl
+is_in (Some (operation.One DEC)) = refl
+is_in (Some (operation.One INCT)) = refl
+is_in (Some (operation.One DECT)) = refl
+is_in (Some (operation.One FETCH)) = refl
+is_in (Some (operation.One PUSH)) = refl
+is_in (Some (operation.Two two.ADD)) = refl
+is_in (Some (operation.Two two.SUB)) = refl
+is_in (Some (operation.Two two.MUL)) = refl
+is_in (Some (operation.Two two.DIV)) = refl
+is_in (Some (operation.Two two.AND)) = refl
+is_in (Some (operation.Two two.OR)) = refl
+is_in (Some (operation.Two two.XOR)) = refl
+is_in (Some (operation.Two two.ST)) = refl
+is_in (Some (operation.Two two.EX)) = refl
+is_in (Some (operation.Two two.CH)) = refl
+is_in (Some (operation.Two two.CHE)) = refl
+is_in (Some (operation.Two two.CGT)) = refl
+is_in (Some (operation.Two two.CGE)) = refl
+is_in (Some (operation.Two two.CEQ)) = refl
+is_in (Some (operation.Two two.CLOG)) = refl
+is_in (Some (operation.Two two.SRA)) = refl
+is_in (Some (operation.Two two.SLL)) = refl
+is_in (Some (operation.Two two.SRL)) = refl
+is_in (Some (operation.Two two.SRC)) = refl
+is_in (Some (operation.Move kind)) = refl
+is_in None = refl
 
--- what leads neither to the rows nor to the stop
-pub at_flow : (o : Option GplOperation) → (operation_entry o ≡ 0x22AE → ⊥) → (operation_entry o ≡ 0x2426 → ⊥) → is_flow o ≡ true
-at_flow (Some (operation.Plain EXIT)) a b = refl
-at_flow (Some (operation.Jump B)) a b = refl
-at_flow (Some (operation.Two ST)) a b = absurd (b refl)
-at_flow _ a b = absurd (a refl)
+pub in_family : (o : Option GplOperation) (f : Family) → f ≡ family_of o → IsIn f o
+in_family o f e = subst (λ (f : Family). IsIn f o) (sym e) (is_in o)
+
+-- no entry is an end
+pub enters : (o : Option GplOperation) → is_end (operation_entry o) ≡ false
+enters (Some (operation.Plain RTN)) = refl
+enters (Some (operation.Plain RTNC)) = refl
+enters (Some (operation.Plain H)) = refl
+enters (Some (operation.Plain GT)) = refl
+enters (Some (operation.Plain EXIT)) = refl
+enters (Some (operation.Plain CARRY)) = refl
+enters (Some (operation.Plain OVF)) = refl
+enters (Some (operation.Byte op)) = refl
+enters (Some (operation.Jump B)) = refl
+enters (Some (operation.Jump CALL)) = refl
+enters (Some (operation.Branch on)) = refl
+enters (Some (operation.One ABS)) = refl
+enters (Some (operation.One NEG)) = refl
+enters (Some (operation.One INV)) = refl
+enters (Some (operation.One CLR)) = refl
+enters (Some (operation.One CASE)) = refl
+enters (Some (operation.One CZ)) = refl
+enters (Some (operation.One INC)) = refl
+enters (Some (operation.One DEC)) = refl
+enters (Some (operation.One INCT)) = refl
+enters (Some (operation.One DECT)) = refl
+enters (Some (operation.One FETCH)) = refl
+enters (Some (operation.One PUSH)) = refl
+enters (Some (operation.Two two.ADD)) = refl
+enters (Some (operation.Two two.SUB)) = refl
+enters (Some (operation.Two two.MUL)) = refl
+enters (Some (operation.Two two.DIV)) = refl
+enters (Some (operation.Two two.AND)) = refl
+enters (Some (operation.Two two.OR)) = refl
+enters (Some (operation.Two two.XOR)) = refl
+enters (Some (operation.Two two.ST)) = refl
+enters (Some (operation.Two two.EX)) = refl
+enters (Some (operation.Two two.CH)) = refl
+enters (Some (operation.Two two.CHE)) = refl
+enters (Some (operation.Two two.CGT)) = refl
+enters (Some (operation.Two two.CGE)) = refl
+enters (Some (operation.Two two.CEQ)) = refl
+enters (Some (operation.Two two.CLOG)) = refl
+enters (Some (operation.Two two.SRA)) = refl
+enters (Some (operation.Two two.SLL)) = refl
+enters (Some (operation.Two two.SRL)) = refl
+enters (Some (operation.Two two.SRC)) = refl
+enters (Some (operation.Move kind)) = refl
+enters None = refl
+
+-- what leads to the stop is not built
+pub unbuilt : (op : GplOperation) → operation_entry (Some op) ≡ 0x22AE → is_built_operation op ≡ false
+unbuilt (operation.Plain RTN) e = refl
+unbuilt (operation.Plain RTNC) e = refl
+unbuilt (operation.Plain H) e = absurd (omega arith)
+unbuilt (operation.Plain GT) e = absurd (omega arith)
+unbuilt (operation.Plain EXIT) e = absurd (omega arith)
+unbuilt (operation.Plain CARRY) e = absurd (omega arith)
+unbuilt (operation.Plain OVF) e = absurd (omega arith)
+unbuilt (operation.Byte op) e = refl
+unbuilt (operation.Jump B) e = absurd (omega arith)
+unbuilt (operation.Jump CALL) e = refl
+unbuilt (operation.Branch on) e = refl
+unbuilt (operation.One ABS) e = absurd (omega arith)
+unbuilt (operation.One NEG) e = absurd (omega arith)
+unbuilt (operation.One INV) e = absurd (omega arith)
+unbuilt (operation.One CLR) e = absurd (omega arith)
+unbuilt (operation.One CASE) e = refl
+unbuilt (operation.One CZ) e = absurd (omega arith)
+unbuilt (operation.One INC) e = absurd (omega arith)
+unbuilt (operation.One DEC) e = absurd (omega arith)
+unbuilt (operation.One INCT) e = absurd (omega arith)
+unbuilt (operation.One DECT) e = absurd (omega arith)
+unbuilt (operation.One FETCH) e = refl
+unbuilt (operation.One PUSH) e = refl
+unbuilt (operation.Two two.ADD) e = absurd (omega arith)
+unbuilt (operation.Two two.SUB) e = absurd (omega arith)
+unbuilt (operation.Two two.MUL) e = absurd (omega arith)
+unbuilt (operation.Two two.DIV) e = absurd (omega arith)
+unbuilt (operation.Two two.AND) e = absurd (omega arith)
+unbuilt (operation.Two two.OR) e = absurd (omega arith)
+unbuilt (operation.Two two.XOR) e = absurd (omega arith)
+unbuilt (operation.Two two.ST) e = absurd (omega arith)
+unbuilt (operation.Two two.EX) e = absurd (omega arith)
+unbuilt (operation.Two two.CH) e = absurd (omega arith)
+unbuilt (operation.Two two.CHE) e = absurd (omega arith)
+unbuilt (operation.Two two.CGT) e = absurd (omega arith)
+unbuilt (operation.Two two.CGE) e = absurd (omega arith)
+unbuilt (operation.Two two.CEQ) e = absurd (omega arith)
+unbuilt (operation.Two two.CLOG) e = absurd (omega arith)
+unbuilt (operation.Two two.SRA) e = absurd (omega arith)
+unbuilt (operation.Two two.SLL) e = absurd (omega arith)
+unbuilt (operation.Two two.SRL) e = absurd (omega arith)
+unbuilt (operation.Two two.SRC) e = absurd (omega arith)
+unbuilt (operation.Move kind) e = refl

@@ -23,15 +23,14 @@ use Rattle.sim_operands.specs.Pieces.{exit, past, set_to}
 use Rattle.sim_operands.specs.Subroutines.{grom_at}
 use Rattle.sim_operands.proofs.Ready.{set_is}
 use Rattle.sim_steps.specs.Pieces as pieces
-use Rattle.sim_steps.specs.Rows.{code_of, behind_code, Ended, StoppedBy}
-use Rattle.sim_steps.specs.States.{Sees, Dispatched}
-use Rattle.sim_steps.proofs.Beginning.{just, from, known}
-use Rattle.sim_steps.proofs.Steps.{step_exit, step_jump, bound_stop, bound_made}
-use Rattle.sim_steps.proofs.Ends.{matches, leaves, stops, reaches, turned_by}
+use Rattle.sim_rows.specs.States.{Sees, Dispatched, code_byte, behind_code, Ended, StoppedBy}
+use Rattle.sim_rows.proofs.Beginning.{just, from, known}
+use Rattle.sim_rows.proofs.Steps.{step_exit, step_jump, bound_stop, bound_made}
+use Rattle.sim_rows.proofs.Ends.{matches, leaves, stops, reaches, turned_by}
 
 module _ (s : GplState) (x y : MachineState) (t u : ℕ) (d : Dispatched s (view x)) where
   -- EXIT
-  pub exits : operation_at (code_of s) ≡ Some (operation.Plain EXIT) → Stands x 0x24C0 → Exits x y t u (pieces.leave (view x)) → Turned s 29 x y t u (Stopped Exit)
+  pub exits : operation_at (code_byte s) ≡ Some (operation.Plain EXIT) → Stands x 0x24C0 → Exits x y t u (pieces.leave (view x)) → Turned s 29 x y t u (Stopped Exit)
   exits e stands run =
       let is = step_exit s e in
       let h = d.sees in
@@ -81,7 +80,7 @@ module _ (s : GplState) (v : View) (d : Dispatched s v) (image : (at : ℕ) → 
       let h = d.sees in
       record { within = omega arith; to_is = refl; holds = record { cells = h.cells; vdp = h.vdp; registers = h.registers; held = h.held; grom = set_is (grom_at s.image (word_at s.image (behind_code s)).1) target refl target_fits } }
 
-  pub jumps : (x a b c y : MachineState) (t t1 t2 t3 t4 : ℕ) → view x ≡ v → operation_at (code_of s) ≡ Some (operation.Jump B) → Stands x 0x24B0 →
+  pub jumps : (x a b c y : MachineState) (t t1 t2 t3 t4 : ℕ) → view x ≡ v → operation_at (code_byte s) ≡ Some (operation.Jump B) → Stands x 0x24B0 →
       Exits x a t t1 (pieces.ask_target (view x)) → Exits a b t1 t2 (operands.stream (view a)) → Exits b c t2 t3 (pieces.go_on (view b)) → Exits c y t3 t4 (operands.seek (view c)) →
       Turned s 29 x y t t4 Stepped
   jumps x a b c y t t1 t2 t3 t4 is e stands e1 e2 e3 e4 =

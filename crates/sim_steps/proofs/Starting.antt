@@ -9,7 +9,7 @@ use Rattle.interp_defs.specs.Boot.{HoldsEntry}
 use Rattle.sim_view.specs.View.{view, view_of}
 use Rattle.sim_view.proofs.Bridge.{reg_word}
 use Rattle.sim_steps.specs.Starting.{MachinesStart}
-use Rattle.sim_steps.proofs.Ends.{same_state}
+use Rattle.sim_rows.proofs.Ends.{same_state}
 
 take_zeros : (count : ℕ) (xs : List ℕ) → count ≤ length xs → ((at : ℕ) → at < count → slice_index xs at ≡ 0) → take count xs ≡ replicate count 0
 take_zeros zero xs h z = refl

@@ -1,14 +1,15 @@
 //! B and EXIT.
 
 ghost use Rattle.native_interp.specs.declared.addresses.TheConstants as address;
-ghost use Rattle.sim_view.specs.View.{view, Stands};
-ghost use Rattle.sim_view.specs.Exits.{Exits};
-ghost use Rattle.std.specs.Prelude.{◌≡◌, true};
 ghost use Rattle.native_interp.specs.Entries.{operation_entry};
+ghost use Rattle.std.specs.Prelude.{◌≡◌, true};
 ghost use Rattle.interp_defs.specs.Interpreter.{most_to_dispatch};
 ghost use Rattle.interp_defs.specs.Turned.{Turned};
+ghost use Rattle.sim_view.specs.View.{view, Stands};
+ghost use Rattle.sim_view.specs.Exits.{Exits};
+ghost use Rattle.sim_rows.specs.States.{Dispatched, state_at_dispatch, operation_seen};
 ghost use Rattle.sim_steps.specs.Pieces as piece;
-ghost use Rattle.sim_steps.specs.States.{Dispatched, state_at_dispatch, operation_of, is_flow};
+ghost use Rattle.sim_steps.specs.Families.{is_flow};
 
 use interp_defs::Turn;
 use native_interp::{GOEXIT, SEEK, STREAM};
@@ -44,9 +45,9 @@ pub fn leave<L: Ledger>(machine: &mut Machine, steps: &mut Steps<L>)
 
 /// Runs B and EXIT from their dispatch to the end of the step.
 pub fn run_flow<L: Ledger>(machine: &mut Machine, steps: &mut Steps<L>) -> Turn
-    requires stands { Stands machine.old (operation_entry (operation_of (view machine.old))) }
+    requires stands { Stands machine.old (operation_entry (operation_seen (view machine.old))) }
     requires dispatched { let v = view machine.old in Dispatched (state_at_dispatch v) v }
-    requires family { is_flow (operation_of (view machine.old)) ≡ true }
+    requires family { is_flow (operation_seen (view machine.old)) ≡ true }
     ensures { Turned (state_at_dispatch (view machine.old)) most_to_dispatch machine.old machine.new steps.old steps.new result }
 {
     if machine.pc() == GOEXIT {

@@ -2,26 +2,23 @@
 //! of pieces: stretches of at most 16 instructions without a loop.
 #![tactic(auto)]
 
-mod alu;
+mod family;
 mod flow;
 mod laws;
 mod program;
-mod row;
-mod step;
+mod start;
 mod turn;
 
-pub use alu::{run_alu, show, store_result, take_source};
+pub use family::{Family, family_of};
 pub use flow::{ask_target, go_on, leave, run_flow};
 pub use interp_defs::Turn;
 pub use laws::machines_start;
 pub use program::run_turns;
-pub use row::{
-    ask_first, go_to_row, load_destination, load_first, load_operands, load_second, row_width,
-    second_operand,
-};
-pub use step::{
-    ask_address, ask_byte, begin_step, boot, dispatch, keep_address, start_program, stop_code,
-    where_next,
-};
+pub use sim_alu::run_alu;
+pub use sim_compare::run_compare;
+pub use sim_misc::run_misc;
+pub use sim_muldiv::run_muldiv;
+pub use sim_shift::run_shift;
+pub use start::{boot, start_program, stop_code};
 pub use step_defs::Reason;
 pub use turn::gpl_turn;

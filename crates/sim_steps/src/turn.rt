@@ -3,11 +3,18 @@
 ghost use Rattle.interp_defs.specs.Match.{IsMatching, shown_by};
 ghost use Rattle.interp_defs.specs.Turned.{Turned};
 
-use crate::alu::run_alu;
+use crate::family::{Family, family_of};
 use crate::flow::run_flow;
-use crate::step::{begin_step, stop_code};
+use crate::start::stop_code;
+use gpl_forms::operation_at;
 use interp_defs::Turn;
-use native_interp::{ROW, UNKN};
+use sim_alu::run_alu;
+use sim_compare::run_compare;
+use sim_misc::run_misc;
+use sim_muldiv::run_muldiv;
+use sim_rows::begin_step;
+use sim_shift::run_shift;
+use sim_view::register;
 use std::sync::ledger::Ledger;
 use step_defs::Reason;
 use tms_step::{Machine, Steps};
@@ -22,13 +29,17 @@ pub fn gpl_turn<L: Ledger>(machine: &mut Machine, steps: &mut Steps<L>) -> Turn
     ensures { Turned (shown_by machine.old.cpu.memory) 0 machine.old machine.new steps.old steps.new result }
 {
     begin_step(machine, steps);
-    let entry = machine.pc();
-    if entry == UNKN {
-        stop_code(machine, steps);
-        return Turn::Stopped(Reason::Opcode);
+    let code = register(machine, 0) as u8;
+    match family_of(operation_at(code)) {
+        Family::Alu => run_alu(machine, steps),
+        Family::Shift => run_shift(machine, steps),
+        Family::MulDiv => run_muldiv(machine, steps),
+        Family::Compare => run_compare(machine, steps),
+        Family::Flow => run_flow(machine, steps),
+        Family::Misc => run_misc(machine, steps),
+        Family::Refused => {
+            stop_code(machine, steps);
+            Turn::Stopped(Reason::Opcode)
+        }
     }
-    if entry == ROW {
-        return run_alu(machine, steps);
-    }
-    run_flow(machine, steps)
 }

@@ -6,6 +6,7 @@ mod exec;
 mod gasm;
 mod gdis;
 mod gpl_programs;
+mod gpl_rows;
 mod interp;
 mod link;
 mod run;

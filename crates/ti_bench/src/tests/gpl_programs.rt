@@ -82,6 +82,43 @@ const PROGRAMS: &[(&[u8], &[u8], Status, &[u8], &[u8])] = &[
         b"exit at >6004\ngpl >6004 S20 D9F R7E\npad\n",
         b"\nvdp\n>0000 41 00 00 00 00 00 00 00 00 00 00 00 00 00 00 00\n",
     ),
+    // sums, quotients and products, and what they leave of the status
+    (
+        b"1",
+        b"S ADD @>837C,1\n END S\n",
+        Status::Done,
+        b"gpl >6003 SC0 D9F R7E\npad\n",
+        b"\n>8370 00 00 9F 7E 00 00 00 00 00 00 00 00 C0 00 00 00\n",
+    ),
+    (
+        b"1",
+        b"S DEC @>8300\n END S\n",
+        Status::Done,
+        b"gpl >6002 S80 D9F R7E\npad\n>8300 FF 00",
+        b"\n>8370 00 00 9F 7E 00 00 00 00 00 00 00 00 80 00 00 00\n",
+    ),
+    (
+        b"1",
+        b"S DIV @>8300,0\n END S\n",
+        Status::Done,
+        b"gpl >6003 S08 D9F R7E\npad\n>8300 00 00",
+        b"\n>8370 00 00 9F 7E 00 00 00 00 00 00 00 00 08 00 00 00\n",
+    ),
+    (
+        b"1",
+        b"S MUL @>83C1,2\n END S\n",
+        Status::Stopped,
+        b"stop 2 at >6000\ngpl >6000 S00 D9F R7E\npad\n",
+        b"\n>8370 00 00 9F 7E 00 00 00 00 00 00 00 00 00 00 00 00\n",
+    ),
+    // a sum whose second byte is the character, with its own status in the first
+    (
+        b"1",
+        b"S DADD @>837C,>2041\n END S\n",
+        Status::Done,
+        b"gpl >6004 SC0 D9F R7E\npad\n",
+        b"\nvdp\n>0000 41 00 00 00 00 00 00 00 00 00 00 00 00 00 00 00\n",
+    ),
     (
         b"0",
         b"S EXIT\n END S\n",

@@ -1,0 +1,4 @@
+pub mod Numbers
+pub mod Paths
+pub mod Telling
+pub mod Testing

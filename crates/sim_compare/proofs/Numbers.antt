@@ -1,0 +1,111 @@
+-- Facts about numbers that the comparisons need.
+use Rattle.std.proofs.Common.{◌≡◌, ℕ, ◌+◌, ◌*◌, ◌^◌, ◌<◌, ◌≤◌, ℤ, pos, negsuc, Bool, true, false, refl, sym, ap, ◌∙◌, arith, lit<, eqb}
+use Rattle.std.specs.Prelude.{◌&&◌, ◌||◌, ◌==◌, not, nat_lt, nat_le, int_lt, int_le, bit_and}
+use Rattle.std.proofs.lemmas.Bool.{le-ltb, lt-ltb, ltb-true, ltb-false, eq-eqb, eqb-true, ne_eqb, le-leb, lt-leb, agree_below, agree_below_at}
+use Rattle.std.proofs.lemmas.Nat.{and_block, and_comm}
+use Rattle.console_defs.specs.Words.{join}
+use Rattle.console_defs.specs.Flags.{Width, Byte, Word, modulus, signed}
+use Rattle.console_defs.specs.Status.{is_set}
+use Rattle.console_defs.specs.Shifts.{last_out}
+use Rattle.console_defs.specs.declared.instruction.ShiftOp.TheVariants.{SLA}
+use Rattle.sim_operands.specs.Values.{in_register}
+
+-- what is above is not equal
+pub above_is_not : (less more : ℕ) → nat_lt less more ≡ true → (more == less) ≡ false
+above_is_not less more c = let l : less < more = ltb-true less more c in ne_eqb more less (λ e. omega arith)
+
+-- above, or equal
+pub below_or_equal : (limit number : ℕ) (below : Bool) → nat_lt number limit ≡ below → (nat_lt limit number || number == limit) ≡ not below
+below_or_equal limit number true c = let l : number < limit = ltb-true number limit c in rw (le-ltb limit number (omega arith), ne_eqb number limit (λ e. omega arith)) refl
+below_or_equal limit number false c = by (nat_lt limit number) refl
+  where
+    by : (b : Bool) → nat_lt limit number ≡ b → (b || number == limit) ≡ true
+    by true d = refl
+    by false d = let l : limit ≤ number = ltb-false number limit c in let m : number ≤ limit = ltb-false limit number d in rw (eq-eqb number limit (omega arith)) refl
+
+-- ---- left-justified bytes are compared as bytes
+
+-- what stands in a register is a number of its width
+pub number_fits : (width : Width) (number : ℕ) → in_register width number < 65536 → number < modulus width
+number_fits Byte number h = omega arith
+number_fits Word number h = h
+
+same_test : (a b c d : ℕ) → (a < b → c < d) → (b ≤ a → d ≤ c) → nat_lt a b ≡ nat_lt c d
+same_test a b c d f g = by (nat_lt a b) refl
+  where
+    by : (t : Bool) → nat_lt a b ≡ t → t ≡ nat_lt c d
+    by true e = sym (lt-ltb c d (f (ltb-true a b e)))
+    by false e = sym (le-ltb c d (g (ltb-false a b e)))
+
+pub below_in_register : (width : Width) (x y : ℕ) → nat_lt (in_register width x) (in_register width y) ≡ nat_lt x y
+below_in_register Byte x y = same_test (join x 0) (join y 0) x y (λ h. omega arith) (λ h. omega arith)
+below_in_register Word x y = refl
+
+same_equal : (a b c d : ℕ) → (a ≡ b → c ≡ d) → (c ≡ d → a ≡ b) → (a == b) ≡ (c == d)
+same_equal a b c d f g = by (a == b) refl
+  where
+    by : (t : Bool) → (a == b) ≡ t → t ≡ (c == d)
+    by true e = sym (eq-eqb c d (f (eqb-true a b e)))
+    by false e = sym (ne_eqb c d (λ h. not_both (a == b) (eq-eqb a b (g h)) e))
+      where
+        not_both : (t : Bool) → t ≡ true → t ≡ false → ⊥
+        not_both t e f = cc
+
+pub equal_in_register : (width : Width) (x y : ℕ) → (in_register width x == in_register width y) ≡ (x == y)
+equal_in_register Byte x y = same_equal (join x 0) (join y 0) x y (λ h. omega arith) (λ h. omega arith)
+equal_in_register Word x y = refl
+
+pub zero_in_register : (width : Width) (x : ℕ) → (in_register width x == 0) ≡ (x == 0)
+zero_in_register Byte x = same_equal (join x 0) 0 x 0 (λ h. omega arith) (λ h. omega arith)
+zero_in_register Word x = refl
+
+-- at most, and not above
+pub at_most : (x y : ℕ) → not (nat_lt x y) ≡ nat_le y x
+at_most x y = by (nat_lt x y) refl
+  where
+    by : (t : Bool) → nat_lt x y ≡ t → not t ≡ nat_le y x
+    by true e = let h : x < y = ltb-true x y e in sym (lt-leb y x h)
+    by false e = let h : y ≤ x = ltb-false x y e in sym (le-leb y x h)
+
+-- bit by bit
+pub ones_in_register : (width : Width) (x y : ℕ) → (bit_and (in_register width y) (in_register width x) == 0) ≡ (bit_and x y == 0)
+ones_in_register Byte x y =
+    let shared = and_block 8 y x 0 0 (lit< tt) (lit< tt) in
+    let is : bit_and (join y 0) (join x 0) ≡ join (bit_and x y) 0 = rw (and_comm x y) (rw (times x, times y) shared ∙ sym (times (bit_and y x))) in
+    ap (λ n. n == 0) is ∙ zero_in_register Byte (bit_and x y)
+  where
+    times : (n : ℕ) → join n 0 ≡ n * 2 ^ 8 + 0
+    times n = omega arith
+ones_in_register Word x y = ap (λ n. n == 0) (and_comm y x)
+
+-- signed numbers, over all pairs of bytes
+abbrev bytes_in_order : ℕ → ℕ → Bool
+bytes_in_order x y = int_lt (signed Word (join x 0)) (signed Word (join y 0))
+
+abbrev orders_agree : ℕ → Bool
+orders_agree x = agree_below (bytes_in_order x) (λ y. int_lt (signed Byte x) (signed Byte y)) 256
+
+pub order_in_register : (width : Width) (x y : ℕ) → x < modulus width → y < modulus width →
+    int_lt (signed Word (in_register width x)) (signed Word (in_register width y)) ≡ int_lt (signed width x) (signed width y)
+order_in_register Byte x y h k = agree_below_at (bytes_in_order x) (λ y. int_lt (signed Byte x) (signed Byte y)) 256 y (agree_below_at orders_agree (λ _. true) 256 x refl h) k
+order_in_register Word x y h k = refl
+
+pub at_most_signed : (a b : ℤ) → not (int_lt a b) ≡ int_le b a
+at_most_signed (pos a) (pos b) = at_most a b
+at_most_signed (pos a) (negsuc b) = refl
+at_most_signed (negsuc a) (pos b) = refl
+at_most_signed (negsuc a) (negsuc b) = at_most b a
+
+-- ---- a bit of the status
+
+pub bit_out_1 : (status less : ℕ) → status < 256 → less < 256 → last_out SLA (join status less) 1 ≡ is_set status 0x80
+bit_out_1 status less h k = ap (λ n. eqb n 1) (omega arith)
+
+pub bit_out_2 : (status less : ℕ) → status < 256 → less < 256 → last_out SLA (join status less) 2 ≡ is_set status 0x40
+bit_out_2 status less h k = ap (λ n. eqb n 1) (omega arith)
+
+pub bit_out_4 : (status less : ℕ) → status < 256 → less < 256 → last_out SLA (join status less) 4 ≡ is_set status 0x10
+bit_out_4 status less h k = ap (λ n. eqb n 1) (omega arith)
+
+pub bit_out_5 : (status less : ℕ) → status < 256 → less < 256 → last_out SLA (join status less) 5 ≡ is_set status 0x08
+bit_out_5 status less h k = ap (λ n. eqb n 1) (omega arith)

@@ -1,0 +1,85 @@
+-- The comparisons and the tests of the status, and what each tells.
+use Rattle.std.specs.Prelude.{◌≡◌, ℕ, ◌==◌, Bool, true, false, ◌||◌, nat_lt, nat_le, int_lt, int_le, bit_and, Option, Some, None}
+use Rattle.console_defs.specs.Flags.{Width, signed}
+use Rattle.console_defs.specs.Machine.{MachineState}
+use Rattle.gpl_defs.specs.declared.instruction.PlainOp.{PlainOp}
+use Rattle.gpl_defs.specs.declared.instruction.PlainOp.TheVariants.{H, GT, CARRY, OVF}
+use Rattle.gpl_defs.specs.declared.instruction.OneName.TheVariants.{CZ}
+use Rattle.gpl_defs.specs.declared.instruction.TwoName.TheVariants.{CH, CHE, CGT, CGE, CEQ, CLOG}
+use Rattle.gpl_defs.specs.declared.instruction.GplOperation.{GplOperation}
+use Rattle.gpl_defs.specs.declared.instruction.GplOperation.TheVariants.{Plain, One, Two}
+use Rattle.native_interp.specs.declared.addresses.TheConstants.{CTRUE, CFALSE}
+use Rattle.sim_view.specs.View.{View, Stands}
+use Rattle.sim_view.specs.Exits.{Exit}
+use Rattle.sim_operands.specs.Pieces.{exit}
+use Rattle.sim_compare.specs.Pieces as piece
+
+-- the comparisons of operands
+abbrev pub is_comparison : Option GplOperation → Bool
+is_comparison (Some (One CZ)) = true
+is_comparison (Some (Two CH)) = true
+is_comparison (Some (Two CHE)) = true
+is_comparison (Some (Two CGT)) = true
+is_comparison (Some (Two CGE)) = true
+is_comparison (Some (Two CEQ)) = true
+is_comparison (Some (Two CLOG)) = true
+is_comparison _ = false
+
+-- the tests of a bit of the status
+abbrev pub is_test : Option GplOperation → Bool
+is_test (Some (Plain H)) = true
+is_test (Some (Plain GT)) = true
+is_test (Some (Plain CARRY)) = true
+is_test (Some (Plain OVF)) = true
+is_test _ = false
+
+-- the operations that set the condition or clear it, and change nothing else
+abbrev pub is_compare : Option GplOperation → Bool
+is_compare operation = is_comparison operation || is_test operation
+
+-- What a comparison tells of a destination and a source.
+abbrev pub compared : GplOperation → Width → ℕ → ℕ → Bool
+compared (One CZ) width x y = x == 0
+compared (Two CH) width x y = nat_lt y x
+compared (Two CHE) width x y = nat_le y x
+compared (Two CGT) width x y = int_lt (signed width y) (signed width x)
+compared (Two CGE) width x y = int_le (signed width y) (signed width x)
+compared (Two CEQ) width x y = x == y
+compared (Two CLOG) width x y = bit_and x y == 0
+compared operation width x y = false
+
+-- The bit of the status that a test tells.
+abbrev pub tested : Option GplOperation → ℕ
+tested (Some (Plain H)) = 0x80
+tested (Some (Plain GT)) = 0x40
+tested (Some (Plain CARRY)) = 0x10
+tested (Some (Plain OVF)) = 0x08
+tested operation = 0
+
+-- the piece of a comparison
+abbrev pub comparison : GplOperation → View → Exit
+comparison (One CZ) v = piece.compare_with_zero v
+comparison (Two CH) v = piece.compare_higher v
+comparison (Two CHE) v = piece.compare_higher_or_equal v
+comparison (Two CGT) v = piece.compare_greater v
+comparison (Two CGE) v = piece.compare_greater_or_equal v
+comparison (Two CEQ) v = piece.compare_equal v
+comparison (Two CLOG) v = piece.compare_ones v
+comparison operation v = exit 0 0 v
+
+-- the piece of a test
+abbrev pub test : Option GplOperation → View → Exit
+test (Some (Plain H)) v = piece.test_higher v
+test (Some (Plain GT)) v = piece.test_greater v
+test (Some (Plain CARRY)) v = piece.test_carry v
+test (Some (Plain OVF)) v = piece.test_overflow v
+test operation v = exit 0 0 v
+
+-- The machine is at one of the two ends of a comparison.
+abbrev pub IsTold : MachineState → Type 0
+IsTold x = Stands x (piece.end_of (x.cpu.pc == CTRUE))
+
+-- the piece at such an end
+abbrev pub ending : Bool → View → Exit
+ending true v = piece.set_condition v
+ending false v = piece.clear_condition v

@@ -1,0 +1,43 @@
+use Rattle.sim_misc.proofs.Exchanging
+use Rattle.sim_misc.proofs.row.run_exchange.Goals as goal
+
+pub run_store-requires-clause-idle : goal.run_store-requires-clause-idle
+run_store-requires-clause-idle g c =
+    Exchanging.idle_asked c.args.machine.now c.keep_destination.new.machine c.args.steps.now c.keep_destination.new.steps c.keep_destination.ensures c.requires.idle
+
+pub turn_to_source-requires : goal.turn_to_source-requires
+turn_to_source-requires g c =
+    let x = c.args.machine.now in
+    let y = c.keep_destination.new.machine in
+    let z = c.run_store.new.machine in
+    Exchanging.stands_stored x y z c.args.steps.now c.keep_destination.new.steps c.run_store.new.steps c.keep_destination.ensures c.requires.space c.run_store.ensures.value
+
+pub finish_row-requires-clause-idle : goal.finish_row-requires-clause-idle
+finish_row-requires-clause-idle g c =
+    let x = c.args.machine.now in
+    let y = c.keep_destination.new.machine in
+    let z = c.run_store.new.machine in
+    Exchanging.idle_turned x y z c.turn_to_source.new.machine c.args.steps.now c.keep_destination.new.steps c.run_store.new.steps c.turn_to_source.new.steps c.keep_destination.ensures c.requires.space c.run_store.ensures.value c.turn_to_source.ensures c.requires.idle
+
+pub finish_row-requires-clause-space : goal.finish_row-requires-clause-space
+finish_row-requires-clause-space g c =
+    let x = c.args.machine.now in
+    let y = c.keep_destination.new.machine in
+    let z = c.run_store.new.machine in
+    Exchanging.near_source x y z c.turn_to_source.new.machine c.args.steps.now c.keep_destination.new.steps c.run_store.new.steps c.turn_to_source.new.steps c.keep_destination.ensures c.requires.space c.run_store.ensures.value c.turn_to_source.ensures c.requires.source_space
+
+pub finish_row-requires-clause-visible : goal.finish_row-requires-clause-visible
+finish_row-requires-clause-visible g c =
+    let x = c.args.machine.now in
+    let y = c.keep_destination.new.machine in
+    let z = c.run_store.new.machine in
+    Exchanging.visible_source x y z c.turn_to_source.new.machine c.args.steps.now c.keep_destination.new.steps c.run_store.new.steps c.turn_to_source.new.steps c.keep_destination.ensures c.requires.space c.run_store.ensures.value c.turn_to_source.ensures c.requires.source_visible
+
+pub returns : goal.returns
+returns g c =
+    let x = c.args.machine.now in
+    let y = c.keep_destination.new.machine in
+    let z = c.run_store.new.machine in
+    λ s place source known a is.
+    Exchanging.exchanges x y z c.turn_to_source.new.machine c.args.steps.now c.keep_destination.new.steps c.run_store.new.steps c.turn_to_source.new.steps c.keep_destination.ensures c.requires.space c.run_store.ensures.value c.turn_to_source.ensures
+    s place source known a is c.requires.stands.machine c.finish_row.new.machine c.finish_row.new.steps c.finish_row.ensures

@@ -1,0 +1,80 @@
+-- What a row makes of its operands, and views of the machine from the row's entry to the end of the step.
+use Rattle.std.specs.Prelude.{◌≡◌, ℕ, ◌+◌, Option, Some, None, Result, Ok, Err}
+use Rattle.console_defs.specs.Flags.{Width, size_of}
+use Rattle.console_defs.specs.Machine.{MachineState}
+use Rattle.gpl_defs.specs.declared.instruction.GplOperation.{GplOperation}
+use Rattle.gpl_defs.specs.declared.instruction.GplOperation.TheVariants.{One, Two}
+use Rattle.step_defs.specs.declared.reason.Reason.{Reason}
+use Rattle.step_defs.specs.State.{GplState}
+use Rattle.step_defs.specs.Place.{Place, value_at}
+use Rattle.step_defs.specs.Changes.{Changes, unchanged, with_value, finished}
+use Rattle.step_defs.specs.Arithmetic.{Source, two}
+use Rattle.step_defs.specs.Step.{one}
+use Rattle.native_interp.specs.declared.addresses.TheConstants.{GSTEP, GSTOP}
+use Rattle.native_interp.specs.Entries.{row_entry}
+use Rattle.sim_view.specs.View.{View, view}
+use Rattle.sim_view.specs.Exits.{Comes}
+use Rattle.sim_operands.specs.Values.{of_register}
+use Rattle.sim_operands.specs.Subroutines.{grom_at, marked_by}
+use Rattle.sim_muldiv.specs.States.{Sees, StoppedBy, operation_in}
+use Rattle.sim_muldiv.specs.Rows.{row_width, gone_on, operands_of, StoresTo, AtRow}
+
+-- What an operation changes, by the place of its destination, its value and its source.
+abbrev pub result_of : GplOperation → Width → Place → ℕ → Source → Changes → Result Changes Reason
+result_of (One op) width at x source c = one op width at x c
+result_of (Two op) width at x source c = Ok (two op width at x source c)
+result_of operation width at x source c = Ok c
+
+abbrev pub row_result : GplOperation → GplState → Place → Source → Result Changes Reason
+row_result operation s place source =
+    result_of operation (row_width s) place (value_at s (row_width s) place) source (unchanged (gone_on s))
+
+-- The changes so far: they are seen, GROM gives the byte of the next instruction, both ports are idle, and register 13 is a
+-- mark where a byte was stored at the character's cell.
+pub record Changed (c : Changes) (w : View) : Type 0 where
+  pub cells : w.cells ≡ c.state.cells
+  pub vdp : w.vdp.memory ≡ c.state.vdp
+  pub registers : w.vdp.registers ≡ c.state.registers
+  pub held : w.vdp.held ≡ None
+  pub grom : w.grom ≡ grom_at c.state.image c.state.pc
+  pub mark : w.r.r13 ≡ marked_by c.shows 0
+
+-- STORE, or STO, is asked for a number of a width at a place, after some changes.
+pub record Storing (c : Changes) (width : Width) (place : Place) (number : ℕ) (w : View) : Type 0 where
+  pub changed : Changed c w
+  pub bytes_are : w.r.r3 ≡ size_of width
+  pub to_place : StoresTo place w
+  pub value : of_register width w.r.r9 ≡ number
+
+-- The step has ended with these changes.
+abbrev pub SeesFinished : Changes → View → Type 0
+SeesFinished c w = Sees (finished c) (finished c).pc w
+
+abbrev pub SeesResult : Result Changes Reason → View → Type 0
+SeesResult (Ok c) w = SeesFinished c w
+SeesResult (Err reason) w = ⊥
+
+-- The end of a row from SHOW on, whatever was changed: the character goes to the screen if it is due.
+abbrev pub EndsRow : MachineState → MachineState → ℕ → ℕ → Type 0
+EndsRow x y before after =
+    (c : Changes) → Changed c (view x) → Comes 29 x y before after GSTEP (SeesFinished c)
+
+-- The end of a row from STO on: the result is stored, and the row ends.
+abbrev pub StoresResult : MachineState → MachineState → ℕ → ℕ → Type 0
+StoresResult x y before after =
+    (c : Changes) → (width : Width) → (place : Place) → (number : ℕ) → Storing c width place number (view x)
+    → Comes 47 x y before after GSTEP (SeesFinished (with_value width place number c))
+
+-- A row's operands are loaded, and its operation is told; or it stops.
+abbrev pub StartsRow : GplState → MachineState → MachineState → ℕ → ℕ → Option GplOperation → Result (Place × Source) Reason → Type 0
+StartsRow s x y before after told (Ok operands) =
+    (told ≡ operation_in s) × Comes 151 x y before after (row_entry (operation_in s)) (AtRow s operands.0 operands.1)
+StartsRow s x y before after told (Err reason) =
+    (told ≡ None) × Comes 129 x y before after GSTOP (StoppedBy s reason)
+
+-- A row from its entry to the end of the step, for all operands that may be there: at most so many instructions.
+abbrev pub RunsRow : GplOperation → ℕ → MachineState → MachineState → ℕ → ℕ → Type 0
+RunsRow operation most x y before after =
+    (s : GplState) → (place : Place) → (source : Source) → operation_in s ≡ Some operation → AtRow s place source (view x)
+    → operands_of s ≡ Ok (place, source)
+    → Comes most x y before after GSTEP (SeesResult (row_result operation s place source))

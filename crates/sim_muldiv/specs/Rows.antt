@@ -1,0 +1,182 @@
+-- The operands of a row, and views of the machine up to the row's entry.
+use Rattle.std.specs.Prelude.{◌≡◌, ◌≤◌, ℕ, ◌+◌, ◌*◌, ◌/◌, ◌%◌, ◌==◌, Bool, true, false, not, nat_lt, if◌then◌else◌}
+use Rattle.std.specs.Prelude.{Option, Some, None, Result, Ok, Err}
+use Rattle.console_defs.specs.Flags.{Width, size_of}
+use Rattle.console_defs.specs.Machine.{MachineState}
+use Rattle.source_defs.specs.Refusals.{◌>>=◌}
+use Rattle.gpl_defs.specs.declared.instruction.OneName.TheVariants.{CASE, FETCH, PUSH}
+use Rattle.gpl_defs.specs.declared.instruction.GplOperation.{GplOperation}
+use Rattle.gpl_defs.specs.declared.instruction.GplOperation.TheVariants.{One, Two}
+use Rattle.gpl_defs.specs.declared.instruction.GplSource.{GplSource}
+use Rattle.gpl_defs.specs.Reading.{operand_at, source_at, value_at as value_in}
+use Rattle.step_defs.specs.declared.reason.Reason.{Reason}
+use Rattle.step_defs.specs.State.{GplState}
+use Rattle.step_defs.specs.Place.{Place, place_of, value_at}
+use Rattle.step_defs.specs.Arithmetic.{Source}
+use Rattle.step_defs.specs.Step.{source_of, word_or_byte, destination_size}
+use Rattle.native_interp.specs.declared.addresses.TheConstants.{GSTOP, OPS}
+use Rattle.native_interp.specs.Entries.{row_entry}
+use Rattle.sim_view.specs.View.{View, view}
+use Rattle.sim_view.specs.Exits.{Comes}
+use Rattle.sim_operands.specs.Values.{width_in, in_register, number_of_space}
+use Rattle.sim_muldiv.specs.States.{Sees, StoppedBy, code_byte, operation_in, behind_code}
+
+-- The operations whose operands are loaded in one way, before a second table leads on to the row of each.
+abbrev pub is_row : Option GplOperation → Bool
+is_row (Some (One CASE)) = false
+is_row (Some (One FETCH)) = false
+is_row (Some (One PUSH)) = false
+is_row (Some (One op)) = true
+is_row (Some (Two op)) = true
+is_row _ = false
+
+-- An odd code byte is the form of words; below >A0 it is that of one operand; and 2 more is an immediate source.
+abbrev pub word_of : GplState → Bool
+word_of s = code_byte s % 2 == 1
+
+abbrev pub row_width : GplState → Width
+row_width s = word_or_byte (word_of s)
+
+abbrev pub has_source : GplState → Bool
+has_source s = not (nat_lt (code_byte s) 0xA0)
+
+abbrev pub is_immediate : GplState → Bool
+is_immediate s = code_byte s / 2 % 2 == 1
+
+-- the address behind the first operand; the source with the address behind it; and the address behind the instruction
+abbrev pub behind_first : GplState → ℕ
+behind_first s = (operand_at s.image (behind_code s)).1
+
+abbrev pub source_read : GplState → GplSource × ℕ
+source_read s = source_at (is_immediate s) (word_of s) s.image (behind_first s)
+
+abbrev pub next_of : GplState → ℕ
+next_of s = if has_source s then (source_read s).1 else behind_first s
+
+-- the state whose next instruction is the one behind
+abbrev pub gone_on : GplState → GplState
+gone_on s = record s { pc = next_of s }
+
+-- how many bytes the destination takes
+abbrev pub bytes_by : Option GplOperation → Width → ℕ
+bytes_by (Some (Two op)) width = destination_size op width
+bytes_by _ width = size_of width
+
+abbrev pub destination_bytes : GplState → ℕ
+destination_bytes s = bytes_by (operation_in s) (row_width s)
+
+-- The place of the destination, and the source: a row of one operand has 1 for its source's value.
+abbrev pub first_of : GplState → Result Place Reason
+first_of s = place_of (gone_on s) (destination_bytes s) (operand_at s.image (behind_code s)).0
+
+abbrev pub unit : Source
+unit = record { number = 1; place = None }
+
+abbrev pub second_by : Bool → GplState → Result Source Reason
+second_by true s = source_of (gone_on s) (row_width s) (source_read s).0
+second_by false s = Ok unit
+
+abbrev pub second_of : GplState → Result Source Reason
+second_of s = second_by (has_source s) s
+
+abbrev pub operands_of : GplState → Result (Place × Source) Reason
+operands_of s = do
+  place ← first_of s
+  source ← second_of s
+  Ok (place, source)
+
+-- What stays from the dispatch on: the state, the code byte and its address, and that nothing was marked. Register 3 has a
+-- number of bytes.
+pub record Holds (s : GplState) (bytes next : ℕ) (w : View) : Type 0 where
+  pub sees : Sees s next w
+  pub code : w.r.r0 ≡ code_byte s
+  pub address : w.r.r1 ≡ s.pc
+  pub bytes_are : w.r.r3 ≡ bytes
+  pub mark : w.r.r13 ≡ 0
+
+-- a place to store to
+pub record StoresTo (place : Place) (w : View) : Type 0 where
+  pub address : w.r.r7 ≡ place.address
+  pub space : w.r.r8 ≡ number_of_space place.space
+
+-- a place to load from
+pub record LoadsFrom (place : Place) (w : View) : Type 0 where
+  pub address : w.r.r2 ≡ place.address
+  pub space : w.r.r5 ≡ number_of_space place.space
+
+abbrev pub LoadsFromSource : Option Place → View → Type 0
+LoadsFromSource None w = Unit {0}
+LoadsFromSource (Some place) w = LoadsFrom place w
+
+-- The value of the destination that is loaded: its first word, where it is longer than a byte.
+abbrev pub loaded_of : GplState → Place → ℕ
+loaded_of s place =
+    let width = width_in (destination_bytes s) in in_register width (value_at s width place)
+
+-- The destination's place is in registers 7 and 8, and its value in register 9.
+pub record Kept (s : GplState) (place : Place) (next : ℕ) (w : View) : Type 0 where
+  pub holds : Holds s (size_of (row_width s)) next w
+  pub to_place : StoresTo place w
+  pub destination : w.r.r9 ≡ loaded_of s place
+
+-- At OPVAL: so, and the source is the immediate value that follows, or its place is in registers 2 and 5.
+pub record Immediate (s : GplState) (place : Place) (next : ℕ) (w : View) : Type 0 where
+  pub kept : Kept s place next w
+  pub space : w.r.r5 ≡ 2
+
+pub record Found (s : GplState) (place source : Place) (next : ℕ) (w : View) : Type 0 where
+  pub kept : Kept s place next w
+  pub from : LoadsFrom source w
+
+-- The destination's place is in registers 7 and 8 and its value in register 9; the source's place, if it has one, is in
+-- registers 2 and 5, and its value in register 6.
+pub record Sourced (s : GplState) (place : Place) (source : Source) (next : ℕ) (w : View) : Type 0 where
+  pub holds : Holds s (size_of (row_width s)) next w
+  pub to_place : StoresTo place w
+  pub destination : w.r.r9 ≡ loaded_of s place
+  pub from_source : LoadsFromSource source.place w
+  pub value : w.r.r6 ≡ in_register (row_width s) source.number
+
+-- At the entry of a row GROM is behind the instruction.
+abbrev pub AtRow : GplState → Place → Source → View → Type 0
+AtRow s place source w = Sourced s place source (next_of s) w
+
+-- At OPS: the number of bytes of the destination is in register 3.
+pub record AtOperands (s : GplState) (w : View) : Type 0 where
+  pub sees : Sees s (behind_code s) w
+  pub code : w.r.r0 ≡ code_byte s
+  pub address : w.r.r1 ≡ s.pc
+  pub bytes_are : w.r.r3 ≡ destination_bytes s
+
+-- The destination's value was loaded.
+pub record Valued (s : GplState) (place : Place) (w : View) : Type 0 where
+  pub holds : Holds s (destination_bytes s) (behind_first s) w
+  pub to_place : StoresTo place w
+  pub value : w.r.r6 ≡ loaded_of s place
+
+-- The destination is found and its value loaded, or the program stops.
+abbrev pub LoadsDestination : GplState → MachineState → MachineState → ℕ → ℕ → Bool → Result Place Reason → Type 0
+LoadsDestination s x y before after went (Ok place) =
+    (went ≡ true) × Comes 67 x y before after (OPS + 14) (Valued s place)
+LoadsDestination s x y before after went (Err reason) =
+    (went ≡ false) × Comes 47 x y before after GSTOP (StoppedBy s reason)
+
+-- Both operands are there at the entry of the row, or the program stops.
+abbrev pub LoadsOperands : GplState → MachineState → MachineState → ℕ → ℕ → Bool → Result (Place × Source) Reason → Type 0
+LoadsOperands s x y before after went (Ok operands) =
+    (went ≡ true) × Comes 146 x y before after (row_entry (operation_in s)) (AtRow s operands.0 operands.1)
+LoadsOperands s x y before after went (Err reason) =
+    (went ≡ false) × Comes 124 x y before after GSTOP (StoppedBy s reason)
+
+-- From OPVAL the value of the source is loaded, and the machine comes to the entry of the row.
+abbrev pub LoadsPlaced : MachineState → MachineState → ℕ → ℕ → Type 0
+LoadsPlaced x y before after =
+    (s : GplState) → (place source : Place) → (next : ℕ) → is_row (operation_in s) ≡ true → Found s place source next (view x)
+    → Comes 22 x y before after (row_entry (operation_in s))
+      (Sourced s place (record { number = value_at s (row_width s) source; place = Some source }) next)
+
+abbrev pub LoadsImmediate : MachineState → MachineState → ℕ → ℕ → Type 0
+LoadsImmediate x y before after =
+    (s : GplState) → (place : Place) → (next : ℕ) → is_row (operation_in s) ≡ true → Immediate s place next (view x)
+    → let read = value_in (word_of s) s.image next in
+      Comes 16 x y before after (row_entry (operation_in s)) (Sourced s place (record { number = read.0; place = None }) read.1)

@@ -1,0 +1,54 @@
+-- Views of the interpreter's machine at the beginning of a step, at its dispatch, and at the ends of a program.
+use Rattle.std.specs.Prelude.{◌≡◌, ℕ, Option, None, slice_index}
+use Rattle.console_defs.specs.Grom.{next_in_grom, previous_in_grom}
+use Rattle.gpl_defs.specs.declared.instruction.GplOperation.{GplOperation}
+use Rattle.gpl_defs.specs.Codes.{operation_at}
+use Rattle.step_defs.specs.declared.reason.Reason.{Reason}
+use Rattle.step_defs.specs.Reasons.{number_of}
+use Rattle.step_defs.specs.State.{GplState}
+use Rattle.interp_defs.specs.Interpreter.{code_register, address_register}
+use Rattle.sim_view.specs.View.{View, listed}
+use Rattle.sim_operands.specs.Subroutines.{grom_at, state_of}
+
+-- A view shows a state; GROM gives the byte at an address next, and both ports are idle.
+pub record Sees (s : GplState) (next : ℕ) (w : View) : Type 0 where
+  pub cells : w.cells ≡ s.cells
+  pub vdp : w.vdp.memory ≡ s.vdp
+  pub registers : w.vdp.registers ≡ s.registers
+  pub held : w.vdp.held ≡ None
+  pub grom : w.grom ≡ grom_at s.image next
+
+-- At the dispatch of a step: the code byte was read, and two registers hold it and its address.
+pub record Dispatched (s : GplState) (w : View) : Type 0 where
+  pub sees : Sees s (next_in_grom s.pc) w
+  pub code : slice_index (listed w.r) code_register ≡ slice_index s.image s.pc
+  pub address : slice_index (listed w.r) address_register ≡ s.pc
+
+-- the state that a view shows there, with the address of the code byte
+abbrev pub state_at_dispatch : View → GplState
+state_at_dispatch w = record (state_of w) { pc = previous_in_grom (state_of w).pc }
+
+-- The code byte of a state, its operation, and the address behind it.
+abbrev pub code_byte : GplState → ℕ
+code_byte s = slice_index s.image s.pc
+
+abbrev pub operation_in : GplState → Option GplOperation
+operation_in s = operation_at (code_byte s)
+
+abbrev pub behind_code : GplState → ℕ
+behind_code s = next_in_grom s.pc
+
+-- the operation of the code byte that is shown at dispatch
+abbrev pub operation_seen : View → Option GplOperation
+operation_seen w = operation_in (state_at_dispatch w)
+
+-- What is seen where a program ends.
+pub record Ended (s : GplState) (w : View) : Type 0 where
+  pub cells : w.cells ≡ s.cells
+  pub vdp : w.vdp.memory ≡ s.vdp
+  pub registers : w.vdp.registers ≡ s.registers
+  pub address : w.r.r1 ≡ s.pc
+
+pub record StoppedBy (s : GplState) (reason : Reason) (w : View) : Type 0 where
+  pub ended : Ended s w
+  pub reason_is : w.r.r0 ≡ number_of reason

@@ -1,0 +1,5 @@
+pub mod Paths
+pub mod Numbers
+pub mod Shifting
+pub mod Rowing
+pub mod Turning

@@ -1,0 +1,317 @@
+-- A shift from its row to STO.
+use Rattle.std.proofs.Common.{◌≡◌, ℕ, ◌+◌, ◌<◌, ◌≤◌, true, false, refl, sym, ap, subst, ◌∙◌, arith, eqb, Some}
+use Rattle.std.specs.Prelude.{◌==◌, if◌then◌else◌}
+use Rattle.std.proofs.lemmas.Bool.{eqb-true, eqb-false}
+use Rattle.console_defs.specs.Words.{even}
+use Rattle.console_defs.specs.Flags.{Width, Byte, Word, modulus, size_of}
+use Rattle.console_defs.specs.Logic.{swapped, ones_set}
+use Rattle.console_defs.specs.Shifts.{shifted}
+use Rattle.console_defs.specs.Vdp.{VdpState, is_vdp_idle}
+use Rattle.console_defs.specs.Grom.{is_grom_idle}
+use Rattle.console_defs.specs.Memory.{Memory}
+use Rattle.console_defs.specs.declared.instruction.ShiftOp.{ShiftOp}
+use Rattle.console_defs.specs.declared.instruction.ShiftOp.TheVariants.{SRA, SRL, SLA, SRC}
+use Rattle.gpl_defs.specs.declared.instruction.GplOperation.TheVariants.{Two}
+use Rattle.step_defs.specs.State.{GplState}
+use Rattle.step_defs.specs.Place.{Place, value_at}
+use Rattle.step_defs.specs.Changes.{Changes, unchanged, with_value}
+use Rattle.step_defs.specs.Arithmetic.{Source, two, shifted_right, shifted_left, repeated_sign, repeated, count_of}
+use Rattle.interp_defs.specs.Match.{PortsAreIdle}
+use Rattle.sim_view.specs.View.{View, view_of}
+use Rattle.sim_view.specs.Exits.{Exit}
+use Rattle.sim_view.proofs.Bridge.{IsView}
+use Rattle.sim_view.proofs.Places.{pick}
+use Rattle.sim_operands.specs.Pieces.{exit, return_of}
+use Rattle.sim_operands.specs.Values.{width_in, in_register, of_register, IsVisible}
+use Rattle.sim_rows.specs.States.{operation_in}
+use Rattle.sim_rows.specs.Rows.{row_width, gone_on, bytes_by, destination_bytes, AtRow, StoresTo}
+use Rattle.sim_rows.specs.Results.{Changed, Storing}
+use Rattle.sim_shift.specs.Pieces as pieces
+use Rattle.sim_shift.specs.Pieces.{low_four, counted}
+use Rattle.sim_shift.specs.Family.{name_of, shift_entry}
+use Rattle.sim_shift.proofs.Numbers.{arithmetic, left, right, turned, kept_right, kept_left, count_of_word, count_of_byte}
+
+-- What stays on the way to the result.
+pub record Keeps (v w : View) : Type 0 where
+  pub cells : w.cells ≡ v.cells
+  pub vdp : w.vdp ≡ v.vdp
+  pub grom : w.grom ≡ v.grom
+  pub bytes : w.r.r3 ≡ v.r.r3
+  pub address : w.r.r7 ≡ v.r.r7
+  pub space : w.r.r8 ≡ v.r.r8
+  pub mark : w.r.r13 ≡ v.r.r13
+
+pub keeps_then : {u v w : View} → Keeps u v → Keeps v w → Keeps u w
+keeps_then k l = record {
+  cells = l.cells ∙ k.cells;
+  vdp = l.vdp ∙ k.vdp;
+  grom = l.grom ∙ k.grom;
+  bytes = l.bytes ∙ k.bytes;
+  address = l.address ∙ k.address;
+  space = l.space ∙ k.space;
+  mark = l.mark ∙ k.mark;
+}
+
+pub shown_keeps : {v w u : View} → u ≡ w → Keeps v w → Keeps v u
+shown_keeps {v = v} e k = subst (λ (w : View). Keeps v w) (sym e) k
+
+pub idle_kept : (m n : Memory) → Keeps (view_of m) (view_of n) → PortsAreIdle m → PortsAreIdle n
+unfolding view_of
+idle_kept m n k idle = record { vdp = ap is_vdp_idle k.vdp ∙ idle.vdp; grom = ap is_grom_idle k.grom ∙ idle.grom }
+
+pub near_kept : (v w : View) → Keeps v w → v.r.r8 < 2 → w.r.r8 < 2
+near_kept v w k h = let e = k.space in omega arith
+
+pub visible_kept : (v w : View) → Keeps v w → IsVisible v.r.r8 v.r.r7 v.r.r3 → IsVisible w.r.r8 w.r.r7 w.r.r3
+visible_kept v w k h =
+    let P : ℕ → Type 0 = λ n. IsVisible n w.r.r7 w.r.r3 in
+    let Q : ℕ → Type 0 = λ n. IsVisible v.r.r8 n w.r.r3 in
+    let R : ℕ → Type 0 = λ n. IsVisible v.r.r8 v.r.r7 n in
+    subst P (sym k.space) (subst Q (sym k.address) (subst R (sym k.bytes) h))
+
+-- ---- the pieces
+
+pub asking_keeps : (next : ℕ) (v : View) → Keeps v (pieces.asking next v).left
+asking_keeps next v = record { cells = refl; vdp = refl; grom = refl; bytes = refl; address = refl; space = refl; mark = refl }
+
+-- the word whose low four bits are the count
+abbrev pub counted_word : View → ℕ
+counted_word v = if v.r.r3 == 1 then swapped v.r.r6 else v.r.r6
+
+pub record Counting (v : View) : Type 0 where
+  pub most : ℕ
+  pub few : most ≤ 7
+  pub is : pieces.take_count v ≡ counted most (counted_word v) v
+
+pub counting : (v : View) → Counting v
+counting v =
+    pick (v.r.r3 == 1)
+    (λ c. record { most = 7; few = omega arith; is = rw (c, pieces.take_count, counted_word) refl })
+    (λ c. record { most = 6; few = omega arith; is = rw (c, pieces.take_count, counted_word) refl })
+
+-- with a count in register 0
+abbrev pub told : View → ℕ → View
+told v count = record v { r = record v.r { r0 = count } }
+
+told_by : (most word : ℕ) (v : View) → (counted most word v).left ≡ told v (low_four word)
+told_by most word v = pick (low_four word == 0) (λ c. rw (c, counted) refl) (λ c. rw (c, counted) refl)
+
+pub told_is : (v : View) → (pieces.take_count v).left ≡ told v (low_four (counted_word v))
+told_is v = let c = counting v in ap (λ (e : Exit). e.left) c.is ∙ told_by c.most (counted_word v) v
+
+counts_by : (most word : ℕ) (v : View) → (counted most word v).count ≤ most + 1
+counts_by most word v = pick (low_four word == 0) (λ c. rw (c, counted) (omega arith)) (λ c. rw (c, counted) (omega arith))
+
+pub counts_few : (v : View) → (pieces.take_count v).count ≤ 8
+counts_few v =
+    let c = counting v in
+    let few = c.few in
+    let by = counts_by c.most (counted_word v) v in
+    let is = ap (λ (e : Exit). e.count) c.is in
+    omega arith
+
+pub count_keeps : (v : View) → Keeps v (pieces.take_count v).left
+count_keeps v = shown_keeps (told_is v) (record { cells = refl; vdp = refl; grom = refl; bytes = refl; address = refl; space = refl; mark = refl })
+
+none_by : (most word : ℕ) (v : View) → (counted most word v).to ≡ 0x24A8 → eqb (return_of v) 0x24A8 ≡ false → low_four word ≡ 0
+none_by most word v to other =
+    pick (low_four word == 0)
+    (λ c. eqb-true (low_four word) 0 c)
+    (λ c. let is : return_of v ≡ 0x24A8 = rw (c, counted) at to in absurd (eqb-false (return_of v) 0x24A8 other is))
+
+some_by : (most word : ℕ) (v : View) → eqb (counted most word v).to 0x24A8 ≡ false → ((counted most word v).to ≡ return_of v) × (low_four word ≡ 0 → ⊥)
+some_by most word v other =
+    pick (low_four word == 0)
+    (λ c. absurd (cc (rw (c, counted) at other)))
+    (λ c. (rw (c, counted) refl, λ e. eqb-false (low_four word) 0 c e))
+
+pub none : (v : View) → (pieces.take_count v).to ≡ 0x24A8 → eqb (return_of v) 0x24A8 ≡ false → low_four (counted_word v) ≡ 0
+none v to other = let c = counting v in none_by c.most (counted_word v) v (sym (ap (λ (e : Exit). e.to) c.is) ∙ to) other
+
+pub some : (v : View) → eqb (pieces.take_count v).to 0x24A8 ≡ false → ((pieces.take_count v).to ≡ return_of v) × (low_four (counted_word v) ≡ 0 → ⊥)
+some v other =
+    let c = counting v in
+    let to = ap (λ (e : Exit). e.to) c.is in
+    let s = some_by c.most (counted_word v) v (sym (ap (λ (n : ℕ). eqb n 0x24A8) to) ∙ other) in
+    (to ∙ s.0, s.1)
+
+pub turn_byte : (v : View) → (v.r.r3 == 1) ≡ true →
+    pieces.turn_right v ≡ exit 7 0x24A8 (record v { r = record v.r { r4 = swapped v.r.r9; r9 = shifted SRC (ones_set v.r.r9 (swapped v.r.r9)) v.r.r0 } })
+turn_byte v c = rw (c, pieces.turn_right) refl
+
+pub turn_word : (v : View) → (v.r.r3 == 1) ≡ false → pieces.turn_right v ≡ exit 4 0x24A8 (record v { r = record v.r { r9 = shifted SRC v.r.r9 v.r.r0 } })
+turn_word v c = rw (c, pieces.turn_right) refl
+
+-- what a shift's last piece comes to
+pub record Shifted (v : View) (e : Exit) : Type 0 where
+  pub few : e.count ≤ 7
+  pub to_is : e.to ≡ 0x24A8
+  pub keeps : Keeps v e.left
+
+shifted_by : {v : View} {d e : Exit} → d ≡ e → Shifted v e → Shifted v d
+shifted_by {v = v} is h = subst (λ (e : Exit). Shifted v e) (sym is) h
+
+pub shifts : (op : ShiftOp) (v : View) → Shifted v (pieces.shifts op v)
+shifts SRA v = record { few = omega arith; to_is = refl; keeps = record { cells = refl; vdp = refl; grom = refl; bytes = refl; address = refl; space = refl; mark = refl } }
+shifts SRL v = record { few = omega arith; to_is = refl; keeps = record { cells = refl; vdp = refl; grom = refl; bytes = refl; address = refl; space = refl; mark = refl } }
+shifts SLA v = record { few = omega arith; to_is = refl; keeps = record { cells = refl; vdp = refl; grom = refl; bytes = refl; address = refl; space = refl; mark = refl } }
+shifts SRC v =
+    pick (v.r.r3 == 1)
+    (λ c. shifted_by (turn_byte v c) (record { few = omega arith; to_is = refl; keeps = record { cells = refl; vdp = refl; grom = refl; bytes = refl; address = refl; space = refl; mark = refl } }))
+    (λ c. shifted_by (turn_word v c) (record { few = omega arith; to_is = refl; keeps = record { cells = refl; vdp = refl; grom = refl; bytes = refl; address = refl; space = refl; mark = refl } }))
+
+-- ---- the numbers
+
+-- what a shift makes of a number
+abbrev pub number_by : ShiftOp → Width → ℕ → ℕ → ℕ
+number_by SRA width x count = shifted_right width (repeated_sign width x) x count
+number_by SRL width x count = shifted_right width 0 x count
+number_by SLA width x count = shifted_left width x count
+number_by SRC width x count = shifted_right width (repeated width x) x count
+
+pub two_is : (op : ShiftOp) (width : Width) (at : Place) (x : ℕ) (source : Source) (c : Changes) →
+    two (name_of op) width at x source c ≡ with_value width at (number_by op width x (count_of source.number)) c
+two_is SRA width at x source c = refl
+two_is SRL width at x source c = refl
+two_is SLA width at x source c = refl
+two_is SRC width at x source c = refl
+
+pub kept_by : (op : ShiftOp) (width : Width) (x : ℕ) → x < modulus width → number_by op width x 0 ≡ x
+kept_by SRA width x h = kept_right width (repeated_sign width x) x h
+kept_by SRL width x h = kept_right width 0 x h
+kept_by SLA width x h = kept_left width x h
+kept_by SRC width x h = kept_right width (repeated width x) x h
+
+pub size_is : (op : ShiftOp) (width : Width) → bytes_by (Some (Two (name_of op))) width ≡ size_of width
+size_is SRA width = refl
+size_is SRL width = refl
+size_is SLA width = refl
+size_is SRC width = refl
+
+pub width_back : (width : Width) → width_in (size_of width) ≡ width
+width_back Byte = refl
+width_back Word = refl
+
+pub fits_in : (width : Width) (word x : ℕ) → word ≡ in_register width x → word < 65536 → x < modulus width
+fits_in Byte word x e h = omega arith
+fits_in Word word x e h = omega arith
+
+pub back : (width : Width) (x : ℕ) → of_register width (in_register width x) ≡ x
+back Byte x = omega arith
+back Word x = refl
+
+pub count_is : (width : Width) (bytes word number : ℕ) → bytes ≡ size_of width → word ≡ in_register width number → word < 65536 →
+    low_four (if bytes == 1 then swapped word else word) ≡ count_of number
+count_is Byte bytes word number e f h =
+    ap (λ (n : ℕ). low_four (if n == 1 then swapped word else word)) e ∙ ap (λ (n : ℕ). low_four (swapped n)) f ∙ count_of_byte number (omega arith)
+count_is Word bytes word number e f h =
+    ap (λ (n : ℕ). low_four (if n == 1 then swapped word else word)) e ∙ ap low_four f ∙ count_of_word number (omega arith)
+
+-- the value of the last piece, whose register held a number
+register_by : (op : ShiftOp) (width : Width) (x count : ℕ) (v : View) → v.r.r3 ≡ size_of width → (pieces.shifts op v).left.r.r9 ≡ (pieces.shifts op (record v { r = record v.r { r3 = size_of width } })).left.r.r9
+register_by op width x count v e = ap (λ (n : ℕ). (pieces.shifts op (record v { r = record v.r { r3 = n } })).left.r.r9) e
+
+number_in : (op : ShiftOp) (width : Width) (x count : ℕ) (v : View) → x < modulus width → count < 16 →
+    of_register width (pieces.shifts op (record v { r = record v.r { r0 = count; r3 = size_of width; r9 = in_register width x } })).left.r.r9 ≡ number_by op width x count
+number_in SRA width x count v h k = arithmetic width x count h k
+number_in SRL width x count v h k = right width x count h k
+number_in SLA width x count v h k = left width x count h k
+number_in SRC Byte x count v h k = turned Byte x count h k
+number_in SRC Word x count v h k = turned Word x count h k
+
+pub number_is : (op : ShiftOp) (width : Width) (x count : ℕ) (v : View) → v.r.r3 ≡ size_of width → v.r.r9 ≡ in_register width x → v.r.r0 ≡ count → x < modulus width → count < 16 →
+    of_register width (pieces.shifts op v).left.r.r9 ≡ number_by op width x count
+number_is op width x count v e f g h k =
+    ap (λ (n : ℕ). of_register width (pieces.shifts op (record v { r = record v.r { r3 = n } })).left.r.r9) e
+    ∙ ap (λ (n : ℕ). of_register width (pieces.shifts op (record v { r = record v.r { r3 = size_of width; r9 = n } })).left.r.r9) f
+    ∙ ap (λ (n : ℕ). of_register width (pieces.shifts op (record v { r = record v.r { r0 = n; r3 = size_of width; r9 = in_register width x } })).left.r.r9) g
+    ∙ number_in op width x count v h k
+
+-- ---- from the row to STO
+
+pub entry_even : (op : ShiftOp) → (even (shift_entry op) ≡ shift_entry op) × (eqb (even (shift_entry op)) 0x24A8 ≡ false)
+entry_even SRA = (refl, refl)
+entry_even SRL = (refl, refl)
+entry_even SLA = (refl, refl)
+entry_even SRC = (refl, refl)
+
+-- The count is told, and nothing else has happened.
+pub record Told (s : GplState) (place : Place) (source : Source) (w : View) : Type 0 where
+  pub changed : Changed (unchanged (gone_on s)) w
+  pub bytes_are : w.r.r3 ≡ size_of (row_width s)
+  pub to_place : StoresTo place w
+  pub value : w.r.r9 ≡ in_register (row_width s) (value_at s (row_width s) place)
+  pub fits : value_at s (row_width s) place < modulus (row_width s)
+  pub count : w.r.r0 ≡ count_of source.number
+
+changed_by : (s : GplState) (place : Place) (source : Source) (v w : View) → AtRow s place source v → Keeps v w → Changed (unchanged (gone_on s)) w
+changed_by s place source v w a k =
+    let h = a.holds in
+    record {
+      cells = k.cells ∙ h.sees.cells;
+      vdp = ap (λ (d : VdpState). d.memory) k.vdp ∙ h.sees.vdp;
+      registers = ap (λ (d : VdpState). d.registers) k.vdp ∙ h.sees.registers;
+      held = ap (λ (d : VdpState). d.held) k.vdp ∙ h.sees.held;
+      grom = k.grom ∙ h.sees.grom;
+      mark = k.mark ∙ h.mark;
+    }
+
+loaded_is : (op : ShiftOp) (s : GplState) (place : Place) (word : ℕ) → operation_in s ≡ Some (Two (name_of op)) →
+    word ≡ in_register (width_in (destination_bytes s)) (value_at s (width_in (destination_bytes s)) place) → word ≡ in_register (row_width s) (value_at s (row_width s) place)
+loaded_is op s place word known e =
+    let bytes : destination_bytes s ≡ size_of (row_width s) = ap (λ o. bytes_by o (row_width s)) known ∙ size_is op (row_width s) in
+    let width : width_in (destination_bytes s) ≡ row_width s = ap width_in bytes ∙ width_back (row_width s) in
+    e ∙ ap (λ (w : Width). in_register w (value_at s w place)) width
+
+pub told_at : (op : ShiftOp) (s : GplState) (place : Place) (source : Source) (v u : View) → operation_in s ≡ Some (Two (name_of op)) → AtRow s place source v → IsView v →
+    u ≡ (pieces.asking (shift_entry op) v).left → Told s place source (pieces.take_count u).left
+told_at op s place source v u known a i is =
+    let at : Told s place source (told (pieces.asking (shift_entry op) v).left (low_four (counted_word v))) =
+    (let loaded = loaded_is op s place v.r.r9 known a.destination in
+    record {
+      changed = changed_by s place source v (told (pieces.asking (shift_entry op) v).left (low_four (counted_word v))) a (record { cells = refl; vdp = refl; grom = refl; bytes = refl; address = refl; space = refl; mark = refl });
+      bytes_are = a.holds.bytes_are;
+      to_place = record { address = a.to_place.address; space = a.to_place.space };
+      value = loaded;
+      fits = fits_in (row_width s) v.r.r9 (value_at s (row_width s) place) loaded (i.r 9);
+      count = count_is (row_width s) v.r.r3 v.r.r6 source.number a.holds.bytes_are a.value (i.r 6);
+    }) in
+    let P : View → Type 0 = λ w. Told s place source w in
+    let Q : View → Type 0 = λ w. Told s place source (pieces.take_count w).left in
+    subst Q (sym is) (subst P (sym (told_is (pieces.asking (shift_entry op) v).left)) at)
+
+few_counts : (n : ℕ) → count_of n < 16
+few_counts n = omega arith
+
+pub stores_none : (op : ShiftOp) (s : GplState) (place : Place) (source : Source) (w : View) → Told s place source w → count_of source.number ≡ 0 →
+    Storing (unchanged (gone_on s)) (row_width s) place (number_by op (row_width s) (value_at s (row_width s) place) (count_of source.number)) w
+stores_none op s place source w h zero =
+    let width = row_width s in
+    let x = value_at s width place in
+    record {
+      changed = h.changed;
+      bytes_are = h.bytes_are;
+      to_place = h.to_place;
+      value = ap (of_register width) h.value ∙ back width x ∙ sym (kept_by op width x h.fits) ∙ sym (ap (number_by op width x) zero);
+    }
+
+pub stores_some : (op : ShiftOp) (s : GplState) (place : Place) (source : Source) (w : View) → Told s place source w →
+    Storing (unchanged (gone_on s)) (row_width s) place (number_by op (row_width s) (value_at s (row_width s) place) (count_of source.number)) (pieces.shifts op w).left
+stores_some op s place source w h =
+    let width = row_width s in
+    let x = value_at s width place in
+    let k = (shifts op w).keeps in
+    let d = h.changed in
+    record {
+      changed = record {
+        cells = k.cells ∙ d.cells;
+        vdp = ap (λ (d : VdpState). d.memory) k.vdp ∙ d.vdp;
+        registers = ap (λ (d : VdpState). d.registers) k.vdp ∙ d.registers;
+        held = ap (λ (d : VdpState). d.held) k.vdp ∙ d.held;
+        grom = k.grom ∙ d.grom;
+        mark = k.mark ∙ d.mark;
+      };
+      bytes_are = k.bytes ∙ h.bytes_are;
+      to_place = record { address = k.address ∙ h.to_place.address; space = k.space ∙ h.to_place.space };
+      value = number_is op width x (count_of source.number) w h.bytes_are h.value h.count h.fits (few_counts source.number);
+    }

@@ -1,0 +1,88 @@
+//! The families of the instructions, each of which a function runs.
+
+ghost use Rattle.std.specs.Prelude.{◌≡◌};
+ghost use Rattle.sim_steps.specs.Families as spec;
+
+use gpl_forms::{ByteOp, GoOp, GplOperation, OneName, PlainOp, TwoName};
+
+/// A family of instructions.
+#[derive(Clone, Copy, Debug, PartialEq, Eq)]
+pub enum Family {
+    /// Sums, differences and logic: what stores one result.
+    Alu,
+    /// The shifts.
+    Shift,
+    /// MUL and DIV.
+    MulDiv,
+    /// The comparisons and the tests of the status.
+    Compare,
+    /// B and EXIT.
+    Flow,
+    /// EX.
+    Misc,
+    /// A code byte that is no instruction's, or that of an instruction that the interpreter does not have.
+    Refused,
+}
+
+/// The family of an operation.
+pub fn family_of(operation: Option<GplOperation>) -> Family
+    ensures { result ≡ spec.family_of operation }
+{
+    match operation {
+        Some(GplOperation::One(op)) => family_of_one(op),
+        Some(GplOperation::Two(op)) => family_of_two(op),
+        Some(GplOperation::Jump(GoOp::B)) | Some(GplOperation::Plain(PlainOp::EXIT)) => Family::Flow,
+        Some(GplOperation::Plain(PlainOp::H))
+        | Some(GplOperation::Plain(PlainOp::GT))
+        | Some(GplOperation::Plain(PlainOp::CARRY))
+        | Some(GplOperation::Plain(PlainOp::OVF)) => Family::Compare,
+        Some(GplOperation::Plain(PlainOp::RTN))
+        | Some(GplOperation::Plain(PlainOp::RTNC))
+        | Some(GplOperation::Byte(_))
+        | Some(GplOperation::Jump(GoOp::CALL))
+        | Some(GplOperation::Branch(_))
+        | Some(GplOperation::Move(_))
+        | None => Family::Refused,
+    }
+}
+
+/// The family of an operation on one operand.
+fn family_of_one(op: OneName) -> Family
+    ensures { result ≡ spec.family_of_one op }
+{
+    match op {
+        OneName::ABS
+        | OneName::NEG
+        | OneName::INV
+        | OneName::CLR
+        | OneName::INC
+        | OneName::DEC
+        | OneName::INCT
+        | OneName::DECT => Family::Alu,
+        OneName::CZ => Family::Compare,
+        OneName::CASE | OneName::FETCH | OneName::PUSH => Family::Refused,
+    }
+}
+
+/// The family of an operation on two operands.
+fn family_of_two(op: TwoName) -> Family
+    ensures { result ≡ spec.family_of_two op }
+{
+    match op {
+        TwoName::ADD
+        | TwoName::SUB
+        | TwoName::AND
+        | TwoName::OR
+        | TwoName::XOR
+        | TwoName::ST => Family::Alu,
+        TwoName::SRA | TwoName::SLL | TwoName::SRL | TwoName::SRC => Family::Shift,
+        TwoName::MUL | TwoName::DIV => Family::MulDiv,
+        TwoName::CH
+        | TwoName::CHE
+        | TwoName::CGT
+        | TwoName::CGE
+        | TwoName::CEQ
+        | TwoName::CLOG => Family::Compare,
+        TwoName::EX => Family::Misc,
+    }
+}
