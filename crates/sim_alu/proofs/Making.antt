@@ -171,7 +171,7 @@ module _ (v : View) (i : IsView v) (s : GplState) (place : Place) (source : Sour
         value = e;
       }
 
-  -- one record for each kind of end
+  -- a record for each kind of end
   plain : (op : GplOperation) (count r6 r9 number : ℕ) → count ≤ 3 → of_register w r9 ≡ number → row_result op s place source ≡ Ok (with_value w place number c) →
       Plain op s place source (exit count 0x24A8 (with_result r6 r9))
   plain op count r6 r9 number le e is = record { number = number; to = refl; within = le; storing = storing r6 r9 number e; is = is }
@@ -241,7 +241,7 @@ module _ (v : View) (i : IsView v) (s : GplState) (place : Place) (source : Sour
       let b = single (operation.One one.INV) o refl in
       inl (plain (operation.One one.INV) 2 v.r.r6 (complement_of Word v.r.r9) (complement_of w x) (omega arith)
       (first (λ p. of_register w (complement_of Word p)) b ∙ Numbers.complement_is w x (x_fits b)) refl)
-  made (operation.One one.CLR) f o e = inl (plain (operation.One one.CLR) 2 v.r.r6 0 0 (omega arith) (Numbers.zero_is w) refl)
+  made (operation.One one.CLR) f o e = inl (plain (operation.One one.CLR) 2 v.r.r6 0 0 (omega arith) (Numbers.zero_is (row_width s)) refl)
   made (operation.One one.INC) f o e = inr (adds (operation.One one.INC) 6 v.r.r6 1 (omega arith) (single (operation.One one.INC) o refl) (one_fits w 1 (omega arith)) (unit_in one.INC o e) refl)
   made (operation.One one.DEC) f o e = inr (subtracts (operation.One one.DEC) 6 v.r.r6 1 (omega arith) (single (operation.One one.DEC) o refl) (one_fits w 1 (omega arith)) (unit_in one.DEC o e) refl)
   made (operation.One one.INCT) f o e =

@@ -44,7 +44,7 @@ fn make_result<L: Ledger>(machine: &mut Machine, steps: &mut Steps<L>, operation
     }
 }
 
-/// The result of one operand.
+/// Makes the result of one operand.
 fn make_result_of_one<L: Ledger>(machine: &mut Machine, steps: &mut Steps<L>, name: OneName)
     requires { Stands machine.old (row_entry (Some (One name))) }
     ensures { Exits machine.old machine.new steps.old steps.new (result_piece (One name) (view machine.old)) }
@@ -62,7 +62,7 @@ fn make_result_of_one<L: Ledger>(machine: &mut Machine, steps: &mut Steps<L>, na
     }
 }
 
-/// The result of two operands.
+/// Makes the result of two operands.
 fn make_result_of_two<L: Ledger>(machine: &mut Machine, steps: &mut Steps<L>, name: TwoName)
     requires { Stands machine.old (row_entry (Some (Two name))) }
     ensures { Exits machine.old machine.new steps.old steps.new (result_piece (Two name) (view machine.old)) }
