@@ -1,13 +1,10 @@
 -- The result of a row is stored, and then its status.
-use Rattle.std.proofs.Common.{◌≡◌, ◌⊎◌, ⊎_elim, ℕ, ◌<◌, true, refl, sym, ap, subst, ◌∙◌, arith, List, Option, Some, Result}
+use Rattle.std.proofs.Common.{◌≡◌, ⊎_elim, ℕ, true, refl, sym, ap, subst, ◌∙◌, arith, List, Some, Result}
 use Rattle.std.specs.Prelude.{slice_set}
 use Rattle.console_defs.specs.Words.{high, join, even}
 use Rattle.console_defs.specs.Machine.{MachineState}
 use Rattle.gpl_defs.specs.declared.instruction.GplOperation.{GplOperation}
 use Rattle.step_defs.specs.declared.reason.Reason.{Reason}
-use Rattle.step_defs.specs.State.{GplState}
-use Rattle.step_defs.specs.Place.{Place}
-use Rattle.step_defs.specs.Arithmetic.{Source}
 use Rattle.step_defs.specs.Changes.{Changes, unchanged, with_value, with_status}
 use Rattle.interp_defs.specs.Match.{PortsAreIdle}
 use Rattle.sim_view.specs.View.{View, view, Stands}

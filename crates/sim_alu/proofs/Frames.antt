@@ -1,5 +1,5 @@
 -- What every piece of the family leaves as it was, and where it ends.
-use Rattle.std.proofs.Common.{◌≡◌, ◌⊎◌, inl, inr, ℕ, Bool, true, false, refl, Option, Some, None}
+use Rattle.std.proofs.Common.{◌≡◌, ◌⊎◌, inl, inr, true, false, refl, Option, Some, None}
 use Rattle.gpl_defs.specs.declared.instruction.OneName.TheVariants as one
 use Rattle.gpl_defs.specs.declared.instruction.TwoName.TheVariants as two
 use Rattle.gpl_defs.specs.declared.instruction.GplOperation.{GplOperation}

@@ -1,5 +1,5 @@
 -- The result of a row, made from its operands.
-use Rattle.std.proofs.Common.{◌≡◌, ◌⊎◌, inl, inr, ℕ, ◌+◌, ◌<◌, ◌≤◌, Bool, true, false, refl, sym, ap, ◌∙◌, arith, Option, Some, None, Result, Ok, Err, List}
+use Rattle.std.proofs.Common.{◌≡◌, ◌⊎◌, inl, inr, ℕ, ◌<◌, ◌≤◌, Bool, true, false, refl, sym, ap, ◌∙◌, arith, Some, Result, Ok, Err}
 use Rattle.std.specs.Prelude.{not, nat_lt, slice_index}
 use Rattle.source_defs.specs.Refusals.{◌>>=◌}
 use Rattle.console_defs.specs.Words.{join}
@@ -23,7 +23,6 @@ use Rattle.console_defs.specs.Flags.{
 use Rattle.console_defs.specs.Logic.{complement_of, ones_set, ones_cleared, conjunction_of, exclusive_or_of}
 use Rattle.gpl_defs.specs.declared.instruction.OneName.{OneName}
 use Rattle.gpl_defs.specs.declared.instruction.OneName.TheVariants as one
-use Rattle.gpl_defs.specs.declared.instruction.TwoName.{TwoName}
 use Rattle.gpl_defs.specs.declared.instruction.TwoName.TheVariants as two
 use Rattle.gpl_defs.specs.declared.instruction.GplOperation.{GplOperation}
 use Rattle.gpl_defs.specs.declared.instruction.GplOperation.TheVariants as operation
@@ -42,7 +41,7 @@ use Rattle.sim_rows.specs.Rows.{row_width, bytes_by, destination_bytes, has_sour
 use Rattle.sim_rows.specs.Results.{row_result, Storing}
 use Rattle.sim_rows.proofs.Codes.{one_below}
 use Rattle.sim_rows.proofs.Storing.{width_again}
-use Rattle.sim_alu.specs.Pieces.{kept}
+use Rattle.sim_alu.specs.Pieces.{kept_status}
 use Rattle.sim_alu.specs.Family.{is_alu, result_piece}
 use Rattle.sim_alu.proofs.Numbers
 
@@ -150,7 +149,7 @@ module _ (v : View) (i : IsView v) (s : GplState) (place : Place) (source : Sour
   with_result r6 r9 = record v { r = record v.r { r6 = r6; r9 = r9 } }
 
   abbrev with_kept : ℕ → ℕ → Flags → View
-  with_kept r6 r9 flags = record v { r = record v.r { r6 = r6; r9 = r9; r11 = 0x24E0; r12 = kept flags } }
+  with_kept r6 r9 flags = record v { r = record v.r { r6 = r6; r9 = r9; r11 = 0x24E0; r12 = kept_status flags } }
 
   storing : (r6 r9 number : ℕ) → of_register w r9 ≡ number → Storing c w place number (with_result r6 r9)
   storing r6 r9 number e =
@@ -172,7 +171,7 @@ module _ (v : View) (i : IsView v) (s : GplState) (place : Place) (source : Sour
         value = e;
       }
 
-  -- one record for each kind of end
+  -- a record for each kind of end
   plain : (op : GplOperation) (count r6 r9 number : ℕ) → count ≤ 3 → of_register w r9 ≡ number → row_result op s place source ≡ Ok (with_value w place number c) →
       Plain op s place source (exit count 0x24A8 (with_result r6 r9))
   plain op count r6 r9 number le e is = record { number = number; to = refl; within = le; storing = storing r6 r9 number e; is = is }
@@ -242,7 +241,7 @@ module _ (v : View) (i : IsView v) (s : GplState) (place : Place) (source : Sour
       let b = single (operation.One one.INV) o refl in
       inl (plain (operation.One one.INV) 2 v.r.r6 (complement_of Word v.r.r9) (complement_of w x) (omega arith)
       (first (λ p. of_register w (complement_of Word p)) b ∙ Numbers.complement_is w x (x_fits b)) refl)
-  made (operation.One one.CLR) f o e = inl (plain (operation.One one.CLR) 2 v.r.r6 0 0 (omega arith) (Numbers.zero_is w) refl)
+  made (operation.One one.CLR) f o e = inl (plain (operation.One one.CLR) 2 v.r.r6 0 0 (omega arith) (Numbers.zero_is (row_width s)) refl)
   made (operation.One one.INC) f o e = inr (adds (operation.One one.INC) 6 v.r.r6 1 (omega arith) (single (operation.One one.INC) o refl) (one_fits w 1 (omega arith)) (unit_in one.INC o e) refl)
   made (operation.One one.DEC) f o e = inr (subtracts (operation.One one.DEC) 6 v.r.r6 1 (omega arith) (single (operation.One one.DEC) o refl) (one_fits w 1 (omega arith)) (unit_in one.DEC o e) refl)
   made (operation.One one.INCT) f o e =

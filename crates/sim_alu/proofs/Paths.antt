@@ -1,5 +1,5 @@
 -- The runs of the pieces on the view.
-use Rattle.std.proofs.Common.{◌≡◌, ℕ, refl, ap, List, [], ◌∷◌}
+use Rattle.std.proofs.Common.{ℕ, refl, ap, [], ◌∷◌}
 use Rattle.console_defs.specs.Flags.{
   Word,
   sum_of,

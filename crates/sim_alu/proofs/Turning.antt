@@ -1,5 +1,5 @@
 -- A turn of the family.
-use Rattle.std.proofs.Common.{◌≡◌, ℕ, ◌+◌, ◌<◌, ◌≤◌, true, false, sym, ap, ◌∙◌, arith, Option, Some, None}
+use Rattle.std.proofs.Common.{◌≡◌, ℕ, ◌<◌, true, false, sym, ap, ◌∙◌, arith, Option, Some, None}
 use Rattle.console_defs.specs.Flags.{size_of}
 use Rattle.console_defs.specs.Machine.{MachineState}
 use Rattle.gpl_defs.specs.declared.instruction.GplOperation.{GplOperation}
@@ -7,10 +7,10 @@ use Rattle.interp_defs.specs.declared.turn.Turn.TheVariants.{Stepped, Stopped}
 use Rattle.interp_defs.specs.Match.{PortsAreIdle}
 use Rattle.interp_defs.specs.Runs.{is_end}
 use Rattle.interp_defs.specs.Turned.{Turned}
-use Rattle.native_interp.specs.Entries.{operation_entry, row_entry}
+use Rattle.native_interp.specs.Entries.{operation_entry}
 use Rattle.step_defs.specs.declared.reason.Reason.TheVariants.{Cell}
 use Rattle.step_defs.specs.State.{GplState}
-use Rattle.sim_view.specs.View.{View, view, Stands}
+use Rattle.sim_view.specs.View.{view, Stands}
 use Rattle.sim_view.proofs.Bridge.{is_view}
 use Rattle.sim_operands.specs.Values.{width_in, IsVisible}
 use Rattle.sim_rows.specs.States.{state_at_dispatch, code_byte, operation_in, operation_seen}

@@ -49,12 +49,12 @@ abbrev pub clear : View → Exit
 clear v = exit 2 STO (record v { r = record v.r { r9 = 0 } })
 
 -- STORE is asked for a result, and the status byte of its flags is kept in the high half of register 12.
-abbrev pub kept : Flags → ℕ
-kept flags = join (status_byte flags) 0
+abbrev pub kept_status : Flags → ℕ
+kept_status flags = join (status_byte flags) 0
 
 abbrev pub with_status_kept : ℕ → ℕ → Flags → View → Exit
 with_status_kept count result flags v =
-    exit count STORE (record v { r = record v.r { r9 = result; r11 = STATB; r12 = kept flags } })
+    exit count STORE (record v { r = record v.r { r9 = result; r11 = STATB; r12 = kept_status flags } })
 
 -- ADD, INC: the source is added.
 abbrev pub add_source : View → Exit
@@ -68,14 +68,11 @@ subtract_source v = with_status_kept 6 (difference_of Word v.r.r9 v.r.r6) (diffe
 abbrev pub doubled : View → View
 doubled v = record v { r = record v.r { r6 = sum_of Word v.r.r6 v.r.r6 } }
 
-abbrev pub one_more : Exit → Exit
-one_more e = record e { count = 1 + e.count }
-
 abbrev pub add_twice : View → Exit
-add_twice v = one_more (add_source (doubled v))
+add_twice v = let added = add_source (doubled v) in record added { count = 1 + added.count }
 
 abbrev pub subtract_twice : View → Exit
-subtract_twice v = one_more (subtract_source (doubled v))
+subtract_twice v = let subtracted = subtract_source (doubled v) in record subtracted { count = 1 + subtracted.count }
 
 -- ABS: the absolute value.
 abbrev pub make_absolute : View → Exit

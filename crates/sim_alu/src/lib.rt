@@ -8,4 +8,6 @@ mod sums;
 
 pub use logic::{clear, exclude_ones, invert, keep_common_ones, set_ones, take_source};
 pub use row::run_alu;
-pub use sums::{add_source, add_twice, make_absolute, negate, store_status, subtract_source, subtract_twice};
+pub use sums::{
+    add_source, add_twice, make_absolute, negate, store_status, subtract_source, subtract_twice,
+};

@@ -16,7 +16,9 @@ ghost use Rattle.sim_view.specs.View.{view, Stands};
 ghost use Rattle.std.specs.Prelude.{◌≡◌, ◌<◌, true, Some};
 
 use crate::logic::{clear, exclude_ones, invert, keep_common_ones, set_ones, take_source};
-use crate::sums::{add_source, add_twice, make_absolute, negate, store_status, subtract_source, subtract_twice};
+use crate::sums::{
+    add_source, add_twice, make_absolute, negate, store_status, subtract_source, subtract_twice,
+};
 use gpl_defs::{GplOperation, OneName, TwoName};
 use interp_defs::Turn;
 use native_interp::STO;
@@ -34,11 +36,15 @@ fn make_result<L: Ledger>(machine: &mut Machine, steps: &mut Steps<L>, operation
     match operation {
         GplOperation::One(name) => make_result_of_one(machine, steps, name),
         GplOperation::Two(name) => make_result_of_two(machine, steps, name),
-        GplOperation::Plain(_) | GplOperation::Byte(_) | GplOperation::Jump(_) | GplOperation::Branch(_) | GplOperation::Move(_) => {}
+        GplOperation::Plain(_)
+        | GplOperation::Byte(_)
+        | GplOperation::Jump(_)
+        | GplOperation::Branch(_)
+        | GplOperation::Move(_) => {}
     }
 }
 
-/// The result of one operand.
+/// Makes the result of one operand.
 fn make_result_of_one<L: Ledger>(machine: &mut Machine, steps: &mut Steps<L>, name: OneName)
     requires { Stands machine.old (row_entry (Some (One name))) }
     ensures { Exits machine.old machine.new steps.old steps.new (result_piece (One name) (view machine.old)) }
@@ -56,7 +62,7 @@ fn make_result_of_one<L: Ledger>(machine: &mut Machine, steps: &mut Steps<L>, na
     }
 }
 
-/// The result of two operands.
+/// Makes the result of two operands.
 fn make_result_of_two<L: Ledger>(machine: &mut Machine, steps: &mut Steps<L>, name: TwoName)
     requires { Stands machine.old (row_entry (Some (Two name))) }
     ensures { Exits machine.old machine.new steps.old steps.new (result_piece (Two name) (view machine.old)) }
@@ -69,7 +75,8 @@ fn make_result_of_two<L: Ledger>(machine: &mut Machine, steps: &mut Steps<L>, na
         TwoName::XOR => exclude_ones(machine, steps),
         TwoName::ST => take_source(machine, steps),
         TwoName::MUL | TwoName::DIV | TwoName::EX => {}
-        TwoName::CH | TwoName::CHE | TwoName::CGT | TwoName::CGE | TwoName::CEQ | TwoName::CLOG => {}
+        TwoName::CH | TwoName::CHE | TwoName::CGT | TwoName::CGE | TwoName::CEQ | TwoName::CLOG =>
+            {}
         TwoName::SRA | TwoName::SLL | TwoName::SRL | TwoName::SRC => {}
     }
 }

@@ -1,41 +1,118 @@
+use Rattle.std.proofs.Common.{◌<◌, arith}
 use Rattle.interp_defs.specs.Match.{shown_by}
-use Rattle.sim_steps.proofs.Turning.{dispatched, stands, at_row, at_flow, stands_at, turned, stopped}
+use Rattle.sim_steps.specs.declared.family.Family.TheVariants.{Alu, Shift, MulDiv, Compare, Flow, Misc, Refused}
+use Rattle.sim_steps.proofs.Turning
 use Rattle.sim_steps.proofs.turn.gpl_turn.Goals as goal
 
-pub stop_code-requires : goal.stop_code-requires
-stop_code-requires g c =
-    stands_at (shown_by c.args.machine.now.cpu.memory) c.args.machine.now c.begin_step.new.machine c.args.steps.now c.begin_step.new.steps c.begin_step.ensures
-    c.pc-entry.result 0x22AE c.pc-entry.ensures.value c.if-entry-eq-UNKN.true
+pub overflow_cast-code : goal.overflow_cast-code
+overflow_cast-code g c =
+    let s = shown_by c.args.machine.now.cpu.memory in
+    let small = Turning.code_small s c.args.machine.now c.begin_step.new.machine c.args.steps.now c.begin_step.new.steps c.begin_step.ensures c.register-code.result c.register-code.ensures in omega arith
 
-pub returns-then-entry-eq-UNKN : goal.returns-then-entry-eq-UNKN
-returns-then-entry-eq-UNKN g c =
-    stopped (shown_by c.args.machine.now.cpu.memory) c.args.machine.now c.begin_step.new.machine c.args.steps.now c.begin_step.new.steps c.begin_step.ensures
-    c.pc-entry.result c.pc-entry.ensures.value c.if-entry-eq-UNKN.true c.stop_code.new.machine c.stop_code.new.steps c.stop_code.ensures
+pub run_alu-requires-clause-stands : goal.run_alu-requires-clause-stands
+run_alu-requires-clause-stands g c = let s = shown_by c.args.machine.now.cpu.memory in Turning.stands s c.args.machine.now c.begin_step.new.machine c.args.steps.now c.begin_step.new.steps c.begin_step.ensures
+
+pub run_alu-requires-clause-dispatched : goal.run_alu-requires-clause-dispatched
+run_alu-requires-clause-dispatched g c = let s = shown_by c.args.machine.now.cpu.memory in Turning.dispatched s c.args.machine.now c.begin_step.new.machine c.args.steps.now c.begin_step.new.steps c.begin_step.ensures
 
 pub run_alu-requires-clause-family : goal.run_alu-requires-clause-family
 run_alu-requires-clause-family g c =
-    at_row (shown_by c.args.machine.now.cpu.memory) c.args.machine.now c.begin_step.new.machine c.args.steps.now c.begin_step.new.steps c.begin_step.ensures
-    c.pc-entry.result c.pc-entry.ensures.value c.if-entry-eq-ROW.true
+    let s = shown_by c.args.machine.now.cpu.memory in
+    Turning.family_is s c.args.machine.now c.begin_step.new.machine c.args.steps.now c.begin_step.new.steps c.begin_step.ensures c.register-code.result c.operation_at.result c.family_of.result Alu c.register-code.ensures c.operation_at.ensures c.family_of.ensures c.in-Alu.is
 
-pub returns-then-entry-eq-ROW : goal.returns-then-entry-eq-ROW
-returns-then-entry-eq-ROW g c =
-    turned (shown_by c.args.machine.now.cpu.memory) c.args.machine.now c.begin_step.new.machine c.args.steps.now c.begin_step.new.steps c.begin_step.ensures
-    c.run_alu.new.machine c.run_alu.new.steps c.run_alu.result c.run_alu.ensures
+pub returns-in-Alu : goal.returns-in-Alu
+returns-in-Alu g c =
+    let s = shown_by c.args.machine.now.cpu.memory in
+    Turning.turned s c.args.machine.now c.begin_step.new.machine c.args.steps.now c.begin_step.new.steps c.begin_step.ensures c.run_alu.new.machine c.run_alu.new.steps c.run_alu.result c.run_alu.ensures
+
+pub run_shift-requires-clause-stands : goal.run_shift-requires-clause-stands
+run_shift-requires-clause-stands g c = let s = shown_by c.args.machine.now.cpu.memory in Turning.stands s c.args.machine.now c.begin_step.new.machine c.args.steps.now c.begin_step.new.steps c.begin_step.ensures
+
+pub run_shift-requires-clause-dispatched : goal.run_shift-requires-clause-dispatched
+run_shift-requires-clause-dispatched g c = let s = shown_by c.args.machine.now.cpu.memory in Turning.dispatched s c.args.machine.now c.begin_step.new.machine c.args.steps.now c.begin_step.new.steps c.begin_step.ensures
+
+pub run_shift-requires-clause-family : goal.run_shift-requires-clause-family
+run_shift-requires-clause-family g c =
+    let s = shown_by c.args.machine.now.cpu.memory in
+    Turning.family_is s c.args.machine.now c.begin_step.new.machine c.args.steps.now c.begin_step.new.steps c.begin_step.ensures c.register-code.result c.operation_at.result c.family_of.result Shift c.register-code.ensures c.operation_at.ensures c.family_of.ensures c.in-Shift.is
+
+pub returns-in-Shift : goal.returns-in-Shift
+returns-in-Shift g c =
+    let s = shown_by c.args.machine.now.cpu.memory in
+    Turning.turned s c.args.machine.now c.begin_step.new.machine c.args.steps.now c.begin_step.new.steps c.begin_step.ensures c.run_shift.new.machine c.run_shift.new.steps c.run_shift.result c.run_shift.ensures
+
+pub run_muldiv-requires-clause-stands : goal.run_muldiv-requires-clause-stands
+run_muldiv-requires-clause-stands g c = let s = shown_by c.args.machine.now.cpu.memory in Turning.stands s c.args.machine.now c.begin_step.new.machine c.args.steps.now c.begin_step.new.steps c.begin_step.ensures
+
+pub run_muldiv-requires-clause-dispatched : goal.run_muldiv-requires-clause-dispatched
+run_muldiv-requires-clause-dispatched g c = let s = shown_by c.args.machine.now.cpu.memory in Turning.dispatched s c.args.machine.now c.begin_step.new.machine c.args.steps.now c.begin_step.new.steps c.begin_step.ensures
+
+pub run_muldiv-requires-clause-family : goal.run_muldiv-requires-clause-family
+run_muldiv-requires-clause-family g c =
+    let s = shown_by c.args.machine.now.cpu.memory in
+    Turning.family_is s c.args.machine.now c.begin_step.new.machine c.args.steps.now c.begin_step.new.steps c.begin_step.ensures c.register-code.result c.operation_at.result c.family_of.result MulDiv c.register-code.ensures c.operation_at.ensures c.family_of.ensures c.in-MulDiv.is
+
+pub returns-in-MulDiv : goal.returns-in-MulDiv
+returns-in-MulDiv g c =
+    let s = shown_by c.args.machine.now.cpu.memory in
+    Turning.turned s c.args.machine.now c.begin_step.new.machine c.args.steps.now c.begin_step.new.steps c.begin_step.ensures c.run_muldiv.new.machine c.run_muldiv.new.steps c.run_muldiv.result c.run_muldiv.ensures
+
+pub run_compare-requires-clause-stands : goal.run_compare-requires-clause-stands
+run_compare-requires-clause-stands g c = let s = shown_by c.args.machine.now.cpu.memory in Turning.stands s c.args.machine.now c.begin_step.new.machine c.args.steps.now c.begin_step.new.steps c.begin_step.ensures
+
+pub run_compare-requires-clause-dispatched : goal.run_compare-requires-clause-dispatched
+run_compare-requires-clause-dispatched g c = let s = shown_by c.args.machine.now.cpu.memory in Turning.dispatched s c.args.machine.now c.begin_step.new.machine c.args.steps.now c.begin_step.new.steps c.begin_step.ensures
+
+pub run_compare-requires-clause-family : goal.run_compare-requires-clause-family
+run_compare-requires-clause-family g c =
+    let s = shown_by c.args.machine.now.cpu.memory in
+    Turning.family_is s c.args.machine.now c.begin_step.new.machine c.args.steps.now c.begin_step.new.steps c.begin_step.ensures c.register-code.result c.operation_at.result c.family_of.result Compare c.register-code.ensures c.operation_at.ensures c.family_of.ensures c.in-Compare.is
+
+pub returns-in-Compare : goal.returns-in-Compare
+returns-in-Compare g c =
+    let s = shown_by c.args.machine.now.cpu.memory in
+    Turning.turned s c.args.machine.now c.begin_step.new.machine c.args.steps.now c.begin_step.new.steps c.begin_step.ensures c.run_compare.new.machine c.run_compare.new.steps c.run_compare.result c.run_compare.ensures
 
 pub run_flow-requires-clause-stands : goal.run_flow-requires-clause-stands
-run_flow-requires-clause-stands g c =
-    stands (shown_by c.args.machine.now.cpu.memory) c.args.machine.now c.begin_step.new.machine c.args.steps.now c.begin_step.new.steps c.begin_step.ensures
+run_flow-requires-clause-stands g c = let s = shown_by c.args.machine.now.cpu.memory in Turning.stands s c.args.machine.now c.begin_step.new.machine c.args.steps.now c.begin_step.new.steps c.begin_step.ensures
 
 pub run_flow-requires-clause-dispatched : goal.run_flow-requires-clause-dispatched
-run_flow-requires-clause-dispatched g c =
-    dispatched (shown_by c.args.machine.now.cpu.memory) c.args.machine.now c.begin_step.new.machine c.args.steps.now c.begin_step.new.steps c.begin_step.ensures
+run_flow-requires-clause-dispatched g c = let s = shown_by c.args.machine.now.cpu.memory in Turning.dispatched s c.args.machine.now c.begin_step.new.machine c.args.steps.now c.begin_step.new.steps c.begin_step.ensures
 
 pub run_flow-requires-clause-family : goal.run_flow-requires-clause-family
 run_flow-requires-clause-family g c =
-    at_flow (shown_by c.args.machine.now.cpu.memory) c.args.machine.now c.begin_step.new.machine c.args.steps.now c.begin_step.new.steps c.begin_step.ensures
-    c.pc-entry.result c.pc-entry.ensures.value c.if-entry-eq-UNKN.false c.if-entry-eq-ROW.false
+    let s = shown_by c.args.machine.now.cpu.memory in
+    Turning.family_is s c.args.machine.now c.begin_step.new.machine c.args.steps.now c.begin_step.new.steps c.begin_step.ensures c.register-code.result c.operation_at.result c.family_of.result Flow c.register-code.ensures c.operation_at.ensures c.family_of.ensures c.in-Flow.is
 
-pub returns : goal.returns
-returns g c =
-    turned (shown_by c.args.machine.now.cpu.memory) c.args.machine.now c.begin_step.new.machine c.args.steps.now c.begin_step.new.steps c.begin_step.ensures
-    c.run_flow.new.machine c.run_flow.new.steps c.run_flow.result c.run_flow.ensures
+pub returns-in-Flow : goal.returns-in-Flow
+returns-in-Flow g c =
+    let s = shown_by c.args.machine.now.cpu.memory in
+    Turning.turned s c.args.machine.now c.begin_step.new.machine c.args.steps.now c.begin_step.new.steps c.begin_step.ensures c.run_flow.new.machine c.run_flow.new.steps c.run_flow.result c.run_flow.ensures
+
+pub run_misc-requires-clause-stands : goal.run_misc-requires-clause-stands
+run_misc-requires-clause-stands g c = let s = shown_by c.args.machine.now.cpu.memory in Turning.stands s c.args.machine.now c.begin_step.new.machine c.args.steps.now c.begin_step.new.steps c.begin_step.ensures
+
+pub run_misc-requires-clause-dispatched : goal.run_misc-requires-clause-dispatched
+run_misc-requires-clause-dispatched g c = let s = shown_by c.args.machine.now.cpu.memory in Turning.dispatched s c.args.machine.now c.begin_step.new.machine c.args.steps.now c.begin_step.new.steps c.begin_step.ensures
+
+pub run_misc-requires-clause-family : goal.run_misc-requires-clause-family
+run_misc-requires-clause-family g c =
+    let s = shown_by c.args.machine.now.cpu.memory in
+    Turning.family_is s c.args.machine.now c.begin_step.new.machine c.args.steps.now c.begin_step.new.steps c.begin_step.ensures c.register-code.result c.operation_at.result c.family_of.result Misc c.register-code.ensures c.operation_at.ensures c.family_of.ensures c.in-Misc.is
+
+pub returns-in-Misc : goal.returns-in-Misc
+returns-in-Misc g c =
+    let s = shown_by c.args.machine.now.cpu.memory in
+    Turning.turned s c.args.machine.now c.begin_step.new.machine c.args.steps.now c.begin_step.new.steps c.begin_step.ensures c.run_misc.new.machine c.run_misc.new.steps c.run_misc.result c.run_misc.ensures
+
+pub stop_code-requires : goal.stop_code-requires
+stop_code-requires g c =
+    let s = shown_by c.args.machine.now.cpu.memory in
+    let unbuilt = Turning.family_is s c.args.machine.now c.begin_step.new.machine c.args.steps.now c.begin_step.new.steps c.begin_step.ensures c.register-code.result c.operation_at.result c.family_of.result Refused c.register-code.ensures c.operation_at.ensures c.family_of.ensures c.in-Refused.is in
+    Turning.stands_at s c.args.machine.now c.begin_step.new.machine c.args.steps.now c.begin_step.new.steps c.begin_step.ensures 0x22AE unbuilt
+
+pub returns-in-Refused : goal.returns-in-Refused
+returns-in-Refused g c =
+    let s = shown_by c.args.machine.now.cpu.memory in
+    let unbuilt = Turning.family_is s c.args.machine.now c.begin_step.new.machine c.args.steps.now c.begin_step.new.steps c.begin_step.ensures c.register-code.result c.operation_at.result c.family_of.result Refused c.register-code.ensures c.operation_at.ensures c.family_of.ensures c.in-Refused.is in
+    Turning.stopped s c.args.machine.now c.begin_step.new.machine c.args.steps.now c.begin_step.new.steps c.begin_step.ensures unbuilt c.stop_code.new.machine c.stop_code.new.steps c.stop_code.ensures
