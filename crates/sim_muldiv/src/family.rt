@@ -7,6 +7,7 @@ ghost use Rattle.interp_defs.specs.Interpreter.{most_to_dispatch};
 ghost use Rattle.interp_defs.specs.Turned.{Turned};
 ghost use Rattle.sim_rows.specs.States.{Dispatched, state_at_dispatch, operation_seen};
 ghost use Rattle.sim_rows.specs.Results.{RunsRow};
+ghost use Rattle.gpl_defs.specs.declared.instruction.GplOperation.TheVariants.{Two};
 ghost use Rattle.sim_muldiv.specs.Family.{is_muldiv, IsReady};
 
 use crate::product::run_product;
@@ -19,6 +20,20 @@ use step_defs::Reason;
 use tms_step::{Machine, Steps};
 
 /// Runs the row of MUL or DIV to the end of the step.
+fn run_row_of_two<L: Ledger>(machine: &mut Machine, steps: &mut Steps<L>, name: TwoName)
+    requires stands { Stands machine.old (row_entry (Some (Two name))) }
+    requires family { is_muldiv (Some (Two name)) ≡ true }
+    requires ready { IsReady machine.old }
+    ensures { RunsRow (Two name) 96 machine.old machine.new steps.old steps.new }
+{
+    match name {
+        TwoName::MUL => run_product(machine, steps),
+        TwoName::DIV => run_quotient(machine, steps),
+        _ => {}
+    }
+}
+
+/// The same, by the operation that was told.
 fn run_row<L: Ledger>(machine: &mut Machine, steps: &mut Steps<L>, operation: GplOperation)
     requires stands { Stands machine.old (row_entry (Some operation)) }
     requires family { is_muldiv (Some operation) ≡ true }
@@ -26,8 +41,7 @@ fn run_row<L: Ledger>(machine: &mut Machine, steps: &mut Steps<L>, operation: Gp
     ensures { RunsRow operation 96 machine.old machine.new steps.old steps.new }
 {
     match operation {
-        GplOperation::Two(TwoName::MUL) => run_product(machine, steps),
-        GplOperation::Two(TwoName::DIV) => run_quotient(machine, steps),
+        GplOperation::Two(name) => run_row_of_two(machine, steps, name),
         _ => {}
     }
 }

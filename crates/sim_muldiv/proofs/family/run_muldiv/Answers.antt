@@ -60,4 +60,4 @@ returns g c =
     let start = ap is_end q.stands.pc ∙ muldiv_starts (operation_seen (view x)) q.family in
     let b = Rowing.started s x c.args.steps.now fits start (muldiv_row (operation_seen (view x)) q.family) op c.start_row.new.machine c.start_row.new.steps c.start_row.result c.in-Some.is c.start_row.ensures in
     let is = subst (λ (o : Option GplOperation). is_muldiv o ≡ true) b.is_operation q.family in
-    Rowing.turned_row s x c.args.steps.now fits start op c.start_row.new.machine c.run_row.new.machine c.start_row.new.steps c.run_row.new.steps 96 b (muldiv_goes op is) c.run_row.ensures (omega arith)
+    Rowing.turned_row s x c.args.steps.now fits start (muldiv_row (operation_seen (view x)) q.family) op c.start_row.new.machine c.run_row.new.machine c.start_row.new.steps c.run_row.new.steps 96 b (muldiv_goes op is) c.run_row.ensures (omega arith)
