@@ -1,6 +1,6 @@
 -- Facts about numbers that the comparisons need.
 use Rattle.std.proofs.Common.{◌≡◌, ℕ, ◌+◌, ◌*◌, ◌^◌, ◌<◌, ◌≤◌, ℤ, pos, negsuc, Bool, true, false, refl, sym, ap, ◌∙◌, arith, lit<, eqb}
-use Rattle.std.specs.Prelude.{◌&&◌, ◌||◌, ◌==◌, not, nat_lt, nat_le, int_lt, int_le, bit_and}
+use Rattle.std.specs.Prelude.{◌||◌, ◌==◌, not, nat_lt, nat_le, int_lt, int_le, bit_and}
 use Rattle.std.proofs.lemmas.Bool.{le-ltb, lt-ltb, ltb-true, ltb-false, eq-eqb, eqb-true, ne_eqb, le-leb, lt-leb, agree_below, agree_below_at}
 use Rattle.std.proofs.lemmas.Nat.{and_block, and_comm}
 use Rattle.console_defs.specs.Words.{join}

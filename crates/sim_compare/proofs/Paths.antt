@@ -1,5 +1,5 @@
 -- The runs of the pieces on the view.
-use Rattle.std.proofs.Common.{◌≡◌, ℕ, true, false, refl, List, [], ◌∷◌}
+use Rattle.std.proofs.Common.{ℕ, true, false, refl, List, [], ◌∷◌}
 use Rattle.std.specs.Prelude.{◌==◌, nat_lt, int_lt, bit_and, slice_index}
 use Rattle.console_defs.specs.Words.{low, join}
 use Rattle.console_defs.specs.Flags.{Word, signed}

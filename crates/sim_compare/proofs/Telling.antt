@@ -1,7 +1,7 @@
 -- What a comparison tells, and how it ends.
 use Rattle.std.proofs.Common.{◌≡◌, ℕ, ◌+◌, ◌<◌, ◌≤◌, Bool, true, false, refl, sym, ap, subst, ◌∙◌, arith, List, Option, Some, Ok}
 use Rattle.std.specs.Prelude.{◌==◌, not, nat_lt, int_lt, bit_and, slice_index, slice_set}
-use Rattle.console_defs.specs.Flags.{Width, Byte, Word, modulus, size_of, signed}
+use Rattle.console_defs.specs.Flags.{Width, Byte, Word, modulus, signed}
 use Rattle.console_defs.specs.Logic.{ones_set, ones_cleared}
 use Rattle.console_defs.specs.Machine.{MachineState}
 use Rattle.gpl_defs.specs.declared.instruction.OneName.TheVariants.{CZ}
@@ -14,14 +14,14 @@ use Rattle.step_defs.specs.Changes.{unchanged, with_condition}
 use Rattle.step_defs.specs.Arithmetic.{Source}
 use Rattle.interp_defs.specs.Runs.{is_end}
 use Rattle.sim_view.specs.View.{View, view, Stands}
-use Rattle.sim_view.specs.Exits.{Exit, Exits, Comes}
-use Rattle.sim_view.proofs.Bridge.{IsView, is_view}
+use Rattle.sim_view.specs.Exits.{Exits, Comes}
+use Rattle.sim_view.proofs.Bridge.{IsView}
 use Rattle.sim_view.proofs.Compose.{Goes, comes, comes_then}
 use Rattle.sim_operands.specs.Values.{width_in, in_register}
 use Rattle.sim_compare.specs.Pieces.{told, end_of}
 use Rattle.sim_compare.specs.Family.{is_comparison, compared, comparison, IsTold, ending}
 use Rattle.sim_rows.specs.States.{Sees, operation_in}
-use Rattle.sim_rows.specs.Rows.{row_width, bytes_by, next_of, gone_on, operands_of, loaded_of, AtRow}
+use Rattle.sim_rows.specs.Rows.{row_width, bytes_by, next_of, gone_on, loaded_of}
 use Rattle.sim_rows.specs.Results.{row_result, SeesFinished, SeesResult, RunsRow}
 use Rattle.sim_compare.proofs.Numbers.{number_fits, below_in_register, equal_in_register, zero_in_register, at_most, ones_in_register, order_in_register, at_most_signed}
 

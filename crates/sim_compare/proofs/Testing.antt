@@ -1,8 +1,7 @@
 -- The tests of the status, from their dispatch to the end of the step.
-use Rattle.std.proofs.Common.{◌≡◌, ℕ, ◌+◌, ◌<◌, ◌≤◌, Bool, true, false, refl, sym, ap, subst, ◌∙◌, arith, List, Option, Some, Result, Ok}
+use Rattle.std.proofs.Common.{◌≡◌, ℕ, ◌<◌, Bool, true, false, refl, ap, subst, ◌∙◌, arith, List, Option, Some, Result, Ok}
 use Rattle.std.specs.Prelude.{◌==◌, slice_index}
 use Rattle.console_defs.specs.Words.{low, join}
-use Rattle.console_defs.specs.Grom.{next_in_grom}
 use Rattle.console_defs.specs.Status.{is_set}
 use Rattle.console_defs.specs.Shifts.{shifted, last_out}
 use Rattle.console_defs.specs.declared.instruction.ShiftOp.TheVariants.{SLA}
@@ -17,7 +16,7 @@ use Rattle.gpl_defs.specs.Codes.{operation_at}
 use Rattle.gpl_defs.specs.Reading.{reading, read_by}
 use Rattle.step_defs.specs.declared.reason.Reason.{Reason}
 use Rattle.step_defs.specs.State.{GplState}
-use Rattle.step_defs.specs.Changes.{Changes, unchanged, with_condition, finished, status_of}
+use Rattle.step_defs.specs.Changes.{Changes, unchanged, finished, status_of}
 use Rattle.step_defs.specs.Step.{step, executed, after, with_tested}
 use Rattle.step_defs.specs.Run.{bound, bound_by, bound_at}
 use Rattle.native_interp.specs.Entries.{operation_entry, row_entry}
@@ -33,7 +32,6 @@ use Rattle.sim_compare.specs.Pieces.{end_of}
 use Rattle.sim_compare.specs.Family.{is_comparison, is_test, is_compare, tested, test, IsTold, ending}
 use Rattle.sim_rows.specs.States.{Sees, Dispatched, code_byte, operation_in, behind_code}
 use Rattle.sim_rows.specs.Rows.{is_row}
-use Rattle.sim_rows.specs.Results.{SeesFinished}
 use Rattle.sim_compare.proofs.Numbers.{bit_out_1, bit_out_2, bit_out_4, bit_out_5}
 use Rattle.sim_compare.proofs.Telling.{told_goes, is_told, tells}
 use Rattle.sim_rows.proofs.Ends.{matches, reaches, turned_by}

@@ -1,14 +1,13 @@
 -- The comparisons and the tests of the status, and what each tells.
-use Rattle.std.specs.Prelude.{◌≡◌, ℕ, ◌==◌, Bool, true, false, ◌||◌, nat_lt, nat_le, int_lt, int_le, bit_and, Option, Some, None}
+use Rattle.std.specs.Prelude.{ℕ, ◌==◌, Bool, true, false, ◌||◌, nat_lt, nat_le, int_lt, int_le, bit_and, Option, Some}
 use Rattle.console_defs.specs.Flags.{Width, signed}
 use Rattle.console_defs.specs.Machine.{MachineState}
-use Rattle.gpl_defs.specs.declared.instruction.PlainOp.{PlainOp}
 use Rattle.gpl_defs.specs.declared.instruction.PlainOp.TheVariants.{H, GT, CARRY, OVF}
 use Rattle.gpl_defs.specs.declared.instruction.OneName.TheVariants.{CZ}
 use Rattle.gpl_defs.specs.declared.instruction.TwoName.TheVariants.{CH, CHE, CGT, CGE, CEQ, CLOG}
 use Rattle.gpl_defs.specs.declared.instruction.GplOperation.{GplOperation}
 use Rattle.gpl_defs.specs.declared.instruction.GplOperation.TheVariants.{Plain, One, Two}
-use Rattle.native_interp.specs.declared.addresses.TheConstants.{CTRUE, CFALSE}
+use Rattle.native_interp.specs.declared.addresses.TheConstants.{CTRUE}
 use Rattle.sim_view.specs.View.{View, Stands}
 use Rattle.sim_view.specs.Exits.{Exit}
 use Rattle.sim_operands.specs.Pieces.{exit}

@@ -12,11 +12,10 @@ ghost use Rattle.sim_rows.specs.Results.{RunsRow};
 ghost use Rattle.sim_compare.specs.Family.{is_comparison, is_test, is_compare, comparison, test};
 
 use crate::compare::{
-    compare_equal, compare_greater, compare_greater_or_equal, compare_higher, compare_higher_or_equal,
-    compare_ones, compare_with_zero,
+    compare_equal, compare_greater, compare_greater_or_equal, compare_higher,
+    compare_higher_or_equal, compare_ones, compare_with_zero,
 };
 use crate::condition::end_comparison;
-
 use crate::test::{test_carry, test_greater, test_higher, test_overflow};
 use gpl_defs::{GplOperation, OneName, TwoName};
 use interp_defs::Turn;

@@ -7,7 +7,10 @@ mod condition;
 mod family;
 mod test;
 
-pub use compare::{compare_equal, compare_greater, compare_greater_or_equal, compare_higher, compare_higher_or_equal, compare_ones, compare_with_zero};
+pub use compare::{
+    compare_equal, compare_greater, compare_greater_or_equal, compare_higher,
+    compare_higher_or_equal, compare_ones, compare_with_zero,
+};
 pub use condition::{clear_condition, end_comparison, set_condition};
 pub use family::run_compare;
 pub use test::{test_carry, test_greater, test_higher, test_overflow};

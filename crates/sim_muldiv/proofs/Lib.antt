@@ -1,2 +1,5 @@
 pub mod Numbers
 pub mod Paths
+pub mod Common
+pub mod Products
+pub mod Quotients

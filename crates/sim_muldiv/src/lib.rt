@@ -1,8 +1,10 @@
 //! MUL and DIV of GPL, run on the machine. Each is built of pieces: stretches of at most 16 instructions without a loop.
 #![tactic(auto)]
 
+mod family;
 mod product;
 mod quotient;
 
-pub use product::{low_product, multiply};
-pub use quotient::{clear_overflow, compare_divisor, divide_bytes, divide_words, load_low_word, set_overflow, store_last, take_remainder};
+pub use family::run_muldiv;
+pub use product::{low_product, multiply, run_product};
+pub use quotient::{clear_overflow, compare_divisor, divide_bytes, divide_words, load_low_word, run_quotient, set_overflow, store_last, take_remainder};

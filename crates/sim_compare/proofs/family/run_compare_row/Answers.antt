@@ -1,6 +1,5 @@
-use Rattle.std.proofs.Common.{◌≡◌, ℕ, Bool, true, false, ap, subst, ◌∙◌, arith, Option}
+use Rattle.std.proofs.Common.{◌≡◌, true, ap, subst, ◌∙◌, arith, Option}
 use Rattle.gpl_defs.specs.declared.instruction.GplOperation.{GplOperation}
-use Rattle.native_interp.specs.Entries.{row_entry}
 use Rattle.interp_defs.specs.Runs.{is_end}
 use Rattle.sim_view.specs.View.{view}
 use Rattle.sim_view.proofs.Bridge.{is_view}

@@ -1,5 +1,3 @@
-use Rattle.std.proofs.Common.{◌≡◌}
-use Rattle.sim_view.specs.View.{view}
 use Rattle.sim_view.proofs.Bridge.{is_view}
 use Rattle.sim_compare.proofs.Telling
 use Rattle.sim_compare.proofs.family.run_comparison.Goals as goal

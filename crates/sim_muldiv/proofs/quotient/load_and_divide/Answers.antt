@@ -1,0 +1,19 @@
+use Rattle.std.proofs.Common.{◌≡◌, arith}
+use Rattle.sim_view.specs.View.{view}
+use Rattle.sim_muldiv.proofs.Quotients
+use Rattle.sim_muldiv.proofs.quotient.load_and_divide.Goals as goal
+
+pub run_load-requires-clause-idle : goal.run_load-requires-clause-idle
+run_load-requires-clause-idle g c = Quotients.load_idle c.args.machine.now c.load_low_word.new.machine c.load_low_word.new.machine c.args.steps.now c.load_low_word.new.steps c.load_low_word.new.steps c.requires.ready c.requires.word c.load_low_word.ensures
+
+pub run_load-requires-clause-visible : goal.run_load-requires-clause-visible
+run_load-requires-clause-visible g c = Quotients.load_visible c.args.machine.now c.load_low_word.new.machine c.load_low_word.new.machine c.args.steps.now c.load_low_word.new.steps c.load_low_word.new.steps c.requires.ready c.requires.word c.load_low_word.ensures
+
+pub divide_words-requires-clause-stands : goal.divide_words-requires-clause-stands
+divide_words-requires-clause-stands g c = Quotients.divide_stands c.args.machine.now c.load_low_word.new.machine c.run_load.new.machine c.args.steps.now c.load_low_word.new.steps c.run_load.new.steps c.requires.ready c.requires.word c.load_low_word.ensures (c.run_load.ensures.value (Quotients.load_space c.args.machine.now c.load_low_word.new.machine c.run_load.new.machine c.args.steps.now c.load_low_word.new.steps c.run_load.new.steps c.requires.ready c.requires.word c.load_low_word.ensures))
+
+pub divide_words-requires-clause-fits : goal.divide_words-requires-clause-fits
+divide_words-requires-clause-fits g c = Quotients.divide_fits c.args.machine.now c.load_low_word.new.machine c.run_load.new.machine c.args.steps.now c.load_low_word.new.steps c.run_load.new.steps c.requires.ready c.requires.word c.load_low_word.ensures (c.run_load.ensures.value (Quotients.load_space c.args.machine.now c.load_low_word.new.machine c.run_load.new.machine c.args.steps.now c.load_low_word.new.steps c.run_load.new.steps c.requires.ready c.requires.word c.load_low_word.ensures)) c.requires.fits
+
+pub returns : goal.returns
+returns g c = Quotients.divides_there c.args.machine.now c.load_low_word.new.machine c.run_load.new.machine c.args.steps.now c.load_low_word.new.steps c.run_load.new.steps c.requires.ready c.requires.word c.load_low_word.ensures (c.run_load.ensures.value (Quotients.load_space c.args.machine.now c.load_low_word.new.machine c.run_load.new.machine c.args.steps.now c.load_low_word.new.steps c.run_load.new.steps c.requires.ready c.requires.word c.load_low_word.ensures)) c.divide_words.new.machine c.divide_words.new.steps c.divide_words.ensures
