@@ -31,7 +31,8 @@ pub fn family_of(operation: Option<GplOperation>) -> Family
     match operation {
         Some(GplOperation::One(op)) => family_of_one(op),
         Some(GplOperation::Two(op)) => family_of_two(op),
-        Some(GplOperation::Jump(GoOp::B)) | Some(GplOperation::Plain(PlainOp::EXIT)) => Family::Flow,
+        Some(GplOperation::Jump(GoOp::B)) | Some(GplOperation::Plain(PlainOp::EXIT)) =>
+            Family::Flow,
         Some(GplOperation::Plain(PlainOp::H))
         | Some(GplOperation::Plain(PlainOp::GT))
         | Some(GplOperation::Plain(PlainOp::CARRY))
@@ -69,20 +70,12 @@ fn family_of_two(op: TwoName) -> Family
     ensures { result ≡ spec.family_of_two op }
 {
     match op {
-        TwoName::ADD
-        | TwoName::SUB
-        | TwoName::AND
-        | TwoName::OR
-        | TwoName::XOR
-        | TwoName::ST => Family::Alu,
+        TwoName::ADD | TwoName::SUB | TwoName::AND | TwoName::OR | TwoName::XOR | TwoName::ST =>
+            Family::Alu,
         TwoName::SRA | TwoName::SLL | TwoName::SRL | TwoName::SRC => Family::Shift,
         TwoName::MUL | TwoName::DIV => Family::MulDiv,
-        TwoName::CH
-        | TwoName::CHE
-        | TwoName::CGT
-        | TwoName::CGE
-        | TwoName::CEQ
-        | TwoName::CLOG => Family::Compare,
+        TwoName::CH | TwoName::CHE | TwoName::CGT | TwoName::CGE | TwoName::CEQ | TwoName::CLOG =>
+            Family::Compare,
         TwoName::EX => Family::Misc,
     }
 }

@@ -205,9 +205,7 @@ const ROWS: &[(&str, &[&[u8]], &[&[u8]])] = &[
     ),
     (
         "ADD to the status",
-        &[
-            b"ADD @>837C,1",
-        ],
+        &[b"ADD @>837C,1"],
         &[
             b"exit at >6003",
             b"gpl >6003 SC0 D9F R7E",
