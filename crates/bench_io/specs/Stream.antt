@@ -1,6 +1,7 @@
 -- What a source has left, what a sink holds, and their counts.
 use Rattle.std.specs.Prelude.{◌≡◌, ℕ, ◌-◌, List, [], ◌++◌, take, Option, IfSome}
 use Rattle.std.specs.Option.{option_map}
+use Rattle.std.specs.Io.KnownBytes.{Appends}
 
 -- a source: the bytes that are left, where it tells them; how many calls of `take` were made, how many bytes they gave,
 -- how many of them gave no byte (at the end, or by failing), and how many failed
@@ -42,3 +43,7 @@ Grew old new bytes = new ≡ option_map (λ held. held ++ bytes) old
 -- what is held now: what was held before, and then a front of these bytes
 abbrev pub GrewByPrefix : Option (List ℕ) → Option (List ℕ) → List ℕ → Type 0
 GrewByPrefix old new bytes = (count : ℕ) × Grew old new (take count bytes)
+
+-- what a writer holds now, where it tells that: what it held before, and then a front of these bytes
+abbrev pub AppendsFront : Option (List ℕ) → Option (List ℕ) → List ℕ → Type 0
+AppendsFront old new bytes = (count : ℕ) × Appends old new (take count bytes)

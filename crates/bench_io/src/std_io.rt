@@ -1,14 +1,14 @@
 ghost use Rattle.std.specs.Prelude.{◌≡◌, ◌<◌, ◌≤◌, length, None, IfOk, OnOk, OnErr};
 ghost use Rattle.count_defs.specs.Counts.{raised, Rose};
-ghost use Rattle.bench_io.specs.Stream.{empty_calls};
+ghost use Rattle.bench_io.specs.Stream.{AppendsFront, empty_calls};
 ghost use Rattle.std.specs.Io.KnownBytes.{Appends, ReadConsumes};
 
 use crate::{Failed, Sink, Source};
-use std::io::{Read, Write};
+use std::io::{ErrorKind, Read, Write};
 use std::marker::Model;
 
-/// A source over any reader of std. Each error of the reader is a fault. To a caller of the trait it tells nothing of what
-/// the reader has left. The contract of its own `take` says which bytes come, where the reader tells what it has left.
+/// A source over any reader of std. A read that fails is a fault. To a caller of the trait it tells nothing of what the
+/// reader has left. The contract of its own `take` says which bytes come, where the reader tells what it has left.
 #[derive(Debug, Drop)]
 pub struct StdSource<R: Read + Drop> {
     reader: R,
@@ -44,7 +44,7 @@ impl<R: Read + Drop> StdSource<R> {
 impl<R: Read + Drop> Source for StdSource<R> {
     ghost state = { λ s. record { left = None; calls = s.calls; taken = s.taken; empty = s.empty; faults = s.faults } };
 
-    /// Each error of the reader raises the count of faults by one, and nothing else does.
+    /// A call that fails raises the count of faults by one, and no other call does.
     fn take(&mut self, buffer: &mut [u8]) -> Result<usize, Failed>
         requires { 0 < length buffer.old }
         ensures cause { OnErr result (Rose self.old.faults self.new.faults) }
@@ -81,9 +81,10 @@ impl<R: Read + Drop> Source for StdSource<R> {
     }
 }
 
-/// A sink over any writer of std. Each error of the writer is a fault, and so is a write that takes nothing of a piece that
-/// is not empty. To a caller of the trait it tells nothing of what the writer holds. The contract of its own `put` says
-/// that the bytes are appended, where the writer tells what it holds.
+/// A sink over any writer of std. Each error of the writer but an interruption is a fault, and so is a write that
+/// takes nothing of a piece that is not empty. To a caller of the trait it tells nothing of what the writer holds. The
+/// contract of its own `put` says that the bytes are appended, or a front of them where it fails, where the writer
+/// tells what it holds.
 #[derive(Debug, Drop)]
 pub struct StdSink<W: Write + Drop> {
     writer: W,
@@ -115,10 +116,11 @@ impl<W: Write + Drop> StdSink<W> {
 impl<W: Write + Drop> Sink for StdSink<W> {
     ghost state = { λ s. record { held = None; puts = s.puts; faults = s.faults } };
 
-    /// Each error of the writer raises the count of faults by one, and nothing else does.
+    /// A call that fails raises the count of faults by one, and no other call does.
     fn put(&mut self, bytes: &[u8]) -> Result<(), Failed>
         ensures cause { OnErr result (Rose self.old.faults self.new.faults) }
         ensures bytes { OnOk result (Appends self.old.held self.new.held bytes.now) }
+        ensures front { OnErr result (AppendsFront self.old.held self.new.held bytes.now) }
         ensures ok { OnOk result (self.new ≡ record self.old { held = self.new.held; puts = raised self.old.puts 1 }) }
         ensures error { OnErr result (self.new ≡ record self.old {
           held = self.new.held;
@@ -127,7 +129,7 @@ impl<W: Write + Drop> Sink for StdSink<W> {
         }) }
     {
         self.puts = self.puts.saturating_add(1);
-        match self.writer.write_all(bytes) {
+        match write_whole(&mut self.writer, bytes) {
             Ok(()) => Ok(()),
             Err(_) => {
                 self.faults = self.faults.saturating_add(1);
@@ -135,4 +137,27 @@ impl<W: Write + Drop> Sink for StdSink<W> {
             }
         }
     }
+}
+
+/// Writes all of some bytes to a writer. A write that was interrupted is made again.
+fn write_whole<W: Write>(writer: &mut W, bytes: &[u8]) -> Result<(), Failed>
+    ensures bytes { OnOk result (Appends (W.contents writer.old) (W.contents writer.new) bytes.now) }
+    ensures front { OnErr result (AppendsFront (W.contents writer.old) (W.contents writer.new) bytes.now) }
+{
+    let mut rest = bytes;
+    for _ in 0..u64::MAX {
+        if rest.is_empty() {
+            return Ok(());
+        }
+        match writer.write(rest) {
+            Ok(0) => return Err(Failed),
+            Ok(count) => rest = &rest[count..],
+            Err(error) => {
+                if error.kind() != ErrorKind::Interrupted {
+                    return Err(Failed);
+                }
+            }
+        }
+    }
+    Err(Failed)
 }

@@ -7,12 +7,18 @@ use std::io;
 use std::io::{ErrorKind, Read, Write};
 use std::test::Fail;
 
-/// A reader whose every read fails.
+/// A reader that fails once, and then is at its end.
 #[derive(Drop)]
-struct Broken;
+struct Broken {
+    has_failed: bool,
+}
 
 impl Read for Broken {
     fn read(&mut self, _buf: &mut [u8]) -> io::Result<usize> {
+        if self.has_failed {
+            return Ok(0);
+        }
+        self.has_failed = true;
         Err(io::Error::from(ErrorKind::BrokenPipe))
     }
 }
@@ -132,13 +138,20 @@ fn passes_a_pipe(rt: &HostRuntime) -> io::Result<bool> {
     Ok(are_read(read, b"through a pipe"))
 }
 
-/// Whether a reader that fails behind its first bytes gives these, then fails, and goes on failing.
+/// Whether a reader that fails once behind its first bytes gives these and fails at the next call alone, and whether
+/// such a failure is the fault of a whole reading.
 fn fails_behind_its_front(alloc: Global) -> bool {
-    let mut source = StdSource::new(b"front".as_slice().chain(Broken));
+    let mut source = StdSource::new(b"front".as_slice().chain(Broken { has_failed: false }));
     let mut buffer = [0; 8];
+    let read = read_all(
+        alloc,
+        &mut StdSource::new(Broken { has_failed: false }),
+        100,
+    );
     source.take(&mut buffer) == Ok(5)
         && source.take(&mut buffer) == Err(Failed)
-        && matches!(read_all(alloc, &mut source, 100), Err(ReadError::Fault))
+        && source.take(&mut buffer) == Ok(0)
+        && matches!(read, Err(ReadError::Fault))
 }
 
 /// Whether a writer with room for four bytes takes three, then fails, whether by an error or by taking nothing.
