@@ -7,4 +7,7 @@ mod quotient;
 
 pub use family::run_muldiv;
 pub use product::{low_product, multiply, run_product};
-pub use quotient::{clear_overflow, compare_divisor, divide_bytes, divide_words, load_low_word, run_quotient, set_overflow, store_last, take_remainder};
+pub use quotient::{
+    clear_overflow, compare_divisor, divide_bytes, divide_words, load_low_word, run_quotient,
+    set_overflow, store_last, take_remainder,
+};
