@@ -1,8 +1,8 @@
 -- What is known at the row of MUL and DIV.
-use Rattle.std.proofs.Common.{◌≡◌, ℕ, ◌+◌, ◌*◌, ◌%◌, ◌<◌, ◌≤◌, Bool, true, false, refl, sym, ap, subst, ◌∙◌, arith, List, Option, Some, Ok}
+use Rattle.std.proofs.Common.{◌≡◌, ℕ, ◌+◌, ◌*◌, ◌%◌, ◌<◌, Bool, true, false, refl, sym, ap, subst, ◌∙◌, arith, List, Option, Some, Ok}
 use Rattle.std.specs.Prelude.{◌==◌, slice_index, if◌then◌else◌}
-use Rattle.console_defs.specs.Words.{low, join}
-use Rattle.console_defs.specs.Flags.{Width, Byte, Word, size_of, sum_of}
+use Rattle.console_defs.specs.Words.{low}
+use Rattle.console_defs.specs.Flags.{Width, Byte, Word, size_of}
 use Rattle.console_defs.specs.Machine.{MachineState}
 use Rattle.gpl_defs.specs.declared.instruction.Space.{Space}
 use Rattle.gpl_defs.specs.declared.instruction.Space.TheVariants.{Cpu, Vdp}
@@ -13,13 +13,12 @@ use Rattle.step_defs.specs.State.{GplState}
 use Rattle.step_defs.specs.Place.{Place, byte_in, byte_at, value_at}
 use Rattle.step_defs.specs.Arithmetic.{Source}
 use Rattle.native_interp.specs.Entries.{operation_entry, row_entry}
-use Rattle.interp_defs.specs.Match.{PortsAreIdle}
 use Rattle.interp_defs.specs.Runs.{is_end}
-use Rattle.sim_view.specs.View.{View, view, Stands}
+use Rattle.sim_view.specs.View.{View, view}
 use Rattle.sim_view.specs.Exits.{Exit, Exits}
 use Rattle.sim_view.proofs.Bridge.{IsView}
 use Rattle.sim_view.proofs.Places.{pick}
-use Rattle.sim_operands.specs.Values.{width_in, in_register, number_of_space, IsVisible}
+use Rattle.sim_operands.specs.Values.{width_in, in_register, IsVisible}
 use Rattle.sim_rows.specs.States.{Sees, operation_in}
 use Rattle.sim_rows.specs.Rows.{is_row, row_width, next_of, bytes_by, destination_bytes, operands_of, loaded_of, AtRow}
 use Rattle.sim_rows.proofs.Again.{idle_again}

@@ -1,5 +1,5 @@
 -- The runs of the pieces on the view.
-use Rattle.std.proofs.Common.{◌≡◌, ℕ, ◌<◌, ◌≤◌, true, false, refl, List, [], ◌∷◌}
+use Rattle.std.proofs.Common.{◌<◌, ◌≤◌, true, false, refl, [], ◌∷◌}
 use Rattle.std.specs.Prelude.{◌==◌, nat_lt}
 use Rattle.std.proofs.lemmas.Bool.{lt-ltb}
 use Rattle.console_defs.specs.Shifts.{shifted}

@@ -1,29 +1,27 @@
 -- MUL, from its row to the end of the step.
-use Rattle.std.proofs.Common.{◌≡◌, ℕ, ◌+◌, ◌*◌, ◌/◌, ◌%◌, ◌<◌, ◌≤◌, true, false, refl, sym, ap, subst, ◌∙◌, arith, Option, Some, Ok}
-use Rattle.std.specs.Prelude.{◌==◌}
-use Rattle.console_defs.specs.Words.{high, low, join, even}
-use Rattle.console_defs.specs.Flags.{Width, Byte, Word, size_of, sum_of}
+use Rattle.std.proofs.Common.{◌≡◌, ℕ, ◌+◌, ◌*◌, ◌/◌, ◌%◌, ◌<◌, true, refl, sym, ap, subst, ◌∙◌, arith, Some}
+use Rattle.console_defs.specs.Words.{high, join, even}
+use Rattle.console_defs.specs.Flags.{Width, Byte, Word, size_of}
 use Rattle.console_defs.specs.Machine.{MachineState}
 use Rattle.console_defs.specs.Shifts.{shifted}
 use Rattle.console_defs.specs.declared.instruction.ShiftOp.TheVariants.{SRL, SLA}
 use Rattle.gpl_defs.specs.declared.instruction.TwoName.TheVariants.{MUL}
-use Rattle.gpl_defs.specs.declared.instruction.GplOperation.{GplOperation}
 use Rattle.gpl_defs.specs.declared.instruction.GplOperation.TheVariants.{Two}
 use Rattle.step_defs.specs.State.{GplState}
 use Rattle.step_defs.specs.Place.{Place, behind, byte_at, value_at}
-use Rattle.step_defs.specs.Changes.{Changes, unchanged, with_value, with_double}
+use Rattle.step_defs.specs.Changes.{unchanged, with_value, with_double}
 use Rattle.step_defs.specs.Arithmetic.{Source}
 use Rattle.interp_defs.specs.Match.{PortsAreIdle}
 use Rattle.sim_view.specs.View.{View, view, Stands}
 use Rattle.sim_view.specs.Exits.{Exits, Comes}
-use Rattle.sim_view.proofs.Bridge.{IsView, is_view}
-use Rattle.sim_view.proofs.Compose.{Goes, comes, comes_as, comes_on, comes_then}
+use Rattle.sim_view.proofs.Bridge.{is_view}
+use Rattle.sim_view.proofs.Compose.{comes, comes_as, comes_on, comes_then}
 use Rattle.sim_operands.specs.Values.{width_in, in_register, IsVisible}
 use Rattle.sim_operands.specs.Pieces.{return_of}
 use Rattle.sim_operands.specs.Subroutines.{StoresValue}
-use Rattle.sim_rows.specs.States.{Sees, operation_in}
+use Rattle.sim_rows.specs.States.{operation_in}
 use Rattle.sim_rows.specs.Rows.{row_width, next_of, gone_on, AtRow}
-use Rattle.sim_rows.specs.Results.{Changed, Storing, SeesFinished, StoresResult, RunsRow}
+use Rattle.sim_rows.specs.Results.{Storing, SeesFinished, StoresResult, RunsRow}
 use Rattle.sim_rows.proofs.Again.{idle_again}
 use Rattle.sim_rows.proofs.Storing.{ChangedFrom, changed_again, store_then, stored_idle}
 use Rattle.sim_rows.proofs.Rowing.{row_changed}

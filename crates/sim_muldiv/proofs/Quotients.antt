@@ -1,9 +1,9 @@
 -- DIV, from its row to the end of the step.
-use Rattle.std.proofs.Common.{◌≡◌, ℕ, ◌+◌, ◌*◌, ◌/◌, ◌%◌, ◌<◌, ◌≤◌, Bool, true, false, refl, sym, ap, subst, ◌∙◌, arith, List, Option, Some, Ok}
+use Rattle.std.proofs.Common.{◌≡◌, ℕ, ◌+◌, ◌/◌, ◌%◌, ◌<◌, ◌≤◌, Bool, true, false, refl, sym, ap, subst, ◌∙◌, arith, List, Some}
 use Rattle.std.specs.Prelude.{◌==◌, nat_lt, slice_index, slice_set, if◌then◌else◌}
 use Rattle.std.proofs.lemmas.Bool.{ltb-true}
-use Rattle.console_defs.specs.Words.{high, low, join, even}
-use Rattle.console_defs.specs.Flags.{Width, Byte, Word, size_of, modulus, sum_of}
+use Rattle.console_defs.specs.Words.{high, join, even}
+use Rattle.console_defs.specs.Flags.{Width, Byte, Word, size_of, sum_of}
 use Rattle.console_defs.specs.Logic.{ones_set, ones_cleared, swapped}
 use Rattle.console_defs.specs.MultiplyDivide.{double_word}
 use Rattle.console_defs.specs.Machine.{MachineState}
@@ -19,14 +19,13 @@ use Rattle.interp_defs.specs.Match.{PortsAreIdle}
 use Rattle.interp_defs.specs.Runs.{is_end}
 use Rattle.sim_view.specs.View.{View, view, Stands}
 use Rattle.sim_view.specs.Exits.{Exits, Comes}
-use Rattle.sim_view.proofs.Bridge.{IsView, is_view}
-use Rattle.sim_view.proofs.Places.{pick}
+use Rattle.sim_view.proofs.Bridge.{is_view}
 use Rattle.sim_view.proofs.Compose.{Goes, comes, comes_as, comes_on, comes_then}
 use Rattle.sim_operands.specs.Values.{width_in, in_register, number_of_space, IsVisible}
 use Rattle.sim_operands.specs.Pieces.{exit, return_of}
 use Rattle.sim_operands.specs.Subroutines.{state_of, place_in, Loaded, LoadsValue, StoresValue}
-use Rattle.sim_rows.specs.States.{Sees, operation_in}
-use Rattle.sim_rows.specs.Rows.{row_width, next_of, gone_on, operands_of, AtRow}
+use Rattle.sim_rows.specs.States.{operation_in}
+use Rattle.sim_rows.specs.Rows.{row_width, next_of, gone_on, AtRow}
 use Rattle.sim_rows.specs.Results.{Changed, Storing, SeesFinished, EndsRow, RunsRow}
 use Rattle.sim_rows.proofs.Again.{idle_again, idle_told}
 use Rattle.sim_rows.proofs.Fronting.{place_is}
@@ -37,7 +36,7 @@ use Rattle.sim_muldiv.specs.Pieces as pieces
 use Rattle.sim_muldiv.specs.Family.{is_muldiv, IsReady, AreVisible, Divided, Divides, EndsDivision, EndsQuotient, second_in, dividend_in}
 use Rattle.sim_muldiv.proofs.Numbers.{byte_divides, word_divides, quotient_fits, remainder_fits, divisor_down, byte_fits, no_first_word, together, high_of, low_of}
 use Rattle.sim_operands.proofs.Ready.{idle_video, idle_grom}
-use Rattle.sim_muldiv.proofs.Common.{width_if, width_there, loaded_is, word_fits_at, first_visible, second_visible, word_visible, ready_again}
+use Rattle.sim_muldiv.proofs.Common.{width_if, width_there, loaded_is, word_fits_at, second_visible, word_visible, ready_again}
 
 is_div : (s : GplState) → operation_in s ≡ Some (Two DIV) → is_muldiv (operation_in s) ≡ true
 is_div s e = ap is_muldiv e

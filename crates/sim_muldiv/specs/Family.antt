@@ -1,5 +1,5 @@
 -- MUL and DIV, and what their parts come to.
-use Rattle.std.specs.Prelude.{◌≡◌, ◌<◌, ◌≤◌, ℕ, ◌+◌, ◌*◌, ◌/◌, ◌%◌, Bool, true, false, Option, Some, None, Result, Ok, Err}
+use Rattle.std.specs.Prelude.{◌≡◌, ◌<◌, ◌≤◌, ℕ, ◌+◌, ◌*◌, ◌/◌, ◌%◌, Bool, true, false, Option, Some, Ok}
 use Rattle.console_defs.specs.Words.{low}
 use Rattle.console_defs.specs.Flags.{Width, Byte, Word, size_of, sum_of}
 use Rattle.console_defs.specs.MultiplyDivide.{double_word}
@@ -9,7 +9,7 @@ use Rattle.gpl_defs.specs.declared.instruction.GplOperation.{GplOperation}
 use Rattle.gpl_defs.specs.declared.instruction.GplOperation.TheVariants.{Two}
 use Rattle.step_defs.specs.declared.cells.TheConstants.{VISIBLE_CELLS}
 use Rattle.step_defs.specs.State.{GplState}
-use Rattle.step_defs.specs.Place.{Place, behind, value_at, double_at}
+use Rattle.step_defs.specs.Place.{Place, value_at, double_at}
 use Rattle.step_defs.specs.Changes.{Changes, unchanged, with_value, with_overflow}
 use Rattle.step_defs.specs.Arithmetic.{Source, has_quotient, with_quotient}
 use Rattle.native_interp.specs.declared.addresses.TheConstants.{GSTEP, DIVQ}

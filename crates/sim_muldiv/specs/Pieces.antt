@@ -1,6 +1,6 @@
 -- What the pieces of MUL and DIV come to: how many instructions they have, where they end, and what they change of the view,
 -- in the words of the processor. Registers, cells and ports that are not named stay.
-use Rattle.std.specs.Prelude.{ℕ, ◌+◌, ◌*◌, ◌/◌, ◌%◌, ◌==◌, Bool, true, false, nat_lt, if◌then◌else◌, slice_index, slice_set}
+use Rattle.std.specs.Prelude.{ℕ, ◌/◌, ◌%◌, ◌==◌, nat_lt, if◌then◌else◌, slice_index, slice_set}
 use Rattle.console_defs.specs.Flags.{Byte, Word, sum_of}
 use Rattle.console_defs.specs.Logic.{ones_set, ones_cleared, swapped}
 use Rattle.console_defs.specs.MultiplyDivide.{double_word, product_of}

@@ -1,4 +1,4 @@
-use Rattle.std.proofs.Common.{◌≡◌, ℕ, true, false, ap, subst, ◌∙◌, arith, Option}
+use Rattle.std.proofs.Common.{◌≡◌, true, ap, subst, ◌∙◌, arith, Option}
 use Rattle.gpl_defs.specs.declared.instruction.GplOperation.{GplOperation}
 use Rattle.interp_defs.specs.Runs.{is_end}
 use Rattle.sim_view.specs.View.{view}

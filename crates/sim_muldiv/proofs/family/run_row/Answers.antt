@@ -1,4 +1,4 @@
-use Rattle.std.proofs.Common.{◌≡◌, subst, sym}
+use Rattle.std.proofs.Common.{subst, sym}
 use Rattle.gpl_defs.specs.declared.instruction.GplOperation.{GplOperation}
 use Rattle.sim_rows.specs.Results.{RunsRow}
 use Rattle.sim_muldiv.proofs.family.run_row.Goals as goal

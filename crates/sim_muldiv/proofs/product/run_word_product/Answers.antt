@@ -1,5 +1,3 @@
-use Rattle.std.proofs.Common.{◌≡◌, arith}
-use Rattle.sim_view.specs.View.{view}
 use Rattle.sim_muldiv.proofs.Products
 use Rattle.sim_muldiv.proofs.product.run_word_product.Goals as goal
 

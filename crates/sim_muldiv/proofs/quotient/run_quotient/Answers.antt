@@ -1,5 +1,4 @@
-use Rattle.std.proofs.Common.{◌≡◌, arith}
-use Rattle.sim_view.specs.View.{view}
+use Rattle.std.proofs.Common.{arith}
 use Rattle.sim_muldiv.proofs.Quotients
 use Rattle.sim_muldiv.proofs.quotient.run_quotient.Goals as goal
 

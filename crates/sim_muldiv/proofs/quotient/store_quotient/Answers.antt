@@ -1,5 +1,3 @@
-use Rattle.std.proofs.Common.{◌≡◌, arith}
-use Rattle.sim_view.specs.View.{view}
 use Rattle.sim_muldiv.proofs.Quotients
 use Rattle.sim_muldiv.proofs.quotient.store_quotient.Goals as goal
 
