@@ -3,11 +3,10 @@ use Rattle.std.proofs.Common.{◌≡◌, ℕ, ◌<◌, false, refl, sym, ap, sub
 use Rattle.std.specs.Prelude.{is_none, not}
 use Rattle.console_defs.specs.Vdp.{VdpState}
 use Rattle.console_defs.specs.Grom.{GromState}
-use Rattle.console_defs.specs.Accesses.{Gives}
 use Rattle.console_defs.specs.Memory.{Memory}
-use Rattle.console_defs.specs.Machine.{MachineState, steps}
+use Rattle.console_defs.specs.Machine.{MachineState}
 use Rattle.interp_defs.specs.Match.{PortsAreIdle, IsFetched}
-use Rattle.interp_defs.specs.Runs.{Runs, is_end}
+use Rattle.interp_defs.specs.Runs.{Runs}
 use Rattle.sim_view.specs.View.{View, view, view_of, Stands}
 use Rattle.sim_view.specs.Exits.{Comes}
 

@@ -1,6 +1,6 @@
 -- Facts about the code bytes of rows, each by trying all 256.
-use Rattle.std.proofs.Common.{◌≡◌, ℕ, ◌+◌, ◌-◌, ◌/◌, ◌<◌, ◌≤◌, Bool, true, false, refl, sym, ap, ◌∙◌, arith, eqb, Option, Some, None}
-use Rattle.std.specs.Prelude.{◌==◌, ◌&&◌, ◌||◌, not, nat_lt, nat_le, slice_index, if◌then◌else◌}
+use Rattle.std.proofs.Common.{◌≡◌, ℕ, ◌+◌, ◌-◌, ◌/◌, ◌<◌, ◌≤◌, Bool, true, false, refl, ap, eqb, Option, Some}
+use Rattle.std.specs.Prelude.{◌&&◌, not, nat_lt, nat_le, slice_index, if◌then◌else◌}
 use Rattle.std.proofs.lemmas.Bool.{agree_below_at, eqb-true, leb-true, ltb-true, and_parts}
 use Rattle.console_defs.specs.Words.{even}
 use Rattle.gpl_defs.specs.declared.instruction.OneName.{OneName}

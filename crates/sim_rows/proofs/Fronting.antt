@@ -18,8 +18,8 @@ use Rattle.step_defs.specs.State.{GplState}
 use Rattle.step_defs.specs.Place.{Place, place_of}
 use Rattle.step_defs.specs.Step.{word_or_byte}
 use Rattle.sim_view.specs.View.{View, view}
-use Rattle.sim_view.specs.Exits.{Exits, Comes}
-use Rattle.sim_view.proofs.Compose.{Goes, comes, comes_then, comes_as, comes_on}
+use Rattle.sim_view.specs.Exits.{Comes}
+use Rattle.sim_view.proofs.Compose.{Goes, comes_as, comes_on}
 use Rattle.sim_operands.specs.Pieces.{return_of}
 use Rattle.sim_operands.specs.Values.{width_in, number_of_space}
 use Rattle.sim_operands.specs.Subroutines.{grom_at, state_of, next_at, Addressed, Placed, Barred, Finds, FindsOperand, place_in, Loaded}

@@ -1,8 +1,7 @@
 -- The pieces and subroutines that load the operands of a row, one after the other.
-use Rattle.std.proofs.Common.{◌≡◌, ℕ, ◌+◌, ◌/◌, ◌%◌, ◌<◌, ◌≤◌, Bool, true, false, refl, sym, ap, subst, ◌∙◌, arith, Option, Some, None, Result, Ok, Err, ◌⊎◌, inl, inr}
-use Rattle.std.specs.Prelude.{◌==◌, not, nat_lt, if◌then◌else◌, slice_index}
-use Rattle.console_defs.specs.Flags.{Width, Byte, Word, size_of}
-use Rattle.console_defs.specs.Grom.{GromState}
+use Rattle.std.proofs.Common.{◌≡◌, ℕ, ◌+◌, ◌<◌, ◌≤◌, Bool, true, false, refl, sym, ap, subst, ◌∙◌, arith, Option, Some, None, Result, Ok, Err, ◌⊎◌, inl, inr}
+use Rattle.std.specs.Prelude.{not, nat_lt, if◌then◌else◌}
+use Rattle.console_defs.specs.Flags.{size_of}
 use Rattle.console_defs.specs.Machine.{MachineState}
 use Rattle.source_defs.specs.Refusals.{◌>>=◌}
 use Rattle.gpl_defs.specs.Reading.{operand_at, source_at, value_at as value_in}
@@ -17,20 +16,18 @@ use Rattle.step_defs.specs.State.{GplState}
 use Rattle.step_defs.specs.Place.{Place, place_of, value_at}
 use Rattle.step_defs.specs.Arithmetic.{Source}
 use Rattle.step_defs.specs.Step.{source_of, word_or_byte, destination_size}
-use Rattle.interp_defs.specs.Match.{IsFetched}
-use Rattle.sim_view.specs.View.{View, view, Stands}
+use Rattle.sim_view.specs.View.{View, view}
 use Rattle.sim_view.specs.Exits.{Exits, Comes}
-use Rattle.sim_view.proofs.Bridge.{IsView}
 use Rattle.sim_view.proofs.Compose.{comes, comes_as, comes_on}
 use Rattle.sim_operands.specs.Values.{IsVisible, number_of_space}
 use Rattle.sim_operands.specs.Subroutines.{Finds, FindsOperand, LoadsValue}
 use Rattle.sim_rows.specs.Pieces as pieces
-use Rattle.sim_rows.specs.States.{Sees, code_byte, operation_in, behind_code, StoppedBy}
-use Rattle.sim_rows.specs.Rows.{is_row, word_of, row_width, has_source, is_immediate, behind_first, source_read, next_of, gone_on, bytes_by, destination_bytes, first_of, unit, second_by, second_of, operands_of, AtOperands, Valued, Immediate, Found, Sourced, AtRow, LoadsDestination, LoadsOperands, LoadsPlaced, LoadsImmediate}
+use Rattle.sim_rows.specs.States.{code_byte, operation_in, behind_code}
+use Rattle.sim_rows.specs.Rows.{is_row, word_of, row_width, is_immediate, behind_first, source_read, next_of, gone_on, bytes_by, destination_bytes, first_of, unit, second_by, second_of, operands_of, AtOperands, Valued, Immediate, Found, Sourced, LoadsDestination, LoadsOperands, LoadsPlaced, LoadsImmediate}
 use Rattle.sim_rows.proofs.Places.{place_lies, lies_at}
 use Rattle.sim_rows.proofs.Codes.{row_code}
 use Rattle.sim_rows.proofs.Fronting.{Asking, Located, asks, located, barred, finds_of, space_small}
-use Rattle.sim_rows.proofs.Operands.{Loading, LoadedFrom, asks_first, loads, visible_of, units, immediates, Operand, operands, finds_second, bars_second, goes_to_row, value_same}
+use Rattle.sim_rows.proofs.Operands.{Loading, asks_first, loads, visible_of, units, immediates, Operand, operands, finds_second, bars_second, goes_to_row, value_same}
 
 -- ---- how many bytes a destination takes
 

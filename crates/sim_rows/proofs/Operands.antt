@@ -1,17 +1,14 @@
 -- The values of the operands of a row.
 use Rattle.std.proofs.Common.{◌≡◌, ℕ, ◌+◌, ◌-◌, ◌*◌, ◌/◌, ◌%◌, ◌<◌, ◌≤◌, Bool, true, false, refl, sym, ap, subst, ◌∙◌, arith, eqb, List, Option, Some, None}
 use Rattle.std.proofs.lemmas.Bool.{eqb-true, eq-eqb}
-use Rattle.std.specs.Prelude.{◌==◌, ◌&&◌, not, nat_lt, slice_index, if◌then◌else◌}
+use Rattle.std.specs.Prelude.{◌==◌, nat_lt, slice_index, if◌then◌else◌}
 use Rattle.console_defs.specs.Words.{join, even, plus}
 use Rattle.console_defs.specs.Flags.{Width, Byte, Word, size_of}
 use Rattle.console_defs.specs.Shifts.{last_out}
 use Rattle.console_defs.specs.declared.instruction.ShiftOp.TheVariants.{SRL}
-use Rattle.console_defs.specs.Grom.{GromState, previous_in_grom}
-use Rattle.console_defs.proofs.GromLaws.{previous-next}
 use Rattle.console_defs.specs.Machine.{MachineState}
 use Rattle.gpl_defs.specs.declared.instruction.Space.{Space}
 use Rattle.gpl_defs.specs.declared.instruction.Space.TheVariants.{Cpu, Vdp}
-use Rattle.gpl_defs.specs.Reading.{value_at as value_in}
 use Rattle.native_interp.specs.declared.words.TheConstants.{INTERP}
 use Rattle.native_interp.specs.Entries.{row_entry}
 use Rattle.step_defs.specs.declared.reason.Reason.{Reason}
@@ -24,12 +21,12 @@ use Rattle.sim_view.specs.Exits.{Exits, Comes}
 use Rattle.sim_view.proofs.Compose.{comes_then, comes_as, comes_on}
 use Rattle.sim_operands.specs.Pieces.{return_of}
 use Rattle.sim_operands.specs.Values.{width_in, in_register, number_of_space, IsVisible}
-use Rattle.sim_operands.specs.Subroutines.{grom_at, state_of, next_at, Addressed, Placed, Barred, place_in, Loaded, LoadsValue, LoadsStream, streamed}
+use Rattle.sim_operands.specs.Subroutines.{state_of, Addressed, Placed, Barred, place_in, Loaded, LoadsValue}
 use Rattle.sim_rows.specs.Pieces as pieces
-use Rattle.sim_rows.specs.Rows.{is_row, word_of, row_width, behind_first, next_of, destination_bytes, unit, Holds, StoresTo, LoadsFrom, LoadsFromSource, loaded_of, Valued, Kept, Immediate, Found, Sourced}
+use Rattle.sim_rows.specs.Rows.{is_row, word_of, row_width, behind_first, destination_bytes, unit, Holds, StoresTo, LoadsFrom, LoadsFromSource, Valued, Kept, Immediate, Found, Sourced}
 use Rattle.sim_rows.specs.States.{StoppedBy, code_byte, operation_in}
 use Rattle.sim_rows.proofs.Codes.{row_is}
-use Rattle.sim_rows.proofs.Fronting.{width_is, size_is, width_of_size, place_is, Located, holds_again, holds_loaded, holds_addressed, from_placed, barred_stops}
+use Rattle.sim_rows.proofs.Fronting.{width_is, size_is, place_is, Located, holds_again, holds_loaded, holds_addressed, from_placed, barred_stops}
 
 -- ---- a value is one of cells and video memory alone
 

@@ -1,6 +1,5 @@
 -- A row from its dispatch to the end of the step.
 use Rattle.std.proofs.Common.{◌≡◌, ℕ, ◌+◌, ◌<◌, ◌≤◌, Bool, true, false, refl, sym, ap, subst, ◌∙◌, arith, Option, Some, None, Result, Ok, Err}
-use Rattle.std.specs.Prelude.{◌==◌, nat_lt}
 use Rattle.console_defs.specs.Flags.{Width, size_of}
 use Rattle.console_defs.specs.Machine.{MachineState}
 use Rattle.source_defs.specs.Refusals.{◌>>=◌}
@@ -21,17 +20,16 @@ use Rattle.step_defs.specs.Run.{bound}
 use Rattle.interp_defs.specs.declared.turn.Turn.TheVariants.{Stepped, Stopped}
 use Rattle.interp_defs.specs.Runs.{is_end}
 use Rattle.interp_defs.specs.Turned.{Turned}
-use Rattle.sim_view.specs.View.{View, view, Stands}
+use Rattle.sim_view.specs.View.{View}
 use Rattle.sim_view.specs.Exits.{Comes}
-use Rattle.sim_view.proofs.Compose.{comes_as, comes_on}
+use Rattle.sim_view.proofs.Compose.{comes_on}
 use Rattle.sim_operands.specs.Values.{number_of_space}
-use Rattle.sim_rows.specs.States.{Sees, StoppedBy, code_byte, operation_in, behind_code}
-use Rattle.sim_rows.specs.Rows.{is_row, row_width, gone_on, destination_bytes, has_source, source_read, first_of, unit, second_by, second_of, operands_of, AtRow}
-use Rattle.sim_rows.specs.Results.{result_of, row_result, Changed, SeesFinished, SeesResult, StartsRow, RunsRow}
-use Rattle.sim_rows.proofs.Places.{Lies, place_lies, lies_at}
+use Rattle.sim_rows.specs.States.{StoppedBy, code_byte, operation_in, behind_code}
+use Rattle.sim_rows.specs.Rows.{is_row, row_width, gone_on, destination_bytes, has_source, source_read, first_of, second_by, second_of, operands_of, AtRow}
+use Rattle.sim_rows.specs.Results.{result_of, row_result, Changed, SeesResult, StartsRow, RunsRow}
+use Rattle.sim_rows.proofs.Places.{Lies, place_lies}
 use Rattle.sim_rows.proofs.Steps.{step_row, row_after, bound_stop, bound_made}
 use Rattle.sim_rows.proofs.Ends.{matches, bars, reaches, turned_by}
-use Rattle.sim_rows.proofs.Fronting.{space_small}
 use Rattle.sim_rows.proofs.Loading.{first_visible}
 use Rattle.sim_rows.proofs.Operands.{value_same}
 

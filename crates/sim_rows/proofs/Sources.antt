@@ -1,5 +1,5 @@
 -- From OPVAL to the entry of a row.
-use Rattle.std.proofs.Common.{◌≡◌, ℕ, ◌+◌, ◌<◌, ◌≤◌, Bool, true, false, refl, sym, ap, subst, ◌∙◌, arith, List, Option, Some, None, ⊎_elim}
+use Rattle.std.proofs.Common.{◌≡◌, ℕ, ◌<◌, ◌≤◌, Bool, true, false, refl, sym, ap, subst, ◌∙◌, arith, List, Some, None, ⊎_elim}
 use Rattle.std.specs.Prelude.{◌==◌, not, slice_index}
 use Rattle.std.proofs.lemmas.Bool.{cases_lt}
 use Rattle.console_defs.specs.Words.{even}
@@ -10,8 +10,7 @@ use Rattle.console_defs.specs.Machine.{MachineState}
 use Rattle.gpl_defs.specs.Reading.{value_at as value_in}
 use Rattle.interp_defs.specs.Match.{IsFetched}
 use Rattle.step_defs.specs.State.{GplState}
-use Rattle.step_defs.specs.Place.{Place, value_at}
-use Rattle.step_defs.specs.Arithmetic.{Source}
+use Rattle.step_defs.specs.Place.{value_at}
 use Rattle.step_defs.specs.Step.{word_or_byte}
 use Rattle.sim_view.specs.View.{View, view, Stands}
 use Rattle.sim_view.specs.Exits.{Exits, Comes}
@@ -21,12 +20,12 @@ use Rattle.sim_operands.specs.Pieces.{return_of}
 use Rattle.sim_operands.specs.Values.{width_in, in_register, IsVisible}
 use Rattle.sim_operands.specs.Subroutines.{grom_at, next_at, LoadsValue, LoadsStream, streamed}
 use Rattle.sim_rows.specs.Pieces as pieces
-use Rattle.sim_rows.specs.Rows.{is_row, word_of, row_width, Holds, Kept, Immediate, Found, Sourced, LoadsPlaced, LoadsImmediate}
-use Rattle.sim_rows.specs.States.{Sees, code_byte, operation_in}
+use Rattle.sim_rows.specs.Rows.{word_of, row_width, Sourced, LoadsPlaced, LoadsImmediate}
+use Rattle.sim_rows.specs.States.{Sees, code_byte}
 use Rattle.sim_rows.proofs.Ends.{fetched_of}
 use Rattle.sim_rows.proofs.Again.{fetched_again}
 use Rattle.sim_rows.proofs.Fronting.{width_of_size, holds_again, space_small}
-use Rattle.sim_rows.proofs.Operands.{Loading, LoadedFrom, loads, goes_to_row, sourced}
+use Rattle.sim_rows.proofs.Operands.{Loading, loads, goes_to_row}
 
 -- the code byte is one where the view shows the image
 pub code_fits : (s : GplState) (next : ℕ) (v : View) → IsView v → Sees s next v → code_byte s < 256

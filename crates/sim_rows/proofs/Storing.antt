@@ -1,5 +1,5 @@
 -- Results are stored, and the character goes to the screen.
-use Rattle.std.proofs.Common.{◌≡◌, ℕ, ◌+◌, ◌*◌, ◌%◌, ◌<◌, Bool, true, false, refl, sym, ap, subst, ◌∙◌, arith, List, None}
+use Rattle.std.proofs.Common.{◌≡◌, ℕ, ◌+◌, ◌*◌, ◌%◌, ◌<◌, Bool, true, false, refl, sym, ap, subst, ◌∙◌, arith, List}
 use Rattle.std.specs.Prelude.{◌==◌, ◌||◌, slice_index, slice_set}
 use Rattle.std.proofs.lemmas.Bool.{ne_eqb}
 use Rattle.console_defs.specs.Words.{high, low, join, even}
@@ -18,17 +18,16 @@ use Rattle.step_defs.specs.Changes.{Changes, unchanged, with_value, with_byte_in
 use Rattle.sim_view.specs.View.{View, view, Stands}
 use Rattle.sim_view.specs.Exits.{Exit, Exits, Comes}
 use Rattle.sim_view.proofs.Bridge.{IsView}
-use Rattle.sim_view.proofs.Compose.{Goes, comes, comes_as, comes_on}
+use Rattle.sim_view.proofs.Compose.{comes, comes_as, comes_on}
 use Rattle.sim_operands.specs.Pieces.{exit, return_of}
-use Rattle.sim_operands.specs.Values.{width_in, in_register, of_register, number_of_space, IsVisible}
+use Rattle.sim_operands.specs.Values.{width_in, of_register, number_of_space}
 use Rattle.sim_operands.specs.Subroutines.{grom_at, state_of, place_in, Stored, StoresValue, marked_by}
 use Rattle.sim_operands.proofs.Ready.{idle_video, idle_grom}
 use Rattle.sim_rows.specs.Pieces as pieces
-use Rattle.sim_rows.specs.Rows.{StoresTo}
 use Rattle.sim_rows.specs.States.{Sees}
-use Rattle.sim_rows.specs.Results.{Changed, Storing, SeesFinished, EndsRow, StoresResult}
-use Rattle.sim_rows.proofs.Again.{idle_told, idle_again}
-use Rattle.sim_rows.proofs.Fronting.{place_is, space_small}
+use Rattle.sim_rows.specs.Results.{Changed, Storing, EndsRow, StoresResult}
+use Rattle.sim_rows.proofs.Again.{idle_told}
+use Rattle.sim_rows.proofs.Fronting.{place_is}
 use Rattle.sim_rows.proofs.Ends.{same_state}
 
 -- ---- the changes that STORE makes

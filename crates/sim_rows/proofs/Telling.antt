@@ -1,5 +1,5 @@
 -- The beginning of a row.
-use Rattle.std.proofs.Common.{◌≡◌, ℕ, ◌+◌, ◌*◌, ◌<◌, ◌≤◌, Bool, true, false, refl, sym, ap, subst, ◌∙◌, arith, Option, Some, None, Result, Ok, Err}
+use Rattle.std.proofs.Common.{◌≡◌, ℕ, ◌*◌, ◌<◌, Bool, true, false, refl, sym, ap, subst, ◌∙◌, arith, Option, Some, None, Result, Ok, Err}
 use Rattle.console_defs.specs.Flags.{Width, size_of}
 use Rattle.console_defs.specs.Grom.{GromState, previous_in_grom}
 use Rattle.console_defs.proofs.GromLaws.{previous-next}
@@ -8,7 +8,7 @@ use Rattle.gpl_defs.specs.declared.instruction.OneName.TheVariants.{CASE, FETCH,
 use Rattle.gpl_defs.specs.declared.instruction.TwoName.TheVariants.{MUL, DIV}
 use Rattle.gpl_defs.specs.declared.instruction.GplOperation.{GplOperation}
 use Rattle.gpl_defs.specs.declared.instruction.GplOperation.TheVariants as operation
-use Rattle.native_interp.specs.Entries.{operation_entry, row_entry}
+use Rattle.native_interp.specs.Entries.{operation_entry}
 use Rattle.step_defs.specs.declared.reason.Reason.{Reason}
 use Rattle.step_defs.specs.State.{GplState}
 use Rattle.step_defs.specs.Place.{Place}
@@ -16,10 +16,9 @@ use Rattle.step_defs.specs.Arithmetic.{Source}
 use Rattle.sim_view.specs.View.{View, view, Stands}
 use Rattle.sim_view.specs.Exits.{Exits, Comes}
 use Rattle.sim_view.proofs.Compose.{comes, comes_as, comes_on}
-use Rattle.sim_operands.specs.Subroutines.{state_of}
 use Rattle.sim_rows.specs.Pieces as pieces
-use Rattle.sim_rows.specs.States.{Dispatched, state_at_dispatch, code_byte, operation_in, behind_code, StoppedBy}
-use Rattle.sim_rows.specs.Rows.{is_row, row_width, bytes_by, destination_bytes, AtOperands, AtRow, LoadsOperands, operands_of}
+use Rattle.sim_rows.specs.States.{Dispatched, state_at_dispatch, code_byte, operation_in, behind_code}
+use Rattle.sim_rows.specs.Rows.{is_row, row_width, bytes_by, AtOperands, LoadsOperands, operands_of}
 use Rattle.sim_rows.specs.Results.{StartsRow}
 use Rattle.sim_rows.proofs.Ends.{same_state}
 use Rattle.sim_rows.proofs.Fronting.{row_sets, wide_sets}

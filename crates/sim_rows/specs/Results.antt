@@ -1,5 +1,5 @@
 -- What a row makes of its operands, and views of the machine from the row's entry to the end of the step.
-use Rattle.std.specs.Prelude.{◌≡◌, ℕ, ◌+◌, Option, Some, None, Result, Ok, Err}
+use Rattle.std.specs.Prelude.{◌≡◌, ℕ, Option, Some, None, Result, Ok, Err}
 use Rattle.console_defs.specs.Flags.{Width, size_of}
 use Rattle.console_defs.specs.Machine.{MachineState}
 use Rattle.gpl_defs.specs.declared.instruction.GplOperation.{GplOperation}

@@ -12,7 +12,7 @@ use Rattle.interp_defs.specs.declared.turn.Turn.TheVariants.{Stepped, Stopped}
 use Rattle.interp_defs.specs.Match.{IsMatching, Matches, shown_by}
 use Rattle.interp_defs.specs.Turned.{TurnedBy, Turned}
 use Rattle.interp_defs.specs.Turns.{IsTurn}
-use Rattle.interp_defs.specs.Programs.{AreTurns, EndsAs, RunsSteps}
+use Rattle.interp_defs.specs.Programs.{AreTurns, EndsAs}
 use Rattle.sim_steps.specs.Running.{RunsTurns}
 
 state_in : GplState → Result GplState Reason → GplState

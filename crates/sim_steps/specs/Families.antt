@@ -1,5 +1,5 @@
 -- The families of the instructions, each of which a function runs.
-use Rattle.std.specs.Prelude.{Bool, true, false, Option, Some, None}
+use Rattle.std.specs.Prelude.{Bool, true, false, Option, Some}
 use Rattle.gpl_defs.specs.declared.instruction.PlainOp.TheVariants.{H, GT, EXIT, CARRY, OVF}
 use Rattle.gpl_defs.specs.declared.instruction.GoOp.TheVariants.{B}
 use Rattle.gpl_defs.specs.declared.instruction.OneName.{OneName}

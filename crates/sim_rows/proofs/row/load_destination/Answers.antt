@@ -1,4 +1,4 @@
-use Rattle.std.proofs.Common.{◌≡◌, ◌≤◌, arith}
+use Rattle.std.proofs.Common.{◌≡◌, arith}
 use Rattle.sim_view.specs.View.{view}
 use Rattle.sim_rows.specs.States.{state_at_dispatch, behind_code, operation_in}
 use Rattle.sim_rows.specs.Rows.{word_of, behind_first, destination_bytes}

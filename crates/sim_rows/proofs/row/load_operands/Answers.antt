@@ -1,9 +1,8 @@
-use Rattle.std.proofs.Common.{◌≡◌, ◌≤◌, ◌<◌, subst, sym, arith}
-use Rattle.console_defs.specs.Flags.{size_of}
+use Rattle.std.proofs.Common.{◌≡◌, subst, arith}
 use Rattle.sim_view.specs.View.{view}
 use Rattle.sim_view.proofs.Bridge.{is_view}
 use Rattle.sim_rows.specs.States.{state_at_dispatch}
-use Rattle.sim_rows.specs.Rows.{row_width, word_of, behind_first, first_of, LoadsDestination}
+use Rattle.sim_rows.specs.Rows.{word_of, behind_first, first_of, LoadsDestination}
 use Rattle.sim_rows.proofs.Ends.{idle_of, fetched_of}
 use Rattle.sim_rows.proofs.Loading
 use Rattle.sim_rows.proofs.row.load_operands.Goals as goal

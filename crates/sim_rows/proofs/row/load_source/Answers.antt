@@ -1,10 +1,7 @@
-use Rattle.std.proofs.Common.{◌≡◌, ◌≤◌, ◌<◌, ap, ◌∙◌, subst, refl, sym, arith}
-use Rattle.console_defs.specs.Words.{even}
-use Rattle.sim_view.specs.View.{View, view, Stands}
+use Rattle.std.proofs.Common.{ap, arith}
+use Rattle.sim_view.specs.View.{View}
 use Rattle.sim_view.proofs.Bridge.{is_view}
-use Rattle.sim_operands.specs.Values.{IsVisible}
-use Rattle.sim_rows.specs.Pieces as piece
-use Rattle.sim_rows.proofs.Again.{idle_again, fetched_again}
+use Rattle.sim_rows.proofs.Again.{idle_again}
 use Rattle.sim_rows.proofs.Sources
 use Rattle.sim_rows.proofs.row.load_source.Goals as goal
 

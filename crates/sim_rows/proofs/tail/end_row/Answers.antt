@@ -1,4 +1,4 @@
-use Rattle.std.proofs.Common.{◌≡◌, ap, ◌∙◌, arith}
+use Rattle.std.proofs.Common.{◌≡◌, ap, arith}
 use Rattle.sim_view.specs.View.{View, view}
 use Rattle.sim_view.proofs.Bridge.{is_view}
 use Rattle.sim_rows.proofs.Again.{idle_again}

@@ -1,9 +1,8 @@
-use Rattle.std.proofs.Common.{◌≡◌, ◌<◌, ap, ◌∙◌, subst, sym, arith}
+use Rattle.std.proofs.Common.{◌≡◌, ◌<◌, ap, subst, sym}
 use Rattle.console_defs.specs.Words.{even}
 use Rattle.sim_view.specs.View.{View, view, Stands}
 use Rattle.sim_operands.specs.Pieces.{return_of}
 use Rattle.sim_operands.specs.Values.{IsVisible}
-use Rattle.sim_operands.specs.Subroutines.{StoresValue}
 use Rattle.sim_rows.proofs.Again.{idle_again}
 use Rattle.sim_rows.proofs.Storing
 use Rattle.sim_rows.proofs.tail.finish_row.Goals as goal
