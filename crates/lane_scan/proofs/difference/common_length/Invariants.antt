@@ -1,0 +1,12 @@
+use Rattle.std.proofs.Common.{◌-◌, ◌≡◌, ◌+◌, ◌≤◌, length, drop, min}
+use Rattle.std.specs.List.{zip, prefix_len}
+use Rattle.lane_scan.specs.Plain.{is_same, common_length}
+use Rattle.lane_scan.proofs.difference.common_length.Given as goal
+
+abbrev pub invariant-loop-at : goal.invariant-loop-at
+invariant-loop-at l =
+    (common_length l.a l.b ≡ l.at + prefix_len is_same (drop l.at (zip l.a l.b)))
+    × (l.at ≤ l.end) × (l.end ≡ min (length l.a) (length l.b))
+
+abbrev pub decreases-loop-at : goal.decreases-loop-at
+decreases-loop-at l = l.end - l.at
