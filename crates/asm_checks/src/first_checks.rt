@@ -7,7 +7,8 @@ ghost use Rattle.module_defs.specs.FirstChecks as spec;
 ghost use Rattle.asm_checks.specs.Answers.{Gives};
 ghost use Rattle.asm_checks.specs.Defined.{defined_statement, NamesOnly};
 ghost use Rattle.asm_checks.specs.Moves.{defined_move, MovesLittle};
-ghost use Rattle.asm_checks.specs.Checks.{defined_before, defined_said, defined_checked, IsSaidOf, KnowsPlaces, ListsNames, listed_in};
+ghost use Rattle.asm_checks.specs.Checks.{defined_before, defined_said, defined_checked, IsSaidOf, KnowsPlaces};
+ghost use Rattle.asm_checks.specs.Checks.{ListsNames, listed_in};
 ghost use Rattle.asm_checks.specs.Moves.{MovesWithin};
 
 use crate::failure::{Failure, expr_failure};

@@ -24,7 +24,8 @@ use Rattle.asm_core.specs.Building.{IsOf, AreKnown, refusal_at}
 use Rattle.asm_core.specs.Drafts.{HoldsBytes, IsDraft, IsSettled, answer_to}
 use Rattle.asm_core.specs.Finishing.{RefusesAt, AreSettled}
 use Rattle.asm_core.proofs.KnownLaws.{NextHeld, next_held, none_held}
-use Rattle.asm_core.proofs.SettleLaws.{settled_more, settled_stops, settled_stopped, answer_is, settle_by, settle_filled, fills_place, fills_held, refuses_by, real}
+use Rattle.asm_core.proofs.SettleLaws.{settled_more, settled_stops, settled_stopped, answer_is, settle_by, settle_filled, fills_place, fills_held, refuses_by}
+use Rattle.asm_core.proofs.SettleLaws.{real}
 
 -- lines are settled up to some that wait, and what is known of the others stands behind them
 pub record IsSoFar (unused : List Reference) (names : Names) (order : List Line) (founds : List Settled) (waiting : List Pending) (old new : Draft) : Type 0 where

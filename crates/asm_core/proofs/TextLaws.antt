@@ -1,5 +1,6 @@
 -- The module of a source has a text.
-use Rattle.std.proofs.Common.{◌≡◌, ℕ, zero, suc, ◌+◌, ◌*◌, ◌%◌, ◌≤◌, Bool, true, false, ◌||◌, List, [], ◌∷◌, ◌++◌, Some, None, Ok, Err, length, refl, ap, subst, ◌∙◌, arith, length-append}
+use Rattle.std.proofs.Common.{◌≡◌, ℕ, zero, suc, ◌+◌, ◌*◌, ◌%◌, ◌≤◌, Bool, true, false, ◌||◌, List, [], ◌∷◌, ◌++◌, Some, None, Ok, Err, length, refl, ap, subst}
+use Rattle.std.proofs.Common.{◌∙◌, arith, length-append}
 use Rattle.std.specs.Prelude.{Option, Result, map, is_some, nat_lt, if◌then◌else◌}
 use Rattle.std.specs.List.{AllByRecursion}
 use Rattle.std.proofs.lemmas.Bool.Decides.{nat_tests}
@@ -18,12 +19,14 @@ use Rattle.module_defs.specs.declared.content.Content.TheVariants.{Byte, First, 
 use Rattle.module_defs.specs.declared.location.Part.{Part}
 use Rattle.module_defs.specs.declared.location.Part.TheVariants as part
 use Rattle.module_defs.specs.declared.location.Location.{Location}
-use Rattle.module_defs.specs.Statements.{Statement, Nothing, Instruction, Aorg, Rorg, Dorg, Bss, Bes, Even, Equ, Data, Byte as ByteLine, Text, Def, Ref, Idt, Titl, End}
+use Rattle.module_defs.specs.Statements.{Statement, Nothing, Instruction, Aorg, Rorg, Dorg, Bss, Bes, Even, Equ, Data, Byte as ByteLine, Text, Def, Ref, Idt}
+use Rattle.module_defs.specs.Statements.{Titl, End}
 use Rattle.module_defs.specs.Locations.{Line, place}
 use Rattle.module_defs.specs.FirstChecks.{check, names, same_name, checked, known_of, line_of, lists_too_many, has_too_many, defs, refs, defs_in, refs_in}
 use Rattle.module_defs.specs.SecondChecks.{Outcome, Words, Bytes, Entry, outcome}
 use Rattle.module_defs.specs.SecondChecks as second
-use Rattle.module_defs.specs.Memory.{Settled, spot_by, joined, pieces_at, pieces_from, pieces_in, content_at, is_word, words_in, word_count, count_from, one_if, part_words, with_use, behind_word, behind_words, behind_by, references_of, is_placed_in, is_placed, overlaps}
+use Rattle.module_defs.specs.Memory.{Settled, spot_by, joined, pieces_at, pieces_from, pieces_in, content_at, is_word, words_in, word_count, count_from, one_if}
+use Rattle.module_defs.specs.Memory.{part_words, with_use, behind_word, behind_words, behind_by, references_of, is_placed_in, is_placed, overlaps}
 use Rattle.module_defs.specs.Modules.{settle, module_by, module_of, definition_in, unused}
 use Rattle.module_defs.proofs.CheckLaws.{bound, checked_few}
 use Rattle.asm_image.proofs.TableLaws.{count_same, count_none}

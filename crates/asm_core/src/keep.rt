@@ -5,7 +5,8 @@ ghost use Rattle.source_defs.specs.Growing.{Grows};
 ghost use Rattle.module_defs.specs.FirstChecks.{defs_in, refs_in};
 ghost use Rattle.asm_checks.specs.Defined.{defined_statement};
 ghost use Rattle.asm_checks.specs.Checks.{defined_before, KnowsPlaces, ListsNames};
-ghost use Rattle.asm_core.specs.Keeping.{known_in, names_with, Keeps, IsUnchanged, StartsAs, SameLists, SameNames, SameWork, StandsStill};
+ghost use Rattle.asm_core.specs.Keeping.{known_in, names_with, Keeps, IsUnchanged, StartsAs, SameLists, SameNames};
+ghost use Rattle.asm_core.specs.Keeping.{SameWork, StandsStill};
 
 use crate::define::define_line;
 use crate::lines::AsmLines;

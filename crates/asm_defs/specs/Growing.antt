@@ -2,7 +2,8 @@
 use Rattle.std.specs.Prelude.{Bool, false}
 use Rattle.source_defs.specs.Growing as expressions
 use Rattle.asm_defs.specs.declared.causes.FormError.{FormError}
-use Rattle.asm_defs.specs.declared.causes.FormError.TheVariants.{UnknownOperation, OperandCount, BadOperand, JumpTooFar, Expr, Memory}
+use Rattle.asm_defs.specs.declared.causes.FormError.TheVariants.{UnknownOperation, OperandCount, BadOperand, JumpTooFar}
+use Rattle.asm_defs.specs.declared.causes.FormError.TheVariants.{Expr, Memory}
 
 -- a refusal that more names may lift
 abbrev pub is_open : FormError → Bool

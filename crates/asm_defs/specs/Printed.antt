@@ -2,7 +2,8 @@
 --
 -- Profile: registers are R0 to R15, values and addresses hexadecimal words, a jump names its target's address; counts, the
 -- number of an extended operation and the displacement of a bit are decimal.
-use Rattle.std.specs.Prelude.{ℕ, ℤ, pos, negsuc, suc, ◌+◌, ◌==◌, nat_le, if◌then◌else◌, List, ◌∷◌, ◌++◌, length, slice_index, codes, Option, Some, None}
+use Rattle.std.specs.Prelude.{ℕ, ℤ, pos, negsuc, suc, ◌+◌, ◌==◌, nat_le, if◌then◌else◌, List, ◌∷◌, ◌++◌, length}
+use Rattle.std.specs.Prelude.{slice_index, codes, Option, Some, None}
 use Rattle.std.specs.Fmt.{decimal}
 use Rattle.source_defs.specs.Digits.{marked_word}
 pub use Rattle.source_defs.specs.ListedLines.{two_texts, with_operands}

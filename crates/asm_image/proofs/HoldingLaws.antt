@@ -1,5 +1,6 @@
 -- What a table holds behind one line more.
-use Rattle.std.proofs.Common.{◌≡◌, ℕ, zero, suc, ◌+◌, ◌-◌, ◌*◌, ◌<◌, ◌≤◌, ◌≢◌, Bool, true, false, ◌&&◌, ◌||◌, List, [], ◌∷◌, Some, None, length, refl, sym, ap, ◌∙◌, arith}
+use Rattle.std.proofs.Common.{◌≡◌, ℕ, zero, suc, ◌+◌, ◌-◌, ◌*◌, ◌<◌, ◌≤◌, ◌≢◌, Bool, true, false, ◌&&◌, ◌||◌, List, [], ◌∷◌, Some, None, length, refl, sym, ap}
+use Rattle.std.proofs.Common.{◌∙◌, arith}
 use Rattle.std.specs.Prelude.{Option, is_some, nat_le, nat_lt, nat_eq, if◌then◌else◌, slice_get, slice_set}
 use Rattle.std.proofs.lemmas.Bool.Decides.{nat_tests}
 use Rattle.std.proofs.lemmas.List.{get_or-set_same, get_or-set_other, length-set, length-map}
@@ -12,7 +13,8 @@ use Rattle.module_defs.specs.declared.location.Part.{Part}
 use Rattle.module_defs.specs.declared.location.Part.TheVariants as part
 use Rattle.module_defs.specs.declared.location.Location.{Location}
 use Rattle.module_defs.specs.SecondChecks.{Outcome, Nothing, Words, Bytes, Entry}
-use Rattle.module_defs.specs.Memory.{Settled, same_part, covers, is_placed, is_word, words_in, any_from, part_words, bytes_in, word_contents, behind_word, spot_by, contents_by, contents, content_at, references_of, behind_by, behind_words, is_placed_in}
+use Rattle.module_defs.specs.Memory.{Settled, same_part, covers, is_placed, is_word, words_in, any_from, part_words, bytes_in, word_contents, behind_word}
+use Rattle.module_defs.specs.Memory.{spot_by, contents_by, contents, content_at, references_of, behind_by, behind_words, is_placed_in}
 use Rattle.asm_image.specs.Tables.{cell, put_from, is_taken, is_taken_word, words_taken}
 use Rattle.asm_image.proofs.TableLaws.{count_same}
 

@@ -1,5 +1,6 @@
 -- A line that comes to the place that was held for it.
-use Rattle.std.proofs.Common.{◌≡◌, ℕ, zero, suc, ◌+◌, ◌-◌, ◌*◌, ◌<◌, ◌≤◌, Bool, true, false, ◌&&◌, ◌||◌, List, [], ◌∷◌, Ok, Err, length, refl, sym, ap, ◌∙◌, inl, inr, arith}
+use Rattle.std.proofs.Common.{◌≡◌, ℕ, zero, suc, ◌+◌, ◌-◌, ◌*◌, ◌<◌, ◌≤◌, Bool, true, false, ◌&&◌, ◌||◌, List, [], ◌∷◌, Ok, Err, length, refl, sym, ap, ◌∙◌}
+use Rattle.std.proofs.Common.{inl, inr, arith}
 use Rattle.std.specs.Prelude.{◌⊎◌, Option, Result, nat_le, nat_lt, if◌then◌else◌, slice_get}
 use Rattle.std.specs.List.{list_all}
 use Rattle.std.proofs.lemmas.Bool.Decides.{nat_tests}
@@ -16,7 +17,9 @@ use Rattle.module_defs.specs.declared.location.Part.{Part}
 use Rattle.module_defs.specs.declared.location.Part.TheVariants as part
 use Rattle.module_defs.specs.declared.location.Location.{Location}
 use Rattle.module_defs.specs.SecondChecks.{Outcome, Nothing, Words, Bytes, Entry}
-use Rattle.module_defs.specs.Memory.{Settled, same_part, covers, is_placed, is_word, words_in, word_count, overlaps, count_from, any_from, part_words, bytes_in, spot_by, word_of, behind_word, word_contents, behind_words, contents_by, contents, content_at, references_of, behind_by, is_placed_in}
+use Rattle.module_defs.specs.Memory.{Settled, same_part, covers, is_placed, is_word, words_in, word_count, overlaps, count_from, any_from, part_words, bytes_in}
+use Rattle.module_defs.specs.Memory.{spot_by, word_of, behind_word, word_contents, behind_words, contents_by, contents, content_at, references_of, behind_by}
+use Rattle.module_defs.specs.Memory.{is_placed_in}
 use Rattle.module_defs.specs.Modules.{with_room, entry_by}
 use Rattle.module_defs.specs.Growing.{is_own, stands}
 use Rattle.asm_image.specs.Tables.{cell, put_from}

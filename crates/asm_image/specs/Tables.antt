@@ -1,5 +1,6 @@
 -- What the code keeps of the bytes of a part: a cell for each place.
-use Rattle.std.specs.Prelude.{ℕ, ◌+◌, ◌*◌, Bool, ◌||◌, List, [], ◌∷◌, slice_index_or, slice_set, is_some, Option, Some, None}
+use Rattle.std.specs.Prelude.{ℕ, ◌+◌, ◌*◌, Bool, ◌||◌, List, [], ◌∷◌, slice_index_or, slice_set, is_some, Option, Some}
+use Rattle.std.specs.Prelude.{None}
 use Rattle.module_defs.specs.declared.content.Content.{Content}
 use Rattle.module_defs.specs.Memory.{count_from, part_words}
 

@@ -1,6 +1,7 @@
 //! The bytes of a part, by their places.
 
-ghost use Rattle.std.specs.Prelude.{◌≡◌, ◌≤◌, ◌<◌, ◌+◌, ◌*◌, ℕ, length, nat_lt, Some, None, IfOk, OnOk, count_by, slice_set, Option, List};
+ghost use Rattle.std.specs.Prelude.{◌≡◌, ◌≤◌, ◌<◌, ◌+◌, ◌*◌, ℕ, length, nat_lt, Some, None, IfOk, OnOk, count_by};
+ghost use Rattle.std.specs.Prelude.{slice_set, Option, List};
 ghost use Rattle.module_defs.specs.Memory.{any_from};
 ghost use Rattle.asm_image.specs.Tables.{cell, put_from, is_taken, is_taken_word, words_taken};
 

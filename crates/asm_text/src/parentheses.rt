@@ -1,6 +1,7 @@
 //! Texts that end in parentheses.
 
-ghost use Rattle.std.specs.Prelude.{◌≡◌, ◌<◌, ◌≤◌, ◌+◌, ◌==◌, Some, None, if◌then◌else◌, IsTrue, IfSome, length, slice_index};
+ghost use Rattle.std.specs.Prelude.{◌≡◌, ◌<◌, ◌≤◌, ◌+◌, ◌==◌, Some, None, if◌then◌else◌, IsTrue, IfSome, length};
+ghost use Rattle.std.specs.Prelude.{slice_index};
 ghost use Rattle.source_defs.specs.Fields.{in_quotes};
 ghost use Rattle.source_defs.specs.Parentheses as spec;
 

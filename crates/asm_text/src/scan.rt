@@ -1,6 +1,7 @@
 //! A text as tokens.
 
-ghost use Rattle.std.specs.Prelude.{◌≡◌, ◌≢◌, ◌≤◌, ◌<◌, ◌+◌, ◌-◌, ◌++◌, ◌∷◌, [], length, map, Ok, Err, IfOk, OnOk, IfErr};
+ghost use Rattle.std.specs.Prelude.{◌≡◌, ◌≢◌, ◌≤◌, ◌<◌, ◌+◌, ◌-◌, ◌++◌, ◌∷◌, [], length, map, Ok, Err, IfOk, OnOk};
+ghost use Rattle.std.specs.Prelude.{IfErr};
 ghost use Rattle.source_defs.specs.Tokens as spec;
 ghost use Rattle.source_defs.specs.TokenLaw.{Follow};
 ghost use Rattle.asm_text.specs.GivenTokens.{defined_kind, defined_token, defined_token_answer};

@@ -1,4 +1,5 @@
-ghost use Rattle.std.specs.Prelude.{◌≡◌, ◌⊎◌, ◌↔◌, ◌<◌, ◌≤◌, ◌+◌, ◌-◌, min, ℕ, List, [], ◌++◌, length, take, drop, vec_len, vec_capacity, Option};
+ghost use Rattle.std.specs.Prelude.{◌≡◌, ◌⊎◌, ◌↔◌, ◌<◌, ◌≤◌, ◌+◌, ◌-◌, min, ℕ, List, [], ◌++◌, length, take, drop};
+ghost use Rattle.std.specs.Prelude.{vec_len, vec_capacity, Option};
 ghost use Rattle.std.specs.Prelude.{Some, IsErr, IfOk, OnOk, OnErr, Contains};
 ghost use Rattle.count_defs.specs.Counts.{raised, Rose};
 ghost use Rattle.bench_io.specs.Stream.{empty_calls};

@@ -1,4 +1,5 @@
-ghost use Rattle.std.specs.Prelude.{◌≡◌, ◌<◌, ◌≤◌, ◌+◌, min, ℕ, List, [], ◌++◌, length, take, drop, vec_len, Option, Some, None, IsOk, IsOkAnd, IfOk};
+ghost use Rattle.std.specs.Prelude.{◌≡◌, ◌<◌, ◌≤◌, ◌+◌, min, ℕ, List, [], ◌++◌, length, take, drop, vec_len, Option};
+ghost use Rattle.std.specs.Prelude.{Some, None, IsOk, IsOkAnd, IfOk};
 ghost use Rattle.count_defs.specs.Counts.{raised};
 ghost use Rattle.bench_io.specs.Stream.{empty_calls};
 

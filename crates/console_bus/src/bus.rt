@@ -1,12 +1,16 @@
 //! The console's memory map, as one memory that the processor reads and writes.
 
-ghost use Rattle.std.specs.Prelude.{◌≡◌, ◌<◌, ◌≤◌, ℕ, ◌+◌, ◌-◌, ◌*◌, ◌/◌, ◌%◌, length, slice_index, slice_set, IfOk, OnErr};
+ghost use Rattle.std.specs.Prelude.{◌≡◌, ◌<◌, ◌≤◌, ℕ, ◌+◌, ◌-◌, ◌*◌, ◌/◌, ◌%◌, length, slice_index, slice_set, IfOk};
+ghost use Rattle.std.specs.Prelude.{OnErr};
 ghost use Rattle.console_defs.specs.Words.{high, low, join, even};
 ghost use Rattle.console_defs.specs.Bytes.{HoldsBytes, HoldsZeros, word_in, with_word_in};
 ghost use Rattle.console_defs.specs.Accesses.{answer_of, written_by};
-ghost use Rattle.console_defs.specs.Memory.{IsMemory, IsNewMemory, IsLoadable, port_at, port_region, is_port_address, region, port_read};
-ghost use Rattle.console_defs.specs.Memory.{port_written, byte_read_in, byte_read, byte_written_in, byte_written, word_read_in, word_read};
-ghost use Rattle.console_defs.specs.Memory.{word_written_in, word_written, two_bytes_read, two_bytes_written, word_placed, cell_set};
+ghost use Rattle.console_defs.specs.Memory.{IsMemory, IsNewMemory, IsLoadable, port_at, port_region, is_port_address};
+ghost use Rattle.console_defs.specs.Memory.{region, port_read};
+ghost use Rattle.console_defs.specs.Memory.{port_written, byte_read_in, byte_read, byte_written_in, byte_written};
+ghost use Rattle.console_defs.specs.Memory.{word_read_in, word_read};
+ghost use Rattle.console_defs.specs.Memory.{word_written_in, word_written, two_bytes_read, two_bytes_written};
+ghost use Rattle.console_defs.specs.Memory.{word_placed, cell_set};
 
 use byte_lists::{holds_bytes, zeros};
 use console_defs::PortStop;

@@ -1,5 +1,6 @@
 -- What the lines that a builder has kept come to by all names.
-use Rattle.std.specs.Prelude.{◌≡◌, ⊤, ℕ, ◌+◌, ◌≤◌, if◌then◌else◌, List, [], ◌∷◌, length, Option, Some, None, Result, Ok, Err}
+use Rattle.std.specs.Prelude.{◌≡◌, ⊤, ℕ, ◌+◌, ◌≤◌, if◌then◌else◌, List, [], ◌∷◌, length, Option, Some, None, Result, Ok}
+use Rattle.std.specs.Prelude.{Err}
 use Rattle.std.specs.FinMap.{empty}
 use Rattle.source_defs.specs.Refusals.{Refusal, ◌>>=◌, at_line}
 use Rattle.source_defs.specs.Symbols.{Names, look_up}

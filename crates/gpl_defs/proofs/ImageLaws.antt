@@ -1,5 +1,6 @@
 -- What a write does to an image, and where its ends are.
-use Rattle.std.proofs.Common.{◌≡◌, ℕ, zero, suc, ◌+◌, ◌<◌, ◌≤◌, ◌≢◌, Bool, true, false, length, get_or, take, drop, List, [], ◌∷◌, refl, sym, ap, ◌∙◌, min, max, arith}
+use Rattle.std.proofs.Common.{◌≡◌, ℕ, zero, suc, ◌+◌, ◌<◌, ◌≤◌, ◌≢◌, Bool, true, false, length, get_or, take, drop, List, [], ◌∷◌, refl, sym, ap, ◌∙◌, min, max}
+use Rattle.std.proofs.Common.{arith}
 use Rattle.std.specs.Prelude.{map, ◌==◌, if◌then◌else◌}
 use Rattle.std.proofs.lemmas.Bool.Decides.{nat_tests}
 use Rattle.std.specs.List.{range_with_len}

@@ -1,5 +1,6 @@
 -- The bytes of an instruction in its shortest spelling.
-use Rattle.std.specs.Prelude.{ℕ, ◌<◌, ◌+◌, ◌*◌, ◌&&◌, not, Bool, true, false, nat_lt, if◌then◌else◌, List, [], ◌∷◌, ◌++◌}
+use Rattle.std.specs.Prelude.{ℕ, ◌<◌, ◌+◌, ◌*◌, ◌&&◌, not, Bool, true, false, nat_lt, if◌then◌else◌, List, [], ◌∷◌}
+use Rattle.std.specs.Prelude.{◌++◌}
 use Rattle.std.specs.Prelude.{Option, Some, None, is_some, is_none}
 use Rattle.console_defs.specs.Words.{high, low}
 use Rattle.gpl_defs.specs.declared.instruction.Space.{Space}

@@ -1,7 +1,8 @@
 -- A GROM image: which addresses were written, and with what byte.
 --
 -- Profile: a source is assembled to such an image, which tells an address that holds 0 from one that was never written.
-use Rattle.std.specs.Prelude.{◌≡◌, ℕ, ◌+◌, ◌-◌, ◌==◌, if◌then◌else◌, min, max, List, [], ◌∷◌, length, map, slice_index, unwrap_or, EachIndex}
+use Rattle.std.specs.Prelude.{◌≡◌, ℕ, ◌+◌, ◌-◌, ◌==◌, if◌then◌else◌, min, max, List, [], ◌∷◌, length, map, slice_index}
+use Rattle.std.specs.Prelude.{unwrap_or, EachIndex}
 use Rattle.std.specs.List.{range_with_len}
 use Rattle.std.specs.Ordering.{nat_cmp}
 use Rattle.std.specs.FinMap.{FinMap, entries, get, insert}

@@ -8,6 +8,7 @@ ghost use Rattle.source_defs.specs.ListedLines.{two_texts};
 ghost use Rattle.listing_defs.specs.Texts as spec;
 
 use crate::digits::{push_byte, push_word};
+use crate::listing::GROM_SIZE;
 use crate::operands::{push_from, push_length, push_operand, push_source, push_target};
 use arrayvec::ArrayString;
 use gpl_forms::{GplInstr, GplOperation, MoveLength, MoveSource, MoveTarget, name_of};
@@ -42,8 +43,8 @@ pub(crate) fn push_instr<const N: usize>(text: &mut ArrayString<N>, instr: &GplI
             push_word(text, *to);
         }
         GplInstr::Branch { on, low } => {
-            text.push_str(if *on { "BS " } else { "BR " });
-            push_word(text, at / 0x2000 * 0x2000 + *low);
+            push_name(text, GplOperation::Branch(*on));
+            push_word(text, at / GROM_SIZE * GROM_SIZE + *low);
         }
         GplInstr::One {
             op,

@@ -1,7 +1,8 @@
 //! The table of codes.
 ghost use Rattle.std.specs.Prelude.{◌≡◌, ◌≤◌, ◌<◌, ◌+◌, ℕ, None, slice_index_or};
 ghost use Rattle.gpl_defs.specs.Codes.{row_of, operation_at as spec_operation_at};
-ghost use Rattle.gpl_defs.specs.declared.instruction.GplOperation.TheVariants.{Plain, Byte, Jump, Branch, One, Two, Move};
+ghost use Rattle.gpl_defs.specs.declared.instruction.GplOperation.TheVariants.{Plain, Byte, Jump, Branch, One, Two};
+ghost use Rattle.gpl_defs.specs.declared.instruction.GplOperation.TheVariants.{Move};
 
 use gpl_defs::{ByteOp, GoOp, GplOperation, MoveKind, OneName, PlainOp, TwoName};
 

@@ -1,5 +1,7 @@
 //! The image of a GROM, which grows byte by byte.
-ghost use Rattle.std.specs.Prelude.{◌≡◌, ℕ, ◌+◌, ◌<◌, ◌≤◌, ◌↔◌, ◌++◌, Bool, false, true, length, take, drop, replicate, slice_index, slice_index_or, EachIndex, IfOk, IsTrue};
+
+ghost use Rattle.std.specs.Prelude.{◌≡◌, ℕ, ◌+◌, ◌<◌, ◌≤◌, ◌↔◌, ◌++◌, Bool, false, true, EachIndex, IfOk, IsTrue};
+ghost use Rattle.std.specs.Prelude.{length, take, drop, replicate, slice_index, slice_index_or};
 ghost use Rattle.std.specs.FinMap.{empty, insert, contains_key};
 ghost use Rattle.gpl_defs.specs.Image.{byte_at, low_of, high_of, placed, written_bytes};
 

@@ -9,7 +9,8 @@ ghost use Rattle.source_defs.specs.Symbols.{look_up};
 ghost use Rattle.program_defs.specs.SecondChecks as spec;
 ghost use Rattle.program_defs.specs.Values as values;
 ghost use Rattle.gpl_lines.specs.Answers.{Gives};
-ghost use Rattle.gpl_lines.specs.Defined.{defined_outcome, defined_route, defined_skeleton, defined_source, defined_statement};
+ghost use Rattle.gpl_lines.specs.Defined.{defined_outcome, defined_route, defined_skeleton, defined_source};
+ghost use Rattle.gpl_lines.specs.Defined.{defined_statement};
 ghost use Rattle.gpl_lines.specs.Validity.{IsValid, IsValidSkeleton};
 
 use crate::failure::Failure;

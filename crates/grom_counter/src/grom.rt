@@ -2,7 +2,8 @@
 
 ghost use Rattle.std.specs.Prelude.{◌≡◌, ◌<◌, ℕ, ◌+◌, ◌*◌, ◌/◌, ◌%◌, length, slice_index, IfOk};
 ghost use Rattle.console_defs.specs.Bytes.{HoldsBytes};
-ghost use Rattle.console_defs.specs.Grom.{IsGrom, new_grom, is_grom_idle, next_in_grom, previous_in_grom, grom_fetched_ahead, grom_address_written};
+ghost use Rattle.console_defs.specs.Grom.{IsGrom, new_grom, is_grom_idle, next_in_grom, previous_in_grom};
+ghost use Rattle.console_defs.specs.Grom.{grom_fetched_ahead, grom_address_written};
 ghost use Rattle.console_defs.specs.Grom.{grom_address_read, grom_data_read};
 
 use byte_lists::holds_bytes;

@@ -1,5 +1,6 @@
 -- The places of two lists, seen a chunk at a time through the mask of those that differ, or one by one.
-use Rattle.std.proofs.Common.{◌≡◌, ◌≢◌, ℕ, zero, suc, ◌+◌, ◌-◌, ◌*◌, ◌%◌, ◌^◌, ◌<◌, ◌≤◌, Bool, true, false, not, cond, eqb, nat_eq, ◌&&◌, List, [], ◌∷◌, map, length, drop, take, min, get_or, w8, refl, sym, ap, ap₂, ◌∙◌, arith}
+use Rattle.std.proofs.Common.{◌≡◌, ◌≢◌, ℕ, zero, suc, ◌+◌, ◌-◌, ◌*◌, ◌%◌, ◌^◌, ◌<◌, ◌≤◌, Bool, true, false, not, cond, eqb, nat_eq, ◌&&◌, List, [], ◌∷◌, map}
+use Rattle.std.proofs.Common.{length, drop, take, min, get_or, w8, refl, sym, ap, ap₂, ◌∙◌, arith}
 use Rattle.std.proofs.lemmas.Simd.{chunk-drop, length-chunk, leading_from_mask_l, trailing_mask_l, tops_compared, mask_l-mod, ones-mask_l}
 use Rattle.std.proofs.lemmas.Slice.Zip.{get_or-zip, length-zip}
 use Rattle.std.proofs.lemmas.List.{length-map}

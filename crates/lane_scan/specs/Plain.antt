@@ -1,5 +1,6 @@
 -- Comparisons and sums of lists of bytes, as one would say them by hand.
-use Rattle.std.specs.Prelude.{◌≡◌, ◌≢◌, ◌<◌, ℕ, ◌*◌, ◌==◌, ◌&&◌, if◌then◌else◌, List, length, take, drop, Bool, not, Option, Some, None, slice_get}
+use Rattle.std.specs.Prelude.{◌≡◌, ◌≢◌, ◌<◌, ℕ, ◌*◌, ◌==◌, ◌&&◌, if◌then◌else◌, List, length, take, drop, Bool, not}
+use Rattle.std.specs.Prelude.{Option, Some, None, slice_get}
 use Rattle.std.specs.List.{zip, prefix_len, count_by, sum}
 use Rattle.std.specs.Str.{bytes_eq}
 

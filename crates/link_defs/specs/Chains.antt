@@ -2,7 +2,8 @@
 --
 -- Editor/Assembler manual, "Tagged object code": a REF group gives the place of the last use of its name; the word at
 -- each use is the place of the use before it, and the word at the first use is 0.
-use Rattle.std.specs.Prelude.{ℕ, zero, suc, ◌==◌, is_some, if◌then◌else◌, List, [], ◌∷◌, ◌++◌, Option, Some, None, Result, Ok, Err}
+use Rattle.std.specs.Prelude.{ℕ, zero, suc, ◌==◌, is_some, if◌then◌else◌, List, [], ◌∷◌, ◌++◌, Option, Some, None}
+use Rattle.std.specs.Prelude.{Result, Ok, Err}
 use Rattle.std.specs.Ordering.{nat_cmp}
 use Rattle.std.specs.FinMap.{find}
 use Rattle.source_defs.specs.Refusals.{◌>>=◌}

@@ -1,11 +1,13 @@
 -- What holds of linked memory and of chains.
-use Rattle.std.specs.Prelude.{◌≡◌, ◌≢◌, ℕ, ◌<◌, eqb, List, [], ◌∷◌, ◌++◌, length, map, slice_index_or, Some, None, IsSome, Result, Ok, Err}
+use Rattle.std.specs.Prelude.{◌≡◌, ◌≢◌, ℕ, ◌<◌, eqb, List, [], ◌∷◌, ◌++◌, length, map, slice_index_or, Some, None}
+use Rattle.std.specs.Prelude.{IsSome, Result, Ok, Err}
 use Rattle.std.specs.Option.{option_map}
 use Rattle.std.specs.List.{IsDistinct}
 use Rattle.std.specs.Ordering.{nat_cmp}
 use Rattle.std.specs.FinMap.{find, get}
 use Rattle.object_defs.specs.Modules.{Module}
-use Rattle.link_defs.specs.Causes.{LinkCause, DuplicateDef, OutOfMemoryRange, Overlap, ChainOutside, ChainCycle, Unresolved, NoEntry}
+use Rattle.link_defs.specs.Causes.{LinkCause, DuplicateDef, OutOfMemoryRange, Overlap, ChainOutside, ChainCycle}
+use Rattle.link_defs.specs.Causes.{Unresolved, NoEntry}
 use Rattle.link_defs.specs.Placing.{sections, defs_of, words_of, refs_of}
 use Rattle.link_defs.specs.Chains.{Uses, most_places, uses_from, uses_of}
 use Rattle.link_defs.specs.LinkedMemory.{LinkedMemory, word_for, linked}

@@ -1,5 +1,6 @@
 -- Linked memory holds exactly the words that are placed.
-use Rattle.std.proofs.Common.{◌≡◌, ℕ, zero, suc, ◌<◌, Bool, true, false, cond, length, get_or, List, [], ◌∷◌, ◌++◌, map, refl, sym, ap, ◌∙◌, append_assoc, arith, Option, Some, None, Result, Ok, Err}
+use Rattle.std.proofs.Common.{◌≡◌, ℕ, zero, suc, ◌<◌, Bool, true, false, cond, length, get_or, List, [], ◌∷◌, ◌++◌, map, refl, sym, ap, ◌∙◌, append_assoc}
+use Rattle.std.proofs.Common.{arith, Option, Some, None, Result, Ok, Err}
 use Rattle.std.specs.Prelude.{◌==◌, is_some, if◌then◌else◌}
 use Rattle.std.specs.Option.{option_map}
 use Rattle.std.specs.Ordering.{nat_cmp, eq_by_cmp}
@@ -13,7 +14,8 @@ use Rattle.link_defs.specs.Chains.{Uses, uses_of}
 use Rattle.link_defs.specs.LinkedMemory.{LinkedMemory, is_taken, first_entry, word_for, filled, linked}
 use Rattle.link_defs.specs.Laws.{PlacedWordsAreHeld}
 use Rattle.link_loader.proofs.Filled.{tied}
-use Rattle.link_loader.proofs.Steps.{names_apart, places_inside, places_alone, names_known, memory_of, behind_known, behind_uses, behind_alone, behind_inside, behind_apart}
+use Rattle.link_loader.proofs.Steps.{names_apart, places_inside, places_alone, names_known, memory_of, behind_known, behind_uses, behind_alone, behind_inside}
+use Rattle.link_loader.proofs.Steps.{behind_apart}
 use Rattle.link_loader.proofs.Words.{ties, none_found}
 
 -- what a bind answers

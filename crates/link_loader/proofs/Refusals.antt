@@ -3,7 +3,8 @@ use Rattle.std.proofs.Common.{◌≡◌, refl, ◌∙◌, Result}
 use Rattle.source_defs.specs.Refusals.{◌>>=◌}
 use Rattle.link_defs.specs.Causes.{LinkCause}
 use Rattle.link_loader.specs.declared.error.LinkError.{LinkError}
-use Rattle.link_loader.specs.declared.error.LinkError.TheVariants.{DuplicateDef, OutOfMemoryRange, Overlap, ChainOutside, ChainCycle, Unresolved, NoEntry, Memory}
+use Rattle.link_loader.specs.declared.error.LinkError.TheVariants.{DuplicateDef, OutOfMemoryRange, Overlap, ChainOutside, ChainCycle, Unresolved, NoEntry}
+use Rattle.link_loader.specs.declared.error.LinkError.TheVariants.{Memory}
 use Rattle.link_loader.specs.Answers.{Refuses}
 
 -- what follows a refusal changes nothing

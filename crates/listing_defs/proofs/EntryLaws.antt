@@ -31,7 +31,8 @@ use Rattle.program_defs.specs.Locations.{Line, behind, address_of, grom_size}
 use Rattle.program_defs.specs.FirstChecks.{is_full, is_bad}
 use Rattle.program_defs.specs.SecondChecks.{Bytes, outcome}
 use Rattle.program_defs.specs.Programs.{Settled, overlaps}
-use Rattle.listing_defs.specs.Texts.{prefix, operand_text, source_text, length_text, target_text, from_text, mnemonic_of, operands_text, branch_target, instr_text, shown_address}
+use Rattle.listing_defs.specs.Texts.{prefix, operand_text, source_text, length_text, target_text, from_text, mnemonic_of, operands_text, branch_target}
+use Rattle.listing_defs.specs.Texts.{instr_text, shown_address}
 use Rattle.listing_defs.proofs.Scans.{all_both}
 use Rattle.listing_defs.proofs.DigitLaws.{word_passes, byte_passes, word_value, byte_value}
 use Rattle.listing_defs.proofs.OperandLines.{whole, one_text}

@@ -1,6 +1,7 @@
 -- The fields of a listed line, and the lines of a listing.
 use Rattle.std.proofs.Common.{◌≡◌, ℕ, zero, suc, ◌+◌, ◌-◌, ◌<◌, ◌≤◌, Bool, true, false, not, ◌&&◌, eqb, ltb}
-use Rattle.std.proofs.Common.{List, [], ◌∷◌, ◌++◌, append_assoc, length, take, drop, get_or, length-append, append-nil, refl, ap, sym, subst, ◌∙◌, ◌⊎◌, inl, inr}
+use Rattle.std.proofs.Common.{List, [], ◌∷◌, ◌++◌, append_assoc, length, take, drop, get_or, length-append, append-nil, refl, ap, sym, subst, ◌∙◌, ◌⊎◌, inl}
+use Rattle.std.proofs.Common.{inr}
 use Rattle.std.proofs.Common.{Ok, Option, Some, None, arith}
 use Rattle.std.specs.Prelude.{map, nat_lt, codes}
 use Rattle.std.specs.List.{list_all}

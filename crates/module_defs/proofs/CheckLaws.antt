@@ -14,9 +14,11 @@ use Rattle.module_defs.specs.declared.causes.AsmCause.{AsmCause}
 use Rattle.module_defs.specs.declared.location.Part.{Part}
 use Rattle.module_defs.specs.declared.location.Part.TheVariants as part
 use Rattle.module_defs.specs.declared.location.Location.{Location}
-use Rattle.module_defs.specs.Statements.{Statement, Nothing, Instruction, Aorg, Rorg, Dorg, Bss, Bes, Even, Equ, Data, Byte, Text, Def, Ref, Idt, Titl, End, said_of, statement_in, as_text}
+use Rattle.module_defs.specs.Statements.{Statement, Nothing, Instruction, Aorg, Rorg, Dorg, Bss, Bes, Even, Equ, Data, Byte, Text, Def, Ref, Idt, Titl, End}
+use Rattle.module_defs.specs.Statements.{said_of, statement_in, as_text}
 use Rattle.module_defs.specs.Locations.{behind, is_in_part, limit}
-use Rattle.module_defs.specs.FirstChecks.{Before, Said, Checked, Move, unless, any_known, label_in, is_taken, refs_in, said, moved, checked, move, as_expr, is_too_far, lists_too_many, is_bad, is_title, location_behind, absolute_in, value, number_in, known_here}
+use Rattle.module_defs.specs.FirstChecks.{Before, Said, Checked, Move, unless, any_known, label_in, is_taken, refs_in, said, moved, checked, move, as_expr}
+use Rattle.module_defs.specs.FirstChecks.{is_too_far, lists_too_many, is_bad, is_title, location_behind, absolute_in, value, number_in, known_here}
 use Rattle.module_defs.specs.Growing.{size_said}
 
 -- a value that an answer is made of

@@ -16,7 +16,8 @@ use Rattle.module_defs.specs.Locations.{behind, value_of}
 use Rattle.module_defs.specs.Statements as said
 use Rattle.module_defs.specs.Statements.{Statement, Instruction, Aorg, Rorg, Dorg, Bss, Bes, Even, Equ, Data, Byte, Text, Def, Ref, Idt, Titl, End, as_form}
 use Rattle.module_defs.specs.FirstChecks.{as_expr}
-use Rattle.module_defs.specs.SecondChecks.{Outcome, Nothing, used_at, entry_at, value, word_in, data_values, absolute_in, byte_values, bytes_of, defined_here, defs_known, entry_in, instruction_outcome, outcome}
+use Rattle.module_defs.specs.SecondChecks.{Outcome, Nothing, used_at, entry_at, value, word_in, data_values, absolute_in, byte_values, bytes_of, defined_here}
+use Rattle.module_defs.specs.SecondChecks.{defs_known, entry_in, instruction_outcome, outcome}
 use Rattle.module_defs.specs.Growing.{is_open}
 
 expr_stays : {A : Type 0} (first second : Result A ExprError) → Stays expressions.is_open first second → Stays is_open (as_expr first) (as_expr second)

@@ -12,7 +12,8 @@ use Rattle.module_defs.specs.Statements as said
 use Rattle.module_defs.specs.Statements.{Statement, Instruction, Aorg, Rorg, Dorg, Bss, Bes, Even, Equ, Data, Byte, Text, Def, Ref, Idt, Titl, End, as_form}
 use Rattle.module_defs.specs.Locations.{behind, value_of}
 use Rattle.module_defs.specs.FirstChecks.{as_expr}
-use Rattle.module_defs.specs.SecondChecks.{Outcome, Nothing, Words, Bytes, Entry, byte_of, bytes_of, word_in, data_values, absolute_in, byte_values, defs_known, defined_here, entry_in, outcome}
+use Rattle.module_defs.specs.SecondChecks.{Outcome, Nothing, Words, Bytes, Entry, byte_of, bytes_of, word_in, data_values, absolute_in, byte_values, defs_known}
+use Rattle.module_defs.specs.SecondChecks.{defined_here, entry_in, outcome}
 use Rattle.module_defs.specs.Memory.{bytes_in}
 use Rattle.module_defs.specs.Growing.{size_said}
 use Rattle.module_defs.proofs.Sizes.{given, is_ok, words_fill}

@@ -11,7 +11,9 @@ use Rattle.asm_defs.specs.Forms.{Form, Plain, Indirect, Increment, Symbolic, Ind
 use Rattle.asm_defs.specs.Operands.{slots_of}
 use Rattle.asm_defs.specs.FirstChecks as first
 use Rattle.asm_defs.specs.FirstChecks.{Skeleton, Word, Instruction, following, form_words}
-use Rattle.asm_defs.specs.SecondChecks.{Operand, InRegister, ByRegister, Growing, AtAddress, AtIndexed, Number, Bit, To, Following, Ready, Located, Displaced, value_of, number_of, text_in, as_form, target_in, placed, valued, all_valued, ranged, all_ranged, below_sixteen, displaced, displacement_to, number_in, is_index, is_displacement, following_in, all_following, second_checks}
+use Rattle.asm_defs.specs.SecondChecks.{Operand, InRegister, ByRegister, Growing, AtAddress, AtIndexed, Number, Bit, To, Following, Ready, Located, Displaced}
+use Rattle.asm_defs.specs.SecondChecks.{value_of, number_of, text_in, as_form, target_in, placed, valued, all_valued, ranged, all_ranged, below_sixteen}
+use Rattle.asm_defs.specs.SecondChecks.{displaced, displacement_to, number_in, is_index, is_displacement, following_in, all_following, second_checks}
 
 -- how many words follow for an operand
 abbrev operand_words : Operand → ℕ

@@ -5,7 +5,8 @@ use Rattle.source_defs.specs.Expression.{Value, Absolute, Relocatable, External,
 use Rattle.source_defs.specs.Growing as expressions
 use Rattle.asm_defs.specs.Growing as instructions
 use Rattle.module_defs.specs.declared.causes.AsmCause.{AsmCause}
-use Rattle.module_defs.specs.declared.causes.AsmCause.TheVariants.{Text, Expr, Form, DuplicateLabel, BadDirective, Overflow, Overlap}
+use Rattle.module_defs.specs.declared.causes.AsmCause.TheVariants.{Text, Expr, Form, DuplicateLabel, BadDirective}
+use Rattle.module_defs.specs.declared.causes.AsmCause.TheVariants.{Overflow, Overlap}
 use Rattle.module_defs.specs.declared.location.Location.{Location}
 use Rattle.module_defs.specs.Statements as said
 use Rattle.module_defs.specs.Statements.{Statement}

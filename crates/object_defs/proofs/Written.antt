@@ -1,5 +1,6 @@
 -- The written text of a module reads as that module alone.
-use Rattle.std.proofs.Common.{◌≡◌, ℕ, ◌+◌, ◌-◌, ◌/◌, ◌%◌, ◌<◌, ◌≤◌, Bool, true, false, cond, eqb, List, [], ◌∷◌, ◌++◌, length, replicate, Option, Some, None, Ok, refl, sym, ap, ◌∙◌, subst, append_assoc, append-nil, length-append, eq-eqb, arith}
+use Rattle.std.proofs.Common.{◌≡◌, ℕ, ◌+◌, ◌-◌, ◌/◌, ◌%◌, ◌<◌, ◌≤◌, Bool, true, false, cond, eqb, List, [], ◌∷◌, ◌++◌, length, replicate, Option, Some, None}
+use Rattle.std.proofs.Common.{Ok, refl, sym, ap, ◌∙◌, subst, append_assoc, append-nil, length-append, eq-eqb, arith}
 use Rattle.std.specs.Prelude.{map, sum, nat_lt, nat_le, ◌&&◌, ◌||◌, ◌==◌, not, if◌then◌else◌}
 use Rattle.std.specs.List.{list_all, AllByRecursion}
 use Rattle.std.proofs.lemmas.Bool.Decides.{nat_tests}
@@ -14,16 +15,19 @@ use Rattle.object_defs.specs.Modules.{Module, Definition, Reference, HasText, St
 use Rattle.source_defs.specs.Digits.{word_digits}
 use Rattle.object_defs.specs.Digits.{decimal, padded, checksum}
 use Rattle.object_defs.specs.Tags.{tag_of}
-use Rattle.object_defs.specs.Writing.{group, header_text, definition_text, reference_text, Item, Group, Placed, items_of, entry_items, Line, empty_line, item_text, next_after, with_item, summed, numbered, line_text, last_line_text, number_after, written_from, written}
+use Rattle.object_defs.specs.Writing.{group, header_text, definition_text, reference_text, Item, Group, Placed, items_of, entry_items, Line, empty_line}
+use Rattle.object_defs.specs.Writing.{item_text, next_after, with_item, summed, numbered, line_text, last_line_text, number_after, written_from, written}
 use Rattle.object_defs.specs.Fields.{all_blank}
 use Rattle.object_defs.specs.Groups.{Header, Sum, Whole, found_with, found_at, groups_from}
 use Rattle.object_defs.specs.Reading.{NumberedLine, numbered_line, has_line_feed, form_of}
 use Rattle.object_defs.specs.Running.{OpenModule, opened, begun, more, Kept, nothing_kept, with_current, kept_groups, kept_line, kept_lines}
 use Rattle.object_defs.specs.Laws.{FitsSpot, FitsPiece, FitsDefinition, FitsReference, IsModule, WrittenModulesAreRead}
 use Rattle.object_defs.proofs.FieldsAgain.{number_again, module_name_again, digits_length}
-use Rattle.object_defs.proofs.Adding.{leads, Adds, group_adds, with_piece, piece_adds, with_def, definition_adds, with_ref, reference_adds, with_entry_at, entry_adds}
+use Rattle.object_defs.proofs.Adding.{leads, Adds, group_adds, with_piece, piece_adds, with_def, definition_adds, with_ref, reference_adds, with_entry_at}
+use Rattle.object_defs.proofs.Adding.{entry_adds}
 use Rattle.object_defs.proofs.FirstLine.{left_lines, first_line}
-use Rattle.object_defs.proofs.Characters.{behind_each_other, decimal_number_prints, padded_prints, summed_prints, piece_prints, definition_prints, reference_prints, entry_prints, header_prints, name_padded, name_length}
+use Rattle.object_defs.proofs.Characters.{behind_each_other, decimal_number_prints, padded_prints, summed_prints, piece_prints, definition_prints}
+use Rattle.object_defs.proofs.Characters.{reference_prints, entry_prints, header_prints, name_padded, name_length}
 use Rattle.object_defs.proofs.Running.{read_is}
 
 -- ---- a line up to its line feed

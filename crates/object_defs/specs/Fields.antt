@@ -2,7 +2,8 @@
 --
 -- Editor/Assembler manual, "Tagged object code": a number is four hexadecimal digits, in compressed text two bytes; a
 -- name is eight or six characters.
-use Rattle.std.specs.Prelude.{ℕ, not, ◌+◌, ◌*◌, ◌&&◌, nat_lt, if◌then◌else◌, List, [], ◌∷◌, length, take, drop, Result, Ok, Err, Bool}
+use Rattle.std.specs.Prelude.{ℕ, not, ◌+◌, ◌*◌, ◌&&◌, nat_lt, if◌then◌else◌, List, [], ◌∷◌, length, take, drop, Result}
+use Rattle.std.specs.Prelude.{Ok, Err, Bool}
 use Rattle.std.specs.List.{list_all}
 use Rattle.source_defs.specs.Characters.{is_blank}
 use Rattle.source_defs.specs.Names.{is_kept_name, all_printed}

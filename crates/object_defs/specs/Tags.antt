@@ -9,7 +9,8 @@ use Rattle.object_defs.specs.declared.spot.Spot.TheVariants as spots
 use Rattle.object_defs.specs.declared.tag.Kind.{Kind}
 use Rattle.object_defs.specs.declared.tag.Kind.TheVariants.{Absolute, Relocatable}
 use Rattle.object_defs.specs.declared.tag.Tag.{Tag}
-use Rattle.object_defs.specs.declared.tag.Tag.TheVariants.{Header, Entry, Reference, Definition, Sum, IgnoredSum, Address, Word, EndOfLine, EndOfModule}
+use Rattle.object_defs.specs.declared.tag.Tag.TheVariants.{Header, Entry, Reference, Definition, Sum, IgnoredSum}
+use Rattle.object_defs.specs.declared.tag.Tag.TheVariants.{Address, Word, EndOfLine, EndOfModule}
 
 -- the character of a tag in plain text
 abbrev pub tag_character : Tag → ℕ

@@ -25,9 +25,12 @@ use Rattle.program_defs.specs.Directives.{directive}
 use Rattle.program_defs.specs.Mnemonics.{mnemonic}
 use Rattle.program_defs.specs.Forms.{Memory, Form, InMemory, InGrom, Register, Alone, takes_two, takes_move}
 use Rattle.program_defs.specs.Values.{as_expr, number_in, number, numbers, index_of, index_value, operand, byte_of, bytes_of}
-use Rattle.program_defs.specs.Skeletons.{Source, At, Immediate, Route, Within, ToMemory, ToRegisters, Skeleton, Plain, Jump, Branch, One, Two, Move, as_operand, one_form, two_forms, move_forms, text_of_one, where_taken, operand_in, source_in, route_in, two_skeleton, move_skeleton, skeleton}
+use Rattle.program_defs.specs.Skeletons.{Source, At, Immediate, Route, Within, ToMemory, ToRegisters, Skeleton, Plain, Jump, Branch, One, Two, Move, as_operand}
+use Rattle.program_defs.specs.Skeletons.{one_form, two_forms, move_forms, text_of_one, where_taken, operand_in, source_in, route_in, two_skeleton}
+use Rattle.program_defs.specs.Skeletons.{move_skeleton, skeleton}
 use Rattle.program_defs.specs.Skeletons as skeletons
-use Rattle.program_defs.specs.Statements.{Statement, Nothing, Instruction, Grom, Aorg, Equ, Bss, Data, Text, End, number_of_one, directive_statement, instruction_statement, statement_by, operation_statement, statement_at}
+use Rattle.program_defs.specs.Statements.{Statement, Nothing, Instruction, Grom, Aorg, Equ, Bss, Data, Text, End, number_of_one, directive_statement}
+use Rattle.program_defs.specs.Statements.{instruction_statement, statement_by, operation_statement, statement_at}
 use Rattle.program_defs.specs.Statements as statements
 use Rattle.program_defs.specs.Locations.{address_of, branch_offset}
 use Rattle.program_defs.specs.FirstChecks.{as_text, said}

@@ -1,5 +1,6 @@
 -- What a line comes to fills the size that it says.
-use Rattle.std.proofs.Common.{◌≡◌, ℕ, suc, ◌+◌, ◌*◌, ◌≤◌, Bool, true, false, List, [], ◌∷◌, ◌++◌, Some, None, Ok, Err, length, refl, sym, ap, ◌∙◌, arith, length-append}
+use Rattle.std.proofs.Common.{◌≡◌, ℕ, suc, ◌+◌, ◌*◌, ◌≤◌, Bool, true, false, List, [], ◌∷◌, ◌++◌, Some, None, Ok, Err, length, refl, sym, ap, ◌∙◌, arith}
+use Rattle.std.proofs.Common.{length-append}
 use Rattle.std.specs.Prelude.{Option, Result}
 use Rattle.std.specs.List.{flat_map}
 use Rattle.source_defs.specs.Refusals.{◌>>=◌}
@@ -14,7 +15,8 @@ use Rattle.gpl_defs.specs.Bytes as gpl
 use Rattle.program_defs.specs.declared.causes.GplCause.{GplCause}
 use Rattle.program_defs.specs.declared.location.Location.{Location}
 use Rattle.program_defs.specs.Values.{number, numbers, byte_of, bytes_of, index_of}
-use Rattle.program_defs.specs.Skeletons.{Source, At, Immediate, Route, Within, ToMemory, ToRegisters, Skeleton, Plain, Jump, Branch, One, Two, Move, source_by_zero, length_by_zero, move_by_zero, instr_by_zero, size_of}
+use Rattle.program_defs.specs.Skeletons.{Source, At, Immediate, Route, Within, ToMemory, ToRegisters, Skeleton, Plain, Jump, Branch, One, Two, Move}
+use Rattle.program_defs.specs.Skeletons.{source_by_zero, length_by_zero, move_by_zero, instr_by_zero, size_of}
 use Rattle.program_defs.specs.Skeletons as skeletons
 use Rattle.program_defs.specs.Statements.{Statement, Nothing, Instruction, Grom, Aorg, Equ, Bss, Data, Text, End, size_said}
 use Rattle.program_defs.specs.Statements as statements

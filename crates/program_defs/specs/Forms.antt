@@ -1,5 +1,6 @@
 -- The forms of operands.
-use Rattle.std.specs.Prelude.{ℕ, ◌+◌, ◌==◌, Bool, true, false, ◌&&◌, ◌||◌, if◌then◌else◌, List, slice_index, slice_range, take, drop, Option, Some, None}
+use Rattle.std.specs.Prelude.{ℕ, ◌+◌, ◌==◌, Bool, true, false, ◌&&◌, ◌||◌, if◌then◌else◌, List, slice_index}
+use Rattle.std.specs.Prelude.{slice_range, take, drop, Option, Some, None}
 use Rattle.source_defs.specs.Characters.{upper_case}
 use Rattle.source_defs.specs.Parentheses.{last_place, opening, has_parentheses}
 use Rattle.gpl_defs.specs.declared.instruction.Space.{Space}

@@ -1,5 +1,6 @@
 -- What the first checks leave of an instruction: its operands in memory by their addresses, all others by their texts.
-use Rattle.std.specs.Prelude.{ℕ, Bool, true, false, if◌then◌else◌, List, [], ◌∷◌, length, Option, Some, None, Result, Ok, Err}
+use Rattle.std.specs.Prelude.{ℕ, Bool, true, false, if◌then◌else◌, List, [], ◌∷◌, length, Option, Some, None, Result}
+use Rattle.std.specs.Prelude.{Ok, Err}
 use Rattle.source_defs.specs.Refusals.{◌>>=◌}
 use Rattle.source_defs.specs.declared.causes.OperandError.{OperandError}
 use Rattle.source_defs.specs.declared.causes.OperandError.TheVariants.{Count, Form as WrongForm}
@@ -25,7 +26,8 @@ use Rattle.program_defs.specs.declared.causes.GplCause.{GplCause}
 use Rattle.program_defs.specs.declared.causes.GplCause.TheVariants.{OperandCount, BadOperand}
 use Rattle.program_defs.specs.declared.mnemonic.Mnemonic.{Mnemonic}
 use Rattle.program_defs.specs.declared.mnemonic.Mnemonic.TheVariants as named
-use Rattle.program_defs.specs.Forms.{Form, InMemory, InGrom, Register, Alone, form_of, is_in_memory, is_alone, takes_two, takes_move}
+use Rattle.program_defs.specs.Forms.{Form, InMemory, InGrom, Register, Alone, form_of, is_in_memory, is_alone}
+use Rattle.program_defs.specs.Forms.{takes_two, takes_move}
 use Rattle.program_defs.specs.Values.{operand}
 
 -- an operand in memory, or the text of an immediate one

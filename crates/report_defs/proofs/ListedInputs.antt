@@ -1,5 +1,6 @@
 -- What gdis lists of an input is assembled to the input.
-use Rattle.std.proofs.Common.{◌≡◌, ◌≢◌, ℕ, zero, suc, ◌+◌, ◌-◌, ◌<◌, ◌≤◌, Bool, true, false, List, [], ◌∷◌, length, take, drop, get_or, Some, refl, sym, ap, ◌∙◌, subst, max, min, arith}
+use Rattle.std.proofs.Common.{◌≡◌, ◌≢◌, ℕ, zero, suc, ◌+◌, ◌-◌, ◌<◌, ◌≤◌, Bool, true, false, List, [], ◌∷◌, length, take, drop, get_or, Some, refl, sym, ap}
+use Rattle.std.proofs.Common.{◌∙◌, subst, max, min, arith}
 use Rattle.std.specs.Prelude.{map, unwrap_or, ◌==◌, if◌then◌else◌, slice_range, slice_index, nat_lt, None, Ok}
 use Rattle.std.specs.List.{range_with_len, concat}
 use Rattle.std.specs.Ordering.{nat_cmp, eq_by_cmp}

@@ -5,8 +5,10 @@ use Rattle.std.specs.Prelude.{ℕ, ◌/◌, ◌%◌, nat_lt, if◌then◌else◌
 use Rattle.source_defs.specs.Digits.{word_digits, marked_word}
 use Rattle.source_defs.specs.Refusals.{Refusal}
 use Rattle.object_defs.specs.declared.causes.TagCause.{TagCause}
-use Rattle.object_defs.specs.declared.causes.TagCause.TheVariants.{BadTag, BadDigit, ShortField, Checksum, NoEnd, TooMany}
-use Rattle.link_defs.specs.Causes.{LinkCause, DuplicateDef, OutOfMemoryRange, Overlap, ChainOutside, ChainCycle, Unresolved, NoEntry}
+use Rattle.object_defs.specs.declared.causes.TagCause.TheVariants.{BadTag, BadDigit, ShortField, Checksum, NoEnd}
+use Rattle.object_defs.specs.declared.causes.TagCause.TheVariants.{TooMany}
+use Rattle.link_defs.specs.Causes.{LinkCause, DuplicateDef, OutOfMemoryRange, Overlap, ChainOutside, ChainCycle}
+use Rattle.link_defs.specs.Causes.{Unresolved, NoEntry}
 use Rattle.report_defs.specs.FaultLine.{refusal_line}
 
 abbrev pub tag_cause_text : TagCause → List ℕ

@@ -1,5 +1,6 @@
 -- What a command reports on its input.
-use Rattle.std.specs.Prelude.{◌≡◌, ℕ, ◌+◌, nat_lt, if◌then◌else◌, List, [], ◌∷◌, length, Result, Ok, Err, MatchBool, Option, Some, None}
+use Rattle.std.specs.Prelude.{◌≡◌, ℕ, ◌+◌, nat_lt, if◌then◌else◌, List, [], ◌∷◌, length, Result, Ok, Err, MatchBool}
+use Rattle.std.specs.Prelude.{Option, Some, None}
 use Rattle.console_defs.specs.Machine.{MachineState}
 use Rattle.console_defs.specs.declared.ends.RunEnd.{RunEnd}
 use Rattle.source_defs.specs.Refusals.{Refusal}

@@ -1,5 +1,6 @@
 -- The lines of a text, one after the other.
-use Rattle.std.proofs.Common.{◌≡◌, ℕ, zero, suc, ◌+◌, ◌<◌, ◌≤◌, Bool, true, false, List, [], ◌∷◌, ◌++◌, length, take, drop, get_or, refl, sym, ap, ◌∙◌, add-one, append_assoc, append-nil, length-drop, arith}
+use Rattle.std.proofs.Common.{◌≡◌, ℕ, zero, suc, ◌+◌, ◌<◌, ◌≤◌, Bool, true, false, List, [], ◌∷◌, ◌++◌, length, take, drop, get_or, refl, sym, ap, ◌∙◌, add-one}
+use Rattle.std.proofs.Common.{append_assoc, append-nil, length-drop, arith}
 use Rattle.bench_io.specs.Stream.{SinkState}
 use Rattle.bench_io.specs.Written.{Wrote, Missed}
 use Rattle.bench_io.proofs.Writing.{wrote_none, wrote_more, missed_more, missed_early}

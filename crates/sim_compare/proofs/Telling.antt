@@ -23,7 +23,8 @@ use Rattle.sim_compare.specs.Family.{is_comparison, compared, comparison, IsTold
 use Rattle.sim_rows.specs.States.{Sees, operation_in}
 use Rattle.sim_rows.specs.Rows.{row_width, bytes_by, next_of, gone_on, loaded_of}
 use Rattle.sim_rows.specs.Results.{row_result, SeesFinished, SeesResult, RunsRow}
-use Rattle.sim_compare.proofs.Numbers.{number_fits, below_in_register, equal_in_register, zero_in_register, at_most, ones_in_register, order_in_register, at_most_signed}
+use Rattle.sim_compare.proofs.Numbers.{number_fits, below_in_register, equal_in_register, zero_in_register, at_most, ones_in_register, order_in_register}
+use Rattle.sim_compare.proofs.Numbers.{at_most_signed}
 
 -- ---- the two ends
 

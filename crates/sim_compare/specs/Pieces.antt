@@ -1,6 +1,7 @@
 -- What the pieces of the comparisons and the tests come to: how many instructions they have, where they end, and what they
 -- change of the view, in the words of the processor. Registers, cells and ports that are not named stay.
-use Rattle.std.specs.Prelude.{ℕ, ◌==◌, Bool, true, false, not, nat_lt, int_lt, bit_and, if◌then◌else◌, slice_index, slice_set}
+use Rattle.std.specs.Prelude.{ℕ, ◌==◌, Bool, true, false, not, nat_lt, int_lt, bit_and, if◌then◌else◌, slice_index}
+use Rattle.std.specs.Prelude.{slice_set}
 use Rattle.console_defs.specs.Words.{low, join}
 use Rattle.console_defs.specs.Flags.{Byte, Word, signed}
 use Rattle.console_defs.specs.Logic.{ones_set, ones_cleared}

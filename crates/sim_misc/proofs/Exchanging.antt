@@ -24,7 +24,8 @@ use Rattle.sim_operands.specs.Pieces.{return_of}
 use Rattle.sim_operands.specs.Values.{width_in, in_register, of_register, IsVisible}
 use Rattle.sim_operands.specs.Subroutines.{StoresValue}
 use Rattle.sim_rows.specs.States.{code_byte, operation_in}
-use Rattle.sim_rows.specs.Rows.{row_width, gone_on, is_immediate, word_of, has_source, behind_first, second_by, operands_of, bytes_by, destination_bytes, AtRow, LoadsFrom, LoadsFromSource}
+use Rattle.sim_rows.specs.Rows.{row_width, gone_on, is_immediate, word_of, has_source, behind_first, second_by, operands_of, bytes_by, destination_bytes, AtRow}
+use Rattle.sim_rows.specs.Rows.{LoadsFrom, LoadsFromSource}
 use Rattle.sim_rows.specs.Results.{Storing, SeesFinished, SeesResult, row_result, StoresResult}
 use Rattle.sim_rows.proofs.Codes.{two_above}
 use Rattle.sim_rows.proofs.Again.{idle_again}

@@ -34,7 +34,8 @@ use Rattle.sim_rows.proofs.Storing.{ChangedFrom, changed_again, storing_again, s
 use Rattle.sim_rows.proofs.Rowing.{row_changed}
 use Rattle.sim_muldiv.specs.Pieces as pieces
 use Rattle.sim_muldiv.specs.Family.{is_muldiv, IsReady, AreVisible, Divided, Divides, EndsDivision, EndsQuotient, second_in, dividend_in}
-use Rattle.sim_muldiv.proofs.Numbers.{byte_divides, word_divides, quotient_fits, remainder_fits, divisor_down, byte_fits, no_first_word, together, high_of, low_of}
+use Rattle.sim_muldiv.proofs.Numbers.{byte_divides, word_divides, quotient_fits, remainder_fits, divisor_down, byte_fits, no_first_word, together, high_of}
+use Rattle.sim_muldiv.proofs.Numbers.{low_of}
 use Rattle.sim_operands.proofs.Ready.{idle_video, idle_grom}
 use Rattle.sim_muldiv.proofs.Common.{width_if, width_there, loaded_is, word_fits_at, second_visible, word_visible, ready_again}
 

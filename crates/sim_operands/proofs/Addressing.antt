@@ -1,5 +1,6 @@
 -- The pieces of ADDR find the place of an operand.
-use Rattle.std.proofs.Common.{◌≡◌, ℕ, ◌+◌, ◌*◌, ◌/◌, ◌%◌, ◌<◌, ◌≤◌, Bool, true, false, refl, sym, ap, subst, ◌∙◌, arith, List, eqb, Option, Some, None, Result, Ok, Err, ⊎_elim, ◌⊎◌}
+use Rattle.std.proofs.Common.{◌≡◌, ℕ, ◌+◌, ◌*◌, ◌/◌, ◌%◌, ◌<◌, ◌≤◌, Bool, true, false, refl, sym, ap, subst, ◌∙◌, arith, List, eqb, Option, Some, None, Result}
+use Rattle.std.proofs.Common.{Ok, Err, ⊎_elim, ◌⊎◌}
 use Rattle.std.specs.Prelude.{◌==◌, ◌&&◌, not, nat_lt, nat_le, slice_index, if◌then◌else◌}
 use Rattle.std.proofs.lemmas.Bool.{ltb-true, ltb-false, lt-ltb, le-ltb, le-leb, lt-leb, eqb-true, ne_eqb, eq-eqb, cases_eq}
 use Rattle.console_defs.specs.Words.{high, low, join, plus}

@@ -15,7 +15,8 @@ use Rattle.sim_view.proofs.Lists.{high-join, join-bytes}
 use Rattle.sim_view.proofs.Places.{pick}
 use Rattle.sim_operands.specs.Pieces as pieces
 use Rattle.sim_operands.specs.Pieces.{past, past_video, set_video_to}
-use Rattle.sim_operands.proofs.Facts.{down, spot_cell, not_limit, at_most, two_bytes, word_up, word_down, swapped_high, swapped_back, no_other, first_fits, second_fits}
+use Rattle.sim_operands.proofs.Facts.{down, spot_cell, not_limit, at_most, two_bytes, word_up, word_down, swapped_high, swapped_back, no_other, first_fits}
+use Rattle.sim_operands.proofs.Facts.{second_fits}
 use Rattle.sim_operands.specs.Values.{IsVisible}
 use Rattle.std.proofs.lemmas.Bool.{eqb-true}
 

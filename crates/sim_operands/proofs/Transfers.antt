@@ -7,7 +7,8 @@ use Rattle.console_defs.specs.Bytes.{word_in}
 use Rattle.console_defs.specs.Flags.{Width, Byte, Word, sum_of}
 use Rattle.console_defs.specs.Logic.{swapped}
 use Rattle.console_defs.specs.Shifts.{shifted}
-use Rattle.console_defs.specs.Vdp.{VdpState, next_in_vdp, pair_kind, PairKind, ReadSetup, WriteSetup, RegisterWrite, NoOperation, vdp_data_read, vdp_data_written, vdp_address_written}
+use Rattle.console_defs.specs.Vdp.{VdpState, next_in_vdp, pair_kind, PairKind, ReadSetup, WriteSetup, RegisterWrite, NoOperation, vdp_data_read}
+use Rattle.console_defs.specs.Vdp.{vdp_data_written, vdp_address_written}
 use Rattle.console_defs.specs.Grom.{GromState, next_in_grom}
 use Rattle.console_defs.specs.declared.instruction.ShiftOp.TheVariants.{SRL, SLA}
 use Rattle.gpl_defs.specs.Reading.{value_at as value_in}

@@ -23,11 +23,14 @@ use Rattle.sim_operands.specs.Values.{IsVisible, number_of_space}
 use Rattle.sim_operands.specs.Subroutines.{Finds, FindsOperand, LoadsValue}
 use Rattle.sim_rows.specs.Pieces as pieces
 use Rattle.sim_rows.specs.States.{code_byte, operation_in, behind_code}
-use Rattle.sim_rows.specs.Rows.{is_row, word_of, row_width, is_immediate, behind_first, source_read, next_of, gone_on, bytes_by, destination_bytes, first_of, unit, second_by, second_of, operands_of, AtOperands, Valued, Immediate, Found, Sourced, LoadsDestination, LoadsOperands, LoadsPlaced, LoadsImmediate}
+use Rattle.sim_rows.specs.Rows.{is_row, word_of, row_width, is_immediate, behind_first, source_read, next_of, gone_on, bytes_by, destination_bytes, first_of}
+use Rattle.sim_rows.specs.Rows.{unit, second_by, second_of, operands_of, AtOperands, Valued, Immediate, Found, Sourced, LoadsDestination, LoadsOperands}
+use Rattle.sim_rows.specs.Rows.{LoadsPlaced, LoadsImmediate}
 use Rattle.sim_rows.proofs.Places.{place_lies, lies_at}
 use Rattle.sim_rows.proofs.Codes.{row_code}
 use Rattle.sim_rows.proofs.Fronting.{Asking, Located, asks, located, barred, finds_of, space_small}
-use Rattle.sim_rows.proofs.Operands.{Loading, asks_first, loads, visible_of, units, immediates, Operand, operands, finds_second, bars_second, goes_to_row, value_same}
+use Rattle.sim_rows.proofs.Operands.{Loading, asks_first, loads, visible_of, units, immediates, Operand, operands, finds_second, bars_second, goes_to_row}
+use Rattle.sim_rows.proofs.Operands.{value_same}
 
 -- ---- how many bytes a destination takes
 

@@ -23,7 +23,8 @@ use Rattle.sim_operands.specs.Pieces.{return_of}
 use Rattle.sim_operands.specs.Values.{width_in, in_register, number_of_space, IsVisible}
 use Rattle.sim_operands.specs.Subroutines.{state_of, Addressed, Placed, Barred, place_in, Loaded, LoadsValue}
 use Rattle.sim_rows.specs.Pieces as pieces
-use Rattle.sim_rows.specs.Rows.{is_row, word_of, row_width, behind_first, destination_bytes, unit, Holds, StoresTo, LoadsFrom, LoadsFromSource, Valued, Kept, Immediate, Found, Sourced}
+use Rattle.sim_rows.specs.Rows.{is_row, word_of, row_width, behind_first, destination_bytes, unit, Holds, StoresTo, LoadsFrom, LoadsFromSource, Valued, Kept}
+use Rattle.sim_rows.specs.Rows.{Immediate, Found, Sourced}
 use Rattle.sim_rows.specs.States.{StoppedBy, code_byte, operation_in}
 use Rattle.sim_rows.proofs.Codes.{row_is}
 use Rattle.sim_rows.proofs.Fronting.{width_is, size_is, place_is, Located, holds_again, holds_loaded, holds_addressed, from_placed, barred_stops}

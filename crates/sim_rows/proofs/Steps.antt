@@ -26,7 +26,8 @@ use Rattle.step_defs.specs.Arithmetic.{Source, two}
 use Rattle.step_defs.specs.Built.{is_built, is_built_operation}
 use Rattle.step_defs.specs.Step.{step, executed, after, one, source_of, destination_size}
 use Rattle.sim_rows.specs.States.{code_byte, behind_code, operation_in}
-use Rattle.sim_rows.specs.Rows.{is_row, row_width, has_source, behind_first, source_read, next_of, gone_on, bytes_by, destination_bytes, first_of, unit, second_by, second_of, operands_of}
+use Rattle.sim_rows.specs.Rows.{is_row, row_width, has_source, behind_first, source_read, next_of, gone_on, bytes_by, destination_bytes, first_of, unit}
+use Rattle.sim_rows.specs.Rows.{second_by, second_of, operands_of}
 use Rattle.sim_rows.specs.Results.{result_of}
 use Rattle.sim_rows.proofs.Codes.{one_below, two_above}
 use Rattle.step_defs.specs.Run.{bound, bound_by, bound_at}

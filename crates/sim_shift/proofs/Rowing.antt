@@ -23,7 +23,8 @@ use Rattle.sim_rows.specs.Results.{Storing, SeesFinished, SeesResult, row_result
 use Rattle.sim_shift.specs.Pieces as pieces
 use Rattle.sim_shift.specs.Pieces.{low_four}
 use Rattle.sim_shift.specs.Family.{name_of, shift_entry}
-use Rattle.sim_shift.proofs.Shifting.{Keeps, keeps_then, shown_keeps, asking_keeps, count_keeps, counts_few, counted_word, told_is, none, some, shifts, number_by, two_is, entry_even, Told, told_at, stores_none, stores_some}
+use Rattle.sim_shift.proofs.Shifting.{Keeps, keeps_then, shown_keeps, asking_keeps, count_keeps, counts_few, counted_word, told_is, none, some, shifts}
+use Rattle.sim_shift.proofs.Shifting.{number_by, two_is, entry_even, Told, told_at, stores_none, stores_some}
 
 not_false : (b : Bool) → not b ≡ false → b ≡ true
 not_false true e = refl

@@ -3,7 +3,8 @@ use Rattle.std.specs.Prelude.{Bool, true, false, Option, Some}
 use Rattle.gpl_defs.specs.declared.instruction.PlainOp.TheVariants.{H, GT, EXIT, CARRY, OVF}
 use Rattle.gpl_defs.specs.declared.instruction.GoOp.TheVariants.{B}
 use Rattle.gpl_defs.specs.declared.instruction.OneName.{OneName}
-use Rattle.gpl_defs.specs.declared.instruction.OneName.TheVariants.{ABS, NEG, INV, CLR, CASE, CZ, INC, DEC, INCT, DECT, FETCH, PUSH}
+use Rattle.gpl_defs.specs.declared.instruction.OneName.TheVariants.{ABS, NEG, INV, CLR, CASE, CZ, INC, DEC, INCT, DECT}
+use Rattle.gpl_defs.specs.declared.instruction.OneName.TheVariants.{FETCH, PUSH}
 use Rattle.gpl_defs.specs.declared.instruction.TwoName.{TwoName}
 use Rattle.gpl_defs.specs.declared.instruction.TwoName.TheVariants as two
 use Rattle.gpl_defs.specs.declared.instruction.GplOperation.{GplOperation}

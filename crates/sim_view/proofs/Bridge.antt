@@ -1,5 +1,6 @@
 -- From runs of the view to what a piece comes to.
-use Rattle.std.proofs.Common.{◌≡◌, ℕ, ◌+◌, ◌-◌, ◌*◌, ◌<◌, ◌≤◌, List, [], ◌∷◌, ◌++◌, Bool, true, false, length, refl, sym, ap, subst, ◌∙◌, arith, get_or, take, drop, length-take, length-drop, lit<, ⊎_elim, zero, suc}
+use Rattle.std.proofs.Common.{◌≡◌, ℕ, ◌+◌, ◌-◌, ◌*◌, ◌<◌, ◌≤◌, List, [], ◌∷◌, ◌++◌, Bool, true, false, length, refl, sym, ap, subst, ◌∙◌, arith, get_or, take}
+use Rattle.std.proofs.Common.{drop, length-take, length-drop, lit<, ⊎_elim, zero, suc}
 use Rattle.std.proofs.lemmas.List.{get_or-drop, get_or-take, get_or_past, take_at, drop_at}
 use Rattle.std.proofs.lemmas.Bool.{cases_lt}
 use Rattle.std.proofs.Math.ListN.{take-append-drop}

@@ -7,7 +7,8 @@ use Rattle.console_defs.specs.Grom.{grom_data_read, grom_address_read, grom_addr
 use Rattle.console_defs.specs.Accesses.{Answer, Gives, NoInstruction, ◌>>=◌, Accesses}
 use Rattle.console_defs.specs.Operand.{Cpu}
 use Rattle.console_defs.specs.Step.{execution}
-use Rattle.console_defs.specs.Memory.{Port, VdpDataRead, VdpStatusRead, VdpDataWrite, VdpAddressWrite, GromDataRead, GromAddressRead, GromDataWrite, GromAddressWrite, Region, Rom, LowExpansion, HighExpansion, Scratchpad, PortOf, Unmapped, port_at, port_region}
+use Rattle.console_defs.specs.Memory.{Port, VdpDataRead, VdpStatusRead, VdpDataWrite, VdpAddressWrite, GromDataRead, GromAddressRead, GromDataWrite}
+use Rattle.console_defs.specs.Memory.{GromAddressWrite, Region, Rom, LowExpansion, HighExpansion, Scratchpad, PortOf, Unmapped, port_at, port_region}
 use Rattle.sim_view.specs.View.{View, Registers, listed, relisted}
 use Rattle.sim_view.specs.Running.{ends_piece}
 use Rattle.native_interp.specs.declared.words.TheConstants.{INTERP}

@@ -1,5 +1,6 @@
 -- What the view does, the machine does.
-use Rattle.std.proofs.Common.{◌≡◌, ℕ, zero, suc, ◌+◌, ◌-◌, ◌*◌, ◌/◌, ◌%◌, ◌<◌, ◌≤◌, List, [], ◌∷◌, ◌++◌, length-append, Bool, true, false, length, refl, sym, ap, subst, ◌∙◌, arith, eqb, Option, Some, None, ⊎_elim, inl, inr, get_or, ◌⊎◌}
+use Rattle.std.proofs.Common.{◌≡◌, ℕ, zero, suc, ◌+◌, ◌-◌, ◌*◌, ◌/◌, ◌%◌, ◌<◌, ◌≤◌, List, [], ◌∷◌, ◌++◌, length-append, Bool, true, false, length, refl, sym}
+use Rattle.std.proofs.Common.{ap, subst, ◌∙◌, arith, eqb, Option, Some, None, ⊎_elim, inl, inr, get_or, ◌⊎◌}
 use Rattle.std.proofs.Math.ListN.{set}
 use Rattle.std.specs.Prelude.{slice_index, slice_set, ◌&&◌, ◌||◌, not, ℤ}
 use Rattle.std.proofs.lemmas.Bool.{ne_eqb, cases_eq}
@@ -30,8 +31,11 @@ use Rattle.console_defs.specs.declared.instruction.BareOp.TheVariants.{LWPI, LIM
 use Rattle.console_defs.specs.declared.instruction.Instr.{Instr}
 use Rattle.console_defs.specs.declared.instruction.Instr.TheVariants as instr
 use Rattle.console_defs.specs.Accesses.{Answer, Gives, AtPort, NoInstruction, ◌>>=◌, Accesses}
-use Rattle.console_defs.specs.Operand.{Cpu, Mode, Register, Indirect, Symbolic, Increment, mode_of, register_in, word_at, with_word, with_words, register_address, next_word, index_of, operand, value_at, with_value}
-use Rattle.console_defs.specs.Memory.{Memory, console, Port, VdpDataRead, VdpStatusRead, VdpDataWrite, VdpAddressWrite, GromDataRead, GromAddressRead, GromDataWrite, GromAddressWrite, Region, region, word_read_in, word_read, word_written_in, word_written, byte_read_in, byte_read, byte_written_in, byte_written, port_read, port_written}
+use Rattle.console_defs.specs.Operand.{Cpu, Mode, Register, Indirect, Symbolic, Increment, mode_of, register_in, word_at, with_word, with_words}
+use Rattle.console_defs.specs.Operand.{register_address, next_word, index_of, operand, value_at, with_value}
+use Rattle.console_defs.specs.Memory.{Memory, console, Port, VdpDataRead, VdpStatusRead, VdpDataWrite, VdpAddressWrite, GromDataRead, GromAddressRead}
+use Rattle.console_defs.specs.Memory.{GromDataWrite, GromAddressWrite, Region, region, word_read_in, word_read, word_written_in, word_written, byte_read_in}
+use Rattle.console_defs.specs.Memory.{byte_read, byte_written_in, byte_written, port_read, port_written}
 use Rattle.console_defs.specs.forms.Results.{with_flags, stored, stored_by_result}
 use Rattle.console_defs.specs.forms.ContextSwitch.{kept_in, vector_at, kept_of}
 use Rattle.console_defs.specs.forms.Two.{two, two_operands}
@@ -51,7 +55,8 @@ use Rattle.sim_view.specs.Running.{Ran, one_more, ends_piece, ran}
 use Rattle.native_interp.specs.declared.words.TheConstants.{INTERP}
 use Rattle.sim_view.proofs.Answers.{given, given_by}
 use Rattle.sim_view.proofs.Lists.{join-bytes, high-join, low-join, get-spell_high, get-spell_low, set-spell, set-spell_high, listed-relisted}
-use Rattle.sim_view.proofs.Seen.{seen_run, shown, spell, Spot, spot, Reg, Code, Cell, Spare, AtThePort, Unknown, word_on, with_word_on, byte_on, with_byte_on, port_seen, port_put}
+use Rattle.sim_view.proofs.Seen.{seen_run, shown, spell, Spot, spot, Reg, Code, Cell, Spare, AtThePort, Unknown, word_on, with_word_on, byte_on, with_byte_on}
+use Rattle.sim_view.proofs.Seen.{port_seen, port_put}
 use Rattle.sim_view.proofs.Places.{Agrees, agrees, pick}
 
 -- The memory is as the view says.

@@ -1,5 +1,6 @@
 -- Why a line has no fields, and what its label field gives.
-use Rattle.std.proofs.Common.{◌≡◌, ℕ, ◌<◌, ◌≤◌, Bool, true, false, cond, not, eqb, ◌&&◌, ◌||◌, inl, inr, List, [], ◌∷◌, length, get_or, Some, None, Ok, Err, refl, sym, subst, ◌∙◌, eq-eqb, arith}
+use Rattle.std.proofs.Common.{◌≡◌, ℕ, ◌<◌, ◌≤◌, Bool, true, false, cond, not, eqb, ◌&&◌, ◌||◌, inl, inr, List, [], ◌∷◌, length, get_or, Some, None, Ok, Err}
+use Rattle.std.proofs.Common.{refl, sym, subst, ◌∙◌, eq-eqb, arith}
 use Rattle.std.specs.Prelude.{map, nat_lt, nat_le, Option, Result}
 use Rattle.std.specs.List.{list_all}
 use Rattle.std.proofs.lemmas.Bool.Decides.{nat_tests}
@@ -8,7 +9,8 @@ use Rattle.std.proofs.lemmas.Bool.{ltb-true}
 use Rattle.source_defs.specs.declared.causes.TextError.{TextError}
 use Rattle.source_defs.specs.declared.causes.TextError.TheVariants.{LineTooLong, BadLabel}
 use Rattle.source_defs.specs.Characters.{is_blank, is_asterisk, is_letter, upper_case}
-use Rattle.source_defs.specs.Fields.{HasBadLabel, Fields, no_fields, fields, fields_after, label_field, longest_line, is_comment, word_start, word_end, operand_end, ends_field, in_quotes}
+use Rattle.source_defs.specs.Fields.{HasBadLabel, Fields, no_fields, fields, fields_after, label_field, longest_line, is_comment, word_start, word_end}
+use Rattle.source_defs.specs.Fields.{operand_end, ends_field, in_quotes}
 use Rattle.source_defs.specs.FieldLaw.{IsWordStart, IsWordEnd, IsOperandEnd, IsComment, IsLabel, IsOperation, StandApart, AreFieldsOf, FieldsStandApart}
 use Rattle.source_defs.proofs.LeastLaws.{least_place_step, least_place_end, least_places_are_least}
 use Rattle.source_defs.specs.Names.{is_letter_or_digit, all_letters_or_digits, is_name, IsUpperCaseName, is_printed, is_kept_name}

@@ -4,7 +4,8 @@ use Rattle.std.specs.Prelude.{Option, Result, if◌then◌else◌}
 use Rattle.source_defs.specs.declared.causes.ExprError.{ExprError}
 use Rattle.source_defs.specs.Refusals.{◌>>=◌}
 use Rattle.source_defs.specs.Tokens.{Kind, Number, Name, Here, Text, Sign, Token, tokens}
-use Rattle.source_defs.specs.Expression.{Value, known_value, kind_value, term_value, operator_of, is_minus, joined, minus, value_with, minus_value, value, expression}
+use Rattle.source_defs.specs.Expression.{Value, known_value, kind_value, term_value, operator_of, is_minus, joined, minus, value_with, minus_value, value}
+use Rattle.source_defs.specs.Expression.{expression}
 use Rattle.source_defs.specs.Growing.{is_open, is_closed}
 
 -- what one answers is what the other answers, unless more names may lift its refusal

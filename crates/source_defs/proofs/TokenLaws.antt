@@ -1,5 +1,6 @@
 -- Tokens, one behind the other.
-use Rattle.std.proofs.Common.{◌≡◌, ℕ, zero, suc, ◌+◌, ◌-◌, ◌<◌, ◌≤◌, ◌⊎◌, inl, inr, Bool, true, false, cond, not, ◌&&◌, eqb, List, [], ◌∷◌, ◌++◌, length, get_or, Some, None, Ok, Err, refl, sym, ap, subst, ◌∙◌, append_assoc, append-nil, arith}
+use Rattle.std.proofs.Common.{◌≡◌, ℕ, zero, suc, ◌+◌, ◌-◌, ◌<◌, ◌≤◌, ◌⊎◌, inl, inr, Bool, true, false, cond, not, ◌&&◌, eqb, List, [], ◌∷◌, ◌++◌, length}
+use Rattle.std.proofs.Common.{get_or, Some, None, Ok, Err, refl, sym, ap, subst, ◌∙◌, append_assoc, append-nil, arith}
 use Rattle.std.specs.Prelude.{Option, Result, nat_lt, slice_range, map}
 use Rattle.std.proofs.lemmas.Bool.{cases_lt, ltb-true}
 use Rattle.std.proofs.lemmas.Bool.Decides.{nat_tests}
@@ -11,7 +12,8 @@ use Rattle.source_defs.specs.Names.{is_letter_or_digit}
 use Rattle.source_defs.specs.Numbers.{decimal_number, hexadecimal_number}
 use Rattle.source_defs.specs.Fields.{in_quotes}
 use Rattle.source_defs.specs.Least.{least_place}
-use Rattle.source_defs.specs.Tokens.{Kind, Name, Here, Text, Sign, Token, token_to, number_token, digits_end, hexadecimal_end, name_end, ends_text, text_end, decimal_token, hexadecimal_token, name_token, text_token, is_location_sign, is_operator, token_at, tokens_from}
+use Rattle.source_defs.specs.Tokens.{Kind, Name, Here, Text, Sign, Token, token_to, number_token, digits_end, hexadecimal_end, name_end, ends_text, text_end}
+use Rattle.source_defs.specs.Tokens.{decimal_token, hexadecimal_token, name_token, text_token, is_location_sign, is_operator, token_at, tokens_from}
 use Rattle.source_defs.specs.TokenLaw.{Follow, TokensFollow}
 use Rattle.source_defs.proofs.LeastLaws.{least_places_are_least, least_place-ge, least_place-le}
 

@@ -1,7 +1,8 @@
 -- What is known of an expression while names are still to come.
 use Rattle.std.specs.Prelude.{◌≡◌, ℕ, Bool, true, false, not, List, Option, Some, Result, Ok, Err}
 use Rattle.source_defs.specs.declared.causes.ExprError.{ExprError}
-use Rattle.source_defs.specs.declared.causes.ExprError.TheVariants.{BadToken, UnknownName, BadRelocation, TooLarge, DivideByZero, Memory}
+use Rattle.source_defs.specs.declared.causes.ExprError.TheVariants.{BadToken, UnknownName, BadRelocation, TooLarge}
+use Rattle.source_defs.specs.declared.causes.ExprError.TheVariants.{DivideByZero, Memory}
 use Rattle.source_defs.specs.Expression.{Value}
 use Rattle.source_defs.specs.Symbols.{Names, look_up}
 

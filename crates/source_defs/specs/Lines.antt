@@ -2,7 +2,8 @@
 --
 -- Profile: a line ends at a line feed, and a carriage return before it is dropped. What follows the last line
 -- feed is a line where it is not empty; a carriage return at its end belongs to it. Lines count from 1.
-use Rattle.std.specs.Prelude.{ℕ, ◌+◌, ◌-◌, ◌≤◌, ◌&&◌, nat_lt, if◌then◌else◌, List, [], ◌∷◌, ◌++◌, length, slice_index, slice_range, map, filter}
+use Rattle.std.specs.Prelude.{ℕ, ◌+◌, ◌-◌, ◌≤◌, ◌&&◌, nat_lt, if◌then◌else◌, List, [], ◌∷◌, ◌++◌, length, slice_index}
+use Rattle.std.specs.Prelude.{slice_range, map, filter}
 use Rattle.std.specs.List.{AllByRecursion, zip}
 use Rattle.source_defs.specs.declared.text.Span.{Span}
 use Rattle.source_defs.specs.declared.text.Line.{Line}

@@ -1,5 +1,6 @@
 -- The operands of a field, by how many an operation takes.
-use Rattle.std.specs.Prelude.{ℕ, Bool, true, false, not, if◌then◌else◌, List, [], ◌∷◌, Option, Some, None, Result, Ok, Err}
+use Rattle.std.specs.Prelude.{ℕ, Bool, true, false, not, if◌then◌else◌, List, [], ◌∷◌, Option, Some, None, Result, Ok}
+use Rattle.std.specs.Prelude.{Err}
 use Rattle.std.specs.List.{list_all}
 use Rattle.source_defs.specs.declared.causes.OperandError.{OperandError}
 use Rattle.source_defs.specs.declared.causes.OperandError.TheVariants.{Count, Form}

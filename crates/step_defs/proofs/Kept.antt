@@ -16,7 +16,8 @@ use Rattle.gpl_defs.specs.declared.instruction.Space.TheVariants.{Cpu, Vdp}
 use Rattle.step_defs.specs.declared.cells.TheConstants.{VISIBLE_CELLS, STATUS}
 use Rattle.step_defs.specs.State.{GplState, IsState}
 use Rattle.step_defs.specs.Place.{Place, byte_in, byte_at, behind, value_at, double_at}
-use Rattle.step_defs.specs.Changes.{Changes, with_pc, with_cell, with_video, with_register, with_byte_in, with_byte, with_value, with_double, status_of, with_status, status_byte, with_flags, with_bit, with_condition, with_overflow}
+use Rattle.step_defs.specs.Changes.{Changes, with_pc, with_cell, with_video, with_register, with_byte_in, with_byte, with_value, with_double, status_of}
+use Rattle.step_defs.specs.Changes.{with_status, status_byte, with_flags, with_bit, with_condition, with_overflow}
 
 abbrev pub Kept : Changes → Type 0
 Kept c = IsState c.state

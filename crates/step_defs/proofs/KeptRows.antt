@@ -1,5 +1,6 @@
 -- Each row of the table leaves a state with its lists of bytes.
-use Rattle.std.proofs.Common.{◌≡◌, ℕ, zero, suc, ◌+◌, ◌*◌, ◌/◌, ◌%◌, ◌<◌, ◌≤◌, Bool, true, false, cond, List, [], ◌∷◌, ◌++◌, replicate, drop, length-append, length-drop, Option, Some, None, Result, Ok, Err, IfOk, refl, arith}
+use Rattle.std.proofs.Common.{◌≡◌, ℕ, zero, suc, ◌+◌, ◌*◌, ◌/◌, ◌%◌, ◌<◌, ◌≤◌, Bool, true, false, cond, List, [], ◌∷◌, ◌++◌, replicate, drop, length-append}
+use Rattle.std.proofs.Common.{length-drop, Option, Some, None, Result, Ok, Err, IfOk, refl, arith}
 use Rattle.std.specs.Prelude.{nat_lt, not, ◌&&◌, ◌||◌, ◌==◌, bit_and, bit_or, bit_xor, unsigned_abs, pos, ◌-ℤ◌, slice_index}
 use Rattle.std.specs.Int.Bits.{and_lt}
 use Rattle.std.proofs.lemmas.Nat.{or_lt, xor_lt}
@@ -10,7 +11,8 @@ use Rattle.source_defs.specs.Refusals.{◌>>=◌}
 use Rattle.console_defs.specs.Words.{plus}
 use Rattle.console_defs.specs.Bytes.{HoldsBytes}
 use Rattle.console_defs.specs.Status.{is_set}
-use Rattle.console_defs.specs.Flags.{Width, Byte, Word, modulus, half, size_of, sum_of, sum_flags, difference_of, difference_flags, negation_of, negation_flags, absolute_of, absolute_flags}
+use Rattle.console_defs.specs.Flags.{Width, Byte, Word, modulus, half, size_of, sum_of, sum_flags, difference_of, difference_flags, negation_of, negation_flags}
+use Rattle.console_defs.specs.Flags.{absolute_of, absolute_flags}
 use Rattle.console_defs.specs.Grom.{next_in_grom}
 use Rattle.console_defs.specs.Logic.{complement_of, swapped}
 use Rattle.console_defs.proofs.WordLaws.{join-fits, plus-fits}
@@ -31,10 +33,13 @@ use Rattle.step_defs.specs.declared.reason.Reason.{Reason}
 use Rattle.step_defs.specs.State.{GplState, IsState}
 use Rattle.step_defs.specs.Place.{Place, behind, is_visible, word_at}
 use Rattle.step_defs.specs.Changes.{Changes, condition, with_pc, with_value, with_cell, with_overflow, status_of}
-use Rattle.step_defs.specs.Arithmetic.{with_result, Source, with_quotient, divided, exchanged, count_of, repeated, repeated_sign, shifted_left, shifted_right, two}
-use Rattle.step_defs.specs.Flow.{is_taken, branched, selected, cells_at, with_word, top_of, on_stack, grown_by, called, returned, pushed, fetched, next_seed, drawn}
+use Rattle.step_defs.specs.Arithmetic.{with_result, Source, with_quotient, divided, exchanged, count_of, repeated, repeated_sign, shifted_left, shifted_right}
+use Rattle.step_defs.specs.Arithmetic.{two}
+use Rattle.step_defs.specs.Flow.{is_taken, branched, selected, cells_at, with_word, top_of, on_stack, grown_by, called, returned, pushed, fetched, next_seed}
+use Rattle.step_defs.specs.Flow.{drawn}
 use Rattle.step_defs.specs.Step.{word_or_byte, plain, with_immediate, jump, one}
-use Rattle.step_defs.proofs.Kept.{Kept, with_cell_keeps, with_register_keeps, with_pc_keeps, with_byte_keeps, with_value_keeps, with_double_keeps, with_flags_keeps, with_condition_keeps, with_overflow_keeps, sum_fits, difference_fits, negation_fits, complement_fits}
+use Rattle.step_defs.proofs.Kept.{Kept, with_cell_keeps, with_register_keeps, with_pc_keeps, with_byte_keeps, with_value_keeps, with_double_keeps}
+use Rattle.step_defs.proofs.Kept.{with_flags_keeps, with_condition_keeps, with_overflow_keeps, sum_fits, difference_fits, negation_fits, complement_fits}
 
 -- what follows a check that passes
 pub then_if_ok : {A B C : Type 0} (Q : A → Type 0) (P : B → Type 0) (first : Result A C) (next : A → Result B C) → IfOk first Q → ((x : A) → Q x → IfOk (next x) P) → IfOk (first >>= next) P

@@ -25,7 +25,8 @@ use Rattle.gpl_defs.specs.declared.instruction.GplRead.{GplRead}
 use Rattle.gpl_defs.specs.declared.instruction.GplRead.TheVariants.{Instr, Refused}
 use Rattle.gpl_defs.specs.Valid.{has_words}
 use Rattle.gpl_defs.specs.Codes.{operation_at}
-use Rattle.gpl_defs.specs.Reading.{word_at, address_at, index_by, index_at, with_index, with_address, operand_from, operand_at, source_at, length_at, target_at, from_at, move_at, instr_at, read_by, reading}
+use Rattle.gpl_defs.specs.Reading.{word_at, address_at, index_by, index_at, with_index, with_address, operand_from, operand_at, source_at, length_at, target_at}
+use Rattle.gpl_defs.specs.Reading.{from_at, move_at, instr_at, read_by, reading}
 use Rattle.gpl_defs.proofs.CodeLaws.{row_fits, rows_fit}
 use Rattle.step_defs.specs.declared.reason.Reason.{Reason}
 use Rattle.step_defs.specs.State.{GplState, IsState, zeros, start}
@@ -34,7 +35,8 @@ use Rattle.step_defs.specs.Laws.{StepsKeepStates}
 use Rattle.step_defs.specs.Place.{place_of, value_at}
 use Rattle.step_defs.specs.Changes.{Changes, unchanged, shown, finished}
 use Rattle.step_defs.specs.Flow.{in_grom_of}
-use Rattle.step_defs.specs.Copy.{From, FromMemory, FromGrom, To, ToMemory, ToRegisters, byte_from, next_from, with_byte_to, next_to, copied, length_of, within_limit, target_of, origin_of, moved}
+use Rattle.step_defs.specs.Copy.{From, FromMemory, FromGrom, To, ToMemory, ToRegisters, byte_from, next_from, with_byte_to, next_to, copied, length_of}
+use Rattle.step_defs.specs.Copy.{within_limit, target_of, origin_of, moved}
 use Rattle.step_defs.specs.Built.{is_built}
 use Rattle.step_defs.specs.Step.{word_or_byte, destination_size, source_of, changes_of, after, executed, step}
 use Rattle.step_defs.proofs.Kept.{Kept, set_keeps, byte_fits, value_fits, with_byte_keeps, with_register_keeps}

@@ -20,7 +20,8 @@ use Rattle.gpl_run.specs.Sessions.{SessionState, seen}
 use Rattle.ti_bench.specs.declared.report.Report.{Report}
 use Rattle.ti_bench.specs.declared.report.Report.TheVariants as made
 use Rattle.ti_bench.specs.Made.{defined_report}
-use Rattle.ti_bench.specs.Run.{Outputs, Run, ReadsInput, Reads, TakesWhole, ReportsOn, Reports, WroteReport, WrittenReport, EndsWith, EndsBy, LeavesInput, WroteNothing}
+use Rattle.ti_bench.specs.Run.{Outputs, Run, ReadsInput, Reads, TakesWhole, ReportsOn, Reports, WroteReport, WrittenReport, EndsWith, EndsBy, LeavesInput}
+use Rattle.ti_bench.specs.Run.{WroteNothing}
 
 -- the report of a program that was written ends by the program's status
 ends_program : (o : Outputs) (ended : Option Reason) (lines : List (List ℕ)) → WroteReport o (spec.Whole (program_status ended) lines) → EndsWith o (spec.Whole (program_status ended) lines) (program_status ended)

@@ -9,8 +9,10 @@ use Rattle.object_defs.specs.declared.causes.TagCause.TheVariants.{TooMany}
 use Rattle.object_defs.specs.declared.tag.Tag.{Tag}
 use Rattle.object_defs.specs.declared.tag.Tag.TheVariants as tags
 use Rattle.object_defs.specs.Modules.{Module, most_modules}
-use Rattle.object_defs.specs.Groups.{Group, Header, Entry, Referred, Defined, Sum, IgnoredSum, Address, Word, EndOfLine, EndOfModule, FoundGroup, Whole, Broken, tag_found, groups_of}
-use Rattle.object_defs.specs.Reading.{Found, NumberedLine, stands, stands_first, module_of, added, with_group, with_groups, with_lines, ended, nothing_found, last_number, form_of, text_lines, read}
+use Rattle.object_defs.specs.Groups.{Group, Header, Entry, Referred, Defined, Sum, IgnoredSum, Address, Word, EndOfLine, EndOfModule, FoundGroup, Whole, Broken}
+use Rattle.object_defs.specs.Groups.{tag_found, groups_of}
+use Rattle.object_defs.specs.Reading.{Found, NumberedLine, stands, stands_first, module_of, added, with_group, with_groups, with_lines, ended, nothing_found}
+use Rattle.object_defs.specs.Reading.{last_number, form_of, text_lines, read}
 
 -- the module that is open counts too
 open_count : List Group → ℕ

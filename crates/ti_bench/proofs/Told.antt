@@ -3,7 +3,8 @@ use Rattle.std.proofs.Common.{◌≡◌, ℕ, refl, Some, Result, Err}
 use Rattle.arrayvec.specs.ArrayVec.{ArrayVec}
 use Rattle.link_defs.specs.Causes.{LinkCause}
 use Rattle.link_loader.specs.declared.error.LinkError.{LinkError}
-use Rattle.link_loader.specs.declared.error.LinkError.TheVariants.{DuplicateDef, OutOfMemoryRange, Overlap, ChainOutside, ChainCycle, Unresolved, NoEntry, Memory}
+use Rattle.link_loader.specs.declared.error.LinkError.TheVariants.{DuplicateDef, OutOfMemoryRange, Overlap, ChainOutside, ChainCycle, Unresolved, NoEntry}
+use Rattle.link_loader.specs.declared.error.LinkError.TheVariants.{Memory}
 use Rattle.link_loader.specs.Answers.{Refuses}
 use Rattle.report_defs.specs.ObjectFaults.{link_line}
 use Rattle.report_defs.specs.ObjectInput.{told}

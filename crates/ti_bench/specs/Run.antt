@@ -1,5 +1,6 @@
 -- One run of the program: how it may end, and what the input and the two outputs are then.
-use Rattle.std.specs.Prelude.{◌≡◌, ℕ, ◌+◌, ◌≤◌, nat_lt, Bool, false, MatchBool, if◌then◌else◌, List, [], ◌∷◌, length, Option, Some, None, IsSome, Result}
+use Rattle.std.specs.Prelude.{◌≡◌, ℕ, ◌+◌, ◌≤◌, nat_lt, Bool, false, MatchBool, if◌then◌else◌, List, [], ◌∷◌, length}
+use Rattle.std.specs.Prelude.{Option, Some, None, IsSome, Result}
 use Rattle.count_defs.specs.Counts.{Rose}
 use Rattle.bench_io.specs.Stream.{SourceState, SinkState, IsAtEnd}
 use Rattle.bench_io.specs.ReadAll.{Took, ReadWhole}

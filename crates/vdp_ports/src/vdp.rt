@@ -2,7 +2,8 @@
 
 ghost use Rattle.std.specs.Prelude.{◌≡◌, ◌<◌, ℕ, ◌+◌, ◌*◌, ◌/◌, ◌%◌, length, slice_index, slice_set, IfOk, IfSome};
 ghost use Rattle.console_defs.specs.Bytes.{HoldsZeros};
-ghost use Rattle.console_defs.specs.Vdp.{IsVdp, IsNewVdp, is_vdp_idle, next_in_vdp, vdp_fetched_ahead, pair_kind, pair_address, pair_done};
+ghost use Rattle.console_defs.specs.Vdp.{IsVdp, IsNewVdp, is_vdp_idle, next_in_vdp, vdp_fetched_ahead, pair_kind};
+ghost use Rattle.console_defs.specs.Vdp.{pair_address, pair_done};
 ghost use Rattle.console_defs.specs.Vdp.{vdp_address_written, vdp_data_written, vdp_data_read, vdp_status_read};
 
 use byte_lists::{holds_bytes, zeros};
