@@ -12,4 +12,4 @@ pub use digits::push_word;
 pub use laws::listings_come_back;
 pub use line::list_line;
 pub use listing::disassemble;
-pub use text::instr_text;
+pub use text::{instr_text, push_standing};

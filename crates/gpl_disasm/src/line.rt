@@ -7,8 +7,7 @@ ghost use Rattle.gpl_defs.specs.declared.instruction.GplRead.TheVariants.{Instr}
 ghost use Rattle.gpl_defs.specs.Reading.{reading, IsReadAt};
 ghost use Rattle.listing_defs.specs.Listing as spec;
 
-use crate::digits::push_byte;
-use crate::text::push_instr;
+use crate::text::{push_byte_text, push_instr};
 use arrayvec::ArrayString;
 use gpl_forms::{GplInstr, GplRead, read_instr, size_between, size_of};
 
@@ -87,14 +86,12 @@ fn boundary(at: u16) -> u32
 }
 
 /// Appends BYTE with a byte, and says that it stands for one.
-#[tactic(auto, using(std::proofs::Common::append_assoc))]
 fn push_byte_line(line: &mut Line, byte: u8) -> u32
     requires { array_string_len line.old ≤ 7 }
     ensures text { line.new.bytes ≡ line.old.bytes ++ (codes "BYTE " ++ marked_byte byte) }
     ensures size { array_string_len line.new ≤ array_string_len line.old + 8 }
     ensures one { result ≡ 1 }
 {
-    line.push_str("BYTE ");
-    push_byte(line, byte);
+    push_byte_text(line, byte);
     1
 }

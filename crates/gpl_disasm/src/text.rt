@@ -1,9 +1,11 @@
 //! The text of an instruction.
-ghost use Rattle.std.specs.Prelude.{◌≡◌, ◌≤◌, ◌+◌, ◌++◌, if◌then◌else◌, IsTrue, codes};
+ghost use Rattle.std.specs.Prelude.{◌≡◌, ◌≤◌, ◌+◌, ◌++◌, if◌then◌else◌, IsTrue, codes, length};
 ghost use Rattle.arrayvec.specs.ArrayString.{array_string_len};
 ghost use Rattle.gpl_defs.specs.Codes.{row_of};
+ghost use Rattle.gpl_defs.specs.Reading.{reading};
 ghost use Rattle.gpl_defs.specs.Valid.{is_valid};
 ghost use Rattle.program_defs.specs.Mnemonics.{name_of_words};
+ghost use Rattle.source_defs.specs.Digits.{marked_byte};
 ghost use Rattle.source_defs.specs.ListedLines.{two_texts};
 ghost use Rattle.listing_defs.specs.Texts as spec;
 
@@ -11,7 +13,9 @@ use crate::digits::{push_byte, push_word};
 use crate::listing::GROM_SIZE;
 use crate::operands::{push_from, push_length, push_operand, push_source, push_target};
 use arrayvec::ArrayString;
-use gpl_forms::{GplInstr, GplOperation, MoveLength, MoveSource, MoveTarget, name_of};
+use gpl_forms::{
+    GplInstr, GplOperation, GplRead, MoveLength, MoveSource, MoveTarget, name_of, read_instr,
+};
 
 /// The text of a valid instruction that stands at the address `at`: the operation, and its operands behind a blank. The
 /// GROM of `at` completes the target of a BR or BS. GPL Programmer's Guide, the statements.
@@ -22,6 +26,31 @@ pub fn instr_text(instr: &GplInstr, at: u16) -> ArrayString<52>
     let mut text = ArrayString::new();
     push_instr(&mut text, instr, at);
     text
+}
+
+/// Appends the text of what stands at the address `at` of 65,536 bytes: of the instruction there, in whatever spelling it
+/// stands, or `BYTE` and the code byte where that is no instruction's.
+pub fn push_standing<const N: usize>(text: &mut ArrayString<N>, image: &[u8], at: u16)
+    requires size { length image.now ≡ 65536 }
+    requires room { array_string_len text.old + 52 ≤ N }
+    ensures text { text.new.bytes ≡ text.old.bytes ++ spec.read_text (reading image.now at) at }
+    ensures size { array_string_len text.new ≤ array_string_len text.old + 52 }
+{
+    match read_instr(image, at) {
+        GplRead::Instr { instr, .. } => push_instr(text, &instr, at),
+        GplRead::Refused(code) => push_byte_text(text, code),
+    }
+}
+
+/// Appends `BYTE` and a byte.
+#[tactic(auto, using(std::proofs::Common::append_assoc))]
+pub(crate) fn push_byte_text<const N: usize>(text: &mut ArrayString<N>, byte: u8)
+    requires { array_string_len text.old + 8 ≤ N }
+    ensures text { text.new.bytes ≡ text.old.bytes ++ (codes "BYTE " ++ marked_byte byte) }
+    ensures size { array_string_len text.new ≡ array_string_len text.old + 8 }
+{
+    text.push_str("BYTE ");
+    push_byte(text, byte);
 }
 
 /// Appends the text of a valid instruction that stands at an address.

@@ -18,6 +18,8 @@ use Rattle.gpl_defs.specs.declared.instruction.MoveSource.{MoveSource}
 use Rattle.gpl_defs.specs.declared.instruction.MoveSource.TheVariants as from
 use Rattle.gpl_defs.specs.declared.instruction.GplInstr.{GplInstr}
 use Rattle.gpl_defs.specs.declared.instruction.GplInstr.TheVariants.{Plain, Byte, Jump, Branch, One, Two, Move}
+use Rattle.gpl_defs.specs.declared.instruction.GplRead.{GplRead}
+use Rattle.gpl_defs.specs.declared.instruction.GplRead.TheVariants.{Instr, Refused}
 use Rattle.program_defs.specs.declared.mnemonic.Mnemonic.{Mnemonic}
 use Rattle.program_defs.specs.declared.mnemonic.Mnemonic.TheVariants as named
 use Rattle.program_defs.specs.Mnemonics.{name_of}
@@ -99,3 +101,9 @@ operands_text (Move length to source) at =
 -- the text of an instruction at an address
 unfoldable pub instr_text : GplInstr → ℕ → List ℕ
 instr_text instr at = with_operands (name_of (mnemonic_of instr)) (operands_text instr at)
+
+-- The text of what is read at an address, in whatever spelling it stands there. Profile: where that is no instruction it is BYTE
+-- and the byte.
+abbrev pub read_text : GplRead → ℕ → List ℕ
+read_text (Instr instr next) at = instr_text instr at
+read_text (Refused code) at = codes "BYTE " ++ marked_byte code

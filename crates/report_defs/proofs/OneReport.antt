@@ -14,18 +14,19 @@ use Rattle.console_defs.specs.Machine.{MachineState, new_machine}
 use Rattle.console_defs.specs.Runs.{IsRun, end_at, after}
 use Rattle.console_defs.specs.declared.ends.RunEnd.{RunEnd}
 use Rattle.report_defs.specs.declared.command.Command.{Command}
-use Rattle.report_defs.specs.declared.command.Command.TheVariants.{Asm, Gasm, Dis, Gdis, Link, Exec, Interp, Run}
+use Rattle.report_defs.specs.declared.command.Command.TheVariants.{Asm, Gasm, Dis, Gdis, Link, Exec, Interp, Run, Trace}
 use Rattle.report_defs.specs.Exec.{IsStart, Executes, exec_lines, end_status}
 use Rattle.report_defs.specs.declared.fault.Fault.TheVariants.{TooLarge}
 use Rattle.report_defs.specs.Report.{Report, Whole, Faulty, ReportsExecution, ExecReport, AcceptedReport, largest_input, program_report}
-use Rattle.report_defs.specs.Report.{ReportsProgram, EnteredReport, ProgramReport, RunReport}
+use Rattle.report_defs.specs.Report.{ReportsProgram, EnteredReport, ProgramReport, RunReport, no_lines}
+use Rattle.report_defs.specs.Trace.{step_lines}
 use Rattle.source_defs.specs.Refusals.{Refusal}
 use Rattle.gpl_defs.specs.Image.{Image, AreBytesOf}
 use Rattle.program_defs.specs.declared.causes.GplCause.{GplCause}
 use Rattle.program_defs.specs.Programs.{Program, program_of_source}
 use Rattle.build_defs.specs.declared.fault.BuildFault.{BuildFault}
 use Rattle.build_defs.specs.Interpreter.{built_interpreter}
-use Rattle.step_defs.specs.State.{start}
+use Rattle.step_defs.specs.State.{GplState, start}
 use Rattle.step_defs.specs.Run.{run}
 use Rattle.interp_defs.specs.Programs.{RunsProgram}
 use Rattle.interp_defs.proofs.OneBoot.{same_list, one_zeros, one_vdp, same_memory}
@@ -105,31 +106,32 @@ one_bytes image xs ys p q =
     same_list xs ys size (λ at below. p.each at below ∙ sym (q.each at (omega arith)))
 
 -- one report of a program
-one_program : (limit : ℕ) (image : Image) (entry : ℕ) (first second : Report) → ReportsProgram limit image entry first →
-    ReportsProgram limit image entry second → first ≡ second
-one_program limit image entry first second p q =
+one_program : (show : GplState → ℕ → List (List ℕ)) (limit : ℕ) (image : Image) (entry : ℕ) (first second : Report) → ReportsProgram show limit image entry first →
+    ReportsProgram show limit image entry second → first ≡ second
+one_program show limit image entry first second p q =
     let bytes : p.bytes ≡ q.bytes = one_bytes image p.bytes q.bytes p.of_image q.of_image in
     let runs : RunsProgram q.bytes entry limit p.left = subst (λ (b : List ℕ). RunsProgram b entry limit p.left) bytes p.runs in
     let left : p.left ≡ q.left = one_machine_is_left q.bytes entry limit p.left q.left runs q.runs in
-    p.is
-    ∙ ap (λ (b : List ℕ). program_report (run limit (start b entry)) p.left) bytes
-    ∙ ap (λ (x : MachineState). program_report (run limit (start q.bytes entry)) x) left
-    ∙ sym q.is
+    let by : List ℕ → MachineState → Report = λ b x. let s = start b entry in let r = run limit s in program_report (show s r.done) r x in
+    p.is ∙ ap (λ (b : List ℕ). by b p.left) bytes ∙ ap (by q.bytes) left ∙ sym q.is
 
-one_entered : (limit : ℕ) (image : Image) (entry : Option ℕ) (first second : Report) →
-    EnteredReport limit image entry first → EnteredReport limit image entry second → first ≡ second
-one_entered limit image (Some entry) first second p q = one_program limit image entry first second p q
-one_entered limit image None first second p q = p ∙ sym q
+abbrev One : (Report → Type 0) → Type 0
+One Reports = (first second : Report) → Reports first → Reports second → first ≡ second
 
-one_assembled : (limit : ℕ) (program : Result Program (Refusal GplCause)) (first second : Report) →
-    ProgramReport limit program first → ProgramReport limit program second → first ≡ second
-one_assembled limit (Ok program) first second p q = one_entered limit program.image program.entry first second p q
-one_assembled limit (Err refused) first second p q = p ∙ sym q
+one_entered : (Reports : Image → ℕ → Report → Type 0) → ((image : Image) (entry : ℕ) → One (Reports image entry)) →
+    (image : Image) (entry : Option ℕ) → One (EnteredReport Reports image entry)
+one_entered Reports one image (Some entry) first second p q = one image entry first second p q
+one_entered Reports one image None first second p q = p ∙ sym q
 
-one_run : (limit : ℕ) (interpreter : Result LinkedMemory BuildFault) (program : Result Program (Refusal GplCause))
-    (first second : Report) → RunReport limit interpreter program first → RunReport limit interpreter program second → first ≡ second
-one_run limit (Ok interpreter) program first second p q = one_assembled limit program first second p q
-one_run limit (Err fault) program first second p q = p ∙ sym q
+one_assembled : (Reports : Image → ℕ → Report → Type 0) → ((image : Image) (entry : ℕ) → One (Reports image entry)) →
+    (program : Result Program (Refusal GplCause)) → One (ProgramReport Reports program)
+one_assembled Reports one (Ok program) first second p q = one_entered Reports one program.image program.entry first second p q
+one_assembled Reports one (Err refused) first second p q = p ∙ sym q
+
+one_run : (Reports : Image → ℕ → Report → Type 0) → ((image : Image) (entry : ℕ) → One (Reports image entry)) →
+    (interpreter : Result LinkedMemory BuildFault) (program : Result Program (Refusal GplCause)) → One (RunReport Reports interpreter program)
+one_run Reports one (Ok interpreter) program first second p q = one_assembled Reports one program first second p q
+one_run Reports one (Err fault) program first second p q = p ∙ sym q
 
 one_accepted : (command : Command) (input : List ℕ) (first second : Report) → AcceptedReport command input first → AcceptedReport command input second → first ≡ second
 one_accepted Asm input first second p q = p ∙ sym q
@@ -139,7 +141,10 @@ one_accepted (Gdis at) input first second p q = p ∙ sym q
 one_accepted Link input first second p q = p ∙ sym q
 one_accepted (Exec limit) input first second p q = one_exec limit (linked_input input) first second p q
 one_accepted Interp input first second p q = p ∙ sym q
-one_accepted (Run limit) input first second p q = one_run limit built_interpreter (program_of_source input) first second p q
+one_accepted (Run limit) input first second p q =
+    one_run (ReportsProgram no_lines limit) (one_program no_lines limit) built_interpreter (program_of_source input) first second p q
+one_accepted (Trace limit) input first second p q =
+    one_run (ReportsProgram step_lines limit) (one_program step_lines limit) built_interpreter (program_of_source input) first second p q
 
 pub one_report : OneReport
 one_report command input first second p q =

@@ -5,7 +5,7 @@ use Rattle.std.specs.Option.{option_map, option_and_then}
 use Rattle.std.specs.Cmp.Lexicographic.{pointwise}
 use Rattle.source_defs.specs.Numbers.{all_digits, value_after, hexadecimal_number}
 use Rattle.report_defs.specs.declared.command.Command.{Command}
-use Rattle.report_defs.specs.declared.command.Command.TheVariants.{Asm, Gasm, Dis, Gdis, Link, Exec, Interp, Run}
+use Rattle.report_defs.specs.declared.command.Command.TheVariants.{Asm, Gasm, Dis, Gdis, Link, Exec, Interp, Run, Trace}
 
 abbrev pub same_word : List ℕ → List ℕ → Bool
 same_word word name = pointwise nat_eq word name
@@ -29,12 +29,15 @@ most_instructions = 10000000
 abbrev pub exec_command : List ℕ → Option Command
 exec_command word = option_map Exec (number_word most_instructions word)
 
--- Profile: run makes at most 100,000 steps.
+-- Profile: run and trace make at most 100,000 steps.
 abbrev pub most_steps : ℕ
 most_steps = 100000
 
 abbrev pub run_command : List ℕ → Option Command
 run_command word = option_map Run (number_word most_steps word)
+
+abbrev pub trace_command : List ℕ → Option Command
+trace_command word = option_map Trace (number_word most_steps word)
 
 -- Profile: an address is four hexadecimal digits of either case.
 abbrev pub address_word : List ℕ → Option ℕ
@@ -63,6 +66,7 @@ command_of (name ∷ []) =
 command_of (name ∷ word ∷ []) =
     if same_word name (codes "exec") then exec_command word
     else if same_word name (codes "run") then run_command word
+    else if same_word name (codes "trace") then trace_command word
     else if same_word name (codes "dis") then dis_command word
     else if same_word name (codes "gdis") then gdis_command word
     else None
@@ -78,3 +82,4 @@ reads Link = true
 reads (Exec limit) = true
 reads Interp = false
 reads (Run limit) = true
+reads (Trace limit) = true

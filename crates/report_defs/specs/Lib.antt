@@ -7,6 +7,7 @@ pub mod Commands
 pub mod Dump
 pub mod Exec
 pub mod Program
+pub mod Trace
 pub mod Listing
 pub mod ObjectFaults
 pub mod ObjectInput

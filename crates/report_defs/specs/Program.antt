@@ -1,4 +1,4 @@
--- What `run` reports: a GPL program that the interpreter runs.
+-- What `run` and `trace` report in the end: a GPL program that the interpreter runs.
 use Rattle.std.specs.Prelude.{ℕ, ◌+◌, List, [], ◌∷◌, ◌++◌, codes, drop, slice_index, Option, Some, None}
 use Rattle.console_defs.specs.Machine.{MachineState}
 use Rattle.source_defs.specs.Digits.{marked_word, byte_digits}
@@ -28,15 +28,17 @@ stop_lines (Some reason) address = stop_line reason address ∷ []
 abbrev pub cell_text : List ℕ → ℕ → List ℕ
 cell_text cells cell = byte_digits (slice_index cells cell)
 
--- Profile: the line of a state has the address of the next instruction, the status and the pointers of the two stacks.
-unfoldable pub state_line : GplState → List ℕ
-state_line s =
-    codes "gpl "
-    ++ (marked_word s.pc
+-- Profile: a state is shown by the address of the next instruction, the status and the pointers of the two stacks.
+unfoldable pub state_text : GplState → List ℕ
+state_text s =
+    marked_word s.pc
     ++ (codes " S"
     ++ (cell_text s.cells STATUS
-    ++ (codes " D"
-    ++ (cell_text s.cells VALUE_STACK ++ (codes " R" ++ (cell_text s.cells RETURN_STACK ++ codes "\n")))))))
+    ++ (codes " D" ++ (cell_text s.cells VALUE_STACK ++ (codes " R" ++ cell_text s.cells RETURN_STACK)))))
+
+-- Profile: the line of the last state.
+unfoldable pub state_line : GplState → List ℕ
+state_line s = codes "gpl " ++ (state_text s ++ codes "\n")
 
 -- A machine with what GPL programs see of a state in it. The cells behind the visible ones are the machine's.
 abbrev pub showing : GplState → MachineState → MachineState

@@ -1,12 +1,12 @@
 -- What a command reports on its input.
-use Rattle.std.specs.Prelude.{◌≡◌, ℕ, ◌+◌, nat_lt, if◌then◌else◌, List, [], ◌∷◌, length, Result, Ok, Err, MatchBool}
+use Rattle.std.specs.Prelude.{◌≡◌, ℕ, ◌+◌, ◌≤◌, nat_lt, if◌then◌else◌, List, [], ◌∷◌, ◌++◌, length, Result, Ok, Err, MatchBool}
 use Rattle.std.specs.Prelude.{Option, Some, None}
 use Rattle.console_defs.specs.Machine.{MachineState}
 use Rattle.console_defs.specs.declared.ends.RunEnd.{RunEnd}
 use Rattle.source_defs.specs.Refusals.{Refusal}
 use Rattle.std.specs.FinMap.{empty}
 use Rattle.gpl_defs.specs.Image.{Image, AreBytesOf, written_bytes, placed}
-use Rattle.step_defs.specs.State.{start}
+use Rattle.step_defs.specs.State.{GplState, start}
 use Rattle.step_defs.specs.Run.{GplRun, run}
 use Rattle.interp_defs.specs.Programs.{RunsProgram}
 use Rattle.program_defs.specs.declared.causes.GplCause.{GplCause}
@@ -16,7 +16,7 @@ use Rattle.object_defs.specs.Writing.{written}
 use Rattle.module_defs.specs.declared.causes.AsmCause.{AsmCause}
 use Rattle.module_defs.specs.Modules.{module_of_source}
 use Rattle.report_defs.specs.declared.command.Command.{Command}
-use Rattle.report_defs.specs.declared.command.Command.TheVariants.{Asm, Gasm, Dis, Gdis, Link, Exec, Interp, Run}
+use Rattle.report_defs.specs.declared.command.Command.TheVariants.{Asm, Gasm, Dis, Gdis, Link, Exec, Interp, Run, Trace}
 use Rattle.report_defs.specs.declared.status.Status.{Status}
 use Rattle.report_defs.specs.declared.status.Status.TheVariants.{Done, Refused}
 use Rattle.report_defs.specs.declared.fault.Fault.{Fault}
@@ -33,6 +33,7 @@ use Rattle.report_defs.specs.MemoryListing.{linked_lines}
 use Rattle.report_defs.specs.ObjectInput.{linked_input}
 use Rattle.report_defs.specs.Exec.{Executes, exec_lines, end_status}
 use Rattle.report_defs.specs.Program.{program_lines, program_status}
+use Rattle.report_defs.specs.Trace.{step_lines}
 
 -- The pieces that standard output gets, each by one write, with the status; or the fault whose line standard error gets; or
 -- the line itself, of an input that is refused.
@@ -100,31 +101,45 @@ abbrev pub interp_report : Result LinkedMemory BuildFault → Report
 interp_report (Ok linked) = Whole Done (linked_lines linked)
 interp_report (Err fault) = Faulty (Interpreter fault)
 
--- the report of a run of steps and the machine that the interpreter left
-abbrev pub program_report : GplRun → MachineState → Report
-program_report r left = Whole (program_status r.stop) (program_lines r.stop r.last left)
+-- The report of a run of steps: what is shown of its steps, its end, and the machine that the interpreter left.
+abbrev pub program_report : List (List ℕ) → GplRun → MachineState → Report
+program_report shown r left = Whole (program_status r.stop) (shown ++ program_lines r.stop r.last left)
 
--- The report of a program that the interpreter runs for up to so many steps from its entry.
-pub record ReportsProgram (limit : ℕ) (image : Image) (entry : ℕ) (report : Report) : Type 0 where
+-- The report of a program that the interpreter runs for up to so many steps from its entry. The steps that are done are shown in
+-- some way, by the first state and their number.
+pub record ReportsProgram (show : GplState → ℕ → List (List ℕ)) (limit : ℕ) (image : Image) (entry : ℕ) (report : Report) : Type 0 where
   pub bytes : List ℕ
   pub of_image : AreBytesOf image bytes
   pub left : MachineState
   pub runs : RunsProgram bytes entry limit left
-  pub is : report ≡ program_report (run limit (start bytes entry)) left
+  pub is : let s = start bytes entry in
+    let r = run limit s in
+    report ≡ program_report (show s r.done) r left
 
--- Profile: a program without an entry is refused.
-abbrev pub EnteredReport : ℕ → Image → Option ℕ → Report → Type 0
-EnteredReport limit image (Some entry) report = ReportsProgram limit image entry report
-EnteredReport limit image None report = report ≡ Faulty NoEntry
+-- `run` does not show the steps; `trace` shows each by its line
+abbrev pub no_lines : GplState → ℕ → List (List ℕ)
+no_lines s count = []
 
-abbrev pub ProgramReport : ℕ → Result Program (Refusal GplCause) → Report → Type 0
-ProgramReport limit (Ok program) report = EnteredReport limit program.image program.entry report
-ProgramReport limit (Err refused) report = report ≡ Rejected (gpl_line refused)
+-- The lines of a program's steps, without what follows them.
+pub record ShowsSteps (limit : ℕ) (image : Image) (entry : ℕ) (front : Report) : Type 0 where
+  pub bytes : List ℕ
+  pub of_image : AreBytesOf image bytes
+  pub is : let s = start bytes entry in
+    front ≡ Whole Done (step_lines s (run limit s).done)
+
+-- What is reported of a program with an image and an entry. Profile: one without an entry is refused.
+abbrev pub EnteredReport : (Image → ℕ → Report → Type 0) → Image → Option ℕ → Report → Type 0
+EnteredReport Reports image (Some entry) report = Reports image entry report
+EnteredReport Reports image None report = report ≡ Faulty NoEntry
+
+abbrev pub ProgramReport : (Image → ℕ → Report → Type 0) → Result Program (Refusal GplCause) → Report → Type 0
+ProgramReport Reports (Ok program) report = EnteredReport Reports program.image program.entry report
+ProgramReport Reports (Err refused) report = report ≡ Rejected (gpl_line refused)
 
 -- Profile: no program is looked at where the interpreter's source does not give its words.
-abbrev pub RunReport : ℕ → Result LinkedMemory BuildFault → Result Program (Refusal GplCause) → Report → Type 0
-RunReport limit (Ok interpreter) program report = ProgramReport limit program report
-RunReport limit (Err fault) program report = report ≡ Faulty (Interpreter fault)
+abbrev pub RunReport : (Image → ℕ → Report → Type 0) → Result LinkedMemory BuildFault → Result Program (Refusal GplCause) → Report → Type 0
+RunReport Reports (Ok interpreter) program report = ProgramReport Reports program report
+RunReport Reports (Err fault) program report = report ≡ Faulty (Interpreter fault)
 
 abbrev pub AcceptedReport : Command → List ℕ → Report → Type 0
 AcceptedReport Asm input report = report ≡ asm_report (module_of_source input)
@@ -134,9 +149,19 @@ AcceptedReport (Gdis at) input report = report ≡ gdis_report at input
 AcceptedReport Link input report = report ≡ link_report (linked_input input)
 AcceptedReport (Exec limit) input report = ExecReport limit (linked_input input) report
 AcceptedReport Interp input report = report ≡ interp_report built_interpreter
-AcceptedReport (Run limit) input report = RunReport limit built_interpreter (program_of_source input) report
+AcceptedReport (Run limit) input report =
+    RunReport (ReportsProgram no_lines limit) built_interpreter (program_of_source input) report
+AcceptedReport (Trace limit) input report =
+    RunReport (ReportsProgram step_lines limit) built_interpreter (program_of_source input) report
 
 -- Whatever else holds, an input is refused that is too large.
 abbrev pub ReportOn : Command → List ℕ → Report → Type 0
 ReportOn command input report =
     MatchBool (nat_lt largest_input (length input)) (report ≡ Faulty TooLarge) (AcceptedReport command input report)
+
+-- What is written before the end of a report is known, of an input that is not too large: `trace` writes the line of each step
+-- once it is made. Such lines are a front of the report.
+abbrev pub FrontOn : Command → List ℕ → Report → Type 0
+FrontOn (Trace limit) input front =
+    (length input ≤ largest_input) × RunReport (ShowsSteps limit) built_interpreter (program_of_source input) front
+FrontOn command input front = ⊥

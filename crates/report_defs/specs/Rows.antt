@@ -1,9 +1,9 @@
 -- Bytes in rows of 16, as a dump shows them.
-use Rattle.std.specs.Prelude.{ℕ, ◌+◌, ◌-◌, ◌*◌, ◌/◌, Bool, not, ◌&&◌, nat_eq, nat_lt, if◌then◌else◌, List, [], ◌∷◌}
+use Rattle.std.specs.Prelude.{ℕ, ◌+◌, ◌-◌, ◌*◌, ◌/◌, Bool, not, ◌&&◌, nat_lt, if◌then◌else◌, List, [], ◌∷◌}
 use Rattle.std.specs.Prelude.{◌++◌, length, slice_range, codes}
 use Rattle.std.specs.List.{flat_map, range_with_len}
-use Rattle.std.specs.Cmp.Lexicographic.{pointwise}
 use Rattle.source_defs.specs.Digits.{byte_digits, marked_word}
+use Rattle.lane_scan.specs.Plain.{rows_equal}
 
 -- the row of 16 bytes with a number, from 0
 abbrev pub row : List ℕ → ℕ → List ℕ
@@ -19,7 +19,7 @@ row_line address bytes = marked_word address ++ (spaced_bytes bytes ++ codes "\n
 
 -- a row that equals the row before it
 abbrev pub is_repeated : List ℕ → ℕ → Bool
-is_repeated bytes number = nat_lt 0 number && pointwise nat_eq (row bytes (number - 1)) (row bytes number)
+is_repeated bytes number = nat_lt 0 number && rows_equal bytes (number - 1) number
 
 -- Profile: of a longest run of rows that each equal the row before, the first shows an asterisk and the others nothing.
 abbrev pub row_lines : ℕ → List ℕ → ℕ → List (List ℕ)

@@ -31,4 +31,9 @@ pub enum Command {
         /// The most steps, up to 100,000.
         limit: u32,
     },
+    /// `trace N`: as `run N`, and shows each step by a line.
+    Trace {
+        /// The most steps, up to 100,000.
+        limit: u32,
+    },
 }

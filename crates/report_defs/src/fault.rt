@@ -11,7 +11,7 @@ pub enum Fault {
     TooLarge,
     /// The bytes of `dis` or `gdis` run past >FFFF from its address on.
     PastEnd,
-    /// The GPL source of `run` names no entry.
+    /// The GPL source of `run` or `trace` names no entry.
     NoEntry,
     /// The interpreter's source does not give the interpreter's words.
     Interpreter(BuildFault),

@@ -7,12 +7,14 @@ use Rattle.console_defs.proofs.GromLaws.{previous-next}
 use Rattle.console_defs.specs.Memory.{Memory}
 use Rattle.console_defs.specs.Machine.{MachineState}
 use Rattle.step_defs.specs.declared.reason.Reason.{Reason}
-use Rattle.step_defs.specs.declared.reason.Reason.TheVariants.{Exit, Opcode, Cell}
+use Rattle.step_defs.specs.declared.reason.Reason.TheVariants.{Exit, Opcode, Cell, Stack, Length, Register}
 use Rattle.step_defs.specs.State.{GplState}
 use Rattle.step_defs.specs.Step.{step}
 use Rattle.step_defs.specs.Run.{bound}
 use Rattle.interp_defs.specs.declared.turn.Turn.{Turn}
-use Rattle.interp_defs.specs.Match.{PortsAreIdle, IsFetched, Matches, IsHalted, shown_by}
+use Rattle.step_defs.specs.Reasons.{number_of}
+use Rattle.interp_defs.specs.Interpreter.{HoldsRegister}
+use Rattle.interp_defs.specs.Match.{PortsAreIdle, IsFetched, Matches, IsHalted, StandsBy, shown_by}
 use Rattle.interp_defs.specs.Runs.{Runs, is_end}
 use Rattle.interp_defs.specs.Turned.{Reaches, TurnedBy, Turned}
 use Rattle.console_defs.specs.Accesses.{Gives}
@@ -92,24 +94,23 @@ leaves s y stands h = record {
   stands = stands.pc;
 }
 
-pub stops : (s : GplState) (y : MachineState) → Stands y 0x22B8 → StoppedBy s Opcode (view y) → IsHalted s Opcode y
-stops s y stands h = record {
-  cells = cells_of y.cpu.memory ∙ h.ended.cells;
-  vdp = ap (λ (d : VdpState). d.memory) (vdp_of y.cpu.memory) ∙ h.ended.vdp;
-  registers = ap (λ (d : VdpState). d.registers) (vdp_of y.cpu.memory) ∙ h.ended.registers;
-  wp = stands.wp;
-  address = holds_register y.cpu.memory 1 stands.machine.memory (lit< tt) ∙ ap Gives h.ended.address;
-  stands = (stands.pc, holds_register y.cpu.memory 0 stands.machine.memory (lit< tt) ∙ ap Gives h.reason_is);
-}
+-- where a program stops by another reason than EXIT
+stands_by : (reason : Reason) (y : MachineState) → (reason ≡ Exit → ⊥) → (y.cpu.pc ≡ 0x22B8) × HoldsRegister y.cpu.memory 0 (number_of reason) → StandsBy reason y
+stands_by Exit y other h = absurd (other refl)
+stands_by Opcode y other h = h
+stands_by Cell y other h = h
+stands_by Stack y other h = h
+stands_by Length y other h = h
+stands_by Register y other h = h
 
-pub bars : (s : GplState) (y : MachineState) → Stands y 0x22B8 → StoppedBy s Cell (view y) → IsHalted s Cell y
-bars s y stands h = record {
+pub stops : (s : GplState) (reason : Reason) (y : MachineState) → (reason ≡ Exit → ⊥) → Stands y 0x22B8 → StoppedBy s reason (view y) → IsHalted s reason y
+stops s reason y other stands h = record {
   cells = cells_of y.cpu.memory ∙ h.ended.cells;
   vdp = ap (λ (d : VdpState). d.memory) (vdp_of y.cpu.memory) ∙ h.ended.vdp;
   registers = ap (λ (d : VdpState). d.registers) (vdp_of y.cpu.memory) ∙ h.ended.registers;
   wp = stands.wp;
   address = holds_register y.cpu.memory 1 stands.machine.memory (lit< tt) ∙ ap Gives h.ended.address;
-  stands = (stands.pc, holds_register y.cpu.memory 0 stands.machine.memory (lit< tt) ∙ ap Gives h.reason_is);
+  stands = stands_by reason y other (stands.pc, holds_register y.cpu.memory 0 stands.machine.memory (lit< tt) ∙ ap Gives h.reason_is);
 }
 
 -- ---- turns

@@ -10,13 +10,14 @@ use Rattle.gpl_defs.specs.declared.instruction.GplOperation.TheVariants as opera
 use Rattle.gpl_defs.specs.Reading.{operand_at}
 use Rattle.native_interp.specs.Entries.{row_entry}
 use Rattle.step_defs.specs.declared.reason.Reason.{Reason}
-use Rattle.step_defs.specs.declared.reason.Reason.TheVariants.{Cell}
+use Rattle.step_defs.specs.declared.reason.Reason.TheVariants.{Exit, Cell}
 use Rattle.step_defs.specs.State.{GplState}
 use Rattle.step_defs.specs.Place.{Place, place_of, value_at}
 use Rattle.step_defs.specs.Changes.{Changes, unchanged, finished}
 use Rattle.step_defs.specs.Arithmetic.{Source}
 use Rattle.step_defs.specs.Step.{step, source_of}
 use Rattle.step_defs.specs.Run.{bound}
+use Rattle.interp_defs.specs.declared.turn.Turn.{Turn}
 use Rattle.interp_defs.specs.declared.turn.Turn.TheVariants.{Stepped, Stopped}
 use Rattle.interp_defs.specs.Runs.{is_end}
 use Rattle.interp_defs.specs.Turned.{Turned}
@@ -26,10 +27,10 @@ use Rattle.sim_view.proofs.Compose.{comes_on}
 use Rattle.sim_operands.specs.Values.{number_of_space}
 use Rattle.sim_rows.specs.States.{StoppedBy, code_byte, operation_in, behind_code}
 use Rattle.sim_rows.specs.Rows.{is_row, row_width, gone_on, destination_bytes, has_source, source_read, first_of, second_by, second_of, operands_of, AtRow}
-use Rattle.sim_rows.specs.Results.{result_of, row_result, Changed, SeesResult, StartsRow, RunsRow}
+use Rattle.sim_rows.specs.Results.{result_of, row_result, Changed, SeesResult, StartsRow, RunsRow, TurnsBy, TurnsRow}
 use Rattle.sim_rows.proofs.Places.{Lies, place_lies}
 use Rattle.sim_rows.proofs.Steps.{step_row, row_after, bound_stop, bound_made}
-use Rattle.sim_rows.proofs.Ends.{matches, bars, reaches, turned_by}
+use Rattle.sim_rows.proofs.Ends.{matches, stops, reaches, turned_by}
 use Rattle.sim_rows.proofs.Loading.{first_visible}
 use Rattle.sim_rows.proofs.Operands.{value_same}
 
@@ -162,7 +163,7 @@ module _ (s : GplState) (x : MachineState) (t : ℕ) (fits : code_byte s < 256) 
       let run : Comes 129 x y t u 0x22B8 (StoppedBy s Cell) = subst (λ (r : Reason). Comes 129 x y t u 0x22B8 (StoppedBy s r)) cell l.1 in
       let is : step s ≡ Err Cell = step_row s op.0 fits op.1 (subst (λ (o : Option GplOperation). is_row o ≡ true) op.1 row) ∙ ap (λ (r : Result (Place × Source) Reason). r >>= row_after s op.0) (e ∙ ap Err cell) in
       let b = bound_stop s Cell is in
-      turned_by x y t u 29 (Stopped Cell) s (Err Cell) is (refl, reaches 29 (bound s) run start refl (omega arith), bars s y run.stands run.holds)
+      turned_by x y t u 29 (Stopped Cell) s (Err Cell) is (refl, reaches 29 (bound s) run start refl (omega arith), stops s Cell y (λ e. cc) run.stands run.holds)
 
   pub stopped_row : (y : MachineState) (u : ℕ) (told : Option GplOperation) → told ≡ None → StartsRow s x y t u told (operands_of s) → Turned s 29 x y t u (Stopped Cell)
   stopped_row y u told none l = stopped_by y u told none (operands_of s) refl l
@@ -179,6 +180,31 @@ module _ (s : GplState) (x : MachineState) (t : ℕ) (fits : code_byte s < 256) 
       let b = bound_row s (finished c) op e row2 step_is in
       turned_by x y t u 29 Stepped s (Ok (finished c)) step_is (refl, reaches 29 (bound s) run start refl (omega arith), matches (finished c) y run.stands run.holds)
   made y u most place source op e is le (Err reason) f run = absurd (run.holds)
+
+  -- a row that may stop, by what was made of the operands
+  turned_as : (y : MachineState) (u most : ℕ) (place : Place) (source : Source) (op : GplOperation) (turn : Turn) → operation_in s ≡ Some op → operands_of s ≡ Ok (place, source) → most ≤ 371 →
+      (r : Result Changes Reason) → row_result op s place source ≡ r → ((reason : Reason) → r ≡ Err reason → reason ≡ Exit → ⊥) → TurnsBy most s x y t u turn r → Turned s 29 x y t u turn
+  turned_as y u most place source op turn e is le (Ok c) f other run =
+      subst (λ (a : Turn). Turned s 29 x y t u a) (sym run.0) (made y u most place source op e is (omega arith) (Ok c) f run.1)
+  turned_as y u most place source op turn e is le (Err reason) f other run =
+      let same : value_at (gone_on s) (row_width s) place ≡ value_at s (row_width s) place = value_same (gone_on s) s (row_width s) place refl refl in
+      let after : row_after s op (place, source) ≡ Err reason =
+      ap (λ (n : ℕ). result_of op (row_width s) place n source (unchanged (gone_on s)) >>= λ (c : Changes). Ok (finished c)) same ∙ ap (λ (r : Result Changes Reason). r >>= λ (c : Changes). Ok (finished c)) f in
+      let row2 : is_row (Some op) ≡ true = subst (λ (o : Option GplOperation). is_row o ≡ true) e row in
+      let step_is : step s ≡ Err reason = step_row s op fits e row2 ∙ ap (λ (r : Result (Place × Source) Reason). r >>= row_after s op) is ∙ after in
+      let b = bound_stop s reason step_is in
+      turned_by x y t u 29 turn s (Err reason) step_is (run.0, reaches 29 (bound s) run.1 start refl (omega arith), stops s reason y (other reason refl) run.1.stands run.1.holds)
+
+  ends_as : (op : GplOperation) (y z : MachineState) (u v most : ℕ) (place : Place) (source : Source) (turn : Turn) → Comes 151 x y t u (row_entry (Some op)) (AtRow s place source) →
+      is_end (row_entry (Some op)) ≡ false → (r : Result Changes Reason) → TurnsBy most s y z u v turn r → TurnsBy (151 + most) s x z t v turn r
+  ends_as op y z u v most place source turn c entry (Ok d) h = (h.0, comes_on 151 most c h.1 entry)
+  ends_as op y z u v most place source turn c entry (Err reason) h = (h.0, comes_on 151 most c h.1 entry)
+
+  pub turned_or_stopped : (op : GplOperation) (y z : MachineState) (u v most : ℕ) (turn : Turn) (b : Started op y u) → is_end (row_entry (Some op)) ≡ false →
+      ((reason : Reason) → row_result op s b.place b.source ≡ Err reason → reason ≡ Exit → ⊥) → TurnsRow op most y z u v turn → most ≤ 220 → Turned s 29 x z t v turn
+  turned_or_stopped op y z u v most turn b entry other r le =
+      turned_as z v (151 + most) b.place b.source op turn b.is_operation b.is_both (omega arith) (row_result op s b.place b.source) refl other
+      (ends_as op y z u v most b.place b.source turn b.comes entry (row_result op s b.place b.source) (r s b.place b.source b.is_operation b.comes.holds b.is_both))
 
   pub turned_row : (op : GplOperation) (y z : MachineState) (u v most : ℕ) (b : Started op y u) → is_end (row_entry (Some op)) ≡ false → RunsRow op most y z u v → most ≤ 260 → Turned s 29 x z t v Stepped
   turned_row op y z u v most b entry r le =

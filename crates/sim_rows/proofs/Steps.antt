@@ -1,15 +1,16 @@
 -- The step of GPL by the operation of its code byte.
-use Rattle.std.proofs.Common.{◌≡◌, ℕ, ◌<◌, Bool, true, false, refl, sym, ap, ◌∙◌, List, Option, Some, None, Result, Ok, Err}
-use Rattle.std.specs.Prelude.{◌==◌, ◌&&◌, not, nat_lt, if◌then◌else◌}
-use Rattle.console_defs.specs.Words.{plus}
+use Rattle.std.proofs.Common.{◌≡◌, ℕ, ◌%◌, ◌<◌, Bool, true, false, refl, sym, ap, ◌∙◌, List, Option, Some, None, Result, Ok, Err}
+use Rattle.std.specs.Prelude.{◌==◌, ◌&&◌, not, nat_lt, if◌then◌else◌, slice_index}
+use Rattle.console_defs.specs.Grom.{next_in_grom}
+use Rattle.console_defs.specs.Words.{plus, join}
 use Rattle.console_defs.specs.Bytes.{word_in}
 use Rattle.gpl_defs.specs.declared.instruction.GplOperand.{GplOperand}
 use Rattle.source_defs.specs.Refusals.{◌>>=◌}
-use Rattle.gpl_defs.specs.declared.instruction.PlainOp.TheVariants.{EXIT}
-use Rattle.gpl_defs.specs.declared.instruction.GoOp.TheVariants.{B}
+use Rattle.gpl_defs.specs.declared.instruction.PlainOp.{PlainOp}
+use Rattle.gpl_defs.specs.declared.instruction.ByteOp.TheVariants.{RAND}
+use Rattle.gpl_defs.specs.declared.instruction.GoOp.{GoOp}
 use Rattle.gpl_defs.specs.declared.instruction.TwoName.{TwoName}
 use Rattle.gpl_defs.specs.declared.instruction.OneName.{OneName}
-use Rattle.gpl_defs.specs.declared.instruction.OneName.TheVariants.{ABS, NEG, INV, CLR, CASE, CZ, INC, DEC, INCT, DECT, FETCH, PUSH}
 use Rattle.console_defs.specs.Flags.{size_of}
 use Rattle.gpl_defs.specs.declared.instruction.GplInstr.{GplInstr}
 use Rattle.gpl_defs.specs.declared.instruction.GplOperation.{GplOperation}
@@ -18,13 +19,14 @@ use Rattle.gpl_defs.specs.declared.instruction.GplRead.{GplRead}
 use Rattle.gpl_defs.specs.Codes.{operation_at}
 use Rattle.gpl_defs.specs.Reading.{reading, read_by, instr_at, word_at, operand_at}
 use Rattle.step_defs.specs.declared.reason.Reason.{Reason}
-use Rattle.step_defs.specs.declared.reason.Reason.TheVariants.{Exit, Opcode, Cell}
+use Rattle.step_defs.specs.declared.reason.Reason.TheVariants.{Opcode, Cell}
 use Rattle.step_defs.specs.State.{GplState}
 use Rattle.step_defs.specs.Place.{Place, place_of, value_at, pointed, indexed, ranged, is_visible}
 use Rattle.step_defs.specs.Changes.{Changes, unchanged, finished}
 use Rattle.step_defs.specs.Arithmetic.{Source, two}
 use Rattle.step_defs.specs.Built.{is_built, is_built_operation}
-use Rattle.step_defs.specs.Step.{step, executed, after, one, source_of, destination_size}
+use Rattle.step_defs.specs.Flow.{in_grom_of, branched, drawn}
+use Rattle.step_defs.specs.Step.{step, executed, after, plain, jump, one, source_of, destination_size}
 use Rattle.sim_rows.specs.States.{code_byte, behind_code, operation_in}
 use Rattle.sim_rows.specs.Rows.{is_row, row_width, has_source, behind_first, source_read, next_of, gone_on, bytes_by, destination_bytes, first_of, unit}
 use Rattle.sim_rows.specs.Rows.{second_by, second_of, operands_of}
@@ -52,9 +54,9 @@ step_is s o e =
 -- an operation that is not built is no instruction that is
 unbuilt : (op : GplOperation) (code : ℕ) (image : List ℕ) (at : ℕ) → is_built_operation op ≡ false → is_built (instr_at op code image at).0 ≡ false
 unbuilt (operation.Plain op) code image at e = e
-unbuilt (operation.Byte op) code image at e = refl
+unbuilt (operation.Byte op) code image at e = e
 unbuilt (operation.Jump op) code image at e = e
-unbuilt (operation.Branch on) code image at e = refl
+unbuilt (operation.Branch on) code image at e = e
 unbuilt (operation.One op) code image at e = e
 unbuilt (operation.Two op) code image at e = e
 unbuilt (operation.Move kind) code image at e = refl
@@ -70,13 +72,31 @@ step_unbuilt s op e u =
     let instr = instr_at op (code_byte s) s.image (behind_code s) in
     step_is s (Some op) e ∙ ap (λ (b : Bool). where_built b s instr.0 instr.1) (unbuilt op (code_byte s) s.image (behind_code s) u)
 
-pub step_exit : (s : GplState) → operation_at (code_byte s) ≡ Some (operation.Plain EXIT) → step s ≡ Err Exit
-unfolding after
-step_exit s e = step_is s (Some (operation.Plain EXIT)) e
+-- ---- what is not a row
 
-pub step_jump : (s : GplState) → operation_at (code_byte s) ≡ Some (operation.Jump B) → step s ≡ Ok (record s { pc = (word_at s.image (behind_code s)).0 })
+-- an operation without operand
+pub step_plain : (s : GplState) (op : PlainOp) → operation_in s ≡ Some (operation.Plain op) →
+    step s ≡ (plain op (unchanged (record s { pc = behind_code s })) >>= λ (c : Changes). Ok (finished c))
 unfolding after
-step_jump s e = step_is s (Some (operation.Jump B)) e
+step_plain s op e = step_is s (Some (operation.Plain op)) e
+
+-- RAND, by its limit
+pub step_random : (s : GplState) → operation_in s ≡ Some (operation.Byte RAND) →
+    step s ≡ Ok (finished (drawn (slice_index s.image (behind_code s)) (unchanged (record s { pc = next_in_grom (behind_code s) }))))
+unfolding after
+step_random s e = step_is s (Some (operation.Byte RAND)) e
+
+-- B and CALL, by the address that follows
+pub step_jump : (s : GplState) (op : GoOp) → operation_in s ≡ Some (operation.Jump op) →
+    step s ≡ (let to = word_at s.image (behind_code s) in jump op to.0 (unchanged (record s { pc = to.1 })) >>= λ (c : Changes). Ok (finished c))
+unfolding after
+step_jump s op e = step_is s (Some (operation.Jump op)) e
+
+-- BR and BS, by the thirteen bits of their target
+pub step_branch : (s : GplState) (on : Bool) → operation_in s ≡ Some (operation.Branch on) →
+    step s ≡ Ok (finished (branched on (in_grom_of s.pc (join (code_byte s % 32) (slice_index s.image (behind_code s)))) (unchanged (record s { pc = next_in_grom (behind_code s) }))))
+unfolding after
+step_branch s on e = step_is s (Some (operation.Branch on)) e
 
 -- ---- rows
 
@@ -134,12 +154,11 @@ one_from s op next bytes second =
     place_of t bytes (operand_at s.image (behind_code s)).0
     >>= λ place. (second >>= λ (source : Source). (one op (row_width s) place (value_at t (row_width s) place) (unchanged t) >>= λ (c : Changes). Ok (finished c)))
 
-one_after : (s : GplState) (op : OneName) → is_built_operation (operation.One op) ≡ true → by_operation s (Some (operation.One op)) ≡ one_from s op (behind_first s) (size_of (row_width s)) (Ok unit)
+one_after : (s : GplState) (op : OneName) → by_operation s (Some (operation.One op)) ≡ one_from s op (behind_first s) (size_of (row_width s)) (Ok unit)
 unfolding after
-one_after s op built =
+one_after s op =
     let t : GplState = record s { pc = behind_first s } in
-    let instr = instr_at (operation.One op) (code_byte s) s.image (behind_code s) in
-    ap (λ (b : Bool). where_built b s instr.0 instr.1) built ∙ by t (place_of t (size_of (row_width s)) (operand_at s.image (behind_code s)).0)
+    by t (place_of t (size_of (row_width s)) (operand_at s.image (behind_code s)).0)
   where
     by : (t : GplState) (first : Result Place Reason) →
         ((first >>= λ place. one op (row_width s) place (value_at t (row_width s) place) (unchanged t)) >>= λ (c : Changes). Ok (finished c))
@@ -147,31 +166,17 @@ one_after s op built =
     by t (Ok place) = refl
     by t (Err reason) = refl
 
-pub step_one : (s : GplState) (op : OneName) → operation_in s ≡ Some (operation.One op) → has_source s ≡ false → is_built_operation (operation.One op) ≡ true → step s ≡ (operands_of s >>= row_after s (operation.One op))
-step_one s op e has built =
+pub step_one : (s : GplState) (op : OneName) → operation_in s ≡ Some (operation.One op) → has_source s ≡ false → step s ≡ (operands_of s >>= row_after s (operation.One op))
+step_one s op e has =
     let next : next_of s ≡ behind_first s = ap (next_by s) has in
     let bytes : destination_bytes s ≡ size_of (row_width s) = ap (λ (o : Option GplOperation). bytes_by o (row_width s)) e in
     let second : second_of s ≡ Ok unit = ap (λ (b : Bool). second_by b s) has in
     step_is s (Some (operation.One op)) e
-    ∙ one_after s op built
+    ∙ one_after s op
     ∙ ap (λ (n : ℕ). one_from s op n (size_of (row_width s)) (Ok unit)) (sym next)
     ∙ ap (λ (n : ℕ). one_from s op (next_of s) n (Ok unit)) (sym bytes)
     ∙ ap (λ (r : Result Source Reason). one_from s op (next_of s) (destination_bytes s) r) (sym second)
     ∙ together (first_of s) (second_of s) (λ place source. (one op (row_width s) place (value_at (gone_on s) (row_width s) place) (unchanged (gone_on s)) >>= λ (c : Changes). Ok (finished c)))
-
-row_built : (op : OneName) → is_row (Some (operation.One op)) ≡ true → is_built_operation (operation.One op) ≡ true
-row_built ABS e = refl
-row_built NEG e = refl
-row_built INV e = refl
-row_built CLR e = refl
-row_built CASE e = absurd (cc)
-row_built CZ e = refl
-row_built INC e = refl
-row_built DEC e = refl
-row_built INCT e = refl
-row_built DECT e = refl
-row_built FETCH e = absurd (cc)
-row_built PUSH e = absurd (cc)
 
 not_is : (b : Bool) → b ≡ true → not b ≡ false
 not_is true e = refl
@@ -179,7 +184,7 @@ not_is false e = absurd (cc)
 
 -- The step of a row: its operands are found, and then it does what its operation does with them.
 pub step_row : (s : GplState) (op : GplOperation) → code_byte s < 256 → operation_in s ≡ Some op → is_row (Some op) ≡ true → step s ≡ (operands_of s >>= row_after s op)
-step_row s (operation.One op) fits e row = step_one s op e (not_is (nat_lt (code_byte s) 0xA0) (one_below (code_byte s) fits op e)) (row_built op row)
+step_row s (operation.One op) fits e row = step_one s op e (not_is (nat_lt (code_byte s) 0xA0) (one_below (code_byte s) fits op e))
 step_row s (operation.Two op) fits e row = step_two s op e (two_above (code_byte s) fits op e)
 step_row s (operation.Plain op) fits e row = absurd (cc)
 step_row s (operation.Byte op) fits e row = absurd (cc)

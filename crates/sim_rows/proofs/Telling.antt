@@ -4,7 +4,6 @@ use Rattle.console_defs.specs.Flags.{Width, size_of}
 use Rattle.console_defs.specs.Grom.{GromState, previous_in_grom}
 use Rattle.console_defs.proofs.GromLaws.{previous-next}
 use Rattle.console_defs.specs.Machine.{MachineState}
-use Rattle.gpl_defs.specs.declared.instruction.OneName.TheVariants.{CASE, FETCH, PUSH}
 use Rattle.gpl_defs.specs.declared.instruction.TwoName.TheVariants.{MUL, DIV}
 use Rattle.gpl_defs.specs.declared.instruction.GplOperation.{GplOperation}
 use Rattle.gpl_defs.specs.declared.instruction.GplOperation.TheVariants as operation
@@ -29,9 +28,6 @@ wide_bytes : (o : Option GplOperation) (w : Width) → is_row o ≡ true → ope
 wide_bytes (Some (operation.Two MUL)) w row e = refl
 wide_bytes (Some (operation.Two DIV)) w row e = refl
 wide_bytes (Some (operation.Two _)) w row e = absurd (omega arith)
-wide_bytes (Some (operation.One CASE)) w row e = absurd (cc)
-wide_bytes (Some (operation.One FETCH)) w row e = absurd (cc)
-wide_bytes (Some (operation.One PUSH)) w row e = absurd (cc)
 wide_bytes (Some (operation.One _)) w row e = absurd (omega arith)
 wide_bytes _ w row e = absurd (cc)
 
@@ -40,9 +36,6 @@ narrow_bytes : (o : Option GplOperation) (w : Width) → is_row o ≡ true → (
 narrow_bytes (Some (operation.Two MUL)) w row n = absurd (n refl)
 narrow_bytes (Some (operation.Two DIV)) w row n = absurd (n refl)
 narrow_bytes (Some (operation.Two _)) w row n = (refl, refl)
-narrow_bytes (Some (operation.One CASE)) w row n = absurd (cc)
-narrow_bytes (Some (operation.One FETCH)) w row n = absurd (cc)
-narrow_bytes (Some (operation.One PUSH)) w row n = absurd (cc)
 narrow_bytes (Some (operation.One _)) w row n = (refl, refl)
 narrow_bytes _ w row n = absurd (cc)
 

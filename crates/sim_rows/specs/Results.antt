@@ -10,6 +10,8 @@ use Rattle.step_defs.specs.Place.{Place, value_at}
 use Rattle.step_defs.specs.Changes.{Changes, unchanged, with_value, finished}
 use Rattle.step_defs.specs.Arithmetic.{Source, two}
 use Rattle.step_defs.specs.Step.{one}
+use Rattle.interp_defs.specs.declared.turn.Turn.{Turn}
+use Rattle.interp_defs.specs.declared.turn.Turn.TheVariants.{Stepped, Stopped}
 use Rattle.native_interp.specs.declared.addresses.TheConstants.{GSTEP, GSTOP}
 use Rattle.native_interp.specs.Entries.{row_entry}
 use Rattle.sim_view.specs.View.{View, view}
@@ -78,3 +80,15 @@ RunsRow operation most x y before after =
     (s : GplState) → (place : Place) → (source : Source) → operation_in s ≡ Some operation → AtRow s place source (view x)
     → operands_of s ≡ Ok (place, source)
     → Comes most x y before after GSTEP (SeesResult (row_result operation s place source))
+
+-- The same of a row that may stop, with its answer.
+abbrev pub TurnsBy : ℕ → GplState → MachineState → MachineState → ℕ → ℕ → Turn → Result Changes Reason → Type 0
+TurnsBy most s x y before after turn (Ok c) = (turn ≡ Stepped) × Comes most x y before after GSTEP (SeesFinished c)
+TurnsBy most s x y before after turn (Err reason) =
+    (turn ≡ Stopped reason) × Comes most x y before after GSTOP (StoppedBy s reason)
+
+abbrev pub TurnsRow : GplOperation → ℕ → MachineState → MachineState → ℕ → ℕ → Turn → Type 0
+TurnsRow operation most x y before after turn =
+    (s : GplState) → (place : Place) → (source : Source) → operation_in s ≡ Some operation → AtRow s place source (view x)
+    → operands_of s ≡ Ok (place, source)
+    → TurnsBy most s x y before after turn (row_result operation s place source)

@@ -4,7 +4,6 @@ use Rattle.std.specs.Prelude.{Option, Some, None, Result, Ok, Err}
 use Rattle.console_defs.specs.Flags.{Width, size_of}
 use Rattle.console_defs.specs.Machine.{MachineState}
 use Rattle.source_defs.specs.Refusals.{◌>>=◌}
-use Rattle.gpl_defs.specs.declared.instruction.OneName.TheVariants.{CASE, FETCH, PUSH}
 use Rattle.gpl_defs.specs.declared.instruction.GplOperation.{GplOperation}
 use Rattle.gpl_defs.specs.declared.instruction.GplOperation.TheVariants.{One, Two}
 use Rattle.gpl_defs.specs.declared.instruction.GplSource.{GplSource}
@@ -23,9 +22,6 @@ use Rattle.sim_rows.specs.States.{Sees, StoppedBy, code_byte, operation_in, behi
 
 -- The operations whose operands are loaded in one way, before a second table leads on to the row of each.
 abbrev pub is_row : Option GplOperation → Bool
-is_row (Some (One CASE)) = false
-is_row (Some (One FETCH)) = false
-is_row (Some (One PUSH)) = false
 is_row (Some (One op)) = true
 is_row (Some (Two op)) = true
 is_row _ = false

@@ -1,1 +1,1 @@
-pub use Rattle.report_defs.specs.Dump
+pub mod Plays

@@ -1,10 +1,17 @@
-//! What a machine looks like, line by line, to any sink, and the lines of a GPL program. Nothing takes memory.
+//! What a machine looks like, line by line, to any sink, and the lines of a GPL program: those of its steps, of its end and of
+//! its state. Nothing takes memory but [`Seen::new`].
 #![tactic(auto)]
 
+mod line;
 mod parts;
+mod play;
 mod rows;
+mod seen;
 mod state;
 mod workspace;
 
+pub use line::trace_line;
 pub use parts::dump;
+pub use play::play;
+pub use seen::{Seen, changes};
 pub use state::{state_line, stop_line};

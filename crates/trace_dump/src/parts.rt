@@ -62,7 +62,7 @@ fn vdp_registers_line(vdp: &Vdp) -> Line
 }
 
 /// The eight registers of the video processor.
-fn vdp_registers(vdp: &Vdp) -> [u8; 8]
+pub(crate) fn vdp_registers(vdp: &Vdp) -> [u8; 8]
     ensures { result ≡ vdp.now.registers }
 {
     vdp.holds_bounds();

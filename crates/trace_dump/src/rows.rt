@@ -5,6 +5,7 @@ ghost use Rattle.report_defs.specs.Rows as rows;
 ghost use Rattle.bench_io.specs.Written.{Written};
 
 use bench_io::{Failed, Sink, put_piece};
+use lane_scan::rows_equal;
 use report_lines::{Line, append_spaced, append_word};
 
 /// Writes bytes in rows of 16, of which the first stands at an address; a run of rows that equal the row before them is
@@ -54,7 +55,7 @@ fn is_repeated(bytes: &[u8], number: usize) -> bool
     requires { number < length bytes.now / 16 }
     ensures { result ≡ rows.is_repeated bytes.now number }
 {
-    number > 0 && row(bytes, number - 1) == row(bytes, number)
+    number > 0 && rows_equal(bytes, number - 1, number)
 }
 
 /// The row of 16 bytes with a number.

@@ -21,12 +21,23 @@ pub fn state_line(session: &Session) -> ArrayString<120>
 {
     let mut line = ArrayString::new();
     line.push_str("gpl ");
-    push_word(&mut line, session.pc());
-    push_cell(&mut line, " S", visible_cell(session, STATUS));
-    push_cell(&mut line, " D", visible_cell(session, VALUE_STACK));
-    push_cell(&mut line, " R", visible_cell(session, RETURN_STACK));
+    push_state(&mut line, session);
     line.push('\n');
     line
+}
+
+/// Appends the address of the next code byte, or of the one that ended the program, and its status and the pointers of its two
+/// stacks.
+#[tactic(auto, using(std::proofs::Common::append_assoc), unfolding(report_defs::specs::Program::state_text))]
+pub(crate) fn push_state(line: &mut ArrayString<120>, session: &Session)
+    requires { array_string_len line.old + 17 ≤ 120 }
+    ensures text { line.new.bytes ≡ line.old.bytes ++ spec.state_text (seen session.now) }
+    ensures size { array_string_len line.new ≡ array_string_len line.old + 17 }
+{
+    push_word(line, session.pc());
+    push_cell(line, " S", visible_cell(session, STATUS));
+    push_cell(line, " D", visible_cell(session, VALUE_STACK));
+    push_cell(line, " R", visible_cell(session, RETURN_STACK));
 }
 
 /// The visible cell with a number.
@@ -65,14 +76,24 @@ fn stop_text(reason: Reason) -> &'static str
 }
 
 /// Appends a cell by its two hexadecimal digits, behind a label.
-#[tactic(auto, using(std::proofs::Common::append_assoc), unfolding(source_defs::specs::Digits::byte_digits))]
+#[tactic(auto, using(std::proofs::Common::append_assoc))]
 fn push_cell(line: &mut ArrayString<120>, label: &str, byte: u8)
     requires { array_string_len line.old + length label.now + 2 ≤ 120 }
     ensures text { line.new.bytes ≡ line.old.bytes ++ (label.now ++ byte_digits byte) }
     ensures size { array_string_len line.new ≡ array_string_len line.old + length label.now + 2 }
 {
-    let [first, second] = byte_digits(byte);
     line.push_str(label);
+    push_byte_digits(line, byte);
+}
+
+/// Appends the two hexadecimal digits of a byte.
+#[tactic(auto, using(std::proofs::Common::append_assoc), unfolding(source_defs::specs::Digits::byte_digits))]
+pub(crate) fn push_byte_digits(line: &mut ArrayString<120>, byte: u8)
+    requires { array_string_len line.old + 2 ≤ 120 }
+    ensures text { line.new.bytes ≡ line.old.bytes ++ byte_digits byte }
+    ensures size { array_string_len line.new ≡ array_string_len line.old + 2 }
+{
+    let [first, second] = byte_digits(byte);
     line.push(char::from(first));
     line.push(char::from(second));
 }

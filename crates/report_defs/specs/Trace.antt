@@ -1,0 +1,65 @@
+-- What `trace` shows of each step: its number, the state before it with the instruction there, and what it changed.
+use Rattle.std.specs.Prelude.{ℕ, ◌+◌, ◌-◌, List, [], ◌∷◌, ◌++◌, codes, length, map, replicate, slice_index}
+use Rattle.std.specs.Prelude.{Option, Some, None}
+use Rattle.std.specs.List.{range_with_len}
+use Rattle.std.specs.Fmt.{decimal}
+use Rattle.source_defs.specs.Digits.{marked_word, byte_digits}
+use Rattle.gpl_defs.specs.Reading.{reading}
+use Rattle.listing_defs.specs.Texts.{read_text}
+use Rattle.step_defs.specs.State.{GplState}
+use Rattle.step_defs.specs.Run.{run}
+use Rattle.lane_scan.specs.Plain.{first_difference, count_differences}
+use Rattle.report_defs.specs.Program.{state_text}
+
+-- Profile: the number of a step stands right in six places.
+unfoldable pub number_text : ℕ → List ℕ
+number_text number = replicate (6 - length (decimal number)) 0x20 ++ decimal number
+
+-- Profile: the line of a step begins with its number, the state before it, and the instruction there.
+unfoldable pub step_front : ℕ → GplState → List ℕ
+step_front number s = number_text number ++ (codes " " ++ (state_text s ++ (codes " " ++ read_text (reading s.image s.pc) s.pc)))
+
+-- Profile: of bytes that changed the line shows how many they are, the place of the first, and the new byte there.
+abbrev pub changed_from : List ℕ → List ℕ → ℕ → List ℕ → Option ℕ → List ℕ
+changed_from label place count after None = []
+changed_from label place count after (Some at) =
+    label ++ (decimal count ++ (codes " " ++ (place ++ (codes "=" ++ byte_digits (slice_index after at)))))
+
+abbrev pub place_of : (ℕ → List ℕ) → Option ℕ → List ℕ
+place_of place None = []
+place_of place (Some at) = place at
+
+unfoldable pub changed_text : List ℕ → (ℕ → List ℕ) → List ℕ → List ℕ → List ℕ
+changed_text label place before after =
+    let first = first_difference before after in
+    changed_from label (place_of place first) (count_differences before after) after first
+
+-- Profile: visible cells are shown by their addresses, as those of video memory are, and registers by their digits.
+abbrev pub cell_place : ℕ → List ℕ
+cell_place at = marked_word (0x8300 + at)
+
+abbrev pub register_place : ℕ → List ℕ
+register_place at = (0x30 + at) ∷ []
+
+-- what an instruction can change of a state, but for its pc
+pub record SeenState : Type 0 where
+  pub cells : List ℕ
+  pub vdp : List ℕ
+  pub registers : List ℕ
+
+abbrev pub seen_state : GplState → SeenState
+seen_state s = record { cells = s.cells; vdp = s.vdp; registers = s.registers }
+
+unfoldable pub changes_text : SeenState → SeenState → List ℕ
+changes_text before after =
+    changed_text (codes " C") cell_place before.cells after.cells
+    ++ (changed_text (codes " V") marked_word before.vdp after.vdp
+    ++ changed_text (codes " W") register_place before.registers after.registers)
+
+-- the line of a step from one state to the next
+abbrev pub step_line : ℕ → GplState → GplState → List ℕ
+step_line number s next = step_front number s ++ (changes_text (seen_state s) (seen_state next) ++ codes "\n")
+
+-- The lines of so many steps from a state on, numbered from 1.
+unfoldable pub step_lines : GplState → ℕ → List (List ℕ)
+step_lines s count = map (λ made. step_line (made + 1) (run made s).last (run (made + 1) s).last) (range_with_len 0 count)

@@ -1,0 +1,49 @@
+//! The front of the line of a step.
+
+ghost use Rattle.std.specs.Prelude.{◌≡◌, ◌≤◌, ◌+◌, ◌++◌, None, length, codes};
+ghost use Rattle.arrayvec.specs.ArrayString.{array_string_len};
+ghost use Rattle.gpl_run.specs.Sessions.{seen};
+ghost use Rattle.report_defs.specs.Trace as spec;
+
+use crate::state::push_state;
+use arrayvec::ArrayString;
+use gpl_disasm::push_standing;
+use gpl_run::Session;
+use itoa::Buffer;
+
+/// How many places the number of a step has.
+const NUMBER_PLACES: usize = 6;
+
+/// The front of the line of the step that a running program is about to make: its number, which is up to 100,000, the state
+/// before it, and the text of the instruction there. It has at most 77 characters.
+#[tactic(auto, using(std::proofs::Common::append_assoc), unfolding(report_defs::specs::Trace::step_front))]
+pub fn trace_line(session: &Session, number: u32) -> ArrayString<120>
+    requires running { session.now.ended ≡ None }
+    requires number { number ≤ 100000 }
+    ensures text { result.bytes ≡ spec.step_front number (seen session.now) }
+    ensures size { array_string_len result ≤ 77 }
+{
+    let mut line = ArrayString::new();
+    push_number(&mut line, number);
+    line.push(' ');
+    push_state(&mut line, session);
+    line.push(' ');
+    push_standing(&mut line, session.machine().bus().grom().image(), session.pc());
+    line
+}
+
+/// Appends the number of a step, right in six places.
+#[tactic(auto, unfolding(report_defs::specs::Trace::number_text))]
+fn push_number(line: &mut ArrayString<120>, number: u32)
+    requires number { number ≤ 100000 }
+    requires room { array_string_len line.old + 6 ≤ 120 }
+    ensures text { line.new.bytes ≡ line.old.bytes ++ spec.number_text number }
+    ensures size { array_string_len line.new ≡ array_string_len line.old + 6 }
+{
+    let mut buffer = Buffer::new();
+    let digits = buffer.format(number);
+    for _ in digits.len()..NUMBER_PLACES {
+        line.push(' ');
+    }
+    line.push_str(digits);
+}
