@@ -4,6 +4,7 @@ use Rattle.std.specs.Prelude.{
   ℕ,
   ◌+◌,
   ◌*◌,
+  ◌/◌,
   ◌<◌,
   Bool,
   true,
@@ -20,8 +21,9 @@ use Rattle.std.specs.Prelude.{
   Some,
   None,
 }
-use Rattle.gpl_defs.specs.declared.instruction.PlainOp.TheVariants.{H, GT, EXIT, CARRY, OVF}
-use Rattle.gpl_defs.specs.declared.instruction.GoOp.TheVariants.{B}
+use Rattle.gpl_defs.specs.declared.instruction.PlainOp.TheVariants.{RTN, RTNC, H, GT, EXIT, CARRY, OVF}
+use Rattle.gpl_defs.specs.declared.instruction.ByteOp.TheVariants.{RAND}
+use Rattle.gpl_defs.specs.declared.instruction.GoOp.TheVariants.{B, CALL}
 use Rattle.gpl_defs.specs.declared.instruction.OneName.TheVariants.{
   ABS,
   NEG,
@@ -58,7 +60,7 @@ use Rattle.gpl_defs.specs.declared.instruction.TwoName.TheVariants.{
   SRC,
 }
 use Rattle.gpl_defs.specs.declared.instruction.GplOperation.{GplOperation}
-use Rattle.gpl_defs.specs.declared.instruction.GplOperation.TheVariants.{Plain, Jump, One, Two}
+use Rattle.gpl_defs.specs.declared.instruction.GplOperation.TheVariants.{Plain, Byte, Jump, Branch, One, Two}
 use Rattle.gpl_defs.specs.Codes.{operation_at}
 use Rattle.step_defs.specs.Built.{is_built_operation}
 use Rattle.native_interp.specs.declared.addresses.TheConstants.{
@@ -103,6 +105,13 @@ use Rattle.native_interp.specs.declared.addresses.TheConstants.{
   GOGT,
   GOCARY,
   GOOVF,
+  BRANCH,
+  CASEV,
+  PUSHV,
+  GOCALL,
+  GORTN,
+  FETCHV,
+  GORAND,
 }
 use Rattle.native_interp.specs.Words.{origin, routines, words, word_at}
 
@@ -121,15 +130,17 @@ RoutinesStand = follow origin routines ≡ true
 -- Where the instruction of an operation begins: its own place, or that of the operands of all rows, where MUL and DIV have a
 -- wider destination. What is not built stops as a code byte does that is no instruction's.
 abbrev pub operation_entry : Option GplOperation → ℕ
+operation_entry (Some (Plain RTN)) = GORTN
+operation_entry (Some (Plain RTNC)) = GORTN
 operation_entry (Some (Plain H)) = GOH
 operation_entry (Some (Plain GT)) = GOGT
 operation_entry (Some (Plain EXIT)) = GOEXIT
 operation_entry (Some (Plain CARRY)) = GOCARY
 operation_entry (Some (Plain OVF)) = GOOVF
+operation_entry (Some (Byte RAND)) = GORAND
 operation_entry (Some (Jump B)) = GOB
-operation_entry (Some (One CASE)) = UNKN
-operation_entry (Some (One FETCH)) = UNKN
-operation_entry (Some (One PUSH)) = UNKN
+operation_entry (Some (Jump CALL)) = GOCALL
+operation_entry (Some (Branch on)) = BRANCH
 operation_entry (Some (One op)) = ROW
 operation_entry (Some (Two MUL)) = WIDE
 operation_entry (Some (Two DIV)) = WIDE
@@ -142,11 +153,14 @@ row_entry (Some (One ABS)) = ABSV
 row_entry (Some (One NEG)) = NEGV
 row_entry (Some (One INV)) = INVV
 row_entry (Some (One CLR)) = CLRV
+row_entry (Some (One CASE)) = CASEV
 row_entry (Some (One CZ)) = CZV
 row_entry (Some (One INC)) = ADDV
 row_entry (Some (One DEC)) = SUBV
 row_entry (Some (One INCT)) = INCTV
 row_entry (Some (One DECT)) = DECTV
+row_entry (Some (One FETCH)) = FETCHV
+row_entry (Some (One PUSH)) = PUSHV
 row_entry (Some (Two ADD)) = ADDV
 row_entry (Some (Two SUB)) = SUBV
 row_entry (Some (Two MUL)) = MULV
@@ -179,6 +193,8 @@ pub record CodesAreDispatched : Type 0 where
   pub entries : (code : ℕ) → code < 256 → word_at (TABLE + 2 * code) ≡ operation_entry (operation_at code)
   pub stops : (code : ℕ) → code < 256 → nat_eq (operation_entry (operation_at code)) UNKN ≡ not (is_built_code (operation_at code))
 
--- The second has one for two code bytes, from >80 to >EB. It is read at either: a word's address loses its lowest bit.
+-- The second has one for two code bytes, from >80 to >EB. It is read at either: a word's address loses its lowest bit. So
+-- an odd code that is no operation's, such as the one behind FETCH, has the word of the code before it.
 abbrev pub RowsAreDispatched : Type 0
-RowsAreDispatched = (code : ℕ) → code < 0x6C → word_at (OPTAB + code) ≡ row_entry (operation_at (0x80 + code))
+RowsAreDispatched =
+    (code : ℕ) → code < 0x6C → word_at (OPTAB + code) ≡ row_entry (operation_at (0x80 + code / 2 * 2))

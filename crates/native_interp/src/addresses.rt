@@ -245,3 +245,81 @@ pub const CTRUE: u16 = 0x2618;
 
 /// Clears the condition.
 pub const CFALSE: u16 = 0x2624;
+
+/// The instructions BR and BS.
+pub const BRANCH: u16 = 0x2630;
+
+/// The part of BR and BS that tests the condition.
+pub const BTEST: u16 = 0x2646;
+
+/// Clears the condition and goes on at an address.
+pub const TAKE: u16 = 0x265E;
+
+/// The row of CASE.
+pub const CASEV: u16 = 0x266A;
+
+/// The part of CASE behind the next address.
+pub const CASEN: u16 = 0x2676;
+
+/// Goes on in the table of CASE.
+pub const CASET: u16 = 0x267E;
+
+/// The row of PUSH.
+pub const PUSHV: u16 = 0x2682;
+
+/// Goes to the stop by reason 3.
+pub const FULL: u16 = 0x26A0;
+
+/// The instruction CALL.
+pub const GOCALL: u16 = 0x26A4;
+
+/// The part of CALL behind its target: the pointer of the stack.
+pub const CALLT: u16 = 0x26AE;
+
+/// The part of CALL behind the next address.
+pub const CALLN: u16 = 0x26C8;
+
+/// Stores the pointer and the address of CALL.
+pub const CALLS: u16 = 0x26CE;
+
+/// Ends CALL and FETCH: goes on at the address that was kept.
+pub const RESUME: u16 = 0x26DC;
+
+/// The instructions RTN and RTNC.
+pub const GORTN: u16 = 0x26E6;
+
+/// The part of RTN and RTNC behind the stacked address.
+pub const RTNP: u16 = 0x2700;
+
+/// The row of FETCH.
+pub const FETCHV: u16 = 0x2710;
+
+/// The part of FETCH behind the next address.
+pub const FETCHN: u16 = 0x2724;
+
+/// Loads the stacked address of FETCH.
+pub const FETCHP: u16 = 0x272A;
+
+/// Sets the GROM to the stacked address.
+pub const FETCHA: u16 = 0x2736;
+
+/// Reads the byte of FETCH.
+pub const FETCHR: u16 = 0x273A;
+
+/// Keeps the byte of FETCH.
+pub const FETCHK: u16 = 0x273E;
+
+/// The part of FETCH behind the address that follows its byte.
+pub const FETCHB: u16 = 0x2744;
+
+/// Stores the address that follows the byte of FETCH.
+pub const FETCHS: u16 = 0x274A;
+
+/// Stores the byte of FETCH.
+pub const FETCHD: u16 = 0x2750;
+
+/// The instruction RAND.
+pub const GORAND: u16 = 0x2762;
+
+/// The part of RAND behind the seed: the limit.
+pub const RANDL: u16 = 0x2780;

@@ -12,8 +12,8 @@ use Rattle.step_defs.proofs.Rows.{program, cells_of}
 abbrev stored : GplState
 stored = program (0xBE ∷ 0 ∷ 5 ∷ 0x0B ∷ [])
 
--- ST @>8300,5; B >1234; EXIT; RTN, which is not built; >0F, which is no instruction's
-pub built_operations : map (λ bytes. cells_of (0 ∷ []) (step (program bytes))) ((0xBE ∷ 0 ∷ 5 ∷ []) ∷ (5 ∷ 0x12 ∷ 0x34 ∷ []) ∷ (0x0B ∷ []) ∷ (0 ∷ []) ∷ (0x0F ∷ []) ∷ [])
+-- ST @>8300,5; B >1234; EXIT; BACK 0, which is not built; >0F, which is no instruction's
+pub built_operations : map (λ bytes. cells_of (0 ∷ []) (step (program bytes))) ((0xBE ∷ 0 ∷ 5 ∷ []) ∷ (5 ∷ 0x12 ∷ 0x34 ∷ []) ∷ (0x0B ∷ []) ∷ (4 ∷ 0 ∷ []) ∷ (0x0F ∷ []) ∷ [])
     ≡ Ok (3 ∷ 5 ∷ []) ∷ Ok (0x1234 ∷ 0 ∷ []) ∷ Err Exit ∷ Err Opcode ∷ Err Opcode ∷ []
 unfolding zeros reading operand_at after
 built_operations = refl
@@ -28,8 +28,8 @@ pub stop_within_a_limit : map (λ limit. (run limit stored).stop) (1 ∷ 2 ∷ [
 unfolding zeros reading operand_at after
 stop_within_a_limit = refl
 
--- ST; EXIT; RTN, which is not built
-pub bounds : map (λ bytes. bound (program bytes)) ((0xBE ∷ 0 ∷ 5 ∷ []) ∷ (0x0B ∷ []) ∷ (0 ∷ []) ∷ []) ≡ 440 ∷ 400 ∷ 400 ∷ []
+-- ST; EXIT; BACK, which is not built
+pub bounds : map (λ bytes. bound (program bytes)) ((0xBE ∷ 0 ∷ 5 ∷ []) ∷ (0x0B ∷ []) ∷ (4 ∷ 0 ∷ []) ∷ []) ≡ 440 ∷ 400 ∷ 400 ∷ []
 unfolding zeros reading operand_at after
 bounds = refl
 
