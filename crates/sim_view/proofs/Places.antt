@@ -8,7 +8,7 @@ use Rattle.sim_view.proofs.Seen.{Spot, spot, Reg, Code, Cell, Spare, AtThePort, 
 
 abbrev pub Agrees : Spot → Region → Type 0
 Agrees (Reg k) r = (k < 16) × (r ≡ Scratchpad (224 + 2 * k))
-Agrees (Code k) r = (k < 792) × (r ≡ LowExpansion (2 * k))
+Agrees (Code k) r = (k < 971) × (r ≡ LowExpansion (2 * k))
 Agrees (Cell i) r = (i < 194) × (r ≡ Scratchpad i)
 Agrees (Spare k) r = (k < 15) × (r ≡ Scratchpad (194 + 2 * k))
 Agrees (AtThePort p) r = r ≡ PortOf p
