@@ -16,7 +16,7 @@ use Rattle.sim_view.specs.View.{View, view}
 use Rattle.sim_view.specs.Exits.{Exit, Exits, Comes}
 use Rattle.sim_view.proofs.Compose.{Goes, comes, comes_then}
 use Rattle.sim_operands.specs.Pieces as operands
-use Rattle.sim_operands.specs.Pieces.{exit, past, set_to}
+use Rattle.sim_operands.specs.Pieces.{exit, return_of, past, set_to}
 use Rattle.sim_operands.specs.Subroutines.{grom_at}
 use Rattle.sim_operands.proofs.Ready.{set_is}
 use Rattle.sim_rows.specs.Pieces as pieces
@@ -47,8 +47,22 @@ pub known : {d e : Exit} {most to : ℕ} {Q : View → Type 0} → d ≡ e → G
 known {most = most} {to = to} {Q = Q} is g = subst (λ (e : Exit). Goes e most to Q) (sym is) g
 
 -- GROMs whose counter was read
-abbrev lost : List ℕ → ℕ → GromState
+abbrev pub lost : List ℕ → ℕ → GromState
 lost image at = pieces.read_once (pieces.read_once (grom_at image at))
+
+-- what WHERE leaves: the address of the next byte
+abbrev pub located_at : View → List ℕ → ℕ → View
+located_at v image at =
+    record v {
+      r = record v.r { r4 = shifted SRL (shifted SLA (difference_of Word (next_in_grom at) 1) 3) 3; r6 = at };
+      grom = lost image at;
+    }
+
+pub where_found : (v : View) (image : List ℕ) (at : ℕ) → v.grom ≡ grom_at image at → at < 65536 → pieces.where_next v ≡ exit 12 (return_of v) (located_at v image at)
+where_found v image at e fits =
+    let by : GromState → Exit = λ g. pieces.where_next (record v { grom = g }) in
+    let to : ℕ → Exit = λ n. exit 12 (return_of v) (record (located_at v image at) { r = record (located_at v image at).r { r6 = n } }) in
+    ap by e ∙ ap to (back_is at fits)
 
 module _ (s : GplState) (v : View) (sees : Sees s s.pc v) (fits : s.pc < 65536) (byte : slice_index s.image s.pc < 256) where
   abbrev code : ℕ
@@ -62,10 +76,7 @@ module _ (s : GplState) (v : View) (sees : Sees s s.pc v) (fits : s.pc < 65536) 
   located = record v { r = record v.r { r4 = shifted SRL (shifted SLA (difference_of Word (next_in_grom s.pc) 1) 3) 3; r6 = s.pc; r11 = 0x2290 }; grom = lost s.image s.pc }
 
   where_is : pieces.where_next asked ≡ exit 12 0x2290 located
-  where_is =
-      let at : GromState → Exit = λ g. pieces.where_next (record asked { grom = g }) in
-      let to : ℕ → Exit = λ n. exit 12 0x2290 (record v { r = record v.r { r4 = shifted SRL (shifted SLA (difference_of Word (next_in_grom s.pc) 1) 3) 3; r6 = n; r11 = 0x2290 }; grom = lost s.image s.pc }) in
-      ap at sees.grom ∙ ap to (back_is s.pc fits)
+  where_is = where_found asked s.image s.pc sees.grom fits
 
   abbrev kept : View
   kept = (pieces.keep_address located).left

@@ -1,0 +1,27 @@
+-- The ends of steps that go on elsewhere in GROM, for all states and changes that may be there.
+use Rattle.std.specs.Prelude.{◌≡◌, ℕ, false}
+use Rattle.console_defs.specs.Machine.{MachineState}
+use Rattle.step_defs.specs.State.{GplState}
+use Rattle.step_defs.specs.Changes.{Changes, unchanged, with_pc, with_condition}
+use Rattle.native_interp.specs.declared.addresses.TheConstants.{GSTEP}
+use Rattle.sim_view.specs.View.{view}
+use Rattle.sim_view.specs.Exits.{Comes}
+use Rattle.sim_rows.specs.States.{Sees}
+use Rattle.sim_rows.specs.Results.{Changed, SeesFinished}
+
+-- A state is seen but for where GROM is: its pc is in register 6. The step ends with it.
+abbrev pub GoesOn : MachineState → MachineState → ℕ → ℕ → Type 0
+GoesOn x y before after =
+    (s : GplState) → (next : ℕ) → Sees s next (view x) → (view x).r.r6 ≡ s.pc → Comes 6 x y before after GSTEP (Sees s s.pc)
+
+-- The same, and the condition is cleared.
+abbrev pub TakesBranch : MachineState → MachineState → ℕ → ℕ → Type 0
+TakesBranch x y before after =
+    (s : GplState) → (next : ℕ) → Sees s next (view x) → (view x).r.r6 ≡ s.pc
+    → Comes 9 x y before after GSTEP (SeesFinished (with_condition false (unchanged s)))
+
+-- Changes are made, and the pc is in register 14. The row ends with them: the character goes to the screen if it is due.
+abbrev pub ResumesRow : MachineState → MachineState → ℕ → ℕ → Type 0
+ResumesRow x y before after =
+    (c : Changes) → (next : ℕ) → Changed (with_pc next c) (view x) → (view x).r.r14 ≡ c.state.pc
+    → Comes 36 x y before after GSTEP (SeesFinished c)

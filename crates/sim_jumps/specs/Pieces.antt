@@ -1,0 +1,26 @@
+-- What the pieces of a jump come to: how many instructions they have, where they end, and what they change of the view, in the
+-- words of the processor. Registers, cells and ports that are not named stay.
+use Rattle.std.specs.Prelude.{slice_index, slice_set}
+use Rattle.console_defs.specs.Flags.{Byte}
+use Rattle.console_defs.specs.Logic.{ones_cleared}
+use Rattle.step_defs.specs.declared.cells.TheConstants.{STATUS}
+use Rattle.native_interp.specs.declared.addresses.TheConstants.{GSTEP, SEEK, GOTO, SHOW}
+use Rattle.sim_view.specs.View.{View}
+use Rattle.sim_view.specs.Exits.{Exit}
+use Rattle.sim_operands.specs.Pieces.{exit}
+
+-- GOTO: GROM goes on at the address in register 6.
+abbrev pub go_on : View → Exit
+go_on v = exit 2 SEEK (record v { r = record v.r { r11 = GSTEP } })
+
+-- TAKE: the condition's bit of the status is cleared.
+abbrev pub take_branch : View → Exit
+take_branch v =
+    exit 3 GOTO (record v {
+      r = record v.r { r4 = 0x2000 };
+      cells = slice_set v.cells STATUS (ones_cleared Byte (slice_index v.cells STATUS) 0x20);
+    })
+
+-- RESUME: GROM goes on at the address in register 14, and the row ends.
+abbrev pub resume : View → Exit
+resume v = exit 3 SEEK (record v { r = record v.r { r6 = v.r.r14; r11 = SHOW } })

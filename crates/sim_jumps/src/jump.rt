@@ -1,0 +1,43 @@
+//! Jumps, from where their address is known to the end of the step.
+
+ghost use Rattle.native_interp.specs.declared.addresses.TheConstants as address;
+ghost use Rattle.interp_defs.specs.Match.{PortsAreIdle};
+ghost use Rattle.sim_view.specs.View.{Stands};
+ghost use Rattle.sim_jumps.specs.Jumps.{GoesOn, TakesBranch, ResumesRow};
+
+use crate::piece::{go_on, resume, take_branch};
+use sim_operands::seek_address;
+use sim_rows::end_row;
+use std::sync::ledger::Ledger;
+use tms_step::{Machine, Steps};
+
+/// Ends a step that goes on at the address in register 6.
+pub fn jump<L: Ledger>(machine: &mut Machine, steps: &mut Steps<L>)
+    requires { Stands machine.old address.GOTO }
+    ensures { GoesOn machine.old machine.new steps.old steps.new }
+{
+    go_on(machine, steps);
+    seek_address(machine, steps);
+}
+
+/// Clears the condition, and ends a step that goes on at the address in register 6.
+pub fn take_jump<L: Ledger>(machine: &mut Machine, steps: &mut Steps<L>)
+    requires { Stands machine.old address.TAKE }
+    ensures { TakesBranch machine.old machine.new steps.old steps.new }
+{
+    take_branch(machine, steps);
+    jump(machine, steps);
+}
+
+/// Ends a row whose results are stored, and which goes on at the address in register 14: the character goes to the screen if a
+/// byte was stored at its cell.
+pub fn resume_row<L: Ledger>(machine: &mut Machine, steps: &mut Steps<L>)
+    requires stands { Stands machine.old address.RESUME }
+    requires idle { PortsAreIdle machine.old.cpu.memory }
+    ensures { ResumesRow machine.old machine.new steps.old steps.new }
+{
+    machine.holds_bounds();
+    resume(machine, steps);
+    seek_address(machine, steps);
+    end_row(machine, steps);
+}

@@ -1,0 +1,9 @@
+//! Where GROM goes on at the end of a step that does not go on behind its instruction: a jump, a branch that is taken, and the
+//! end of a row that read elsewhere in GROM. Each is built of pieces: stretches of at most 16 instructions without a loop.
+#![tactic(auto)]
+
+mod jump;
+mod piece;
+
+pub use jump::{jump, resume_row, take_jump};
+pub use piece::{go_on, resume, take_branch};
