@@ -51,9 +51,9 @@ record Tested (s : GplState) (w : View) : Type 0 where
   to : w.r.r6 ≡ target s
 
 abbrev made_of : View → ℕ → ℕ → ℕ → ℕ
-made_of v byte code address = let w : View = record v { r = record v.r { r0 = code; r1 = address }; grom = record v.grom { fetched = byte } } in (pieces.branch_target w).left.r.r6
+made_of v byte code address = let w : View = record v { r = record v.r { r0 = code; r1 = address }; grom = record v.grom { fetched = byte } } in (pieces.find_target w).left.r.r6
 
-targets : (s : GplState) (v : View) → Dispatched s v → IsView v → slice_index s.image (behind_code s) < 256 → Goes (pieces.branch_target v) 10 0x2646 (Targeted s)
+targets : (s : GplState) (v : View) → Dispatched s v → IsView v → slice_index s.image (behind_code s) < 256 → Goes (pieces.find_target v) 10 0x2646 (Targeted s)
 targets s v d i byte =
     let h = d.sees in
     let fetched : v.grom.fetched ≡ slice_index s.image (behind_code s) = ap (λ (g : GromState). g.fetched) h.grom in
@@ -131,7 +131,7 @@ passes s w h = record {
 }
 
 module _ (s : GplState) (x a b : MachineState) (t t1 t2 : ℕ) (on : Bool) (is : operation_in s ≡ Some (Branch on)) (stands : Stands x 0x2630) (d : Dispatched s (view x))
-  (e1 : Exits x a t t1 (pieces.branch_target (view x))) (e2 : Exits a b t1 t2 (pieces.test_branch (view a))) where
+  (e1 : Exits x a t t1 (pieces.find_target (view x))) (e2 : Exits a b t1 t2 (pieces.test_branch (view a))) where
   abbrev taken : Bool
   taken = is_taken on (condition s)
 
@@ -147,7 +147,7 @@ module _ (s : GplState) (x a b : MachineState) (t t1 t2 : ℕ) (on : Bool) (is :
   at_test : Comes 10 x a t t1 0x2646 (Targeted s)
   at_test = comes e1 (targets s (view x) d bounds image_fits)
 
-  pub tested : Comes 17 x b t t2 (end_of taken) (Tested s)
+  tested : Comes 17 x b t t2 (end_of taken) (Tested s)
   tested =
       let h = at_test.holds in
       let bit = ap (λ (n : ℕ). last_out SRL n 6) h.code ∙ on_is (code_byte s) code_fits on is in
@@ -156,8 +156,8 @@ module _ (s : GplState) (x a b : MachineState) (t t1 t2 : ℕ) (on : Bool) (is :
 
   turns : (y : MachineState) (t3 most : ℕ) (c : Bool) → taken ≡ c → Comes most x y t t3 0x228C (SeesFinished (changed_by s c)) → most ≤ 26 → Turned s 29 x y t t3 Stepped
   turns y t3 most c e run le =
-      let as : changed s on ≡ changed_by s c = ap (changed_by s) e in
-      let step_is = step_branch s on is ∙ ap (λ (c : Changes). Ok (finished c)) as in
+      let same : changed s on ≡ changed_by s c = ap (changed_by s) e in
+      let step_is = step_branch s on is ∙ ap (λ (c : Changes). Ok (finished c)) same in
       let m = bound_made s (finished (changed_by s c)) (Some (Branch on)) is step_is in
       turned_by x y t t3 29 Stepped s (Ok (finished (changed_by s c))) step_is
       (refl, reaches 29 (bound s) run (ap is_end stands.pc) refl (omega arith), matches (finished (changed_by s c)) y run.stands run.holds)

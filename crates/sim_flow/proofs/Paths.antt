@@ -15,8 +15,8 @@ leave v = record { by = λ f q. refl }
 pub ask_target : (v : View) → Leads (0x23AC ∷ []) v 0x24B0 (pieces.ask_target v)
 ask_target v = record { by = λ f q. refl }
 
-pub branch_target : (v : View) → Leads (0x2646 ∷ []) v 0x2630 (pieces.branch_target v)
-branch_target v = record { by = λ f q. refl }
+pub find_target : (v : View) → Leads (0x2646 ∷ []) v 0x2630 (pieces.find_target v)
+find_target v = record { by = λ f q. refl }
 
 -- the status, above what register 4 has below it
 abbrev status_word : View → ℕ
@@ -34,16 +34,16 @@ test_branch v = record {
       (λ d. rw (c, d) refl));
 }
 
-pub case_number : (v : View) → Leads (0x22BC ∷ []) v 0x266A (pieces.case_number v)
-case_number v = record {
+pub ask_table : (v : View) → Leads (0x22BC ∷ []) v 0x266A (pieces.ask_table v)
+ask_table v = record {
   by = λ f q.
       pick (v.r.r3 == 1)
       (λ c. rw c refl)
       (λ c. rw c refl);
 }
 
-pub case_target : (v : View) → Leads (0x22D8 ∷ []) v 0x2676 (pieces.case_target v)
-case_target v = record { by = λ f q. refl }
+pub find_branch : (v : View) → Leads (0x22D8 ∷ []) v 0x2676 (pieces.find_branch v)
+find_branch v = record { by = λ f q. refl }
 
-pub take_case : (v : View) → Leads (0x265E ∷ []) v 0x267E (pieces.take_case v)
-take_case v = record { by = λ f q. refl }
+pub go_to_branch : (v : View) → Leads (0x265E ∷ []) v 0x267E (pieces.go_to_branch v)
+go_to_branch v = record { by = λ f q. refl }

@@ -34,10 +34,10 @@ use Rattle.sim_flow.proofs.Numbers.{number_is, most_is, place_fits, doubled_is}
 
 -- ---- where the two routines return to
 
-pub at_target : (x a b : MachineState) (t t1 t2 : ℕ) → Exits x a t t1 (pieces.case_number (view x)) → Exits a b t1 t2 (rows.where_next (view a)) → Stands b 0x2676
+pub at_target : (x a b : MachineState) (t t1 t2 : ℕ) → Exits x a t t1 (pieces.ask_table (view x)) → Exits a b t1 t2 (rows.where_next (view a)) → Stands b 0x2676
 at_target x a b t t1 t2 e1 e2 = subst (λ (p : ℕ). Stands b p) (ap return_of e1.shows) e2.stands
 
-pub at_end : (b c d : MachineState) (t2 t3 t4 : ℕ) → Exits b c t2 t3 (pieces.case_target (view b)) → Exits c d t3 t4 (operands.seek (view c)) → Stands d 0x267E
+pub at_end : (b c d : MachineState) (t2 t3 t4 : ℕ) → Exits b c t2 t3 (pieces.find_branch (view b)) → Exits c d t3 t4 (operands.seek (view c)) → Stands d 0x267E
 at_end b c d t2 t3 t4 e3 e4 = subst (λ (p : ℕ). Stands d p) (ap return_of e3.shows) e4.stands
 
 -- ---- the number
@@ -64,7 +64,7 @@ module _ (s : GplState) (place : Place) (source : Source) (v : View) (e : operat
 
   -- the view behind each piece
   abbrev asked : View
-  asked = (pieces.case_number v).left
+  asked = (pieces.ask_table v).left
 
   value_is : asked.r.r9 ≡ number
   value_is = number_is (row_width s) v.r.r3 v.r.r9 number row.holds.bytes_are (row.destination ∙ loaded_is s place e) (i.r 9)
@@ -76,7 +76,7 @@ module _ (s : GplState) (place : Place) (source : Source) (v : View) (e : operat
   where_is = where_found asked s.image (next_of s) row.holds.sees.grom fits
 
   abbrev targeted : View
-  targeted = (pieces.case_target located).left
+  targeted = (pieces.find_branch located).left
 
   abbrev sought : View
   sought = record targeted { r = record targeted.r { r6 = (operands.seek targeted).left.r.r6 }; grom = grom_at s.image (next_of s) }
@@ -91,7 +91,7 @@ module _ (s : GplState) (place : Place) (source : Source) (v : View) (e : operat
     sees : Sees taken (next_of s) w
     to : w.r.r6 ≡ target
 
-  ends : Goes (pieces.take_case sought) 2 0x265E AtTarget
+  ends : Goes (pieces.go_to_branch sought) 2 0x265E AtTarget
   ends =
       let h = row.holds.sees in
       record {
@@ -103,22 +103,22 @@ module _ (s : GplState) (place : Place) (source : Source) (v : View) (e : operat
         };
       }
 
-  asks : Goes (pieces.case_number v) 4 0x22BC (λ w. w ≡ asked)
-  asks = just (pieces.case_number v) 4 0x22BC (let m = most_is (v.r.r3 == 1) in omega arith) refl
+  asks : Goes (pieces.ask_table v) 4 0x22BC (λ w. w ≡ asked)
+  asks = just (pieces.ask_table v) 4 0x22BC (let m = most_is (v.r.r3 == 1) in omega arith) refl
 
-  selects : (x a b c d f y : MachineState) (t t1 t2 t3 t4 t5 t6 : ℕ) → view x ≡ v → Exits x a t t1 (pieces.case_number (view x)) →
-      Exits a b t1 t2 (rows.where_next (view a)) → Exits b c t2 t3 (pieces.case_target (view b)) → Exits c d t3 t4 (operands.seek (view c)) →
-      Exits d f t4 t5 (pieces.take_case (view d)) → TakesBranch f y t5 t6 → Comes 34 x y t t6 0x228C (SeesResult (row_result (One CASE) s place source))
+  selects : (x a b c d f y : MachineState) (t t1 t2 t3 t4 t5 t6 : ℕ) → view x ≡ v → Exits x a t t1 (pieces.ask_table (view x)) →
+      Exits a b t1 t2 (rows.where_next (view a)) → Exits b c t2 t3 (pieces.find_branch (view b)) → Exits c d t3 t4 (operands.seek (view c)) →
+      Exits d f t4 t5 (pieces.go_to_branch (view d)) → TakesBranch f y t5 t6 → Comes 34 x y t t6 0x228C (SeesResult (row_result (One CASE) s place source))
   selects x a b c d f y t t1 t2 t3 t4 t5 t6 is e1 e2 e3 e4 e5 goes =
-      let c1 = comes e1 (from pieces.case_number is asks) in
+      let c1 = comes e1 (from pieces.ask_table is asks) in
       let c2 = comes_then 4 12 c1 e2 (from rows.where_next c1.holds (known where_is (just (exit 12 0x2676 located) 12 0x2676 (omega arith) refl))) refl in
-      let c3 = comes_then 16 3 c2 e3 (from pieces.case_target c2.holds (just (pieces.case_target located) 3 0x22D8 (omega arith) refl)) refl in
+      let c3 = comes_then 16 3 c2 e3 (from pieces.find_branch c2.holds (just (pieces.find_branch located) 3 0x22D8 (omega arith) refl)) refl in
       let c4 = comes_then 19 4 c3 e4 (from operands.seek c3.holds (known seek_is (just (exit 4 0x267E sought) 4 0x267E (omega arith) refl))) refl in
-      let c5 = comes_then 23 2 c4 e5 (from pieces.take_case c4.holds ends) refl in
+      let c5 = comes_then 23 2 c4 e5 (from pieces.go_to_branch c4.holds ends) refl in
       comes_on 25 9 c5 (goes taken (next_of s) c5.holds.sees c5.holds.to) refl
 
-pub runs : (x a b c d f y : MachineState) (t t1 t2 t3 t4 t5 t6 : ℕ) → Stands x 0x266A → Exits x a t t1 (pieces.case_number (view x)) →
-    Exits a b t1 t2 (rows.where_next (view a)) → Exits b c t2 t3 (pieces.case_target (view b)) → Exits c d t3 t4 (operands.seek (view c)) →
-    Exits d f t4 t5 (pieces.take_case (view d)) → TakesBranch f y t5 t6 → RunsRow (One CASE) 34 x y t t6
+pub runs : (x a b c d f y : MachineState) (t t1 t2 t3 t4 t5 t6 : ℕ) → Stands x 0x266A → Exits x a t t1 (pieces.ask_table (view x)) →
+    Exits a b t1 t2 (rows.where_next (view a)) → Exits b c t2 t3 (pieces.find_branch (view b)) → Exits c d t3 t4 (operands.seek (view c)) →
+    Exits d f t4 t5 (pieces.go_to_branch (view d)) → TakesBranch f y t5 t6 → RunsRow (One CASE) 34 x y t t6
 runs x a b c d f y t t1 t2 t3 t4 t5 t6 stands e1 e2 e3 e4 e5 goes s place source e row is =
     selects s place source (view x) e row (is_view x stands.machine) x a b c d f y t t1 t2 t3 t4 t5 t6 refl e1 e2 e3 e4 e5 goes

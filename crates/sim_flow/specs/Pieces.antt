@@ -21,8 +21,8 @@ abbrev pub ask_target : View → Exit
 ask_target v = exit 2 STREAM (record v { r = record v.r { r3 = 2; r11 = GOTO } })
 
 -- BRANCH: the low five bits of the code byte and the byte that follows, in the GROM of the code byte, are the target.
-abbrev pub branch_target : View → Exit
-branch_target v =
+abbrev pub find_target : View → Exit
+find_target v =
     let byte = shifted SRL (join v.grom.fetched (low v.r.r4)) 8 in
     let offset = sum_of Word (shifted SRL (shifted SLA v.r.r0 11) 3) byte in
     let base = shifted SLA (shifted SRL v.r.r1 13) 13 in
@@ -39,19 +39,19 @@ test_branch v =
     else (if last_out SLA word 3 then exit 6 CFALSE tested else exit 7 TAKE tested)
 
 -- CASEV: a byte comes down, and the address behind the operand is asked for.
-abbrev pub case_number : View → Exit
-case_number v =
+abbrev pub ask_table : View → Exit
+ask_table v =
     exit (if v.r.r3 == 1 then 4 else 3) WHERE (record v {
       r = record v.r { r9 = (if v.r.r3 == 1 then shifted SRL v.r.r9 8 else v.r.r9); r11 = CASEN };
     })
 
 -- CASEN: the table there has two bytes for each number; GROM goes back to its beginning.
-abbrev pub case_target : View → Exit
-case_target v =
+abbrev pub find_branch : View → Exit
+find_branch v =
     exit 3 SEEK (record v {
       r = record v.r { r9 = sum_of Word (sum_of Word v.r.r9 v.r.r9) v.r.r6; r11 = CASET };
     })
 
 -- CASET: the target comes to where a branch has it.
-abbrev pub take_case : View → Exit
-take_case v = exit 2 TAKE (record v { r = record v.r { r6 = v.r.r9 } })
+abbrev pub go_to_branch : View → Exit
+go_to_branch v = exit 2 TAKE (record v { r = record v.r { r6 = v.r.r9 } })

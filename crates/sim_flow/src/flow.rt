@@ -15,7 +15,7 @@ ghost use Rattle.sim_rows.specs.Results.{RunsRow};
 ghost use Rattle.sim_flow.specs.Family.{is_branch, is_flow};
 
 use crate::piece::{
-    ask_target, branch_target, case_number, case_target, leave, take_case, test_branch,
+    ask_table, ask_target, find_branch, find_target, go_to_branch, leave, test_branch,
 };
 use interp_defs::Turn;
 use native_interp::{BRANCH, GOB, GOEXIT, TAKE};
@@ -46,7 +46,7 @@ fn run_branch<L: Ledger>(machine: &mut Machine, steps: &mut Steps<L>)
     requires branch { is_branch (operation_seen (view machine.old)) ≡ true }
     ensures { Turned (state_at_dispatch (view machine.old)) most_to_dispatch machine.old machine.new steps.old steps.new Stepped }
 {
-    branch_target(machine, steps);
+    find_target(machine, steps);
     test_branch(machine, steps);
     if machine.pc() == TAKE {
         take_jump(machine, steps);
@@ -60,11 +60,11 @@ fn run_case<L: Ledger>(machine: &mut Machine, steps: &mut Steps<L>)
     requires { Stands machine.old address.CASEV }
     ensures { RunsRow (One CASE) 34 machine.old machine.new steps.old steps.new }
 {
-    case_number(machine, steps);
+    ask_table(machine, steps);
     where_next(machine, steps);
-    case_target(machine, steps);
+    find_branch(machine, steps);
     seek_address(machine, steps);
-    take_case(machine, steps);
+    go_to_branch(machine, steps);
     take_jump(machine, steps);
 }
 

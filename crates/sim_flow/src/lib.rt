@@ -7,5 +7,5 @@ mod piece;
 
 pub use flow::run_flow;
 pub use piece::{
-    ask_target, branch_target, case_number, case_target, leave, take_case, test_branch,
+    ask_table, ask_target, find_branch, find_target, go_to_branch, leave, test_branch,
 };

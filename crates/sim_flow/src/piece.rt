@@ -27,9 +27,9 @@ pub fn ask_target<L: Ledger>(machine: &mut Machine, steps: &mut Steps<L>)
 }
 
 /// The piece of BR and BS that makes the address of their target.
-pub fn branch_target<L: Ledger>(machine: &mut Machine, steps: &mut Steps<L>)
+pub fn find_target<L: Ledger>(machine: &mut Machine, steps: &mut Steps<L>)
     requires { Stands machine.old address.BRANCH }
-    ensures { Exits machine.old machine.new steps.old steps.new (piece.branch_target (view machine.old)) }
+    ensures { Exits machine.old machine.new steps.old steps.new (piece.find_target (view machine.old)) }
 {
     run_piece(machine, steps, &[BTEST]);
 }
@@ -43,25 +43,25 @@ pub fn test_branch<L: Ledger>(machine: &mut Machine, steps: &mut Steps<L>)
 }
 
 /// The piece of CASE that takes its number and asks WHERE for the address of the table.
-pub fn case_number<L: Ledger>(machine: &mut Machine, steps: &mut Steps<L>)
+pub fn ask_table<L: Ledger>(machine: &mut Machine, steps: &mut Steps<L>)
     requires { Stands machine.old address.CASEV }
-    ensures { Exits machine.old machine.new steps.old steps.new (piece.case_number (view machine.old)) }
+    ensures { Exits machine.old machine.new steps.old steps.new (piece.ask_table (view machine.old)) }
 {
     run_piece(machine, steps, &[WHERE]);
 }
 
 /// The piece of CASE that makes the address in the table and asks SEEK for its beginning.
-pub fn case_target<L: Ledger>(machine: &mut Machine, steps: &mut Steps<L>)
+pub fn find_branch<L: Ledger>(machine: &mut Machine, steps: &mut Steps<L>)
     requires { Stands machine.old address.CASEN }
-    ensures { Exits machine.old machine.new steps.old steps.new (piece.case_target (view machine.old)) }
+    ensures { Exits machine.old machine.new steps.old steps.new (piece.find_branch (view machine.old)) }
 {
     run_piece(machine, steps, &[SEEK]);
 }
 
 /// The piece of CASE that goes on as a branch that is taken.
-pub fn take_case<L: Ledger>(machine: &mut Machine, steps: &mut Steps<L>)
+pub fn go_to_branch<L: Ledger>(machine: &mut Machine, steps: &mut Steps<L>)
     requires { Stands machine.old address.CASET }
-    ensures { Exits machine.old machine.new steps.old steps.new (piece.take_case (view machine.old)) }
+    ensures { Exits machine.old machine.new steps.old steps.new (piece.go_to_branch (view machine.old)) }
 {
     run_piece(machine, steps, &[TAKE]);
 }
