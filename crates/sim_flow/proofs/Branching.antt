@@ -1,6 +1,6 @@
 -- BR and BS from their dispatch to the end of the step.
-use Rattle.std.proofs.Common.{◌≡◌, ℕ, ◌+◌, ◌%◌, ◌<◌, ◌≤◌, Bool, true, false, refl, sym, ap, subst, ◌∙◌, arith, List, Option, Some, Ok}
-use Rattle.std.specs.Prelude.{◌==◌, not, if◌then◌else◌, slice_index, slice_set}
+use Rattle.std.proofs.Common.{◌≡◌, ℕ, ◌%◌, ◌<◌, ◌≤◌, Bool, true, false, refl, ap, subst, ◌∙◌, arith, List, Some, Ok}
+use Rattle.std.specs.Prelude.{if◌then◌else◌, slice_index, slice_set}
 use Rattle.console_defs.specs.Words.{low, join}
 use Rattle.console_defs.specs.Flags.{Byte}
 use Rattle.console_defs.specs.Logic.{ones_cleared}
@@ -22,7 +22,6 @@ use Rattle.sim_view.specs.Exits.{Exits, Comes}
 use Rattle.sim_view.proofs.Bridge.{IsView, is_view}
 use Rattle.sim_view.proofs.Compose.{Goes, comes, comes_then, comes_on}
 use Rattle.sim_operands.specs.Pieces.{past}
-use Rattle.sim_operands.specs.Subroutines.{grom_at}
 use Rattle.sim_rows.specs.States.{Sees, Dispatched, code_byte, operation_in, behind_code}
 use Rattle.sim_rows.specs.Results.{SeesFinished}
 use Rattle.sim_rows.proofs.Steps.{step_branch, bound_made}
@@ -131,7 +130,7 @@ passes s w h = record {
 }
 
 module _ (s : GplState) (x a b : MachineState) (t t1 t2 : ℕ) (on : Bool) (is : operation_in s ≡ Some (Branch on)) (stands : Stands x 0x2630) (d : Dispatched s (view x))
-  (e1 : Exits x a t t1 (pieces.find_target (view x))) (e2 : Exits a b t1 t2 (pieces.test_branch (view a))) where
+    (e1 : Exits x a t t1 (pieces.find_target (view x))) (e2 : Exits a b t1 t2 (pieces.test_branch (view a))) where
   abbrev taken : Bool
   taken = is_taken on (condition s)
 

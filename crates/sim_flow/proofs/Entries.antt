@@ -1,5 +1,5 @@
 -- Which operation stands where.
-use Rattle.std.proofs.Common.{◌≡◌, Bool, true, false, refl, arith, Option, Some}
+use Rattle.std.proofs.Common.{◌≡◌, Bool, true, refl, arith, Option, Some}
 use Rattle.gpl_defs.specs.declared.instruction.PlainOp.TheVariants.{EXIT}
 use Rattle.gpl_defs.specs.declared.instruction.GoOp.TheVariants.{B}
 use Rattle.gpl_defs.specs.declared.instruction.OneName.TheVariants.{CASE}

@@ -1,6 +1,5 @@
 -- EXIT and B.
 use Rattle.std.proofs.Common.{◌≡◌, ℕ, refl, ap, subst, arith, Some, Ok, Err}
-use Rattle.std.specs.Prelude.{slice_index}
 use Rattle.console_defs.specs.Grom.{GromState}
 use Rattle.console_defs.specs.Machine.{MachineState}
 use Rattle.gpl_defs.specs.declared.instruction.PlainOp.TheVariants.{EXIT}

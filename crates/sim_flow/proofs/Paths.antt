@@ -1,5 +1,5 @@
 -- The runs of the pieces on the view.
-use Rattle.std.proofs.Common.{ℕ, true, false, refl, [], ◌∷◌}
+use Rattle.std.proofs.Common.{ℕ, refl, [], ◌∷◌}
 use Rattle.std.specs.Prelude.{◌==◌, slice_index}
 use Rattle.console_defs.specs.Words.{low, join}
 use Rattle.console_defs.specs.Shifts.{shifted, last_out}

@@ -1,11 +1,9 @@
 -- CASE from its row to the end of the step.
-use Rattle.std.proofs.Common.{◌≡◌, ℕ, ◌+◌, ◌*◌, ◌<◌, ◌≤◌, Bool, true, false, refl, sym, ap, subst, ◌∙◌, arith, Option, Some}
-use Rattle.std.specs.Prelude.{◌==◌, if◌then◌else◌}
+use Rattle.std.proofs.Common.{◌≡◌, ℕ, ◌*◌, ◌<◌, refl, ap, subst, ◌∙◌, arith, Option, Some}
+use Rattle.std.specs.Prelude.{◌==◌}
 use Rattle.console_defs.specs.Words.{plus}
 use Rattle.console_defs.specs.Flags.{Width, Word, size_of, sum_of}
-use Rattle.console_defs.specs.Grom.{GromState, next_in_grom}
-use Rattle.console_defs.specs.Shifts.{shifted}
-use Rattle.console_defs.specs.declared.instruction.ShiftOp.TheVariants.{SRL}
+use Rattle.console_defs.specs.Grom.{GromState}
 use Rattle.console_defs.specs.Machine.{MachineState}
 use Rattle.gpl_defs.specs.declared.instruction.GplOperation.{GplOperation}
 use Rattle.gpl_defs.specs.declared.instruction.GplOperation.TheVariants.{One}
@@ -24,7 +22,7 @@ use Rattle.sim_operands.specs.Subroutines.{grom_at}
 use Rattle.sim_operands.proofs.Ready.{set_is}
 use Rattle.sim_rows.specs.Pieces as rows
 use Rattle.sim_rows.specs.States.{Sees, operation_in}
-use Rattle.sim_rows.specs.Rows.{row_width, next_of, gone_on, bytes_by, destination_bytes, loaded_of, AtRow}
+use Rattle.sim_rows.specs.Rows.{row_width, next_of, bytes_by, destination_bytes, loaded_of, AtRow}
 use Rattle.sim_rows.specs.Results.{row_result, SeesResult, RunsRow}
 use Rattle.sim_rows.proofs.Beginning.{just, from, known, lost, located_at, where_found}
 use Rattle.sim_rows.proofs.Storing.{width_again}

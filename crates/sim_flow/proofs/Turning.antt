@@ -53,7 +53,7 @@ module _ (s : GplState) (x : MachineState) (t : ℕ) (fits : code_byte s < 256) 
 
 -- the same from the dispatch
 module _ (x : MachineState) (t : ℕ) (stands : Stands x (operation_entry (operation_seen (view x)))) (dispatched : Dispatched (state_at_dispatch (view x)) (view x))
-  (is_case : operation_seen (view x) ≡ Some (One CASE)) where
+    (is_case : operation_seen (view x) ≡ Some (One CASE)) where
   abbrev s : GplState
   s = state_at_dispatch (view x)
 

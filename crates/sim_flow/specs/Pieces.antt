@@ -1,6 +1,6 @@
 -- What the pieces of EXIT, B, BR, BS and CASE come to: how many instructions they have, where they end, and what they change
 -- of the view, in the words of the processor. Registers, cells and ports that are not named stay.
-use Rattle.std.specs.Prelude.{ℕ, ◌==◌, if◌then◌else◌, slice_index}
+use Rattle.std.specs.Prelude.{◌==◌, if◌then◌else◌, slice_index}
 use Rattle.console_defs.specs.Words.{low, join}
 use Rattle.console_defs.specs.Flags.{Word, sum_of}
 use Rattle.console_defs.specs.Shifts.{shifted, last_out}
