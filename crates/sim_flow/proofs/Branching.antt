@@ -50,7 +50,9 @@ record Tested (s : GplState) (w : View) : Type 0 where
   to : w.r.r6 ≡ target s
 
 abbrev made_of : View → ℕ → ℕ → ℕ → ℕ
-made_of v byte code address = let w : View = record v { r = record v.r { r0 = code; r1 = address }; grom = record v.grom { fetched = byte } } in (pieces.find_target w).left.r.r6
+made_of v byte code address =
+    let w : View = record v { r = record v.r { r0 = code; r1 = address }; grom = record v.grom { fetched = byte } } in
+    (pieces.find_target w).left.r.r6
 
 targets : (s : GplState) (v : View) → Dispatched s v → IsView v → slice_index s.image (behind_code s) < 256 → Goes (pieces.find_target v) 10 0x2646 (Targeted s)
 targets s v d i byte =
@@ -88,18 +90,21 @@ goes_on : (taken : Bool) → is_end (end_of taken) ≡ false
 goes_on true = refl
 goes_on false = refl
 
-sees_still : (s : GplState) (v : View) (n : ℕ) → Sees s (behind s) v → Sees s (behind s) (record v { r = record v.r { r4 = n } })
-sees_still s v n h = record { cells = h.cells; vdp = h.vdp; registers = h.registers; held = h.held; grom = h.grom }
-
 abbrev word_in : View → ℕ
 word_in v = join (slice_index v.cells 0x7C) (low (shifted SRL v.r.r0 6))
 
+tested_as : (s : GplState) (v : View) → Targeted s v → Tested s (record v { r = record v.r { r4 = shifted SLA (word_in v) 3 } })
+tested_as s v h = record {
+  sees = record { cells = h.sees.cells; vdp = h.sees.vdp; registers = h.sees.registers; held = h.sees.held; grom = h.sees.grom };
+  to = h.to;
+}
+
 tested_by : (s : GplState) (v : View) (on holds : Bool) → Targeted s v → last_out SRL v.r.r0 6 ≡ on → last_out SLA (word_in v) 3 ≡ holds →
     Goes (pieces.test_branch v) 7 (end_of (is_taken on holds)) (Tested s)
-tested_by s v true true h a b = rw (a, b) (record { within = omega arith; to_is = refl; holds = record { sees = sees_still s v (shifted SLA (word_in v) 3) h.sees; to = h.to } })
-tested_by s v true false h a b = rw (a, b) (record { within = omega arith; to_is = refl; holds = record { sees = sees_still s v (shifted SLA (word_in v) 3) h.sees; to = h.to } })
-tested_by s v false true h a b = rw (a, b) (record { within = omega arith; to_is = refl; holds = record { sees = sees_still s v (shifted SLA (word_in v) 3) h.sees; to = h.to } })
-tested_by s v false false h a b = rw (a, b) (record { within = omega arith; to_is = refl; holds = record { sees = sees_still s v (shifted SLA (word_in v) 3) h.sees; to = h.to } })
+tested_by s v true true h a b = rw (a, b) (record { within = omega arith; to_is = refl; holds = tested_as s v h })
+tested_by s v true false h a b = rw (a, b) (record { within = omega arith; to_is = refl; holds = tested_as s v h })
+tested_by s v false true h a b = rw (a, b) (record { within = omega arith; to_is = refl; holds = tested_as s v h })
+tested_by s v false false h a b = rw (a, b) (record { within = omega arith; to_is = refl; holds = tested_as s v h })
 
 -- the condition is the state's
 condition_is : (s : GplState) (v : View) → Sees s (behind s) v → IsView v → last_out SLA (word_in v) 3 ≡ condition s
@@ -129,7 +134,8 @@ passes s w h = record {
   holds = record { cells = ap status_cleared h.cells; vdp = h.vdp; registers = h.registers; held = h.held; grom = h.grom };
 }
 
-module _ (s : GplState) (x a b : MachineState) (t t1 t2 : ℕ) (on : Bool) (is : operation_in s ≡ Some (Branch on)) (stands : Stands x 0x2630) (d : Dispatched s (view x))
+module _ (s : GplState) (x a b : MachineState) (t t1 t2 : ℕ) (on : Bool) (is : operation_in s ≡ Some (Branch on))
+    (stands : Stands x 0x2630) (d : Dispatched s (view x))
     (e1 : Exits x a t t1 (pieces.find_target (view x))) (e2 : Exits a b t1 t2 (pieces.test_branch (view a))) where
   abbrev taken : Bool
   taken = is_taken on (condition s)
@@ -153,7 +159,8 @@ module _ (s : GplState) (x a b : MachineState) (t t1 t2 : ℕ) (on : Bool) (is :
       let holds = condition_is s (view a) h.sees (is_view a at_test.stands.machine) in
       comes_then 10 7 at_test e2 (tested_by s (view a) on (condition s) h bit holds) refl
 
-  turns : (y : MachineState) (t3 most : ℕ) (c : Bool) → taken ≡ c → Comes most x y t t3 0x228C (SeesFinished (changed_by s c)) → most ≤ 26 → Turned s 29 x y t t3 Stepped
+  turns : (y : MachineState) (t3 most : ℕ) (c : Bool) → taken ≡ c → Comes most x y t t3 0x228C (SeesFinished (changed_by s c)) → most ≤ 26 →
+      Turned s 29 x y t t3 Stepped
   turns y t3 most c e run le =
       let same : changed s on ≡ changed_by s c = ap (changed_by s) e in
       let step_is = step_branch s on is ∙ ap (λ (c : Changes). Ok (finished c)) same in
@@ -165,12 +172,14 @@ module _ (s : GplState) (x a b : MachineState) (t t1 t2 : ℕ) (on : Bool) (is :
   takes y t3 here goes =
       let is_true = taken_at taken b.cpu.pc tested.stands.pc here in
       let h = tested.holds in
-      let seen : Sees (record s { pc = target s }) (behind s) (view b) = record { cells = h.sees.cells; vdp = h.sees.vdp; registers = h.sees.registers; held = h.sees.held; grom = h.sees.grom } in
+      let seen : Sees (record s { pc = target s }) (behind s) (view b) =
+      record { cells = h.sees.cells; vdp = h.sees.vdp; registers = h.sees.registers; held = h.sees.held; grom = h.sees.grom } in
       turns y t3 26 true is_true (comes_on 17 9 tested (goes (record s { pc = target s }) (behind s) seen h.to) (goes_on taken)) (omega arith)
 
   pub passes_on : (y : MachineState) (t3 : ℕ) → (b.cpu.pc ≡ 0x265E → ⊥) → Exits b y t2 t3 (compare.clear_condition (view b)) → Turned s 29 x y t t3 Stepped
   passes_on y t3 elsewhere e3 =
-      turns y t3 20 false (passed_at taken b.cpu.pc tested.stands.pc elsewhere) (comes_then 17 3 tested e3 (passes s (view b) tested.holds.sees) (goes_on taken)) (omega arith)
+      let is_false = passed_at taken b.cpu.pc tested.stands.pc elsewhere in
+      turns y t3 20 false is_false (comes_then 17 3 tested e3 (passes s (view b) tested.holds.sees) (goes_on taken)) (omega arith)
 
   pub stands_taken : b.cpu.pc ≡ 0x265E → Stands b 0x265E
   stands_taken here = subst (λ (c : Bool). Stands b (end_of c)) (taken_at taken b.cpu.pc tested.stands.pc here) tested.stands

@@ -29,7 +29,8 @@ branch_at (Some (Branch on)) e f = refl
 branch_at (Some (One CASE)) e f = absurd (omega arith)
 branch_at _ e f = absurd (cc)
 
-pub case_else : (o : Option GplOperation) → is_flow o ≡ true → (operation_entry o ≡ 0x24C0 → ⊥) → (operation_entry o ≡ 0x24B0 → ⊥) → (operation_entry o ≡ 0x2630 → ⊥) → o ≡ Some (One CASE)
+pub case_else : (o : Option GplOperation) → is_flow o ≡ true →
+    (operation_entry o ≡ 0x24C0 → ⊥) → (operation_entry o ≡ 0x24B0 → ⊥) → (operation_entry o ≡ 0x2630 → ⊥) → o ≡ Some (One CASE)
 case_else (Some (Plain EXIT)) e a b c = absurd (a refl)
 case_else (Some (Jump B)) e a b c = absurd (b refl)
 case_else (Some (Branch on)) e a b c = absurd (c refl)

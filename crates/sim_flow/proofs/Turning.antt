@@ -30,15 +30,18 @@ some_is : (o : Option GplOperation) → is_some o ≡ true → (operation : GplO
 some_is (Some operation) e = (operation, refl)
 some_is None e = absurd (cc)
 
-module _ (s : GplState) (x : MachineState) (t : ℕ) (fits : code_byte s < 256) (start : is_end x.cpu.pc ≡ false) (is_case : operation_in s ≡ Some (One CASE)) where
-  stopped_at : (y : MachineState) (u : ℕ) (told : Option GplOperation) → told ≡ None → StartsRow s x y t u told (operands_of s) → Turned s 29 x y t u (Stopped Cell)
+module _ (s : GplState) (x : MachineState) (t : ℕ) (fits : code_byte s < 256) (start : is_end x.cpu.pc ≡ false)
+    (is_case : operation_in s ≡ Some (One CASE)) where
+  stopped_at : (y : MachineState) (u : ℕ) (told : Option GplOperation) → told ≡ None → StartsRow s x y t u told (operands_of s) →
+      Turned s 29 x y t u (Stopped Cell)
   stopped_at y u told e l = rowing.stopped_row s x t fits start (case_row (operation_in s) is_case) y u told e l
 
   -- the row of CASE is reached
   abbrev Began : MachineState → ℕ → Type 0
   Began y u = rowing.Started s x t fits start (case_row (operation_in s) is_case) (One CASE) y u
 
-  told_is : (y : MachineState) (u : ℕ) (told : Option GplOperation) (operation : GplOperation) → told ≡ Some operation → StartsRow s x y t u told (operands_of s) → told ≡ Some (One CASE)
+  told_is : (y : MachineState) (u : ℕ) (told : Option GplOperation) (operation : GplOperation) → told ≡ Some operation →
+      StartsRow s x y t u told (operands_of s) → told ≡ Some (One CASE)
   told_is y u told operation e l =
       let b = rowing.started s x t fits start (case_row (operation_in s) is_case) operation y u told e l in
       e ∙ sym b.is_operation ∙ is_case
@@ -52,7 +55,8 @@ module _ (s : GplState) (x : MachineState) (t : ℕ) (fits : code_byte s < 256) 
   turned_at y z u v b r = rowing.turned_row s x t fits start (case_row (operation_in s) is_case) (One CASE) y z u v 34 b refl r (omega arith)
 
 -- the same from the dispatch
-module _ (x : MachineState) (t : ℕ) (stands : Stands x (operation_entry (operation_seen (view x)))) (dispatched : Dispatched (state_at_dispatch (view x)) (view x))
+module _ (x : MachineState) (t : ℕ) (stands : Stands x (operation_entry (operation_seen (view x))))
+    (dispatched : Dispatched (state_at_dispatch (view x)) (view x))
     (is_case : operation_seen (view x) ≡ Some (One CASE)) where
   abbrev s : GplState
   s = state_at_dispatch (view x)
@@ -63,7 +67,8 @@ module _ (x : MachineState) (t : ℕ) (stands : Stands x (operation_entry (opera
   start : is_end x.cpu.pc ≡ false
   start = ap is_end stands.pc ∙ ap (λ (o : Option GplOperation). is_end (operation_entry o)) is_case
 
-  pub stopped : (y : MachineState) (u : ℕ) (told : Option GplOperation) → is_some told ≡ false → StartsRow s x y t u told (operands_of s) → Turned s 29 x y t u (Stopped Cell)
+  pub stopped : (y : MachineState) (u : ℕ) (told : Option GplOperation) → is_some told ≡ false → StartsRow s x y t u told (operands_of s) →
+      Turned s 29 x y t u (Stopped Cell)
   stopped y u told none l = stopped_at s x t fits start is_case y u told (none_is told none) l
 
   module _ (y : MachineState) (u : ℕ) (told : Option GplOperation) (some : is_some told ≡ true) (l : StartsRow s x y t u told (operands_of s)) where

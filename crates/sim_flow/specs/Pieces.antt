@@ -1,5 +1,5 @@
--- What the pieces of EXIT, B, BR, BS and CASE come to: how many instructions they have, where they end, and what they change
--- of the view, in the words of the processor. Registers, cells and ports that are not named stay.
+-- What the pieces of EXIT, B, BR, BS and CASE come to: how many instructions they have, where they end, and what they
+-- change of the view, in the words of the processor. Registers, cells and ports that are not named stay.
 use Rattle.std.specs.Prelude.{◌==◌, if◌then◌else◌, slice_index}
 use Rattle.console_defs.specs.Words.{low, join}
 use Rattle.console_defs.specs.Flags.{Word, sum_of}
@@ -28,8 +28,8 @@ find_target v =
     let base = shifted SLA (shifted SRL v.r.r1 13) 13 in
     exit 10 BTEST (record v { r = record v.r { r4 = base; r6 = sum_of Word offset base }; grom = past v.grom })
 
--- BTEST: the condition is shifted out of the status. BS, whose code byte has the bit >20, is taken where it is set, and BR
--- where it is not.
+-- BTEST: the condition is shifted out of the status. BS, whose code byte has the bit >20, is taken where it is set, and
+-- BR where it is not.
 abbrev pub test_branch : View → Exit
 test_branch v =
     let word = join (slice_index v.cells STATUS) (low (shifted SRL v.r.r0 6)) in

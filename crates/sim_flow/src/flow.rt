@@ -32,7 +32,8 @@ fn run_jump<L: Ledger>(machine: &mut Machine, steps: &mut Steps<L>)
     requires stands { Stands machine.old address.GOB }
     requires dispatched { let v = view machine.old in Dispatched (state_at_dispatch v) v }
     requires is { operation_seen (view machine.old) ≡ Some (Jump B) }
-    ensures { Turned (state_at_dispatch (view machine.old)) most_to_dispatch machine.old machine.new steps.old steps.new Stepped }
+    ensures { let s = state_at_dispatch (view machine.old) in
+        Turned s most_to_dispatch machine.old machine.new steps.old steps.new Stepped }
 {
     ask_target(machine, steps);
     stream_value(machine, steps);
@@ -44,7 +45,8 @@ fn run_branch<L: Ledger>(machine: &mut Machine, steps: &mut Steps<L>)
     requires stands { Stands machine.old address.BRANCH }
     requires dispatched { let v = view machine.old in Dispatched (state_at_dispatch v) v }
     requires branch { is_branch (operation_seen (view machine.old)) ≡ true }
-    ensures { Turned (state_at_dispatch (view machine.old)) most_to_dispatch machine.old machine.new steps.old steps.new Stepped }
+    ensures { let s = state_at_dispatch (view machine.old) in
+        Turned s most_to_dispatch machine.old machine.new steps.old steps.new Stepped }
 {
     find_target(machine, steps);
     test_branch(machine, steps);
@@ -73,7 +75,8 @@ fn run_case_row<L: Ledger>(machine: &mut Machine, steps: &mut Steps<L>) -> Turn
     requires stands { Stands machine.old (operation_entry (operation_seen (view machine.old))) }
     requires dispatched { let v = view machine.old in Dispatched (state_at_dispatch v) v }
     requires is { operation_seen (view machine.old) ≡ Some (One CASE) }
-    ensures { Turned (state_at_dispatch (view machine.old)) most_to_dispatch machine.old machine.new steps.old steps.new result }
+    ensures { let s = state_at_dispatch (view machine.old) in
+        Turned s most_to_dispatch machine.old machine.new steps.old steps.new result }
 {
     if start_row(machine, steps).is_none() {
         return Turn::Stopped(Reason::Cell);
@@ -87,7 +90,8 @@ pub fn run_flow<L: Ledger>(machine: &mut Machine, steps: &mut Steps<L>) -> Turn
     requires stands { Stands machine.old (operation_entry (operation_seen (view machine.old))) }
     requires dispatched { let v = view machine.old in Dispatched (state_at_dispatch v) v }
     requires family { is_flow (operation_seen (view machine.old)) ≡ true }
-    ensures { Turned (state_at_dispatch (view machine.old)) most_to_dispatch machine.old machine.new steps.old steps.new result }
+    ensures { let s = state_at_dispatch (view machine.old) in
+        Turned s most_to_dispatch machine.old machine.new steps.old steps.new result }
 {
     if machine.pc() == GOEXIT {
         leave(machine, steps);

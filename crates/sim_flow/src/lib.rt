@@ -1,5 +1,5 @@
-//! The instructions that go on elsewhere, run on the machine: B, BR, BS, CASE, and EXIT, which leaves the interpreter. Each is
-//! built of pieces: stretches of at most 16 instructions without a loop.
+//! The instructions that go on elsewhere, run on the machine: B, BR, BS, CASE, and EXIT, which leaves the interpreter.
+//! Each is built of pieces: stretches of at most 16 instructions without a loop.
 #![tactic(auto)]
 
 mod flow;

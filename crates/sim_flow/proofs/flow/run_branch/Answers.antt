@@ -10,7 +10,8 @@ take_jump-requires g c =
     let x = c.args.machine.now in
     let q = c.requires in
     let on = which (operation_seen (view x)) q.branch in
-    Branching.stands_taken (state_at_dispatch (view x)) x c.find_target.new.machine c.test_branch.new.machine c.args.steps.now c.find_target.new.steps c.test_branch.new.steps
+    Branching.stands_taken (state_at_dispatch (view x)) x c.find_target.new.machine c.test_branch.new.machine c.args.steps.now
+    c.find_target.new.steps c.test_branch.new.steps
     on.0 on.1 q.stands q.dispatched c.find_target.ensures c.test_branch.ensures
     (let a = c.pc.ensures.value in let t = c.if-pc-eq-TAKE.true in omega arith)
 
@@ -19,7 +20,8 @@ clear_condition-requires g c =
     let x = c.args.machine.now in
     let q = c.requires in
     let on = which (operation_seen (view x)) q.branch in
-    Branching.stands_passed (state_at_dispatch (view x)) x c.find_target.new.machine c.test_branch.new.machine c.args.steps.now c.find_target.new.steps c.test_branch.new.steps
+    Branching.stands_passed (state_at_dispatch (view x)) x c.find_target.new.machine c.test_branch.new.machine c.args.steps.now
+    c.find_target.new.steps c.test_branch.new.steps
     on.0 on.1 q.stands q.dispatched c.find_target.ensures c.test_branch.ensures
     (λ e. let a = c.pc.ensures.value in let t = c.if-pc-eq-TAKE.false in absurd (omega arith))
 
@@ -28,7 +30,8 @@ returns-then-pc-eq-TAKE g c =
     let x = c.args.machine.now in
     let q = c.requires in
     let on = which (operation_seen (view x)) q.branch in
-    Branching.takes (state_at_dispatch (view x)) x c.find_target.new.machine c.test_branch.new.machine c.args.steps.now c.find_target.new.steps c.test_branch.new.steps
+    Branching.takes (state_at_dispatch (view x)) x c.find_target.new.machine c.test_branch.new.machine c.args.steps.now c.find_target.new.steps
+    c.test_branch.new.steps
     on.0 on.1 q.stands q.dispatched c.find_target.ensures c.test_branch.ensures c.take_jump.new.machine c.take_jump.new.steps
     (let a = c.pc.ensures.value in let t = c.if-pc-eq-TAKE.true in omega arith) c.take_jump.ensures
 
@@ -37,6 +40,7 @@ returns-else-pc-eq-TAKE g c =
     let x = c.args.machine.now in
     let q = c.requires in
     let on = which (operation_seen (view x)) q.branch in
-    Branching.passes_on (state_at_dispatch (view x)) x c.find_target.new.machine c.test_branch.new.machine c.args.steps.now c.find_target.new.steps c.test_branch.new.steps
+    Branching.passes_on (state_at_dispatch (view x)) x c.find_target.new.machine c.test_branch.new.machine c.args.steps.now c.find_target.new.steps
+    c.test_branch.new.steps
     on.0 on.1 q.stands q.dispatched c.find_target.ensures c.test_branch.ensures c.clear_condition.new.machine c.clear_condition.new.steps
     (λ e. let a = c.pc.ensures.value in let t = c.if-pc-eq-TAKE.false in absurd (omega arith)) c.clear_condition.ensures

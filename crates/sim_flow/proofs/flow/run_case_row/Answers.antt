@@ -13,19 +13,22 @@ returns-then-is_none g c =
     let x = c.args.machine.now in
     let t = c.args.steps.now in
     let q = c.requires in
-    Turning.stopped x t q.stands q.dispatched q.is c.start_row.new.machine c.start_row.new.steps c.start_row.result (c.is_none.ensures ∙ ap not c.if-is_none.true) c.start_row.ensures
+    Turning.stopped x t q.stands q.dispatched q.is c.start_row.new.machine c.start_row.new.steps c.start_row.result
+    (c.is_none.ensures ∙ ap not c.if-is_none.true) c.start_row.ensures
 
 pub run_case-requires : goal.run_case-requires
 run_case-requires g c =
     let x = c.args.machine.now in
     let t = c.args.steps.now in
     let q = c.requires in
-    Turning.stands_row x t q.stands q.dispatched q.is c.start_row.new.machine c.start_row.new.steps c.start_row.result (c.is_none.ensures ∙ ap not c.if-is_none.false) c.start_row.ensures
+    Turning.stands_row x t q.stands q.dispatched q.is c.start_row.new.machine c.start_row.new.steps c.start_row.result
+    (c.is_none.ensures ∙ ap not c.if-is_none.false) c.start_row.ensures
 
 pub returns : goal.returns
 returns g c =
     let x = c.args.machine.now in
     let t = c.args.steps.now in
     let q = c.requires in
-    Turning.turned x t q.stands q.dispatched q.is c.start_row.new.machine c.start_row.new.steps c.start_row.result (c.is_none.ensures ∙ ap not c.if-is_none.false) c.start_row.ensures
+    Turning.turned x t q.stands q.dispatched q.is c.start_row.new.machine c.start_row.new.steps c.start_row.result
+    (c.is_none.ensures ∙ ap not c.if-is_none.false) c.start_row.ensures
     c.run_case.new.machine c.run_case.new.steps c.run_case.ensures
