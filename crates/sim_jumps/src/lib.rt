@@ -2,8 +2,8 @@
 //! end of a row that read elsewhere in GROM. Each is built of pieces: stretches of at most 16 instructions without a loop.
 #![tactic(auto)]
 
-mod jump;
+mod ending;
 mod piece;
 
-pub use jump::{jump, resume_row, take_jump};
+pub use ending::{jump, resume_row, take_jump};
 pub use piece::{go_on, resume, take_branch};

@@ -1,5 +1,5 @@
 use Rattle.sim_jumps.proofs.Going
-use Rattle.sim_jumps.proofs.jump.jump.Goals as goal
+use Rattle.sim_jumps.proofs.ending.jump.Goals as goal
 
 pub returns : goal.returns
 returns g c =

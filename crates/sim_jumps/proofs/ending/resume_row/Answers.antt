@@ -1,5 +1,5 @@
 use Rattle.sim_jumps.proofs.Going
-use Rattle.sim_jumps.proofs.jump.resume_row.Goals as goal
+use Rattle.sim_jumps.proofs.ending.resume_row.Goals as goal
 
 pub end_row-requires-clause-stands : goal.end_row-requires-clause-stands
 end_row-requires-clause-stands g c =
