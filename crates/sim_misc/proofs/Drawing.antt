@@ -1,5 +1,5 @@
 -- RAND from its dispatch to the end of the step.
-use Rattle.std.proofs.Common.{◌≡◌, ℕ, ◌+◌, ◌%◌, ◌<◌, refl, ap, ◌∙◌, arith, List, Some, Ok}
+use Rattle.std.proofs.Common.{◌≡◌, ℕ, ◌+◌, ◌%◌, refl, ap, ◌∙◌, arith, List, Some, Ok}
 use Rattle.std.specs.Prelude.{slice_index, slice_set}
 use Rattle.console_defs.specs.Bytes.{word_in, with_word_in}
 use Rattle.console_defs.specs.Grom.{GromState, next_in_grom}

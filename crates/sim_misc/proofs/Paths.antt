@@ -1,6 +1,6 @@
 -- The runs of the pieces on the view.
 use Rattle.std.proofs.Common.{refl, [], ◌∷◌}
-use Rattle.std.specs.Prelude.{◌+◌, ◌%◌, slice_index}
+use Rattle.std.specs.Prelude.{slice_index}
 use Rattle.console_defs.specs.Words.{low}
 use Rattle.console_defs.specs.Bytes.{word_in}
 use Rattle.console_defs.specs.Flags.{Word, sum_of}

@@ -1,6 +1,6 @@
--- What the pieces of EX and RAND come to: how many instructions they have, where they end, and what they change of the view,
--- in the words of the processor. Registers, cells and ports that are not named stay.
-use Rattle.std.specs.Prelude.{ℕ, ◌+◌, ◌/◌, ◌%◌, slice_set}
+-- What the pieces of EX and RAND come to: how many instructions they have, where they end, and what they change of the
+-- view, in the words of the processor. Registers, cells and ports that are not named stay.
+use Rattle.std.specs.Prelude.{◌+◌, ◌/◌, ◌%◌, slice_set}
 use Rattle.console_defs.specs.Bytes.{word_in, with_word_in}
 use Rattle.console_defs.specs.Flags.{Word, sum_of}
 use Rattle.console_defs.specs.Logic.{swapped}

@@ -1,4 +1,5 @@
-//! The operations that no other family has, run on the machine: EX, which exchanges two values, and RAND, which draws a number.
+//! The operations that no other family has, run on the machine: EX, which exchanges two values, and RAND, which draws a
+//! number.
 #![tactic(auto)]
 
 mod piece;
@@ -6,5 +7,5 @@ mod random;
 mod row;
 
 pub use piece::{keep_destination, turn_to_source};
-pub use random::{draw_number, make_seed, run_random};
+pub use random::{draw_number, make_seed};
 pub use row::run_misc;

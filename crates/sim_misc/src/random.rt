@@ -35,7 +35,7 @@ pub fn draw_number<L: Ledger>(machine: &mut Machine, steps: &mut Steps<L>)
 }
 
 /// Runs RAND from its dispatch to the end of the step: the next seed is made, and a number of it.
-pub fn run_random<L: Ledger>(machine: &mut Machine, steps: &mut Steps<L>) -> Turn
+pub(crate) fn run_random<L: Ledger>(machine: &mut Machine, steps: &mut Steps<L>) -> Turn
     requires stands { Stands machine.old (operation_entry (operation_seen (view machine.old))) }
     requires dispatched { let v = view machine.old in Dispatched (state_at_dispatch v) v }
     requires random { operation_seen (view machine.old) ≡ Some (Byte RAND) }

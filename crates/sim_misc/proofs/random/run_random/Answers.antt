@@ -19,4 +19,7 @@ returns g c =
     let x = c.args.machine.now in
     let q = c.requires in
     let stands = subst (λ (p : ℕ). Stands x p) (ap operation_entry q.random) q.stands in
-    Drawing.draws (state_at_dispatch (view x)) x c.make_seed.new.machine c.draw_number.new.machine c.args.steps.now c.make_seed.new.steps c.draw_number.new.steps q.dispatched q.random stands c.make_seed.ensures c.draw_number.ensures
+    let seeded = c.make_seed in
+    let drawn = c.draw_number in
+    Drawing.draws (state_at_dispatch (view x)) x seeded.new.machine drawn.new.machine c.args.steps.now seeded.new.steps drawn.new.steps
+    q.dispatched q.random stands seeded.ensures drawn.ensures

@@ -8,11 +8,13 @@ use Rattle.sim_misc.proofs.row.run_misc.Goals as goal
 pub run_random-requires-clause-random : goal.run_random-requires-clause-random
 run_random-requires-clause-random g c =
     let x = c.args.machine.now in
-    let here : operation_entry (operation_seen (view x)) ≡ 0x2762 = let a = c.pc.ensures.value in let b = c.requires.stands.pc in let t = c.if-pc-eq-GORAND.true in omega arith in
+    let here : operation_entry (operation_seen (view x)) ≡ 0x2762 =
+    let a = c.pc.ensures.value in let b = c.requires.stands.pc in let t = c.if-pc-eq-GORAND.true in omega arith in
     Turning.random_at (operation_seen (view x)) c.requires.family here
 
 pub run_exchange_row-requires-clause-exchange : goal.run_exchange_row-requires-clause-exchange
 run_exchange_row-requires-clause-exchange g c =
     let x = c.args.machine.now in
     let here = c.requires.stands.pc in
-    Turning.exchange_else (operation_seen (view x)) c.requires.family (λ e. let p = c.pc.ensures.value in let t = c.if-pc-eq-GORAND.false in absurd (omega arith))
+    Turning.exchange_else (operation_seen (view x)) c.requires.family
+    (λ e. let p = c.pc.ensures.value in let t = c.if-pc-eq-GORAND.false in absurd (omega arith))
