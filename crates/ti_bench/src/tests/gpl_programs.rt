@@ -31,7 +31,7 @@ const PROGRAMS: &[(&[u8], &[u8], Status, &[u8], &[u8])] = &[
     // its row is not built yet
     (
         b"1",
-        b"S RTN\n END S\n",
+        b"S BACK 0\n END S\n",
         Status::Stopped,
         b"stop 1 at >6000\ngpl >6000 S00 D9F R7E\npad\n",
         b"\n>8370 00 00 9F 7E 00 00 00 00 00 00 00 00 00 00 00 00\n",
