@@ -34,7 +34,7 @@ drawn_cells cells seed limit = slice_set (with_word_in cells SEED seed) RANDOM (
 abbrev next : GplState → GplState
 next s = finished (drawn (slice_index s.image (behind_code s)) (unchanged (record s { pc = next_in_grom (behind_code s) })))
 
-drawn_goes : (s : GplState) (v : View) → Dispatched s v → Goes (pieces.draw_number (pieces.make_seed v).left) 8 0x228C (Sees (next s) (next s).pc)
+drawn_goes : (s : GplState) (v : View) → Dispatched s v → Goes (pieces.draw_number (pieces.draw_seed v).left) 8 0x228C (Sees (next s) (next s).pc)
 drawn_goes s v d =
     let h = d.sees in
     record {
@@ -52,9 +52,9 @@ drawn_goes s v d =
     }
 
 pub draws : (s : GplState) (x a y : MachineState) (t u v : ℕ) → Dispatched s (view x) → operation_in s ≡ Some (Byte RAND) → Stands x 0x2762 →
-    Exits x a t u (pieces.make_seed (view x)) → Exits a y u v (pieces.draw_number (view a)) → Turned s 29 x y t v Stepped
+    Exits x a t u (pieces.draw_seed (view x)) → Exits a y u v (pieces.draw_number (view a)) → Turned s 29 x y t v Stepped
 draws s x a y t u v d is stands first second =
-    let c1 = comes first (just (pieces.make_seed (view x)) 9 0x2780 (omega arith) refl) in
+    let c1 = comes first (just (pieces.draw_seed (view x)) 9 0x2780 (omega arith) refl) in
     let c2 = comes_then 9 8 c1 second (from pieces.draw_number c1.holds (drawn_goes s (view x) d)) refl in
     let step_is = step_random s is in
     let b = bound_made s (next s) (Some (Byte RAND)) is step_is in

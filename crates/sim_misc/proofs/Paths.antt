@@ -28,15 +28,15 @@ seed_read v i = record {
   by = λ f. rw (read_word (slice_index v.cells 0xC0) (slice_index v.cells 0xC1) (low v.r.r6) (i.cells 0xC1) (less_fits v.r.r6)) refl;
 }
 
-seed_made : (v : View) → Rest (0x2780 ∷ []) 3 13 (with_seed v) 0x276C (pieces.make_seed v)
+seed_made : (v : View) → Rest (0x2780 ∷ []) 3 13 (with_seed v) 0x276C (pieces.draw_seed v)
 seed_made v = record {
   by = λ f.
       let product = product_of 0x6FE5 (word_in v.cells SEED) in
       rw (swapped_high (sum_of Word product.1 0x7AB9) (sum_fits product.1 0x7AB9)) refl;
 }
 
-pub make_seed : (v : View) → IsView v → Leads (0x2780 ∷ []) v 0x2762 (pieces.make_seed v)
-make_seed v i = leads (0x2780 ∷ []) (part_then (0x2780 ∷ []) 3 0 13 (seed_read v i) (seed_made v))
+pub draw_seed : (v : View) → IsView v → Leads (0x2780 ∷ []) v 0x2762 (pieces.draw_seed v)
+draw_seed v i = leads (0x2780 ∷ []) (part_then (0x2780 ∷ []) 3 0 13 (seed_read v i) (seed_made v))
 
 pub draw_number : (v : View) → IsView v → Leads [] v 0x2780 (pieces.draw_number v)
 draw_number v i = record {

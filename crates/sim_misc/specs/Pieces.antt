@@ -20,8 +20,8 @@ abbrev pub turn_to_source : View → Exit
 turn_to_source v = exit 4 STO (record v { r = record v.r { r7 = v.r.r2; r8 = v.r.r5; r9 = v.r.r12 } })
 
 -- GORAND: the next seed is made and stored, and its swapped bytes are kept.
-abbrev pub make_seed : View → Exit
-make_seed v =
+abbrev pub draw_seed : View → Exit
+draw_seed v =
     let seed = word_in v.cells SEED in
     let product = product_of 0x6FE5 seed in
     let next = sum_of Word product.1 0x7AB9 in

@@ -7,5 +7,5 @@ mod random;
 mod row;
 
 pub use piece::{keep_destination, turn_to_source};
-pub use random::{draw_number, make_seed};
+pub use random::{draw_number, draw_seed};
 pub use row::run_misc;

@@ -19,9 +19,9 @@ use std::sync::ledger::Ledger;
 use tms_step::{Machine, Steps};
 
 /// The piece of RAND that makes the next seed and stores it.
-pub fn make_seed<L: Ledger>(machine: &mut Machine, steps: &mut Steps<L>)
+pub fn draw_seed<L: Ledger>(machine: &mut Machine, steps: &mut Steps<L>)
     requires { Stands machine.old address.GORAND }
-    ensures { Exits machine.old machine.new steps.old steps.new (piece.make_seed (view machine.old)) }
+    ensures { Exits machine.old machine.new steps.old steps.new (piece.draw_seed (view machine.old)) }
 {
     run_piece(machine, steps, &[RANDL]);
 }
@@ -41,7 +41,7 @@ pub(crate) fn run_random<L: Ledger>(machine: &mut Machine, steps: &mut Steps<L>)
     requires random { operation_seen (view machine.old) ≡ Some (Byte RAND) }
     ensures { Turned (state_at_dispatch (view machine.old)) most_to_dispatch machine.old machine.new steps.old steps.new result }
 {
-    make_seed(machine, steps);
+    draw_seed(machine, steps);
     draw_number(machine, steps);
     Turn::Stepped
 }
