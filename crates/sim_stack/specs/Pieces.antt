@@ -91,8 +91,8 @@ store_next v =
     })
 
 -- PUSHV: the pointer is stored, and the byte is to go to the stack, if there is room for it.
-abbrev pub push : View → Exit
-push v =
+abbrev pub push_pointer : View → Exit
+push_pointer v =
     let pointer = sum_of Word (pointer_at VALUE_STACK v) 0x0100 in
     let told = record v { r = record v.r { r7 = offset_of pointer; r12 = pointer } } in
     if nat_lt 0xC1 (offset_of pointer)

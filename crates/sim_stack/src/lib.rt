@@ -15,4 +15,4 @@ pub use fetch::{
     ask_byte, ask_stacked, keep_back, keep_byte, keep_place, keep_stacked_next, seek_stacked,
     store_byte, store_stacked,
 };
-pub use push::push;
+pub use push::push_pointer;

@@ -19,9 +19,9 @@ use step_defs::Reason;
 use tms_step::{Machine, Steps};
 
 /// The piece of PUSH that stores the pointer and turns to the top of the stack, or stops by reason 3.
-pub fn push<L: Ledger>(machine: &mut Machine, steps: &mut Steps<L>)
+pub fn push_pointer<L: Ledger>(machine: &mut Machine, steps: &mut Steps<L>)
     requires { Stands machine.old address.PUSHV }
-    ensures { Exits machine.old machine.new steps.old steps.new (piece.push (view machine.old)) }
+    ensures { Exits machine.old machine.new steps.old steps.new (piece.push_pointer (view machine.old)) }
 {
     run_piece(machine, steps, &[STO]);
 }
@@ -33,7 +33,7 @@ pub fn run_push<L: Ledger>(machine: &mut Machine, steps: &mut Steps<L>) -> Turn
     requires byte { (view machine.old).r.r3 ≡ 1 }
     ensures { TurnsRow (One PUSH) 160 machine.old machine.new steps.old steps.new result }
 {
-    push(machine, steps);
+    push_pointer(machine, steps);
     if machine.pc() == GSTOP {
         return Turn::Stopped(Reason::Stack);
     }
