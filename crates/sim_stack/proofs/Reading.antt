@@ -183,12 +183,56 @@ module _ (x a : MachineState) (t t1 : ℕ) (stands : Stands x 0x2710) (e : Exits
                 let near : IsVisible (view x).r.r8 (view x).r.r7 1 = subst (λ (n : ℕ). IsVisible (view x).r.r8 (view x).r.r7 n) one h in
                 subst (λ (v : View). IsVisible v.r.r15 v.r.r10 1) (sym seen_f) near
 
-            run : (y : MachineState) (t6 : ℕ) (s : GplState) (place : Place) (top number byte : ℕ) → EndsFetch f y t5 t6 → Fetching (gone_on s) place top number byte next (view f) →
-                (after : Changes) → Comes 76 f y t5 t6 0x228C (SeesFinished after) → Comes 160 x y t t6 0x228C (SeesFinished after)
-            run y t6 s place top number byte ends h after c =
-                let c1 : Comes 7 x a t t1 0x22BC (λ v. v ≡ placed) = comes went.1 (record { within = omega arith; to_is = refl; holds = refl }) in
-                let c2 = comes_on 7 18 c1 set refl in
-                let c3 = comes_on 25 21 c2 loads refl in
-                let c4 = comes_on 46 11 c3 fetched refl in
-                let c5 = comes_on 57 18 c4 located refl in
-                comes_as 160 (SeesFinished after) (comes_on 75 76 c5 c refl) (omega arith) (λ v q. q)
+            module _ (s : GplState) (cells : (view x).cells ≡ s.cells) where
+              word_is : (view c).r.r6 ≡ word_at s (top_in s)
+              word_is = ap (λ (v : View). v.r.r6) seen_c ∙ ap (λ (n : ℕ). word_in (view x).cells n) (offset_top s cells) ∙ ap (λ (l : List ℕ). word_in l (top_in s)) cells
+
+              -- the byte there, as register 12 has it
+              byte_is : (view f).r.r12 ≡ join (slice_index image (word_at s (top_in s))) 0
+              byte_is =
+                  ap (λ (v : View). v.r.r12) seen_f
+                  ∙ ap (λ (n : ℕ). join (slice_index image n) 0) (sym (ap (λ (v : View). v.r.r6) seen_c) ∙ word_is)
+
+              comes_storing : Comes 75 x f t t5 0x274A (Located (view d) image next 0x274A)
+              comes_storing =
+                  let c1 : Comes 7 x a t t1 0x22BC (λ v. v ≡ placed) = comes went.1 (record { within = omega arith; to_is = refl; holds = refl }) in
+                  let c2 = comes_on 7 18 c1 set refl in
+                  let c3 = comes_on 25 21 c2 loads refl in
+                  let c4 = comes_on 46 11 c3 fetched refl in
+                  comes_on 57 18 c4 located refl
+
+    -- the row ends with what FETCH changes
+    pub reads : (b c d f y : MachineState) (t2 t3 t4 t5 t6 : ℕ) → SetsAside a b t1 t2 → LoadsStacked b c t2 t3 → FetchesStacked c d t3 t4 → Locates 0x274A d f t4 t5 → EndsFetch f y t5 t6 → TurnsRow (One FETCH) 160 x y t t6 Stepped
+    reads b c d f y t2 t3 t4 t5 t6 sets loads fetches locates ends s place source known at is =
+        let h = at.holds in
+        let image : List ℕ = s.image in
+        let grom = h.sees.grom in
+        let cells = h.sees.cells in
+        let top : ℕ = top_in s in
+        let word : ℕ = word_at s top in
+        let seen = seen_f image (next_of s) grom b t2 sets c t3 loads d t4 fetches f t5 locates in
+        let word_here = word_is image (next_of s) grom b t2 sets c t3 loads d t4 fetches f t5 locates s cells in
+        let fetching : Fetching (gone_on s) place top (next_in_grom word) (slice_index image word) (next_in_grom word) (view f) = record {
+          changed = record {
+            cells = ap (λ (v : View). v.cells) seen ∙ cells;
+            vdp = ap (λ (v : View). v.vdp.memory) seen ∙ h.sees.vdp;
+            registers = ap (λ (v : View). v.vdp.registers) seen ∙ h.sees.registers;
+            held = ap (λ (v : View). v.vdp.held) seen ∙ h.sees.held;
+            grom = ap (λ (v : View). v.grom) seen ∙ ap (λ (n : ℕ). grom_at image (next_in_grom n)) word_here;
+            mark = ap (λ (v : View). v.r.r13) seen ∙ h.mark;
+          };
+          bytes_are = ap (λ (v : View). v.r.r3) seen;
+          top_is = ap (λ (v : View). v.r.r7) seen ∙ offset_top s cells;
+          number_is = ap (λ (v : View). v.r.r9) seen ∙ ap next_in_grom word_here;
+          address = ap (λ (v : View). v.r.r10) seen ∙ at.to_place.address;
+          space = ap (λ (v : View). v.r.r15) seen ∙ at.to_place.space;
+          byte_is = byte_is image (next_of s) grom b t2 sets c t3 loads d t4 fetches f t5 locates s cells;
+          back = ap (λ (v : View). v.r.r14) seen;
+        } in
+        let room : on_stack 2 top ≡ Ok top = with_room 0xC0 2 top refl (ap (nat_lt 0xC0) (sym (offset_top s cells)) ∙ went.0) in
+        let after : Changes = with_byte_from word top place (unchanged (gone_on s)) in
+        let result : row_result (One FETCH) s place source ≡ Ok after = ap (by_fetch s place) room in
+        let c1 = comes_storing image (next_of s) grom b t2 sets c t3 loads d t4 fetches f t5 locates s cells in
+        let c2 : Comes 151 x y t t6 0x228C (SeesFinished after) = comes_on 75 76 c1 (ends (gone_on s) place top (next_in_grom word) (slice_index image word) (next_in_grom word) fetching) refl in
+        let c3 : Comes 160 x y t t6 0x228C (SeesFinished after) = comes_as 160 (SeesFinished after) c2 (omega arith) (λ v q. q) in
+        subst (λ (r : Result Changes Reason). TurnsBy 160 s x y t t6 Stepped r) (sym result) (refl, c3)

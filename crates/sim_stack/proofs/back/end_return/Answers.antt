@@ -1,14 +1,6 @@
-use Rattle.std.proofs.Common.{◌≡◌, subst, sym, ◌∙◌, arith}
-use Rattle.sim_view.specs.View.{view, Stands}
+use Rattle.std.proofs.Common.{◌≡◌, arith}
 use Rattle.sim_stack.proofs.Returning
 use Rattle.sim_stack.proofs.back.end_return.Goals as goal
-
-pub take_jump-requires : goal.take_jump-requires
-take_jump-requires g c =
-    let x = c.args.machine.now in
-    let a = c.take_return.new.machine in
-    let here : a.cpu.pc ≡ 0x265E = let p = c.pc.ensures.value in let q = c.if-pc-eq-TAKE.true in omega arith in
-    (Returning.takes x a c.args.steps.now c.take_return.new.steps c.take_return.ensures here).1.stands
 
 pub returns-then-pc-eq-TAKE : goal.returns-then-pc-eq-TAKE
 returns-then-pc-eq-TAKE g c =
@@ -16,13 +8,6 @@ returns-then-pc-eq-TAKE g c =
     let a = c.take_return.new.machine in
     let here : a.cpu.pc ≡ 0x265E = let p = c.pc.ensures.value in let q = c.if-pc-eq-TAKE.true in omega arith in
     Returning.ends_rtn x a c.take_jump.new.machine c.args.steps.now c.take_return.new.steps c.take_jump.new.steps c.take_return.ensures here c.take_jump.ensures
-
-pub jump-requires : goal.jump-requires
-jump-requires g c =
-    let x = c.args.machine.now in
-    let a = c.take_return.new.machine in
-    let elsewhere : a.cpu.pc ≡ 0x265E → ⊥ = λ here. let p = c.pc.ensures.value in let q = c.if-pc-eq-TAKE.false in absurd (omega arith) in
-    (Returning.keeps x a c.args.steps.now c.take_return.new.steps c.take_return.ensures elsewhere).1.stands
 
 pub returns : goal.returns
 returns g c =

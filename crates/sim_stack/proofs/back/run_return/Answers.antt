@@ -8,47 +8,35 @@ pub returns-then-pc-eq-GSTOP : goal.returns-then-pc-eq-GSTOP
 returns-then-pc-eq-GSTOP g c =
     let x = c.args.machine.now in
     let a = c.ask_return.new.machine in
+    let s = state_at_dispatch (view x) in
     let q = c.requires in
-    let here : a.cpu.pc ≡ 0x22B8 = let p = c.pc.ensures.value in let q = c.if-pc-eq-GSTOP.true in omega arith in
-    Returning.stopped (state_at_dispatch (view x)) x a c.args.steps.now c.ask_return.new.steps q.stands q.dispatched q.family c.ask_return.ensures here
-
-pub run_load-requires-clause-stands : goal.run_load-requires-clause-stands
-run_load-requires-clause-stands g c =
-    let x = c.args.machine.now in
-    let a = c.ask_return.new.machine in
-    let q = c.requires in
-    let elsewhere : a.cpu.pc ≡ 0x22B8 → ⊥ = λ here. let p = c.pc.ensures.value in let q = c.if-pc-eq-GSTOP.false in absurd (omega arith) in
-    Returning.stands_load (state_at_dispatch (view x)) x a c.args.steps.now c.ask_return.new.steps q.stands q.dispatched q.family c.ask_return.ensures elsewhere
+    let here : a.cpu.pc ≡ 0x22B8 = let p = c.pc.ensures.value in let r = c.if-pc-eq-GSTOP.true in omega arith in
+    Returning.stopped s x a c.args.steps.now c.ask_return.new.steps q.stands q.dispatched q.family c.ask_return.ensures here
 
 pub run_load-requires-clause-idle : goal.run_load-requires-clause-idle
 run_load-requires-clause-idle g c =
     let x = c.args.machine.now in
     let a = c.ask_return.new.machine in
+    let s = state_at_dispatch (view x) in
     let q = c.requires in
-    let elsewhere : a.cpu.pc ≡ 0x22B8 → ⊥ = λ here. let p = c.pc.ensures.value in let q = c.if-pc-eq-GSTOP.false in absurd (omega arith) in
-    Returning.idle_load (state_at_dispatch (view x)) x a c.args.steps.now c.ask_return.new.steps q.stands q.dispatched q.family c.ask_return.ensures elsewhere
-
-pub run_load-requires-clause-visible : goal.run_load-requires-clause-visible
-run_load-requires-clause-visible g c =
-    let x = c.args.machine.now in
-    let a = c.ask_return.new.machine in
-    let q = c.requires in
-    let elsewhere : a.cpu.pc ≡ 0x22B8 → ⊥ = λ here. let p = c.pc.ensures.value in let q = c.if-pc-eq-GSTOP.false in absurd (omega arith) in
-    Returning.visible_load (state_at_dispatch (view x)) x a c.args.steps.now c.ask_return.new.steps q.stands q.dispatched q.family c.ask_return.ensures elsewhere
+    let elsewhere : a.cpu.pc ≡ 0x22B8 → ⊥ = λ here. let p = c.pc.ensures.value in let r = c.if-pc-eq-GSTOP.false in absurd (omega arith) in
+    Returning.idle_load s x a c.args.steps.now c.ask_return.new.steps q.stands q.dispatched q.family c.ask_return.ensures elsewhere
 
 pub end_return-requires : goal.end_return-requires
 end_return-requires g c =
     let x = c.args.machine.now in
     let a = c.ask_return.new.machine in
+    let s = state_at_dispatch (view x) in
     let q = c.requires in
-    let elsewhere : a.cpu.pc ≡ 0x22B8 → ⊥ = λ here. let p = c.pc.ensures.value in let q = c.if-pc-eq-GSTOP.false in absurd (omega arith) in
-    Returning.stands_taking (state_at_dispatch (view x)) x a c.args.steps.now c.ask_return.new.steps q.stands q.dispatched q.family c.ask_return.ensures elsewhere c.run_load.new.machine c.run_load.new.steps c.run_load.ensures.value
+    let elsewhere : a.cpu.pc ≡ 0x22B8 → ⊥ = λ here. let p = c.pc.ensures.value in let r = c.if-pc-eq-GSTOP.false in absurd (omega arith) in
+    Returning.stands_taking s x a c.args.steps.now c.ask_return.new.steps q.stands q.dispatched q.family c.ask_return.ensures elsewhere c.run_load.new.machine c.run_load.new.steps c.run_load.ensures.value
 
 pub returns : goal.returns
 returns g c =
     let x = c.args.machine.now in
     let a = c.ask_return.new.machine in
+    let s = state_at_dispatch (view x) in
     let q = c.requires in
-    let elsewhere : a.cpu.pc ≡ 0x22B8 → ⊥ = λ here. let p = c.pc.ensures.value in let q = c.if-pc-eq-GSTOP.false in absurd (omega arith) in
-    Returning.turned (state_at_dispatch (view x)) x a c.args.steps.now c.ask_return.new.steps q.stands q.dispatched q.family c.ask_return.ensures elsewhere c.run_load.new.machine c.run_load.new.steps c.run_load.ensures.value
-    c.end_return.new.machine c.end_return.new.steps c.end_return.ensures
+    let elsewhere : a.cpu.pc ≡ 0x22B8 → ⊥ = λ here. let p = c.pc.ensures.value in let r = c.if-pc-eq-GSTOP.false in absurd (omega arith) in
+    Returning.turned s x a c.args.steps.now c.ask_return.new.steps q.stands q.dispatched q.family c.ask_return.ensures elsewhere
+    c.run_load.new.machine c.run_load.new.steps c.run_load.ensures.value c.end_return.new.machine c.end_return.new.steps c.end_return.ensures
