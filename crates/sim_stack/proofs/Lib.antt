@@ -6,3 +6,4 @@ pub mod Calling
 pub mod Pushing
 pub mod Fetching
 pub mod Reading
+pub mod Turning

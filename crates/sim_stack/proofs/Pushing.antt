@@ -46,7 +46,7 @@ width_byte s op width known bytes is byte =
 
 -- ---- the step
 
-abbrev top_in : GplState → ℕ
+abbrev pub top_in : GplState → ℕ
 top_in s = grown_by 1 (slice_index s.cells 0x72)
 
 abbrev by_push : GplState → ℕ → Result ℕ Reason → Result Changes Reason

@@ -39,7 +39,7 @@ use Rattle.sim_stack.proofs.Locating.{next_fits, later_fits}
 low_fits : (n : ℕ) → low n < 256
 low_fits n = omega arith
 
-abbrev top_in : GplState → ℕ
+abbrev pub top_in : GplState → ℕ
 top_in s = slice_index s.cells 0x73
 
 abbrev by_fetch : GplState → Place → Result ℕ Reason → Result Changes Reason

@@ -76,7 +76,7 @@ with_room limit bytes top e c =
     ap (stacked_by top) n
 
 -- it is the only reason
-abbrev OnlyStack : {X : Type 0} → Result X Reason → Type 0
+abbrev pub OnlyStack : {X : Type 0} → Result X Reason → Type 0
 OnlyStack (Ok x) = Unit {0}
 OnlyStack (Err reason) = reason ≡ Stack
 

@@ -38,8 +38,8 @@ use Rattle.sim_rows.proofs.Sources.{code_fits}
 use Rattle.sim_rows.proofs.Rowing as rowing
 use Rattle.sim_stack.specs.Family.{is_return, is_call, is_stack_row, is_stack}
 use Rattle.sim_stack.proofs.Room.{OnlyStack, stack_alone}
-use Rattle.sim_stack.proofs.Pushing.{top_in, by_push}
-use Rattle.sim_stack.proofs.Reading.{by_fetch, top_in as return_top}
+use Rattle.sim_stack.proofs.Pushing.{top_in}
+use Rattle.sim_stack.proofs.Reading.{top_in as return_top}
 
 -- ---- which operation stands where
 
