@@ -1,5 +1,5 @@
 -- CALL, from its dispatch to the end of the step.
-use Rattle.std.proofs.Common.{◌≡◌, ℕ, ◌+◌, ◌<◌, ◌≤◌, Bool, true, false, refl, sym, ap, subst, ◌∙◌, arith, List, Option, Some, Result, Ok, Err, None}
+use Rattle.std.proofs.Common.{◌≡◌, ℕ, ◌<◌, true, false, refl, sym, ap, subst, ◌∙◌, arith, List, Option, Some, Result, Ok, Err}
 use Rattle.std.specs.Prelude.{nat_lt, slice_index, slice_set}
 use Rattle.source_defs.specs.Refusals.{◌>>=◌}
 use Rattle.console_defs.specs.Words.{high}
@@ -30,8 +30,8 @@ use Rattle.sim_operands.specs.Pieces.{exit, return_of}
 use Rattle.sim_operands.specs.Values.{IsVisible}
 use Rattle.sim_operands.specs.Subroutines.{grom_at, StoresValue}
 use Rattle.sim_operands.proofs.Facts.{at_most}
-use Rattle.sim_rows.specs.States.{Sees, Dispatched, StoppedBy, behind_code, operation_in}
-use Rattle.sim_rows.specs.Results.{Changed, Storing, SeesFinished}
+use Rattle.sim_rows.specs.States.{Dispatched, StoppedBy, behind_code, operation_in}
+use Rattle.sim_rows.specs.Results.{Storing}
 use Rattle.sim_rows.proofs.Again.{idle_again, idle_told}
 use Rattle.sim_rows.proofs.Beginning.{just, from, known}
 use Rattle.sim_rows.proofs.Ends.{matches, reaches, turned_by}
@@ -47,7 +47,8 @@ use Rattle.sim_stack.proofs.Locating.{next_fits}
 
 -- ---- the address that follows
 
-pub reads : (x a y : MachineState) (t t1 t2 : ℕ) → Exits x a t t1 (pieces.ask_target (view x)) → Exits a y t1 t2 (operands.stream (view a)) → ReadsTarget x y t t2
+pub reads : (x a y : MachineState) (t t1 t2 : ℕ) → Exits x a t t1 (pieces.ask_target (view x)) → Exits a y t1 t2 (operands.stream (view a)) →
+    ReadsTarget x y t t2
 reads x a y t t1 t2 e1 e2 s d =
     let v : View = view x in
     let asked : View = (pieces.ask_target v).left in
@@ -95,7 +96,8 @@ module _ (x a : MachineState) (t t1 : ℕ) (e1 : Exits x a t t1 (pieces.store_ne
     ends y t3 resumes s top target h =
         let before : Changes = with_cell 0x73 top (unchanged s) in
         let after : Changes = with_value Word (cells_at top) s.pc before in
-        let storing : Storing before Word (cells_at top) s.pc (view a) = subst (λ (v : View). Storing before Word (cells_at top) s.pc v) (sym e1.shows) (record {
+        let storing : Storing before Word (cells_at top) s.pc (view a) =
+        subst (λ (v : View). Storing before Word (cells_at top) s.pc v) (sym e1.shows) (record {
           changed = record {
             cells = ap (λ (l : List ℕ). slice_set l 0x73 (high (view x).r.r12)) h.changed.cells ∙ ap (slice_set s.cells 0x73) h.pointer;
             vdp = h.changed.vdp;
@@ -108,9 +110,11 @@ module _ (x a : MachineState) (t t1 : ℕ) (e1 : Exits x a t t1 (pieces.store_ne
           to_place = record { address = h.top_is; space = refl };
           value = h.next_is;
         }) in
-        let c1 : Comes 4 x a t t1 0x23C2 (λ v. v ≡ (pieces.store_next (view x)).left) = comes e1 (record { within = omega arith; to_is = refl; holds = refl }) in
+        let c1 : Comes 4 x a t t1 0x23C2 (λ v. v ≡ (pieces.store_next (view x)).left) =
+        comes e1 (record { within = omega arith; to_is = refl; holds = refl }) in
         let c2 : Comes 16 a b t1 t2 0x26DC (ChangedFrom after (view a)) =
-        subst (λ (n : ℕ). Comes 16 a b t1 t2 n (ChangedFrom after (view a))) (ap return_of e1.shows) (store_then before Word (cells_at top) s.pc a b t1 t2 storing stored) in
+        subst (λ (n : ℕ). Comes 16 a b t1 t2 n (ChangedFrom after (view a))) (ap return_of e1.shows)
+        (store_then before Word (cells_at top) s.pc a b t1 t2 storing stored) in
         let back : (view b).r.r14 ≡ target = ap (λ (v : View). v.r.r14) stored.holds.is ∙ ap (λ (v : View). v.r.r14) e1.shows ∙ h.target_is in
         let c3 : Comes 20 x b t t2 0x26DC (ChangedFrom after (view a)) = comes_on 4 16 c1 c2 refl in
         comes_on 20 36 c3 (resumes (gone_to s top target) s.pc c3.holds.changed back) refl
@@ -249,7 +253,8 @@ module _ (s : GplState) (x a b : MachineState) (t t1 t2 : ℕ) (stands : Stands 
           let room : on_stack 2 (top_in s) ≡ Ok (top_in s) = with_room 0xC0 2 (top_in s) refl (ap (nat_lt 0xC0) (sym offset_top) ∙ went.0) in
           let is = step_by s (Ok (top_in s)) family room in
           let next = finished (gone_to (beyond s) (top_in s) (read_in s).0) in
-          let c2 : Comes 20 x b t t2 0x22BC (λ v. v ≡ placed) = comes_then 11 9 called went.1 (record { within = omega arith; to_is = refl; holds = refl }) refl in
+          let c2 : Comes 20 x b t t2 0x22BC (λ v. v ≡ placed) =
+          comes_then 11 9 called went.1 (record { within = omega arith; to_is = refl; holds = refl }) refl in
           let c3 = comes_on 20 18 c2 located refl in
           let c4 = comes_on 38 56 c3 (ends_call (beyond s) (top_in s) (read_in s).0 stacking) refl in
           let b = bound_call s next family is in

@@ -1,5 +1,5 @@
 -- PUSH, from its row to the end of the step.
-use Rattle.std.proofs.Common.{◌≡◌, ℕ, ◌+◌, ◌<◌, ◌≤◌, Bool, true, false, refl, sym, ap, subst, ◌∙◌, arith, List, Option, Some, Result, Ok, Err}
+use Rattle.std.proofs.Common.{◌≡◌, ℕ, ◌<◌, false, refl, sym, ap, subst, ◌∙◌, arith, List, Option, Some, Result, Ok, Err}
 use Rattle.std.specs.Prelude.{nat_lt, slice_index, slice_set}
 use Rattle.source_defs.specs.Refusals.{◌>>=◌}
 use Rattle.console_defs.specs.Words.{high}
@@ -11,20 +11,19 @@ use Rattle.gpl_defs.specs.declared.instruction.GplOperation.TheVariants.{One}
 use Rattle.step_defs.specs.declared.reason.Reason.{Reason}
 use Rattle.step_defs.specs.declared.reason.Reason.TheVariants.{Stack}
 use Rattle.step_defs.specs.State.{GplState}
-use Rattle.step_defs.specs.Place.{Place, value_at}
+use Rattle.step_defs.specs.Place.{value_at}
 use Rattle.step_defs.specs.Changes.{Changes, unchanged, with_cell}
-use Rattle.step_defs.specs.Arithmetic.{Source}
 use Rattle.step_defs.specs.Flow.{on_stack, grown_by, cells_at}
 use Rattle.interp_defs.specs.declared.turn.Turn.TheVariants.{Stepped, Stopped}
 use Rattle.interp_defs.specs.Match.{PortsAreIdle}
 use Rattle.sim_view.specs.View.{View, view, Stands}
-use Rattle.sim_view.specs.Exits.{Exit, Exits, Comes}
+use Rattle.sim_view.specs.Exits.{Exits, Comes}
 use Rattle.sim_view.proofs.Bridge.{is_view}
 use Rattle.sim_view.proofs.Compose.{comes, comes_as, comes_on}
 use Rattle.sim_operands.specs.Pieces.{exit}
 use Rattle.sim_operands.specs.Values.{width_in, in_register}
 use Rattle.sim_rows.specs.States.{StoppedBy, operation_in}
-use Rattle.sim_rows.specs.Rows.{row_width, gone_on, operands_of, bytes_by, destination_bytes, AtRow}
+use Rattle.sim_rows.specs.Rows.{row_width, gone_on, bytes_by, destination_bytes}
 use Rattle.sim_rows.specs.Results.{Storing, SeesFinished, StoresResult, TurnsBy, TurnsRow, row_result}
 use Rattle.sim_rows.proofs.Again.{idle_again}
 use Rattle.sim_stack.specs.Pieces as pieces
@@ -37,7 +36,8 @@ pub one_byte : (w : Width) → size_of w ≡ 1 → w ≡ Byte
 one_byte Byte e = refl
 one_byte Word e = absurd (omega arith)
 
-pub width_byte : (s : GplState) (op : GplOperation) (width : Width) → operation_in s ≡ Some op → bytes_by (Some op) width ≡ size_of width → row_width s ≡ width → width ≡ Byte → width_in (destination_bytes s) ≡ Byte
+pub width_byte : (s : GplState) (op : GplOperation) (width : Width) → operation_in s ≡ Some op → bytes_by (Some op) width ≡ size_of width →
+    row_width s ≡ width → width ≡ Byte → width_in (destination_bytes s) ≡ Byte
 width_byte s op width known bytes is byte =
     ap (λ (w : Width). width_in (bytes_by (operation_in s) w)) is
     ∙ ap (λ (o : Option GplOperation). width_in (bytes_by o width)) known
@@ -109,7 +109,8 @@ module _ (x a : MachineState) (t u : ℕ) (stands : Stands x 0x2682) (e : Exits 
         ∙ ap (λ (w : Width). high (in_register w (value_at s w place))) width
         ∙ byte_back (value_at s Byte place)
         ∙ ap (λ (w : Width). value_at s w place) (sym narrow) in
-        let storing : Storing before Byte (cells_at top) byte (view a) = subst (λ (v : View). Storing before Byte (cells_at top) byte v) (sym went.1.shows) (record {
+        let storing : Storing before Byte (cells_at top) byte (view a) =
+        subst (λ (v : View). Storing before Byte (cells_at top) byte v) (sym went.1.shows) (record {
           changed = record {
             cells = ap (λ (l : List ℕ). slice_set l 0x72 (high pointer)) h.sees.cells ∙ ap (slice_set s.cells 0x72) (pointer_top s h.sees.cells);
             vdp = h.sees.vdp;
@@ -124,5 +125,6 @@ module _ (x a : MachineState) (t u : ℕ) (stands : Stands x 0x2682) (e : Exits 
         }) in
         let c1 : Comes 10 x a t u 0x24A8 (λ v. v ≡ placed) = comes went.1 (record { within = omega arith; to_is = refl; holds = refl }) in
         let c2 : Comes 57 x y t w 0x228C (SeesFinished (with_cell top byte before)) = comes_on 10 47 c1 (stores before Byte (cells_at top) byte storing) refl in
-        let c3 : Comes 160 x y t w 0x228C (SeesFinished (with_cell top byte before)) = comes_as 160 (SeesFinished (with_cell top byte before)) c2 (omega arith) (λ v q. q) in
+        let c3 : Comes 160 x y t w 0x228C (SeesFinished (with_cell top byte before)) =
+        comes_as 160 (SeesFinished (with_cell top byte before)) c2 (omega arith) (λ v q. q) in
         subst (λ (r : Result Changes Reason). TurnsBy 160 s x y t w Stepped r) (sym result) (refl, c3)

@@ -1,12 +1,12 @@
 -- Room on a stack: what the checks of the pieces say, and the stop by reason 3.
-use Rattle.std.proofs.Common.{◌≡◌, ℕ, ◌+◌, ◌*◌, ◌/◌, ◌%◌, ◌<◌, ◌≤◌, Bool, true, false, refl, sym, ap, subst, ◌∙◌, arith, Result, Ok, Err, lit<}
+use Rattle.std.proofs.Common.{◌≡◌, ℕ, ◌+◌, ◌<◌, ◌≤◌, Bool, true, false, refl, sym, ap, ◌∙◌, arith, Result, Ok, Err}
 use Rattle.std.specs.Prelude.{nat_lt, nat_le, if◌then◌else◌, slice_index}
 use Rattle.std.proofs.lemmas.Bool.{le-leb, lt-leb, ltb-true, ltb-false}
 use Rattle.console_defs.specs.Words.{high, join, plus}
 use Rattle.console_defs.specs.Flags.{Word, sum_of}
 use Rattle.console_defs.specs.Machine.{MachineState}
 use Rattle.step_defs.specs.declared.reason.Reason.{Reason}
-use Rattle.step_defs.specs.declared.reason.Reason.TheVariants.{Stack, Exit as Leave}
+use Rattle.step_defs.specs.declared.reason.Reason.TheVariants.{Stack}
 use Rattle.step_defs.specs.State.{GplState}
 use Rattle.step_defs.specs.Place.{value_at, word_at}
 use Rattle.step_defs.specs.Flow.{on_stack, grown_by}
@@ -15,11 +15,10 @@ use Rattle.step_defs.specs.Run.{bound}
 use Rattle.interp_defs.specs.declared.turn.Turn.TheVariants.{Stopped}
 use Rattle.interp_defs.specs.Runs.{is_end}
 use Rattle.interp_defs.specs.Turned.{Turned}
-use Rattle.sim_view.specs.View.{View, Stands}
+use Rattle.sim_view.specs.View.{View}
 use Rattle.sim_view.specs.Exits.{Exit, Exits, Comes}
-use Rattle.sim_operands.specs.Values.{in_register}
 use Rattle.sim_operands.specs.Subroutines.{place_in, Loaded}
-use Rattle.sim_rows.specs.States.{Sees, StoppedBy, Ended}
+use Rattle.sim_rows.specs.States.{Sees, StoppedBy}
 use Rattle.sim_rows.proofs.Ends.{stops, reaches, turned_by}
 use Rattle.sim_rows.proofs.Steps.{bound_stop}
 use Rattle.sim_stack.specs.Pieces.{offset_of}
@@ -101,7 +100,8 @@ goes_on x a t u false stop go e is elsewhere = (refl, e)
 
 -- ---- the stop
 
-pub stop_turned : (s : GplState) (x a : MachineState) (t u most : ℕ) → is_end x.cpu.pc ≡ false → step s ≡ Err Stack → Comes most x a t u 0x22B8 (StoppedBy s Stack) → most ≤ 371 →
+pub stop_turned : (s : GplState) (x a : MachineState) (t u most : ℕ) → is_end x.cpu.pc ≡ false → step s ≡ Err Stack →
+    Comes most x a t u 0x22B8 (StoppedBy s Stack) → most ≤ 371 →
     Turned s 29 x a t u (Stopped Stack)
 stop_turned s x a t u most start is c le =
     let b = bound_stop s Stack is in

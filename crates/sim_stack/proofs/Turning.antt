@@ -1,9 +1,9 @@
 -- The rows of FETCH and PUSH from their dispatch, and which instruction stands where.
-use Rattle.std.proofs.Common.{◌≡◌, ℕ, ◌+◌, ◌/◌, ◌%◌, ◌<◌, ◌≤◌, Bool, true, false, refl, sym, ap, subst, ◌∙◌, arith, Option, Some, None, Result, Ok, Err}
+use Rattle.std.proofs.Common.{◌≡◌, ℕ, ◌+◌, ◌%◌, ◌<◌, ◌≤◌, Bool, true, false, refl, sym, ap, subst, ◌∙◌, arith, Option, Some, None, Result, Ok, Err}
 use Rattle.std.specs.Prelude.{◌==◌, not, if◌then◌else◌}
 use Rattle.std.proofs.lemmas.Bool.{agree_below_at}
 use Rattle.source_defs.specs.Refusals.{◌>>=◌}
-use Rattle.console_defs.specs.Flags.{Width, Byte, Word, size_of}
+use Rattle.console_defs.specs.Flags.{Width, Byte, size_of}
 use Rattle.console_defs.specs.Machine.{MachineState}
 use Rattle.gpl_defs.specs.declared.instruction.PlainOp.TheVariants.{RTN, RTNC}
 use Rattle.gpl_defs.specs.declared.instruction.GoOp.TheVariants.{CALL}
@@ -15,10 +15,10 @@ use Rattle.native_interp.specs.Entries.{operation_entry, row_entry}
 use Rattle.step_defs.specs.declared.reason.Reason.{Reason}
 use Rattle.step_defs.specs.declared.reason.Reason.TheVariants.{Cell, Stack, Exit}
 use Rattle.step_defs.specs.State.{GplState}
-use Rattle.step_defs.specs.Place.{Place, value_at}
+use Rattle.step_defs.specs.Place.{Place}
 use Rattle.step_defs.specs.Changes.{Changes}
 use Rattle.step_defs.specs.Arithmetic.{Source}
-use Rattle.step_defs.specs.Flow.{on_stack, grown_by}
+use Rattle.step_defs.specs.Flow.{on_stack}
 use Rattle.step_defs.specs.Step.{word_or_byte}
 use Rattle.interp_defs.specs.declared.turn.Turn.{Turn}
 use Rattle.interp_defs.specs.declared.turn.Turn.TheVariants.{Stopped}
@@ -102,7 +102,8 @@ not_true false e = refl
 
 narrow : (s : GplState) → code_byte s < 256 → is_stack_row (operation_in s) ≡ true → row_width s ≡ Byte
 narrow s h e =
-    ap word_or_byte (not_true (code_byte s % 2 == 1) (if_true (is_stack_row (operation_at (code_byte s))) (not (code_byte s % 2 == 1)) e (agree_below_at bytes_alone (λ _. true) 256 (code_byte s) refl h)))
+    ap word_or_byte (not_true (code_byte s % 2 == 1)
+    (if_true (is_stack_row (operation_at (code_byte s))) (not (code_byte s % 2 == 1)) e (agree_below_at bytes_alone (λ _. true) 256 (code_byte s) refl h)))
 
 -- ---- they stop for one reason
 
@@ -136,7 +137,8 @@ module _ (x : MachineState) (t : ℕ) (stands : Stands x (operation_entry (opera
   row : is_row (operation_in s) ≡ true
   row = row_of (operation_seen (view x)) family
 
-  pub stopped : (y : MachineState) (u : ℕ) (told : Option GplOperation) → told ≡ None → StartsRow s x y t u told (operands_of s) → Turned s 29 x y t u (Stopped Cell)
+  pub stopped : (y : MachineState) (u : ℕ) (told : Option GplOperation) → told ≡ None → StartsRow s x y t u told (operands_of s) →
+      Turned s 29 x y t u (Stopped Cell)
   stopped y u told none l = rowing.stopped_row s x t fits start row y u told none l
 
   module _ (y : MachineState) (u : ℕ) (op : GplOperation) (told : Option GplOperation) (is : told ≡ Some op) (l : StartsRow s x y t u told (operands_of s)) where
@@ -170,7 +172,8 @@ module _ (x : MachineState) (t : ℕ) (stands : Stands x (operation_entry (opera
     pub visible_row : IsVisible (view y).r.r8 (view y).r.r7 (view y).r.r3
     visible_row =
         let h = began.comes.holds in
-        let lies = subst (λ (n : ℕ). number_of_space began.place.space ≡ 0 → began.place.address + n ≤ 0xC2) bytes_are (rowing.destination_visible s began.place began.source began.is_both) in
+        let lies = subst (λ (n : ℕ). number_of_space began.place.space ≡ 0 → began.place.address + n ≤ 0xC2) bytes_are
+        (rowing.destination_visible s began.place began.source began.is_both) in
         visible_of began.place 1 (view y).r.r8 (view y).r.r7 (view y).r.r3 h.to_place.space h.to_place.address byte_row (omega arith) lies
 
     pub turned : (z : MachineState) (v : ℕ) (turn : Turn) → TurnsRow op 160 y z u v turn → Turned s 29 x z t v turn

@@ -1,5 +1,5 @@
--- What the pieces of CALL, RTN, PUSH and FETCH come to: how many instructions they have, where they end, and what they change of
--- the view, in the words of the processor. Registers, cells and ports that are not named stay.
+-- What the pieces of CALL, RTN, PUSH and FETCH come to: how many instructions they have, where they end, and what they
+-- change of the view, in the words of the processor. Registers, cells and ports that are not named stay.
 use Rattle.std.specs.Prelude.{ℕ, ◌==◌, nat_lt, if◌then◌else◌, slice_index, slice_set}
 use Rattle.console_defs.specs.Words.{high, low, join}
 use Rattle.console_defs.specs.Flags.{Word, sum_of}

@@ -10,8 +10,7 @@ use Rattle.step_defs.specs.State.{GplState}
 use Rattle.step_defs.specs.Place.{Place, word_at}
 use Rattle.step_defs.specs.Changes.{Changes, unchanged, with_pc, with_cell, with_byte, with_condition}
 use Rattle.step_defs.specs.Flow.{with_word, grown_by}
-use Rattle.native_interp.specs.declared.addresses.TheConstants.{GSTEP, WHERE, CALLT, CALLS, FETCHP, FETCHA, FETCHB}
-use Rattle.native_interp.specs.declared.addresses.TheConstants.{FETCHS}
+use Rattle.native_interp.specs.declared.addresses.TheConstants.{GSTEP, WHERE, CALLT, FETCHP, FETCHA, FETCHB}
 use Rattle.sim_view.specs.View.{View, view}
 use Rattle.sim_view.specs.Exits.{Comes}
 use Rattle.sim_operands.specs.Values.{number_of_space}
@@ -85,8 +84,8 @@ abbrev pub ReadsTarget : MachineState → MachineState → ℕ → ℕ → Type 
 ReadsTarget x y before after =
     (s : GplState) → Dispatched s (view x) → Comes 11 x y before after CALLT (Called s)
 
--- At CALLS: the top of the stack in register 7 and in the high half of register 12, the next address in register 9, and the
--- one that is called in register 14.
+-- At CALLS: the top of the stack in register 7 and in the high half of register 12, the next address in register 9, and
+-- the one that is called in register 14.
 pub record Stacking (s : GplState) (top target : ℕ) (w : View) : Type 0 where
   pub changed : Changed (unchanged s) w
   pub bytes_are : w.r.r3 ≡ 2
@@ -123,8 +122,8 @@ FetchesStacked x y before after =
     (image : List ℕ) → (next : ℕ) → v.grom ≡ grom_at image next
     → Comes 11 x y before after WHERE (λ w. w ≡ fetched_at v image v.r.r6)
 
--- At FETCHS: the top of the stack in register 7, the address to store there in register 9, the byte in register 12, its place
--- in registers 10 and 15, and where GROM goes on in register 14.
+-- At FETCHS: the top of the stack in register 7, the address to store there in register 9, the byte in register 12, its
+-- place in registers 10 and 15, and where GROM goes on in register 14.
 pub record Fetching (s : GplState) (place : Place) (top number byte next : ℕ) (w : View) : Type 0 where
   pub changed : Changed (with_pc next (unchanged s)) w
   pub bytes_are : w.r.r3 ≡ 2

@@ -54,7 +54,8 @@ pub fn run_return<L: Ledger>(machine: &mut Machine, steps: &mut Steps<L>) -> Tur
     requires stands { Stands machine.old address.GORTN }
     requires dispatched { let v = view machine.old in Dispatched (state_at_dispatch v) v }
     requires family { is_return (operation_seen (view machine.old)) ≡ true }
-    ensures { Turned (state_at_dispatch (view machine.old)) most_to_dispatch machine.old machine.new steps.old steps.new result }
+    ensures { let s = state_at_dispatch (view machine.old) in
+        Turned s most_to_dispatch machine.old machine.new steps.old steps.new result }
 {
     ask_return(machine, steps);
     if machine.pc() == GSTOP {

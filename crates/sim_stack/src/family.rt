@@ -45,7 +45,8 @@ fn run_stack_row<L: Ledger>(machine: &mut Machine, steps: &mut Steps<L>) -> Turn
     requires stands { Stands machine.old (operation_entry (operation_seen (view machine.old))) }
     requires dispatched { let v = view machine.old in Dispatched (state_at_dispatch v) v }
     requires row { is_stack_row (operation_seen (view machine.old)) ≡ true }
-    ensures { Turned (state_at_dispatch (view machine.old)) most_to_dispatch machine.old machine.new steps.old steps.new result }
+    ensures { let s = state_at_dispatch (view machine.old) in
+        Turned s most_to_dispatch machine.old machine.new steps.old steps.new result }
 {
     let Some(operation) = start_row(machine, steps) else {
         return Turn::Stopped(Reason::Cell);
@@ -58,7 +59,8 @@ pub fn run_stack<L: Ledger>(machine: &mut Machine, steps: &mut Steps<L>) -> Turn
     requires stands { Stands machine.old (operation_entry (operation_seen (view machine.old))) }
     requires dispatched { let v = view machine.old in Dispatched (state_at_dispatch v) v }
     requires family { is_stack (operation_seen (view machine.old)) ≡ true }
-    ensures { Turned (state_at_dispatch (view machine.old)) most_to_dispatch machine.old machine.new steps.old steps.new result }
+    ensures { let s = state_at_dispatch (view machine.old) in
+        Turned s most_to_dispatch machine.old machine.new steps.old steps.new result }
 {
     if machine.pc() == GORTN {
         return run_return(machine, steps);

@@ -1,5 +1,5 @@
-//! The instructions that use the stacks, run on the machine: CALL, RTN and RTNC, FETCH and PUSH. Each is built of pieces:
-//! stretches of at most 16 instructions without a loop.
+//! The instructions that use the stacks, run on the machine: CALL, RTN and RTNC, FETCH and PUSH. Each is built of
+//! pieces: stretches of at most 16 instructions without a loop.
 #![tactic(auto)]
 
 mod back;

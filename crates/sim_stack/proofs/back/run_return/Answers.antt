@@ -29,7 +29,8 @@ end_return-requires g c =
     let s = state_at_dispatch (view x) in
     let q = c.requires in
     let elsewhere : a.cpu.pc ≡ 0x22B8 → ⊥ = λ here. let p = c.pc.ensures.value in let r = c.if-pc-eq-GSTOP.false in absurd (omega arith) in
-    Returning.stands_taking s x a c.args.steps.now c.ask_return.new.steps q.stands q.dispatched q.family c.ask_return.ensures elsewhere c.run_load.new.machine c.run_load.new.steps c.run_load.ensures.value
+    Returning.stands_taking s x a c.args.steps.now c.ask_return.new.steps q.stands q.dispatched q.family c.ask_return.ensures elsewhere
+    c.run_load.new.machine c.run_load.new.steps c.run_load.ensures.value
 
 pub returns : goal.returns
 returns g c =

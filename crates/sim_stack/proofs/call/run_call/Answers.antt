@@ -15,7 +15,8 @@ returns-then-pc-eq-GSTOP g c =
     let s = state_at_dispatch (view x) in
     let q = c.requires in
     let here : b.cpu.pc ≡ 0x22B8 = let p = c.pc.ensures.value in let r = c.if-pc-eq-GSTOP.true in omega arith in
-    Calling.stopped s x a b c.args.steps.now c.read_target.new.steps c.keep_target.new.steps q.stands q.dispatched q.family c.read_target.ensures c.keep_target.ensures here
+    Calling.stopped s x a b c.args.steps.now c.read_target.new.steps c.keep_target.new.steps q.stands q.dispatched q.family c.read_target.ensures
+    c.keep_target.ensures here
 
 pub end_call-requires-clause-stands : goal.end_call-requires-clause-stands
 end_call-requires-clause-stands g c =
@@ -25,7 +26,8 @@ end_call-requires-clause-stands g c =
     let s = state_at_dispatch (view x) in
     let q = c.requires in
     let elsewhere : b.cpu.pc ≡ 0x22B8 → ⊥ = λ here. let p = c.pc.ensures.value in let r = c.if-pc-eq-GSTOP.false in absurd (omega arith) in
-    Calling.stands_storing s x a b c.args.steps.now c.read_target.new.steps c.keep_target.new.steps q.stands q.dispatched q.family c.read_target.ensures c.keep_target.ensures elsewhere c.locate_next.new.machine c.locate_next.new.steps c.locate_next.ensures
+    Calling.stands_storing s x a b c.args.steps.now c.read_target.new.steps c.keep_target.new.steps q.stands q.dispatched q.family c.read_target.ensures
+    c.keep_target.ensures elsewhere c.locate_next.new.machine c.locate_next.new.steps c.locate_next.ensures
 
 pub end_call-requires-clause-idle : goal.end_call-requires-clause-idle
 end_call-requires-clause-idle g c =
@@ -35,7 +37,8 @@ end_call-requires-clause-idle g c =
     let s = state_at_dispatch (view x) in
     let q = c.requires in
     let elsewhere : b.cpu.pc ≡ 0x22B8 → ⊥ = λ here. let p = c.pc.ensures.value in let r = c.if-pc-eq-GSTOP.false in absurd (omega arith) in
-    Calling.idle_storing s x a b c.args.steps.now c.read_target.new.steps c.keep_target.new.steps q.stands q.dispatched q.family c.read_target.ensures c.keep_target.ensures elsewhere c.locate_next.new.machine c.locate_next.new.steps c.locate_next.ensures
+    Calling.idle_storing s x a b c.args.steps.now c.read_target.new.steps c.keep_target.new.steps q.stands q.dispatched q.family c.read_target.ensures
+    c.keep_target.ensures elsewhere c.locate_next.new.machine c.locate_next.new.steps c.locate_next.ensures
 
 pub end_call-requires-clause-visible : goal.end_call-requires-clause-visible
 end_call-requires-clause-visible g c =
@@ -45,7 +48,8 @@ end_call-requires-clause-visible g c =
     let s = state_at_dispatch (view x) in
     let q = c.requires in
     let elsewhere : b.cpu.pc ≡ 0x22B8 → ⊥ = λ here. let p = c.pc.ensures.value in let r = c.if-pc-eq-GSTOP.false in absurd (omega arith) in
-    Calling.visible_storing s x a b c.args.steps.now c.read_target.new.steps c.keep_target.new.steps q.stands q.dispatched q.family c.read_target.ensures c.keep_target.ensures elsewhere c.locate_next.new.machine c.locate_next.new.steps c.locate_next.ensures
+    Calling.visible_storing s x a b c.args.steps.now c.read_target.new.steps c.keep_target.new.steps q.stands q.dispatched q.family c.read_target.ensures
+    c.keep_target.ensures elsewhere c.locate_next.new.machine c.locate_next.new.steps c.locate_next.ensures
 
 pub returns : goal.returns
 returns g c =
@@ -55,5 +59,6 @@ returns g c =
     let s = state_at_dispatch (view x) in
     let q = c.requires in
     let elsewhere : b.cpu.pc ≡ 0x22B8 → ⊥ = λ here. let p = c.pc.ensures.value in let r = c.if-pc-eq-GSTOP.false in absurd (omega arith) in
-    Calling.turned s x a b c.args.steps.now c.read_target.new.steps c.keep_target.new.steps q.stands q.dispatched q.family c.read_target.ensures c.keep_target.ensures elsewhere c.locate_next.new.machine c.locate_next.new.steps c.locate_next.ensures
+    Calling.turned s x a b c.args.steps.now c.read_target.new.steps c.keep_target.new.steps q.stands q.dispatched q.family c.read_target.ensures
+    c.keep_target.ensures elsewhere c.locate_next.new.machine c.locate_next.new.steps c.locate_next.ensures
     c.end_call.new.machine c.end_call.new.steps c.end_call.ensures

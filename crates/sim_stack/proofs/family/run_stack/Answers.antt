@@ -20,6 +20,8 @@ run_call-requires-clause-family g c =
 pub run_stack_row-requires-clause-row : goal.run_stack_row-requires-clause-row
 run_stack_row-requires-clause-row g c =
     let o = operation_seen (view c.args.machine.now) in
-    let not_return : operation_entry o ≡ 0x26E6 → ⊥ = λ here. let a = c.pc.ensures.value in let b = c.requires.stands.pc in let t = c.if-pc-eq-GORTN.false in absurd (omega arith) in
-    let not_call : operation_entry o ≡ 0x26A4 → ⊥ = λ here. let a = c.pc-2.ensures.value in let b = c.requires.stands.pc in let t = c.if-pc-eq-GOCALL.false in absurd (omega arith) in
+    let not_return : operation_entry o ≡ 0x26E6 → ⊥ = λ here. let a = c.pc.ensures.value in let b = c.requires.stands.pc in let t =
+    c.if-pc-eq-GORTN.false in absurd (omega arith) in
+    let not_call : operation_entry o ≡ 0x26A4 → ⊥ = λ here. let a = c.pc-2.ensures.value in let b = c.requires.stands.pc in let t =
+    c.if-pc-eq-GOCALL.false in absurd (omega arith) in
     Turning.row_else o c.requires.family not_return not_call

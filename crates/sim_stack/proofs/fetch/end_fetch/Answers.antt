@@ -2,7 +2,8 @@ use Rattle.sim_stack.proofs.Fetching
 use Rattle.sim_stack.proofs.fetch.end_fetch.Goals as goal
 
 pub run_store-requires-clause-idle : goal.run_store-requires-clause-idle
-run_store-requires-clause-idle g c = Fetching.idle_first c.args.machine.now c.store_stacked.new.machine c.args.steps.now c.store_stacked.new.steps c.store_stacked.ensures c.requires.idle
+run_store-requires-clause-idle g c = Fetching.idle_first c.args.machine.now c.store_stacked.new.machine c.args.steps.now c.store_stacked.new.steps
+    c.store_stacked.ensures c.requires.idle
 
 pub run_store-requires-2-clause-idle : goal.run_store-requires-2-clause-idle
 run_store-requires-2-clause-idle g c =

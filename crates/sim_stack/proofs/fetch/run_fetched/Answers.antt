@@ -81,7 +81,8 @@ end_fetch-requires-clause-stands g c =
     let grom = ready x.cpu.memory q.idle q.fetched in
     Reading.stands_storing x a c.args.steps.now c.keep_place.new.steps q.stands c.keep_place.ensures elsewhere v.grom.image (next_at v) grom
     c.set_aside.new.machine c.set_aside.new.steps c.set_aside.ensures c.load_stacked.new.machine c.load_stacked.new.steps c.load_stacked.ensures
-    c.fetch_stacked.new.machine c.fetch_stacked.new.steps c.fetch_stacked.ensures c.locate_stacked.new.machine c.locate_stacked.new.steps c.locate_stacked.ensures
+    c.fetch_stacked.new.machine c.fetch_stacked.new.steps c.fetch_stacked.ensures c.locate_stacked.new.machine c.locate_stacked.new.steps
+    c.locate_stacked.ensures
 
 pub end_fetch-requires-clause-idle : goal.end_fetch-requires-clause-idle
 end_fetch-requires-clause-idle g c =
@@ -93,7 +94,8 @@ end_fetch-requires-clause-idle g c =
     let grom = ready x.cpu.memory q.idle q.fetched in
     Reading.idle_storing x a c.args.steps.now c.keep_place.new.steps q.stands c.keep_place.ensures elsewhere v.grom.image (next_at v) grom
     c.set_aside.new.machine c.set_aside.new.steps c.set_aside.ensures c.load_stacked.new.machine c.load_stacked.new.steps c.load_stacked.ensures
-    c.fetch_stacked.new.machine c.fetch_stacked.new.steps c.fetch_stacked.ensures c.locate_stacked.new.machine c.locate_stacked.new.steps c.locate_stacked.ensures q.idle
+    c.fetch_stacked.new.machine c.fetch_stacked.new.steps c.fetch_stacked.ensures c.locate_stacked.new.machine c.locate_stacked.new.steps
+    c.locate_stacked.ensures q.idle
 
 pub end_fetch-requires-clause-stack : goal.end_fetch-requires-clause-stack
 end_fetch-requires-clause-stack g c =
@@ -105,7 +107,8 @@ end_fetch-requires-clause-stack g c =
     let grom = ready x.cpu.memory q.idle q.fetched in
     Reading.stack_storing x a c.args.steps.now c.keep_place.new.steps q.stands c.keep_place.ensures elsewhere v.grom.image (next_at v) grom
     c.set_aside.new.machine c.set_aside.new.steps c.set_aside.ensures c.load_stacked.new.machine c.load_stacked.new.steps c.load_stacked.ensures
-    c.fetch_stacked.new.machine c.fetch_stacked.new.steps c.fetch_stacked.ensures c.locate_stacked.new.machine c.locate_stacked.new.steps c.locate_stacked.ensures
+    c.fetch_stacked.new.machine c.fetch_stacked.new.steps c.fetch_stacked.ensures c.locate_stacked.new.machine c.locate_stacked.new.steps
+    c.locate_stacked.ensures
 
 pub end_fetch-requires-clause-space : goal.end_fetch-requires-clause-space
 end_fetch-requires-clause-space g c =
@@ -117,7 +120,8 @@ end_fetch-requires-clause-space g c =
     let grom = ready x.cpu.memory q.idle q.fetched in
     Reading.space_storing x a c.args.steps.now c.keep_place.new.steps q.stands c.keep_place.ensures elsewhere v.grom.image (next_at v) grom
     c.set_aside.new.machine c.set_aside.new.steps c.set_aside.ensures c.load_stacked.new.machine c.load_stacked.new.steps c.load_stacked.ensures
-    c.fetch_stacked.new.machine c.fetch_stacked.new.steps c.fetch_stacked.ensures c.locate_stacked.new.machine c.locate_stacked.new.steps c.locate_stacked.ensures q.space
+    c.fetch_stacked.new.machine c.fetch_stacked.new.steps c.fetch_stacked.ensures c.locate_stacked.new.machine c.locate_stacked.new.steps
+    c.locate_stacked.ensures q.space
 
 pub end_fetch-requires-clause-visible : goal.end_fetch-requires-clause-visible
 end_fetch-requires-clause-visible g c =
@@ -129,7 +133,8 @@ end_fetch-requires-clause-visible g c =
     let grom = ready x.cpu.memory q.idle q.fetched in
     Reading.visible_storing x a c.args.steps.now c.keep_place.new.steps q.stands c.keep_place.ensures elsewhere v.grom.image (next_at v) grom
     c.set_aside.new.machine c.set_aside.new.steps c.set_aside.ensures c.load_stacked.new.machine c.load_stacked.new.steps c.load_stacked.ensures
-    c.fetch_stacked.new.machine c.fetch_stacked.new.steps c.fetch_stacked.ensures c.locate_stacked.new.machine c.locate_stacked.new.steps c.locate_stacked.ensures q.byte q.visible
+    c.fetch_stacked.new.machine c.fetch_stacked.new.steps c.fetch_stacked.ensures c.locate_stacked.new.machine c.locate_stacked.new.steps
+    c.locate_stacked.ensures q.byte q.visible
 
 pub returns : goal.returns
 returns g c =

@@ -9,4 +9,5 @@ pub returns : goal.returns
 returns g c =
     let x = c.args.machine.now in
     let v = view x in
-    exits (0x23C2 ∷ []) 0x2750 x c.run_piece.new.machine c.args.steps.now c.run_piece.new.steps (piece.store_byte v) c.requires (Paths.store_byte v) c.run_piece.ensures.left c.run_piece.ensures.count c.run_piece.ensures.bounds
+    exits (0x23C2 ∷ []) 0x2750 x c.run_piece.new.machine c.args.steps.now c.run_piece.new.steps (piece.store_byte v) c.requires (Paths.store_byte v)
+    c.run_piece.ensures.left c.run_piece.ensures.count c.run_piece.ensures.bounds

@@ -24,4 +24,5 @@ returns g c =
     let a = c.push_pointer.new.machine in
     let q = c.requires in
     let elsewhere : a.cpu.pc ≡ 0x22B8 → ⊥ = λ here. let p = c.pc.ensures.value in let r = c.if-pc-eq-GSTOP.false in absurd (omega arith) in
-    Pushing.pushes x a c.args.steps.now c.push_pointer.new.steps q.stands c.push_pointer.ensures elsewhere c.finish_row.new.machine c.finish_row.new.steps q.byte c.finish_row.ensures
+    Pushing.pushes x a c.args.steps.now c.push_pointer.new.steps q.stands c.push_pointer.ensures elsewhere c.finish_row.new.machine c.finish_row.new.steps
+    q.byte c.finish_row.ensures
