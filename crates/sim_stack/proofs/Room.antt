@@ -1,0 +1,121 @@
+-- Room on a stack: what the checks of the pieces say, and the stop by reason 3.
+use Rattle.std.proofs.Common.{◌≡◌, ℕ, ◌+◌, ◌<◌, ◌≤◌, Bool, true, false, refl, sym, ap, ◌∙◌, arith, Result, Ok, Err}
+use Rattle.std.specs.Prelude.{nat_lt, nat_le, if◌then◌else◌, slice_index}
+use Rattle.std.proofs.lemmas.Bool.{le-leb, lt-leb, ltb-true, ltb-false}
+use Rattle.console_defs.specs.Words.{high, join, plus}
+use Rattle.console_defs.specs.Flags.{Word, sum_of}
+use Rattle.console_defs.specs.Machine.{MachineState}
+use Rattle.step_defs.specs.declared.reason.Reason.{Reason}
+use Rattle.step_defs.specs.declared.reason.Reason.TheVariants.{Stack}
+use Rattle.step_defs.specs.State.{GplState}
+use Rattle.step_defs.specs.Place.{value_at, word_at}
+use Rattle.step_defs.specs.Flow.{on_stack, grown_by}
+use Rattle.step_defs.specs.Step.{step}
+use Rattle.step_defs.specs.Run.{bound}
+use Rattle.interp_defs.specs.declared.turn.Turn.TheVariants.{Stopped}
+use Rattle.interp_defs.specs.Runs.{is_end}
+use Rattle.interp_defs.specs.Turned.{Turned}
+use Rattle.sim_view.specs.View.{View}
+use Rattle.sim_view.specs.Exits.{Exit, Exits, Comes}
+use Rattle.sim_operands.specs.Subroutines.{place_in, Loaded}
+use Rattle.sim_rows.specs.States.{Sees, StoppedBy}
+use Rattle.sim_rows.proofs.Ends.{stops, reaches, turned_by}
+use Rattle.sim_rows.proofs.Steps.{bound_stop}
+use Rattle.sim_stack.specs.Pieces.{offset_of}
+
+-- ---- numbers
+
+pub offset_is : (byte : ℕ) → byte < 256 → offset_of (join byte 0) ≡ byte
+offset_is byte h = omega arith
+
+pub offset_above : (byte less : ℕ) → byte < 256 → less < 256 → offset_of (join byte less) ≡ byte
+offset_above byte less h k = omega arith
+
+pub one_more : (byte : ℕ) → byte < 256 → offset_of (sum_of Word (join byte 0) 0x0100) ≡ grown_by 1 byte
+one_more byte h = omega arith
+
+pub one_stored : (byte : ℕ) → byte < 256 → high (sum_of Word (join byte 0) 0x0100) ≡ grown_by 1 byte
+one_stored byte h = omega arith
+
+pub two_more : (byte : ℕ) → byte < 256 → offset_of (sum_of Word (join byte 0) 0x0200) ≡ grown_by 2 byte
+two_more byte h = omega arith
+
+pub two_stored : (byte : ℕ) → byte < 256 → high (sum_of Word (join byte 0) 0x0200) ≡ grown_by 2 byte
+two_stored byte h = omega arith
+
+pub two_less : (byte : ℕ) → byte < 256 → high (sum_of Word (join byte 0) 0xFE00) ≡ grown_by 254 byte
+two_less byte h = omega arith
+
+pub byte_back : (byte : ℕ) → high (join byte 0) ≡ byte
+byte_back byte = omega arith
+
+behind_is : (top : ℕ) → top < 256 → plus top 1 ≡ top + 1
+behind_is top h = omega arith
+
+-- the word that LOAD reads
+pub stacked_is : (s : GplState) (at top : ℕ) → at ≡ top → top < 256 → value_at s Word (place_in 0 at) ≡ word_at s top
+stacked_is s at top e h =
+    ap (λ n. value_at s Word (place_in 0 n)) e ∙ ap (λ n. join (slice_index s.cells top) (slice_index s.cells n)) (behind_is top h)
+
+-- ---- the definition's check
+
+abbrev stacked_by : ℕ → Bool → Result ℕ Reason
+stacked_by top b = if b then Ok top else Err Stack
+
+pub no_room : (limit bytes top : ℕ) → limit + bytes ≡ 0xC2 → nat_lt limit top ≡ true → on_stack bytes top ≡ Err Stack
+no_room limit bytes top e c =
+    let h : limit < top = ltb-true limit top c in
+    let n : nat_le (top + bytes) 0xC2 ≡ false = lt-leb (top + bytes) 0xC2 (omega arith) in
+    ap (stacked_by top) n
+
+pub with_room : (limit bytes top : ℕ) → limit + bytes ≡ 0xC2 → nat_lt limit top ≡ false → on_stack bytes top ≡ Ok top
+with_room limit bytes top e c =
+    let h : top ≤ limit = ltb-false limit top c in
+    let n : nat_le (top + bytes) 0xC2 ≡ true = le-leb (top + bytes) 0xC2 (omega arith) in
+    ap (stacked_by top) n
+
+-- it is the only reason
+abbrev pub OnlyStack : {X : Type 0} → Result X Reason → Type 0
+OnlyStack (Ok x) = Unit {0}
+OnlyStack (Err reason) = reason ≡ Stack
+
+pub stack_alone : (bytes top : ℕ) → OnlyStack (on_stack bytes top)
+stack_alone bytes top = by (nat_le (top + bytes) 0xC2)
+  where
+    by : (b : Bool) → OnlyStack (stacked_by top b)
+    by true = tt
+    by false = refl
+
+-- ---- the piece's check
+
+pub goes_full : (x a : MachineState) (t u : ℕ) (b : Bool) (stop go : Exit) → Exits x a t u (if b then stop else go) → (go.to ≡ 0x22B8 → ⊥) → a.cpu.pc ≡ 0x22B8 →
+    (b ≡ true) × Exits x a t u stop
+goes_full x a t u true stop go e other here = (refl, e)
+goes_full x a t u false stop go e other here = absurd (other (sym e.stands.pc ∙ here))
+
+pub goes_on : (x a : MachineState) (t u : ℕ) (b : Bool) (stop go : Exit) → Exits x a t u (if b then stop else go) → stop.to ≡ 0x22B8 → (a.cpu.pc ≡ 0x22B8 → ⊥) →
+    (b ≡ false) × Exits x a t u go
+goes_on x a t u true stop go e is elsewhere = absurd (elsewhere (e.stands.pc ∙ is))
+goes_on x a t u false stop go e is elsewhere = (refl, e)
+
+-- ---- the stop
+
+pub stop_turned : (s : GplState) (x a : MachineState) (t u most : ℕ) → is_end x.cpu.pc ≡ false → step s ≡ Err Stack →
+    Comes most x a t u 0x22B8 (StoppedBy s Stack) → most ≤ 371 →
+    Turned s 29 x a t u (Stopped Stack)
+stop_turned s x a t u most start is c le =
+    let b = bound_stop s Stack is in
+    turned_by x a t u 29 (Stopped Stack) s (Err Stack) is (refl, reaches 29 (bound s) c start refl (omega arith), stops s Stack a (λ e. cc) c.stands c.holds)
+
+-- ---- views
+
+pub sees_loaded : (s : GplState) (next number : ℕ) (v w : View) → Sees s next v → Loaded v number w → Sees s next w
+sees_loaded s next number v w h a =
+    let e = a.is in
+    record {
+      cells = ap (λ (u : View). u.cells) e ∙ h.cells;
+      vdp = ap (λ (u : View). u.vdp.memory) e ∙ h.vdp;
+      registers = ap (λ (u : View). u.vdp.registers) e ∙ h.registers;
+      held = ap (λ (u : View). u.vdp.held) e ∙ h.held;
+      grom = ap (λ (u : View). u.grom) e ∙ h.grom;
+    }

@@ -1,0 +1,13 @@
+use Rattle.std.proofs.Common.{[], ◌∷◌}
+use Rattle.sim_view.specs.View.{view}
+use Rattle.sim_view.proofs.Bridge.{exits}
+use Rattle.sim_stack.specs.Pieces as piece
+use Rattle.sim_stack.proofs.Paths
+use Rattle.sim_stack.proofs.fetch.store_stacked.Goals as goal
+
+pub returns : goal.returns
+returns g c =
+    let x = c.args.machine.now in
+    let v = view x in
+    exits (0x23C2 ∷ []) 0x274A x c.run_piece.new.machine c.args.steps.now c.run_piece.new.steps (piece.store_stacked v) c.requires (Paths.store_stacked v)
+    c.run_piece.ensures.left c.run_piece.ensures.count c.run_piece.ensures.bounds

@@ -1,0 +1,140 @@
+-- Parts of CALL, RTN, PUSH and FETCH, for all states that may be there.
+use Rattle.std.specs.Prelude.{◌≡◌, ◌<◌, ℕ, ◌==◌, false, if◌then◌else◌, List, slice_index}
+use Rattle.console_defs.specs.Words.{high, join}
+use Rattle.console_defs.specs.Bytes.{word_in}
+use Rattle.console_defs.specs.Grom.{next_in_grom}
+use Rattle.console_defs.specs.Machine.{MachineState}
+use Rattle.gpl_defs.specs.Reading.{word_at as word_in_grom}
+use Rattle.step_defs.specs.declared.cells.TheConstants.{RETURN_STACK}
+use Rattle.step_defs.specs.State.{GplState}
+use Rattle.step_defs.specs.Place.{Place, word_at}
+use Rattle.step_defs.specs.Changes.{Changes, unchanged, with_pc, with_cell, with_byte, with_condition}
+use Rattle.step_defs.specs.Flow.{with_word, grown_by}
+use Rattle.native_interp.specs.declared.addresses.TheConstants.{GSTEP, WHERE, CALLT, FETCHP, FETCHA, FETCHB}
+use Rattle.sim_view.specs.View.{View, view}
+use Rattle.sim_view.specs.Exits.{Comes}
+use Rattle.sim_operands.specs.Values.{number_of_space}
+use Rattle.sim_operands.specs.Subroutines.{grom_at, Loaded}
+use Rattle.sim_rows.specs.States.{Sees, Dispatched, behind_code}
+use Rattle.sim_rows.specs.Results.{Changed, SeesFinished}
+use Rattle.sim_stack.specs.Pieces.{ask_stacked}
+
+-- RTN and RTNC
+
+-- At RTNP the word on the stack is in register 6, and the pointer in the high half of register 12.
+pub record Returning (s : GplState) (code top next : ℕ) (w : View) : Type 0 where
+  pub sees : Sees s next w
+  pub code_is : w.r.r0 ≡ code
+  pub pointer : w.r.r12 ≡ join top 0
+  pub word : w.r.r6 ≡ word_at s top
+
+-- What they change, where the word at the top may be read: RTN, whose code byte is 0, clears the condition too.
+abbrev pub gone_back : GplState → ℕ → Changes
+gone_back s top = with_pc (word_at s top) (with_cell RETURN_STACK (grown_by 254 top) (unchanged s))
+
+abbrev pub returned_by : ℕ → GplState → ℕ → Changes
+returned_by code s top = if code == 0 then with_condition false (gone_back s top) else gone_back s top
+
+abbrev pub EndsReturn : MachineState → MachineState → ℕ → ℕ → Type 0
+EndsReturn x y before after =
+    (s : GplState) → (code top next : ℕ) → top < 256 → Returning s code top next (view x)
+    → Comes 14 x y before after GSTEP (SeesFinished (returned_by code s top))
+
+-- The next address
+
+-- Register 9 has the address of the byte that GROM gives next; registers 4 and 6 may have changed.
+pub record Located (v : View) (image : List ℕ) (at to : ℕ) (w : View) : Type 0 where
+  pub r4 : ℕ
+  pub r6 : ℕ
+  pub is : w ≡ record v {
+    r = record v.r { r4 = r4; r6 = r6; r9 = at; r11 = to };
+    grom = grom_at image at;
+  }
+
+-- The same of register 14.
+pub record SetAside (v : View) (image : List ℕ) (at to : ℕ) (w : View) : Type 0 where
+  pub r4 : ℕ
+  pub r6 : ℕ
+  pub is : w ≡ record v {
+    r = record v.r { r4 = r4; r6 = r6; r11 = to; r14 = at };
+    grom = grom_at image at;
+  }
+
+abbrev pub Locates : ℕ → MachineState → MachineState → ℕ → ℕ → Type 0
+Locates to x y before after =
+    (image : List ℕ) → (at : ℕ) → at < 65536 → (view x).grom ≡ grom_at image at
+    → Comes 18 x y before after to (Located (view x) image at to)
+
+abbrev pub SetsAside : MachineState → MachineState → ℕ → ℕ → Type 0
+SetsAside x y before after =
+    (image : List ℕ) → (at : ℕ) → at < 65536 → (view x).grom ≡ grom_at image at
+    → Comes 18 x y before after FETCHP (SetAside (view x) image at FETCHP)
+
+-- CALL
+
+-- At CALLT the address that follows is in register 6.
+pub record Called (s : GplState) (w : View) : Type 0 where
+  pub sees : Sees s (word_in_grom s.image (behind_code s)).1 w
+  pub address : w.r.r1 ≡ s.pc
+  pub bytes_are : w.r.r3 ≡ 2
+  pub target : w.r.r6 ≡ (word_in_grom s.image (behind_code s)).0
+  pub mark : w.r.r13 ≡ 0
+
+abbrev pub ReadsTarget : MachineState → MachineState → ℕ → ℕ → Type 0
+ReadsTarget x y before after =
+    (s : GplState) → Dispatched s (view x) → Comes 11 x y before after CALLT (Called s)
+
+-- At CALLS: the top of the stack in register 7 and in the high half of register 12, the next address in register 9, and
+-- the one that is called in register 14.
+pub record Stacking (s : GplState) (top target : ℕ) (w : View) : Type 0 where
+  pub changed : Changed (unchanged s) w
+  pub bytes_are : w.r.r3 ≡ 2
+  pub top_is : w.r.r7 ≡ top
+  pub pointer : high w.r.r12 ≡ top
+  pub next_is : w.r.r9 ≡ s.pc
+  pub target_is : w.r.r14 ≡ target
+
+abbrev pub gone_to : GplState → ℕ → ℕ → Changes
+gone_to s top target = with_pc target (with_word top s.pc (with_cell RETURN_STACK top (unchanged s)))
+
+abbrev pub EndsCall : MachineState → MachineState → ℕ → ℕ → Type 0
+EndsCall x y before after =
+    (s : GplState) → (top target : ℕ) → Stacking s top target (view x)
+    → Comes 56 x y before after GSTEP (SeesFinished (gone_to s top target))
+
+-- FETCH
+
+-- From FETCHP the word on the stack, whose offset is in register 2, comes into register 6.
+abbrev pub LoadsStacked : MachineState → MachineState → ℕ → ℕ → Type 0
+LoadsStacked x y before after =
+    let v = view x in
+    Comes 21 x y before after FETCHA (Loaded (ask_stacked v).left (word_in v.cells v.r.r2))
+
+-- From FETCHA the byte of GROM at the address in register 6 comes into register 12.
+abbrev pub fetched_at : View → List ℕ → ℕ → View
+fetched_at v image at =
+    let byte = join (slice_index image at) 0 in
+    record v { r = record v.r { r6 = byte; r11 = FETCHB; r12 = byte }; grom = grom_at image (next_in_grom at) }
+
+abbrev pub FetchesStacked : MachineState → MachineState → ℕ → ℕ → Type 0
+FetchesStacked x y before after =
+    let v = view x in
+    (image : List ℕ) → (next : ℕ) → v.grom ≡ grom_at image next
+    → Comes 11 x y before after WHERE (λ w. w ≡ fetched_at v image v.r.r6)
+
+-- At FETCHS: the top of the stack in register 7, the address to store there in register 9, the byte in register 12, its
+-- place in registers 10 and 15, and where GROM goes on in register 14.
+pub record Fetching (s : GplState) (place : Place) (top number byte next : ℕ) (w : View) : Type 0 where
+  pub changed : Changed (with_pc next (unchanged s)) w
+  pub bytes_are : w.r.r3 ≡ 2
+  pub top_is : w.r.r7 ≡ top
+  pub number_is : w.r.r9 ≡ number
+  pub address : w.r.r10 ≡ place.address
+  pub space : w.r.r15 ≡ number_of_space place.space
+  pub byte_is : w.r.r12 ≡ join byte 0
+  pub back : w.r.r14 ≡ s.pc
+
+abbrev pub EndsFetch : MachineState → MachineState → ℕ → ℕ → Type 0
+EndsFetch x y before after =
+    (s : GplState) → (place : Place) → (top number byte next : ℕ) → Fetching s place top number byte next (view x)
+    → Comes 76 x y before after GSTEP (SeesFinished (with_byte place byte (with_word top number (unchanged s))))
