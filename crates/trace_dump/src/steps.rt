@@ -33,6 +33,7 @@ pub fn play<O: Sink, L: Ledger>(
     ensures plays { Plays limit session.old session.new steps.old steps.new (O.state out.old) (O.state out.new) result }
     ensures kept { seen.new ≡ seen_state (seen session.new) }
 {
+    session.holds_match();
     for made in 0..limit {
         let mut line = trace_line(session, made + 1);
         if let Turn::Stopped(_) = session.next(steps) {
