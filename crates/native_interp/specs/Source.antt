@@ -26,10 +26,14 @@ use Rattle.std.specs.Prelude.{
   bytes_eq,
 }
 use Rattle.std.specs.List.{list_all, list_any}
-use Rattle.native_interp.specs.declared.source.TheConstants.{LINES}
+use Rattle.native_interp.specs.declared.source.routines.TheConstants.{ROUTINE_LINES}
+use Rattle.native_interp.specs.declared.source.operations.TheConstants.{OPERATION_LINES}
+use Rattle.native_interp.specs.declared.source.flow.TheConstants.{FLOW_LINES}
 
+-- the three parts of the source, one behind the other
 abbrev pub lines : List (List ℕ)
-lines = map (λ line. line.now) LINES
+lines =
+    map (λ line. line.now) ROUTINE_LINES ++ (map (λ line. line.now) OPERATION_LINES ++ map (λ line. line.now) FLOW_LINES)
 
 -- the text of the source: each line with its line feed
 abbrev pub source : List ℕ

@@ -22,7 +22,7 @@ pub fn rows_are_dispatched()
     ensures { spec.RowsAreDispatched }
 {}
 
-/// The lines of the source have the form that `LINES` says.
+/// The lines of the source are short texts in the form of a source that names no place but its origin and no value but numbers.
 pub fn lines_are_in_form()
     ensures { LinesAreInForm }
 {}

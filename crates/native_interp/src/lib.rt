@@ -20,5 +20,5 @@ pub use laws::{
     codes_are_dispatched, entries_come_first, lines_are_in_form, routines_stand,
     rows_are_dispatched,
 };
-pub use source::LINES;
+pub use source::{FLOW_LINES, OPERATION_LINES, ROUTINE_LINES};
 pub use words::{INTERP, interpreter_words};
