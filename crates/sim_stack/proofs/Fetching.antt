@@ -92,8 +92,9 @@ module _ (x a : MachineState) (t t1 : ℕ) (e1 : Exits x a t t1 (pieces.store_st
     stored1 = may1 near_first
 
     pub idle_second : PortsAreIdle x.cpu.memory → PortsAreIdle c.cpu.memory
-    idle_second i = idle_again b.cpu.memory c.cpu.memory (ap (λ (v : View). v.vdp) e2.shows) (ap (λ (v : View). v.grom) e2.shows)
-    (stored_idle a b t1 t2 (idle_first i) stored1)
+    idle_second i =
+        idle_again b.cpu.memory c.cpu.memory (ap (λ (v : View). v.vdp) e2.shows) (ap (λ (v : View). v.grom) e2.shows)
+        (stored_idle a b t1 t2 (idle_first i) stored1)
 
     space_second : (view c).r.r8 ≡ (view x).r.r15
     space_second = ap (λ (v : View). v.r.r8) e2.shows ∙ ap (λ (v : View). v.r.r15) stored1.holds.is ∙ ap (λ (v : View). v.r.r15) e1.shows

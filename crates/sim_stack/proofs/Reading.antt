@@ -166,8 +166,9 @@ module _ (x a : MachineState) (t t1 : ℕ) (stands : Stands x 0x2710) (e : Exits
             stands_storing = located.stands
 
             pub idle_storing : PortsAreIdle x.cpu.memory → PortsAreIdle f.cpu.memory
-            idle_storing i = idle_told f.cpu.memory (ap (λ (v : View). v.vdp.held) seen_f ∙ idle_video x.cpu.memory i)
-            (ap (λ (v : View). v.grom.half_written) seen_f)
+            idle_storing i =
+                idle_told f.cpu.memory (ap (λ (v : View). v.vdp.held) seen_f ∙ idle_video x.cpu.memory i)
+                (ap (λ (v : View). v.grom.half_written) seen_f)
 
             pub stack_storing : IsVisible 0 (view f).r.r7 (view f).r.r3
             stack_storing =
@@ -185,8 +186,9 @@ module _ (x a : MachineState) (t t1 : ℕ) (stands : Stands x 0x2710) (e : Exits
 
             module _ (s : GplState) (cells : (view x).cells ≡ s.cells) where
               word_is : (view c).r.r6 ≡ word_at s (top_in s)
-              word_is = ap (λ (v : View). v.r.r6) seen_c ∙ ap (λ (n : ℕ). word_in (view x).cells n) (offset_top s cells)
-              ∙ ap (λ (l : List ℕ). word_in l (top_in s)) cells
+              word_is =
+                  ap (λ (v : View). v.r.r6) seen_c ∙ ap (λ (n : ℕ). word_in (view x).cells n) (offset_top s cells)
+                  ∙ ap (λ (l : List ℕ). word_in l (top_in s)) cells
 
               -- the byte there, as register 12 has it
               byte_is : (view f).r.r12 ≡ join (slice_index image (word_at s (top_in s))) 0

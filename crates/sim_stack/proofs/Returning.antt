@@ -181,7 +181,9 @@ module _ (x a y : MachineState) (t u v : ℕ) (e : Exits x a t u (pieces.take_re
 
 -- ---- from the dispatch on
 
-module _ (s : GplState) (x a : MachineState) (t u : ℕ) (stands : Stands x 0x26E6) (d : Dispatched s (view x)) (family : is_return (operation_in s) ≡ true) (e : Exits x a t u (pieces.ask_return (view x))) where
+module _ (s : GplState) (x a : MachineState) (t u : ℕ) (stands : Stands x 0x26E6)
+    (d : Dispatched s (view x))
+    (family : is_return (operation_in s) ≡ true) (e : Exits x a t u (pieces.ask_return (view x))) where
   abbrev offset : ℕ
   offset = offset_of (pointer_at 0x73 (view x))
 
@@ -219,8 +221,9 @@ module _ (s : GplState) (x a : MachineState) (t u : ℕ) (stands : Stands x 0x26
     stands_load = went.1.stands
 
     pub idle_load : PortsAreIdle a.cpu.memory
-    idle_load = idle_again x.cpu.memory a.cpu.memory (ap (λ (v : View). v.vdp) went.1.shows) (ap (λ (v : View). v.grom) went.1.shows)
-    (idle_of x.cpu.memory s (behind_code s) d.sees)
+    idle_load =
+        idle_again x.cpu.memory a.cpu.memory (ap (λ (v : View). v.vdp) went.1.shows) (ap (λ (v : View). v.grom) went.1.shows)
+        (idle_of x.cpu.memory s (behind_code s) d.sees)
 
     pub visible_load : IsVisible (view a).r.r5 (view a).r.r2 (view a).r.r3
     visible_load =
@@ -242,8 +245,9 @@ module _ (s : GplState) (x a : MachineState) (t u : ℕ) (stands : Stands x 0x26
       stands_taking = loads.stands
 
       word_is : value_at (state_of asked) Word (place_in 0 offset) ≡ word_at s (top_in s)
-      word_is = stacked_is (state_of asked) offset (top_in s) offset_top top_small
-      ∙ ap (λ (l : List ℕ). join (slice_index l (top_in s)) (slice_index l (top_in s + 1))) d.sees.cells
+      word_is =
+          stacked_is (state_of asked) offset (top_in s) offset_top top_small
+          ∙ ap (λ (l : List ℕ). join (slice_index l (top_in s)) (slice_index l (top_in s + 1))) d.sees.cells
 
       sees_asked : Sees (before s) (behind_code s) asked
       sees_asked = record { cells = d.sees.cells; vdp = d.sees.vdp; registers = d.sees.registers; held = d.sees.held; grom = d.sees.grom }
