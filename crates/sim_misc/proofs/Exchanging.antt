@@ -5,6 +5,7 @@ use Rattle.std.proofs.lemmas.Bool.{agree_below_at}
 use Rattle.console_defs.specs.Flags.{Width, Byte, Word, size_of}
 use Rattle.console_defs.specs.Machine.{MachineState, IsMachine}
 use Rattle.source_defs.specs.Refusals.{◌>>=◌}
+use Rattle.gpl_defs.specs.declared.instruction.GplOperation.{GplOperation}
 use Rattle.gpl_defs.specs.declared.instruction.GplOperation.TheVariants.{Two}
 use Rattle.gpl_defs.specs.declared.instruction.TwoName.TheVariants.{EX}
 use Rattle.gpl_defs.specs.Codes.{operation_at}
@@ -33,13 +34,16 @@ use Rattle.sim_rows.proofs.Sources.{code_fits}
 use Rattle.sim_rows.proofs.Storing.{width_again, ChangedFrom, store_then, stored_idle, changed_again}
 use Rattle.sim_rows.proofs.Rowing.{both, row_changed}
 use Rattle.sim_misc.specs.Pieces as pieces
-use Rattle.sim_misc.specs.Family.{is_misc}
 
 -- ---- the source of EX has a place
 
+abbrev is_exchange : Option GplOperation → Bool
+is_exchange (Some (Two EX)) = true
+is_exchange _ = false
+
 -- EX has no code byte of an immediate source.
 abbrev stands_in_memory : ℕ → Bool
-stands_in_memory code = if is_misc (operation_at code) then not (code / 2 % 2 == 1) else true
+stands_in_memory code = if is_exchange (operation_at code) then not (code / 2 % 2 == 1) else true
 
 if_true : (b c : Bool) → b ≡ true → (if b then c else true) ≡ true → c ≡ true
 if_true true c e f = f
@@ -51,7 +55,7 @@ not_true false e = refl
 
 no_immediate : (s : GplState) → code_byte s < 256 → operation_in s ≡ Some (Two EX) → is_immediate s ≡ false
 no_immediate s h e =
-    not_true (is_immediate s) (if_true (is_misc (operation_at (code_byte s))) (not (is_immediate s)) (ap is_misc e) (agree_below_at stands_in_memory (λ _. true) 256 (code_byte s) refl h))
+    not_true (is_immediate s) (if_true (is_exchange (operation_at (code_byte s))) (not (is_immediate s)) (ap is_exchange e) (agree_below_at stands_in_memory (λ _. true) 256 (code_byte s) refl h))
 
 source_in : Source → Result Source Reason → Source
 source_in other (Ok source) = source

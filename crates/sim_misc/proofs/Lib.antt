@@ -1,3 +1,5 @@
+pub mod Numbers
 pub mod Paths
 pub mod Exchanging
 pub mod Turning
+pub mod Drawing

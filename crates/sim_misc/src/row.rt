@@ -1,6 +1,6 @@
-//! EX, from its dispatch to the end of the step.
+//! EX from its dispatch to the end of the step, and both operations of the family.
 
-ghost use Rattle.std.specs.Prelude.{◌≡◌, ◌<◌, true};
+ghost use Rattle.std.specs.Prelude.{◌≡◌, ◌<◌, true, Some};
 ghost use Rattle.gpl_defs.specs.declared.instruction.GplOperation.TheVariants.{Two};
 ghost use Rattle.gpl_defs.specs.declared.instruction.TwoName.TheVariants.{EX};
 ghost use Rattle.native_interp.specs.declared.addresses.TheConstants as address;
@@ -15,7 +15,9 @@ ghost use Rattle.sim_rows.specs.Results.{RunsRow};
 ghost use Rattle.sim_misc.specs.Family.{is_misc};
 
 use crate::piece::{keep_destination, turn_to_source};
+use crate::random::run_random;
 use interp_defs::Turn;
+use native_interp::GORAND;
 use sim_operands::run_store;
 use sim_rows::{finish_row, start_row};
 use std::sync::ledger::Ledger;
@@ -39,10 +41,10 @@ fn run_exchange<L: Ledger>(machine: &mut Machine, steps: &mut Steps<L>)
 }
 
 /// Runs EX from its dispatch to the end of the step.
-pub fn run_misc<L: Ledger>(machine: &mut Machine, steps: &mut Steps<L>) -> Turn
+fn run_exchange_row<L: Ledger>(machine: &mut Machine, steps: &mut Steps<L>) -> Turn
     requires stands { Stands machine.old (operation_entry (operation_seen (view machine.old))) }
     requires dispatched { let v = view machine.old in Dispatched (state_at_dispatch v) v }
-    requires family { is_misc (operation_seen (view machine.old)) ≡ true }
+    requires exchange { operation_seen (view machine.old) ≡ Some (Two EX) }
     ensures { Turned (state_at_dispatch (view machine.old)) most_to_dispatch machine.old machine.new steps.old steps.new result }
 {
     if start_row(machine, steps).is_none() {
@@ -50,4 +52,17 @@ pub fn run_misc<L: Ledger>(machine: &mut Machine, steps: &mut Steps<L>) -> Turn
     }
     run_exchange(machine, steps);
     Turn::Stepped
+}
+
+/// Runs EX or RAND from its dispatch to the end of the step.
+pub fn run_misc<L: Ledger>(machine: &mut Machine, steps: &mut Steps<L>) -> Turn
+    requires stands { Stands machine.old (operation_entry (operation_seen (view machine.old))) }
+    requires dispatched { let v = view machine.old in Dispatched (state_at_dispatch v) v }
+    requires family { is_misc (operation_seen (view machine.old)) ≡ true }
+    ensures { Turned (state_at_dispatch (view machine.old)) most_to_dispatch machine.old machine.new steps.old steps.new result }
+{
+    if machine.pc() == GORAND {
+        return run_random(machine, steps);
+    }
+    run_exchange_row(machine, steps)
 }

@@ -1,6 +1,7 @@
 -- The operations of the families.
 use Rattle.std.proofs.Common.{◌≡◌, true, false, refl, sym, subst, arith, Option, Some, None}
 use Rattle.gpl_defs.specs.declared.instruction.PlainOp.TheVariants.{RTN, RTNC, H, GT, EXIT, CARRY, OVF}
+use Rattle.gpl_defs.specs.declared.instruction.ByteOp.TheVariants.{RAND, BACK, ALL}
 use Rattle.gpl_defs.specs.declared.instruction.GoOp.TheVariants.{B, CALL}
 use Rattle.gpl_defs.specs.declared.instruction.OneName.TheVariants.{ABS, NEG, INV, CLR, CASE, CZ, INC, DEC, INCT, DECT, FETCH, PUSH}
 use Rattle.gpl_defs.specs.declared.instruction.TwoName.TheVariants as two
@@ -13,20 +14,12 @@ use Rattle.sim_alu.specs.Family.{is_alu}
 use Rattle.sim_shift.specs.Family.{is_shift}
 use Rattle.sim_muldiv.specs.Family.{is_muldiv}
 use Rattle.sim_compare.specs.Family.{is_compare}
+use Rattle.sim_flow.specs.Family.{is_flow}
+use Rattle.sim_stack.specs.Family.{is_stack}
 use Rattle.sim_misc.specs.Family.{is_misc}
 use Rattle.sim_steps.specs.declared.family.Family.{Family}
-use Rattle.sim_steps.specs.declared.family.Family.TheVariants.{Alu, Shift, MulDiv, Compare, Flow, Misc, Refused}
-use Rattle.sim_steps.specs.Families.{family_of, is_flow}
-
-pub flow_exit : (o : Option GplOperation) → is_flow o ≡ true → operation_entry o ≡ 0x24C0 → o ≡ Some (operation.Plain EXIT)
-flow_exit (Some (operation.Plain EXIT)) e f = refl
-flow_exit (Some (operation.Jump B)) e f = absurd (omega arith)
-flow_exit _ e f = absurd (cc)
-
-pub flow_jump : (o : Option GplOperation) → is_flow o ≡ true → (operation_entry o ≡ 0x24C0 → ⊥) → o ≡ Some (operation.Jump B)
-flow_jump (Some (operation.Plain EXIT)) e f = absurd (f refl)
-flow_jump (Some (operation.Jump B)) e f = refl
-flow_jump _ e f = absurd (cc)
+use Rattle.sim_steps.specs.declared.family.Family.TheVariants.{Alu, Shift, MulDiv, Compare, Flow, Stack, Misc, Refused}
+use Rattle.sim_steps.specs.Families.{family_of}
 
 -- what is true of the operations of each family
 abbrev pub IsIn : Family → Option GplOperation → Type 0
@@ -35,6 +28,7 @@ IsIn Shift o = is_shift o ≡ true
 IsIn MulDiv o = is_muldiv o ≡ true
 IsIn Compare o = is_compare o ≡ true
 IsIn Flow o = is_flow o ≡ true
+IsIn Stack o = is_stack o ≡ true
 IsIn Misc o = is_misc o ≡ true
 IsIn Refused o = operation_entry o ≡ 0x22AE
 
@@ -46,7 +40,9 @@ is_in (Some (operation.Plain GT)) = refl
 is_in (Some (operation.Plain EXIT)) = refl
 is_in (Some (operation.Plain CARRY)) = refl
 is_in (Some (operation.Plain OVF)) = refl
-is_in (Some (operation.Byte op)) = refl
+is_in (Some (operation.Byte RAND)) = refl
+is_in (Some (operation.Byte BACK)) = refl
+is_in (Some (operation.Byte ALL)) = refl
 is_in (Some (operation.Jump B)) = refl
 is_in (Some (operation.Jump CALL)) = refl
 is_in (Some (operation.Branch on)) = refl
@@ -96,7 +92,9 @@ enters (Some (operation.Plain GT)) = refl
 enters (Some (operation.Plain EXIT)) = refl
 enters (Some (operation.Plain CARRY)) = refl
 enters (Some (operation.Plain OVF)) = refl
-enters (Some (operation.Byte op)) = refl
+enters (Some (operation.Byte RAND)) = refl
+enters (Some (operation.Byte BACK)) = refl
+enters (Some (operation.Byte ALL)) = refl
 enters (Some (operation.Jump B)) = refl
 enters (Some (operation.Jump CALL)) = refl
 enters (Some (operation.Branch on)) = refl
@@ -136,29 +134,31 @@ enters None = refl
 
 -- what leads to the stop is not built
 pub unbuilt : (op : GplOperation) → operation_entry (Some op) ≡ 0x22AE → is_built_operation op ≡ false
-unbuilt (operation.Plain RTN) e = refl
-unbuilt (operation.Plain RTNC) e = refl
+unbuilt (operation.Plain RTN) e = absurd (omega arith)
+unbuilt (operation.Plain RTNC) e = absurd (omega arith)
 unbuilt (operation.Plain H) e = absurd (omega arith)
 unbuilt (operation.Plain GT) e = absurd (omega arith)
 unbuilt (operation.Plain EXIT) e = absurd (omega arith)
 unbuilt (operation.Plain CARRY) e = absurd (omega arith)
 unbuilt (operation.Plain OVF) e = absurd (omega arith)
-unbuilt (operation.Byte op) e = refl
+unbuilt (operation.Byte RAND) e = absurd (omega arith)
+unbuilt (operation.Byte BACK) e = refl
+unbuilt (operation.Byte ALL) e = refl
 unbuilt (operation.Jump B) e = absurd (omega arith)
-unbuilt (operation.Jump CALL) e = refl
-unbuilt (operation.Branch on) e = refl
+unbuilt (operation.Jump CALL) e = absurd (omega arith)
+unbuilt (operation.Branch on) e = absurd (omega arith)
 unbuilt (operation.One ABS) e = absurd (omega arith)
 unbuilt (operation.One NEG) e = absurd (omega arith)
 unbuilt (operation.One INV) e = absurd (omega arith)
 unbuilt (operation.One CLR) e = absurd (omega arith)
-unbuilt (operation.One CASE) e = refl
+unbuilt (operation.One CASE) e = absurd (omega arith)
 unbuilt (operation.One CZ) e = absurd (omega arith)
 unbuilt (operation.One INC) e = absurd (omega arith)
 unbuilt (operation.One DEC) e = absurd (omega arith)
 unbuilt (operation.One INCT) e = absurd (omega arith)
 unbuilt (operation.One DECT) e = absurd (omega arith)
-unbuilt (operation.One FETCH) e = refl
-unbuilt (operation.One PUSH) e = refl
+unbuilt (operation.One FETCH) e = absurd (omega arith)
+unbuilt (operation.One PUSH) e = absurd (omega arith)
 unbuilt (operation.Two two.ADD) e = absurd (omega arith)
 unbuilt (operation.Two two.SUB) e = absurd (omega arith)
 unbuilt (operation.Two two.MUL) e = absurd (omega arith)

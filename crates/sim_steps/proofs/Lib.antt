@@ -1,6 +1,6 @@
 pub mod Paths
 pub mod Families
-pub mod Jumping
+pub mod Refusing
 pub mod Turning
 pub mod Booting
 pub mod Starting

@@ -74,6 +74,16 @@ run_whole (suc limit) s now e =
     let p = parts (step s) (λ s. steps limit s) now e in
     run_is limit s (Ok p.0) p.1 ∙ ap one_more (run_whole limit p.0 now p.2) ∙ ap (λ (d : ℕ). ended d now None) (next_is limit)
 
+-- a run that may be longer makes at least these steps
+pub done_at_least : (made limit : ℕ) (s now : GplState) → steps made s ≡ Ok now → made ≤ limit → made ≤ (run limit s).done
+done_at_least zero limit s now e le = omega arith
+done_at_least (suc made) zero s now e le = absurd (omega arith)
+done_at_least (suc made) (suc limit) s now e le =
+    let p = parts (step s) (λ s. steps made s) now e in
+    let rest = done_at_least made limit p.0 now p.2 (omega arith) in
+    let more : (run (suc limit) s).done ≡ (run limit p.0).done + 1 = ap (λ (q : GplRun). q.done) (run_is limit s (Ok p.0) p.1) in
+    omega arith
+
 -- Turns of steps that were made.
 pub record Stepping (made : ℕ) (s : GplState) (x z : MachineState) (t u : ℕ) : Type 0 where
   pub now : GplState
@@ -88,7 +98,7 @@ none_yet x t m = record { now = shown_by x.cpu.memory; steps_are = refl; matches
 
 module _ (made : ℕ) (s : GplState) (x z w : MachineState) (t u v : ℕ) (h : Stepping made s x z t u) where
   -- the state after the steps that were made is the last of their run
-  last_is : (run made s).last ≡ h.now
+  pub last_is : (run made s).last ≡ h.now
   last_is = ap (λ (q : GplRun). q.last) (run_whole made s h.now h.steps_are)
 
   one_more_turn : (turn : ℕ) → IsTurn turn z w → turn ≤ bound h.now → AreTurns s (suc made) (h.count + turn) x w

@@ -21,7 +21,7 @@ use Rattle.sim_steps.specs.Families.{family_of}
 use Rattle.sim_steps.proofs.Families.{IsIn, in_family}
 use Rattle.sim_rows.proofs.Steps.{step_none, step_unbuilt}
 use Rattle.sim_rows.proofs.Ends.{state_at, turned_from}
-use Rattle.sim_steps.proofs.Jumping.{refuses}
+use Rattle.sim_steps.proofs.Refusing.{refuses}
 use Rattle.sim_steps.proofs.Families as families
 
 refused : (s : GplState) (o : Option GplOperation) → operation_at (code_byte s) ≡ o → operation_entry o ≡ 0x22AE → step s ≡ Err Opcode

@@ -1,8 +1,8 @@
--- What the pieces of boot, of B and EXIT, and of the stop by a code byte come to: how many instructions they have, where they
+-- What the pieces of boot and of the stop by a code byte come to: how many instructions they have, where they
 -- end, and what they change of the view, in the words of the processor. Registers, cells and ports that are not named stay.
 use Rattle.std.specs.Prelude.{slice_set}
 use Rattle.step_defs.specs.declared.cells.TheConstants.{VALUE_STACK, RETURN_STACK}
-use Rattle.native_interp.specs.declared.addresses.TheConstants.{GSTEP, GSTOP, GEXIT, SEEK, STREAM, GOTO}
+use Rattle.native_interp.specs.declared.addresses.TheConstants.{GSTEP, GSTOP, SEEK}
 use Rattle.sim_view.specs.View.{View}
 use Rattle.sim_view.specs.Exits.{Exit}
 use Rattle.sim_operands.specs.Pieces.{exit}
@@ -18,15 +18,3 @@ boot v =
 -- UNKN: the stop by reason 1.
 abbrev pub stop_code : View → Exit
 stop_code v = exit 2 GSTOP (record v { r = record v.r { r0 = 1 } })
-
--- GOEXIT.
-abbrev pub leave : View → Exit
-leave v = exit 1 GEXIT v
-
--- GOB: the address that follows is asked for.
-abbrev pub ask_target : View → Exit
-ask_target v = exit 2 STREAM (record v { r = record v.r { r3 = 2; r11 = GOTO } })
-
--- GOTO: GROM goes on at the address.
-abbrev pub go_on : View → Exit
-go_on v = exit 2 SEEK (record v { r = record v.r { r11 = GSTEP } })

@@ -1,6 +1,7 @@
 //! The families of the instructions, each of which a function runs.
 
-ghost use Rattle.std.specs.Prelude.{◌≡◌};
+ghost use Rattle.std.specs.Prelude.{◌≡◌, Some};
+ghost use Rattle.gpl_defs.specs.declared.instruction.GplOperation.TheVariants.{One, Two};
 ghost use Rattle.sim_steps.specs.Families as spec;
 
 use gpl_forms::{ByteOp, GoOp, GplOperation, OneName, PlainOp, TwoName};
@@ -16,9 +17,11 @@ pub enum Family {
     MulDiv,
     /// The comparisons and the tests of the status.
     Compare,
-    /// B and EXIT.
+    /// B, BR, BS, CASE and EXIT.
     Flow,
-    /// EX.
+    /// CALL, RTN, RTNC, PUSH and FETCH.
+    Stack,
+    /// EX and RAND.
     Misc,
     /// A code byte that is no instruction's, or that of an instruction that the interpreter does not have.
     Refused,
@@ -31,17 +34,19 @@ pub fn family_of(operation: Option<GplOperation>) -> Family
     match operation {
         Some(GplOperation::One(op)) => family_of_one(op),
         Some(GplOperation::Two(op)) => family_of_two(op),
-        Some(GplOperation::Jump(GoOp::B)) | Some(GplOperation::Plain(PlainOp::EXIT)) =>
-            Family::Flow,
         Some(GplOperation::Plain(PlainOp::H))
         | Some(GplOperation::Plain(PlainOp::GT))
         | Some(GplOperation::Plain(PlainOp::CARRY))
         | Some(GplOperation::Plain(PlainOp::OVF)) => Family::Compare,
+        Some(GplOperation::Plain(PlainOp::EXIT))
+        | Some(GplOperation::Jump(GoOp::B))
+        | Some(GplOperation::Branch(_)) => Family::Flow,
         Some(GplOperation::Plain(PlainOp::RTN))
         | Some(GplOperation::Plain(PlainOp::RTNC))
-        | Some(GplOperation::Byte(_))
-        | Some(GplOperation::Jump(GoOp::CALL))
-        | Some(GplOperation::Branch(_))
+        | Some(GplOperation::Jump(GoOp::CALL)) => Family::Stack,
+        Some(GplOperation::Byte(ByteOp::RAND)) => Family::Misc,
+        Some(GplOperation::Byte(ByteOp::BACK))
+        | Some(GplOperation::Byte(ByteOp::ALL))
         | Some(GplOperation::Move(_))
         | None => Family::Refused,
     }
@@ -49,7 +54,7 @@ pub fn family_of(operation: Option<GplOperation>) -> Family
 
 /// The family of an operation on one operand.
 fn family_of_one(op: OneName) -> Family
-    ensures { result ≡ spec.family_of_one op }
+    ensures { result ≡ spec.family_of (Some (One op)) }
 {
     match op {
         OneName::ABS
@@ -61,13 +66,14 @@ fn family_of_one(op: OneName) -> Family
         | OneName::INCT
         | OneName::DECT => Family::Alu,
         OneName::CZ => Family::Compare,
-        OneName::CASE | OneName::FETCH | OneName::PUSH => Family::Refused,
+        OneName::CASE => Family::Flow,
+        OneName::FETCH | OneName::PUSH => Family::Stack,
     }
 }
 
 /// The family of an operation on two operands.
 fn family_of_two(op: TwoName) -> Family
-    ensures { result ≡ spec.family_of_two op }
+    ensures { result ≡ spec.family_of (Some (Two op)) }
 {
     match op {
         TwoName::ADD | TwoName::SUB | TwoName::AND | TwoName::OR | TwoName::XOR | TwoName::ST =>

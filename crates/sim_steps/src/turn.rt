@@ -4,16 +4,17 @@ ghost use Rattle.interp_defs.specs.Match.{IsMatching, shown_by};
 ghost use Rattle.interp_defs.specs.Turned.{Turned};
 
 use crate::family::{Family, family_of};
-use crate::flow::run_flow;
 use crate::start::stop_code;
 use gpl_forms::operation_at;
 use interp_defs::Turn;
 use sim_alu::run_alu;
 use sim_compare::run_compare;
+use sim_flow::run_flow;
 use sim_misc::run_misc;
 use sim_muldiv::run_muldiv;
 use sim_rows::begin_step;
 use sim_shift::run_shift;
+use sim_stack::run_stack;
 use sim_view::register;
 use std::sync::ledger::Ledger;
 use step_defs::Reason;
@@ -36,6 +37,7 @@ pub fn gpl_turn<L: Ledger>(machine: &mut Machine, steps: &mut Steps<L>) -> Turn
         Family::MulDiv => run_muldiv(machine, steps),
         Family::Compare => run_compare(machine, steps),
         Family::Flow => run_flow(machine, steps),
+        Family::Stack => run_stack(machine, steps),
         Family::Misc => run_misc(machine, steps),
         Family::Refused => {
             stop_code(machine, steps);

@@ -1,5 +1,5 @@
 -- How a run ends by its report.
-use Rattle.std.proofs.Common.{◌≡◌, ℕ, List, length, Option, Some, None, Ok, Err, Bool, true, false, [], refl, sym, ap, ◌∙◌, subst, arith, rules}
+use Rattle.std.proofs.Common.{◌≡◌, ℕ, List, length, Option, Some, None, Ok, Err, Bool, true, false, [], refl, sym, ap, ◌∙◌, subst, inl, inr, arith, rules}
 use Rattle.std.specs.Prelude.{nat_lt, IsSome, unwrap_or}
 use Rattle.std.proofs.lemmas.Bool.Decides.{nat_tests}
 use Rattle.bench_io.specs.Stream.{SourceState}
@@ -20,7 +20,8 @@ use Rattle.gpl_run.specs.Sessions.{SessionState, seen}
 use Rattle.ti_bench.specs.declared.report.Report.{Report}
 use Rattle.ti_bench.specs.declared.report.Report.TheVariants as made
 use Rattle.ti_bench.specs.Made.{defined_report}
-use Rattle.ti_bench.specs.Run.{Outputs, Run, ReadsInput, Reads, TakesWhole, ReportsOn, Reports, WroteReport, WrittenReport, EndsWith, EndsBy, LeavesInput}
+use Rattle.ti_bench.specs.Run.{Outputs, Run, ReadsInput, Reads, TakesWhole, ReportsOn, Reports, BeginsOn, WroteReport, MissedReport, WrittenReport, EndsWith, EndsBy}
+use Rattle.ti_bench.specs.Run.{LeavesInput}
 use Rattle.ti_bench.specs.Run.{WroteNothing}
 
 -- the report of a program that was written ends by the program's status
@@ -78,10 +79,14 @@ by_report run report status.Done reports ends = (report, reports, ends)
 by_report run report status.Refused reports ends = (report, reports, ends)
 by_report run report status.Usage reports ends = (report, reports, ends)
 by_report run report status.ReadFault reports ends = absurd ends
-by_report run report status.WriteFault reports ends = (report, reports, ends)
+by_report run report status.WriteFault reports ends = inl (report, reports, ends)
 by_report run report status.Memory reports ends = absurd ends
 by_report run report status.Interpreter reports ends = (report, reports, ends)
 by_report run report status.Stopped reports ends = (report, reports, ends)
+
+-- a run whose output failed at a front of its report
+pub by_front : (run : Run) (front : spec.Report) → BeginsOn (command_of run.words) run front → MissedReport run.outputs front → EndsBy run status.WriteFault
+by_front run front begins missed = inr (front, begins, missed)
 
 -- an input that was taken whole
 pub reads_whole : (reading : Bool) (before after : SourceState) (bytes : List ℕ) → TakesWhole reading before after bytes → Reads reading before after bytes
@@ -103,6 +108,11 @@ pub reports_by : (run : Run) (command : Command) (report : spec.Report) → Some
 reports_by run command report is reports =
     let P : Option Command → Type 0 = λ found. ReportsOn found run report in
     subst P is reports
+
+pub begins_by : (run : Run) (command : Command) (front : spec.Report) → Some command ≡ command_of run.words → BeginsOn (Some command) run front → BeginsOn (command_of run.words) run front
+begins_by run command front is begins =
+    let P : Option Command → Type 0 = λ found. BeginsOn found run front in
+    subst P is begins
 
 -- words that are no command
 pub reports_usage : (run : Run) (found : Option Command) → ((command : Command) → found ≡ Some command → ⊥) → found ≡ command_of run.words → run.input' ≡ run.input → Reports run (spec.Faulty fault.Usage)

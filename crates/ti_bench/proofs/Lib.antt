@@ -4,3 +4,5 @@ pub mod Programs
 pub mod Uniqueness
 pub mod ModuleCount
 pub mod Told
+pub mod Loading
+pub mod Tracing

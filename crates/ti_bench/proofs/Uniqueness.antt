@@ -1,5 +1,5 @@
 -- Where nothing fails, a run has one answer.
-use Rattle.std.proofs.Common.{◌≡◌, ◌≢◌, ℕ, ◌≤◌, List, [], ◌++◌, length, Option, Some, None, Bool, true, false, refl, sym, ap, ◌∙◌, subst, append-nil}
+use Rattle.std.proofs.Common.{◌≡◌, ◌≢◌, ℕ, ◌≤◌, List, [], ◌++◌, length, Option, Some, None, Bool, true, false, refl, sym, ap, ◌∙◌, subst, inl, inr, append-nil}
 use Rattle.std.proofs.Common.{length-append, arith}
 use Rattle.std.specs.Prelude.{MatchBool, nat_lt, if◌then◌else◌}
 use Rattle.std.specs.Option.{option_map}
@@ -60,7 +60,8 @@ reported run status.Done (report, reports, (is, wrote)) none some = (report, rep
 reported run status.Refused (report, reports, (is, wrote)) none some = (report, reports, sym is, wrote)
 reported run status.Usage (report, reports, (is, wrote)) none some = (report, reports, sym is, wrote)
 reported run status.ReadFault (nothing, rose) none some = absurd (none.input rose)
-reported run status.WriteFault (report, reports, missed) none some = absurd (no_miss run report none missed)
+reported run status.WriteFault (inl (report, reports, missed)) none some = absurd (no_miss run report none missed)
+reported run status.WriteFault (inr (front, begins, missed)) none some = absurd (no_miss run front none missed)
 reported run status.Memory nothing none some = absurd (some refl)
 reported run status.Interpreter (report, reports, (is, wrote)) none some = (report, reports, sym is, wrote)
 reported run status.Stopped (report, reports, (is, wrote)) none some = (report, reports, sym is, wrote)

@@ -6,4 +6,6 @@ pub use Rattle.report_defs.specs.Report
 pub mod Run
 pub mod Ran
 pub mod Made
+pub mod Loaded
+pub mod Traced
 pub mod Laws

@@ -1,5 +1,5 @@
 -- One run of the program: how it may end, and what the input and the two outputs are then.
-use Rattle.std.specs.Prelude.{◌≡◌, ℕ, ◌+◌, ◌≤◌, nat_lt, Bool, false, MatchBool, if◌then◌else◌, List, [], ◌∷◌, length}
+use Rattle.std.specs.Prelude.{◌≡◌, ◌⊎◌, ℕ, ◌+◌, ◌≤◌, nat_lt, Bool, false, MatchBool, if◌then◌else◌, List, [], ◌∷◌, length}
 use Rattle.std.specs.Prelude.{Option, Some, None, IsSome, Result}
 use Rattle.count_defs.specs.Counts.{Rose}
 use Rattle.bench_io.specs.Stream.{SourceState, SinkState, IsAtEnd}
@@ -12,7 +12,7 @@ use Rattle.report_defs.specs.declared.status.Status.TheVariants.{Memory, Interpr
 use Rattle.report_defs.specs.declared.fault.Fault.TheVariants as fault
 use Rattle.report_defs.specs.FaultLine.{fault_line}
 use Rattle.report_defs.specs.Commands.{command_of, reads}
-use Rattle.report_defs.specs.Report.{Report, Whole, Faulty, Rejected, status_of, largest_input, ReportOn}
+use Rattle.report_defs.specs.Report.{Report, Whole, Faulty, Rejected, status_of, largest_input, ReportOn, FrontOn}
 
 -- the output and the error output before and after the run
 pub record Outputs : Type 0 where
@@ -56,6 +56,12 @@ ReportsOn (Some command) run report =
 
 abbrev pub Reports : Run → Report → Type 0
 Reports run report = ReportsOn (command_of run.words) run report
+
+-- a front of the report of the run: it is written before the end of the report is known
+abbrev pub BeginsOn : Option Command → Run → Report → Type 0
+BeginsOn None run front = ⊥
+BeginsOn (Some command) run front =
+    (bytes : List ℕ) × Reads (reads command) run.input run.input' bytes × FrontOn command bytes front
 
 -- the report was written to the one output that it goes to, and nothing to the other
 abbrev pub WroteReport : Outputs → Report → Type 0
@@ -108,6 +114,12 @@ pub record WroteNothing (run : Run) : Type 0 where
 abbrev pub EndsByReport : Run → Status → Type 0
 EndsByReport run status = (report : Report) × Reports run report × EndsWith run.outputs report status
 
+-- An output failed: it got a front of the report, or of that front of it which is written before its end is known.
+abbrev pub EndsByFault : Run → Type 0
+EndsByFault run =
+    EndsByReport run WriteFault
+    ⊎ (front : Report) × BeginsOn (command_of run.words) run front × MissedReport run.outputs front
+
 -- The statuses, each with its cause. Want of memory has no cause, but it is never answered to words that are no
 -- command, and never once something was written.
 abbrev pub EndsBy : Run → Status → Type 0
@@ -115,7 +127,7 @@ EndsBy run Done = EndsByReport run Done
 EndsBy run Refused = EndsByReport run Refused
 EndsBy run Usage = EndsByReport run Usage
 EndsBy run ReadFault = WroteNothing run × Rose run.input.faults run.input'.faults
-EndsBy run WriteFault = EndsByReport run WriteFault
+EndsBy run WriteFault = EndsByFault run
 EndsBy run Memory = WroteNothing run
 EndsBy run Interpreter = EndsByReport run Interpreter
 EndsBy run Stopped = EndsByReport run Stopped

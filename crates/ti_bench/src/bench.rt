@@ -4,7 +4,7 @@ ghost use Rattle.ti_bench.specs.Laws.{LawsOfRuns};
 ghost use Rattle.ti_bench.specs.Run.{EndsBy};
 
 use crate::command::read_command;
-use crate::commands::make_report;
+use crate::commands::prepare;
 use crate::input::take_input;
 use crate::report::Report;
 use crate::words::Words;
@@ -13,7 +13,8 @@ use report_defs::{Fault, Status};
 use std::alloc::{AllocError, Global};
 
 /// Runs the command that the words say. It reads all of `input` before it writes, writes the report to `out`, or a fault
-/// line or the usage line to `err`, and takes all its memory before the first byte is written.
+/// line or the usage line to `err`, and takes all its memory before the first byte is written. The lines of a trace are
+/// written while the program runs, each once its step is made.
 ///
 /// The contract says of each status its cause, and what the input and the outputs are then; that there is one report on
 /// each command and input; that where the source tells its bytes and nothing fails, the answer is that report with its
@@ -48,8 +49,8 @@ pub fn bench<S: Source, O: Sink, E: Sink>(
         Err(ReadError::Fault) => return Status::ReadFault,
         Err(ReadError::Memory) => return Status::Memory,
     };
-    match make_report(alloc, command, bytes) {
-        Ok(report) => report.finish(out, err),
+    match prepare(alloc, command, bytes) {
+        Ok(prepared) => prepared.finish(out, err),
         Err(AllocError) => Status::Memory,
     }
 }

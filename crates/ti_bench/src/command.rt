@@ -1,7 +1,8 @@
 //! Which command the words say.
 
-ghost use Rattle.std.specs.Prelude.{◌≡◌, ◌≤◌};
+ghost use Rattle.std.specs.Prelude.{◌≡◌, ◌≤◌, IfSome};
 ghost use Rattle.report_defs.specs.Commands as spec;
+ghost use Rattle.ti_bench.specs.Traced.{KeepsLimit};
 
 use crate::words::Words;
 use asm_text::{decimal_up_to, hexadecimal_number};
@@ -10,12 +11,13 @@ use report_defs::Command;
 /// The most instructions that `exec` makes.
 const MOST_INSTRUCTIONS: u32 = 10_000_000;
 
-/// The most steps that `run` makes.
+/// The most steps that `run` and `trace` make.
 const MOST_STEPS: u32 = 100_000;
 
 /// The command that the words say, or `None` where they are in no shape of one.
 pub(crate) fn read_command(words: &Words) -> Option<Command>
-    ensures { result ≡ spec.command_of words.now }
+    ensures command { result ≡ spec.command_of words.now }
+    ensures limit { IfSome result KeepsLimit }
 {
     match words.as_slice() {
         [name] if name.as_slice() == b"asm".as_slice() => Some(Command::Asm),
@@ -30,6 +32,10 @@ pub(crate) fn read_command(words: &Words) -> Option<Command>
             let limit = number_word(limit.as_slice(), MOST_STEPS)?;
             Some(Command::Run { limit })
         }
+        [name, limit] if name.as_slice() == b"trace".as_slice() => {
+            let limit = number_word(limit.as_slice(), MOST_STEPS)?;
+            Some(Command::Trace { limit })
+        }
         [name, address] if name.as_slice() == b"dis".as_slice() => dis_at(address.as_slice()),
         [name, address] if name.as_slice() == b"gdis".as_slice() => {
             let at = address_word(address.as_slice())?;
@@ -41,7 +47,8 @@ pub(crate) fn read_command(words: &Words) -> Option<Command>
 
 /// The command `dis` with an address, where that is an even one.
 fn dis_at(word: &[u8]) -> Option<Command>
-    ensures { result ≡ spec.dis_command word.now }
+    ensures command { result ≡ spec.dis_command word.now }
+    ensures limit { IfSome result KeepsLimit }
 {
     let at = address_word(word)?;
     if at % 2 != 0 {
@@ -63,7 +70,8 @@ fn address_word(word: &[u8]) -> Option<u16>
 /// The number that a word spells by decimal digits without a leading zero, where it is not above a limit.
 fn number_word(word: &[u8], limit: u32) -> Option<u32>
     requires { limit ≤ 10000000 }
-    ensures { result ≡ spec.number_word limit word.now }
+    ensures number { result ≡ spec.number_word limit word.now }
+    ensures limit { IfSome result (λ number. number ≤ limit) }
 {
     if word.len() > 1 && word[0] == b'0' {
         return None;

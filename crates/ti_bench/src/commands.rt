@@ -1,4 +1,4 @@
-//! The commands, each by its report.
+//! The commands, each by what it makes of its input.
 
 mod asm;
 mod dis;
@@ -7,11 +7,13 @@ mod gasm;
 mod gdis;
 mod interp;
 mod link;
+mod program;
 mod run;
+mod trace;
 
 ghost use Rattle.std.specs.Prelude.{◌≤◌, vec_len, IfOk};
-ghost use Rattle.report_defs.specs.Report as spec;
-ghost use Rattle.ti_bench.specs.Made.{defined_report};
+ghost use Rattle.report_defs.specs.Report.{largest_input};
+ghost use Rattle.ti_bench.specs.Traced.{KeepsLimit, Prepares};
 
 use crate::commands::asm::asm;
 use crate::commands::dis::dis;
@@ -21,27 +23,31 @@ use crate::commands::gdis::gdis;
 use crate::commands::interp::interp;
 use crate::commands::link::link;
 use crate::commands::run::run;
-use crate::report::Report;
+use crate::commands::trace::trace;
+use crate::prepared::Prepared;
 use report_defs::Command;
 use std::alloc::{AllocError, Global};
 
-/// What a command reports on an input that is not too large.
-pub(crate) fn make_report(
+/// What a command makes of an input that is not too large.
+pub(crate) fn prepare(
     alloc: Global,
     command: Command,
     input: Vec<u8>,
-) -> Result<Report, AllocError>
-    requires { vec_len input ≤ spec.largest_input }
-    ensures { IfOk result (λ report. spec.ReportOn command input.items (defined_report report)) }
+) -> Result<Prepared, AllocError>
+    requires size { vec_len input ≤ largest_input }
+    requires limit { KeepsLimit command }
+    ensures { IfOk result (Prepares command input.items) }
 {
-    match command {
-        Command::Asm => asm(alloc, input.as_slice()),
-        Command::Gasm => gasm(alloc, input.as_slice()),
-        Command::Dis { at } => Ok(dis(at, input)),
-        Command::Gdis { at } => gdis(alloc, at, input.as_slice()),
-        Command::Link => link(alloc, input.as_slice()),
-        Command::Exec { limit } => exec(alloc, limit, input.as_slice()),
-        Command::Interp => interp(alloc),
-        Command::Run { limit } => run(alloc, limit, input.as_slice()),
-    }
+    let report = match command {
+        Command::Asm => asm(alloc, input.as_slice())?,
+        Command::Gasm => gasm(alloc, input.as_slice())?,
+        Command::Dis { at } => dis(at, input),
+        Command::Gdis { at } => gdis(alloc, at, input.as_slice())?,
+        Command::Link => link(alloc, input.as_slice())?,
+        Command::Exec { limit } => exec(alloc, limit, input.as_slice())?,
+        Command::Interp => interp(alloc)?,
+        Command::Run { limit } => run(alloc, limit, input.as_slice())?,
+        Command::Trace { limit } => return trace(alloc, limit, input.as_slice()),
+    };
+    Ok(Prepared::Report(report))
 }

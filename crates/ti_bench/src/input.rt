@@ -40,7 +40,8 @@ fn reads(command: Command) -> bool
         | Command::Gdis { .. }
         | Command::Link
         | Command::Exec { .. }
-        | Command::Run { .. } => true,
+        | Command::Run { .. }
+        | Command::Trace { .. } => true,
         Command::Interp => false,
     }
 }

@@ -10,9 +10,11 @@ mod interpreter;
 mod listing;
 mod listing_lines;
 mod object_input;
+mod prepared;
 mod report;
 #[cfg(test)]
 mod tests;
+mod trace;
 mod words;
 
 use crate::bench::bench;

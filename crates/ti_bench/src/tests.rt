@@ -11,3 +11,4 @@ mod interp;
 mod link;
 mod run;
 mod statuses;
+mod trace;

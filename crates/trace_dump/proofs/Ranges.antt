@@ -1,7 +1,8 @@
 -- What numbers in a row give, one after the other.
-use Rattle.std.proofs.Common.{◌≡◌, ℕ, zero, suc, ◌+◌, ◌-◌, ◌≤◌, List, ◌∷◌, ◌++◌, ap, ◌∙◌, append-nil, zero-add, arith}
+use Rattle.std.proofs.Common.{◌≡◌, ℕ, zero, suc, ◌+◌, ◌-◌, ◌≤◌, List, ◌∷◌, ◌++◌, map, ap, ◌∙◌, append-nil, zero-add, arith}
 use Rattle.std.specs.List.{flat_map, range_with_len}
 use Rattle.std.proofs.lemmas.Grind.{flat_map-append}
+use Rattle.std.proofs.lemmas.List.{map-append}
 
 range_split : (from n m : ℕ) → range_with_len from (n + m) ≡ range_with_len from n ++ range_with_len (from + n) m
 range_split from zero m = ap (λ k. range_with_len from k) (zero-add m) ∙ ap (λ k. range_with_len k m) (omega arith)
@@ -30,3 +31,10 @@ module _ {A : Type 0} (f : ℕ → List A) where
   all_split n all le =
       ap (λ k. flat_map f (range_with_len 0 k)) (let e : all ≡ n + (all - n) = omega arith in e)
       ∙ (split_from 0 n (all - n) ∙ ap (λ k. flat_map f (range_with_len 0 n) ++ flat_map f (range_with_len k (all - n))) (zero-add n))
+
+module _ {B : Type 0} (f : ℕ → B) where
+  -- the images of some numbers, and then those of the numbers behind them
+  pub mapped_split : (n m : ℕ) → map f (range_with_len 0 (n + m)) ≡ map f (range_with_len 0 n) ++ map f (range_with_len n m)
+  mapped_split n m =
+      ap (map f) (range_split 0 n m) ∙ map-append f (range_with_len 0 n) (range_with_len (0 + n) m)
+      ∙ ap (λ k. map f (range_with_len 0 n) ++ map f (range_with_len k m)) (zero-add n)

@@ -4,14 +4,14 @@
 
 mod line;
 mod parts;
-mod play;
 mod rows;
 mod seen;
 mod state;
+mod steps;
 mod workspace;
 
 pub use line::trace_line;
 pub use parts::dump;
-pub use play::play;
+pub use steps::play;
 pub use seen::{Seen, changes};
 pub use state::{state_line, stop_line};

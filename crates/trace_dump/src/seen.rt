@@ -1,10 +1,12 @@
 //! What was seen of a program, and what has changed since.
 
-ghost use Rattle.std.specs.Prelude.{◌≡◌, ◌≤◌, ◌<◌, ◌+◌, ◌++◌, length, codes, slice_index, IfOk};
+ghost use Rattle.std.specs.Prelude.{◌≡◌, ◌≤◌, ◌<◌, ◌+◌, ◌++◌, length, codes, slice_index};
+ghost use Rattle.std.specs.Prelude.{IfOk, IfSome, IfNone};
 ghost use Rattle.std.specs.Fmt.{decimal};
 ghost use Rattle.arrayvec.specs.ArrayString.{array_string_len};
 ghost use Rattle.source_defs.specs.Digits.{byte_digits, marked_word};
 ghost use Rattle.interp_defs.specs.Match.{shown_by};
+ghost use Rattle.lane_scan.specs.Plain.{first_difference, count_differences};
 ghost use Rattle.report_defs.specs.Trace as spec;
 
 use crate::parts::vdp_registers;
@@ -36,6 +38,7 @@ pub struct Seen {
 impl Model for Seen {
     ghost use Rattle.std.specs.Prelude.{◌≡◌, length};
     ghost use Rattle.report_defs.specs.Trace.{SeenState};
+    ghost use Rattle.trace_dump.specs.declared.seen.TheConstants.{VIDEO_SIZE};
 
     ghost Value = { SeenState };
 
@@ -85,7 +88,8 @@ fn visible_cells(machine: &Machine) -> &[u8]
     ensures cells { result.now ≡ (shown_by machine.now.cpu.memory).cells }
     ensures size { length result.now ≡ CELLS }
 {
-    &machine.bus().pad()[..CELLS]
+    let pad = machine.bus().pad();
+    &pad[..CELLS]
 }
 
 /// Appends what has changed of the visible cells, and keeps them.
@@ -98,10 +102,10 @@ fn show_cells(line: &mut ArrayString<120>, kept: &mut [u8], now: &[u8])
     ensures size { array_string_len line.new ≤ array_string_len line.old + 14 }
     ensures kept { kept.new ≡ now.now }
 {
-    let Some(at) = first_difference(kept, now) else {
+    let Some(at) = first_change(kept, now) else {
         return;
     };
-    push_count(line, " C", count_differences(kept, now));
+    push_count(line, " C", count_changes(kept, now));
     push_word(line, 0x8300 + at as u16);
     push_new(line, now[at]);
     kept.copy_from_slice(now);
@@ -117,10 +121,10 @@ fn show_video(line: &mut ArrayString<120>, kept: &mut [u8], now: &[u8])
     ensures size { array_string_len line.new ≤ array_string_len line.old + 16 }
     ensures kept { kept.new ≡ now.now }
 {
-    let Some(at) = first_difference(kept, now) else {
+    let Some(at) = first_change(kept, now) else {
         return;
     };
-    push_count(line, " V", count_differences(kept, now));
+    push_count(line, " V", count_changes(kept, now));
     push_word(line, at as u16);
     push_new(line, now[at]);
     kept.copy_from_slice(now);
@@ -136,28 +140,57 @@ fn show_registers(line: &mut ArrayString<120>, kept: &mut [u8], now: &[u8])
     ensures size { array_string_len line.new ≤ array_string_len line.old + 12 }
     ensures kept { kept.new ≡ now.now }
 {
-    let Some(at) = first_difference(kept, now) else {
+    let Some(at) = first_change(kept, now) else {
         return;
     };
-    push_count(line, " W", count_differences(kept, now));
+    push_count(line, " W", count_changes(kept, now));
     line.push(char::from(b'0' + at as u8));
     push_new(line, now[at]);
     kept.copy_from_slice(now);
+}
+
+/// The first place where bytes have changed, of which there are as many as before.
+fn first_change(before: &[u8], after: &[u8]) -> Option<usize>
+    requires { length before.now ≡ length after.now }
+    ensures value { result ≡ first_difference before.now after.now }
+    ensures bound { IfSome result (λ at. at < length after.now) }
+    ensures same { IfNone result (before.now ≡ after.now) }
+{
+    first_difference(before, after)
+}
+
+/// In how many places bytes have changed, of which there are as many as before.
+fn count_changes(before: &[u8], after: &[u8]) -> usize
+    requires { length before.now ≡ length after.now }
+    ensures value { result ≡ count_differences before.now after.now }
+    ensures bound { result ≤ length after.now }
+{
+    count_differences(before, after)
 }
 
 /// Appends a label of two characters, a number of changed bytes in at most five digits, and a blank.
 #[tactic(auto, using(std::proofs::Common::append_assoc))]
 fn push_count(line: &mut ArrayString<120>, label: &str, count: usize)
     requires label { length label.now ≡ 2 }
-    requires count { count ≤ 16384 }
+    requires count { count ≤ VIDEO_SIZE }
     requires room { array_string_len line.old + 8 ≤ 120 }
     ensures text { line.new.bytes ≡ line.old.bytes ++ (label.now ++ (decimal count ++ codes " ")) }
     ensures size { array_string_len line.new ≤ array_string_len line.old + 8 }
 {
     line.push_str(label);
-    let mut buffer = Buffer::new();
-    line.push_str(buffer.format(count));
+    push_decimal(line, count);
     line.push(' ');
+}
+
+/// Appends a number in decimal digits, of which there are five at most.
+fn push_decimal(line: &mut ArrayString<120>, number: usize)
+    requires number { number ≤ VIDEO_SIZE }
+    requires room { array_string_len line.old + 5 ≤ 120 }
+    ensures text { line.new.bytes ≡ line.old.bytes ++ decimal number }
+    ensures size { array_string_len line.new ≤ array_string_len line.old + 5 }
+{
+    let mut buffer = Buffer::new();
+    line.push_str(buffer.format(number));
 }
 
 /// Appends a new byte, behind an equals sign.

@@ -1,22 +1,15 @@
 //! `run`: a GPL program, run by the interpreter.
 
-ghost use Rattle.std.specs.Prelude.{◌≡◌, ◌<◌, ◌≤◌, length, Ok, IfOk};
-ghost use Rattle.build_defs.specs.Interpreter.{built_interpreter};
+ghost use Rattle.std.specs.Prelude.{◌≡◌, ◌<◌, ◌≤◌, length, IfOk};
 ghost use Rattle.gpl_run.specs.Sessions.{IsNew, image_of, entry_of};
-ghost use Rattle.link_loader.specs.View.{defined_linked};
-ghost use Rattle.program_defs.specs.Programs.{program_of_source};
 ghost use Rattle.report_defs.specs.Report as spec;
 ghost use Rattle.ti_bench.specs.Made.{defined_report};
 ghost use Rattle.ti_bench.specs.Ran.{RanProgram};
 
-use crate::interpreter::{BuiltInterpreter, build_interpreter};
+use crate::commands::program::{Loaded, load_program};
 use crate::report::Report;
-use gpl_asm::{GplError, gpl_assemble};
-use gpl_forms::GromImage;
-use gpl_run::{Session, load_interpreter};
-use link_loader::Linked;
-use report_defs::{Command, Fault};
-use report_lines::gpl_line;
+use gpl_run::Session;
+use report_defs::Command;
 use std::alloc::{AllocError, Global};
 use std::marker::Brand;
 use std::sync::ledger::{Blank, Ledger};
@@ -28,46 +21,12 @@ pub(crate) fn run(alloc: Global, limit: u32, input: &[u8]) -> Result<Report, All
     requires { length input.now ≤ spec.largest_input }
     ensures { IfOk result (λ report. spec.AcceptedReport (Command.Run limit) input.now (defined_report report)) }
 {
-    match build_interpreter(alloc)? {
-        BuiltInterpreter::Memory(interpreter) => run_source(alloc, limit, &interpreter, input),
-        BuiltInterpreter::Fault(fault) => Ok(Report::Fault(Fault::Interpreter(fault))),
+    match load_program(alloc, input)? {
+        Loaded::Machine(machine) => {
+            Ok(Report::Program(run_session::<Brand>(machine, limit, Blank::new(1))))
+        }
+        Loaded::Report(report) => Ok(report),
     }
-}
-
-/// The report of up to `limit` steps of a GPL source.
-fn run_source(
-    alloc: Global,
-    limit: u32,
-    interpreter: &Linked,
-    input: &[u8],
-) -> Result<Report, AllocError>
-    requires built { built_interpreter ≡ Ok (defined_linked interpreter.now) }
-    requires size { length input.now ≤ spec.largest_input }
-    ensures { IfOk result (λ report. spec.ProgramReport limit (program_of_source input.now) (defined_report report)) }
-{
-    match gpl_assemble(alloc, input) {
-        Ok(program) => run_program(alloc, limit, interpreter, &program.image, program.entry),
-        Err(GplError::At { line, cause }) => Ok(Report::Refused(gpl_line(line, cause))),
-        Err(GplError::Memory) => Err(AllocError),
-    }
-}
-
-/// The report of up to `limit` steps of the program that an image holds.
-fn run_program(
-    alloc: Global,
-    limit: u32,
-    interpreter: &Linked,
-    image: &GromImage,
-    entry: Option<u16>,
-) -> Result<Report, AllocError>
-    requires { built_interpreter ≡ Ok (defined_linked interpreter.now) }
-    ensures { IfOk result (λ report. spec.EnteredReport limit image.now entry (defined_report report)) }
-{
-    let Some(entry) = entry else {
-        return Ok(Report::Fault(Fault::NoEntry));
-    };
-    let machine = load_interpreter(alloc, interpreter, image.bytes(), entry)?;
-    Ok(Report::Program(run_session::<Brand>(machine, limit, Blank::new(1))))
 }
 
 /// Up to `limit` steps of the program that a machine holds on which the interpreter begins.

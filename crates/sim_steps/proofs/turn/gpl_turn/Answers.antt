@@ -1,6 +1,6 @@
 use Rattle.std.proofs.Common.{arith}
 use Rattle.interp_defs.specs.Match.{shown_by}
-use Rattle.sim_steps.specs.declared.family.Family.TheVariants.{Alu, Shift, MulDiv, Compare, Flow, Misc, Refused}
+use Rattle.sim_steps.specs.declared.family.Family.TheVariants.{Alu, Shift, MulDiv, Compare, Flow, Stack, Misc, Refused}
 use Rattle.sim_steps.proofs.Turning
 use Rattle.sim_steps.proofs.turn.gpl_turn.Goals as goal
 
@@ -88,6 +88,22 @@ pub returns-in-Flow : goal.returns-in-Flow
 returns-in-Flow g c =
     let s = shown_by c.args.machine.now.cpu.memory in
     Turning.turned s c.args.machine.now c.begin_step.new.machine c.args.steps.now c.begin_step.new.steps c.begin_step.ensures c.run_flow.new.machine c.run_flow.new.steps c.run_flow.result c.run_flow.ensures
+
+pub run_stack-requires-clause-stands : goal.run_stack-requires-clause-stands
+run_stack-requires-clause-stands g c = let s = shown_by c.args.machine.now.cpu.memory in Turning.stands s c.args.machine.now c.begin_step.new.machine c.args.steps.now c.begin_step.new.steps c.begin_step.ensures
+
+pub run_stack-requires-clause-dispatched : goal.run_stack-requires-clause-dispatched
+run_stack-requires-clause-dispatched g c = let s = shown_by c.args.machine.now.cpu.memory in Turning.dispatched s c.args.machine.now c.begin_step.new.machine c.args.steps.now c.begin_step.new.steps c.begin_step.ensures
+
+pub run_stack-requires-clause-family : goal.run_stack-requires-clause-family
+run_stack-requires-clause-family g c =
+    let s = shown_by c.args.machine.now.cpu.memory in
+    Turning.family_is s c.args.machine.now c.begin_step.new.machine c.args.steps.now c.begin_step.new.steps c.begin_step.ensures c.register-code.result c.operation_at.result c.family_of.result Stack c.register-code.ensures c.operation_at.ensures c.family_of.ensures c.in-Stack.is
+
+pub returns-in-Stack : goal.returns-in-Stack
+returns-in-Stack g c =
+    let s = shown_by c.args.machine.now.cpu.memory in
+    Turning.turned s c.args.machine.now c.begin_step.new.machine c.args.steps.now c.begin_step.new.steps c.begin_step.ensures c.run_stack.new.machine c.run_stack.new.steps c.run_stack.result c.run_stack.ensures
 
 pub run_misc-requires-clause-stands : goal.run_misc-requires-clause-stands
 run_misc-requires-clause-stands g c = let s = shown_by c.args.machine.now.cpu.memory in Turning.stands s c.args.machine.now c.begin_step.new.machine c.args.steps.now c.begin_step.new.steps c.begin_step.ensures

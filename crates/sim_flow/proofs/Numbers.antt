@@ -1,0 +1,74 @@
+-- Facts about numbers that the instructions which go on elsewhere need.
+use Rattle.std.proofs.Common.{◌≡◌, ℕ, ◌*◌, ◌/◌, ◌%◌, ◌<◌, Bool, true, false, refl, sym, ap, ◌∙◌, arith, eqb, Option, Some}
+use Rattle.std.specs.Prelude.{◌==◌, if◌then◌else◌}
+use Rattle.std.proofs.lemmas.Bool.{agree_below_at}
+use Rattle.console_defs.specs.Words.{low, join, plus}
+use Rattle.console_defs.specs.Flags.{Width, Byte, Word, size_of, sum_of}
+use Rattle.console_defs.specs.Status.{is_set}
+use Rattle.console_defs.specs.Grom.{next_in_grom}
+use Rattle.console_defs.specs.Shifts.{shifted, last_out}
+use Rattle.console_defs.specs.declared.instruction.ShiftOp.TheVariants.{SRL, SLA}
+use Rattle.gpl_defs.specs.declared.instruction.GplOperation.{GplOperation}
+use Rattle.gpl_defs.specs.declared.instruction.GplOperation.TheVariants.{Branch}
+use Rattle.gpl_defs.specs.Codes.{operation_at}
+use Rattle.step_defs.specs.Flow.{in_grom_of}
+use Rattle.sim_operands.specs.Values.{in_register}
+
+-- ---- the target of BR and BS
+
+offset_is : (code : ℕ) → shifted SRL (shifted SLA code 11) 3 ≡ 256 * (code % 32)
+offset_is code = omega arith
+
+byte_down : (byte less : ℕ) → byte < 256 → less < 256 → shifted SRL (join byte less) 8 ≡ byte
+byte_down byte less h k = omega arith
+
+base_is : (address : ℕ) → address < 65536 → shifted SLA (shifted SRL address 13) 13 ≡ address / 8192 * 8192
+base_is address h = omega arith
+
+sum_is : (code byte address : ℕ) → byte < 256 → address < 65536 →
+    sum_of Word (sum_of Word (256 * (code % 32)) byte) (address / 8192 * 8192) ≡ in_grom_of address (join (code % 32) byte)
+sum_is code byte address h k = omega arith
+
+pub target_is : (code byte less address : ℕ) → byte < 256 → address < 65536 →
+    sum_of Word (sum_of Word (shifted SRL (shifted SLA code 11) 3) (shifted SRL (join byte (low less)) 8)) (shifted SLA (shifted SRL address 13) 13)
+    ≡ in_grom_of address (join (code % 32) byte)
+target_is code byte less address h k =
+    ap (λ n. sum_of Word (sum_of Word n (shifted SRL (join byte (low less)) 8)) (shifted SLA (shifted SRL address 13) 13)) (offset_is code)
+    ∙ ap (λ n. sum_of Word (sum_of Word (256 * (code % 32)) n) (shifted SLA (shifted SRL address 13) 13)) (byte_down byte (low less) h (omega arith))
+    ∙ ap (λ n. sum_of Word (sum_of Word (256 * (code % 32)) byte) n) (base_is address k)
+    ∙ sum_is code byte address h k
+
+-- BS has the bit >20 in its code bytes, and BR has not
+abbrev on_by : Bool → Option GplOperation → Bool
+on_by other (Some (Branch on)) = on
+on_by other _ = other
+
+abbrev bit_out : ℕ → Bool
+bit_out code = last_out SRL code 6
+
+abbrev on_at : ℕ → Bool
+on_at code = on_by (bit_out code) (operation_at code)
+
+pub on_is : (code : ℕ) → code < 256 → (on : Bool) → operation_at code ≡ Some (Branch on) → last_out SRL code 6 ≡ on
+on_is code h on e = sym (agree_below_at on_at bit_out 256 code refl h) ∙ ap (on_by (bit_out code)) e
+
+-- the condition is shifted out
+pub condition_out : (status less : ℕ) → status < 256 → less < 256 → last_out SLA (join status less) 3 ≡ is_set status 0x20
+condition_out status less h k = ap (λ n. eqb n 1) (omega arith)
+
+-- ---- the number of CASE
+
+pub number_is : (width : Width) (bytes word number : ℕ) → bytes ≡ size_of width → word ≡ in_register width number → word < 65536 →
+    (if bytes == 1 then shifted SRL word 8 else word) ≡ number
+number_is Byte bytes word number e f h = rw (e, f) (omega arith)
+number_is Word bytes word number e f h = rw e f
+
+pub most_is : (byte : Bool) → (if byte then 4 else 3) < 5
+most_is true = omega arith
+most_is false = omega arith
+
+pub place_fits : (at : ℕ) → next_in_grom at < 65536 → at < 65536
+place_fits at h = omega arith
+
+pub doubled_is : (number at : ℕ) → sum_of Word (sum_of Word number number) at ≡ plus at (2 * number)
+doubled_is number at = omega arith

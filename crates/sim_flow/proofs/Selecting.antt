@@ -1,0 +1,122 @@
+-- CASE from its row to the end of the step.
+use Rattle.std.proofs.Common.{◌≡◌, ℕ, ◌*◌, ◌<◌, refl, ap, subst, ◌∙◌, arith, Option, Some}
+use Rattle.std.specs.Prelude.{◌==◌}
+use Rattle.console_defs.specs.Words.{plus}
+use Rattle.console_defs.specs.Flags.{Width, Word, size_of, sum_of}
+use Rattle.console_defs.specs.Grom.{GromState}
+use Rattle.console_defs.specs.Machine.{MachineState}
+use Rattle.gpl_defs.specs.declared.instruction.GplOperation.{GplOperation}
+use Rattle.gpl_defs.specs.declared.instruction.GplOperation.TheVariants.{One}
+use Rattle.gpl_defs.specs.declared.instruction.OneName.TheVariants.{CASE}
+use Rattle.step_defs.specs.State.{GplState}
+use Rattle.step_defs.specs.Place.{Place, value_at}
+use Rattle.step_defs.specs.Arithmetic.{Source}
+use Rattle.sim_view.specs.View.{View, view, Stands}
+use Rattle.sim_view.specs.Exits.{Exit, Exits, Comes}
+use Rattle.sim_view.proofs.Bridge.{IsView, is_view}
+use Rattle.sim_view.proofs.Compose.{Goes, comes, comes_then, comes_on}
+use Rattle.sim_operands.specs.Pieces as operands
+use Rattle.sim_operands.specs.Pieces.{exit, return_of}
+use Rattle.sim_operands.specs.Values.{width_in, in_register}
+use Rattle.sim_operands.specs.Subroutines.{grom_at}
+use Rattle.sim_operands.proofs.Ready.{set_is}
+use Rattle.sim_rows.specs.Pieces as rows
+use Rattle.sim_rows.specs.States.{Sees, operation_in}
+use Rattle.sim_rows.specs.Rows.{row_width, next_of, bytes_by, destination_bytes, loaded_of, AtRow}
+use Rattle.sim_rows.specs.Results.{row_result, SeesResult, RunsRow}
+use Rattle.sim_rows.proofs.Beginning.{just, from, known, lost, located_at, where_found}
+use Rattle.sim_rows.proofs.Storing.{width_again}
+use Rattle.sim_jumps.specs.Jumps.{TakesBranch}
+use Rattle.sim_flow.specs.Pieces as pieces
+use Rattle.sim_flow.proofs.Numbers.{number_is, most_is, place_fits, doubled_is}
+
+-- ---- where the two routines return to
+
+pub at_target : (x a b : MachineState) (t t1 t2 : ℕ) → Exits x a t t1 (pieces.ask_table (view x)) → Exits a b t1 t2 (rows.where_next (view a)) → Stands b 0x2676
+at_target x a b t t1 t2 e1 e2 = subst (λ (p : ℕ). Stands b p) (ap return_of e1.shows) e2.stands
+
+pub at_end : (b c d : MachineState) (t2 t3 t4 : ℕ) → Exits b c t2 t3 (pieces.find_branch (view b)) → Exits c d t3 t4 (operands.seek (view c)) → Stands d 0x267E
+at_end b c d t2 t3 t4 e3 e4 = subst (λ (p : ℕ). Stands d p) (ap return_of e3.shows) e4.stands
+
+-- ---- the number
+
+loaded_is : (s : GplState) (place : Place) → operation_in s ≡ Some (One CASE) → loaded_of s place ≡ in_register (row_width s) (value_at s (row_width s) place)
+loaded_is s place e =
+    let bytes : destination_bytes s ≡ size_of (row_width s) = ap (λ (o : Option GplOperation). bytes_by o (row_width s)) e in
+    ap (λ (w : Width). in_register w (value_at s w place)) (ap width_in bytes ∙ width_again (row_width s))
+
+-- ---- the pieces
+
+module _ (s : GplState) (place : Place) (source : Source) (v : View) (e : operation_in s ≡ Some (One CASE)) (row : AtRow s place source v) (i : IsView v) where
+  abbrev number : ℕ
+  number = value_at s (row_width s) place
+
+  abbrev target : ℕ
+  target = plus (next_of s) (2 * number)
+
+  abbrev taken : GplState
+  taken = record s { pc = target }
+
+  fits : next_of s < 65536
+  fits = place_fits (next_of s) (subst (λ (n : ℕ). n < 65536) (ap (λ (g : GromState). g.counter) row.holds.sees.grom) i.grom.counter)
+
+  -- the view behind each piece
+  abbrev asked : View
+  asked = (pieces.ask_table v).left
+
+  value_is : asked.r.r9 ≡ number
+  value_is = number_is (row_width s) v.r.r3 v.r.r9 number row.holds.bytes_are (row.destination ∙ loaded_is s place e) (i.r 9)
+
+  abbrev located : View
+  located = located_at asked s.image (next_of s)
+
+  where_is : rows.where_next asked ≡ exit 12 0x2676 located
+  where_is = where_found asked s.image (next_of s) row.holds.sees.grom fits
+
+  abbrev targeted : View
+  targeted = (pieces.find_branch located).left
+
+  abbrev sought : View
+  sought = record targeted { r = record targeted.r { r6 = (operands.seek targeted).left.r.r6 }; grom = grom_at s.image (next_of s) }
+
+  seek_is : operands.seek targeted ≡ exit 4 0x267E sought
+  seek_is =
+      let at : GromState → Exit = λ g. exit 4 0x267E (record targeted { r = record targeted.r { r6 = (operands.seek targeted).left.r.r6 }; grom = g }) in
+      ap at (set_is (lost s.image (next_of s)) (next_of s) refl fits)
+
+  -- what holds at TAKE
+  record AtTarget (w : View) : Type 0 where
+    sees : Sees taken (next_of s) w
+    to : w.r.r6 ≡ target
+
+  ends : Goes (pieces.go_to_branch sought) 2 0x265E AtTarget
+  ends =
+      let h = row.holds.sees in
+      record {
+        within = omega arith;
+        to_is = refl;
+        holds = record {
+          sees = record { cells = h.cells; vdp = h.vdp; registers = h.registers; held = h.held; grom = refl };
+          to = ap (λ n. sum_of Word (sum_of Word n n) (next_of s)) value_is ∙ doubled_is number (next_of s);
+        };
+      }
+
+  asks : Goes (pieces.ask_table v) 4 0x22BC (λ w. w ≡ asked)
+  asks = just (pieces.ask_table v) 4 0x22BC (let m = most_is (v.r.r3 == 1) in omega arith) refl
+
+  selects : (x a b c d f y : MachineState) (t t1 t2 t3 t4 t5 t6 : ℕ) → view x ≡ v → Exits x a t t1 (pieces.ask_table (view x)) →
+      Exits a b t1 t2 (rows.where_next (view a)) → Exits b c t2 t3 (pieces.find_branch (view b)) → Exits c d t3 t4 (operands.seek (view c)) →
+      Exits d f t4 t5 (pieces.go_to_branch (view d)) → TakesBranch f y t5 t6 → Comes 34 x y t t6 0x228C (SeesResult (row_result (One CASE) s place source))
+  selects x a b c d f y t t1 t2 t3 t4 t5 t6 is e1 e2 e3 e4 e5 goes =
+      let c1 = comes e1 (from pieces.ask_table is asks) in
+      let c2 = comes_then 4 12 c1 e2 (from rows.where_next c1.holds (known where_is (just (exit 12 0x2676 located) 12 0x2676 (omega arith) refl))) refl in
+      let c3 = comes_then 16 3 c2 e3 (from pieces.find_branch c2.holds (just (pieces.find_branch located) 3 0x22D8 (omega arith) refl)) refl in
+      let c4 = comes_then 19 4 c3 e4 (from operands.seek c3.holds (known seek_is (just (exit 4 0x267E sought) 4 0x267E (omega arith) refl))) refl in
+      let c5 = comes_then 23 2 c4 e5 (from pieces.go_to_branch c4.holds ends) refl in
+      comes_on 25 9 c5 (goes taken (next_of s) c5.holds.sees c5.holds.to) refl
+
+pub runs : (x a b c d f y : MachineState) (t t1 t2 t3 t4 t5 t6 : ℕ) → Stands x 0x266A → Exits x a t t1 (pieces.ask_table (view x)) →
+    Exits a b t1 t2 (rows.where_next (view a)) → Exits b c t2 t3 (pieces.find_branch (view b)) → Exits c d t3 t4 (operands.seek (view c)) →
+    Exits d f t4 t5 (pieces.go_to_branch (view d)) → TakesBranch f y t5 t6 → RunsRow (One CASE) 34 x y t t6
+runs x a b c d f y t t1 t2 t3 t4 t5 t6 stands e1 e2 e3 e4 e5 goes s place source e row is =
+    selects s place source (view x) e row (is_view x stands.machine) x a b c d f y t t1 t2 t3 t4 t5 t6 refl e1 e2 e3 e4 e5 goes

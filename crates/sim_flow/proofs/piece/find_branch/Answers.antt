@@ -1,0 +1,13 @@
+use Rattle.std.proofs.Common.{[], ◌∷◌}
+use Rattle.sim_view.specs.View.{view}
+use Rattle.sim_view.proofs.Bridge.{exits}
+use Rattle.sim_flow.specs.Pieces as piece
+use Rattle.sim_flow.proofs.Paths
+use Rattle.sim_flow.proofs.piece.find_branch.Goals as goal
+
+pub returns : goal.returns
+returns g c =
+    let x = c.args.machine.now in
+    let v = view x in
+    exits (0x22D8 ∷ []) 0x2676 x c.run_piece.new.machine c.args.steps.now c.run_piece.new.steps (piece.find_branch v) c.requires
+    (Paths.find_branch v) c.run_piece.ensures.left c.run_piece.ensures.count c.run_piece.ensures.bounds

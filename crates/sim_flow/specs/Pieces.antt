@@ -1,0 +1,57 @@
+-- What the pieces of EXIT, B, BR, BS and CASE come to: how many instructions they have, where they end, and what they
+-- change of the view, in the words of the processor. Registers, cells and ports that are not named stay.
+use Rattle.std.specs.Prelude.{◌==◌, if◌then◌else◌, slice_index}
+use Rattle.console_defs.specs.Words.{low, join}
+use Rattle.console_defs.specs.Flags.{Word, sum_of}
+use Rattle.console_defs.specs.Shifts.{shifted, last_out}
+use Rattle.console_defs.specs.declared.instruction.ShiftOp.TheVariants.{SRL, SLA}
+use Rattle.step_defs.specs.declared.cells.TheConstants.{STATUS}
+use Rattle.native_interp.specs.declared.addresses.TheConstants.{GEXIT, WHERE, SEEK, STREAM, GOTO, CFALSE, BTEST, TAKE}
+use Rattle.native_interp.specs.declared.addresses.TheConstants.{CASEN, CASET}
+use Rattle.sim_view.specs.View.{View}
+use Rattle.sim_view.specs.Exits.{Exit}
+use Rattle.sim_operands.specs.Pieces.{exit, past}
+
+-- GOEXIT.
+abbrev pub leave : View → Exit
+leave v = exit 1 GEXIT v
+
+-- GOB: the address that follows is asked for.
+abbrev pub ask_target : View → Exit
+ask_target v = exit 2 STREAM (record v { r = record v.r { r3 = 2; r11 = GOTO } })
+
+-- BRANCH: the low five bits of the code byte and the byte that follows, in the GROM of the code byte, are the target.
+abbrev pub find_target : View → Exit
+find_target v =
+    let byte = shifted SRL (join v.grom.fetched (low v.r.r4)) 8 in
+    let offset = sum_of Word (shifted SRL (shifted SLA v.r.r0 11) 3) byte in
+    let base = shifted SLA (shifted SRL v.r.r1 13) 13 in
+    exit 10 BTEST (record v { r = record v.r { r4 = base; r6 = sum_of Word offset base }; grom = past v.grom })
+
+-- BTEST: the condition is shifted out of the status. BS, whose code byte has the bit >20, is taken where it is set, and
+-- BR where it is not.
+abbrev pub test_branch : View → Exit
+test_branch v =
+    let word = join (slice_index v.cells STATUS) (low (shifted SRL v.r.r0 6)) in
+    let tested = record v { r = record v.r { r4 = shifted SLA word 3 } } in
+    if last_out SRL v.r.r0 6
+    then (if last_out SLA word 3 then exit 6 TAKE tested else exit 6 CFALSE tested)
+    else (if last_out SLA word 3 then exit 6 CFALSE tested else exit 7 TAKE tested)
+
+-- CASEV: a byte comes down, and the address behind the operand is asked for.
+abbrev pub ask_table : View → Exit
+ask_table v =
+    exit (if v.r.r3 == 1 then 4 else 3) WHERE (record v {
+      r = record v.r { r9 = (if v.r.r3 == 1 then shifted SRL v.r.r9 8 else v.r.r9); r11 = CASEN };
+    })
+
+-- CASEN: the table there has two bytes for each number; GROM goes back to its beginning.
+abbrev pub find_branch : View → Exit
+find_branch v =
+    exit 3 SEEK (record v {
+      r = record v.r { r9 = sum_of Word (sum_of Word v.r.r9 v.r.r9) v.r.r6; r11 = CASET };
+    })
+
+-- CASET: the target comes to where a branch has it.
+abbrev pub go_to_branch : View → Exit
+go_to_branch v = exit 2 TAKE (record v { r = record v.r { r6 = v.r.r9 } })

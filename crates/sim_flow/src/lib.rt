@@ -1,0 +1,11 @@
+//! The instructions that go on elsewhere, run on the machine: B, BR, BS, CASE, and EXIT, which leaves the interpreter.
+//! Each is built of pieces: stretches of at most 16 instructions without a loop.
+#![tactic(auto)]
+
+mod flow;
+mod piece;
+
+pub use flow::run_flow;
+pub use piece::{
+    ask_table, ask_target, find_branch, find_target, go_to_branch, leave, test_branch,
+};

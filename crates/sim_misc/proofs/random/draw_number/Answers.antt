@@ -1,0 +1,12 @@
+use Rattle.std.proofs.Common.{[]}
+use Rattle.sim_view.specs.View.{view}
+use Rattle.sim_view.proofs.Bridge.{exits, is_view}
+use Rattle.sim_misc.specs.Pieces as piece
+use Rattle.sim_misc.proofs.Paths
+use Rattle.sim_misc.proofs.random.draw_number.Goals as goal
+
+pub returns : goal.returns
+returns g c =
+    let x = c.args.machine.now in
+    let v = view x in
+    exits [] 0x2780 x c.run_piece.new.machine c.args.steps.now c.run_piece.new.steps (piece.draw_number v) c.requires (Paths.draw_number v (is_view x c.requires.machine)) c.run_piece.ensures.left c.run_piece.ensures.count c.run_piece.ensures.bounds

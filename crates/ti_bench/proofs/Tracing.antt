@@ -1,0 +1,112 @@
+-- A trace is the run of its program.
+use Rattle.std.proofs.Common.{◌≡◌, ◌≤◌, ℕ, List, ◌++◌, length, Option, Some, None, Ok, refl, sym, ap, ◌∙◌, subst, inl, inr}
+use Rattle.std.proofs.Common.{false, arith}
+use Rattle.std.specs.Prelude.{nat_lt}
+use Rattle.std.proofs.lemmas.Bool.Decides.{nat_tests}
+use Rattle.console_defs.specs.Grom.{GromState}
+use Rattle.console_defs.specs.Machine.{MachineState}
+use Rattle.gpl_defs.specs.Image.{Image}
+use Rattle.bench_io.specs.Written.{Missed}
+use Rattle.step_defs.specs.State.{GplState, start}
+use Rattle.step_defs.specs.Run.{GplRun, run}
+use Rattle.interp_defs.specs.Programs.{RunsSteps}
+use Rattle.gpl_run.specs.Sessions.{SessionState, seen, image_of, entry_of}
+use Rattle.report_defs.specs.declared.status.Status.{Status}
+use Rattle.report_defs.specs.declared.status.Status.TheVariants as status
+use Rattle.report_defs.specs.declared.command.Command.{Command}
+use Rattle.report_defs.specs.declared.command.Command.TheVariants as command
+use Rattle.report_defs.specs.Commands.{command_of, reads}
+use Rattle.report_defs.specs.Report as spec
+use Rattle.report_defs.specs.Program.{program_lines, program_status}
+use Rattle.report_defs.specs.Trace.{step_lines}
+use Rattle.ti_bench.specs.declared.trace.Trace.{Trace}
+use Rattle.ti_bench.specs.declared.prepared.Prepared.{Prepared}
+use Rattle.ti_bench.specs.declared.prepared.Prepared.TheVariants as prepared
+use Rattle.ti_bench.specs.Made.{defined_report}
+use Rattle.ti_bench.specs.Run.{Outputs, Run, Reads, ReportsOn, EndsWith, EndsBy}
+use Rattle.ti_bench.specs.Loaded.{LoadsEntered}
+use Rattle.ti_bench.specs.Traced.{Started, TracesSource, TracesWhole, BreaksOff, Prepares, Finishes, CanFinish}
+use Rattle.ti_bench.proofs.Ends.{by_report, by_front, reports_by, begins_by}
+use Rattle.ti_bench.proofs.Loading.{of_built}
+use Rattle.ti_bench.proofs.Programs.{ends_alike}
+
+-- the state before the first step is the start of the program
+began : (image : Image) (entry : Option ℕ) (x : MachineState) (l : LoadsEntered image entry x) (t : SessionState) (s : Started x t) → seen t ≡ start l.bytes l.address
+began image entry x l t s =
+    let shown : seen t ≡ start (image_of x) (entry_of x) = ap (λ (e : Option _). seen (record { machine = t.machine; ended = e })) s.running ∙ s.matches.shows in
+    shown
+    ∙ ap (λ (i : List ℕ). start i (entry_of x)) (ap (λ (g : GromState). g.image) l.boots.grom)
+    ∙ ap (start l.bytes) l.boots.scratchpad.word
+
+module _ (input : List ℕ) (trace : Trace) (t : TracesSource input trace) where
+  abbrev l : LoadsEntered t.loads.program.program.image t.loads.program.program.entry t.new
+  l = t.loads.program.entered
+
+  first_is : seen trace.session ≡ start l.bytes l.address
+  first_is = began t.loads.program.program.image t.loads.program.program.entry t.new l trace.session t.started
+
+  abbrev whole_from : GplState → SessionState → spec.Report
+  whole_from s left = spec.Whole (program_status left.ended) (step_lines s (run trace.limit s).done ++ program_lines left.ended (seen left) left.machine)
+
+  abbrev front_from : GplState → spec.Report
+  front_from s = spec.Whole status.Done (step_lines s (run trace.limit s).done)
+
+  pub whole_reported : (o : Outputs) (st : Status) (w : TracesWhole o trace st) → spec.AcceptedReport (command.Trace trace.limit) input (whole_from (seen trace.session) w.left)
+  whole_reported o st w =
+      let s : GplState = start l.bytes l.address in
+      let runs = subst (λ (q : GplState). RunsSteps q trace.limit w.count trace.session.machine w.left.machine) first_is w.runs in
+      let ended : w.left.ended ≡ (run trace.limit s).stop = w.ended ∙ ap (λ (q : GplState). (run trace.limit q).stop) first_is in
+      of_built (spec.ReportsProgram step_lines trace.limit) input (whole_from (seen trace.session) w.left) t.new t.loads (record {
+        bytes = l.bytes;
+        of_image = l.of_image;
+        left = w.left.machine;
+        runs = record {
+          new = t.new;
+          machine = t.started.machine;
+          is_boot = l.boots;
+          boot = t.started.boot;
+          first = trace.session.machine;
+          boots = t.started.boots;
+          within = t.started.within;
+          count = w.count;
+          runs = runs;
+        };
+        is = ap (λ (q : GplState). whole_from q w.left) first_is ∙ ends_alike (step_lines s (run trace.limit s).done) (run trace.limit s) w.left ended w.memory runs.ends;
+      })
+
+  pub front_reported : length input ≤ spec.largest_input → spec.FrontOn (command.Trace trace.limit) input (front_from (seen trace.session))
+  front_reported within = (within, of_built (spec.ShowsSteps trace.limit) input (front_from (seen trace.session)) t.new t.loads (record {
+    bytes = l.bytes;
+    of_image = l.of_image;
+    is = ap front_from first_is;
+  }))
+
+-- a report on an input that is not too large
+pub on_accepted : (command : Command) (input : List ℕ) (report : spec.Report) → length input ≤ spec.largest_input → spec.AcceptedReport command input report → spec.ReportOn command input report
+on_accepted command input report within accepted =
+    let below : nat_lt spec.largest_input (length input) ≡ false = grind (arith, nat_tests) in
+    rw below accepted
+
+-- a run ends as what its command made
+abbrev Taken : Run → Command → List ℕ → Type 0
+Taken run command bytes = (Some command ≡ command_of run.words) × Reads (reads command) run.input run.input' bytes
+
+by_trace : (run : Run) (command : Command) (bytes : List ℕ) (trace : Trace) (st : Status) → Taken run command bytes → command ≡ command.Trace trace.limit →
+    length bytes ≤ spec.largest_input → TracesSource bytes trace → Finishes run.outputs (prepared.Trace trace) st → EndsBy run st
+by_trace run command bytes trace st taken is within t (inl w) =
+    let report = whole_from bytes trace t (seen trace.session) w.left in
+    let accepted = whole_reported bytes trace t run.outputs st w in
+    let on : spec.ReportOn command bytes report = subst (λ (k : Command). spec.ReportOn k bytes report) (sym is) (on_accepted (command.Trace trace.limit) bytes report within accepted) in
+    by_report run report st (reports_by run command report taken.0 (bytes, taken.1, on)) w.ends
+by_trace run command bytes trace st taken is within t (inr b) =
+    let front = front_from bytes trace t (seen trace.session) in
+    let on : spec.FrontOn command bytes front = subst (λ (k : Command). spec.FrontOn k bytes front) (sym is) (front_reported bytes trace t within) in
+    subst (EndsBy run) (sym b.is) (by_front run front (begins_by run command front taken.0 (bytes, taken.1, on)) (b.missed, b.silent))
+
+pub by_prepared : (run : Run) (command : Command) (bytes : List ℕ) (p : Prepared) (st : Status) → Taken run command bytes → Prepares command bytes p → Finishes run.outputs p st → EndsBy run st
+by_prepared run command bytes (prepared.Report report) st taken on ends = by_report run (defined_report report) st (reports_by run command (defined_report report) taken.0 (bytes, taken.1, on)) ends
+by_prepared run command bytes (prepared.Trace trace) st taken on ends = by_trace run command bytes trace st taken on.0 on.1 on.2 ends
+
+pub can_finish : (command : Command) (bytes : List ℕ) (p : Prepared) → Prepares command bytes p → CanFinish p
+can_finish command bytes (prepared.Report report) on = tt
+can_finish command bytes (prepared.Trace trace) on = on.2.can

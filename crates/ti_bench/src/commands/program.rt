@@ -1,0 +1,72 @@
+//! A GPL program for the interpreter: assembled from its source, and loaded.
+
+ghost use Rattle.std.specs.Prelude.{◌≡◌, ◌≤◌, length, Ok, IfOk};
+ghost use Rattle.build_defs.specs.Interpreter.{built_interpreter};
+ghost use Rattle.link_loader.specs.View.{defined_linked};
+ghost use Rattle.program_defs.specs.Programs.{program_of_source};
+ghost use Rattle.report_defs.specs.Report.{largest_input};
+ghost use Rattle.ti_bench.specs.Loaded.{Loads, LoadsSource, LoadsImage};
+
+use crate::interpreter::{BuiltInterpreter, build_interpreter};
+use crate::report::Report;
+use gpl_asm::{GplError, gpl_assemble};
+use gpl_forms::GromImage;
+use gpl_run::load_interpreter;
+use link_loader::Linked;
+use report_defs::Fault;
+use report_lines::gpl_line;
+use std::alloc::{AllocError, Global};
+use tms_step::Machine;
+
+/// What comes of a GPL source that is to be run.
+#[derive(Drop)]
+pub(crate) enum Loaded {
+    /// A machine on which the interpreter begins, with the program and its entry.
+    Machine(Machine),
+    /// The report of a program that is not run: the interpreter is not built, the source is refused, or it names no entry.
+    Report(Report),
+}
+
+/// Assembles a GPL source and loads it with the interpreter.
+pub(crate) fn load_program(alloc: Global, input: &[u8]) -> Result<Loaded, AllocError>
+    requires { length input.now ≤ largest_input }
+    ensures { IfOk result (Loads input.now) }
+{
+    match build_interpreter(alloc)? {
+        BuiltInterpreter::Memory(interpreter) => load_source(alloc, &interpreter, input),
+        BuiltInterpreter::Fault(fault) => {
+            Ok(Loaded::Report(Report::Fault(Fault::Interpreter(fault))))
+        }
+    }
+}
+
+/// Assembles a GPL source and loads it with an interpreter that is built.
+fn load_source(alloc: Global, interpreter: &Linked, input: &[u8]) -> Result<Loaded, AllocError>
+    requires built { built_interpreter ≡ Ok (defined_linked interpreter.now) }
+    requires size { length input.now ≤ largest_input }
+    ensures { IfOk result (LoadsSource (program_of_source input.now)) }
+{
+    match gpl_assemble(alloc, input) {
+        Ok(program) => load_image(alloc, interpreter, &program.image, program.entry),
+        Err(GplError::At { line, cause }) => {
+            Ok(Loaded::Report(Report::Refused(gpl_line(line, cause))))
+        }
+        Err(GplError::Memory) => Err(AllocError),
+    }
+}
+
+/// Loads an image with an interpreter that is built, unless it has no entry.
+fn load_image(
+    alloc: Global,
+    interpreter: &Linked,
+    image: &GromImage,
+    entry: Option<u16>,
+) -> Result<Loaded, AllocError>
+    requires { built_interpreter ≡ Ok (defined_linked interpreter.now) }
+    ensures { IfOk result (LoadsImage image.now entry) }
+{
+    let Some(entry) = entry else {
+        return Ok(Loaded::Report(Report::Fault(Fault::NoEntry)));
+    };
+    Ok(Loaded::Machine(load_interpreter(alloc, interpreter, image.bytes(), entry)?))
+}

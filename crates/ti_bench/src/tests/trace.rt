@@ -1,0 +1,212 @@
+//! The lines of `trace`: flow, the two stacks, RAND, and what each step changed.
+
+use super::run::{Ended, run};
+use report_defs::Status;
+use std::alloc::{AllocError, Global};
+use std::test::Fail;
+
+/// What a trace shows: a name, the words behind `trace`, the statements of a source (apart by semicolons, each behind its
+/// label's column), the first lines of the report, and the status.
+const TRACES: &[(&str, &[u8], &[u8], &[&[u8]], Status)] = &[
+    (
+        "a subroutine in the last bytes of a GROM",
+        b"5",
+        b" EXIT; AORG >1FF0;SUB RTN; AORG >1FFD;S CALL SUB; END S",
+        &[
+            b"     1 >7FFD S00 D9F R7E CALL >7FF0 C2 >8373=80",
+            b"     2 >7FF0 S00 D9F R80 RTN C1 >8373=7E",
+            b"exit at >6000",
+            b"gpl >6000 S00 D9F R7E",
+            b"pad",
+        ],
+        Status::Done,
+    ),
+    (
+        "a stack of return addresses that is full",
+        b"5",
+        b"S ST @>8373,>C0; CALL S; END S",
+        &[
+            b"     1 >6000 S00 D9F R7E ST @>8373,>C0 C1 >8373=C0",
+            b"stop 3 at >6003",
+            b"gpl >6003 S00 D9F RC0",
+            b"pad",
+        ],
+        Status::Stopped,
+    ),
+    (
+        "a code byte that is no instruction's, in the third step",
+        b"5",
+        b"S ST @>8300,5; INC @>8300; BYTE >0F,>77; END S",
+        &[
+            b"     1 >6000 S00 D9F R7E ST @>8300,>05 C1 >8300=05",
+            b"     2 >6003 S00 D9F R7E INC @>8300 C2 >8300=06",
+            b"stop 1 at >6005",
+            b"gpl >6005 SC0 D9F R7E",
+            b"pad",
+        ],
+        Status::Stopped,
+    ),
+    (
+        "no step",
+        b"0",
+        b"S ST @>8300,5; INC @>8300; BYTE >0F,>77; END S",
+        &[b"gpl >6000 S00 D9F R7E", b"pad"],
+        Status::Done,
+    ),
+    (
+        "two steps of three",
+        b"2",
+        b"S ST @>8300,5; INC @>8300; BYTE >0F,>77; END S",
+        &[
+            b"     1 >6000 S00 D9F R7E ST @>8300,>05 C1 >8300=05",
+            b"     2 >6003 S00 D9F R7E INC @>8300 C2 >8300=06",
+            b"gpl >6005 SC0 D9F R7E",
+            b"pad",
+        ],
+        Status::Done,
+    ),
+    (
+        "the first random number",
+        b"5",
+        b"S RAND 9; EXIT; END S",
+        &[
+            b"     1 >6000 S00 D9F R7E RAND >09 C3 >8378=02",
+            b"exit at >6002",
+        ],
+        Status::Done,
+    ),
+    (
+        "a byte behind a call",
+        b"9",
+        b"S CALL GET; BYTE >5A; EXIT;GET FETCH @>8300; RTN; END S",
+        &[
+            b"     1 >6000 S00 D9F R7E CALL >6005 C3 >8373=80",
+            b"     2 >6005 S00 D9F R80 FETCH @>8300 C2 >8300=5A",
+            b"     3 >6007 S00 D9F R80 RTN C1 >8373=7E",
+            b"exit at >6004",
+            b"gpl >6004 S00 D9F R7E",
+        ],
+        Status::Done,
+    ),
+    (
+        "a byte on the data stack",
+        b"5",
+        b"S ST @>8300,7; PUSH @>8300; EXIT; END S",
+        &[
+            b"     1 >6000 S00 D9F R7E ST @>8300,>07 C1 >8300=07",
+            b"     2 >6003 S00 D9F R7E PUSH @>8300 C2 >8372=A0",
+            b"exit at >6005",
+            b"gpl >6005 S00 DA0 R7E",
+        ],
+        Status::Done,
+    ),
+    (
+        "a data stack that is full",
+        b"5",
+        b"S ST @>8372,>C1; PUSH @>8300; END S",
+        &[
+            b"     1 >6000 S00 D9F R7E ST @>8372,>C1 C1 >8372=C1",
+            b"stop 3 at >6003",
+            b"gpl >6003 S00 DC1 R7E",
+        ],
+        Status::Stopped,
+    ),
+    (
+        "a return address over the character's cell",
+        b"5",
+        b"S ST @>8373,>7B; CALL T;T EXIT; END S",
+        &[
+            b"     1 >6000 S00 D9F R7E ST @>8373,>7B C1 >8373=7B",
+            b"     2 >6003 S00 D9F R7B CALL >6006 C3 >8373=7D V1 >00C0=60",
+            b"exit at >6006",
+            b"gpl >6006 S00 D9F R7D",
+        ],
+        Status::Done,
+    ),
+    (
+        "branches and a table of them",
+        b"20",
+        b"S ST @>8300,1; CASE @>8300; BR N;ONE CEQ @>8300,1; BS TWO;N EXIT;TWO CEQ @>8300,2; BR OUT; EXIT;OUT DST V@>3FFF,>1234; EXIT; END S",
+        &[
+            b"     1 >6000 S00 D9F R7E ST @>8300,>01 C1 >8300=01",
+            b"     2 >6003 S00 D9F R7E CASE @>8300",
+            b"     3 >6007 S00 D9F R7E CEQ @>8300,>01 C1 >837C=20",
+            b"     4 >600A S20 D9F R7E BS >600D C1 >837C=00",
+            b"     5 >600D S00 D9F R7E CEQ @>8300,>02",
+            b"     6 >6010 S00 D9F R7E BR >6013",
+            b"     7 >6013 S00 D9F R7E DST V@>3FFF,>1234 V2 >0000=34",
+            b"exit at >6019",
+        ],
+        Status::Done,
+    ),
+    (
+        "a return that keeps the condition, and one that does not",
+        b"9",
+        b"S CZ @>8300; CALL A; CALL B; EXIT;A RTNC;B RTN; END S",
+        &[
+            b"     1 >6000 S00 D9F R7E CZ @>8300 C1 >837C=20",
+            b"     2 >6002 S20 D9F R7E CALL >6009 C3 >8373=80",
+            b"     3 >6009 S20 D9F R80 RTNC C1 >8373=7E",
+            b"     4 >6005 S20 D9F R7E CALL >600A C2 >8373=80",
+            b"     5 >600A S20 D9F R80 RTN C2 >8373=7E",
+            b"exit at >6008",
+        ],
+        Status::Done,
+    ),
+];
+
+#[test]
+fn steps_are_shown(rt: TestRuntime) -> Result<(), Fail> {
+    for (name, limit, source, lines, status) in TRACES {
+        assert!(rt; traces(rt.alloc(), limit, source, lines, *status)?, "{name}");
+    }
+    Ok(())
+}
+
+/// Whether `trace` shows these lines first, and ends with the status.
+fn traces(
+    alloc: Global,
+    limit: &[u8],
+    statements: &[u8],
+    lines: &[&[u8]],
+    status: Status,
+) -> Result<bool, AllocError> {
+    let ended = traced(alloc, limit, statements, &[])?;
+    let shown = ended.out.bytes().split(|&byte| byte == b'\n');
+    Ok(ended.status == status
+        && ended.err.bytes().is_empty()
+        && shown.zip(lines.iter()).all(|(got, wanted)| got == *wanted))
+}
+
+/// A trace of statements that are apart by semicolons, over an output of which the calls with these numbers fail.
+fn traced(
+    alloc: Global,
+    limit: &[u8],
+    statements: &[u8],
+    put_fails: &[u64],
+) -> Result<Ended, AllocError> {
+    let mut source = Vec::new(alloc);
+    for &byte in statements {
+        source.push(if byte == b';' { b'\n' } else { byte })?;
+    }
+    run(alloc, &[b"trace", limit], source, &[], put_fails)
+}
+
+#[test]
+fn failed_trace_keeps_its_first_lines(rt: TestRuntime) -> Result<(), Fail> {
+    let ended = traced(rt.alloc(), b"5", TRACES[6].2, &[1])?;
+    assert_eq!(rt; ended.status, Status::WriteFault);
+    assert!(rt; ended.out.bytes() == b"     1 >6000 S00 D9F R7E CALL >6005 C3 >8373=80\n".as_slice());
+    Ok(())
+}
+
+#[test]
+fn run_is_trace_without_its_lines(rt: TestRuntime) -> Result<(), Fail> {
+    let alloc = rt.alloc();
+    let source = b"S ST @>8300,5\n INC @>8300\n BYTE >0F,>77\n END S\n";
+    let ran = run(alloc, &[b"run", b"2"], source.to_vec(alloc)?, &[], &[])?;
+    let traced = run(alloc, &[b"trace", b"2"], source.to_vec(alloc)?, &[], &[])?;
+    assert!(rt; traced.out.bytes().ends_with(ran.out.bytes()));
+    assert!(rt; traced.out.bytes().len() == ran.out.bytes().len() + 97);
+    Ok(())
+}

@@ -1,0 +1,149 @@
+-- Programs whose steps are shown, line by line.
+use Rattle.std.proofs.Common.{◌≡◌, ℕ, suc, ◌+◌, ◌-◌, ◌<◌, ◌≤◌, List, [], ◌∷◌, ◌++◌, map, Option, Some, None, Result, Ok, Err, refl, sym, ap, ◌∙◌}
+use Rattle.std.proofs.Common.{subst, append_assoc, arith}
+use Rattle.std.specs.Prelude.{codes}
+use Rattle.std.specs.List.{range_with_len}
+use Rattle.console_defs.specs.Machine.{MachineState}
+use Rattle.step_defs.specs.declared.reason.Reason.{Reason}
+use Rattle.step_defs.specs.State.{GplState}
+use Rattle.step_defs.specs.Step.{step}
+use Rattle.step_defs.specs.Run.{run}
+use Rattle.bench_io.specs.Stream.{SinkState}
+use Rattle.bench_io.specs.Written.{Wrote, Missed}
+use Rattle.bench_io.proofs.Writing.{wrote_none, wrote_more, missed_more, missed_early}
+use Rattle.interp_defs.specs.declared.turn.Turn.{Turn}
+use Rattle.interp_defs.specs.declared.turn.Turn.TheVariants.{Stepped, Stopped}
+use Rattle.interp_defs.specs.Match.{IsMatching, shown_by}
+use Rattle.interp_defs.specs.Turned.{TurnedBy, Turned}
+use Rattle.sim_steps.specs.Running.{RunsTurns}
+use Rattle.sim_steps.proofs.Running.{Stepping, none_yet, stepped, stopped, whole, last_is, done_at_least}
+use Rattle.gpl_run.specs.Sessions.{SessionState, IsSession, seen, address_in, ended_by}
+use Rattle.report_defs.specs.Trace.{SeenState, seen_state, step_front, changes_text, step_line, step_lines}
+use Rattle.trace_dump.specs.Plays.{PlaysWhole, BreaksOff}
+use Rattle.trace_dump.proofs.Ranges.{mapped_split}
+
+pub seen_running : (t : SessionState) → t.ended ≡ None → seen t ≡ shown_by t.machine.cpu.memory
+seen_running t e = ap (λ (o : Option Reason). record (shown_by t.machine.cpu.memory) { pc = address_in o t.machine }) e
+
+pub matches_of : (t : SessionState) → t.ended ≡ None → IsSession t.machine t.ended → IsMatching t.machine
+matches_of t e h = subst (IsSession t.machine) e h
+
+-- the lines of steps, and the one behind them
+abbrev line_at : GplState → ℕ → List ℕ
+line_at s made = step_line (made + 1) (run made s).last (run (made + 1) s).last
+
+pub one_more_line : (s : GplState) (made : ℕ) → step_lines s (made + 1) ≡ step_lines s made ++ line_at s made ∷ []
+unfolding step_lines
+one_more_line s made = mapped_split (line_at s) made 1
+
+-- the lines of fewer steps are a front of those of more
+pub lines_behind : (s : GplState) (made done : ℕ) → made ≤ done → (rest : List (List ℕ)) × (step_lines s done ≡ step_lines s made ++ rest)
+unfolding step_lines
+lines_behind s made done le =
+    let sum : made + (done - made) ≡ done = omega arith in
+    (map (line_at s) (range_with_len made (done - made)), ap (λ (n : ℕ). step_lines s n) (sym sum) ∙ mapped_split (line_at s) made (done - made))
+
+-- So many steps were made and shown.
+pub record Playing (x y : SessionState) (t u made : ℕ) (o o' : SinkState) (kept : SeenState) : Type 0 where
+  pub stepping : Stepping made (seen x) x.machine y.machine t u
+  pub running : y.ended ≡ None
+  pub kept_is : kept ≡ seen_state (seen y)
+  pub wrote : Wrote o o' (step_lines (seen x) made)
+
+pub begun : (x : SessionState) (t : ℕ) (o : SinkState) (kept : SeenState) → x.ended ≡ None → IsSession x.machine x.ended → kept ≡ seen_state (seen x) → Playing x x t t 0 o o kept
+unfolding step_lines
+begun x t o kept e h is = record {
+  stepping = subst (λ (s : GplState). Stepping 0 s x.machine x.machine t t) (sym (seen_running x e)) (none_yet x.machine t (matches_of x e h));
+  running = e;
+  kept_is = is;
+  wrote = wrote_none o;
+}
+
+-- what is seen of a machine at a stop is what was seen before
+same_seen : (a b : GplState) → a.cells ≡ b.cells → a.vdp ≡ b.vdp → a.registers ≡ b.registers → seen_state a ≡ seen_state b
+same_seen a b c v r =
+    let made : List ℕ → List ℕ → List ℕ → SeenState = λ x y z. record { cells = x; vdp = y; registers = z } in
+    ap (λ x. made x a.vdp a.registers) c ∙ ap (λ y. made b.cells y a.registers) v ∙ ap (made b.cells b.vdp) r
+
+halted_by : (z w : MachineState) (u v : ℕ) (reason : Reason) (r : Result GplState Reason) → TurnedBy r (shown_by z.cpu.memory) 0 z w u v (Stopped reason) →
+    seen_state (shown_by w.cpu.memory) ≡ seen_state (shown_by z.cpu.memory)
+halted_by z w u v reason (Ok next) t = absurd (let a = t.0 in cc)
+halted_by z w u v reason (Err other) t = same_seen (shown_by w.cpu.memory) (shown_by z.cpu.memory) t.2.cells t.2.vdp t.2.registers
+
+module _ (x y z : SessionState) (t u v made : ℕ) (o o' : SinkState) (kept : SeenState) (p : Playing x y t u made o o' kept) where
+  -- the state before the step
+  before_is : seen y ≡ (run made (seen x)).last
+  before_is = seen_running y p.running ∙ p.stepping.matches.shows ∙ sym (last_is made (seen x) x.machine y.machine z.machine t u v p.stepping)
+
+  -- a step that stops
+  module _ (turn : Turn) (reason : Reason) (is : turn ≡ Stopped reason) (turned : Turned (shown_by y.machine.cpu.memory) 0 y.machine z.machine u v turn) (ended : z.ended ≡ ended_by turn) where
+    abbrev stops : Turned (shown_by y.machine.cpu.memory) 0 y.machine z.machine u v (Stopped reason)
+    stops = subst (λ (a : Turn). Turned (shown_by y.machine.cpu.memory) 0 y.machine z.machine u v a) is turned
+
+    pub stops_whole : (limit : ℕ) → made < limit → PlaysWhole limit x z t v o o' made
+    stops_whole limit less = record {
+      runs = subst (RunsTurns (seen x) limit x.machine z.machine t v made) (sym (ended ∙ ap ended_by is))
+          (stopped made (seen x) x.machine y.machine z.machine t u v p.stepping limit reason less stops);
+      wrote = p.wrote;
+    }
+
+    pub stops_kept : kept ≡ seen_state (seen z)
+    stops_kept = p.kept_is ∙ sym (halted_by y.machine z.machine u v reason (step (shown_by y.machine.cpu.memory)) stops)
+
+  -- a step that is made
+  module _ (turn : Turn) (is : turn ≡ Stepped) (turned : Turned (shown_by y.machine.cpu.memory) 0 y.machine z.machine u v turn) (ended : z.ended ≡ ended_by turn) where
+    more : Stepping (made + 1) (seen x) x.machine z.machine t v
+    more = stepped made (seen x) x.machine y.machine z.machine t u v p.stepping (subst (λ (a : Turn). Turned (shown_by y.machine.cpu.memory) 0 y.machine z.machine u v a) is turned)
+
+    runs_on : z.ended ≡ None
+    runs_on = ended ∙ ap ended_by is
+
+    after_is : seen z ≡ (run (made + 1) (seen x)).last
+    after_is = seen_running z runs_on ∙ more.matches.shows ∙ sym (last_is (made + 1) (seen x) x.machine z.machine z.machine t v v more)
+
+    -- the line that was made is that of the step
+    module _ (front line : List ℕ) (number : ℕ) (first : front ≡ step_front number (seen y)) (numbered : number ≡ made + 1)
+        (ends : line ≡ front ++ (changes_text kept (seen_state (shown_by z.machine.cpu.memory)) ++ codes "\n")) where
+      pub line_is : line ≡ line_at (seen x) made
+      line_is =
+          let after : List ℕ = changes_text kept (seen_state (seen z)) ++ codes "\n" in
+          ends
+          ∙ ap (λ (f : List ℕ). f ++ after) first
+          ∙ ap (λ (n : ℕ). step_front n (seen y) ++ after) numbered
+          ∙ ap (λ (k : SeenState). step_front (made + 1) (seen y) ++ (changes_text k (seen_state (seen z)) ++ codes "\n")) p.kept_is
+          ∙ ap (λ (s : GplState). step_line (made + 1) s (seen z)) before_is
+          ∙ ap (λ (s : GplState). step_line (made + 1) (run made (seen x)).last s) after_is
+
+      pub shown : (o2 : SinkState) (kept2 : SeenState) → Wrote o' o2 (line ∷ []) → kept2 ≡ seen_state (shown_by z.machine.cpu.memory) → Playing x z t v (made + 1) o o2 kept2
+      shown o2 kept2 wrote k = record {
+        stepping = more;
+        running = runs_on;
+        kept_is = k;
+        wrote = subst (Wrote o o2) (ap (λ (l : List ℕ). step_lines (seen x) made ++ l ∷ []) line_is ∙ sym (one_more_line (seen x) made))
+            (wrote_more o o' o2 (step_lines (seen x) made) (line ∷ []) p.wrote wrote);
+      }
+
+      pub breaks_off : (limit : ℕ) (o2 : SinkState) → made < limit → Missed o' o2 (line ∷ []) → BreaksOff limit x z t v o o2
+      breaks_off limit o2 less missed =
+          let done = (run limit (seen x)).done in
+          let within : made + 1 ≤ done = done_at_least (made + 1) limit (seen x) more.now more.steps_are (omega arith) in
+          let behind = lines_behind (seen x) (made + 1) done within in
+          let here : Missed o o2 (step_lines (seen x) (made + 1)) =
+          subst (Missed o o2) (ap (λ (l : List ℕ). step_lines (seen x) made ++ l ∷ []) line_is ∙ sym (one_more_line (seen x) made))
+          (missed_more o o' o2 (step_lines (seen x) made) (line ∷ []) p.wrote missed) in
+          record {
+            made = made + 1;
+            some = omega arith;
+            within = within;
+            runs = whole (made + 1) (seen x) x.machine z.machine t v more;
+            running = runs_on;
+            missed = subst (Missed o o2) (sym behind.1) (missed_early o o2 (step_lines (seen x) (made + 1)) behind.0 here);
+          }
+
+pub plays_whole : (limit made : ℕ) (x y : SessionState) (t u : ℕ) (o o' : SinkState) (kept : SeenState) → made ≡ limit → Playing x y t u made o o' kept → PlaysWhole limit x y t u o o' limit
+plays_whole limit made x y t u o o' kept all p =
+    let q : Playing x y t u limit o o' kept = subst (λ (m : ℕ). Playing x y t u m o o' kept) all p in
+    record {
+      runs = subst (RunsTurns (seen x) limit x.machine y.machine t u limit) (sym q.running) (whole limit (seen x) x.machine y.machine t u q.stepping);
+      wrote = q.wrote;
+    }
