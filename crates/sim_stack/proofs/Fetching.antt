@@ -1,16 +1,14 @@
 -- The parts of FETCH.
-use Rattle.std.proofs.Common.{◌≡◌, ℕ, ◌+◌, ◌<◌, ◌≤◌, refl, sym, ap, subst, ◌∙◌, arith, List}
-use Rattle.std.specs.Prelude.{slice_index}
-use Rattle.console_defs.specs.Words.{high, join}
+use Rattle.std.proofs.Common.{◌≡◌, ℕ, ◌+◌, ◌<◌, ◌≤◌, refl, sym, ap, subst, ◌∙◌, arith}
+use Rattle.console_defs.specs.Words.{high}
 use Rattle.console_defs.specs.Bytes.{word_in}
 use Rattle.console_defs.specs.Flags.{Byte, Word}
 use Rattle.console_defs.specs.Logic.{swapped}
-use Rattle.console_defs.specs.Grom.{GromState, next_in_grom}
+use Rattle.console_defs.specs.Grom.{GromState}
 use Rattle.console_defs.specs.Machine.{MachineState}
 use Rattle.gpl_defs.specs.declared.instruction.Space.{Space}
 use Rattle.gpl_defs.specs.declared.instruction.Space.TheVariants.{Cpu, Vdp}
-use Rattle.step_defs.specs.State.{GplState}
-use Rattle.step_defs.specs.Place.{Place, value_at}
+use Rattle.step_defs.specs.Place.{value_at}
 use Rattle.step_defs.specs.Changes.{Changes, unchanged, with_pc, with_byte, with_byte_in, with_value}
 use Rattle.step_defs.specs.Flow.{with_word, cells_at}
 use Rattle.interp_defs.specs.Match.{PortsAreIdle}
@@ -22,14 +20,14 @@ use Rattle.sim_operands.specs.Pieces as operands
 use Rattle.sim_operands.specs.Pieces.{exit, return_of}
 use Rattle.sim_operands.specs.Values.{width_in, IsVisible}
 use Rattle.sim_operands.specs.Subroutines.{grom_at, state_of, place_in, Loaded, LoadsValue, StoresValue}
-use Rattle.sim_rows.specs.Results.{Changed, Storing, SeesFinished}
+use Rattle.sim_rows.specs.Results.{Changed, Storing}
 use Rattle.sim_rows.proofs.Again.{idle_again}
 use Rattle.sim_rows.proofs.Beginning.{just, from, known}
 use Rattle.sim_rows.proofs.Storing.{ChangedFrom, store_then, stored_idle, changed_again, value_keeps}
 use Rattle.sim_jumps.specs.Jumps.{ResumesRow}
 use Rattle.sim_jumps.proofs.Going.{set_from}
 use Rattle.sim_stack.specs.Pieces as pieces
-use Rattle.sim_stack.specs.Stacks.{LoadsStacked, fetched_at, FetchesStacked, Fetching, EndsFetch}
+use Rattle.sim_stack.specs.Stacks.{LoadsStacked, FetchesStacked, EndsFetch}
 use Rattle.sim_stack.proofs.Room.{byte_back, stacked_is}
 
 -- ---- the word on the stack
@@ -54,8 +52,10 @@ module _ (x a : MachineState) (t t1 : ℕ) (e : Exits x a t t1 (pieces.ask_stack
 
 -- ---- the byte there
 
-pub fetches : (x a b c d y : MachineState) (t t1 t2 t3 t4 t5 : ℕ) → Stands x 0x2736 → Exits x a t t1 (pieces.seek_stacked (view x)) → Exits a b t1 t2 (operands.seek (view a)) →
-    Exits b c t2 t3 (pieces.ask_byte (view b)) → Exits c d t3 t4 (operands.fetch (view c)) → Exits d y t4 t5 (pieces.keep_byte (view d)) → FetchesStacked x y t t5
+pub fetches : (x a b c d y : MachineState) (t t1 t2 t3 t4 t5 : ℕ) → Stands x 0x2736 → Exits x a t t1 (pieces.seek_stacked (view x)) →
+    Exits a b t1 t2 (operands.seek (view a)) →
+    Exits b c t2 t3 (pieces.ask_byte (view b)) → Exits c d t3 t4 (operands.fetch (view c)) → Exits d y t4 t5 (pieces.keep_byte (view d)) → FetchesStacked x y
+    t t5
 fetches x a b c d y t t1 t2 t3 t4 t5 stands e1 e2 e3 e4 e5 image next grom =
     let v : View = view x in
     let at : ℕ = v.r.r6 in
@@ -75,7 +75,8 @@ fetches x a b c d y t t1 t2 t3 t4 t5 stands e1 e2 e3 e4 e5 image next grom =
 -- ---- from FETCHS on
 
 -- where GROM is does not matter to a store
-pc_aside : (space : Space) (address byte next : ℕ) (c : Changes) → with_byte_in space address byte (with_pc next c) ≡ with_pc next (with_byte_in space address byte c)
+pc_aside : (space : Space) (address byte next : ℕ) (c : Changes) →
+    with_byte_in space address byte (with_pc next c) ≡ with_pc next (with_byte_in space address byte c)
 pc_aside Cpu address byte next c = refl
 pc_aside Vdp address byte next c = refl
 
@@ -91,7 +92,9 @@ module _ (x a : MachineState) (t t1 : ℕ) (e1 : Exits x a t t1 (pieces.store_st
     stored1 = may1 near_first
 
     pub idle_second : PortsAreIdle x.cpu.memory → PortsAreIdle c.cpu.memory
-    idle_second i = idle_again b.cpu.memory c.cpu.memory (ap (λ (v : View). v.vdp) e2.shows) (ap (λ (v : View). v.grom) e2.shows) (stored_idle a b t1 t2 (idle_first i) stored1)
+    idle_second i =
+        idle_again b.cpu.memory c.cpu.memory (ap (λ (v : View). v.vdp) e2.shows) (ap (λ (v : View). v.grom) e2.shows)
+        (stored_idle a b t1 t2 (idle_first i) stored1)
 
     space_second : (view c).r.r8 ≡ (view x).r.r15
     space_second = ap (λ (v : View). v.r.r8) e2.shows ∙ ap (λ (v : View). v.r.r15) stored1.holds.is ∙ ap (λ (v : View). v.r.r15) e1.shows
@@ -112,15 +115,18 @@ module _ (x a : MachineState) (t t1 : ℕ) (e1 : Exits x a t t1 (pieces.store_st
           let between : Changes = with_value Word (cells_at top) number base in
           let stacked : Changes = with_word top number (unchanged s) in
           let after : Changes = with_byte place byte stacked in
-          let storing1 : Storing base Word (cells_at top) number (view a) = subst (λ (v : View). Storing base Word (cells_at top) number v) (sym e1.shows) (record {
+          let storing1 : Storing base Word (cells_at top) number (view a) =
+          subst (λ (v : View). Storing base Word (cells_at top) number v) (sym e1.shows) (record {
             changed = changed_again base (view x) (pieces.store_stacked (view x)).left h.changed refl refl refl refl;
             bytes_are = h.bytes_are;
             to_place = record { address = h.top_is; space = refl };
             value = h.number_is;
           }) in
-          let c1 : Comes 2 x a t t1 0x23C2 (λ v. v ≡ (pieces.store_stacked (view x)).left) = comes e1 (record { within = omega arith; to_is = refl; holds = refl }) in
+          let c1 : Comes 2 x a t t1 0x23C2 (λ v. v ≡ (pieces.store_stacked (view x)).left) =
+          comes e1 (record { within = omega arith; to_is = refl; holds = refl }) in
           let c2 : Comes 16 a b t1 t2 0x2750 (ChangedFrom between (view a)) =
-          subst (λ (n : ℕ). Comes 16 a b t1 t2 n (ChangedFrom between (view a))) (ap return_of e1.shows) (store_then base Word (cells_at top) number a b t1 t2 storing1 stored1) in
+          subst (λ (n : ℕ). Comes 16 a b t1 t2 n (ChangedFrom between (view a))) (ap return_of e1.shows)
+          (store_then base Word (cells_at top) number a b t1 t2 storing1 stored1) in
           let k = c2.holds.keeps in
           let storing2 : Storing between Byte place byte (view c) = subst (λ (v : View). Storing between Byte place byte v) (sym e2.shows) (record {
             changed = changed_again between (view b) (pieces.store_byte (view b)).left c2.holds.changed refl refl refl refl;
@@ -134,8 +140,10 @@ module _ (x a : MachineState) (t t1 : ℕ) (e1 : Exits x a t t1 (pieces.store_st
           let c3 : Comes 24 x c t t3 0x23C2 (λ v. v ≡ (pieces.store_byte (view b)).left) =
           comes_then 18 6 (comes_on 2 16 c1 c2 refl) e2 (record { within = omega arith; to_is = refl; holds = refl }) refl in
           let c4 : Comes 16 c d t3 t4 0x26DC (ChangedFrom (with_value Byte place byte between) (view c)) =
-          subst (λ (n : ℕ). Comes 16 c d t3 t4 n (ChangedFrom (with_value Byte place byte between) (view c))) (ap return_of e2.shows) (store_then between Byte place byte c d t3 t4 storing2 stored2) in
-          let changed : Changed (with_pc next after) (view d) = subst (λ (g : Changes). Changed g (view d)) (pc_aside place.space place.address byte next stacked) c4.holds.changed in
+          subst (λ (n : ℕ). Comes 16 c d t3 t4 n (ChangedFrom (with_value Byte place byte between) (view c))) (ap return_of e2.shows)
+          (store_then between Byte place byte c d t3 t4 storing2 stored2) in
+          let changed : Changed (with_pc next after) (view d) =
+          subst (λ (g : Changes). Changed g (view d)) (pc_aside place.space place.address byte next stacked) c4.holds.changed in
           let back : (view d).r.r14 ≡ after.state.pc =
           ap (λ (v : View). v.r.r14) stored2.holds.is
           ∙ ap (λ (v : View). v.r.r14) e2.shows

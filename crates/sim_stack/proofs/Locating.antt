@@ -34,7 +34,8 @@ found : (x a : MachineState) (t u link : ℕ) (image : List ℕ) (at : ℕ) → 
 found x a t u link image at is e h fits grom =
     comes h (known (where_found (view x) image at grom fits) (record { within = omega arith; to_is = ap even e ∙ is; holds = refl }))
 
-module _ (x a b y : MachineState) (t t1 t2 t3 link : ℕ) (is : even link ≡ link) (goes : is_end link ≡ false) (e : (view x).r.r11 ≡ link) (e1 : Exits x a t t1 (rows.where_next (view x))) where
+module _ (x a b y : MachineState) (t t1 t2 t3 link : ℕ) (is : even link ≡ link) (goes : is_end link ≡ false)
+    (e : (view x).r.r11 ≡ link) (e1 : Exits x a t t1 (rows.where_next (view x))) where
   pub locates : (to : ℕ) → even to ≡ to → Exits a b t1 t2 (pieces.keep_next to (view a)) → Exits b y t2 t3 (operands.seek (view b)) → Locates to x y t t3
   locates to even_to e2 e3 image at fits grom =
       let v : View = view x in

@@ -1,5 +1,5 @@
 -- FETCH, from its row to the end of the step.
-use Rattle.std.proofs.Common.{◌≡◌, ℕ, ◌+◌, ◌<◌, ◌≤◌, Bool, true, false, refl, sym, ap, subst, ◌∙◌, arith, List, Option, Some, Result, Ok, Err, lit<}
+use Rattle.std.proofs.Common.{◌≡◌, ℕ, ◌<◌, ◌≤◌, false, refl, sym, ap, subst, ◌∙◌, arith, List, Result, Ok, Err}
 use Rattle.std.specs.Prelude.{nat_lt, slice_index}
 use Rattle.source_defs.specs.Refusals.{◌>>=◌}
 use Rattle.console_defs.specs.Words.{low, join}
@@ -12,24 +12,23 @@ use Rattle.step_defs.specs.declared.reason.Reason.{Reason}
 use Rattle.step_defs.specs.declared.reason.Reason.TheVariants.{Stack}
 use Rattle.step_defs.specs.State.{GplState}
 use Rattle.step_defs.specs.Place.{Place, word_at}
-use Rattle.step_defs.specs.Changes.{Changes, unchanged, with_pc}
-use Rattle.step_defs.specs.Arithmetic.{Source}
+use Rattle.step_defs.specs.Changes.{Changes, unchanged}
 use Rattle.step_defs.specs.Flow.{on_stack, with_byte_from}
 use Rattle.interp_defs.specs.declared.turn.Turn.TheVariants.{Stepped, Stopped}
-use Rattle.interp_defs.specs.Match.{PortsAreIdle, IsFetched}
+use Rattle.interp_defs.specs.Match.{PortsAreIdle}
 use Rattle.sim_view.specs.View.{View, view, Stands}
-use Rattle.sim_view.specs.Exits.{Exit, Exits, Comes}
+use Rattle.sim_view.specs.Exits.{Exits, Comes}
 use Rattle.sim_view.proofs.Bridge.{is_view}
 use Rattle.sim_view.proofs.Compose.{comes, comes_as, comes_on}
 use Rattle.sim_operands.specs.Pieces.{exit}
 use Rattle.sim_operands.specs.Values.{IsVisible}
-use Rattle.sim_operands.specs.Subroutines.{grom_at, next_at, Loaded}
+use Rattle.sim_operands.specs.Subroutines.{grom_at}
 use Rattle.sim_operands.proofs.Facts.{at_most}
-use Rattle.sim_operands.proofs.Ready.{ready, idle_video}
-use Rattle.sim_rows.specs.States.{StoppedBy, operation_in}
-use Rattle.sim_rows.specs.Rows.{gone_on, next_of, operands_of, AtRow}
+use Rattle.sim_operands.proofs.Ready.{idle_video}
+use Rattle.sim_rows.specs.States.{StoppedBy}
+use Rattle.sim_rows.specs.Rows.{gone_on, next_of}
 use Rattle.sim_rows.specs.Results.{SeesFinished, TurnsBy, TurnsRow, row_result}
-use Rattle.sim_rows.proofs.Again.{idle_again, idle_told}
+use Rattle.sim_rows.proofs.Again.{idle_told}
 use Rattle.sim_stack.specs.Pieces as pieces
 use Rattle.sim_stack.specs.Pieces.{offset_of}
 use Rattle.sim_stack.specs.Stacks.{Located, SetAside, Locates, SetsAside, LoadsStacked, fetched_at, FetchesStacked, Fetching, EndsFetch}
@@ -167,7 +166,9 @@ module _ (x a : MachineState) (t t1 : ℕ) (stands : Stands x 0x2710) (e : Exits
             stands_storing = located.stands
 
             pub idle_storing : PortsAreIdle x.cpu.memory → PortsAreIdle f.cpu.memory
-            idle_storing i = idle_told f.cpu.memory (ap (λ (v : View). v.vdp.held) seen_f ∙ idle_video x.cpu.memory i) (ap (λ (v : View). v.grom.half_written) seen_f)
+            idle_storing i =
+                idle_told f.cpu.memory (ap (λ (v : View). v.vdp.held) seen_f ∙ idle_video x.cpu.memory i)
+                (ap (λ (v : View). v.grom.half_written) seen_f)
 
             pub stack_storing : IsVisible 0 (view f).r.r7 (view f).r.r3
             stack_storing =
@@ -185,7 +186,9 @@ module _ (x a : MachineState) (t t1 : ℕ) (stands : Stands x 0x2710) (e : Exits
 
             module _ (s : GplState) (cells : (view x).cells ≡ s.cells) where
               word_is : (view c).r.r6 ≡ word_at s (top_in s)
-              word_is = ap (λ (v : View). v.r.r6) seen_c ∙ ap (λ (n : ℕ). word_in (view x).cells n) (offset_top s cells) ∙ ap (λ (l : List ℕ). word_in l (top_in s)) cells
+              word_is =
+                  ap (λ (v : View). v.r.r6) seen_c ∙ ap (λ (n : ℕ). word_in (view x).cells n) (offset_top s cells)
+                  ∙ ap (λ (l : List ℕ). word_in l (top_in s)) cells
 
               -- the byte there, as register 12 has it
               byte_is : (view f).r.r12 ≡ join (slice_index image (word_at s (top_in s))) 0
@@ -202,7 +205,8 @@ module _ (x a : MachineState) (t t1 : ℕ) (stands : Stands x 0x2710) (e : Exits
                   comes_on 57 18 c4 located refl
 
     -- the row ends with what FETCH changes
-    pub reads : (b c d f y : MachineState) (t2 t3 t4 t5 t6 : ℕ) → SetsAside a b t1 t2 → LoadsStacked b c t2 t3 → FetchesStacked c d t3 t4 → Locates 0x274A d f t4 t5 → EndsFetch f y t5 t6 → TurnsRow (One FETCH) 160 x y t t6 Stepped
+    pub reads : (b c d f y : MachineState) (t2 t3 t4 t5 t6 : ℕ) → SetsAside a b t1 t2 → LoadsStacked b c t2 t3 → FetchesStacked c d t3 t4 →
+        Locates 0x274A d f t4 t5 → EndsFetch f y t5 t6 → TurnsRow (One FETCH) 160 x y t t6 Stepped
     reads b c d f y t2 t3 t4 t5 t6 sets loads fetches locates ends s place source known at is =
         let h = at.holds in
         let image : List ℕ = s.image in
@@ -233,6 +237,7 @@ module _ (x a : MachineState) (t t1 : ℕ) (stands : Stands x 0x2710) (e : Exits
         let after : Changes = with_byte_from word top place (unchanged (gone_on s)) in
         let result : row_result (One FETCH) s place source ≡ Ok after = ap (by_fetch s place) room in
         let c1 = comes_storing image (next_of s) grom b t2 sets c t3 loads d t4 fetches f t5 locates s cells in
-        let c2 : Comes 151 x y t t6 0x228C (SeesFinished after) = comes_on 75 76 c1 (ends (gone_on s) place top (next_in_grom word) (slice_index image word) (next_in_grom word) fetching) refl in
+        let c2 : Comes 151 x y t t6 0x228C (SeesFinished after) =
+        comes_on 75 76 c1 (ends (gone_on s) place top (next_in_grom word) (slice_index image word) (next_in_grom word) fetching) refl in
         let c3 : Comes 160 x y t t6 0x228C (SeesFinished after) = comes_as 160 (SeesFinished after) c2 (omega arith) (λ v q. q) in
         subst (λ (r : Result Changes Reason). TurnsBy 160 s x y t t6 Stepped r) (sym result) (refl, c3)

@@ -1,9 +1,9 @@
 -- RTN and RTNC, from their dispatch to the end of the step.
-use Rattle.std.proofs.Common.{◌≡◌, ℕ, ◌+◌, ◌<◌, ◌≤◌, Bool, true, false, refl, sym, ap, subst, ◌∙◌, arith, List, Option, Some, Result, Ok, Err, eqb}
+use Rattle.std.proofs.Common.{◌≡◌, ℕ, ◌+◌, ◌<◌, Bool, true, false, refl, sym, ap, subst, ◌∙◌, arith, List, Option, Some, Result, Ok, Err, eqb}
 use Rattle.std.specs.Prelude.{◌==◌, nat_lt, if◌then◌else◌, slice_index, slice_set}
 use Rattle.std.proofs.lemmas.Bool.{agree_below_at, eqb-true}
 use Rattle.source_defs.specs.Refusals.{◌>>=◌}
-use Rattle.console_defs.specs.Words.{high, join, even}
+use Rattle.console_defs.specs.Words.{high, join}
 use Rattle.console_defs.specs.Flags.{Word, sum_of}
 use Rattle.console_defs.specs.Machine.{MachineState}
 use Rattle.gpl_defs.specs.declared.instruction.PlainOp.TheVariants.{RTN, RTNC}
@@ -14,7 +14,7 @@ use Rattle.step_defs.specs.declared.reason.Reason.{Reason}
 use Rattle.step_defs.specs.declared.reason.Reason.TheVariants.{Stack}
 use Rattle.step_defs.specs.State.{GplState}
 use Rattle.step_defs.specs.Place.{value_at, word_at}
-use Rattle.step_defs.specs.Changes.{Changes, unchanged, finished, with_condition}
+use Rattle.step_defs.specs.Changes.{Changes, finished, with_condition}
 use Rattle.step_defs.specs.Flow.{on_stack, grown_by}
 use Rattle.step_defs.specs.Step.{step}
 use Rattle.step_defs.specs.Run.{bound}
@@ -23,10 +23,9 @@ use Rattle.interp_defs.specs.Match.{PortsAreIdle}
 use Rattle.interp_defs.specs.Runs.{is_end}
 use Rattle.interp_defs.specs.Turned.{Turned}
 use Rattle.sim_view.specs.View.{View, view, Stands}
-use Rattle.sim_view.specs.Exits.{Exit, Exits, Comes}
+use Rattle.sim_view.specs.Exits.{Exits, Comes}
 use Rattle.sim_view.proofs.Bridge.{is_view}
-use Rattle.sim_view.proofs.Places.{pick}
-use Rattle.sim_view.proofs.Compose.{Goes, comes, comes_as, comes_on}
+use Rattle.sim_view.proofs.Compose.{comes, comes_as, comes_on}
 use Rattle.sim_operands.specs.Pieces.{exit, return_of}
 use Rattle.sim_operands.specs.Values.{width_in, IsVisible}
 use Rattle.sim_operands.specs.Subroutines.{state_of, place_in, Loaded, LoadsValue}
@@ -121,7 +120,8 @@ pub takes : (x a : MachineState) (t u : ℕ) → Exits x a t u (pieces.take_retu
     ((view x).r.r0 == 0 ≡ true) × Exits x a t u (exit 4 0x265E (taken (view x)))
 takes x a t u e here = by ((view x).r.r0 == 0) e
   where
-    by : (b : Bool) → Exits x a t u (if b then exit 4 0x265E (taken (view x)) else exit 5 0x24B8 (taken (view x))) → (b ≡ true) × Exits x a t u (exit 4 0x265E (taken (view x)))
+    by : (b : Bool) → Exits x a t u (if b then exit 4 0x265E (taken (view x)) else exit 5 0x24B8 (taken (view x))) →
+        (b ≡ true) × Exits x a t u (exit 4 0x265E (taken (view x)))
     by true d = (refl, d)
     by false d = let p = d.stands.pc in absurd (omega arith)
 
@@ -129,7 +129,8 @@ pub keeps : (x a : MachineState) (t u : ℕ) → Exits x a t u (pieces.take_retu
     ((view x).r.r0 == 0 ≡ false) × Exits x a t u (exit 5 0x24B8 (taken (view x)))
 keeps x a t u e elsewhere = by ((view x).r.r0 == 0) e
   where
-    by : (b : Bool) → Exits x a t u (if b then exit 4 0x265E (taken (view x)) else exit 5 0x24B8 (taken (view x))) → (b ≡ false) × Exits x a t u (exit 5 0x24B8 (taken (view x)))
+    by : (b : Bool) → Exits x a t u (if b then exit 4 0x265E (taken (view x)) else exit 5 0x24B8 (taken (view x))) →
+        (b ≡ false) × Exits x a t u (exit 5 0x24B8 (taken (view x)))
     by true d = absurd (elsewhere d.stands.pc)
     by false d = (refl, d)
 
@@ -152,7 +153,8 @@ taken_sees s code top next v fits h =
       to = h.word;
     }
 
-returned_as : (code : ℕ) (b : Bool) → (code == 0) ≡ b → (s : GplState) (top : ℕ) (P : Changes → Type 0) → P (if b then with_condition false (gone_back s top) else gone_back s top) → P (returned_by code s top)
+returned_as : (code : ℕ) (b : Bool) → (code == 0) ≡ b → (s : GplState) (top : ℕ) (P : Changes → Type 0) →
+    P (if b then with_condition false (gone_back s top) else gone_back s top) → P (returned_by code s top)
 returned_as code b e s top P h = subst (λ (b : Bool). P (if b then with_condition false (gone_back s top) else gone_back s top)) (sym e) h
 
 module _ (x a y : MachineState) (t u v : ℕ) (e : Exits x a t u (pieces.take_return (view x))) where
@@ -160,8 +162,10 @@ module _ (x a y : MachineState) (t u v : ℕ) (e : Exits x a t u (pieces.take_re
   ends_rtn here l s code top next fits h =
       let k = takes x a t u e here in
       let after = (gone_back s top).state in
-      let c1 : Comes 4 x a t u 0x265E (Taken after next) = comes k.1 (record { within = omega arith; to_is = refl; holds = taken_sees s code top next (view x) fits h }) in
-      let c2 : Comes 13 x y t v 0x228C (SeesFinished (with_condition false (gone_back s top))) = comes_on 4 9 c1 (l after next c1.holds.sees c1.holds.to) refl in
+      let c1 : Comes 4 x a t u 0x265E (Taken after next) =
+      comes k.1 (record { within = omega arith; to_is = refl; holds = taken_sees s code top next (view x) fits h }) in
+      let c2 : Comes 13 x y t v 0x228C (SeesFinished (with_condition false (gone_back s top))) =
+      comes_on 4 9 c1 (l after next c1.holds.sees c1.holds.to) refl in
       returned_as code true (zero_eq (view x).r.r0 code true h.code_is k.0) s top (λ (c : Changes). Comes 14 x y t v 0x228C (SeesFinished c))
       (comes_as 14 (SeesFinished (with_condition false (gone_back s top))) c2 (omega arith) (λ w q. q))
 
@@ -169,14 +173,17 @@ module _ (x a y : MachineState) (t u v : ℕ) (e : Exits x a t u (pieces.take_re
   ends_rtnc elsewhere l s code top next fits h =
       let k = keeps x a t u e elsewhere in
       let after = (gone_back s top).state in
-      let c1 : Comes 5 x a t u 0x24B8 (Taken after next) = comes k.1 (record { within = omega arith; to_is = refl; holds = taken_sees s code top next (view x) fits h }) in
+      let c1 : Comes 5 x a t u 0x24B8 (Taken after next) =
+      comes k.1 (record { within = omega arith; to_is = refl; holds = taken_sees s code top next (view x) fits h }) in
       let c2 : Comes 11 x y t v 0x228C (SeesFinished (gone_back s top)) = comes_on 5 6 c1 (l after next c1.holds.sees c1.holds.to) refl in
       returned_as code false (zero_eq (view x).r.r0 code false h.code_is k.0) s top (λ (c : Changes). Comes 14 x y t v 0x228C (SeesFinished c))
       (comes_as 14 (SeesFinished (gone_back s top)) c2 (omega arith) (λ w q. q))
 
 -- ---- from the dispatch on
 
-module _ (s : GplState) (x a : MachineState) (t u : ℕ) (stands : Stands x 0x26E6) (d : Dispatched s (view x)) (family : is_return (operation_in s) ≡ true) (e : Exits x a t u (pieces.ask_return (view x))) where
+module _ (s : GplState) (x a : MachineState) (t u : ℕ) (stands : Stands x 0x26E6)
+    (d : Dispatched s (view x))
+    (family : is_return (operation_in s) ≡ true) (e : Exits x a t u (pieces.ask_return (view x))) where
   abbrev offset : ℕ
   offset = offset_of (pointer_at 0x73 (view x))
 
@@ -214,7 +221,9 @@ module _ (s : GplState) (x a : MachineState) (t u : ℕ) (stands : Stands x 0x26
     stands_load = went.1.stands
 
     pub idle_load : PortsAreIdle a.cpu.memory
-    idle_load = idle_again x.cpu.memory a.cpu.memory (ap (λ (v : View). v.vdp) went.1.shows) (ap (λ (v : View). v.grom) went.1.shows) (idle_of x.cpu.memory s (behind_code s) d.sees)
+    idle_load =
+        idle_again x.cpu.memory a.cpu.memory (ap (λ (v : View). v.vdp) went.1.shows) (ap (λ (v : View). v.grom) went.1.shows)
+        (idle_of x.cpu.memory s (behind_code s) d.sees)
 
     pub visible_load : IsVisible (view a).r.r5 (view a).r.r2 (view a).r.r3
     visible_load =
@@ -236,7 +245,9 @@ module _ (s : GplState) (x a : MachineState) (t u : ℕ) (stands : Stands x 0x26
       stands_taking = loads.stands
 
       word_is : value_at (state_of asked) Word (place_in 0 offset) ≡ word_at s (top_in s)
-      word_is = stacked_is (state_of asked) offset (top_in s) offset_top top_small ∙ ap (λ (l : List ℕ). join (slice_index l (top_in s)) (slice_index l (top_in s + 1))) d.sees.cells
+      word_is =
+          stacked_is (state_of asked) offset (top_in s) offset_top top_small
+          ∙ ap (λ (l : List ℕ). join (slice_index l (top_in s)) (slice_index l (top_in s + 1))) d.sees.cells
 
       sees_asked : Sees (before s) (behind_code s) asked
       sees_asked = record { cells = d.sees.cells; vdp = d.sees.vdp; registers = d.sees.registers; held = d.sees.held; grom = d.sees.grom }

@@ -124,7 +124,8 @@ never_leaves r reason alone e f = let P : Result Changes Reason → Type 0 = Onl
 
 -- ---- from the dispatch on
 
-module _ (x : MachineState) (t : ℕ) (stands : Stands x (operation_entry (operation_seen (view x)))) (dispatched : Dispatched (state_at_dispatch (view x)) (view x)) (family : is_stack_row (operation_seen (view x)) ≡ true) where
+module _ (x : MachineState) (t : ℕ) (stands : Stands x (operation_entry (operation_seen (view x))))
+    (dispatched : Dispatched (state_at_dispatch (view x)) (view x)) (family : is_stack_row (operation_seen (view x)) ≡ true) where
   abbrev s : GplState
   s = state_at_dispatch (view x)
 
@@ -141,7 +142,8 @@ module _ (x : MachineState) (t : ℕ) (stands : Stands x (operation_entry (opera
       Turned s 29 x y t u (Stopped Cell)
   stopped y u told none l = rowing.stopped_row s x t fits start row y u told none l
 
-  module _ (y : MachineState) (u : ℕ) (op : GplOperation) (told : Option GplOperation) (is : told ≡ Some op) (l : StartsRow s x y t u told (operands_of s)) where
+  module _ (y : MachineState) (u : ℕ) (op : GplOperation) (told : Option GplOperation) (is : told ≡ Some op)
+      (l : StartsRow s x y t u told (operands_of s)) where
     began : rowing.Started s x t fits start row op y u
     began = rowing.started s x t fits start row op y u told is l
 
