@@ -5,11 +5,11 @@ use Rattle.std.proofs.lemmas.Grind.{flat_map-append}
 
 module _ {X : Type 0} (f : X → List ℕ) where
   -- three parts that were appended to nothing
-  pub three_parts : (a b c : List X) (one two three : List ℕ) → one ≡ [] ++ flat_map f a → two ≡ one ++ flat_map f b → three ≡ two ++ flat_map f c →
+  pub three_parts : (a b c : List X) (none one two three : List ℕ) → none ≡ [] → one ≡ none ++ flat_map f a → two ≡ one ++ flat_map f b → three ≡ two ++ flat_map f c →
       three ≡ flat_map f (a ++ (b ++ c))
-  three_parts a b c one two three p q r =
+  three_parts a b c none one two three e p q r =
       r
-      ∙ ap (λ t. t ++ flat_map f c) (q ∙ ap (λ t. t ++ flat_map f b) p)
+      ∙ ap (λ t. t ++ flat_map f c) (q ∙ ap (λ t. t ++ flat_map f b) (p ∙ ap (λ t. t ++ flat_map f a) e))
       ∙ append_assoc (flat_map f a) (flat_map f b) (flat_map f c)
       ∙ ap (λ t. flat_map f a ++ t) (sym (flat_map-append f b c))
       ∙ sym (flat_map-append f a (b ++ c))
