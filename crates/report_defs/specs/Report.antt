@@ -113,8 +113,8 @@ pub record ReportsProgram (show : GplState → ℕ → List (List ℕ)) (limit :
   pub left : MachineState
   pub runs : RunsProgram bytes entry limit left
   pub is : let s = start bytes entry in
-    let r = run limit s in
-    report ≡ program_report (show s r.done) r left
+      let r = run limit s in
+      report ≡ program_report (show s r.done) r left
 
 -- `run` does not show the steps; `trace` shows each by its line
 abbrev pub no_lines : GplState → ℕ → List (List ℕ)
@@ -125,7 +125,7 @@ pub record ShowsSteps (limit : ℕ) (image : Image) (entry : ℕ) (front : Repor
   pub bytes : List ℕ
   pub of_image : AreBytesOf image bytes
   pub is : let s = start bytes entry in
-    front ≡ Whole Done (step_lines s (run limit s).done)
+      front ≡ Whole Done (step_lines s (run limit s).done)
 
 -- What is reported of a program with an image and an entry. Profile: one without an entry is refused.
 abbrev pub EnteredReport : (Image → ℕ → Report → Type 0) → Image → Option ℕ → Report → Type 0

@@ -75,11 +75,14 @@ module _ (input : List ℕ) (trace : Trace) (t : TracesSource input trace) where
       })
 
   pub front_reported : length input ≤ spec.largest_input → spec.FrontOn (command.Trace trace.limit) input (front_from (seen trace.session))
-  front_reported within = (within, of_built (spec.ShowsSteps trace.limit) input (front_from (seen trace.session)) t.new t.loads (record {
-    bytes = l.bytes;
-    of_image = l.of_image;
-    is = ap front_from first_is;
-  }))
+  front_reported within = (
+    within,
+    of_built (spec.ShowsSteps trace.limit) input (front_from (seen trace.session)) t.new t.loads (record {
+      bytes = l.bytes;
+      of_image = l.of_image;
+      is = ap front_from first_is;
+    }),
+  )
 
 -- a report on an input that is not too large
 pub on_accepted : (command : Command) (input : List ℕ) (report : spec.Report) → length input ≤ spec.largest_input → spec.AcceptedReport command input report → spec.ReportOn command input report

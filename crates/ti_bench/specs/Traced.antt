@@ -66,8 +66,8 @@ pub record TracesWhole (o : Outputs) (trace : Trace) (status : Status) : Type 0 
   pub runs : RunsSteps (seen trace.session) trace.limit count trace.session.machine left.machine
   pub ended : left.ended ≡ (run trace.limit (seen trace.session)).stop
   pub ends : let s = seen trace.session in
-    let lines = step_lines s (run trace.limit s).done ++ program_lines left.ended (seen left) left.machine in
-    EndsWith o (Whole (program_status left.ended) lines) status
+      let lines = step_lines s (run trace.limit s).done ++ program_lines left.ended (seen left) left.machine in
+      EndsWith o (Whole (program_status left.ended) lines) status
 
 -- The line of a step could not be written.
 pub record BreaksOff (o : Outputs) (trace : Trace) (status : Status) : Type 0 where

@@ -12,6 +12,6 @@ mod workspace;
 
 pub use line::trace_line;
 pub use parts::dump;
-pub use steps::play;
 pub use seen::{Seen, changes};
 pub use state::{state_line, stop_line};
+pub use steps::play;

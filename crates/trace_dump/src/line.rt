@@ -28,7 +28,11 @@ pub fn trace_line(session: &Session, number: u32) -> ArrayString<120>
     line.push(' ');
     push_state(&mut line, session);
     line.push(' ');
-    push_standing(&mut line, session.machine().bus().grom().image(), session.pc());
+    push_standing(
+        &mut line,
+        session.machine().bus().grom().image(),
+        session.pc(),
+    );
     line
 }
 

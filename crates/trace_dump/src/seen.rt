@@ -79,7 +79,11 @@ pub fn changes(line: &mut ArrayString<120>, seen: &mut Seen, machine: &Machine)
 {
     show_cells(line, &mut seen.cells, visible_cells(machine));
     show_video(line, &mut seen.vdp, machine.bus().vdp().memory());
-    show_registers(line, &mut seen.registers, &vdp_registers(machine.bus().vdp()));
+    show_registers(
+        line,
+        &mut seen.registers,
+        &vdp_registers(machine.bus().vdp()),
+    );
     line.push('\n');
 }
 

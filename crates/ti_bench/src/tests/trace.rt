@@ -158,7 +158,10 @@ const TRACES: &[(&str, &[u8], &[u8], &[&[u8]], Status)] = &[
 #[test]
 fn steps_are_shown(rt: TestRuntime) -> Result<(), Fail> {
     for (name, limit, source, lines, status) in TRACES {
-        assert!(rt; traces(rt.alloc(), limit, source, lines, *status)?, "{name}");
+        assert!(rt;
+            traces(rt.alloc(), limit, source, lines, *status)?,
+            "{name}"
+        );
     }
     Ok(())
 }
@@ -173,9 +176,11 @@ fn traces(
 ) -> Result<bool, AllocError> {
     let ended = traced(alloc, limit, statements, &[])?;
     let shown = ended.out.bytes().split(|&byte| byte == b'\n');
-    Ok(ended.status == status
-        && ended.err.bytes().is_empty()
-        && shown.zip(lines.iter()).all(|(got, wanted)| got == *wanted))
+    Ok(
+        ended.status == status
+            && ended.err.bytes().is_empty()
+            && shown.zip(lines.iter()).all(|(got, wanted)| got == *wanted),
+    )
 }
 
 /// A trace of statements that are apart by semicolons, over an output of which the calls with these numbers fail.
@@ -196,7 +201,9 @@ fn traced(
 fn failed_trace_keeps_its_first_lines(rt: TestRuntime) -> Result<(), Fail> {
     let ended = traced(rt.alloc(), b"5", TRACES[6].2, &[1])?;
     assert_eq!(rt; ended.status, Status::WriteFault);
-    assert!(rt; ended.out.bytes() == b"     1 >6000 S00 D9F R7E CALL >6005 C3 >8373=80\n".as_slice());
+    assert!(rt;
+        ended.out.bytes() == b"     1 >6000 S00 D9F R7E CALL >6005 C3 >8373=80\n".as_slice()
+    );
     Ok(())
 }
 
