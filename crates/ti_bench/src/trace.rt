@@ -1,7 +1,7 @@
 //! A trace, which is written while its program runs.
 
 ghost use Rattle.std.specs.Prelude.{◌≡◌, ◌<◌, ◌≤◌, ℕ, None};
-ghost use Rattle.gpl_run.specs.Sessions.{seen};
+ghost use Rattle.gpl_run.specs.Sessions as sessions;
 ghost use Rattle.report_defs.specs.Trace.{seen_state};
 ghost use Rattle.report_defs.specs.Commands.{most_steps};
 ghost use Rattle.trace_dump.specs.Plays.{Plays};
@@ -61,7 +61,7 @@ fn play_session<O: Sink, L: Ledger>(
     requires parts { blank.parts ≡ L.parts }
     requires some { 0 < L.parts }
     requires running { session.old.ended ≡ None }
-    requires kept { seen.old ≡ seen_state (seen session.old) }
+    requires kept { seen.old ≡ seen_state (sessions.seen session.old) }
     requires limit { limit ≤ most_steps }
     ensures { (before : ℕ) × (after : ℕ)
         × Plays limit session.old session.new before after (O.state out.old) (O.state out.new) result }

@@ -1,3 +1,6 @@
 pub mod Dumps
 pub mod Ranges
 pub mod Playing
+pub mod Decimals
+pub mod Counting
+pub mod Numbers

@@ -47,7 +47,7 @@ fn push_number(line: &mut ArrayString<120>, number: u32)
     let mut buffer = Buffer::new();
     let digits = buffer.format(number);
     for _ in digits.len()..NUMBER_PLACES {
-        line.push(' ');
+        line.push_str(" ");
     }
     line.push_str(digits);
 }

@@ -139,9 +139,9 @@ fn show_video(line: &mut ArrayString<120>, kept: &mut [u8], now: &[u8])
 fn show_registers(line: &mut ArrayString<120>, kept: &mut [u8], now: &[u8])
     requires kept { length kept.old ≡ 8 }
     requires now { length now.now ≡ 8 }
-    requires room { array_string_len line.old + 12 ≤ 120 }
+    requires room { array_string_len line.old + 10 ≤ 120 }
     ensures text { line.new.bytes ≡ line.old.bytes ++ spec.changed_text (codes " W") spec.register_place kept.old now.now }
-    ensures size { array_string_len line.new ≤ array_string_len line.old + 12 }
+    ensures size { array_string_len line.new ≤ array_string_len line.old + 10 }
     ensures kept { kept.new ≡ now.now }
 {
     let Some(at) = first_change(kept, now) else {
@@ -172,7 +172,8 @@ fn count_changes(before: &[u8], after: &[u8]) -> usize
     count_differences(before, after)
 }
 
-/// Appends a label of two characters, a number of changed bytes in at most five digits, and a blank.
+/// Appends a label of two characters, a number of changed bytes in at most five digits, or three where it is below 1,000, and a
+/// blank.
 #[tactic(auto, using(std::proofs::Common::append_assoc))]
 fn push_count(line: &mut ArrayString<120>, label: &str, count: usize)
     requires label { length label.now ≡ 2 }
@@ -180,18 +181,20 @@ fn push_count(line: &mut ArrayString<120>, label: &str, count: usize)
     requires room { array_string_len line.old + 8 ≤ 120 }
     ensures text { line.new.bytes ≡ line.old.bytes ++ (label.now ++ (decimal count ++ codes " ")) }
     ensures size { array_string_len line.new ≤ array_string_len line.old + 8 }
+    ensures few { count < 1000 → array_string_len line.new ≤ array_string_len line.old + 6 }
 {
     line.push_str(label);
     push_decimal(line, count);
     line.push(' ');
 }
 
-/// Appends a number in decimal digits, of which there are five at most.
+/// Appends a number in decimal digits, of which there are five at most, or three where it is below 1,000.
 fn push_decimal(line: &mut ArrayString<120>, number: usize)
     requires number { number ≤ VIDEO_SIZE }
     requires room { array_string_len line.old + 5 ≤ 120 }
     ensures text { line.new.bytes ≡ line.old.bytes ++ decimal number }
     ensures size { array_string_len line.new ≤ array_string_len line.old + 5 }
+    ensures few { number < 1000 → array_string_len line.new ≤ array_string_len line.old + 3 }
 {
     let mut buffer = Buffer::new();
     line.push_str(buffer.format(number));

@@ -1,7 +1,7 @@
 //! A program's steps, each with its line.
 
 ghost use Rattle.std.specs.Prelude.{◌≡◌, ◌≤◌, None};
-ghost use Rattle.gpl_run.specs.Sessions.{seen};
+ghost use Rattle.gpl_run.specs.Sessions as sessions;
 ghost use Rattle.report_defs.specs.Trace.{seen_state};
 ghost use Rattle.trace_dump.specs.Plays.{Plays};
 
@@ -28,10 +28,10 @@ pub fn play<O: Sink, L: Ledger>(
     steps: &mut Steps<L>,
 ) -> Result<u32, Failed>
     requires running { session.old.ended ≡ None }
-    requires kept { seen.old ≡ seen_state (seen session.old) }
+    requires kept { seen.old ≡ seen_state (sessions.seen session.old) }
     requires limit { limit ≤ 100000 }
     ensures plays { Plays limit session.old session.new steps.old steps.new (O.state out.old) (O.state out.new) result }
-    ensures kept { seen.new ≡ seen_state (seen session.new) }
+    ensures kept { seen.new ≡ seen_state (sessions.seen session.new) }
 {
     session.holds_match();
     for made in 0..limit {

@@ -1,0 +1,8 @@
+use Rattle.trace_dump.proofs.Playing.{Playing}
+use Rattle.trace_dump.proofs.steps.play.Given as goal
+
+-- so many steps were made and shown
+abbrev pub invariant-loop-made : goal.invariant-loop-made
+invariant-loop-made g l =
+    let state = g.O.Sink.state in
+    Playing l.fn.session l.session l.fn.steps l.steps l.made (state l.fn.out) (state l.out) l.seen
