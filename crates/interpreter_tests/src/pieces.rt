@@ -7,9 +7,11 @@ use crate::machines::{Program, booting};
 use native_interp::{
     FETCH, GBOOT, GEXIT, GOB, GOEXIT, GOTO, GSTEP, GSTOP, SEEK, STREAM, UNKN, WHERE,
 };
+use sim_flow::{ask_target, leave};
+use sim_jumps::go_on;
 use sim_operands::{fetch_byte, run_seek, stream_value};
 use sim_rows::{ask_address, ask_byte, dispatch, keep_address, where_next};
-use sim_steps::{ask_target, boot, go_on, leave, stop_code};
+use sim_steps::{boot, stop_code};
 use sim_view::{is_ready, register};
 use std::alloc::{AllocError, Global};
 use std::marker::Brand;

@@ -29,7 +29,7 @@ showing_seen t =
 -- The lines of a program are those of what is seen of its state.
 same_lines : (stop : Option Reason) (a b : GplState) (x : MachineState) → a.cells ≡ b.cells → a.vdp ≡ b.vdp →
     a.registers ≡ b.registers → a.pc ≡ b.pc → program_lines stop a x ≡ program_lines stop b x
-unfolding state_line, state_text
+unfolding state_line state_text
 same_lines stop a b x cells vdp registers pc =
     ap (λ (c : List ℕ). program_lines stop (record a { cells = c }) x) cells
     ∙ ap (λ (v : List ℕ). program_lines stop (record a { cells = b.cells; vdp = v }) x) vdp

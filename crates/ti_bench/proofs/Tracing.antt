@@ -1,12 +1,17 @@
 -- A trace is the run of its program.
 use Rattle.std.proofs.Common.{◌≡◌, ◌≤◌, ℕ, List, ◌++◌, length, Option, Some, None, Ok, refl, sym, ap, ◌∙◌, subst, inl, inr}
-use Rattle.std.proofs.Common.{false, arith}
-use Rattle.std.specs.Prelude.{nat_lt}
+use Rattle.std.proofs.Common.{Bool, true, false, Result, Err, arith}
+use Rattle.std.specs.Prelude.{nat_lt, is_err}
 use Rattle.std.proofs.lemmas.Bool.Decides.{nat_tests}
 use Rattle.console_defs.specs.Grom.{GromState}
 use Rattle.console_defs.specs.Machine.{MachineState}
 use Rattle.gpl_defs.specs.Image.{Image}
-use Rattle.bench_io.specs.Written.{Missed}
+use Rattle.console_defs.specs.Memory.{IsMemory}
+use Rattle.bench_io.specs.Stream.{SinkState}
+use Rattle.bench_io.specs.Written.{Wrote, Missed}
+use Rattle.bench_io.proofs.Writing.{wrote_more, missed_more}
+use Rattle.trace_dump.specs.Plays.{Plays}
+use Rattle.ti_bench.specs.declared.report.Report.TheVariants as made
 use Rattle.step_defs.specs.State.{GplState, start}
 use Rattle.step_defs.specs.Run.{GplRun, run}
 use Rattle.interp_defs.specs.Programs.{RunsSteps}
@@ -14,7 +19,7 @@ use Rattle.gpl_run.specs.Sessions.{SessionState, seen, image_of, entry_of}
 use Rattle.report_defs.specs.declared.status.Status.{Status}
 use Rattle.report_defs.specs.declared.status.Status.TheVariants as status
 use Rattle.report_defs.specs.declared.command.Command.{Command}
-use Rattle.report_defs.specs.declared.command.Command.TheVariants as command
+use Rattle.report_defs.specs.declared.command.Command.TheVariants as asked
 use Rattle.report_defs.specs.Commands.{command_of, reads}
 use Rattle.report_defs.specs.Report as spec
 use Rattle.report_defs.specs.Program.{program_lines, program_status}
@@ -25,7 +30,7 @@ use Rattle.ti_bench.specs.declared.prepared.Prepared.TheVariants as prepared
 use Rattle.ti_bench.specs.Made.{defined_report}
 use Rattle.ti_bench.specs.Run.{Outputs, Run, Reads, ReportsOn, EndsWith, EndsBy}
 use Rattle.ti_bench.specs.Loaded.{LoadsEntered}
-use Rattle.ti_bench.specs.Traced.{Started, TracesSource, TracesWhole, BreaksOff, Prepares, Finishes, CanFinish}
+use Rattle.ti_bench.specs.Traced.{Started, TracesSource, TracesWhole, BreaksOff, EndsTrace, Prepares, Finishes, CanFinish}
 use Rattle.ti_bench.proofs.Ends.{by_report, by_front, reports_by, begins_by}
 use Rattle.ti_bench.proofs.Loading.{of_built}
 use Rattle.ti_bench.proofs.Programs.{ends_alike}
@@ -51,7 +56,7 @@ module _ (input : List ℕ) (trace : Trace) (t : TracesSource input trace) where
   abbrev front_from : GplState → spec.Report
   front_from s = spec.Whole status.Done (step_lines s (run trace.limit s).done)
 
-  pub whole_reported : (o : Outputs) (st : Status) (w : TracesWhole o trace st) → spec.AcceptedReport (command.Trace trace.limit) input (whole_from (seen trace.session) w.left)
+  pub whole_reported : (o : Outputs) (st : Status) (w : TracesWhole o trace st) → spec.AcceptedReport (asked.Trace trace.limit) input (whole_from (seen trace.session) w.left)
   whole_reported o st w =
       let s : GplState = start l.bytes l.address in
       let runs = subst (λ (q : GplState). RunsSteps q trace.limit w.count trace.session.machine w.left.machine) first_is w.runs in
@@ -74,7 +79,7 @@ module _ (input : List ℕ) (trace : Trace) (t : TracesSource input trace) where
         is = ap (λ (q : GplState). whole_from q w.left) first_is ∙ ends_alike (step_lines s (run trace.limit s).done) (run trace.limit s) w.left ended w.memory runs.ends;
       })
 
-  pub front_reported : length input ≤ spec.largest_input → spec.FrontOn (command.Trace trace.limit) input (front_from (seen trace.session))
+  pub front_reported : length input ≤ spec.largest_input → spec.FrontOn (asked.Trace trace.limit) input (front_from (seen trace.session))
   front_reported within = (
     within,
     of_built (spec.ShowsSteps trace.limit) input (front_from (seen trace.session)) t.new t.loads (record {
@@ -94,12 +99,12 @@ on_accepted command input report within accepted =
 abbrev Taken : Run → Command → List ℕ → Type 0
 Taken run command bytes = (Some command ≡ command_of run.words) × Reads (reads command) run.input run.input' bytes
 
-by_trace : (run : Run) (command : Command) (bytes : List ℕ) (trace : Trace) (st : Status) → Taken run command bytes → command ≡ command.Trace trace.limit →
+by_trace : (run : Run) (command : Command) (bytes : List ℕ) (trace : Trace) (st : Status) → Taken run command bytes → command ≡ asked.Trace trace.limit →
     length bytes ≤ spec.largest_input → TracesSource bytes trace → Finishes run.outputs (prepared.Trace trace) st → EndsBy run st
 by_trace run command bytes trace st taken is within t (inl w) =
     let report = whole_from bytes trace t (seen trace.session) w.left in
     let accepted = whole_reported bytes trace t run.outputs st w in
-    let on : spec.ReportOn command bytes report = subst (λ (k : Command). spec.ReportOn k bytes report) (sym is) (on_accepted (command.Trace trace.limit) bytes report within accepted) in
+    let on : spec.ReportOn command bytes report = subst (λ (k : Command). spec.ReportOn k bytes report) (sym is) (on_accepted (asked.Trace trace.limit) bytes report within accepted) in
     by_report run report st (reports_by run command report taken.0 (bytes, taken.1, on)) w.ends
 by_trace run command bytes trace st taken is within t (inr b) =
     let front = front_from bytes trace t (seen trace.session) in
@@ -113,3 +118,37 @@ by_prepared run command bytes (prepared.Trace trace) st taken on ends = by_trace
 pub can_finish : (command : Command) (bytes : List ℕ) (p : Prepared) → Prepares command bytes p → CanFinish p
 can_finish command bytes (prepared.Report report) on = tt
 can_finish command bytes (prepared.Trace trace) on = on.2.can
+
+-- ---- a trace is written
+
+-- what ends behind lines that were written ends with these in front of it
+ends_behind : (o : Outputs) (middle : SinkState) (first lines : List (List ℕ)) (own st : Status) → Wrote o.out middle first → EndsWith (record o { out = middle }) (spec.Whole own lines) st →
+    EndsWith o (spec.Whole own (first ++ lines)) st
+ends_behind o middle first lines own status.Done w e = (e.0, (wrote_more o.out middle o.out' first lines w e.1.0, e.1.1))
+ends_behind o middle first lines own status.Refused w e = (e.0, (wrote_more o.out middle o.out' first lines w e.1.0, e.1.1))
+ends_behind o middle first lines own status.Usage w e = (e.0, (wrote_more o.out middle o.out' first lines w e.1.0, e.1.1))
+ends_behind o middle first lines own status.ReadFault w e = absurd e
+ends_behind o middle first lines own status.WriteFault w e = (missed_more o.out middle o.out' first lines w e.0, e.1)
+ends_behind o middle first lines own status.Memory w e = absurd e
+ends_behind o middle first lines own status.Interpreter w e = (e.0, (wrote_more o.out middle o.out' first lines w e.1.0, e.1.1))
+ends_behind o middle first lines own status.Stopped w e = (e.0, (wrote_more o.out middle o.out' first lines w e.1.0, e.1.1))
+
+not_both : (b : Bool) → b ≡ true → b ≡ false → ⊥
+not_both b e f = cc
+
+-- the steps were shown, and then the end of the program
+pub traces_whole : {E : Type 0} (o : Outputs) (trace : Trace) (left : SessionState) (middle : SinkState) (before after : ℕ) (r : Result ℕ E) (st : Status) →
+    Plays trace.limit trace.session left before after o.out middle r → is_err r ≡ false → IsMemory left.machine.cpu.memory →
+    EndsWith (record o { out = middle }) (defined_report (made.Program left)) st → EndsTrace o trace st
+traces_whole o trace left middle before after (Ok done) st p none memory ends =
+    let s = seen trace.session in
+    let wrote = subst (λ (n : ℕ). Wrote o.out middle (step_lines s n)) p.runs.done_is p.wrote in
+    inl (record {
+      left = left;
+      memory = memory;
+      count = p.runs.count;
+      runs = p.runs.runs;
+      ended = p.runs.stop_is;
+      ends = ends_behind o middle (step_lines s (run trace.limit s).done) (program_lines left.ended (seen left) left.machine) (program_status left.ended) st wrote ends;
+    })
+traces_whole o trace left middle before after (Err error) st p none memory ends = absurd (not_both true refl none)

@@ -11,7 +11,7 @@ use Rattle.interp_defs.specs.Turns.{Boots}
 use Rattle.interp_defs.specs.Programs.{RunsSteps, most_of_boot}
 use Rattle.gpl_run.specs.Sessions.{SessionState, seen, image_of, entry_of}
 use Rattle.report_defs.specs.declared.command.Command.{Command}
-use Rattle.report_defs.specs.declared.command.Command.TheVariants as command
+use Rattle.report_defs.specs.declared.command.Command.TheVariants as asked
 use Rattle.report_defs.specs.declared.status.Status.{Status}
 use Rattle.report_defs.specs.declared.status.Status.TheVariants.{WriteFault}
 use Rattle.report_defs.specs.Commands.{most_steps}
@@ -27,7 +27,7 @@ use Rattle.ti_bench.specs.Run.{Outputs, EndsWith}
 
 -- a trace has a limit that it keeps
 abbrev pub KeepsLimit : Command → Type 0
-KeepsLimit (command.Trace limit) = limit ≤ most_steps
+KeepsLimit (asked.Trace limit) = limit ≤ most_steps
 KeepsLimit command = Unit {0}
 
 -- The interpreter has booted on a machine, and stands before the first step of the program.
@@ -56,7 +56,7 @@ pub record TracesSource (input : List ℕ) (trace : Trace) : Type 0 where
 abbrev pub Prepares : Command → List ℕ → Prepared → Type 0
 Prepares command input (prepared.Report report) = ReportOn command input (defined_report report)
 Prepares command input (prepared.Trace trace) =
-    (command ≡ command.Trace trace.limit) × (length input ≤ largest_input) × TracesSource input trace
+    (command ≡ asked.Trace trace.limit) × (length input ≤ largest_input) × TracesSource input trace
 
 -- The program was run, and its report was written, or a front of it.
 pub record TracesWhole (o : Outputs) (trace : Trace) (status : Status) : Type 0 where

@@ -6,7 +6,7 @@ use Rattle.report_defs.specs.Commands.{reads}
 use Rattle.report_defs.specs.Report.{Faulty, largest_input}
 use Rattle.ti_bench.specs.Run.{Run}
 use Rattle.ti_bench.proofs.Ends.{by_report, reads_whole, reads_too_much, reports_by, reports_usage, wrote_nothing}
-use Rattle.ti_bench.proofs.Tracing.{by_prepared, can_finish}
+use Rattle.ti_bench.proofs.Tracing.{by_prepared}
 use Rattle.ti_bench.proofs.bench.bench.Goals as goal
 
 pub returns-in_default-clause-ends : goal.returns-in_default-clause-ends
@@ -37,9 +37,6 @@ returns-in-Err-TooLarge-clause-ends g c =
     let gave_up : GaveUp error.TooLarge largest_input run.input run.input' = rw c.in-Err-TooLarge.field-0-is at c.in-Err-TooLarge.ensures.err in
     let reads = reads_too_much run c.in-Some.command c.in-Err-TooLarge.ensures.reading gave_up in
     by_report run (Faulty fault.TooLarge) finish.result (reports_by run c.in-Some.command (Faulty fault.TooLarge) c.in-Some.ensures.command reads) finish.ensures
-
-pub finish-in-Ok-prepare-requires : goal.finish-in-Ok-prepare-requires
-finish-in-Ok-prepare-requires g c = can_finish c.in-Some.command c.in-Ok.bytes.items c.in-Ok-prepare.prepared c.in-Ok-prepare.ensures
 
 pub returns-in-Ok-prepare-clause-ends : goal.returns-in-Ok-prepare-clause-ends
 returns-in-Ok-prepare-clause-ends g c =
