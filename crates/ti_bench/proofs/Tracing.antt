@@ -30,7 +30,7 @@ use Rattle.ti_bench.specs.declared.prepared.Prepared.TheVariants as prepared
 use Rattle.ti_bench.specs.Made.{defined_report}
 use Rattle.ti_bench.specs.Run.{Outputs, Run, Reads, ReportsOn, EndsWith, EndsBy}
 use Rattle.ti_bench.specs.Loaded.{LoadsEntered}
-use Rattle.ti_bench.specs.Traced.{Started, TracesSource, TracesWhole, BreaksOff, EndsTrace, Prepares, Finishes, CanFinish}
+use Rattle.ti_bench.specs.Traced.{Started, TracesSource, TracesWhole, BreaksOff, EndsTrace, Prepares, Finishes}
 use Rattle.ti_bench.proofs.Ends.{by_report, by_front, reports_by, begins_by}
 use Rattle.ti_bench.proofs.Loading.{of_built}
 use Rattle.ti_bench.proofs.Programs.{ends_alike}
@@ -114,10 +114,6 @@ by_trace run command bytes trace st taken is within t (inr b) =
 pub by_prepared : (run : Run) (command : Command) (bytes : List ℕ) (p : Prepared) (st : Status) → Taken run command bytes → Prepares command bytes p → Finishes run.outputs p st → EndsBy run st
 by_prepared run command bytes (prepared.Report report) st taken on ends = by_report run (defined_report report) st (reports_by run command (defined_report report) taken.0 (bytes, taken.1, on)) ends
 by_prepared run command bytes (prepared.Trace trace) st taken on ends = by_trace run command bytes trace st taken on.0 on.1 on.2 ends
-
-pub can_finish : (command : Command) (bytes : List ℕ) (p : Prepared) → Prepares command bytes p → CanFinish p
-can_finish command bytes (prepared.Report report) on = tt
-can_finish command bytes (prepared.Trace trace) on = on.2.can
 
 -- ---- a trace is written
 

@@ -6,11 +6,11 @@ use std::alloc::{AllocError, Global};
 use std::test::Fail;
 
 /// The first lines of the listing: GBOOT; then GBOOT, GSTEP, GSTOP, GEXIT and the first entries of the table by code byte.
-const FRONT: &[u8] = b"entry >2274\n>2000 2274 228C 22B8 22BA 22AE 22AE 22AE 22AE\n\
-      >2010 22AE 24B0 22AE 22AE 22AE 25F0 25FA 24C0\n";
+const FRONT: &[u8] = b"entry >2274\n>2000 2274 228C 22B8 22BA 26E6 26E6 2762 22AE\n\
+      >2010 22AE 24B0 26A4 22AE 22AE 25F0 25FA 24C0\n";
 
-/// The last line: the end of CTRUE, and CFALSE.
-const END: &[u8] = b">2620 0460 228C 0204 2000 5804 837C 0460 228C\n";
+/// The last line: the end of RAND.
+const END: &[u8] = b">2790 8378 0460 228C\n";
 
 /// Whether `interp` lists the interpreter, over a source whose first call would fail.
 fn is_listed(alloc: Global) -> Result<bool, AllocError> {
