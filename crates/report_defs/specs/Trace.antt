@@ -20,19 +20,14 @@ unfoldable pub step_front : ℕ → GplState → List ℕ
 step_front number s = number_text number ++ (codes " " ++ (state_text s ++ (codes " " ++ read_text (reading s.image s.pc) s.pc)))
 
 -- Profile: of bytes that changed the line shows how many they are, the place of the first, and the new byte there.
-abbrev pub changed_from : List ℕ → List ℕ → ℕ → List ℕ → Option ℕ → List ℕ
+abbrev pub changed_from : List ℕ → (ℕ → List ℕ) → ℕ → List ℕ → Option ℕ → List ℕ
 changed_from label place count after None = []
 changed_from label place count after (Some at) =
-    label ++ (decimal count ++ (codes " " ++ (place ++ (codes "=" ++ byte_digits (slice_index after at)))))
-
-abbrev pub place_of : (ℕ → List ℕ) → Option ℕ → List ℕ
-place_of place None = []
-place_of place (Some at) = place at
+    label ++ (decimal count ++ (codes " " ++ (place at ++ (codes "=" ++ byte_digits (slice_index after at)))))
 
 unfoldable pub changed_text : List ℕ → (ℕ → List ℕ) → List ℕ → List ℕ → List ℕ
 changed_text label place before after =
-    let first = first_difference before after in
-    changed_from label (place_of place first) (count_differences before after) after first
+    changed_from label place (count_differences before after) after (first_difference before after)
 
 -- Profile: visible cells are shown by their addresses, as those of video memory are, and registers by their digits.
 abbrev pub cell_place : ℕ → List ℕ
@@ -50,6 +45,7 @@ pub record SeenState : Type 0 where
 abbrev pub seen_state : GplState → SeenState
 seen_state s = record { cells = s.cells; vdp = s.vdp; registers = s.registers }
 
+-- what differs of the cells, the video memory and the video registers
 unfoldable pub changes_text : SeenState → SeenState → List ℕ
 changes_text before after =
     changed_text (codes " C") cell_place before.cells after.cells
