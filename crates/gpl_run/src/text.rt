@@ -4,7 +4,7 @@ ghost use Rattle.std.specs.Prelude.{◌≡◌, ◌++◌, ◌∷◌, [], map, IfO
 ghost use Rattle.std.specs.List.{flat_map};
 ghost use Rattle.native_interp.specs.Source.{source};
 
-use native_interp::{FLOW_LINES, OPERATION_LINES, ROUTINE_LINES};
+use native_interp::{COPY_LINES, FLOW_LINES, OPERATION_LINES, ROUTINE_LINES};
 use std::alloc::{AllocError, Global};
 
 /// The text of the interpreter's source: each of its lines with a line feed.
@@ -15,6 +15,7 @@ pub(crate) fn interpreter_text(alloc: Global) -> Result<Vec<u8>, AllocError>
     append_lines(&mut text, &ROUTINE_LINES)?;
     append_lines(&mut text, &OPERATION_LINES)?;
     append_lines(&mut text, &FLOW_LINES)?;
+    append_lines(&mut text, &COPY_LINES)?;
     Ok(text)
 }
 

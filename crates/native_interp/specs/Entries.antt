@@ -22,7 +22,7 @@ use Rattle.std.specs.Prelude.{
   None,
 }
 use Rattle.gpl_defs.specs.declared.instruction.PlainOp.TheVariants.{RTN, RTNC, H, GT, EXIT, CARRY, OVF}
-use Rattle.gpl_defs.specs.declared.instruction.ByteOp.TheVariants.{RAND}
+use Rattle.gpl_defs.specs.declared.instruction.ByteOp.TheVariants.{RAND, BACK, ALL}
 use Rattle.gpl_defs.specs.declared.instruction.GoOp.TheVariants.{B, CALL}
 use Rattle.gpl_defs.specs.declared.instruction.OneName.TheVariants.{
   ABS,
@@ -60,9 +60,9 @@ use Rattle.gpl_defs.specs.declared.instruction.TwoName.TheVariants.{
   SRC,
 }
 use Rattle.gpl_defs.specs.declared.instruction.GplOperation.{GplOperation}
-use Rattle.gpl_defs.specs.declared.instruction.GplOperation.TheVariants.{Plain, Byte, Jump, Branch, One, Two}
+use Rattle.gpl_defs.specs.declared.instruction.GplOperation.TheVariants.{Plain, Byte, Jump, Branch, One, Two, Move}
 use Rattle.gpl_defs.specs.Codes.{operation_at}
-use Rattle.step_defs.specs.Built.{is_built_operation}
+use Rattle.std.specs.Option.{is_some}
 use Rattle.native_interp.specs.declared.addresses.TheConstants.{
   GBOOT,
   GSTEP,
@@ -112,6 +112,9 @@ use Rattle.native_interp.specs.declared.addresses.TheConstants.{
   GORTN,
   FETCHV,
   GORAND,
+  GOMOVE,
+  GOALL,
+  GOBACK,
 }
 use Rattle.native_interp.specs.Words.{origin, routines, words, word_at}
 
@@ -128,7 +131,7 @@ abbrev pub RoutinesStand : Type 0
 RoutinesStand = follow origin routines ≡ true
 
 -- Where the instruction of an operation begins: its own place, or that of the operands of all rows, where MUL and DIV have a
--- wider destination. What is not built stops as a code byte does that is no instruction's.
+-- wider destination. A code byte that is no instruction's stops.
 abbrev pub operation_entry : Option GplOperation → ℕ
 operation_entry (Some (Plain RTN)) = GORTN
 operation_entry (Some (Plain RTNC)) = GORTN
@@ -138,6 +141,8 @@ operation_entry (Some (Plain EXIT)) = GOEXIT
 operation_entry (Some (Plain CARRY)) = GOCARY
 operation_entry (Some (Plain OVF)) = GOOVF
 operation_entry (Some (Byte RAND)) = GORAND
+operation_entry (Some (Byte BACK)) = GOBACK
+operation_entry (Some (Byte ALL)) = GOALL
 operation_entry (Some (Jump B)) = GOB
 operation_entry (Some (Jump CALL)) = GOCALL
 operation_entry (Some (Branch on)) = BRANCH
@@ -145,7 +150,8 @@ operation_entry (Some (One op)) = ROW
 operation_entry (Some (Two MUL)) = WIDE
 operation_entry (Some (Two DIV)) = WIDE
 operation_entry (Some (Two op)) = ROW
-operation_entry _ = UNKN
+operation_entry (Some (Move kind)) = GOMOVE
+operation_entry None = UNKN
 
 -- Where the row of an operation begins, once its operands are there. INC and DEC are the sum and the difference with 1.
 abbrev pub row_entry : Option GplOperation → ℕ
@@ -182,16 +188,10 @@ row_entry (Some (Two SRL)) = SRLV
 row_entry (Some (Two SRC)) = SRCV
 row_entry _ = UNKN
 
--- a code byte of an operation that is built
-abbrev pub is_built_code : Option GplOperation → Bool
-is_built_code None = false
-is_built_code (Some operation) = is_built_operation operation
-
--- The first table has a word for each code byte. The others than those of operations that are built lead to the stop, and
--- they alone.
+-- The first table has a word for each code byte. Those that are no instruction's lead to the stop, and they alone.
 pub record CodesAreDispatched : Type 0 where
   pub entries : (code : ℕ) → code < 256 → word_at (TABLE + 2 * code) ≡ operation_entry (operation_at code)
-  pub stops : (code : ℕ) → code < 256 → nat_eq (operation_entry (operation_at code)) UNKN ≡ not (is_built_code (operation_at code))
+  pub stops : (code : ℕ) → code < 256 → nat_eq (operation_entry (operation_at code)) UNKN ≡ not (is_some (operation_at code))
 
 -- The second has one for two code bytes, from >80 to >EB. It is read at either: a word's address loses its lowest bit. So
 -- an odd code that is no operation's, such as the one behind FETCH, has the word of the code before it.

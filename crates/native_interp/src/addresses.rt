@@ -323,3 +323,60 @@ pub const GORAND: u16 = 0x2762;
 
 /// The part of RAND behind the seed: the limit.
 pub const RANDL: u16 = 0x2780;
+
+/// The instruction MOVE.
+pub const GOMOVE: u16 = 0x2796;
+
+/// Loads the length of MOVE.
+pub const MOVEN: u16 = 0x27AA;
+
+/// The part of MOVE behind its length: the target.
+pub const MOVEL: u16 = 0x27AE;
+
+/// The part of MOVE behind its target: the source.
+pub const MOVED: u16 = 0x27C2;
+
+/// Begins the copy of MOVE.
+pub const MOVEB: u16 = 0x27D0;
+
+/// Copies a byte of MOVE, or ends the copy.
+pub const COPY: u16 = 0x27D4;
+
+/// Stores a byte of MOVE.
+pub const COPYS: u16 = 0x27DC;
+
+/// Goes on to the next byte of MOVE.
+pub const COPYN: u16 = 0x27E2;
+
+/// The part of MOVE whose target is the registers of the video chip.
+pub const MOVER: u16 = 0x27F8;
+
+/// The part of MOVE whose source is in GROM.
+pub const MOVES: u16 = 0x280E;
+
+/// Adds the index to that source's address.
+pub const MOVEA: u16 = 0x2816;
+
+/// Asks for the address behind MOVE.
+pub const MOVEX: u16 = 0x2826;
+
+/// Keeps that address, and sets the GROM to the source.
+pub const MOVEW: u16 = 0x282A;
+
+/// Turns to the bytes that follow there.
+pub const MOVEK: u16 = 0x2832;
+
+/// Stops by reason 4.
+pub const LONG: u16 = 0x2838;
+
+/// Stops by reason 5.
+pub const NOREG: u16 = 0x2840;
+
+/// The instruction ALL.
+pub const GOALL: u16 = 0x2848;
+
+/// Stores a byte of ALL, or ends the step.
+pub const FILL: u16 = 0x285E;
+
+/// The instruction BACK.
+pub const GOBACK: u16 = 0x286A;

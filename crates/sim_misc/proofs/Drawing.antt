@@ -22,7 +22,7 @@ use Rattle.sim_view.proofs.Compose.{Goes, comes, comes_then}
 use Rattle.sim_operands.specs.Pieces.{past}
 use Rattle.sim_rows.specs.States.{Sees, Dispatched, behind_code, operation_in}
 use Rattle.sim_rows.proofs.Beginning.{just, from}
-use Rattle.sim_rows.proofs.Steps.{step_random, bound_made}
+use Rattle.sim_rows.proofs.Steps.{step_byte, bound_made}
 use Rattle.sim_rows.proofs.Ends.{matches, reaches, turned_by}
 use Rattle.sim_misc.specs.Pieces as pieces
 use Rattle.sim_misc.proofs.Numbers.{seed_is}
@@ -56,7 +56,7 @@ pub draws : (s : GplState) (x a y : MachineState) (t u v : ℕ) → Dispatched s
 draws s x a y t u v d is stands first second =
     let c1 = comes first (just (pieces.draw_seed (view x)) 9 0x2780 (omega arith) refl) in
     let c2 = comes_then 9 8 c1 second (from pieces.draw_number c1.holds (drawn_goes s (view x) d)) refl in
-    let step_is = step_random s is in
+    let step_is = step_byte s RAND is in
     let b = bound_made s (next s) (Some (Byte RAND)) is step_is in
     turned_by x y t v 29 Stepped s (Ok (next s)) step_is
     (refl, reaches 29 (bound s) c2 (ap is_end stands.pc) refl (omega arith), matches (next s) y c2.stands c2.holds)

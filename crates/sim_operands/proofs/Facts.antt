@@ -17,7 +17,7 @@ down byte less h k = omega arith
 -- a visible cell at an address
 pub spot_cell : (address offset : ℕ) → address ≡ 0x8300 + offset → offset < 194 → spot address ≡ Cell offset
 spot_cell address offset e h =
-    rw (lt-leb 0x83E0 address (omega arith), le-leb 0x2000 address (omega arith), le-ltb address 0x2796 (omega arith), le-leb 0x8300 address (omega arith), lt-ltb address 0x83C2 (omega arith), spot) (ap Cell (omega arith))
+    rw (lt-leb 0x83E0 address (omega arith), le-leb 0x2000 address (omega arith), le-ltb address 0x287E (omega arith), le-leb 0x8300 address (omega arith), lt-ltb address 0x83C2 (omega arith), spot) (ap Cell (omega arith))
 
 -- what is above a limit is not the limit
 pub not_limit : (limit number : ℕ) → nat_lt limit number ≡ true → (number == limit) ≡ false

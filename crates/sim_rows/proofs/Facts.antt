@@ -9,9 +9,9 @@ use Rattle.console_defs.specs.declared.instruction.ShiftOp.TheVariants.{SRL}
 use Rattle.sim_view.proofs.Seen.{spot, Code}
 
 -- a word of the interpreter at an address
-pub spot_code : (address number : ℕ) → address ≡ 0x2000 + 2 * number → number < 971 → spot address ≡ Code number
+pub spot_code : (address number : ℕ) → address ≡ 0x2000 + 2 * number → number < 1087 → spot address ≡ Code number
 spot_code address number e h =
-    rw (lt-leb 0x83E0 address (omega arith), le-leb 0x2000 address (omega arith), lt-ltb address 0x2796 (omega arith), eq-eqb (address % 2) 0 (omega arith), spot) (ap Code (omega arith))
+    rw (lt-leb 0x83E0 address (omega arith), le-leb 0x2000 address (omega arith), lt-ltb address 0x287E (omega arith), eq-eqb (address % 2) 0 (omega arith), spot) (ap Code (omega arith))
 
 -- the first table's word for a code byte
 pub spot_table : (code : ℕ) → code < 256 → spot (even (plus 0x2008 ((code + code) % 65536))) ≡ Code (4 + code)

@@ -7,26 +7,30 @@ use Rattle.console_defs.specs.Bytes.{word_in}
 use Rattle.gpl_defs.specs.declared.instruction.GplOperand.{GplOperand}
 use Rattle.source_defs.specs.Refusals.{◌>>=◌}
 use Rattle.gpl_defs.specs.declared.instruction.PlainOp.{PlainOp}
-use Rattle.gpl_defs.specs.declared.instruction.ByteOp.TheVariants.{RAND}
+use Rattle.gpl_defs.specs.declared.instruction.ByteOp.{ByteOp}
 use Rattle.gpl_defs.specs.declared.instruction.GoOp.{GoOp}
 use Rattle.gpl_defs.specs.declared.instruction.TwoName.{TwoName}
 use Rattle.gpl_defs.specs.declared.instruction.OneName.{OneName}
 use Rattle.console_defs.specs.Flags.{size_of}
 use Rattle.gpl_defs.specs.declared.instruction.GplInstr.{GplInstr}
+use Rattle.gpl_defs.specs.declared.instruction.MoveKind.{MoveKind}
+use Rattle.gpl_defs.specs.declared.instruction.MoveLength.{MoveLength}
+use Rattle.gpl_defs.specs.declared.instruction.MoveTarget.{MoveTarget}
+use Rattle.gpl_defs.specs.declared.instruction.MoveSource.{MoveSource}
 use Rattle.gpl_defs.specs.declared.instruction.GplOperation.{GplOperation}
 use Rattle.gpl_defs.specs.declared.instruction.GplOperation.TheVariants as operation
 use Rattle.gpl_defs.specs.declared.instruction.GplRead.{GplRead}
 use Rattle.gpl_defs.specs.Codes.{operation_at}
-use Rattle.gpl_defs.specs.Reading.{reading, read_by, instr_at, word_at, operand_at}
+use Rattle.gpl_defs.specs.Reading.{reading, read_by, word_at, operand_at, length_at, target_at, from_at}
 use Rattle.step_defs.specs.declared.reason.Reason.{Reason}
 use Rattle.step_defs.specs.declared.reason.Reason.TheVariants.{Opcode, Cell}
 use Rattle.step_defs.specs.State.{GplState}
 use Rattle.step_defs.specs.Place.{Place, place_of, value_at, pointed, indexed, ranged, is_visible}
 use Rattle.step_defs.specs.Changes.{Changes, unchanged, finished}
 use Rattle.step_defs.specs.Arithmetic.{Source, two}
-use Rattle.step_defs.specs.Built.{is_built, is_built_operation}
-use Rattle.step_defs.specs.Flow.{in_grom_of, branched, drawn}
-use Rattle.step_defs.specs.Step.{step, executed, after, plain, jump, one, source_of, destination_size}
+use Rattle.step_defs.specs.Copy.{moved}
+use Rattle.step_defs.specs.Flow.{in_grom_of, branched}
+use Rattle.step_defs.specs.Step.{step, executed, after, plain, with_immediate, jump, one, source_of, destination_size}
 use Rattle.sim_rows.specs.States.{code_byte, behind_code, operation_in}
 use Rattle.sim_rows.specs.Rows.{is_row, row_width, has_source, behind_first, source_read, next_of, gone_on, bytes_by, destination_bytes, first_of, unit}
 use Rattle.sim_rows.specs.Rows.{second_by, second_of, operands_of}
@@ -51,26 +55,8 @@ step_is s o e =
     let read : Option GplOperation → GplRead = λ o. read_by o (code_byte s) s.image (behind_code s) in
     ap run (reading_is s ∙ ap read e)
 
--- an operation that is not built is no instruction that is
-unbuilt : (op : GplOperation) (code : ℕ) (image : List ℕ) (at : ℕ) → is_built_operation op ≡ false → is_built (instr_at op code image at).0 ≡ false
-unbuilt (operation.Plain op) code image at e = e
-unbuilt (operation.Byte op) code image at e = e
-unbuilt (operation.Jump op) code image at e = e
-unbuilt (operation.Branch on) code image at e = e
-unbuilt (operation.One op) code image at e = e
-unbuilt (operation.Two op) code image at e = e
-unbuilt (operation.Move kind) code image at e = refl
-
 pub step_none : (s : GplState) → operation_at (code_byte s) ≡ None → step s ≡ Err Opcode
 step_none s e = step_is s None e
-
-abbrev where_built : Bool → GplState → GplInstr → ℕ → Result GplState Reason
-where_built built s instr next = if built then after instr next s else Err Opcode
-
-pub step_unbuilt : (s : GplState) (op : GplOperation) → operation_at (code_byte s) ≡ Some op → is_built_operation op ≡ false → step s ≡ Err Opcode
-step_unbuilt s op e u =
-    let instr = instr_at op (code_byte s) s.image (behind_code s) in
-    step_is s (Some op) e ∙ ap (λ (b : Bool). where_built b s instr.0 instr.1) (unbuilt op (code_byte s) s.image (behind_code s) u)
 
 -- ---- what is not a row
 
@@ -80,11 +66,26 @@ pub step_plain : (s : GplState) (op : PlainOp) → operation_in s ≡ Some (oper
 unfolding after
 step_plain s op e = step_is s (Some (operation.Plain op)) e
 
--- RAND, by its limit
-pub step_random : (s : GplState) → operation_in s ≡ Some (operation.Byte RAND) →
-    step s ≡ Ok (finished (drawn (slice_index s.image (behind_code s)) (unchanged (record s { pc = next_in_grom (behind_code s) }))))
+-- RAND, BACK and ALL, by their byte
+pub step_byte : (s : GplState) (op : ByteOp) → operation_in s ≡ Some (operation.Byte op) →
+    step s ≡ Ok (finished (with_immediate op (slice_index s.image (behind_code s)) (unchanged (record s { pc = next_in_grom (behind_code s) }))))
 unfolding after
-step_random s e = step_is s (Some (operation.Byte RAND)) e
+step_byte s op e = step_is s (Some (operation.Byte op)) e
+
+-- MOVE, by its length, its target and its source
+abbrev pub move_length : GplState → MoveLength × ℕ
+move_length s = length_at (code_byte s % 2 == 1) s.image (behind_code s)
+
+abbrev pub move_target : MoveKind → GplState → MoveTarget × ℕ
+move_target kind s = target_at kind s.image (move_length s).1
+
+abbrev pub move_source : MoveKind → GplState → MoveSource × ℕ
+move_source kind s = from_at kind s.image (move_target kind s).1
+
+pub step_move : (s : GplState) (kind : MoveKind) → operation_in s ≡ Some (operation.Move kind) →
+    step s ≡ (moved (move_length s).0 (move_target kind s).0 (move_source kind s).0 (unchanged (record s { pc = (move_source kind s).1 })) >>= λ (c : Changes). Ok (finished c))
+unfolding after
+step_move s kind e = step_is s (Some (operation.Move kind)) e
 
 -- B and CALL, by the address that follows
 pub step_jump : (s : GplState) (op : GoOp) → operation_in s ≡ Some (operation.Jump op) →

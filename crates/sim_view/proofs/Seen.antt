@@ -40,7 +40,7 @@ spot a =
     elim (nat_le 0x83E0 a && nat_lt a 0x8400) [
       | true ↦ elim (eqb (a % 2) 0) [ true ↦ Reg ((a - 0x83E0) / 2) | false ↦ Unknown ]
       | false ↦
-          elim (nat_le 0x2000 a && nat_lt a 0x2796) [
+          elim (nat_le 0x2000 a && nat_lt a 0x287E) [
             | true ↦ elim (eqb (a % 2) 0) [ true ↦ Code ((a - 0x2000) / 2) | false ↦ Unknown ]
             | false ↦
                 elim (nat_le 0x8300 a && nat_lt a 0x83C2) [

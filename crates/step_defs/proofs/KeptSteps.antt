@@ -37,7 +37,6 @@ use Rattle.step_defs.specs.Changes.{Changes, unchanged, shown, finished}
 use Rattle.step_defs.specs.Flow.{in_grom_of}
 use Rattle.step_defs.specs.Copy.{From, FromMemory, FromGrom, To, ToMemory, ToRegisters, byte_from, next_from, with_byte_to, next_to, copied, length_of}
 use Rattle.step_defs.specs.Copy.{within_limit, target_of, origin_of, moved}
-use Rattle.step_defs.specs.Built.{is_built}
 use Rattle.step_defs.specs.Step.{word_or_byte, destination_size, source_of, changes_of, after, executed, step}
 use Rattle.step_defs.proofs.Kept.{Kept, set_keeps, byte_fits, value_fits, with_byte_keeps, with_register_keeps}
 use Rattle.step_defs.proofs.KeptRows.{then_if_ok, plain_keeps, immediate_keeps, jump_keeps, branched_keeps, one_keeps, two_keeps}
@@ -212,11 +211,7 @@ after_keeps instr next s fits lt h =
 
 executed_keeps : (read : GplRead) (s : GplState) → ReadFits read → IsState s → IfOk (executed read s) IsState
 executed_keeps (Refused code) s fits h = tt
-executed_keeps (Instr instr next) s fits h = by (is_built instr)
-  where
-    by : (b : Bool) → IfOk (cond b (after instr next s) (Err Rattle.step_defs.specs.declared.reason.Reason.TheVariants.Opcode)) IsState
-    by true = after_keeps instr next s fits.0 fits.1 h
-    by false = tt
+executed_keeps (Instr instr next) s fits h = after_keeps instr next s fits.0 fits.1 h
 
 step_keeps : (s : GplState) → IsState s → IfOk (step s) IsState
 step_keeps s h = executed_keeps (reading s.image s.pc) s (reading_fits s.image h.image.fits s.pc h.pc) h

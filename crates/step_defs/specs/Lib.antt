@@ -5,7 +5,6 @@ pub mod Changes
 pub mod Arithmetic
 pub mod Flow
 pub mod Copy
-pub mod Built
 pub mod Step
 pub mod Run
 pub mod Laws

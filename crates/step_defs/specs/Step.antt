@@ -49,7 +49,6 @@ use Rattle.step_defs.specs.Changes.{finished}
 use Rattle.step_defs.specs.Arithmetic.{Source, added, subtracted, negated, made_absolute, two}
 use Rattle.step_defs.specs.Flow.{in_grom_of, branched, selected, called, returned, pushed, fetched, drawn}
 use Rattle.step_defs.specs.Copy.{moved}
-use Rattle.step_defs.specs.Built.{is_built}
 
 abbrev pub word_or_byte : Bool → Width
 word_or_byte true = Word
@@ -135,7 +134,7 @@ after instr next s = do
 
 abbrev pub executed : GplRead → GplState → Result GplState Reason
 executed (Refused code) s = Err Opcode
-executed (Instr instr next) s = if is_built instr then after instr next s else Err Opcode
+executed (Instr instr next) s = after instr next s
 
 -- The step: the next state, or the reason of the stop.
 abbrev pub step : GplState → Result GplState Reason

@@ -1,7 +1,7 @@
 //! The lines of branches, stacks and RAND.
 
-/// The last lines of the interpreter's source: branches, CASE, the two stacks and RAND.
-pub const FLOW_LINES: [&str; 159] = [
+/// The next lines of the interpreter's source: branches, CASE, the two stacks and RAND.
+pub const FLOW_LINES: [&str; 158] = [
     "* BR, BS: R6 is the target, of the code's low five bits and the",
     "* byte that follows, in the GROM of R1. 10. BTEST: where the",
     "* code's bit >20 and COND are equal to TAKE, else to CFALSE. At",
@@ -160,5 +160,4 @@ pub const FLOW_LINES: [&str; 159] = [
     "       SWPB R10",
     "       MOVB R10,@PAD+>78",
     "       B @GSTEP",
-    "       END GBOOT",
 ];

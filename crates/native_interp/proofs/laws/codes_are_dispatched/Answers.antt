@@ -1,9 +1,10 @@
 use Rattle.std.proofs.Common.{ℕ, ◌+◌, ◌*◌, Bool, true, eqb, refl}
 use Rattle.std.specs.Prelude.{nat_eq, not}
+use Rattle.std.specs.Option.{is_some}
 use Rattle.std.proofs.lemmas.Bool.{agree_below_at, eqb-true}
 use Rattle.gpl_defs.specs.Codes.{operation_at}
 use Rattle.native_interp.specs.declared.addresses.TheConstants.{TABLE, UNKN}
-use Rattle.native_interp.specs.Entries.{operation_entry, is_built_code}
+use Rattle.native_interp.specs.Entries.{operation_entry}
 use Rattle.native_interp.specs.Words.{word_at}
 use Rattle.native_interp.proofs.laws.codes_are_dispatched.Goals as goal
 
@@ -14,7 +15,7 @@ abbrev is_stop : ℕ → Bool
 is_stop v = nat_eq (operation_entry (operation_at v)) UNKN
 
 abbrev is_left_out : ℕ → Bool
-is_left_out v = not (is_built_code (operation_at v))
+is_left_out v = not (is_some (operation_at v))
 
 pub returns : goal.returns
 returns c = record {
