@@ -1,0 +1,13 @@
+use Rattle.std.proofs.Common.{[], ◌∷◌}
+use Rattle.sim_view.specs.View.{view}
+use Rattle.sim_view.proofs.Bridge.{exits}
+use Rattle.sim_move.specs.Pieces as piece
+use Rattle.sim_move.proofs.Paths
+use Rattle.sim_move.proofs.piece.keep_length.Goals as goal
+
+pub returns : goal.returns
+returns g c =
+    let x = c.args.machine.now in
+    let v = view x in
+    exits (0x22EC ∷ 0x27F8 ∷ []) 0x27AE x c.run_piece.new.machine c.args.steps.now c.run_piece.new.steps (piece.keep_length v) c.requires (Paths.keep_length v)
+    c.run_piece.ensures.left c.run_piece.ensures.count c.run_piece.ensures.bounds

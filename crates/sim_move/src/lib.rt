@@ -1,0 +1,9 @@
+//! MOVE up to its copy, run on the machine: the length, the target and the source, each with its checks.
+#![tactic(auto)]
+
+mod piece;
+
+pub use piece::{
+    ask_index, ask_length, ask_next, ask_source, count_registers, keep_length, keep_target,
+    load_length, seek_source, turn_to_grom,
+};
