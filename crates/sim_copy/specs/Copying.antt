@@ -1,0 +1,55 @@
+-- The copy of MOVE, for all sources, targets and numbers of bytes that may be there.
+use Rattle.std.specs.Prelude.{◌≡◌, ℕ, ◌+◌, ◌*◌, None}
+use Rattle.console_defs.specs.Machine.{MachineState}
+use Rattle.step_defs.specs.Place.{Place}
+use Rattle.step_defs.specs.Changes.{Changes}
+use Rattle.step_defs.specs.Copy.{From, FromMemory, FromGrom, To, ToMemory, ToRegisters, copied}
+use Rattle.native_interp.specs.declared.addresses.TheConstants.{GSTEP}
+use Rattle.sim_view.specs.View.{View, view}
+use Rattle.sim_view.specs.Exits.{Comes}
+use Rattle.sim_operands.specs.Subroutines.{grom_at, marked_by}
+use Rattle.sim_rows.specs.Rows.{LoadsFrom, StoresTo}
+use Rattle.sim_rows.specs.Results.{SeesFinished}
+
+-- A source in memory: its place is in registers 2 and 5, and GROM gives the byte of the next instruction.
+pub record InMemory (c : Changes) (place : Place) (w : View) : Type 0 where
+  pub loads_from : LoadsFrom place w
+  pub grom : w.grom ≡ grom_at c.state.image c.state.pc
+
+-- A source in GROM, which gives its byte next: register 5 says so, and register 14 has the address of the next instruction.
+pub record InGrom (c : Changes) (address : ℕ) (w : View) : Type 0 where
+  pub space : w.r.r5 ≡ 2
+  pub grom : w.grom ≡ grom_at c.state.image address
+  pub back : w.r.r14 ≡ c.state.pc
+
+abbrev pub StandsFrom : Changes → From → View → Type 0
+StandsFrom c (FromMemory place) w = InMemory c place w
+StandsFrom c (FromGrom address) w = InGrom c address w
+
+-- A target among the registers of the video processor: its number is in register 7, and register 8 says so.
+pub record StoresToRegister (number : ℕ) (w : View) : Type 0 where
+  pub number_is : w.r.r7 ≡ number
+  pub space : w.r.r8 ≡ 2
+
+-- A target in memory: its place is in registers 7 and 8.
+abbrev pub StandsTo : To → View → Type 0
+StandsTo (ToMemory place) w = StoresTo place w
+StandsTo (ToRegisters number) w = StoresToRegister number w
+
+-- Where a copy stands: the changes so far are seen, both ports are idle, register 13 is a mark where a byte was stored at the
+-- character's cell, and register 12 has the number of bytes that are left.
+pub record Copying (c : Changes) (from : From) (to : To) (bytes : ℕ) (w : View) : Type 0 where
+  pub cells : w.cells ≡ c.state.cells
+  pub vdp : w.vdp.memory ≡ c.state.vdp
+  pub registers : w.vdp.registers ≡ c.state.registers
+  pub held : w.vdp.held ≡ None
+  pub mark : w.r.r13 ≡ marked_by c.shows 0
+  pub stands_from : StandsFrom c from w
+  pub stands_to : StandsTo to w
+  pub left : w.r.r12 ≡ bytes
+
+-- All bytes are copied, and the step ends.
+abbrev pub CopiesBytes : MachineState → MachineState → ℕ → ℕ → Type 0
+CopiesBytes x y before after =
+    (c : Changes) → (from : From) → (to : To) → (bytes : ℕ) → Copying c from to bytes (view x)
+    → Comes (42 * bytes + 42) x y before after GSTEP (SeesFinished (copied bytes from to c))
