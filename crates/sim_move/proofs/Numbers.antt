@@ -1,10 +1,11 @@
 -- Facts about numbers that MOVE needs.
-use Rattle.std.proofs.Common.{◌≡◌, ℕ, ◌+◌, ◌/◌, ◌%◌, ◌<◌, ◌≤◌, Bool, true, false, refl, arith, eqb}
+use Rattle.std.proofs.Common.{◌≡◌, ℕ, ◌+◌, ◌*◌, ◌/◌, ◌%◌, ◌<◌, ◌≤◌, Bool, true, false, refl, ap, arith, eqb}
 use Rattle.std.specs.Prelude.{◌==◌, ◌||◌, ◌&&◌, not, nat_lt}
 use Rattle.std.proofs.lemmas.Bool.{lt-ltb, le-ltb, ltb-true, ltb-false, ne_eqb, eq-eqb}
 use Rattle.console_defs.specs.Words.{low, join}
-use Rattle.console_defs.specs.Shifts.{shifted}
+use Rattle.console_defs.specs.Shifts.{shifted, last_out}
 use Rattle.console_defs.specs.declared.instruction.ShiftOp.TheVariants.{SRL}
+use Rattle.sim_move.specs.Pieces.{form_of}
 
 -- a byte that was read over a cleared register comes down
 pub byte_down : (byte : ℕ) → byte < 256 → shifted SRL (join byte 0) 8 ≡ byte
@@ -18,3 +19,23 @@ below_or_equal limit number false c = by (nat_lt limit number) refl
     by : (b : Bool) → nat_lt limit number ≡ b → (b || number == limit) ≡ true
     by true d = refl
     by false d = let l : limit ≤ number = ltb-false number limit c in let m : number ≤ limit = ltb-false limit number d in rw (eq-eqb number limit (omega arith)) refl
+
+-- the lowest bit of a code byte
+pub odd_bit : (code : ℕ) → last_out SRL code 1 ≡ (code % 2 == 1)
+odd_bit code = let n : (65536 * 0 + code) / 1 % 2 ≡ code % 2 = omega arith in ap (λ (k : ℕ). eqb k 1) n
+
+-- the form of a place in video memory, as INDEX takes it from an operand's first byte, with an index where a code byte says so
+abbrev pub form_by : ℕ → ℕ
+form_by code = 32 + 64 * (code / 2 % 2)
+
+pub form_is : (code : ℕ) → code < 256 → form_of code ≡ form_by code / 32
+form_is code h = omega arith
+
+pub form_fits : (code : ℕ) → form_by code < 256
+form_fits code = omega arith
+
+pub form_index : (code : ℕ) → (form_by code / 64 % 2 == 1) ≡ (code / 2 % 2 == 1)
+form_index code = let n : form_by code / 64 % 2 ≡ code / 2 % 2 = omega arith in ap (λ (k : ℕ). eqb k 1) n
+
+pub form_space : (code : ℕ) → (form_by code / 32 % 2 == 1) ≡ true
+form_space code = let n : form_by code / 32 % 2 ≡ 1 = omega arith in ap (λ (k : ℕ). eqb k 1) n

@@ -1,0 +1,144 @@
+-- The parts of MOVE up to its copy, for all states that may be there.
+use Rattle.std.specs.Prelude.{◌≡◌, ◌<◌, ℕ, ◌/◌, ◌%◌, ◌==◌, List, Some, Result, Ok, Err}
+use Rattle.console_defs.specs.Flags.{Word}
+use Rattle.console_defs.specs.Machine.{MachineState}
+use Rattle.source_defs.specs.Refusals.{◌>>=◌}
+use Rattle.gpl_defs.specs.declared.instruction.MoveKind.{MoveKind}
+use Rattle.gpl_defs.specs.declared.instruction.MoveKind.TheVariants.{MemoryToMemory}
+use Rattle.gpl_defs.specs.declared.instruction.MoveLength.{MoveLength}
+use Rattle.gpl_defs.specs.declared.instruction.MoveTarget.{MoveTarget}
+use Rattle.gpl_defs.specs.declared.instruction.MoveSource.{MoveSource}
+use Rattle.gpl_defs.specs.declared.instruction.GplOperation.TheVariants.{Move}
+use Rattle.gpl_defs.specs.Reading.{word_at, index_by, length_at, target_at, from_at}
+use Rattle.step_defs.specs.declared.reason.Reason.{Reason}
+use Rattle.step_defs.specs.State.{GplState}
+use Rattle.step_defs.specs.Place.{Place, value_at, indexed}
+use Rattle.step_defs.specs.Changes.{Changes, unchanged}
+use Rattle.step_defs.specs.Copy.{From, To, length_of, within_limit, target_of, origin_of}
+use Rattle.native_interp.specs.declared.addresses.TheConstants.{GSTOP, ADDR, MOVEL, MOVEB, MOVES, MOVEX}
+use Rattle.sim_view.specs.View.{View, view}
+use Rattle.sim_view.specs.Exits.{Comes}
+use Rattle.sim_operands.specs.Subroutines.{grom_at}
+use Rattle.sim_rows.specs.States.{StoppedBy, code_byte, operation_in, behind_code}
+use Rattle.sim_rows.specs.Rows.{Holds, LoadsFrom}
+use Rattle.sim_copy.specs.Copying.{StandsTo, Copying}
+
+-- What the bytes behind the code byte say, each part with the address behind it.
+abbrev pub length_read : GplState → MoveLength × ℕ
+length_read s = length_at (code_byte s % 2 == 1) s.image (behind_code s)
+
+abbrev pub target_read : MoveKind → GplState → MoveTarget × ℕ
+target_read kind s = target_at kind s.image (length_read s).1
+
+abbrev pub source_read : MoveKind → GplState → MoveSource × ℕ
+source_read kind s = from_at kind s.image (target_read kind s).1
+
+-- the changes of MOVE before the first byte: the next instruction is the one behind
+abbrev pub begun : MoveKind → GplState → Changes
+begun kind s = unchanged (record s { pc = (source_read kind s).1 })
+
+-- The machine arrives at an address with what a definition gives, or stops by its reason.
+abbrev pub Arrives : {X : Type 0} → ℕ → GplState → MachineState → MachineState → ℕ → ℕ → ℕ → (X → View → Type 0) → Result X Reason → Type 0
+Arrives most s x y before after to Shows (Ok found) = Comes most x y before after to (Shows found)
+Arrives most s x y before after to Shows (Err reason) = Comes most x y before after GSTOP (StoppedBy s reason)
+
+-- At MOVEL the length is in register 6.
+pub record LengthTold (s : GplState) (next count : ℕ) (w : View) : Type 0 where
+  pub holds : Holds s 2 next w
+  pub count_is : w.r.r6 ≡ count
+
+-- At MOVEN the length follows in GROM, or its place is in registers 2 and 5.
+pub record Follows (s : GplState) (w : View) : Type 0 where
+  pub holds : Holds s 2 (behind_code s) w
+  pub space : w.r.r5 ≡ 2
+
+pub record AtPlace (s : GplState) (place : Place) (next : ℕ) (w : View) : Type 0 where
+  pub holds : Holds s 2 next w
+  pub from : LoadsFrom place w
+
+abbrev pub LoadsFollowing : MachineState → MachineState → ℕ → ℕ → Type 0
+LoadsFollowing x y before after =
+    (s : GplState) → Follows s (view x)
+    → (let count = word_at s.image (behind_code s) in Comes 18 x y before after MOVEL (LengthTold s count.1 count.0))
+
+abbrev pub LoadsPlaced : MachineState → MachineState → ℕ → ℕ → Type 0
+LoadsPlaced x y before after =
+    (s : GplState) → (place : Place) → (next : ℕ) → AtPlace s place next (view x)
+    → Comes 18 x y before after MOVEL (LengthTold s next (value_at s Word place))
+
+abbrev pub FindsLength : GplState → MachineState → MachineState → ℕ → ℕ → Type 0
+FindsLength s x y before after =
+    Arrives 70 s x y before after MOVEL (LengthTold s (length_read s).1) (length_of s (length_read s).0)
+
+-- Where the source begins: a source in memory at ADDR, one in GROM at MOVES.
+abbrev pub source_entry : MoveKind → ℕ
+source_entry MemoryToMemory = ADDR
+source_entry _ = MOVES
+
+abbrev pub ReturnsToCopy : MoveKind → View → Type 0
+ReturnsToCopy MemoryToMemory w = w.r.r11 ≡ MOVEB
+ReturnsToCopy _ w = Unit {0}
+
+-- There the length is in registers 3 and 12, and the target is in registers 7 and 8.
+pub record TargetTold (s : GplState) (kind : MoveKind) (next : ℕ) (found : ℕ × To) (w : View) : Type 0 where
+  pub holds : Holds s found.0 next w
+  pub left : w.r.r12 ≡ found.0
+  pub stands_to : StandsTo found.1 w
+  pub link : ReturnsToCopy kind w
+
+-- the length if it is within its limit, and the target if it is there
+abbrev pub target_in : GplState → ℕ → MoveTarget → Result (ℕ × To) Reason
+target_in s count target = do
+  bytes ← within_limit count
+  to ← target_of s bytes target
+  Ok (bytes, to)
+
+abbrev pub FindsTarget : MachineState → MachineState → ℕ → ℕ → Type 0
+FindsTarget x y before after =
+    (s : GplState) → (kind : MoveKind) → (count : ℕ) → code_byte s < 256 → operation_in s ≡ Some (Move kind)
+    → LengthTold s (length_read s).1 count (view x)
+    → Arrives 57 s x y before after (source_entry kind) (TargetTold s kind (target_read kind s).1)
+    (target_in s count (target_read kind s).0)
+
+-- At MOVEX a source's address in GROM, with its index, is in register 2.
+pub record SourceTold (v : View) (image : List ℕ) (next address : ℕ) (w : View) : Type 0 where
+  pub r4 : ℕ
+  pub r6 : ℕ
+  pub is : w ≡ record v { r = record v.r { r2 = address; r3 = 2; r4 = r4; r5 = 1; r6 = r6; r11 = MOVEX }; grom = grom_at image next }
+
+abbrev pub IndexesSource : MachineState → MachineState → ℕ → ℕ → Type 0
+IndexesSource x y before after =
+    (s : GplState) → (bytes next : ℕ) → code_byte s < 256 → Holds s bytes next (view x)
+    → (let address = word_at s.image next in
+    let index = index_by (code_byte s / 2 % 2 == 1) s.image address.1 in
+    Arrives 39 s x y before after MOVEX (SourceTold (view x) s.image index.1) (indexed s index.0 address.0))
+
+-- From MOVEX on the next address is kept in register 14, and GROM gives the byte at the source next.
+pub record TurnedTo (v : View) (image : List ℕ) (at : ℕ) (w : View) : Type 0 where
+  pub r4 : ℕ
+  pub r6 : ℕ
+  pub r11 : ℕ
+  pub is : w ≡ record v { r = record v.r { r4 = r4; r5 = 2; r6 = r6; r11 = r11; r14 = at }; grom = grom_at image v.r.r2 }
+
+abbrev pub TurnsToSource : MachineState → MachineState → ℕ → ℕ → Type 0
+TurnsToSource x y before after =
+    let v = view x in
+    (image : List ℕ) → (at : ℕ) → at < 65536 → v.grom ≡ grom_at image at
+    → Comes 22 x y before after MOVEB (TurnedTo v image at)
+
+-- The length, the target and the source, each with its checks, in the order of their bytes.
+abbrev pub copy_in : MoveKind → GplState → Result ((ℕ × To) × From) Reason
+copy_in kind s = do
+  count ← length_of s (length_read s).0
+  found ← target_in s count (target_read kind s).0
+  from ← origin_of s found.0 (source_read kind s).0
+  Ok (found, from)
+
+-- At MOVEB the copy stands before its first byte.
+abbrev pub Stands : MoveKind → GplState → (ℕ × To) × From → View → Type 0
+Stands kind s found w = Copying (begun kind s) found.1 found.0.1 found.0.0 w
+
+abbrev pub FindsCopy : GplState → MachineState → MachineState → ℕ → ℕ → Type 0
+FindsCopy s x y before after =
+    (kind : MoveKind) → operation_in s ≡ Some (Move kind)
+    → Arrives 190 s x y before after MOVEB (Stands kind s) (copy_in kind s)

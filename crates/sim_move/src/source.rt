@@ -1,0 +1,37 @@
+//! A source in GROM.
+
+ghost use Rattle.native_interp.specs.declared.addresses.TheConstants as address;
+ghost use Rattle.sim_view.specs.View.{Stands};
+ghost use Rattle.sim_move.specs.Moves.{IndexesSource, TurnsToSource};
+
+use crate::piece::{ask_index, ask_next, ask_source, seek_source, turn_to_grom};
+use sim_operands::{add_index, check_range, seek_address, stream_value};
+use sim_rows::where_next;
+use std::sync::ledger::Ledger;
+use tms_step::{Machine, Steps};
+
+/// Reads the address of a source in GROM and adds its index, or stops by reason 2.
+pub(crate) fn index_source<L: Ledger>(machine: &mut Machine, steps: &mut Steps<L>)
+    requires { Stands machine.old address.MOVES }
+    ensures { IndexesSource machine.old machine.new steps.old steps.new }
+{
+    ask_source(machine, steps);
+    stream_value(machine, steps);
+    ask_index(machine, steps);
+    if !add_index(machine, steps) {
+        return;
+    }
+    check_range(machine, steps);
+}
+
+/// Keeps the next address and sets GROM to that of the source.
+pub(crate) fn turn_to_source<L: Ledger>(machine: &mut Machine, steps: &mut Steps<L>)
+    requires { Stands machine.old address.MOVEX }
+    ensures { TurnsToSource machine.old machine.new steps.old steps.new }
+{
+    ask_next(machine, steps);
+    where_next(machine, steps);
+    seek_source(machine, steps);
+    seek_address(machine, steps);
+    turn_to_grom(machine, steps);
+}
