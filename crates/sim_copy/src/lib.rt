@@ -2,6 +2,8 @@
 //! the video processor. It is built of pieces: stretches of at most 16 instructions without a loop.
 #![tactic(auto)]
 
+mod copy;
 mod piece;
 
+pub use copy::copy_bytes;
 pub use piece::{begin_copy, count_byte, next_byte, store_byte};
