@@ -1,9 +1,8 @@
 -- A byte on its way from the source to the target.
-use Rattle.std.proofs.Common.{◌≡◌, ℕ, ◌+◌, ◌<◌, ◌≤◌, Bool, true, false, refl, sym, ap, subst, ◌∙◌, arith, List}
+use Rattle.std.proofs.Common.{◌≡◌, ℕ, ◌<◌, Bool, false, refl, sym, ap, subst, ◌∙◌, arith, List}
 use Rattle.std.specs.Prelude.{◌==◌, not, nat_lt, if◌then◌else◌}
 use Rattle.std.proofs.lemmas.Bool.{ltb-true, ltb-false, ne_eqb}
 use Rattle.console_defs.specs.Words.{high, join}
-use Rattle.console_defs.specs.Flags.{Width, Byte}
 use Rattle.console_defs.specs.Grom.{GromState}
 use Rattle.console_defs.specs.Machine.{MachineState}
 use Rattle.gpl_defs.specs.Reading.{value_at as value_in}
@@ -17,7 +16,7 @@ use Rattle.interp_defs.specs.Match.{PortsAreIdle, IsFetched}
 use Rattle.sim_view.specs.View.{View, view, Stands}
 use Rattle.sim_view.specs.Exits.{Exit, Exits, Comes}
 use Rattle.sim_view.proofs.Places.{pick}
-use Rattle.sim_view.proofs.Compose.{Goes, comes, comes_then, comes_on, comes_as}
+use Rattle.sim_view.proofs.Compose.{comes, comes_then, comes_on, comes_as}
 use Rattle.sim_operands.specs.Pieces.{exit, return_of}
 use Rattle.sim_operands.specs.Values.{width_in, in_register, of_register, IsVisible}
 use Rattle.sim_operands.specs.Subroutines.{grom_at, state_of, next_at, place_in, marked_by, Loaded, streamed, LoadsValue, LoadsStream, Stored, StoresValue, StoresRegister}
@@ -66,6 +65,11 @@ loads a b t u one fetched near far =
     (λ c. subst to (sym c) (comes_as 17 (ReadFrom v (FromMemory place)) (near (ltb-true v.r.r5 2 c)) (omega arith) (λ w l. value_read v w place one l)))
     (λ c. let above : 1 < v.r.r5 = let le = ltb-false v.r.r5 2 c in omega arith in
     subst to (sym c) (comes_as 17 (ReadFrom v (FromGrom (next_at v))) (far above fetched) (omega arith) (λ w l. stream_read v w one l)))
+
+-- GROM stays idle
+pub behind_idle : (from : From) (g : GromState) → g.half_written ≡ false → (grom_behind from g).half_written ≡ false
+behind_idle (FromMemory place) g e = e
+behind_idle (FromGrom address) g e = refl
 
 -- ---- STORE
 
@@ -159,10 +163,6 @@ module _ (x a : MachineState) (t t1 : ℕ) (h : AtCopy x) (some : 0 < (view x).r
 
       seen_d : view d ≡ at_d
       seen_d = e3.shows ∙ ap (λ (u : View). (pieces.store_byte u).left) seen_b
-
-      behind_idle : (from : From) (g : GromState) → g.half_written ≡ false → (grom_behind from g).half_written ≡ false
-      behind_idle (FromMemory place) g e = e
-      behind_idle (FromGrom address) g e = refl
 
       pub idle_storing : PortsAreIdle d.cpu.memory
       idle_storing =
