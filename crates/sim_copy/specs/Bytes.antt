@@ -40,8 +40,8 @@ grom_behind (FromGrom address) grom = grom_at grom.image (next_in_grom address)
 abbrev pub byte_copied : View → Changes
 byte_copied v = with_byte_to (target_in v) (byte_from (source_in v) (state_of v)) (unchanged (state_of v))
 
--- That is changed, and the source, the target and the count have gone on. Registers 4, 6, 9 and 11, and the address of the
--- video processor with the byte there, may have changed.
+-- That is changed, and the source, the target and the count have gone on. Registers 4, 6, 9 and 11, and the address of
+-- the video processor with the byte there, may have changed.
 pub record Counted (v w : View) : Type 0 where
   pub r4 : ℕ
   pub r6 : ℕ

@@ -1,5 +1,5 @@
-//! The copy of MOVE, run on the machine: the bytes go one by one from a source in memory or GROM to memory or the registers of
-//! the video processor. It is built of pieces: stretches of at most 16 instructions without a loop.
+//! The copy of MOVE, run on the machine: the bytes go one by one from a source in memory or GROM to memory or the
+//! registers of the video processor. It is built of pieces: stretches of at most 16 instructions without a loop.
 #![tactic(auto)]
 
 mod copy;
