@@ -16,7 +16,8 @@ pub record InMemory (c : Changes) (place : Place) (w : View) : Type 0 where
   pub loads_from : LoadsFrom place w
   pub grom : w.grom ≡ grom_at c.state.image c.state.pc
 
--- A source in GROM, which gives its byte next: register 5 says so, and register 14 has the address of the next instruction.
+-- A source in GROM, which gives its byte next: register 5 says so, and register 14 has the address of the next
+-- instruction.
 pub record InGrom (c : Changes) (address : ℕ) (w : View) : Type 0 where
   pub space : w.r.r5 ≡ 2
   pub grom : w.grom ≡ grom_at c.state.image address
@@ -36,8 +37,8 @@ abbrev pub StandsTo : To → View → Type 0
 StandsTo (ToMemory place) w = StoresTo place w
 StandsTo (ToRegisters number) w = StoresToRegister number w
 
--- Where a copy stands: the changes so far are seen, both ports are idle, register 13 is a mark where a byte was stored at the
--- character's cell, and register 12 has the number of bytes that are left.
+-- Where a copy stands: the changes so far are seen, both ports are idle, register 13 is a mark where a byte was stored
+-- at the character's cell, and register 12 has the number of bytes that are left.
 pub record Copying (c : Changes) (from : From) (to : To) (bytes : ℕ) (w : View) : Type 0 where
   pub cells : w.cells ≡ c.state.cells
   pub vdp : w.vdp.memory ≡ c.state.vdp

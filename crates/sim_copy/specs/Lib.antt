@@ -1,2 +1,3 @@
 pub mod Pieces
 pub mod Copying
+pub mod Bytes

@@ -1,5 +1,5 @@
--- What the pieces of MOVE's copy come to: how many instructions they have, where they end, and what they change of the view,
--- in the words of the processor. Registers, cells and ports that are not named stay.
+-- What the pieces of MOVE's copy come to: how many instructions they have, where they end, and what they change of the
+-- view, in the words of the processor. Registers, cells and ports that are not named stay.
 use Rattle.std.specs.Prelude.{◌==◌, if◌then◌else◌}
 use Rattle.console_defs.specs.Flags.{Word, sum_of, difference_of}
 use Rattle.native_interp.specs.declared.addresses.TheConstants.{COPY, COPYS, COPYN, LOAD, STORE, SHOW, RESUME}

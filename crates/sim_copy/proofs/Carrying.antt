@@ -1,0 +1,223 @@
+-- A byte on its way from the source to the target.
+use Rattle.std.proofs.Common.{◌≡◌, ℕ, ◌<◌, Bool, false, refl, sym, ap, subst, ◌∙◌, arith, List}
+use Rattle.std.specs.Prelude.{◌==◌, not, nat_lt, if◌then◌else◌}
+use Rattle.std.proofs.lemmas.Bool.{ltb-true, ltb-false, ne_eqb}
+use Rattle.console_defs.specs.Words.{high, join}
+use Rattle.console_defs.specs.Grom.{GromState}
+use Rattle.console_defs.specs.Machine.{MachineState}
+use Rattle.gpl_defs.specs.Reading.{value_at as value_in}
+use Rattle.gpl_defs.specs.declared.instruction.Space.{Space}
+use Rattle.gpl_defs.specs.declared.instruction.Space.TheVariants.{Cpu, Vdp}
+use Rattle.step_defs.specs.State.{GplState}
+use Rattle.step_defs.specs.Place.{Place, value_at}
+use Rattle.step_defs.specs.Changes.{Changes, unchanged, with_value, with_byte_in}
+use Rattle.step_defs.specs.Copy.{From, FromMemory, FromGrom, To, ToMemory, ToRegisters, byte_from, with_byte_to}
+use Rattle.interp_defs.specs.Match.{PortsAreIdle, IsFetched}
+use Rattle.sim_view.specs.View.{View, view, Stands}
+use Rattle.sim_view.specs.Exits.{Exit, Exits, Comes}
+use Rattle.sim_view.proofs.Places.{pick}
+use Rattle.sim_view.proofs.Compose.{comes, comes_then, comes_on, comes_as}
+use Rattle.sim_operands.specs.Pieces.{exit, return_of}
+use Rattle.sim_operands.specs.Values.{width_in, in_register, of_register, IsVisible}
+use Rattle.sim_operands.specs.Subroutines.{grom_at, state_of, next_at, place_in, marked_by, Loaded, streamed, LoadsValue, LoadsStream, Stored, StoresValue, StoresRegister}
+use Rattle.sim_operands.proofs.Ready.{idle_video, idle_grom}
+use Rattle.sim_rows.proofs.Again.{idle_again, fetched_again, idle_told}
+use Rattle.sim_copy.specs.Pieces as pieces
+use Rattle.sim_copy.specs.Bytes.{AtCopy, source_in, target_in, grom_behind, byte_copied, Counted, CopiesByte}
+
+-- ---- LOAD
+
+-- A byte in register 6, and where GROM stands; register 4 and the address of the video processor may have changed.
+pub record Read (v : View) (number : ℕ) (grom : GromState) (w : View) : Type 0 where
+  pub r4 : ℕ
+  pub address : ℕ
+  pub byte : ℕ
+  pub is : w ≡ record v {
+    r = record v.r { r4 = r4; r6 = join number 0 };
+    vdp = record v.vdp { address = address; fetched = byte };
+    grom = grom;
+  }
+
+abbrev pub ReadFrom : View → From → View → Type 0
+ReadFrom v from w = Read v (byte_from from (state_of v)) (grom_behind from v.grom) w
+
+value_read : (v w : View) (place : Place) → v.r.r3 ≡ 1 → Loaded v (value_at (state_of v) (width_in v.r.r3) place) w → ReadFrom v (FromMemory place) w
+value_read v w place one l =
+    let left : ℕ → View = λ n. record v {
+      r = record v.r { r4 = l.r4; r6 = in_register (width_in n) (value_at (state_of v) (width_in n) place) };
+      vdp = record v.vdp { address = l.address; fetched = l.byte };
+    } in
+    record { r4 = l.r4; address = l.address; byte = l.byte; is = l.is ∙ ap left one }
+
+stream_read : (v w : View) → v.r.r3 ≡ 1 → w ≡ streamed v → ReadFrom v (FromGrom (next_at v)) w
+stream_read v w one e =
+    let read : ℕ → ℕ × ℕ = λ n. value_in (not (n == 1)) v.grom.image (next_at v) in
+    let left : ℕ → View = λ n. record v { r = record v.r { r6 = in_register (width_in n) (read n).0 }; grom = grom_at v.grom.image (read n).1 } in
+    record { r4 = v.r.r4; address = v.vdp.address; byte = v.vdp.fetched; is = e ∙ ap left one }
+
+loads : (a b : MachineState) (t u : ℕ) → (view a).r.r3 ≡ 1 → IsFetched a.cpu.memory.grom → ((view a).r.r5 < 2 → LoadsValue a b t u) →
+    (1 < (view a).r.r5 → IsFetched a.cpu.memory.grom → LoadsStream a b t u) → Comes 17 a b t u (return_of (view a)) (ReadFrom (view a) (source_in (view a)))
+loads a b t u one fetched near far =
+    let v : View = view a in
+    let place : Place = place_in v.r.r5 v.r.r2 in
+    let to : Bool → Type 0 = λ c. Comes 17 a b t u (return_of v) (ReadFrom v (if c then FromMemory place else FromGrom (next_at v))) in
+    pick (nat_lt v.r.r5 2)
+    (λ c. subst to (sym c) (comes_as 17 (ReadFrom v (FromMemory place)) (near (ltb-true v.r.r5 2 c)) (omega arith) (λ w l. value_read v w place one l)))
+    (λ c. let above : 1 < v.r.r5 = let le = ltb-false v.r.r5 2 c in omega arith in
+    subst to (sym c) (comes_as 17 (ReadFrom v (FromGrom (next_at v))) (far above fetched) (omega arith) (λ w l. stream_read v w one l)))
+
+-- GROM stays idle
+pub behind_idle : (from : From) (g : GromState) → g.half_written ≡ false → (grom_behind from g).half_written ≡ false
+behind_idle (FromMemory place) g e = e
+behind_idle (FromGrom address) g e = refl
+
+-- ---- STORE
+
+-- what the high byte of register 9 changes
+abbrev pub stored_in : View → Changes
+stored_in v = with_byte_to (target_in v) (high v.r.r9) (unchanged (state_of v))
+
+stores : (a b : MachineState) (t u : ℕ) → (view a).r.r3 ≡ 1 → (1 < (view a).r.r8 → (view a).r.r7 < 8) → ((view a).r.r8 < 2 → StoresValue a b t u) →
+    (1 < (view a).r.r8 → (view a).r.r7 < 8 → StoresRegister a b t u) → Comes 16 a b t u (return_of (view a)) (Stored (view a) (stored_in (view a)))
+stores a b t u one there near far =
+    let v : View = view a in
+    let place : Place = place_in v.r.r8 v.r.r7 in
+    let number : ℕ = high v.r.r9 in
+    let to : Bool → Type 0 = λ c. Comes 16 a b t u (return_of v) (Stored v (with_byte_to (if c then ToMemory place else ToRegisters v.r.r7) number (unchanged (state_of v)))) in
+    let by : ℕ → Type 0 = λ n. Comes 16 a b t u (return_of v) (Stored v (with_value (width_in n) place (of_register (width_in n) v.r.r9) (unchanged (state_of v)))) in
+    pick (nat_lt v.r.r8 2)
+    (λ c. subst to (sym c) (subst by one (near (ltb-true v.r.r8 2 c))))
+    (λ c. let above : 1 < v.r.r8 = let le = ltb-false v.r.r8 2 c in omega arith in
+    subst to (sym c) (comes_as 16 (Stored v (with_byte_to (ToRegisters v.r.r7) number (unchanged (state_of v)))) (far above (there above)) (omega arith) (λ w l. l)))
+
+-- ---- the changes do not depend on where GROM stands
+
+high_of : (number : ℕ) → high (join number 0) ≡ number
+high_of number = omega arith
+
+-- a view made of what changes
+abbrev pub made_by : (List ℕ → List ℕ → List ℕ → Bool → View) → Changes → View
+made_by make c = make c.state.cells c.state.vdp c.state.registers c.shows
+
+same_changes : (make : List ℕ → List ℕ → List ℕ → Bool → View) (to : To) (byte : ℕ) (s : GplState) (pc : ℕ) (image : List ℕ) →
+    made_by make (with_byte_to to byte (unchanged (record s { pc = pc; image = image }))) ≡ made_by make (with_byte_to to byte (unchanged s))
+same_changes make (ToMemory place) byte s pc image = in_space place.space place.address
+  where
+    in_space : (space : Space) (address : ℕ) → made_by make (with_byte_in space address byte (unchanged (record s { pc = pc; image = image }))) ≡ made_by make (with_byte_in space address byte (unchanged s))
+    in_space Cpu address = refl
+    in_space Vdp address = refl
+same_changes make (ToRegisters number) byte s pc image = refl
+
+-- ---- the pieces
+
+-- LOAD is asked where bytes are left
+abbrev asked : View → View
+asked v = record v { r = record v.r { r11 = 0x27DC } }
+
+asks : (v : View) → 0 < v.r.r12 → pieces.next_byte v ≡ exit 3 0x2368 (asked v)
+asks v some = let c : (v.r.r12 == 0) ≡ false = ne_eqb v.r.r12 0 (λ e. omega arith) in rw (c, pieces.next_byte) refl
+
+module _ (x a : MachineState) (t t1 : ℕ) (h : AtCopy x) (some : 0 < (view x).r.r12) (e : Exits x a t t1 (pieces.next_byte (view x))) where
+  abbrev v : View
+  v = view x
+
+  went : Exits x a t t1 (exit 3 0x2368 (asked v))
+  went = subst (λ (k : Exit). Exits x a t t1 k) (asks v some) e
+
+  pub idle_asked : PortsAreIdle a.cpu.memory
+  idle_asked = idle_again x.cpu.memory a.cpu.memory (ap (λ (u : View). u.vdp) went.shows) (ap (λ (u : View). u.grom) went.shows) h.idle
+
+  fetched_asked : IsFetched a.cpu.memory.grom
+  fetched_asked = fetched_again x.cpu.memory a.cpu.memory (ap (λ (u : View). u.grom) went.shows) h.fetched
+
+  one_asked : (view a).r.r3 ≡ 1
+  one_asked = ap (λ (u : View). u.r.r3) went.shows ∙ h.bytes_are
+
+  module _ (b : MachineState) (t2 : ℕ) (near : (view a).r.r5 < 2 → LoadsValue a b t1 t2) (far : 1 < (view a).r.r5 → IsFetched a.cpu.memory.grom → LoadsStream a b t1 t2) where
+    loaded : Comes 17 a b t1 t2 0x27DC (ReadFrom (view a) (source_in (view a)))
+    loaded = subst (λ (p : ℕ). Comes 17 a b t1 t2 p (ReadFrom (view a) (source_in (view a)))) (ap return_of went.shows) (loads a b t1 t2 one_asked fetched_asked near far)
+
+    pub stands_read : Stands b 0x27DC
+    stands_read = loaded.stands
+
+    abbrev number : ℕ
+    number = byte_from (source_in v) (state_of v)
+
+    abbrev read_of : View → View
+    read_of u =
+        record u {
+          r = record u.r { r4 = loaded.holds.r4; r6 = join (byte_from (source_in u) (state_of u)) 0 };
+          vdp = record u.vdp { address = loaded.holds.address; fetched = loaded.holds.byte };
+          grom = grom_behind (source_in u) u.grom;
+        }
+
+    abbrev at_b : View
+    at_b = read_of (asked v)
+
+    seen_b : view b ≡ at_b
+    seen_b = loaded.holds.is ∙ ap read_of went.shows
+
+    module _ (d : MachineState) (t3 : ℕ) (e3 : Exits b d t2 t3 (pieces.store_byte (view b))) where
+      abbrev at_d : View
+      at_d = (pieces.store_byte at_b).left
+
+      seen_d : view d ≡ at_d
+      seen_d = e3.shows ∙ ap (λ (u : View). (pieces.store_byte u).left) seen_b
+
+      pub idle_storing : PortsAreIdle d.cpu.memory
+      idle_storing =
+          idle_told d.cpu.memory (ap (λ (u : View). u.vdp.held) seen_d ∙ idle_video x.cpu.memory h.idle)
+          (ap (λ (u : View). u.grom.half_written) seen_d ∙ behind_idle (source_in v) v.grom (idle_grom x.cpu.memory h.idle))
+
+      pub visible_storing : IsVisible (view d).r.r8 (view d).r.r7 (view d).r.r3
+      visible_storing =
+          let near : IsVisible v.r.r8 v.r.r7 1 = λ z. let le = h.target z in omega arith in
+          subst (λ (u : View). IsVisible u.r.r8 u.r.r7 u.r.r3) (sym seen_d) (subst (λ (n : ℕ). IsVisible v.r.r8 v.r.r7 n) (sym h.bytes_are) near)
+
+      there : 1 < (view d).r.r8 → (view d).r.r7 < 8
+      there = subst (λ (u : View). 1 < u.r.r8 → u.r.r7 < 8) (sym seen_d) (λ above. let le = h.registers above in omega arith)
+
+      one_storing : (view d).r.r3 ≡ 1
+      one_storing = ap (λ (u : View). u.r.r3) seen_d ∙ h.bytes_are
+
+      module _ (k : MachineState) (t4 : ℕ) (value : (view d).r.r8 < 2 → StoresValue d k t3 t4) (register : 1 < (view d).r.r8 → (view d).r.r7 < 8 → StoresRegister d k t3 t4) where
+        stored : Comes 16 d k t3 t4 0x27E2 (Stored (view d) (stored_in (view d)))
+        stored = subst (λ (p : ℕ). Comes 16 d k t3 t4 p (Stored (view d) (stored_in (view d)))) (ap return_of seen_d) (stores d k t3 t4 one_storing there value register)
+
+        pub stands_stored : Stands k 0x27E2
+        stands_stored = stored.stands
+
+        -- the view behind COPYN, by what was changed
+        abbrev counted_by : View → List ℕ → List ℕ → List ℕ → Bool → View
+        counted_by u cells memory registers shows =
+            (pieces.count_byte (record u {
+              r = record u.r { r4 = stored.holds.r4; r9 = stored.holds.r9; r13 = marked_by shows u.r.r13 };
+              cells = cells;
+              vdp = record u.vdp { memory = memory; registers = registers; address = stored.holds.address; fetched = stored.holds.byte };
+            })).left
+
+        abbrev counted_of : View → View
+        counted_of u = made_by (counted_by u) (stored_in u)
+
+        module _ (y : MachineState) (t5 : ℕ) (e5 : Exits k y t4 t5 (pieces.count_byte (view k))) where
+          seen_y : view y ≡ made_by (counted_by at_d) (byte_copied v)
+          seen_y =
+              e5.shows
+              ∙ ap (λ (u : View). (pieces.count_byte u).left) stored.holds.is
+              ∙ ap counted_of seen_d
+              ∙ ap (λ (n : ℕ). made_by (counted_by at_d) (with_byte_to (target_in v) n (unchanged (state_of at_d)))) (high_of number)
+              ∙ same_changes (counted_by at_d) (target_in v) number (state_of v) (state_of at_d).pc (state_of at_d).image
+
+          counted : Counted v (view y)
+          counted = record { r4 = stored.holds.r4; r6 = join number 0; r9 = stored.holds.r9; r11 = 0x27E2; address = stored.holds.address; byte = stored.holds.byte; is = seen_y }
+
+          pub copies : CopiesByte x y t t5
+          copies =
+              let c1 : Comes 3 x a t t1 0x2368 (λ u. u ≡ asked v) = comes went (record { within = omega arith; to_is = refl; holds = refl }) in
+              let c2 = comes_on 3 17 c1 loaded refl in
+              let c3 : Comes 22 x d t t3 0x23C2 (λ u. u ≡ (pieces.store_byte (view b)).left) =
+              comes_then 20 2 c2 e3 (record { within = omega arith; to_is = refl; holds = refl }) refl in
+              let c4 = comes_on 22 16 c3 stored refl in
+              let c5 : Comes 42 x y t t5 0x27D4 (λ u. u ≡ (pieces.count_byte (view k)).left) =
+              comes_then 38 4 c4 e5 (record { within = omega arith; to_is = refl; holds = refl }) refl in
+              record { count = c5.count; within = c5.within; counted = c5.counted; runs = c5.runs; holds = counted; stands = c5.stands }

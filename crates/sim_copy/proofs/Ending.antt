@@ -1,0 +1,113 @@
+-- The beginning and the end of the copy.
+use Rattle.std.proofs.Common.{◌≡◌, ℕ, ◌+◌, ◌*◌, ◌<◌, ◌≤◌, true, refl, sym, ap, subst, ◌∙◌, arith}
+use Rattle.std.specs.Prelude.{◌==◌, if◌then◌else◌}
+use Rattle.std.proofs.lemmas.Bool.{eq-eqb, ne_eqb}
+use Rattle.console_defs.specs.Machine.{MachineState}
+use Rattle.step_defs.specs.Place.{Place}
+use Rattle.step_defs.specs.Changes.{Changes, with_pc}
+use Rattle.step_defs.specs.Copy.{From, FromMemory, FromGrom, To, ToMemory, ToRegisters, copied}
+use Rattle.interp_defs.specs.Match.{PortsAreIdle, IsFetched}
+use Rattle.sim_view.specs.View.{View, view}
+use Rattle.sim_view.specs.Exits.{Exit, Exits, Comes}
+use Rattle.sim_view.proofs.Compose.{comes, comes_on, comes_as}
+use Rattle.sim_operands.specs.Pieces.{exit}
+use Rattle.sim_rows.specs.Results.{Changed, SeesFinished, EndsRow}
+use Rattle.sim_rows.proofs.Again.{idle_again, fetched_again}
+use Rattle.sim_rows.proofs.Fronting.{space_small}
+use Rattle.sim_jumps.specs.Jumps.{ResumesRow}
+use Rattle.sim_copy.specs.Pieces as pieces
+use Rattle.sim_copy.specs.Copying.{InMemory, InGrom, StandsFrom, StandsTo, Copying, CopiesBytes}
+use Rattle.sim_copy.specs.Bytes.{AtCopy, CopiesRest, EndsCopy}
+
+-- ---- the end
+
+-- where it goes on, by the space of the source
+abbrev behind : ℕ → ℕ
+behind space = if space == 2 then 0x26DC else 0x247A
+
+ends : (v : View) → v.r.r12 ≡ 0 → pieces.next_byte v ≡ exit 5 (behind v.r.r5) v
+ends v none = let c : (v.r.r12 == 0) ≡ true = eq-eqb v.r.r12 0 none in rw (c, pieces.next_byte) refl
+
+near_end : (v : View) (place : Place) (c : Changes) → InMemory c place v → behind v.r.r5 ≡ 0x247A
+near_end v place c f =
+    let small : v.r.r5 < 2 = space_small place.space v.r.r5 f.loads_from.space in
+    ap (λ b. if b then 0x26DC else 0x247A) (ne_eqb v.r.r5 2 (λ e. omega arith))
+
+far_end : (v : View) (address : ℕ) (c : Changes) → InGrom c address v → behind v.r.r5 ≡ 0x26DC
+far_end v address c f = ap behind f.space
+
+module _ (x a : MachineState) (t t1 : ℕ) (h : AtCopy x) (none : (view x).r.r12 ≡ 0) (e : Exits x a t t1 (pieces.next_byte (view x))) where
+  abbrev v : View
+  v = view x
+
+  went : Exits x a t t1 (exit 5 (behind v.r.r5) v)
+  went = subst (λ (k : Exit). Exits x a t t1 k) (ends v none) e
+
+  pub idle_ended : PortsAreIdle a.cpu.memory
+  idle_ended = idle_again x.cpu.memory a.cpu.memory (ap (λ (u : View). u.vdp) went.shows) (ap (λ (u : View). u.grom) went.shows) h.idle
+
+  led : (to : ℕ) → behind v.r.r5 ≡ to → Comes 5 x a t t1 to (λ u. u ≡ v)
+  led to is = comes went (record { within = omega arith; to_is = is; holds = refl })
+
+  module _ (y : MachineState) (t2 : ℕ) where
+    pub ends_memory : a.cpu.pc ≡ 0x247A → EndsRow a y t1 t2 → EndsCopy x y t t2
+    ends_memory here row c k = by k.from k.copying.stands_from
+      where
+        by : (from : From) → StandsFrom c from v → Comes 41 x y t t2 0x228C (SeesFinished c)
+        by (FromMemory place) f =
+            let q = k.copying in
+            let changed : Changed c (view a) = subst (λ (u : View). Changed c u) (sym went.shows) (record { cells = q.cells; vdp = q.vdp; registers = q.registers; held = q.held; grom = f.grom; mark = q.mark }) in
+            comes_as 41 (SeesFinished c) (comes_on 5 29 (led 0x247A (near_end v place c f)) (row c changed) refl) (omega arith) (λ w q. q)
+        by (FromGrom address) f = absurd (let p = went.stands.pc in let r = far_end v address c f in omega arith)
+
+    pub ends_grom : (a.cpu.pc ≡ 0x247A → ⊥) → ResumesRow a y t1 t2 → EndsCopy x y t t2
+    ends_grom elsewhere row c k = by k.from k.copying.stands_from
+      where
+        by : (from : From) → StandsFrom c from v → Comes 41 x y t t2 0x228C (SeesFinished c)
+        by (FromMemory place) f = absurd (elsewhere (went.stands.pc ∙ near_end v place c f))
+        by (FromGrom address) f =
+            let q = k.copying in
+            let changed : Changed (with_pc address c) (view a) =
+            subst (λ (u : View). Changed (with_pc address c) u) (sym went.shows) (record { cells = q.cells; vdp = q.vdp; registers = q.registers; held = q.held; grom = f.grom; mark = q.mark }) in
+            let back : (view a).r.r14 ≡ c.state.pc = ap (λ (u : View). u.r.r14) went.shows ∙ f.back in
+            comes_on 5 36 (led 0x26DC (far_end v address c f)) (row c address changed back) refl
+
+-- ---- the beginning
+
+module _ (x a : MachineState) (t t1 : ℕ) (e : Exits x a t t1 (pieces.begin_copy (view x))) where
+  pub at_copy : PortsAreIdle x.cpu.memory → IsFetched x.cpu.memory.grom → (let r = (view x).r in r.r5 ≡ 0 → r.r2 + r.r12 ≤ 0xC2) → (let r = (view x).r in r.r8 ≡ 0 → r.r7 + r.r12 ≤ 0xC2) →
+      (let r = (view x).r in 1 < r.r8 → r.r7 + r.r12 ≤ 8) → AtCopy a
+  at_copy idle fetched source target registers = record {
+    stands = e.stands;
+    idle = idle_again x.cpu.memory a.cpu.memory (ap (λ (u : View). u.vdp) e.shows) (ap (λ (u : View). u.grom) e.shows) idle;
+    fetched = fetched_again x.cpu.memory a.cpu.memory (ap (λ (u : View). u.grom) e.shows) fetched;
+    bytes_are = ap (λ (u : View). u.r.r3) e.shows;
+    source = subst (λ (u : View). u.r.r5 ≡ 0 → u.r.r2 + u.r.r12 ≤ 0xC2) (sym e.shows) source;
+    target = subst (λ (u : View). u.r.r8 ≡ 0 → u.r.r7 + u.r.r12 ≤ 0xC2) (sym e.shows) target;
+    registers = subst (λ (u : View). 1 < u.r.r8 → u.r.r7 + u.r.r12 ≤ 8) (sym e.shows) registers;
+  }
+
+  from_again : (c : Changes) (from : From) → StandsFrom c from (view x) → StandsFrom c from (pieces.begin_copy (view x)).left
+  from_again c (FromMemory place) f = record { loads_from = record { address = f.loads_from.address; space = f.loads_from.space }; grom = f.grom }
+  from_again c (FromGrom address) f = record { space = f.space; grom = f.grom; back = f.back }
+
+  to_again : (to : To) → StandsTo to (view x) → StandsTo to (pieces.begin_copy (view x)).left
+  to_again (ToMemory place) f = record { address = f.address; space = f.space }
+  to_again (ToRegisters number) f = record { number_is = f.number_is; space = f.space }
+
+  pub copies_bytes : (b y : MachineState) (t2 t3 : ℕ) → CopiesRest a b t1 t2 → EndsCopy b y t2 t3 → CopiesBytes x y t t3
+  copies_bytes b y t2 t3 rest end c from to bytes k =
+      let begun : Copying c from to bytes (view a) = subst (λ (u : View). Copying c from to bytes u) (sym e.shows) (record {
+        cells = k.cells;
+        vdp = k.vdp;
+        registers = k.registers;
+        held = k.held;
+        mark = k.mark;
+        stands_from = from_again c from k.stands_from;
+        stands_to = to_again to k.stands_to;
+        left = k.left;
+      }) in
+      let whole : Changes = copied bytes from to c in
+      let c1 : Comes 1 x a t t1 0x27D4 (λ u. u ≡ (pieces.begin_copy (view x)).left) = comes e (record { within = omega arith; to_is = refl; holds = refl }) in
+      let c2 = comes_on 1 (42 * bytes) c1 (rest c from to bytes begun) refl in
+      comes_as (42 * bytes + 42) (SeesFinished whole) (comes_on (1 + 42 * bytes) 41 c2 (end whole c2.holds) refl) (omega arith) (λ w q. q)

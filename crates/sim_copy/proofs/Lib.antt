@@ -1,0 +1,4 @@
+pub mod Paths
+pub mod Carrying
+pub mod Counting
+pub mod Ending

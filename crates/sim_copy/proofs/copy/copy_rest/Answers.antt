@@ -1,0 +1,20 @@
+use Rattle.std.proofs.Common.{◌≡◌, ℕ, ◌<◌, subst, arith}
+use Rattle.sim_view.specs.View.{view}
+use Rattle.sim_copy.proofs.Counting
+use Rattle.sim_copy.proofs.Counting.{Turns}
+use Rattle.sim_copy.proofs.copy.copy_rest.Goals as goal
+
+pub loop-preserved : goal.loop-preserved
+loop-preserved g c =
+    let x = c.args.machine.now in
+    let less : c.loop.counter < (view x).r.r12 = subst (λ (n : ℕ). c.loop.counter < n) c.register-bytes.ensures c.loop-test.true in
+    Counting.one_more_turn c.loop.counter x c.loop.machine c.copy_byte.new.machine c.args.steps.now c.loop.steps c.copy_byte.new.steps
+    c.loop.invariant less c.copy_byte.ensures
+
+pub returns-clause-copies : goal.returns-clause-copies
+returns-clause-copies g c =
+    let x = c.args.machine.now in
+    let bytes = c.register-bytes.ensures in
+    let all : c.loop.counter ≡ (view x).r.r12 = let a = c.loop-test.false in let b = c.loop.auto.counter-end in omega arith in
+    Counting.copies_rest x c.loop.machine c.args.steps.now c.loop.steps
+    (subst (λ (made : ℕ). Turns made x c.loop.machine c.args.steps.now c.loop.steps) all c.loop.invariant)

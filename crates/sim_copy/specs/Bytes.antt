@@ -1,0 +1,86 @@
+-- One byte of the copy of MOVE, the bytes that are left, and the end.
+use Rattle.std.specs.Prelude.{◌≡◌, ◌≤◌, ◌<◌, ℕ, ◌+◌, ◌*◌, nat_lt, if◌then◌else◌}
+use Rattle.console_defs.specs.Flags.{Word, sum_of, difference_of}
+use Rattle.console_defs.specs.Grom.{GromState, next_in_grom}
+use Rattle.console_defs.specs.Machine.{MachineState}
+use Rattle.step_defs.specs.declared.cells.TheConstants.{VISIBLE_CELLS}
+use Rattle.step_defs.specs.Changes.{Changes, unchanged}
+use Rattle.step_defs.specs.Copy.{From, FromMemory, FromGrom, To, ToMemory, ToRegisters, byte_from, with_byte_to, copied}
+use Rattle.interp_defs.specs.Match.{PortsAreIdle, IsFetched}
+use Rattle.native_interp.specs.declared.addresses.TheConstants.{GSTEP, COPY}
+use Rattle.sim_view.specs.View.{View, view, Stands}
+use Rattle.sim_view.specs.Exits.{Comes}
+use Rattle.sim_operands.specs.Subroutines.{grom_at, state_of, next_at, place_in, marked_by}
+use Rattle.sim_rows.specs.Results.{SeesFinished}
+use Rattle.sim_copy.specs.Copying.{Copying}
+
+-- At COPY: bytes are loaded and stored, and as many as are left may be.
+pub record AtCopy (x : MachineState) : Type 0 where
+  pub stands : Stands x COPY
+  pub idle : PortsAreIdle x.cpu.memory
+  pub fetched : IsFetched x.cpu.memory.grom
+  pub bytes_are : (view x).r.r3 ≡ 1
+  pub source : let r = (view x).r in r.r5 ≡ 0 → r.r2 + r.r12 ≤ VISIBLE_CELLS
+  pub target : let r = (view x).r in r.r8 ≡ 0 → r.r7 + r.r12 ≤ VISIBLE_CELLS
+  pub registers : let r = (view x).r in 1 < r.r8 → r.r7 + r.r12 ≤ 8
+
+-- The source that registers 2 and 5 tell, and the target that registers 7 and 8 tell.
+abbrev pub source_in : View → From
+source_in v = if nat_lt v.r.r5 2 then FromMemory (place_in v.r.r5 v.r.r2) else FromGrom (next_at v)
+
+abbrev pub target_in : View → To
+target_in v = if nat_lt v.r.r8 2 then ToMemory (place_in v.r.r8 v.r.r7) else ToRegisters v.r.r7
+
+-- GROM behind a byte of a source: only one that lies in GROM moves it.
+abbrev pub grom_behind : From → GromState → GromState
+grom_behind (FromMemory place) grom = grom
+grom_behind (FromGrom address) grom = grom_at grom.image (next_in_grom address)
+
+-- what a byte changes that is copied
+abbrev pub byte_copied : View → Changes
+byte_copied v = with_byte_to (target_in v) (byte_from (source_in v) (state_of v)) (unchanged (state_of v))
+
+-- That is changed, and the source, the target and the count have gone on. Registers 4, 6, 9 and 11, and the address of
+-- the video processor with the byte there, may have changed.
+pub record Counted (v w : View) : Type 0 where
+  pub r4 : ℕ
+  pub r6 : ℕ
+  pub r9 : ℕ
+  pub r11 : ℕ
+  pub address : ℕ
+  pub byte : ℕ
+  pub is : let c = byte_copied v in w ≡ record v {
+    r = record v.r {
+      r2 = sum_of Word v.r.r2 1;
+      r4 = r4;
+      r6 = r6;
+      r7 = sum_of Word v.r.r7 1;
+      r9 = r9;
+      r11 = r11;
+      r12 = difference_of Word v.r.r12 1;
+      r13 = marked_by c.shows v.r.r13;
+    };
+    cells = c.state.cells;
+    vdp = record v.vdp { memory = c.state.vdp; registers = c.state.registers; address = address; fetched = byte };
+    grom = grom_behind (source_in v) v.grom;
+  }
+
+-- A byte is copied.
+abbrev pub CopiesByte : MachineState → MachineState → ℕ → ℕ → Type 0
+CopiesByte x y before after = Comes 42 x y before after COPY (Counted (view x))
+
+-- All bytes are copied, and none is left.
+pub record Copied (c : Changes) (w : View) : Type 0 where
+  pub from : From
+  pub to : To
+  pub copying : Copying c from to 0 w
+
+abbrev pub CopiesRest : MachineState → MachineState → ℕ → ℕ → Type 0
+CopiesRest x y before after =
+    (c : Changes) → (from : From) → (to : To) → (bytes : ℕ) → Copying c from to bytes (view x)
+    → Comes (42 * bytes) x y before after COPY (Copied (copied bytes from to c))
+
+-- The step ends with what was copied.
+abbrev pub EndsCopy : MachineState → MachineState → ℕ → ℕ → Type 0
+EndsCopy x y before after =
+    (c : Changes) → Copied c (view x) → Comes 41 x y before after GSTEP (SeesFinished c)

@@ -1,0 +1,76 @@
+//! The copy, from its beginning to the end of the step.
+
+ghost use Rattle.std.specs.Prelude.{◌≡◌, ◌≤◌, ◌<◌, ◌+◌};
+ghost use Rattle.step_defs.specs.declared.cells.TheConstants.{VISIBLE_CELLS};
+ghost use Rattle.native_interp.specs.declared.addresses.TheConstants as address;
+ghost use Rattle.interp_defs.specs.Match.{PortsAreIdle, IsFetched};
+ghost use Rattle.sim_view.specs.View.{view, Stands};
+ghost use Rattle.sim_copy.specs.Copying.{CopiesBytes};
+ghost use Rattle.sim_copy.specs.Bytes.{AtCopy, CopiesByte, CopiesRest, EndsCopy};
+
+use crate::piece::{begin_copy, count_byte, next_byte, store_byte};
+use native_interp::SHOW;
+use sim_jumps::resume_row;
+use sim_operands::{run_load, run_store};
+use sim_rows::end_row;
+use sim_view::register;
+use std::sync::ledger::Ledger;
+use tms_step::{Machine, Steps};
+
+/// Copies a byte of those that are left.
+fn copy_byte<L: Ledger>(machine: &mut Machine, steps: &mut Steps<L>)
+    requires at { AtCopy machine.old }
+    requires left { 0 < (view machine.old).r.r12 }
+    ensures { CopiesByte machine.old machine.new steps.old steps.new }
+{
+    machine.holds_bounds();
+    next_byte(machine, steps);
+    run_load(machine, steps);
+    store_byte(machine, steps);
+    run_store(machine, steps);
+    count_byte(machine, steps);
+}
+
+/// Copies the bytes that are left.
+fn copy_rest<L: Ledger>(machine: &mut Machine, steps: &mut Steps<L>)
+    requires { AtCopy machine.old }
+    ensures at { AtCopy machine.new }
+    ensures none_left { (view machine.new).r.r12 ≡ 0 }
+    ensures copies { CopiesRest machine.old machine.new steps.old steps.new }
+{
+    let bytes = register(machine, 12);
+    for _ in 0..bytes {
+        copy_byte(machine, steps);
+    }
+}
+
+/// Ends a copy of which no byte is left.
+fn end_copy<L: Ledger>(machine: &mut Machine, steps: &mut Steps<L>)
+    requires at { AtCopy machine.old }
+    requires none_left { (view machine.old).r.r12 ≡ 0 }
+    ensures { EndsCopy machine.old machine.new steps.old steps.new }
+{
+    next_byte(machine, steps);
+    if machine.pc() == SHOW {
+        end_row(machine, steps);
+    } else {
+        resume_row(machine, steps);
+    }
+}
+
+/// Runs the copy of MOVE to the end of the step. Register 12 has the number of bytes, registers 2 and 5 the source, and
+/// registers 7 and 8 the target; 2 in register 5 says that the source is in GROM, and 2 in register 8 that the target is
+/// among the registers of the video processor. It takes at most 42 instructions a byte, and 42 more.
+pub fn copy_bytes<L: Ledger>(machine: &mut Machine, steps: &mut Steps<L>)
+    requires stands { Stands machine.old address.MOVEB }
+    requires idle { PortsAreIdle machine.old.cpu.memory }
+    requires fetched { IsFetched machine.old.cpu.memory.grom }
+    requires source { let r = (view machine.old).r in r.r5 ≡ 0 → r.r2 + r.r12 ≤ VISIBLE_CELLS }
+    requires target { let r = (view machine.old).r in r.r8 ≡ 0 → r.r7 + r.r12 ≤ VISIBLE_CELLS }
+    requires registers { let r = (view machine.old).r in 1 < r.r8 → r.r7 + r.r12 ≤ 8 }
+    ensures { CopiesBytes machine.old machine.new steps.old steps.new }
+{
+    begin_copy(machine, steps);
+    copy_rest(machine, steps);
+    end_copy(machine, steps);
+}

@@ -1,0 +1,9 @@
+//! The copy of MOVE, run on the machine: the bytes go one by one from a source in memory or GROM to memory or the
+//! registers of the video processor. It is built of pieces: stretches of at most 16 instructions without a loop.
+#![tactic(auto)]
+
+mod copy;
+mod piece;
+
+pub use copy::copy_bytes;
+pub use piece::{begin_copy, count_byte, next_byte, store_byte};
