@@ -1,6 +1,7 @@
 -- ALL from its dispatch to the end of the step.
 use Rattle.std.proofs.Common.{◌≡◌, ℕ, zero, suc, ◌+◌, ◌*◌, ◌<◌, ◌≤◌, Bool, true, false, refl, sym, ap, subst, ◌∙◌, arith, List, [], ◌∷◌, ◌++◌, length, drop, Some, None, Ok}
 use Rattle.std.specs.Prelude.{◌==◌, if◌then◌else◌, slice_index, slice_set, replicate}
+use Rattle.std.proofs.lemmas.Bool.{eqb-true, eqb-false, ne_eqb}
 use Rattle.console_defs.specs.Words.{high, low, join}
 use Rattle.console_defs.specs.Flags.{Word, difference_of}
 use Rattle.console_defs.specs.Grom.{GromState, next_in_grom}
@@ -55,6 +56,9 @@ pub record Filled (s : GplState) (made : ℕ) (w : View) : Type 0 where
 abbrev pub place : ℕ → ℕ
 place made = if made == 768 then 0x228C else 0x285E
 
+more_left : (made : ℕ) → (made ≡ 768 → ⊥) → place made ≡ 0x285E
+more_left made more = ap (λ (b : Bool). if b then 0x228C else 0x285E) (ne_eqb made 768 more)
+
 -- the pair of bytes sets the address
 address_set : (vdp : VdpState) → vdp.held ≡ None → set_video_to 0x4000 vdp ≡ record vdp { address = 0; held = None }
 address_set vdp idle = rw idle refl
@@ -106,17 +110,21 @@ module _ (s : GplState) (made : ℕ) (w : View) (h : Filled s made w) (some : ma
       }
 
   -- the last byte leads to the end of the step
-  place_is : (b : Bool) → (difference_of Word w.r.r12 1 == 0) ≡ b → place (suc made) ≡ if b then 0x228C else 0x285E
-  place_is b c = let left = h.left in ap (λ (b : Bool). if b then 0x228C else 0x285E) (same ∙ c)
-    where
-      same : (suc made == 768) ≡ (difference_of Word w.r.r12 1 == 0)
-      same = ?
+  ends_at : (difference_of Word w.r.r12 1 == 0) ≡ true → place (suc made) ≡ 0x228C
+  ends_at none =
+      let left = h.left in
+      let zero = eqb-true (difference_of Word w.r.r12 1) 0 none in
+      let all : suc made ≡ 768 = omega arith in
+      ap place all
+
+  goes_on_at : (difference_of Word w.r.r12 1 == 0) ≡ false → place (suc made) ≡ 0x285E
+  goes_on_at more = let left = h.left in more_left (suc made) (λ all. eqb-false (difference_of Word w.r.r12 1) 0 more (omega arith))
 
   pub fill_goes : Goes (pieces.fill_byte w) 4 (place (suc made)) (Filled s (suc made))
   fill_goes =
       pick (difference_of Word w.r.r12 1 == 0)
-      (λ c. rw (c, pieces.fill_byte) (record { within = omega arith; to_is = sym (place_is true c); holds = more_filled }))
-      (λ c. rw (c, pieces.fill_byte) (record { within = omega arith; to_is = sym (place_is false c); holds = more_filled }))
+      (λ c. rw (c, pieces.fill_byte) (record { within = omega arith; to_is = sym (ends_at c); holds = more_filled }))
+      (λ c. rw (c, pieces.fill_byte) (record { within = omega arith; to_is = sym (goes_on_at c); holds = more_filled }))
 
 -- ---- the loop
 
@@ -127,11 +135,8 @@ pub record Filling (s : GplState) (made : ℕ) (x z : MachineState) (t u : ℕ) 
 pub none_yet : (s : GplState) (x z : MachineState) (t u : ℕ) → Dispatched s (view x) → Exits x z t u (pieces.begin_fill (view x)) → Filling s 0 x z t u
 none_yet s x z t u d begun = record { comes = comes begun (begin_goes s (view x) d) }
 
-more_left : (made : ℕ) → made < 768 → place made ≡ 0x285E
-more_left made h = ?
-
 pub stands_at : (s : GplState) (made : ℕ) (x z : MachineState) (t u : ℕ) → Filling s made x z t u → made < 768 → Stands z 0x285E
-stands_at s made x z t u h some = subst (λ (p : ℕ). Stands z p) (more_left made some) h.comes.stands
+stands_at s made x z t u h some = subst (λ (p : ℕ). Stands z p) (more_left made (λ all. omega arith)) h.comes.stands
 
 size_of_video : (s : GplState) (x : MachineState) → Stands x 0x2848 → Dispatched s (view x) → length s.vdp ≡ 16384
 size_of_video s x stands d = sym (ap length d.sees.vdp) ∙ (is_view x stands.machine).vdp.memory.size
@@ -140,7 +145,7 @@ pub one_byte : (s : GplState) (made : ℕ) (x z w : MachineState) (t u v : ℕ) 
     Exits z w u v (pieces.fill_byte (view z)) → Filling s (made + 1) x w t v
 one_byte s made x z w t u v stands d h some stored =
     let n : suc made ≡ made + 1 = omega arith in
-    let c = comes_then (6 + 4 * made) 4 h.comes stored (fill_goes s made (view z) h.comes.holds some (size_of_video s x stands d)) (ap is_end (more_left made some)) in
+    let c = comes_then (6 + 4 * made) 4 h.comes stored (fill_goes s made (view z) h.comes.holds some (size_of_video s x stands d)) (ap is_end (more_left made (λ all. omega arith))) in
     subst (λ (made : ℕ). Filling s made x w t v) n
     (record { comes = comes_as (6 + 4 * suc made) (Filled s (suc made)) c (omega arith) (λ w f. f) })
 

@@ -8,6 +8,7 @@ use Rattle.console_defs.specs.MultiplyDivide.{product_of}
 use Rattle.step_defs.specs.declared.cells.TheConstants.{SEED}
 use Rattle.sim_view.specs.View.{View}
 use Rattle.sim_view.proofs.Bridge.{Leads, IsView}
+use Rattle.sim_view.proofs.Lists.{high-join}
 use Rattle.sim_view.proofs.Places.{pick}
 use Rattle.sim_view.proofs.Parts.{Part, Rest, part_then, leads}
 use Rattle.sim_operands.proofs.Facts.{down, swapped_high}
@@ -47,8 +48,8 @@ draw_number v i = record {
       rw (down limit (low v.r.r6) h (less_fits v.r.r6), above_is limit h, division_is v.r.r10 limit, drawn_byte v.r.r10 limit h) refl;
 }
 
-pub set_border : (v : View) → IsView v → Leads [] v 0x286A (pieces.set_border v)
-set_border v i = record { by = λ f q. refl }
+pub set_border : (v : View) → Leads [] v 0x286A (pieces.set_border v)
+set_border v = record { by = λ f q. rw (high-join v.grom.fetched v.r.r4) refl }
 
 pub begin_fill : (v : View) → Leads (0x285E ∷ []) v 0x2848 (pieces.begin_fill v)
 begin_fill v = record { by = λ f q. refl }
