@@ -1,12 +1,12 @@
 -- ALL from its dispatch to the end of the step.
-use Rattle.std.proofs.Common.{◌≡◌, ℕ, zero, suc, ◌+◌, ◌*◌, ◌<◌, ◌≤◌, Bool, true, false, refl, sym, ap, subst, ◌∙◌, arith, List, [], ◌∷◌, ◌++◌, length, drop, Some, None, Ok}
+use Rattle.std.proofs.Common.{◌≡◌, ℕ, zero, suc, ◌+◌, ◌*◌, ◌<◌, Bool, true, false, refl, sym, ap, subst, ◌∙◌, arith, List, [], ◌∷◌, ◌++◌, length, drop, Some, None, Ok}
 use Rattle.std.specs.Prelude.{◌==◌, if◌then◌else◌, slice_index, slice_set, replicate}
 use Rattle.std.proofs.lemmas.Bool.{eqb-true, eqb-false, ne_eqb}
-use Rattle.console_defs.specs.Words.{high, low, join}
+use Rattle.console_defs.specs.Words.{high}
 use Rattle.console_defs.specs.Flags.{Word, difference_of}
 use Rattle.console_defs.specs.Grom.{GromState, next_in_grom}
 use Rattle.console_defs.specs.Machine.{MachineState}
-use Rattle.console_defs.specs.Vdp.{VdpState, next_in_vdp, vdp_data_written}
+use Rattle.console_defs.specs.Vdp.{VdpState, vdp_data_written}
 use Rattle.gpl_defs.specs.declared.instruction.ByteOp.TheVariants.{ALL}
 use Rattle.gpl_defs.specs.declared.instruction.GplOperation.TheVariants.{Byte}
 use Rattle.step_defs.specs.State.{GplState}
@@ -87,6 +87,7 @@ abbrev with_byte : View → View
 with_byte w = record w { r = record w.r { r12 = difference_of Word w.r.r12 1 }; vdp = vdp_data_written w.vdp (high w.r.r9) }
 
 module _ (s : GplState) (made : ℕ) (w : View) (h : Filled s made w) (some : made < 768) (size : length s.vdp ≡ 16384) where
+  -- the byte is stored behind the others
   memory_is : slice_set w.vdp.memory w.vdp.address (high w.r.r9) ≡ filled_to (suc made) (byte_of s) s.vdp
   memory_is =
       ap (λ (l : List ℕ). slice_set l w.vdp.address (high w.r.r9)) h.memory
@@ -129,14 +130,14 @@ module _ (s : GplState) (made : ℕ) (w : View) (h : Filled s made w) (some : ma
 -- ---- the loop
 
 -- So many bytes were filled on the way from x to z.
-pub record Filling (s : GplState) (made : ℕ) (x z : MachineState) (t u : ℕ) : Type 0 where
-  pub comes : Comes (6 + 4 * made) x z t u (place made) (Filled s made)
+abbrev pub Filling : GplState → ℕ → MachineState → MachineState → ℕ → ℕ → Type 0
+Filling s made x z t u = Comes (6 + 4 * made) x z t u (place made) (Filled s made)
 
 pub none_yet : (s : GplState) (x z : MachineState) (t u : ℕ) → Dispatched s (view x) → Exits x z t u (pieces.begin_fill (view x)) → Filling s 0 x z t u
-none_yet s x z t u d begun = record { comes = comes begun (begin_goes s (view x) d) }
+none_yet s x z t u d begun = comes begun (begin_goes s (view x) d)
 
 pub stands_at : (s : GplState) (made : ℕ) (x z : MachineState) (t u : ℕ) → Filling s made x z t u → made < 768 → Stands z 0x285E
-stands_at s made x z t u h some = subst (λ (p : ℕ). Stands z p) (more_left made (λ all. omega arith)) h.comes.stands
+stands_at s made x z t u h some = subst (λ (p : ℕ). Stands z p) (more_left made (λ all. omega arith)) h.stands
 
 size_of_video : (s : GplState) (x : MachineState) → Stands x 0x2848 → Dispatched s (view x) → length s.vdp ≡ 16384
 size_of_video s x stands d = sym (ap length d.sees.vdp) ∙ (is_view x stands.machine).vdp.memory.size
@@ -145,9 +146,8 @@ pub one_byte : (s : GplState) (made : ℕ) (x z w : MachineState) (t u v : ℕ) 
     Exits z w u v (pieces.fill_byte (view z)) → Filling s (made + 1) x w t v
 one_byte s made x z w t u v stands d h some stored =
     let n : suc made ≡ made + 1 = omega arith in
-    let c = comes_then (6 + 4 * made) 4 h.comes stored (fill_goes s made (view z) h.comes.holds some (size_of_video s x stands d)) (ap is_end (more_left made (λ all. omega arith))) in
-    subst (λ (made : ℕ). Filling s made x w t v) n
-    (record { comes = comes_as (6 + 4 * suc made) (Filled s (suc made)) c (omega arith) (λ w f. f) })
+    let c = comes_then (6 + 4 * made) 4 h stored (fill_goes s made (view z) h.holds some (size_of_video s x stands d)) (ap is_end (more_left made (λ all. omega arith))) in
+    subst (λ (made : ℕ). Filling s made x w t v) n (comes_as (6 + 4 * suc made) (Filled s (suc made)) c (omega arith) (λ w f. f))
 
 -- ---- the turn
 
@@ -166,10 +166,10 @@ all_seen s made w all h = record {
 pub fills : (s : GplState) (x z : MachineState) (t u : ℕ) → Stands x 0x2848 → Dispatched s (view x) → operation_in s ≡ Some (Byte ALL) →
     (made : ℕ) → made ≡ 768 → Filling s made x z t u → Turned s 29 x z t u Stepped
 fills s x z t u stands d is made all h =
-    let there : Stands z 0x228C = subst (λ (p : ℕ). Stands z p) (ap place all) h.comes.stands in
-    let c = h.comes in
+    let there : Stands z 0x228C = subst (λ (p : ℕ). Stands z p) (ap place all) h.stands in
+    let c = h in
     let seen = all_seen s made (view z) all c.holds in
     let step_is = step_byte s ALL is in
     let b = bound_made s (next s) (Some (Byte ALL)) is step_is in
     turned_by x z t u 29 Stepped s (Ok (next s)) step_is
-    (refl, reaches 29 (bound s) c (ap is_end stands.pc) (ap is_end (ap place all)) (omega arith), matches (next s) z there seen)
+    (refl, reaches 29 (bound s) h (ap is_end stands.pc) (ap is_end (ap place all)) (omega arith), matches (next s) z there seen)

@@ -1,5 +1,5 @@
--- What the pieces of EX, RAND, BACK and ALL come to: how many instructions they have, where they end, and what they change of the
--- view, in the words of the processor. Registers, cells and ports that are not named stay.
+-- What the pieces of EX, RAND, BACK and ALL come to: how many instructions they have, where they end, and what they
+-- change of the view, in the words of the processor. Registers, cells and ports that are not named stay.
 use Rattle.std.specs.Prelude.{ℕ, ◌+◌, ◌/◌, ◌%◌, ◌==◌, if◌then◌else◌, slice_set}
 use Rattle.console_defs.specs.Words.{high, low, join}
 use Rattle.console_defs.specs.Bytes.{word_in, with_word_in}
@@ -43,7 +43,7 @@ draw_number v =
       grom = past v.grom;
     })
 
--- GOBACK: the byte is written to register 7 of the video processor.
+-- GOBACK: the byte is read, and written to register 7 of the video processor.
 abbrev pub set_border : View → Exit
 set_border v =
     let pair : ℕ = 0x8700 in
@@ -63,7 +63,7 @@ begin_fill v =
       grom = past v.grom;
     })
 
--- FILL: the byte is stored; it goes on until none is left.
+-- FILL: the byte is stored and counted, and the step ends where none is left.
 abbrev pub fill_byte : View → Exit
 fill_byte v =
     let left = difference_of Word v.r.r12 1 in

@@ -17,7 +17,7 @@ use sim_view::run_piece;
 use std::sync::ledger::Ledger;
 use tms_step::{Machine, Steps};
 
-/// The piece of BACK, which writes the byte to the register of the border's colour.
+/// The piece of BACK: the byte goes to the video processor's register of the border's colour.
 pub fn set_border<L: Ledger>(machine: &mut Machine, steps: &mut Steps<L>)
     requires { Stands machine.old address.GOBACK }
     ensures { Exits machine.old machine.new steps.old steps.new (piece.set_border (view machine.old)) }
@@ -25,12 +25,13 @@ pub fn set_border<L: Ledger>(machine: &mut Machine, steps: &mut Steps<L>)
     run_piece(machine, steps, &[]);
 }
 
-/// Runs BACK from its dispatch to the end of the step: the border has the colours of the byte.
+/// Runs BACK from its dispatch to the end of the step: the border's colour is set.
 pub(crate) fn run_border<L: Ledger>(machine: &mut Machine, steps: &mut Steps<L>) -> Turn
     requires stands { Stands machine.old (operation_entry (operation_seen (view machine.old))) }
     requires dispatched { let v = view machine.old in Dispatched (state_at_dispatch v) v }
     requires border { operation_seen (view machine.old) ≡ Some (Byte BACK) }
-    ensures { Turned (state_at_dispatch (view machine.old)) most_to_dispatch machine.old machine.new steps.old steps.new result }
+    ensures { let s = state_at_dispatch (view machine.old) in
+        Turned s most_to_dispatch machine.old machine.new steps.old steps.new result }
 {
     set_border(machine, steps);
     Turn::Stepped

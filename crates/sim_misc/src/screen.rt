@@ -18,10 +18,10 @@ use sim_view::run_piece;
 use std::sync::ledger::Ledger;
 use tms_step::{Machine, Steps};
 
-/// The bytes of the screen, the first of video memory.
+/// How many bytes the screen has. They are the first of video memory.
 const SCREEN: u16 = 768;
 
-/// The piece of ALL that reads the byte and turns to the begin of the screen.
+/// The piece of ALL that reads the byte and sets the video processor to the beginning of the screen.
 pub fn begin_fill<L: Ledger>(machine: &mut Machine, steps: &mut Steps<L>)
     requires { Stands machine.old address.GOALL }
     ensures { Exits machine.old machine.new steps.old steps.new (piece.begin_fill (view machine.old)) }
@@ -29,7 +29,7 @@ pub fn begin_fill<L: Ledger>(machine: &mut Machine, steps: &mut Steps<L>)
     run_piece(machine, steps, &[FILL]);
 }
 
-/// The piece of ALL that stores one byte, and counts it.
+/// The piece of ALL that stores the byte once; the last one ends the step.
 pub fn fill_byte<L: Ledger>(machine: &mut Machine, steps: &mut Steps<L>)
     requires { Stands machine.old address.FILL }
     ensures { Exits machine.old machine.new steps.old steps.new (piece.fill_byte (view machine.old)) }
@@ -37,12 +37,13 @@ pub fn fill_byte<L: Ledger>(machine: &mut Machine, steps: &mut Steps<L>)
     run_piece(machine, steps, &[FILL]);
 }
 
-/// Runs ALL from its dispatch to the end of the step: each byte of the screen is the byte.
+/// Runs ALL from its dispatch to the end of the step: the byte fills the screen.
 pub(crate) fn run_fill<L: Ledger>(machine: &mut Machine, steps: &mut Steps<L>) -> Turn
     requires stands { Stands machine.old (operation_entry (operation_seen (view machine.old))) }
     requires dispatched { let v = view machine.old in Dispatched (state_at_dispatch v) v }
     requires fill { operation_seen (view machine.old) ≡ Some (Byte ALL) }
-    ensures { Turned (state_at_dispatch (view machine.old)) most_to_dispatch machine.old machine.new steps.old steps.new result }
+    ensures { let s = state_at_dispatch (view machine.old) in
+        Turned s most_to_dispatch machine.old machine.new steps.old steps.new result }
 {
     begin_fill(machine, steps);
     for _ in 0..SCREEN {
