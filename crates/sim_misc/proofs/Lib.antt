@@ -3,3 +3,5 @@ pub mod Paths
 pub mod Exchanging
 pub mod Turning
 pub mod Drawing
+pub mod Bordering
+pub mod Filling

@@ -1,13 +1,15 @@
 -- The runs of the pieces on the view.
 use Rattle.std.proofs.Common.{refl, [], ◌∷◌}
-use Rattle.std.specs.Prelude.{slice_index}
+use Rattle.std.specs.Prelude.{◌==◌, slice_index}
 use Rattle.console_defs.specs.Words.{low}
 use Rattle.console_defs.specs.Bytes.{word_in}
-use Rattle.console_defs.specs.Flags.{Word, sum_of}
+use Rattle.console_defs.specs.Flags.{Word, sum_of, difference_of}
 use Rattle.console_defs.specs.MultiplyDivide.{product_of}
 use Rattle.step_defs.specs.declared.cells.TheConstants.{SEED}
 use Rattle.sim_view.specs.View.{View}
 use Rattle.sim_view.proofs.Bridge.{Leads, IsView}
+use Rattle.sim_view.proofs.Lists.{high-join}
+use Rattle.sim_view.proofs.Places.{pick}
 use Rattle.sim_view.proofs.Parts.{Part, Rest, part_then, leads}
 use Rattle.sim_operands.proofs.Facts.{down, swapped_high}
 use Rattle.sim_misc.specs.Pieces as pieces
@@ -44,4 +46,18 @@ draw_number v i = record {
       let limit = v.grom.fetched in
       let h = i.grom.fetched in
       rw (down limit (low v.r.r6) h (less_fits v.r.r6), above_is limit h, division_is v.r.r10 limit, drawn_byte v.r.r10 limit h) refl;
+}
+
+pub set_border : (v : View) → Leads [] v 0x286A (pieces.set_border v)
+set_border v = record { by = λ f q. rw (high-join v.grom.fetched v.r.r4) refl }
+
+pub begin_fill : (v : View) → Leads (0x285E ∷ []) v 0x2848 (pieces.begin_fill v)
+begin_fill v = record { by = λ f q. refl }
+
+pub fill_byte : (v : View) → Leads (0x285E ∷ []) v 0x285E (pieces.fill_byte v)
+fill_byte v = record {
+  by = λ f q.
+      pick (difference_of Word v.r.r12 1 == 0)
+      (λ c. rw c refl)
+      (λ c. rw c refl);
 }

@@ -3,7 +3,7 @@ use Rattle.std.proofs.Common.{◌≡◌, ℕ, ◌+◌, ◌<◌, ◌≤◌, true,
 use Rattle.std.specs.Option.{is_some}
 use Rattle.console_defs.specs.Flags.{Width, Byte, Word, size_of}
 use Rattle.console_defs.specs.Machine.{MachineState}
-use Rattle.gpl_defs.specs.declared.instruction.ByteOp.TheVariants.{RAND}
+use Rattle.gpl_defs.specs.declared.instruction.ByteOp.TheVariants.{RAND, BACK, ALL}
 use Rattle.gpl_defs.specs.declared.instruction.TwoName.TheVariants.{EX}
 use Rattle.gpl_defs.specs.declared.instruction.GplOperation.{GplOperation}
 use Rattle.gpl_defs.specs.declared.instruction.GplOperation.TheVariants.{Byte as OneByte, Two}
@@ -32,13 +32,31 @@ use Rattle.sim_misc.proofs.Exchanging.{source_place}
 -- which operation stands where
 pub random_at : (o : Option GplOperation) → is_misc o ≡ true → operation_entry o ≡ 0x2762 → o ≡ Some (OneByte RAND)
 random_at (Some (OneByte RAND)) e f = refl
+random_at (Some (OneByte BACK)) e f = absurd (omega arith)
+random_at (Some (OneByte ALL)) e f = absurd (omega arith)
 random_at (Some (Two EX)) e f = absurd (omega arith)
 random_at _ e f = absurd (cc)
 
-pub exchange_else : (o : Option GplOperation) → is_misc o ≡ true → (operation_entry o ≡ 0x2762 → ⊥) → o ≡ Some (Two EX)
-exchange_else (Some (OneByte RAND)) e f = absurd (f refl)
-exchange_else (Some (Two EX)) e f = refl
-exchange_else _ e f = absurd (cc)
+pub border_at : (o : Option GplOperation) → is_misc o ≡ true → operation_entry o ≡ 0x286A → o ≡ Some (OneByte BACK)
+border_at (Some (OneByte RAND)) e f = absurd (omega arith)
+border_at (Some (OneByte BACK)) e f = refl
+border_at (Some (OneByte ALL)) e f = absurd (omega arith)
+border_at (Some (Two EX)) e f = absurd (omega arith)
+border_at _ e f = absurd (cc)
+
+pub fill_at : (o : Option GplOperation) → is_misc o ≡ true → operation_entry o ≡ 0x2848 → o ≡ Some (OneByte ALL)
+fill_at (Some (OneByte RAND)) e f = absurd (omega arith)
+fill_at (Some (OneByte BACK)) e f = absurd (omega arith)
+fill_at (Some (OneByte ALL)) e f = refl
+fill_at (Some (Two EX)) e f = absurd (omega arith)
+fill_at _ e f = absurd (cc)
+
+pub exchange_else : (o : Option GplOperation) → is_misc o ≡ true → (operation_entry o ≡ 0x2762 → ⊥) → (operation_entry o ≡ 0x286A → ⊥) → (operation_entry o ≡ 0x2848 → ⊥) → o ≡ Some (Two EX)
+exchange_else (Some (OneByte RAND)) e random border fill = absurd (random refl)
+exchange_else (Some (OneByte BACK)) e random border fill = absurd (border refl)
+exchange_else (Some (OneByte ALL)) e random border fill = absurd (fill refl)
+exchange_else (Some (Two EX)) e random border fill = refl
+exchange_else _ e random border fill = absurd (cc)
 
 pub is_row_of : (o : Option GplOperation) → o ≡ Some (Two EX) → is_row o ≡ true
 is_row_of o e = ap is_row e

@@ -1,15 +1,17 @@
--- What the pieces of EX and RAND come to: how many instructions they have, where they end, and what they change of the
--- view, in the words of the processor. Registers, cells and ports that are not named stay.
-use Rattle.std.specs.Prelude.{◌+◌, ◌/◌, ◌%◌, slice_set}
+-- What the pieces of EX, RAND, BACK and ALL come to: how many instructions they have, where they end, and what they
+-- change of the view, in the words of the processor. Registers, cells and ports that are not named stay.
+use Rattle.std.specs.Prelude.{ℕ, ◌+◌, ◌/◌, ◌%◌, ◌==◌, if◌then◌else◌, slice_set}
+use Rattle.console_defs.specs.Words.{high, low, join}
 use Rattle.console_defs.specs.Bytes.{word_in, with_word_in}
-use Rattle.console_defs.specs.Flags.{Word, sum_of}
+use Rattle.console_defs.specs.Flags.{Word, sum_of, difference_of}
 use Rattle.console_defs.specs.Logic.{swapped}
 use Rattle.console_defs.specs.MultiplyDivide.{product_of}
+use Rattle.console_defs.specs.Vdp.{vdp_address_written, vdp_data_written}
 use Rattle.step_defs.specs.declared.cells.TheConstants.{RANDOM, SEED}
-use Rattle.native_interp.specs.declared.addresses.TheConstants.{GSTEP, STO, STORE, EXB, RANDL}
+use Rattle.native_interp.specs.declared.addresses.TheConstants.{GSTEP, STO, STORE, EXB, RANDL, FILL}
 use Rattle.sim_view.specs.View.{View}
 use Rattle.sim_view.specs.Exits.{Exit}
-use Rattle.sim_operands.specs.Pieces.{exit, past}
+use Rattle.sim_operands.specs.Pieces.{exit, past, set_video_to}
 
 -- EXV: the destination's old value is kept, and STORE is asked for the source's value.
 abbrev pub keep_destination : View → Exit
@@ -40,3 +42,30 @@ draw_number v =
       cells = slice_set v.cells RANDOM number;
       grom = past v.grom;
     })
+
+-- GOBACK: the byte is read, and written to register 7 of the video processor.
+abbrev pub set_border : View → Exit
+set_border v =
+    let pair : ℕ = 0x8700 in
+    exit 5 GSTEP (record v {
+      r = record v.r { r4 = pair };
+      vdp = vdp_address_written (vdp_address_written v.vdp v.grom.fetched) (high pair);
+      grom = past v.grom;
+    })
+
+-- GOALL: the byte is read, and the video processor is set to address 0, for writing 768 bytes.
+abbrev pub begin_fill : View → Exit
+begin_fill v =
+    let at : ℕ = 0x4000 in
+    exit 6 FILL (record v {
+      r = record v.r { r4 = at; r9 = join v.grom.fetched (low v.r.r9); r12 = 768 };
+      vdp = set_video_to at v.vdp;
+      grom = past v.grom;
+    })
+
+-- FILL: the byte is stored and counted, and the step ends where none is left.
+abbrev pub fill_byte : View → Exit
+fill_byte v =
+    let left = difference_of Word v.r.r12 1 in
+    let filled = record v { r = record v.r { r12 = left }; vdp = vdp_data_written v.vdp (high v.r.r9) } in
+    if left == 0 then exit 4 GSTEP filled else exit 3 FILL filled

@@ -39,7 +39,8 @@ pub(crate) fn run_random<L: Ledger>(machine: &mut Machine, steps: &mut Steps<L>)
     requires stands { Stands machine.old (operation_entry (operation_seen (view machine.old))) }
     requires dispatched { let v = view machine.old in Dispatched (state_at_dispatch v) v }
     requires random { operation_seen (view machine.old) ≡ Some (Byte RAND) }
-    ensures { Turned (state_at_dispatch (view machine.old)) most_to_dispatch machine.old machine.new steps.old steps.new result }
+    ensures { let s = state_at_dispatch (view machine.old) in
+        Turned s most_to_dispatch machine.old machine.new steps.old steps.new result }
 {
     draw_seed(machine, steps);
     draw_number(machine, steps);

@@ -1,4 +1,4 @@
-//! EX from its dispatch to the end of the step, and both operations of the family.
+//! EX from its dispatch to the end of the step, and all operations of the family.
 
 ghost use Rattle.std.specs.Prelude.{◌≡◌, ◌<◌, true, Some};
 ghost use Rattle.gpl_defs.specs.declared.instruction.GplOperation.TheVariants.{Two};
@@ -14,10 +14,12 @@ ghost use Rattle.sim_rows.specs.States.{Dispatched, state_at_dispatch, operation
 ghost use Rattle.sim_rows.specs.Results.{RunsRow};
 ghost use Rattle.sim_misc.specs.Family.{is_misc};
 
+use crate::border::run_border;
 use crate::piece::{keep_destination, turn_to_source};
 use crate::random::run_random;
+use crate::screen::run_fill;
 use interp_defs::Turn;
-use native_interp::GORAND;
+use native_interp::{GOALL, GOBACK, GORAND};
 use sim_operands::run_store;
 use sim_rows::{finish_row, start_row};
 use std::sync::ledger::Ledger;
@@ -45,7 +47,8 @@ fn run_exchange_row<L: Ledger>(machine: &mut Machine, steps: &mut Steps<L>) -> T
     requires stands { Stands machine.old (operation_entry (operation_seen (view machine.old))) }
     requires dispatched { let v = view machine.old in Dispatched (state_at_dispatch v) v }
     requires exchange { operation_seen (view machine.old) ≡ Some (Two EX) }
-    ensures { Turned (state_at_dispatch (view machine.old)) most_to_dispatch machine.old machine.new steps.old steps.new result }
+    ensures { let s = state_at_dispatch (view machine.old) in
+        Turned s most_to_dispatch machine.old machine.new steps.old steps.new result }
 {
     if start_row(machine, steps).is_none() {
         return Turn::Stopped(Reason::Cell);
@@ -54,15 +57,22 @@ fn run_exchange_row<L: Ledger>(machine: &mut Machine, steps: &mut Steps<L>) -> T
     Turn::Stepped
 }
 
-/// Runs EX or RAND from its dispatch to the end of the step.
+/// Runs EX, RAND, BACK or ALL from its dispatch to the end of the step.
 pub fn run_misc<L: Ledger>(machine: &mut Machine, steps: &mut Steps<L>) -> Turn
     requires stands { Stands machine.old (operation_entry (operation_seen (view machine.old))) }
     requires dispatched { let v = view machine.old in Dispatched (state_at_dispatch v) v }
     requires family { is_misc (operation_seen (view machine.old)) ≡ true }
-    ensures { Turned (state_at_dispatch (view machine.old)) most_to_dispatch machine.old machine.new steps.old steps.new result }
+    ensures { let s = state_at_dispatch (view machine.old) in
+        Turned s most_to_dispatch machine.old machine.new steps.old steps.new result }
 {
     if machine.pc() == GORAND {
         return run_random(machine, steps);
+    }
+    if machine.pc() == GOBACK {
+        return run_border(machine, steps);
+    }
+    if machine.pc() == GOALL {
+        return run_fill(machine, steps);
     }
     run_exchange_row(machine, steps)
 }

@@ -1,0 +1,175 @@
+-- ALL from its dispatch to the end of the step.
+use Rattle.std.proofs.Common.{◌≡◌, ℕ, zero, suc, ◌+◌, ◌*◌, ◌<◌, Bool, true, false, refl, sym, ap, subst, ◌∙◌, arith, List, [], ◌∷◌, ◌++◌, length, drop, Some, None, Ok}
+use Rattle.std.specs.Prelude.{◌==◌, if◌then◌else◌, slice_index, slice_set, replicate}
+use Rattle.std.proofs.lemmas.Bool.{eqb-true, eqb-false, ne_eqb}
+use Rattle.console_defs.specs.Words.{high}
+use Rattle.console_defs.specs.Flags.{Word, difference_of}
+use Rattle.console_defs.specs.Grom.{GromState, next_in_grom}
+use Rattle.console_defs.specs.Machine.{MachineState}
+use Rattle.console_defs.specs.Vdp.{VdpState, vdp_data_written}
+use Rattle.gpl_defs.specs.declared.instruction.ByteOp.TheVariants.{ALL}
+use Rattle.gpl_defs.specs.declared.instruction.GplOperation.TheVariants.{Byte}
+use Rattle.step_defs.specs.State.{GplState}
+use Rattle.step_defs.specs.Changes.{unchanged, finished}
+use Rattle.step_defs.specs.Step.{with_immediate}
+use Rattle.step_defs.specs.Run.{bound}
+use Rattle.interp_defs.specs.declared.turn.Turn.TheVariants.{Stepped}
+use Rattle.interp_defs.specs.Runs.{is_end}
+use Rattle.interp_defs.specs.Turned.{Turned}
+use Rattle.sim_view.specs.View.{View, view, Stands}
+use Rattle.sim_view.specs.Exits.{Exits, Comes}
+use Rattle.sim_view.proofs.Bridge.{is_view}
+use Rattle.sim_view.proofs.Compose.{Goes, comes, comes_as, comes_then}
+use Rattle.sim_view.proofs.Lists.{high-join}
+use Rattle.sim_view.proofs.Places.{pick}
+use Rattle.sim_operands.specs.Pieces.{past, set_video_to}
+use Rattle.sim_operands.specs.Subroutines.{grom_at}
+use Rattle.sim_rows.specs.States.{Sees, Dispatched, behind_code, operation_in}
+use Rattle.sim_rows.proofs.Steps.{step_byte, bound_made}
+use Rattle.sim_rows.proofs.Ends.{matches, reaches, turned_by}
+use Rattle.sim_misc.specs.Pieces as pieces
+
+-- the byte, and a list whose first bytes are it
+abbrev pub byte_of : GplState → ℕ
+byte_of s = slice_index s.image (behind_code s)
+
+abbrev filled_to : ℕ → ℕ → List ℕ → List ℕ
+filled_to made byte bytes = replicate made byte ++ drop made bytes
+
+one_more : (made byte : ℕ) (bytes : List ℕ) → made < length bytes → slice_set (filled_to made byte bytes) made byte ≡ filled_to (suc made) byte bytes
+one_more made byte [] h = absurd (omega arith)
+one_more zero byte (first ∷ rest) h = refl
+one_more (suc made) byte (first ∷ rest) h = ap (λ (l : List ℕ). byte ∷ l) (one_more made byte rest (omega arith))
+
+-- What is seen where so many bytes of the screen are filled.
+pub record Filled (s : GplState) (made : ℕ) (w : View) : Type 0 where
+  pub cells : w.cells ≡ s.cells
+  pub memory : w.vdp.memory ≡ filled_to made (byte_of s) s.vdp
+  pub registers : w.vdp.registers ≡ s.registers
+  pub held : w.vdp.held ≡ None
+  pub grom : w.grom ≡ grom_at s.image (next_in_grom (behind_code s))
+  pub byte : high w.r.r9 ≡ byte_of s
+  pub left : w.r.r12 + made ≡ 768
+  pub address : w.vdp.address ≡ made
+
+-- where the machine is then
+abbrev pub place : ℕ → ℕ
+place made = if made == 768 then 0x228C else 0x285E
+
+more_left : (made : ℕ) → (made ≡ 768 → ⊥) → place made ≡ 0x285E
+more_left made more = ap (λ (b : Bool). if b then 0x228C else 0x285E) (ne_eqb made 768 more)
+
+-- the pair of bytes sets the address
+address_set : (vdp : VdpState) → vdp.held ≡ None → set_video_to 0x4000 vdp ≡ record vdp { address = 0; held = None }
+address_set vdp idle = rw idle refl
+
+begin_goes : (s : GplState) (v : View) → Dispatched s v → Goes (pieces.begin_fill v) 6 0x285E (Filled s 0)
+begin_goes s v d =
+    let h = d.sees in
+    let set = address_set v.vdp h.held in
+    record {
+      within = omega arith;
+      to_is = refl;
+      holds = record {
+        cells = h.cells;
+        memory = ap (λ (vdp : VdpState). vdp.memory) set ∙ h.vdp;
+        registers = ap (λ (vdp : VdpState). vdp.registers) set ∙ h.registers;
+        held = ap (λ (vdp : VdpState). vdp.held) set;
+        grom = ap past h.grom;
+        byte = high-join v.grom.fetched v.r.r9 ∙ ap (λ (g : GromState). g.fetched) h.grom;
+        left = refl;
+        address = ap (λ (vdp : VdpState). vdp.address) set;
+      };
+    }
+
+-- a byte more
+abbrev with_byte : View → View
+with_byte w = record w { r = record w.r { r12 = difference_of Word w.r.r12 1 }; vdp = vdp_data_written w.vdp (high w.r.r9) }
+
+module _ (s : GplState) (made : ℕ) (w : View) (h : Filled s made w) (some : made < 768) (size : length s.vdp ≡ 16384) where
+  -- the byte is stored behind the others
+  memory_is : slice_set w.vdp.memory w.vdp.address (high w.r.r9) ≡ filled_to (suc made) (byte_of s) s.vdp
+  memory_is =
+      ap (λ (l : List ℕ). slice_set l w.vdp.address (high w.r.r9)) h.memory
+      ∙ ap (λ (n : ℕ). slice_set (filled_to made (byte_of s) s.vdp) n (high w.r.r9)) h.address
+      ∙ ap (λ (n : ℕ). slice_set (filled_to made (byte_of s) s.vdp) made n) h.byte
+      ∙ one_more made (byte_of s) s.vdp (omega arith)
+
+  more_filled : Filled s (suc made) (with_byte w)
+  more_filled =
+      let left = h.left in
+      let address = h.address in
+      record {
+        cells = h.cells;
+        memory = memory_is;
+        registers = h.registers;
+        held = refl;
+        grom = h.grom;
+        byte = h.byte;
+        left = omega arith;
+        address = omega arith;
+      }
+
+  -- the last byte leads to the end of the step
+  ends_at : (difference_of Word w.r.r12 1 == 0) ≡ true → place (suc made) ≡ 0x228C
+  ends_at none =
+      let left = h.left in
+      let zero = eqb-true (difference_of Word w.r.r12 1) 0 none in
+      let all : suc made ≡ 768 = omega arith in
+      ap place all
+
+  goes_on_at : (difference_of Word w.r.r12 1 == 0) ≡ false → place (suc made) ≡ 0x285E
+  goes_on_at more = let left = h.left in more_left (suc made) (λ all. eqb-false (difference_of Word w.r.r12 1) 0 more (omega arith))
+
+  pub fill_goes : Goes (pieces.fill_byte w) 4 (place (suc made)) (Filled s (suc made))
+  fill_goes =
+      pick (difference_of Word w.r.r12 1 == 0)
+      (λ c. rw (c, pieces.fill_byte) (record { within = omega arith; to_is = sym (ends_at c); holds = more_filled }))
+      (λ c. rw (c, pieces.fill_byte) (record { within = omega arith; to_is = sym (goes_on_at c); holds = more_filled }))
+
+-- ---- the loop
+
+-- So many bytes were filled on the way from x to z.
+abbrev pub Filling : GplState → ℕ → MachineState → MachineState → ℕ → ℕ → Type 0
+Filling s made x z t u = Comes (6 + 4 * made) x z t u (place made) (Filled s made)
+
+pub none_yet : (s : GplState) (x z : MachineState) (t u : ℕ) → Dispatched s (view x) → Exits x z t u (pieces.begin_fill (view x)) → Filling s 0 x z t u
+none_yet s x z t u d begun = comes begun (begin_goes s (view x) d)
+
+pub stands_at : (s : GplState) (made : ℕ) (x z : MachineState) (t u : ℕ) → Filling s made x z t u → made < 768 → Stands z 0x285E
+stands_at s made x z t u h some = subst (λ (p : ℕ). Stands z p) (more_left made (λ all. omega arith)) h.stands
+
+size_of_video : (s : GplState) (x : MachineState) → Stands x 0x2848 → Dispatched s (view x) → length s.vdp ≡ 16384
+size_of_video s x stands d = sym (ap length d.sees.vdp) ∙ (is_view x stands.machine).vdp.memory.size
+
+pub one_byte : (s : GplState) (made : ℕ) (x z w : MachineState) (t u v : ℕ) → Stands x 0x2848 → Dispatched s (view x) → Filling s made x z t u → made < 768 →
+    Exits z w u v (pieces.fill_byte (view z)) → Filling s (made + 1) x w t v
+one_byte s made x z w t u v stands d h some stored =
+    let n : suc made ≡ made + 1 = omega arith in
+    let c = comes_then (6 + 4 * made) 4 h stored (fill_goes s made (view z) h.holds some (size_of_video s x stands d)) (ap is_end (more_left made (λ all. omega arith))) in
+    subst (λ (made : ℕ). Filling s made x w t v) n (comes_as (6 + 4 * suc made) (Filled s (suc made)) c (omega arith) (λ w f. f))
+
+-- ---- the turn
+
+abbrev next : GplState → GplState
+next s = finished (with_immediate ALL (byte_of s) (unchanged (record s { pc = next_in_grom (behind_code s) })))
+
+all_seen : (s : GplState) (made : ℕ) (w : View) → made ≡ 768 → Filled s made w → Sees (next s) (next s).pc w
+all_seen s made w all h = record {
+  cells = h.cells;
+  vdp = h.memory ∙ ap (λ (n : ℕ). filled_to n (byte_of s) s.vdp) all;
+  registers = h.registers;
+  held = h.held;
+  grom = h.grom;
+}
+
+pub fills : (s : GplState) (x z : MachineState) (t u : ℕ) → Stands x 0x2848 → Dispatched s (view x) → operation_in s ≡ Some (Byte ALL) →
+    (made : ℕ) → made ≡ 768 → Filling s made x z t u → Turned s 29 x z t u Stepped
+fills s x z t u stands d is made all h =
+    let there : Stands z 0x228C = subst (λ (p : ℕ). Stands z p) (ap place all) h.stands in
+    let c = h in
+    let seen = all_seen s made (view z) all c.holds in
+    let step_is = step_byte s ALL is in
+    let b = bound_made s (next s) (Some (Byte ALL)) is step_is in
+    turned_by x z t u 29 Stepped s (Ok (next s)) step_is
+    (refl, reaches 29 (bound s) h (ap is_end stands.pc) (ap is_end (ap place all)) (omega arith), matches (next s) z there seen)

@@ -1,0 +1,7 @@
+use Rattle.sim_view.specs.View.{view}
+use Rattle.sim_rows.specs.States.{state_at_dispatch}
+use Rattle.sim_misc.proofs.Filling.{Filling}
+use Rattle.sim_misc.proofs.screen.run_fill.Given as goal
+
+abbrev pub invariant-loop : goal.invariant-loop
+invariant-loop g l = Filling (state_at_dispatch (view l.fn.machine)) l.counter l.fn.machine l.machine l.fn.steps l.steps
