@@ -5,3 +5,8 @@ pub mod Lengths
 pub mod Codes
 pub mod Targets
 pub mod Sources
+pub mod Arriving
+pub mod Copies
+pub mod Lies
+pub mod Moving
+pub mod Turning

@@ -1,10 +1,13 @@
 -- Facts about numbers that MOVE needs.
-use Rattle.std.proofs.Common.{◌≡◌, ℕ, ◌+◌, ◌*◌, ◌/◌, ◌%◌, ◌<◌, ◌≤◌, Bool, true, false, refl, ap, arith, eqb}
-use Rattle.std.specs.Prelude.{◌==◌, ◌||◌, ◌&&◌, not, nat_lt}
+use Rattle.std.proofs.Common.{◌≡◌, ℕ, ◌+◌, ◌*◌, ◌/◌, ◌%◌, ◌<◌, ◌≤◌, Bool, true, false, refl, ap, arith, eqb, Result, Ok, Err}
+use Rattle.std.specs.Prelude.{◌==◌, ◌||◌, ◌&&◌, not, nat_lt, if◌then◌else◌}
 use Rattle.std.proofs.lemmas.Bool.{lt-ltb, le-ltb, ltb-true, ltb-false, ne_eqb, eq-eqb}
 use Rattle.console_defs.specs.Words.{low, join}
 use Rattle.console_defs.specs.Shifts.{shifted, last_out}
 use Rattle.console_defs.specs.declared.instruction.ShiftOp.TheVariants.{SRL}
+use Rattle.step_defs.specs.declared.reason.Reason.{Reason}
+use Rattle.step_defs.specs.declared.reason.Reason.TheVariants.{Length}
+use Rattle.step_defs.specs.Copy.{within_limit}
 use Rattle.sim_move.specs.Pieces.{form_of}
 
 -- a byte that was read over a cleared register comes down
@@ -39,3 +42,19 @@ form_index code = let n : form_by code / 64 % 2 ≡ code / 2 % 2 = omega arith i
 
 pub form_space : (code : ℕ) → (form_by code / 32 % 2 == 1) ≡ true
 form_space code = let n : form_by code / 32 % 2 ≡ 1 = omega arith in ap (λ (k : ℕ). eqb k 1) n
+
+number_in : Result ℕ Reason → ℕ
+number_in (Ok n) = n
+number_in (Err reason) = 0
+
+-- a length within its limit is the one that was checked
+pub within_is : (count bytes : ℕ) → within_limit count ≡ Ok bytes → (count ≡ bytes) × (bytes ≤ 16384)
+unfolding number_in
+within_is count bytes e = by (nat_lt 16384 count) refl e
+  where
+    by : (b : Bool) → nat_lt 16384 count ≡ b → (if b then Err Length else Ok count) ≡ Ok bytes → (count ≡ bytes) × (bytes ≤ 16384)
+    by true c e = absurd (cc)
+    by false c e =
+        let same : count ≡ bytes = ap number_in e in
+        let le : count ≤ 16384 = ltb-false 16384 count c in
+        (same, omega arith)

@@ -135,10 +135,10 @@ copy_in kind s = do
   Ok (found, from)
 
 -- At MOVEB the copy stands before its first byte.
-abbrev pub Stands : MoveKind → GplState → (ℕ × To) × From → View → Type 0
-Stands kind s found w = Copying (begun kind s) found.1 found.0.1 found.0.0 w
+abbrev pub AtCopy : MoveKind → GplState → (ℕ × To) × From → View → Type 0
+AtCopy kind s found w = Copying (begun kind s) found.1 found.0.1 found.0.0 w
 
 abbrev pub FindsCopy : GplState → MachineState → MachineState → ℕ → ℕ → Type 0
 FindsCopy s x y before after =
     (kind : MoveKind) → operation_in s ≡ Some (Move kind)
-    → Arrives 190 s x y before after MOVEB (Stands kind s) (copy_in kind s)
+    → Arrives 190 s x y before after MOVEB (AtCopy kind s) (copy_in kind s)

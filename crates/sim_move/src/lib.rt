@@ -1,11 +1,13 @@
-//! MOVE up to its copy, run on the machine: the length, the target and the source, each with its checks.
+//! MOVE, run on the machine: the length, the target and the source, each with its checks, and then the copy.
 #![tactic(auto)]
 
+mod family;
 mod length;
 mod piece;
 mod source;
 mod target;
 
+pub use family::run_move;
 pub use piece::{
     ask_index, ask_length, ask_next, ask_source, count_registers, keep_length, keep_target,
     load_length, seek_source, turn_to_grom,

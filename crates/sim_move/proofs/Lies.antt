@@ -1,0 +1,81 @@
+-- What is found lies where it may be copied.
+use Rattle.std.proofs.Common.{◌≡◌, ℕ, ◌+◌, ◌<◌, ◌≤◌, Bool, true, false, refl, sym, ap, subst, ◌∙◌, arith, Option, Some, Result, Ok, Err}
+use Rattle.std.specs.Prelude.{nat_le, if◌then◌else◌}
+use Rattle.std.proofs.lemmas.Bool.{leb-true}
+use Rattle.source_defs.specs.Refusals.{◌>>=◌}
+use Rattle.gpl_defs.specs.declared.instruction.MoveTarget.{MoveTarget}
+use Rattle.gpl_defs.specs.declared.instruction.MoveTarget.TheVariants as target
+use Rattle.gpl_defs.specs.declared.instruction.MoveSource.{MoveSource}
+use Rattle.gpl_defs.specs.declared.instruction.MoveSource.TheVariants as source
+use Rattle.step_defs.specs.declared.reason.Reason.{Reason}
+use Rattle.step_defs.specs.declared.reason.Reason.TheVariants.{Exit, Register}
+use Rattle.step_defs.specs.State.{GplState}
+use Rattle.step_defs.specs.Place.{Place, place_of, indexed}
+use Rattle.step_defs.specs.Copy.{From, FromMemory, FromGrom, To, ToMemory, ToRegisters, target_of, origin_of}
+use Rattle.sim_operands.specs.Values.{number_of_space}
+use Rattle.sim_rows.proofs.Fronting.{space_small}
+use Rattle.sim_rows.proofs.Places.{place_lies, lies_at}
+use Rattle.sim_view.specs.View.{View}
+use Rattle.sim_copy.specs.Copying.{StandsTo, StandsFrom}
+use Rattle.step_defs.specs.Changes.{Changes}
+use Rattle.sim_move.proofs.Arriving.{both}
+
+abbrev pub ToLies : ℕ → To → Type 0
+ToLies bytes (ToMemory place) = number_of_space place.space ≡ 0 → place.address + bytes ≤ 0xC2
+ToLies bytes (ToRegisters number) = number + bytes ≤ 8
+
+abbrev pub FromLies : ℕ → From → Type 0
+FromLies bytes (FromMemory place) = number_of_space place.space ≡ 0 → place.address + bytes ≤ 0xC2
+FromLies bytes (FromGrom address) = Unit {0}
+
+-- what an answer gives lies so
+abbrev Gives : {X : Type 0} → (X → Type 0) → Result X Reason → Type 0
+Gives Good (Ok x) = Good x
+Gives Good (Err reason) = Unit {0}
+
+gives_at : {X : Type 0} (Good : X → Type 0) (r : Result X Reason) (x : X) → Gives Good r → r ≡ Ok x → Good x
+gives_at Good r x h e = subst (Gives Good) e h
+
+place_gives : {X : Type 0} (Good : X → Type 0) (bytes : ℕ) (r : Result Place Reason) (f : Place → X) → ((place : Place) → r ≡ Ok place → Good (f place)) → Gives Good (r >>= λ p. Ok (f p))
+place_gives Good bytes (Ok place) f h = h place refl
+place_gives Good bytes (Err reason) f h = tt
+
+index_gives : (bytes : ℕ) (r : Result ℕ Reason) → Gives (FromLies bytes) (r >>= λ address. Ok (FromGrom address))
+index_gives bytes (Ok address) = tt
+index_gives bytes (Err reason) = tt
+
+target_gives : (s : GplState) (bytes : ℕ) (t : MoveTarget) → Gives (ToLies bytes) (target_of s bytes t)
+target_gives s bytes (target.At operand) =
+    place_gives (ToLies bytes) bytes (place_of s bytes operand) ToMemory (λ place e. lies_at bytes (place_of s bytes operand) place (place_lies s bytes operand) e)
+target_gives s bytes (target.Register number) = by (nat_le (number + bytes) 8) refl
+  where
+    by : (b : Bool) → nat_le (number + bytes) 8 ≡ b → Gives (ToLies bytes) (if b then Ok (ToRegisters number) else Err Register)
+    by true e = leb-true (number + bytes) 8 e
+    by false e = tt
+
+source_gives : (s : GplState) (bytes : ℕ) (t : MoveSource) → Gives (FromLies bytes) (origin_of s bytes t)
+source_gives s bytes (source.At operand) =
+    place_gives (FromLies bytes) bytes (place_of s bytes operand) FromMemory (λ place e. lies_at bytes (place_of s bytes operand) place (place_lies s bytes operand) e)
+source_gives s bytes (source.Grom address) = tt
+source_gives s bytes (source.GromIndexed address index) = index_gives bytes (indexed s (Some index) address)
+
+pub target_lies : (s : GplState) (bytes : ℕ) (t : MoveTarget) (to : To) → target_of s bytes t ≡ Ok to → ToLies bytes to
+target_lies s bytes t to e = gives_at (ToLies bytes) (target_of s bytes t) to (target_gives s bytes t) e
+
+pub source_lies : (s : GplState) (bytes : ℕ) (t : MoveSource) (from : From) → origin_of s bytes t ≡ Ok from → FromLies bytes from
+source_lies s bytes t from e = gives_at (FromLies bytes) (origin_of s bytes t) from (source_gives s bytes t) e
+
+-- ---- what the copy asks of the registers
+
+pub source_visible : (bytes : ℕ) (c : Changes) (from : From) (w : View) → StandsFrom c from w → w.r.r12 ≡ bytes → FromLies bytes from → w.r.r5 ≡ 0 → w.r.r2 + w.r.r12 ≤ 0xC2
+source_visible bytes c (FromMemory place) w h n lies z =
+    let le = lies (sym h.loads_from.space ∙ z) in let a = h.loads_from.address in omega arith
+source_visible bytes c (FromGrom address) w h n lies z = let two = h.space in absurd (omega arith)
+
+pub target_visible : (bytes : ℕ) (to : To) (w : View) → StandsTo to w → w.r.r12 ≡ bytes → ToLies bytes to → w.r.r8 ≡ 0 → w.r.r7 + w.r.r12 ≤ 0xC2
+target_visible bytes (ToMemory place) w h n lies z = let le = lies (sym h.space ∙ z) in let a = h.address in omega arith
+target_visible bytes (ToRegisters number) w h n lies z = let two = h.space in absurd (omega arith)
+
+pub registers_there : (bytes : ℕ) (to : To) (w : View) → StandsTo to w → w.r.r12 ≡ bytes → ToLies bytes to → 1 < w.r.r8 → w.r.r7 + w.r.r12 ≤ 8
+registers_there bytes (ToMemory place) w h n lies more = let small = space_small place.space w.r.r8 h.space in absurd (omega arith)
+registers_there bytes (ToRegisters number) w h n lies more = let a = h.number_is in let le : number + bytes ≤ 8 = lies in omega arith

@@ -1,0 +1,211 @@
+-- The step of MOVE is its copy, or the stop by the first check that fails.
+use Rattle.std.proofs.Common.{◌≡◌, ℕ, ◌+◌, ◌*◌, ◌≤◌, Bool, true, false, refl, sym, ap, subst, ◌∙◌, arith, Option, Some, None, Result, Ok, Err}
+use Rattle.std.specs.Prelude.{nat_lt, nat_le, if◌then◌else◌}
+use Rattle.console_defs.specs.Flags.{Word}
+use Rattle.console_defs.specs.Words.{plus}
+use Rattle.source_defs.specs.Refusals.{◌>>=◌}
+use Rattle.gpl_defs.specs.declared.instruction.MoveKind.{MoveKind}
+use Rattle.gpl_defs.specs.declared.instruction.MoveLength.{MoveLength}
+use Rattle.gpl_defs.specs.declared.instruction.MoveLength.TheVariants as counted
+use Rattle.gpl_defs.specs.declared.instruction.MoveTarget.{MoveTarget}
+use Rattle.gpl_defs.specs.declared.instruction.MoveTarget.TheVariants as target
+use Rattle.gpl_defs.specs.declared.instruction.MoveSource.{MoveSource}
+use Rattle.gpl_defs.specs.declared.instruction.MoveSource.TheVariants as source
+use Rattle.gpl_defs.specs.declared.instruction.GplOperation.TheVariants.{Move}
+use Rattle.step_defs.specs.declared.reason.Reason.{Reason}
+use Rattle.step_defs.specs.declared.reason.Reason.TheVariants.{Exit, Cell, Length, Register}
+use Rattle.step_defs.specs.State.{GplState}
+use Rattle.step_defs.specs.Place.{Place, place_of, value_at, indexed, is_visible, word_at}
+use Rattle.step_defs.specs.Changes.{Changes, finished}
+use Rattle.step_defs.specs.Copy.{From, FromMemory, FromGrom, To, ToMemory, ToRegisters, length_of, within_limit, target_of, origin_of, copied, moved}
+use Rattle.step_defs.specs.Step.{step}
+use Rattle.step_defs.specs.Run.{bound, bytes_or_none}
+use Rattle.sim_rows.specs.States.{operation_in}
+use Rattle.sim_rows.proofs.Steps.{step_move, place_same, bound_made}
+use Rattle.sim_rows.proofs.Operands.{value_same}
+use Rattle.sim_rows.proofs.Places.{Lies, place_lies}
+use Rattle.sim_move.specs.Moves.{length_read, target_read, source_read, begun, target_in, copy_in}
+use Rattle.sim_move.proofs.Arriving.{both, same_then}
+use Rattle.sim_move.proofs.Numbers.{within_is}
+
+-- ---- another pc makes no difference
+
+abbrev at_pc : GplState → ℕ → GplState
+at_pc s n = record s { pc = n }
+
+length_same : (s : GplState) (n : ℕ) (l : MoveLength) → length_of (at_pc s n) l ≡ length_of s l
+length_same s n (counted.At operand) =
+    same_then (place_of (at_pc s n) 2 operand) (place_of s 2 operand) (λ p. Ok (value_at (at_pc s n) Word p)) (λ p. Ok (value_at s Word p)) (place_same (at_pc s n) s 2 operand refl)
+    (λ p. ap Ok (value_same (at_pc s n) s Word p refl refl))
+length_same s n (counted.Immediate count) = refl
+
+target_same : (s : GplState) (n bytes : ℕ) (t : MoveTarget) → target_of (at_pc s n) bytes t ≡ target_of s bytes t
+target_same s n bytes (target.At operand) = ap (λ (r : Result Place Reason). r >>= λ p. Ok (ToMemory p)) (place_same (at_pc s n) s bytes operand refl)
+target_same s n bytes (target.Register number) = refl
+
+origin_same : (s : GplState) (n bytes : ℕ) (t : MoveSource) → origin_of (at_pc s n) bytes t ≡ origin_of s bytes t
+origin_same s n bytes (source.At operand) = ap (λ (r : Result Place Reason). r >>= λ p. Ok (FromMemory p)) (place_same (at_pc s n) s bytes operand refl)
+origin_same s n bytes (source.Grom address) = refl
+origin_same s n bytes (source.GromIndexed address index) = refl
+
+-- ---- the three parts, and then the copy
+
+module _ (w : ℕ → Result ℕ Reason) (tg : ℕ → Result To Reason) (og : ℕ → Result From Reason) (k : ℕ → To → From → Changes) where
+  abbrev pair : ℕ → To → Result (ℕ × To) Reason
+  pair bytes to = Ok (bytes, to)
+
+  abbrev triple : ℕ × To → From → Result ((ℕ × To) × From) Reason
+  triple found from = Ok (found, from)
+
+  abbrev copy : (ℕ × To) × From → Result Changes Reason
+  copy f = Ok (k f.0.0 f.0.1 f.1)
+
+  by_source : (bytes : ℕ) (to : To) (r : Result From Reason) → (r >>= λ from. Ok (k bytes to from)) ≡ ((r >>= triple (bytes, to)) >>= copy)
+  by_source bytes to (Ok from) = refl
+  by_source bytes to (Err reason) = refl
+
+  by_target : (bytes : ℕ) (r : Result To Reason) → (r >>= λ to. (og bytes >>= λ from. Ok (k bytes to from))) ≡ (((r >>= pair bytes) >>= λ found. (og found.0 >>= triple found)) >>= copy)
+  by_target bytes (Ok to) = by_source bytes to (og bytes)
+  by_target bytes (Err reason) = refl
+
+  by_limit : (r : Result ℕ Reason) → (r >>= λ bytes. (tg bytes >>= λ to. (og bytes >>= λ from. Ok (k bytes to from)))) ≡
+      (((r >>= λ bytes. (tg bytes >>= pair bytes)) >>= λ found. (og found.0 >>= triple found)) >>= copy)
+  by_limit (Ok bytes) = by_target bytes (tg bytes)
+  by_limit (Err reason) = refl
+
+  by_length : (r : Result ℕ Reason) → (r >>= λ count. (w count >>= λ bytes. (tg bytes >>= λ to. (og bytes >>= λ from. Ok (k bytes to from))))) ≡
+      ((r >>= λ count. ((w count >>= λ bytes. (tg bytes >>= pair bytes)) >>= λ found. (og found.0 >>= triple found))) >>= copy)
+  by_length (Ok count) = by_limit (w count)
+  by_length (Err reason) = refl
+
+module _ (s : GplState) (kind : MoveKind) where
+  abbrev pub made : (ℕ × To) × From → Changes
+  made f = copied f.0.0 f.1 f.0.1 (begun kind s)
+
+  moved_is : moved (length_read s).0 (target_read kind s).0 (source_read kind s).0 (begun kind s) ≡ (copy_in kind s >>= λ f. Ok (made f))
+  moved_is =
+      let n = (source_read kind s).1 in
+      let l = (length_read s).0 in
+      let t = (target_read kind s).0 in
+      let o = (source_read kind s).0 in
+      let k : ℕ → To → From → Changes = λ bytes to from. copied bytes from to (begun kind s) in
+      same_then (length_of (at_pc s n) l) (length_of s l) _ _ (length_same s n l)
+      (λ count. same_then (within_limit count) (within_limit count) _ _ refl
+      (λ bytes. same_then (target_of (at_pc s n) bytes t) (target_of s bytes t) _ _ (target_same s n bytes t)
+      (λ to. ap (λ (r : Result From Reason). r >>= λ from. Ok (k bytes to from)) (origin_same s n bytes o))))
+      ∙ by_length within_limit (λ bytes. target_of s bytes t) (λ bytes. origin_of s bytes o) k (length_of s l)
+
+  abbrev by_copy : Result ((ℕ × To) × From) Reason → Result GplState Reason
+  by_copy r = (r >>= λ f. Ok (made f)) >>= λ (c : Changes). Ok (finished c)
+
+  step_by : operation_in s ≡ Some (Move kind) → step s ≡ by_copy (copy_in kind s)
+  step_by known = step_move s kind known ∙ ap (λ (r : Result Changes Reason). r >>= λ (c : Changes). Ok (finished c)) moved_is
+
+  pub step_copies : operation_in s ≡ Some (Move kind) → (f : (ℕ × To) × From) → copy_in kind s ≡ Ok f → step s ≡ Ok (finished (made f))
+  step_copies known f is = step_by known ∙ ap by_copy is
+
+  pub step_stops : operation_in s ≡ Some (Move kind) → (reason : Reason) → copy_in kind s ≡ Err reason → step s ≡ Err reason
+  step_stops known reason is = step_by known ∙ ap by_copy is
+
+  -- ---- what was found
+
+  pub record Parts (f : (ℕ × To) × From) : Type 0 where
+    pub length : length_of s (length_read s).0 ≡ Ok f.0.0
+    pub target : target_of s f.0.0 (target_read kind s).0 ≡ Ok f.0.1
+    pub source : origin_of s f.0.0 (source_read kind s).0 ≡ Ok f.1
+
+  same_parts : (f : (ℕ × To) × From) (g : (ℕ × To) × From) → ◌≡◌ {A = Result ((ℕ × To) × From) Reason} (Ok g) (Ok f) → g ≡ f
+  same_parts f g e = ap (in_ok f) e
+    where
+      in_ok : (ℕ × To) × From → Result ((ℕ × To) × From) Reason → (ℕ × To) × From
+      in_ok other (Ok f) = f
+      in_ok other (Err reason) = other
+
+  pub parts : (f : (ℕ × To) × From) → copy_in kind s ≡ Ok f → Parts f
+  parts f e =
+      let o = (source_read kind s).0 in
+      let t = (target_read kind s).0 in
+      let one = both (length_of s (length_read s).0) (λ count. (target_in s count t >>= λ found. (origin_of s found.0 o >>= triple_of found))) f e in
+      let two = both (target_in s one.0 t) (λ found. (origin_of s found.0 o >>= triple_of found)) f one.2 in
+      let three = both (origin_of s two.0.0 o) (triple_of two.0) f two.2 in
+      let four = both (within_limit one.0) (λ bytes. (target_of s bytes t >>= pair_of bytes)) two.0 two.1 in
+      let five = both (target_of s four.0 t) (pair_of four.0) two.0 four.2 in
+      let limit = (within_is one.0 four.0 four.1).0 in
+      let pair_is : (four.0, five.0) ≡ two.0 = pair_in two.0 (four.0, five.0) five.2 in
+      let all : (two.0, three.0) ≡ f = same_parts f (two.0, three.0) three.2 in
+      let P : ℕ × To → Type 0 = λ q. (length_of s (length_read s).0 ≡ Ok q.0) × (target_of s q.0 t ≡ Ok q.1) in
+      let first : P two.0 = subst P pair_is (one.1 ∙ ap Ok limit, five.1) in
+      subst Parts all (record { length = first.0; target = first.1; source = three.1 })
+    where
+      triple_of : ℕ × To → From → Result ((ℕ × To) × From) Reason
+      triple_of found from = Ok (found, from)
+
+      pair_of : ℕ → To → Result (ℕ × To) Reason
+      pair_of bytes to = Ok (bytes, to)
+
+      pair_in : (f g : ℕ × To) → ◌≡◌ {A = Result (ℕ × To) Reason} (Ok g) (Ok f) → g ≡ f
+      pair_in f g e = ap (found_in f) e
+        where
+          found_in : ℕ × To → Result (ℕ × To) Reason → ℕ × To
+          found_in other (Ok f) = f
+          found_in other (Err reason) = other
+
+  pub bound_is : operation_in s ≡ Some (Move kind) → (f : (ℕ × To) × From) → copy_in kind s ≡ Ok f → bound s ≡ 440 + 64 * f.0.0
+  bound_is known f e =
+      bound_made s (finished (made f)) (Some (Move kind)) known (step_copies known f e) ∙ ap (λ (r : Result ℕ Reason). 440 + 64 * bytes_or_none r) (parts f e).length
+
+-- ---- MOVE never leaves the program
+
+abbrev Never : {X : Type 0} → Result X Reason → Type 0
+Never (Ok x) = Unit {0}
+Never (Err reason) = reason ≡ Exit → ⊥
+
+then_never : {X Y : Type 0} (r : Result X Reason) (f : X → Result Y Reason) → Never r → ((x : X) → Never (f x)) → Never (r >>= f)
+then_never (Ok x) f n h = h x
+then_never (Err reason) f n h = n
+
+lies_never : (bytes : ℕ) (r : Result Place Reason) → Lies bytes r → Never r
+lies_never bytes (Ok place) h = tt
+lies_never bytes (Err reason) h = λ e. absurd (cc)
+
+indexed_never : (s : GplState) (index address : ℕ) → Never (indexed s (Some index) address)
+indexed_never s index address = by (is_visible 2 index)
+  where
+    by : (b : Bool) → Never (if b then Ok (plus address (word_at s index)) else Err Cell)
+    by true = tt
+    by false = λ e. absurd (cc)
+
+length_never : (s : GplState) (l : MoveLength) → Never (length_of s l)
+length_never s (counted.At operand) = then_never (place_of s 2 operand) _ (lies_never 2 _ (place_lies s 2 operand)) (λ p. tt)
+length_never s (counted.Immediate count) = tt
+
+limit_never : (count : ℕ) → Never (within_limit count)
+limit_never count = by (nat_lt 16384 count)
+  where
+    by : (b : Bool) → Never (if b then Err Length else Ok count)
+    by true = λ e. absurd (cc)
+    by false = tt
+
+target_never : (s : GplState) (bytes : ℕ) (t : MoveTarget) → Never (target_of s bytes t)
+target_never s bytes (target.At operand) = then_never (place_of s bytes operand) _ (lies_never bytes _ (place_lies s bytes operand)) (λ p. tt)
+target_never s bytes (target.Register number) = by (nat_le (number + bytes) 8)
+  where
+    by : (b : Bool) → Never (if b then Ok (ToRegisters number) else Err Register)
+    by true = tt
+    by false = λ e. absurd (cc)
+
+source_never : (s : GplState) (bytes : ℕ) (t : MoveSource) → Never (origin_of s bytes t)
+source_never s bytes (source.At operand) = then_never (place_of s bytes operand) _ (lies_never bytes _ (place_lies s bytes operand)) (λ p. tt)
+source_never s bytes (source.Grom address) = tt
+source_never s bytes (source.GromIndexed address index) = then_never (indexed s (Some index) address) _ (indexed_never s index address) (λ a. tt)
+
+never_at : {X : Type 0} (r : Result X Reason) (reason : Reason) → Never r → r ≡ Err reason → reason ≡ Exit → ⊥
+never_at r reason n e = let P : Result _ Reason → Type 0 = λ q. Never q in subst P e n
+
+pub no_exit : (s : GplState) (kind : MoveKind) (reason : Reason) → copy_in kind s ≡ Err reason → reason ≡ Exit → ⊥
+no_exit s kind reason e =
+    never_at (copy_in kind s) reason
+    (then_never (length_of s (length_read s).0) _ (length_never s (length_read s).0)
+    (λ count. then_never (target_in s count (target_read kind s).0) _
+    (then_never (within_limit count) _ (limit_never count) (λ bytes. then_never (target_of s bytes (target_read kind s).0) _ (target_never s bytes (target_read kind s).0) (λ to. tt)))
+    (λ found. then_never (origin_of s found.0 (source_read kind s).0) _ (source_never s found.0 (source_read kind s).0) (λ from. tt)))) e
