@@ -11,6 +11,7 @@ use Rattle.gpl_defs.specs.declared.instruction.MoveKind.TheVariants.{GromToMemor
 use Rattle.gpl_defs.specs.declared.instruction.GplOperation.{GplOperation}
 use Rattle.gpl_defs.specs.declared.instruction.GplOperation.TheVariants.{Move}
 use Rattle.gpl_defs.specs.Reading.{operand_at, word_at, index_by, from_at}
+use Rattle.native_interp.specs.Entries.{operation_entry}
 use Rattle.step_defs.specs.declared.reason.Reason.{Reason}
 use Rattle.step_defs.specs.State.{GplState}
 use Rattle.step_defs.specs.Place.{Place, place_of, indexed}
@@ -39,6 +40,10 @@ use Rattle.sim_move.proofs.Numbers.{within_is}
 pub kind_of : (o : Option GplOperation) → is_move o ≡ true → (kind : MoveKind) × (o ≡ Some (Move kind))
 kind_of (Some (Move kind)) e = (kind, refl)
 kind_of _ e = absurd (cc)
+
+pub entry_is : (o : Option GplOperation) → is_move o ≡ true → operation_entry o ≡ 0x2796
+entry_is (Some (Move kind)) e = refl
+entry_is _ e = absurd (cc)
 
 at_entry : (kind : MoveKind) → source_entry kind ≡ 0x22B8 → ⊥
 at_entry GromToMemory e = absurd (omega arith)

@@ -2,6 +2,7 @@
 
 ghost use Rattle.std.specs.Prelude.{◌≡◌, true};
 ghost use Rattle.native_interp.specs.declared.addresses.TheConstants as address;
+ghost use Rattle.native_interp.specs.Entries.{operation_entry};
 ghost use Rattle.step_defs.specs.Reasons.{number_of};
 ghost use Rattle.interp_defs.specs.Interpreter.{most_to_dispatch};
 ghost use Rattle.interp_defs.specs.Turned.{Turned};
@@ -66,7 +67,7 @@ fn reason_told(machine: &Machine) -> Reason
 /// Runs MOVE from its dispatch to the end of the step. It stops by reason 2 where a cell of its operands or of the index is not
 /// visible, by reason 4 where it is longer than 16,384 bytes, and by reason 5 where a register is not there.
 pub fn run_move<L: Ledger>(machine: &mut Machine, steps: &mut Steps<L>) -> Turn
-    requires stands { Stands machine.old address.GOMOVE }
+    requires stands { Stands machine.old (operation_entry (operation_seen (view machine.old))) }
     requires dispatched { let v = view machine.old in Dispatched (state_at_dispatch v) v }
     requires family { is_move (operation_seen (view machine.old)) ≡ true }
     ensures { let s = state_at_dispatch (view machine.old) in

@@ -8,7 +8,6 @@ use Rattle.gpl_defs.specs.declared.instruction.TwoName.TheVariants as two
 use Rattle.gpl_defs.specs.declared.instruction.GplOperation.{GplOperation}
 use Rattle.gpl_defs.specs.declared.instruction.GplOperation.TheVariants as operation
 use Rattle.native_interp.specs.Entries.{operation_entry}
-use Rattle.step_defs.specs.Built.{is_built_operation}
 use Rattle.interp_defs.specs.Runs.{is_end}
 use Rattle.sim_alu.specs.Family.{is_alu}
 use Rattle.sim_shift.specs.Family.{is_shift}
@@ -16,9 +15,10 @@ use Rattle.sim_muldiv.specs.Family.{is_muldiv}
 use Rattle.sim_compare.specs.Family.{is_compare}
 use Rattle.sim_flow.specs.Family.{is_flow}
 use Rattle.sim_stack.specs.Family.{is_stack}
+use Rattle.sim_move.specs.Family.{is_move}
 use Rattle.sim_misc.specs.Family.{is_misc}
 use Rattle.sim_steps.specs.declared.family.Family.{Family}
-use Rattle.sim_steps.specs.declared.family.Family.TheVariants.{Alu, Shift, MulDiv, Compare, Flow, Stack, Misc, Refused}
+use Rattle.sim_steps.specs.declared.family.Family.TheVariants.{Alu, Shift, MulDiv, Compare, Flow, Stack, Move, Misc, Refused}
 use Rattle.sim_steps.specs.Families.{family_of}
 
 -- what is true of the operations of each family
@@ -29,8 +29,9 @@ IsIn MulDiv o = is_muldiv o ≡ true
 IsIn Compare o = is_compare o ≡ true
 IsIn Flow o = is_flow o ≡ true
 IsIn Stack o = is_stack o ≡ true
+IsIn Move o = is_move o ≡ true
 IsIn Misc o = is_misc o ≡ true
-IsIn Refused o = operation_entry o ≡ 0x22AE
+IsIn Refused o = o ≡ None
 
 is_in : (o : Option GplOperation) → IsIn (family_of o) o
 is_in (Some (operation.Plain RTN)) = refl
@@ -131,51 +132,3 @@ enters (Some (operation.Two two.SRL)) = refl
 enters (Some (operation.Two two.SRC)) = refl
 enters (Some (operation.Move kind)) = refl
 enters None = refl
-
--- what leads to the stop is not built
-pub unbuilt : (op : GplOperation) → operation_entry (Some op) ≡ 0x22AE → is_built_operation op ≡ false
-unbuilt (operation.Plain RTN) e = absurd (omega arith)
-unbuilt (operation.Plain RTNC) e = absurd (omega arith)
-unbuilt (operation.Plain H) e = absurd (omega arith)
-unbuilt (operation.Plain GT) e = absurd (omega arith)
-unbuilt (operation.Plain EXIT) e = absurd (omega arith)
-unbuilt (operation.Plain CARRY) e = absurd (omega arith)
-unbuilt (operation.Plain OVF) e = absurd (omega arith)
-unbuilt (operation.Byte RAND) e = absurd (omega arith)
-unbuilt (operation.Byte BACK) e = refl
-unbuilt (operation.Byte ALL) e = refl
-unbuilt (operation.Jump B) e = absurd (omega arith)
-unbuilt (operation.Jump CALL) e = absurd (omega arith)
-unbuilt (operation.Branch on) e = absurd (omega arith)
-unbuilt (operation.One ABS) e = absurd (omega arith)
-unbuilt (operation.One NEG) e = absurd (omega arith)
-unbuilt (operation.One INV) e = absurd (omega arith)
-unbuilt (operation.One CLR) e = absurd (omega arith)
-unbuilt (operation.One CASE) e = absurd (omega arith)
-unbuilt (operation.One CZ) e = absurd (omega arith)
-unbuilt (operation.One INC) e = absurd (omega arith)
-unbuilt (operation.One DEC) e = absurd (omega arith)
-unbuilt (operation.One INCT) e = absurd (omega arith)
-unbuilt (operation.One DECT) e = absurd (omega arith)
-unbuilt (operation.One FETCH) e = absurd (omega arith)
-unbuilt (operation.One PUSH) e = absurd (omega arith)
-unbuilt (operation.Two two.ADD) e = absurd (omega arith)
-unbuilt (operation.Two two.SUB) e = absurd (omega arith)
-unbuilt (operation.Two two.MUL) e = absurd (omega arith)
-unbuilt (operation.Two two.DIV) e = absurd (omega arith)
-unbuilt (operation.Two two.AND) e = absurd (omega arith)
-unbuilt (operation.Two two.OR) e = absurd (omega arith)
-unbuilt (operation.Two two.XOR) e = absurd (omega arith)
-unbuilt (operation.Two two.ST) e = absurd (omega arith)
-unbuilt (operation.Two two.EX) e = absurd (omega arith)
-unbuilt (operation.Two two.CH) e = absurd (omega arith)
-unbuilt (operation.Two two.CHE) e = absurd (omega arith)
-unbuilt (operation.Two two.CGT) e = absurd (omega arith)
-unbuilt (operation.Two two.CGE) e = absurd (omega arith)
-unbuilt (operation.Two two.CEQ) e = absurd (omega arith)
-unbuilt (operation.Two two.CLOG) e = absurd (omega arith)
-unbuilt (operation.Two two.SRA) e = absurd (omega arith)
-unbuilt (operation.Two two.SLL) e = absurd (omega arith)
-unbuilt (operation.Two two.SRL) e = absurd (omega arith)
-unbuilt (operation.Two two.SRC) e = absurd (omega arith)
-unbuilt (operation.Move kind) e = refl

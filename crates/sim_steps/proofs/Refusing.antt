@@ -17,7 +17,7 @@ use Rattle.sim_rows.proofs.Steps.{bound_stop}
 use Rattle.sim_rows.proofs.Ends.{stops, reaches, turned_by}
 
 module _ (s : GplState) (x y : MachineState) (t u : ℕ) (d : Dispatched s (view x)) where
-  -- a code byte that is no instruction's, or that of an instruction that is not built
+  -- a code byte that is no instruction's
   pub refuses : step s ≡ Err Opcode → Stands x 0x22AE → Exits x y t u (pieces.stop_code (view x)) → Turned s 29 x y t u (Stopped Opcode)
   refuses is stands run =
       let h = d.sees in

@@ -19,14 +19,10 @@ use Rattle.sim_view.proofs.Bridge.{is_view}
 use Rattle.sim_steps.specs.declared.family.Family.{Family}
 use Rattle.sim_steps.specs.Families.{family_of}
 use Rattle.sim_steps.proofs.Families.{IsIn, in_family}
-use Rattle.sim_rows.proofs.Steps.{step_none, step_unbuilt}
+use Rattle.sim_rows.proofs.Steps.{step_none}
 use Rattle.sim_rows.proofs.Ends.{state_at, turned_from}
 use Rattle.sim_steps.proofs.Refusing.{refuses}
 use Rattle.sim_steps.proofs.Families as families
-
-refused : (s : GplState) (o : Option GplOperation) → operation_at (code_byte s) ≡ o → operation_entry o ≡ 0x22AE → step s ≡ Err Opcode
-refused s None e f = step_none s e
-refused s (Some op) e f = step_unbuilt s op e (families.unbuilt op f)
 
 module _ (s : GplState) (x y : MachineState) (t u : ℕ) (c : Comes 29 x y t u (operation_entry (operation_at (code_byte s))) (Dispatched s)) where
   seen : state_at_dispatch (view y) ≡ s
@@ -48,14 +44,13 @@ module _ (s : GplState) (x y : MachineState) (t u : ℕ) (c : Comes 29 x y t u (
   pub family_is : (code : ℕ) (o : Option GplOperation) (f g : Family) → code ≡ (view y).r.r0 → o ≡ operation_at code → f ≡ family_of o → f ≡ g → IsIn g (operation_seen (view y))
   family_is code o f g e k h is = in_family (operation_seen (view y)) g (sym is ∙ h ∙ ap family_of (k ∙ operation_is code e))
 
-  pub stands_at : (q : ℕ) → operation_entry (operation_seen (view y)) ≡ q → Stands y q
-  stands_at q e = subst (λ (q : ℕ). Stands y q) e stands
+  pub stands_stop : operation_seen (view y) ≡ None → Stands y 0x22AE
+  stands_stop e = subst (λ (o : Option GplOperation). Stands y (operation_entry o)) e stands
 
   pub turned : (z : MachineState) (after : ℕ) (turn : Turn) → Turned (state_at_dispatch (view y)) 29 y z u after turn → Turned s 0 x z t after turn
   turned z after turn h = turned_from z after s turn c (families.enters (operation_at (code_byte s))) (subst (λ (q : GplState). Turned q 29 y z u after turn) seen h)
 
-  pub stopped : operation_entry (operation_seen (view y)) ≡ 0x22AE → (z : MachineState) (after : ℕ) → Exits y z u after (pieces.stop_code (view y)) → Turned s 0 x z t after (Stopped Opcode)
+  pub stopped : operation_seen (view y) ≡ None → (z : MachineState) (after : ℕ) → Exits y z u after (pieces.stop_code (view y)) → Turned s 0 x z t after (Stopped Opcode)
   stopped e z after run =
-      let leads : operation_entry (operation_at (code_byte s)) ≡ 0x22AE = subst (λ (z : GplState). operation_entry (operation_at (slice_index z.image z.pc)) ≡ 0x22AE) seen e in
-      let is = refused s (operation_at (code_byte s)) refl leads in
-      turned_from z after s (Stopped Opcode) c (families.enters (operation_at (code_byte s))) (refuses s y z u after c.holds is (stands_at 0x22AE e) run)
+      let none : operation_at (code_byte s) ≡ None = subst (λ (z : GplState). operation_at (slice_index z.image z.pc) ≡ None) seen e in
+      turned_from z after s (Stopped Opcode) c (families.enters (operation_at (code_byte s))) (refuses s y z u after c.holds (step_none s none) (stands_stop e) run)

@@ -7,11 +7,12 @@ use Rattle.sim_muldiv.specs.Family.{is_muldiv}
 use Rattle.sim_compare.specs.Family.{is_compare}
 use Rattle.sim_flow.specs.Family.{is_flow}
 use Rattle.sim_stack.specs.Family.{is_stack}
+use Rattle.sim_move.specs.Family.{is_move}
 use Rattle.sim_misc.specs.Family.{is_misc}
 use Rattle.sim_steps.specs.declared.family.Family.{Family}
-use Rattle.sim_steps.specs.declared.family.Family.TheVariants.{Alu, Shift, MulDiv, Compare, Flow, Stack, Misc, Refused}
+use Rattle.sim_steps.specs.declared.family.Family.TheVariants.{Alu, Shift, MulDiv, Compare, Flow, Stack, Move, Misc, Refused}
 
--- The family of an operation is the one that it belongs to. What is not built is refused.
+-- The family of an operation is the one that it belongs to. A code byte that is no instruction's is refused.
 abbrev pub family_of : Option GplOperation → Family
 family_of operation =
     if is_alu operation then Alu
@@ -20,5 +21,6 @@ family_of operation =
     else if is_compare operation then Compare
     else if is_flow operation then Flow
     else if is_stack operation then Stack
+    else if is_move operation then Move
     else if is_misc operation then Misc
     else Refused

@@ -21,9 +21,11 @@ pub enum Family {
     Flow,
     /// CALL, RTN, RTNC, PUSH and FETCH.
     Stack,
-    /// EX and RAND.
+    /// MOVE.
+    Move,
+    /// EX, RAND, BACK and ALL.
     Misc,
-    /// A code byte that is no instruction's, or that of an instruction that the interpreter does not have.
+    /// A code byte that is no instruction's.
     Refused,
 }
 
@@ -44,11 +46,11 @@ pub fn family_of(operation: Option<GplOperation>) -> Family
         Some(GplOperation::Plain(PlainOp::RTN))
         | Some(GplOperation::Plain(PlainOp::RTNC))
         | Some(GplOperation::Jump(GoOp::CALL)) => Family::Stack,
-        Some(GplOperation::Byte(ByteOp::RAND)) => Family::Misc,
-        Some(GplOperation::Byte(ByteOp::BACK))
-        | Some(GplOperation::Byte(ByteOp::ALL))
-        | Some(GplOperation::Move(_))
-        | None => Family::Refused,
+        Some(GplOperation::Move(_)) => Family::Move,
+        Some(GplOperation::Byte(ByteOp::RAND))
+        | Some(GplOperation::Byte(ByteOp::BACK))
+        | Some(GplOperation::Byte(ByteOp::ALL)) => Family::Misc,
+        None => Family::Refused,
     }
 }
 

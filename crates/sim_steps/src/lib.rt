@@ -16,6 +16,7 @@ pub use sim_alu::run_alu;
 pub use sim_compare::run_compare;
 pub use sim_flow::run_flow;
 pub use sim_misc::run_misc;
+pub use sim_move::run_move;
 pub use sim_muldiv::run_muldiv;
 pub use sim_shift::run_shift;
 pub use sim_stack::run_stack;

@@ -11,6 +11,7 @@ use sim_alu::run_alu;
 use sim_compare::run_compare;
 use sim_flow::run_flow;
 use sim_misc::run_misc;
+use sim_move::run_move;
 use sim_muldiv::run_muldiv;
 use sim_rows::begin_step;
 use sim_shift::run_shift;
@@ -38,6 +39,7 @@ pub fn gpl_turn<L: Ledger>(machine: &mut Machine, steps: &mut Steps<L>) -> Turn
         Family::Compare => run_compare(machine, steps),
         Family::Flow => run_flow(machine, steps),
         Family::Stack => run_stack(machine, steps),
+        Family::Move => run_move(machine, steps),
         Family::Misc => run_misc(machine, steps),
         Family::Refused => {
             stop_code(machine, steps);

@@ -1,6 +1,6 @@
 use Rattle.std.proofs.Common.{arith}
 use Rattle.interp_defs.specs.Match.{shown_by}
-use Rattle.sim_steps.specs.declared.family.Family.TheVariants.{Alu, Shift, MulDiv, Compare, Flow, Stack, Misc, Refused}
+use Rattle.sim_steps.specs.declared.family.Family.TheVariants.{Alu, Shift, MulDiv, Compare, Flow, Stack, Move, Misc, Refused}
 use Rattle.sim_steps.proofs.Turning
 use Rattle.sim_steps.proofs.turn.gpl_turn.Goals as goal
 
@@ -105,6 +105,22 @@ returns-in-Stack g c =
     let s = shown_by c.args.machine.now.cpu.memory in
     Turning.turned s c.args.machine.now c.begin_step.new.machine c.args.steps.now c.begin_step.new.steps c.begin_step.ensures c.run_stack.new.machine c.run_stack.new.steps c.run_stack.result c.run_stack.ensures
 
+pub run_move-requires-clause-stands : goal.run_move-requires-clause-stands
+run_move-requires-clause-stands g c = let s = shown_by c.args.machine.now.cpu.memory in Turning.stands s c.args.machine.now c.begin_step.new.machine c.args.steps.now c.begin_step.new.steps c.begin_step.ensures
+
+pub run_move-requires-clause-dispatched : goal.run_move-requires-clause-dispatched
+run_move-requires-clause-dispatched g c = let s = shown_by c.args.machine.now.cpu.memory in Turning.dispatched s c.args.machine.now c.begin_step.new.machine c.args.steps.now c.begin_step.new.steps c.begin_step.ensures
+
+pub run_move-requires-clause-family : goal.run_move-requires-clause-family
+run_move-requires-clause-family g c =
+    let s = shown_by c.args.machine.now.cpu.memory in
+    Turning.family_is s c.args.machine.now c.begin_step.new.machine c.args.steps.now c.begin_step.new.steps c.begin_step.ensures c.register-code.result c.operation_at.result c.family_of.result Move c.register-code.ensures c.operation_at.ensures c.family_of.ensures c.in-Move.is
+
+pub returns-in-Move : goal.returns-in-Move
+returns-in-Move g c =
+    let s = shown_by c.args.machine.now.cpu.memory in
+    Turning.turned s c.args.machine.now c.begin_step.new.machine c.args.steps.now c.begin_step.new.steps c.begin_step.ensures c.run_move.new.machine c.run_move.new.steps c.run_move.result c.run_move.ensures
+
 pub run_misc-requires-clause-stands : goal.run_misc-requires-clause-stands
 run_misc-requires-clause-stands g c = let s = shown_by c.args.machine.now.cpu.memory in Turning.stands s c.args.machine.now c.begin_step.new.machine c.args.steps.now c.begin_step.new.steps c.begin_step.ensures
 
@@ -124,11 +140,11 @@ returns-in-Misc g c =
 pub stop_code-requires : goal.stop_code-requires
 stop_code-requires g c =
     let s = shown_by c.args.machine.now.cpu.memory in
-    let unbuilt = Turning.family_is s c.args.machine.now c.begin_step.new.machine c.args.steps.now c.begin_step.new.steps c.begin_step.ensures c.register-code.result c.operation_at.result c.family_of.result Refused c.register-code.ensures c.operation_at.ensures c.family_of.ensures c.in-Refused.is in
-    Turning.stands_at s c.args.machine.now c.begin_step.new.machine c.args.steps.now c.begin_step.new.steps c.begin_step.ensures 0x22AE unbuilt
+    let none = Turning.family_is s c.args.machine.now c.begin_step.new.machine c.args.steps.now c.begin_step.new.steps c.begin_step.ensures c.register-code.result c.operation_at.result c.family_of.result Refused c.register-code.ensures c.operation_at.ensures c.family_of.ensures c.in-Refused.is in
+    Turning.stands_stop s c.args.machine.now c.begin_step.new.machine c.args.steps.now c.begin_step.new.steps c.begin_step.ensures none
 
 pub returns-in-Refused : goal.returns-in-Refused
 returns-in-Refused g c =
     let s = shown_by c.args.machine.now.cpu.memory in
-    let unbuilt = Turning.family_is s c.args.machine.now c.begin_step.new.machine c.args.steps.now c.begin_step.new.steps c.begin_step.ensures c.register-code.result c.operation_at.result c.family_of.result Refused c.register-code.ensures c.operation_at.ensures c.family_of.ensures c.in-Refused.is in
-    Turning.stopped s c.args.machine.now c.begin_step.new.machine c.args.steps.now c.begin_step.new.steps c.begin_step.ensures unbuilt c.stop_code.new.machine c.stop_code.new.steps c.stop_code.ensures
+    let none = Turning.family_is s c.args.machine.now c.begin_step.new.machine c.args.steps.now c.begin_step.new.steps c.begin_step.ensures c.register-code.result c.operation_at.result c.family_of.result Refused c.register-code.ensures c.operation_at.ensures c.family_of.ensures c.in-Refused.is in
+    Turning.stopped s c.args.machine.now c.begin_step.new.machine c.args.steps.now c.begin_step.new.steps c.begin_step.ensures none c.stop_code.new.machine c.stop_code.new.steps c.stop_code.ensures
