@@ -5,13 +5,10 @@ ghost use Rattle.sim_view.specs.View.{view, Stands};
 ghost use Rattle.sim_view.specs.Exits.{Exits};
 ghost use Rattle.sim_copy.specs.Pieces as piece;
 
-use native_interp::{COPY, LOAD, SHOW, STORE};
+use native_interp::{COPY, LOAD, RESUME, SHOW, STORE};
 use sim_view::run_piece;
 use std::sync::ledger::Ledger;
 use tms_step::{Machine, Steps};
-
-/// Ends a copy out of GROM: GROM goes on at the address that was kept.
-const RESUME: u16 = 0x26DC;
 
 /// The piece of MOVE that begins the copy.
 pub fn begin_copy<L: Ledger>(machine: &mut Machine, steps: &mut Steps<L>)

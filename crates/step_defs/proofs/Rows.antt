@@ -180,6 +180,11 @@ pub copy_from_grom_by_index : cells_of (2 ∷ 3 ∷ []) (steps 1 (given (0 ∷ 1
 unfolding zeros reading operand_at after
 copy_from_grom_by_index = refl
 
+-- MOVE 2,@>8300,G@>1FFF, across the end of its GROM, where the code byte follows
+pub copy_across_the_end_of_grom : cells_of (0 ∷ 1 ∷ []) (steps 1 (program (0x31 ∷ 0 ∷ 2 ∷ 0 ∷ 0x1F ∷ 0xFF ∷ []))) ≡ Ok (6 ∷ 0 ∷ 0x31 ∷ [])
+unfolding zeros reading operand_at after
+copy_across_the_end_of_grom = refl
+
 -- MOVE 2,R@6,G@0
 pub copy_to_registers : registers_of (steps 1 (program (0x39 ∷ 0 ∷ 2 ∷ 6 ∷ 0 ∷ 0 ∷ [])))
     ≡ Ok (0 ∷ 0 ∷ 0 ∷ 0 ∷ 0 ∷ 0 ∷ 0x39 ∷ 0 ∷ [])
