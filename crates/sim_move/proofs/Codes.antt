@@ -3,7 +3,7 @@ use Rattle.std.proofs.Common.{◌≡◌, ℕ, ◌/◌, ◌%◌, ◌<◌, Bool, t
 use Rattle.std.specs.Prelude.{◌==◌, ◌&&◌, not, nat_lt, if◌then◌else◌}
 use Rattle.std.proofs.lemmas.Bool.{agree_below_at, and_parts}
 use Rattle.gpl_defs.specs.declared.instruction.MoveKind.{MoveKind}
-use Rattle.gpl_defs.specs.declared.instruction.MoveKind.TheVariants.{GromToMemory, GromIndexedToMemory, MemoryToMemory, GromToRegisters}
+use Rattle.gpl_defs.specs.declared.instruction.MoveKind.TheVariants.{GromToMemory, GromIndexedToMemory, GromToRegisters}
 use Rattle.gpl_defs.specs.declared.instruction.GplOperation.{GplOperation}
 use Rattle.gpl_defs.specs.declared.instruction.GplOperation.TheVariants.{Move}
 use Rattle.gpl_defs.specs.Codes.{operation_at}

@@ -1,6 +1,6 @@
 -- The length, the target and the source, one after the other.
-use Rattle.std.proofs.Common.{◌≡◌, ℕ, ◌+◌, ◌%◌, ◌/◌, ◌<◌, ◌≤◌, Bool, true, false, refl, sym, ap, subst, ◌∙◌, arith, List, Option, Some, Result, Ok, Err}
-use Rattle.std.specs.Prelude.{◌==◌, slice_index}
+use Rattle.std.proofs.Common.{◌≡◌, ℕ, ◌%◌, ◌/◌, ◌<◌, ◌≤◌, Bool, true, refl, sym, ap, subst, ◌∙◌, arith, Option, Some, Result, Ok, Err}
+use Rattle.std.specs.Prelude.{◌==◌}
 use Rattle.console_defs.specs.Words.{even}
 use Rattle.console_defs.specs.Grom.{GromState, next_in_grom}
 use Rattle.console_defs.specs.Machine.{MachineState}
@@ -10,7 +10,7 @@ use Rattle.gpl_defs.specs.declared.instruction.MoveKind.{MoveKind}
 use Rattle.gpl_defs.specs.declared.instruction.MoveKind.TheVariants.{GromToMemory, GromIndexedToMemory, MemoryToMemory, GromToRegisters}
 use Rattle.gpl_defs.specs.declared.instruction.GplOperation.{GplOperation}
 use Rattle.gpl_defs.specs.declared.instruction.GplOperation.TheVariants.{Move}
-use Rattle.gpl_defs.specs.Reading.{operand_at, word_at, index_by, from_at}
+use Rattle.gpl_defs.specs.Reading.{operand_at, word_at, index_by}
 use Rattle.native_interp.specs.Entries.{operation_entry}
 use Rattle.step_defs.specs.declared.reason.Reason.{Reason}
 use Rattle.step_defs.specs.State.{GplState}
@@ -24,16 +24,15 @@ use Rattle.sim_view.proofs.Compose.{comes_as, comes_on}
 use Rattle.sim_operands.specs.Pieces.{return_of}
 use Rattle.sim_operands.specs.Subroutines.{grom_at, Placed, Finds, FindsOperand}
 use Rattle.sim_rows.specs.States.{StoppedBy, code_byte, operation_in}
-use Rattle.sim_rows.specs.Rows.{Holds}
 use Rattle.sim_rows.proofs.Ends.{idle_of, fetched_of}
 use Rattle.sim_rows.proofs.Fronting.{barred_stops, finds_of, from_placed}
 use Rattle.sim_rows.proofs.Telling.{stands_at}
-use Rattle.sim_copy.specs.Copying.{StandsTo, Copying}
+use Rattle.sim_copy.specs.Copying.{StandsTo}
 use Rattle.sim_move.specs.Family.{is_move}
-use Rattle.sim_move.specs.Moves.{Arrives, length_read, target_read, source_read, begun, LengthTold, FindsLength, source_entry, TargetTold, target_in, FindsTarget}
-use Rattle.sim_move.specs.Moves.{SourceTold, IndexesSource, TurnedTo, TurnsToSource, copy_in, AtCopy, FindsCopy}
+use Rattle.sim_move.specs.Moves.{Arrives, length_read, target_read, source_read, LengthTold, FindsLength, source_entry, TargetTold, target_in, FindsTarget}
+use Rattle.sim_move.specs.Moves.{SourceTold, IndexesSource, TurnsToSource, copy_in, AtCopy, FindsCopy}
 use Rattle.sim_move.proofs.Codes.{has_index, told}
-use Rattle.sim_move.proofs.Arriving.{Found, found, Missing, missing, both}
+use Rattle.sim_move.proofs.Arriving.{Found, found, missing, both}
 use Rattle.sim_move.proofs.Numbers.{within_is}
 
 -- a MOVE is of some kind

@@ -1,16 +1,16 @@
 -- The length of MOVE.
-use Rattle.std.proofs.Common.{◌≡◌, ℕ, ◌%◌, ◌<◌, ◌≤◌, Bool, true, false, refl, sym, ap, subst, ◌∙◌, arith, List, Result, Ok, Err}
-use Rattle.std.specs.Prelude.{◌==◌, not, slice_index}
+use Rattle.std.proofs.Common.{◌≡◌, ℕ, ◌%◌, ◌<◌, ◌≤◌, Bool, true, false, refl, sym, ap, subst, ◌∙◌, arith, Result, Ok, Err}
+use Rattle.std.specs.Prelude.{◌==◌}
 use Rattle.console_defs.specs.Words.{even}
 use Rattle.console_defs.specs.Flags.{Word}
 use Rattle.console_defs.specs.Shifts.{last_out}
 use Rattle.console_defs.specs.declared.instruction.ShiftOp.TheVariants.{SRL}
-use Rattle.console_defs.specs.Grom.{GromState, previous_in_grom}
+use Rattle.console_defs.specs.Grom.{GromState}
 use Rattle.console_defs.specs.Machine.{MachineState}
 use Rattle.console_defs.proofs.GromLaws.{previous-next}
 use Rattle.source_defs.specs.Refusals.{◌>>=◌}
 use Rattle.gpl_defs.specs.declared.instruction.GplOperand.{GplOperand}
-use Rattle.gpl_defs.specs.Reading.{operand_at, length_at, value_at as value_in, word_at}
+use Rattle.gpl_defs.specs.Reading.{operand_at, length_at, word_at}
 use Rattle.step_defs.specs.declared.reason.Reason.{Reason}
 use Rattle.step_defs.specs.State.{GplState}
 use Rattle.step_defs.specs.Place.{Place, place_of, value_at}
@@ -18,15 +18,15 @@ use Rattle.step_defs.specs.Copy.{length_of}
 use Rattle.interp_defs.specs.Match.{PortsAreIdle, IsFetched}
 use Rattle.sim_view.specs.View.{View, view, Stands}
 use Rattle.sim_view.specs.Exits.{Exits, Comes}
-use Rattle.sim_view.proofs.Compose.{comes, comes_then, comes_as, comes_on}
+use Rattle.sim_view.proofs.Compose.{comes, comes_as, comes_on}
 use Rattle.sim_operands.specs.Pieces.{return_of}
 use Rattle.sim_operands.specs.Values.{width_in, in_register, number_of_space, IsVisible}
-use Rattle.sim_operands.specs.Subroutines.{grom_at, state_of, next_at, place_in, Finds, FindsOperand, Loaded, LoadsValue, LoadsStream, streamed}
-use Rattle.sim_rows.specs.States.{Sees, Dispatched, code_byte, behind_code}
+use Rattle.sim_operands.specs.Subroutines.{grom_at, state_of, place_in, Finds, FindsOperand, Loaded, LoadsValue, LoadsStream, streamed}
+use Rattle.sim_rows.specs.States.{Dispatched, code_byte, behind_code}
 use Rattle.sim_rows.specs.Rows.{Holds, LoadsFrom}
 use Rattle.sim_rows.proofs.Again.{idle_again}
 use Rattle.sim_rows.proofs.Ends.{idle_of, fetched_of}
-use Rattle.sim_rows.proofs.Fronting.{Asking, Located, located, barred, finds_of, holds_again, holds_loaded, place_is, sees_again, space_small}
+use Rattle.sim_rows.proofs.Fronting.{Asking, located, barred, finds_of, holds_again, holds_loaded, place_is, sees_again, space_small}
 use Rattle.sim_rows.proofs.Operands.{value_same, visible_of}
 use Rattle.sim_rows.proofs.Places.{place_lies, lies_at}
 use Rattle.sim_move.specs.Pieces as pieces

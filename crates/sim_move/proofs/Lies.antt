@@ -1,5 +1,5 @@
 -- What is found lies where it may be copied.
-use Rattle.std.proofs.Common.{◌≡◌, ℕ, ◌+◌, ◌<◌, ◌≤◌, Bool, true, false, refl, sym, ap, subst, ◌∙◌, arith, Option, Some, Result, Ok, Err}
+use Rattle.std.proofs.Common.{◌≡◌, ℕ, ◌+◌, ◌<◌, ◌≤◌, Bool, true, false, refl, sym, subst, ◌∙◌, arith, Some, Result, Ok, Err}
 use Rattle.std.specs.Prelude.{nat_le, if◌then◌else◌}
 use Rattle.std.proofs.lemmas.Bool.{leb-true}
 use Rattle.source_defs.specs.Refusals.{◌>>=◌}
@@ -8,7 +8,7 @@ use Rattle.gpl_defs.specs.declared.instruction.MoveTarget.TheVariants as target
 use Rattle.gpl_defs.specs.declared.instruction.MoveSource.{MoveSource}
 use Rattle.gpl_defs.specs.declared.instruction.MoveSource.TheVariants as source
 use Rattle.step_defs.specs.declared.reason.Reason.{Reason}
-use Rattle.step_defs.specs.declared.reason.Reason.TheVariants.{Exit, Register}
+use Rattle.step_defs.specs.declared.reason.Reason.TheVariants.{Register}
 use Rattle.step_defs.specs.State.{GplState}
 use Rattle.step_defs.specs.Place.{Place, place_of, indexed}
 use Rattle.step_defs.specs.Copy.{From, FromMemory, FromGrom, To, ToMemory, ToRegisters, target_of, origin_of}
@@ -18,7 +18,6 @@ use Rattle.sim_rows.proofs.Places.{place_lies, lies_at}
 use Rattle.sim_view.specs.View.{View}
 use Rattle.sim_copy.specs.Copying.{StandsTo, StandsFrom}
 use Rattle.step_defs.specs.Changes.{Changes}
-use Rattle.sim_move.proofs.Arriving.{both}
 
 abbrev pub ToLies : ℕ → To → Type 0
 ToLies bytes (ToMemory place) = number_of_space place.space ≡ 0 → place.address + bytes ≤ 0xC2

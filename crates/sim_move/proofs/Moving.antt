@@ -1,5 +1,5 @@
 -- The step of MOVE is its copy, or the stop by the first check that fails.
-use Rattle.std.proofs.Common.{◌≡◌, ℕ, ◌+◌, ◌*◌, ◌≤◌, Bool, true, false, refl, sym, ap, subst, ◌∙◌, arith, Option, Some, None, Result, Ok, Err}
+use Rattle.std.proofs.Common.{◌≡◌, ℕ, ◌+◌, ◌*◌, Bool, true, false, refl, ap, subst, ◌∙◌, Some, Result, Ok, Err}
 use Rattle.std.specs.Prelude.{nat_lt, nat_le, if◌then◌else◌}
 use Rattle.console_defs.specs.Flags.{Word}
 use Rattle.console_defs.specs.Words.{plus}
@@ -17,7 +17,7 @@ use Rattle.step_defs.specs.declared.reason.Reason.TheVariants.{Exit, Cell, Lengt
 use Rattle.step_defs.specs.State.{GplState}
 use Rattle.step_defs.specs.Place.{Place, place_of, value_at, indexed, is_visible, word_at}
 use Rattle.step_defs.specs.Changes.{Changes, finished}
-use Rattle.step_defs.specs.Copy.{From, FromMemory, FromGrom, To, ToMemory, ToRegisters, length_of, within_limit, target_of, origin_of, copied, moved}
+use Rattle.step_defs.specs.Copy.{From, FromMemory, To, ToMemory, ToRegisters, length_of, within_limit, target_of, origin_of, copied, moved}
 use Rattle.step_defs.specs.Step.{step}
 use Rattle.step_defs.specs.Run.{bound, bytes_or_none}
 use Rattle.sim_rows.specs.States.{operation_in}

@@ -1,8 +1,8 @@
 -- Facts about numbers that MOVE needs.
 use Rattle.std.proofs.Common.{◌≡◌, ℕ, ◌+◌, ◌*◌, ◌/◌, ◌%◌, ◌<◌, ◌≤◌, Bool, true, false, refl, ap, arith, eqb, Result, Ok, Err}
-use Rattle.std.specs.Prelude.{◌==◌, ◌||◌, ◌&&◌, not, nat_lt, if◌then◌else◌}
-use Rattle.std.proofs.lemmas.Bool.{lt-ltb, le-ltb, ltb-true, ltb-false, ne_eqb, eq-eqb}
-use Rattle.console_defs.specs.Words.{low, join}
+use Rattle.std.specs.Prelude.{◌==◌, ◌||◌, not, nat_lt, if◌then◌else◌}
+use Rattle.std.proofs.lemmas.Bool.{le-ltb, ltb-true, ltb-false, ne_eqb, eq-eqb}
+use Rattle.console_defs.specs.Words.{join}
 use Rattle.console_defs.specs.Shifts.{shifted, last_out}
 use Rattle.console_defs.specs.declared.instruction.ShiftOp.TheVariants.{SRL}
 use Rattle.step_defs.specs.declared.reason.Reason.{Reason}

@@ -75,4 +75,3 @@ seek_source v = record { by = λ f q. refl }
 
 pub turn_to_grom : (v : View) → Leads (0x27D0 ∷ []) v 0x2832 (pieces.turn_to_grom v)
 turn_to_grom v = record { by = λ f q. refl }
-

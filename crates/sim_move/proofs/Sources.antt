@@ -1,13 +1,10 @@
 -- A source in GROM.
-use Rattle.std.proofs.Common.{◌≡◌, ℕ, ◌+◌, ◌*◌, ◌/◌, ◌%◌, ◌<◌, ◌≤◌, Bool, true, false, refl, sym, ap, subst, ◌∙◌, arith, eqb, List, Option, Result, Ok, Err}
-use Rattle.std.specs.Prelude.{◌==◌, slice_index}
+use Rattle.std.proofs.Common.{◌≡◌, ℕ, ◌/◌, ◌%◌, ◌<◌, Bool, true, false, refl, sym, ap, subst, ◌∙◌, arith, eqb, List, Option, Result, Ok, Err}
+use Rattle.std.specs.Prelude.{◌==◌}
 use Rattle.std.proofs.lemmas.Bool.{eq-eqb, eqb-true}
-use Rattle.console_defs.specs.Words.{even}
-use Rattle.console_defs.specs.Flags.{Word}
 use Rattle.console_defs.specs.Logic.{swapped}
-use Rattle.console_defs.specs.Grom.{GromState, next_in_grom}
+use Rattle.console_defs.specs.Grom.{GromState}
 use Rattle.console_defs.specs.Machine.{MachineState}
-use Rattle.gpl_defs.specs.declared.instruction.Space.{Space}
 use Rattle.gpl_defs.specs.declared.instruction.Space.TheVariants.{Vdp}
 use Rattle.gpl_defs.specs.Reading.{word_at, index_by, space_of}
 use Rattle.step_defs.specs.declared.reason.Reason.{Reason}
@@ -30,7 +27,7 @@ use Rattle.sim_rows.proofs.Beginning.{just, from, known, lost, located_at, where
 use Rattle.sim_rows.proofs.Fronting.{barred_stops}
 use Rattle.sim_move.specs.Pieces as pieces
 use Rattle.sim_move.specs.Pieces.{form_of}
-use Rattle.sim_move.specs.Moves.{Arrives, SourceTold, IndexesSource, TurnedTo, TurnsToSource}
+use Rattle.sim_move.specs.Moves.{Arrives, SourceTold, TurnsToSource}
 use Rattle.sim_move.proofs.Numbers.{form_by, form_is, form_fits, form_index, form_space}
 
 -- ---- the address with its index

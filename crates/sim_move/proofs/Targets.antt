@@ -1,5 +1,5 @@
 -- The target of MOVE.
-use Rattle.std.proofs.Common.{◌≡◌, ℕ, ◌+◌, ◌%◌, ◌<◌, ◌≤◌, Bool, true, false, refl, sym, ap, subst, ◌∙◌, arith, List, Some, Result, Ok, Err}
+use Rattle.std.proofs.Common.{◌≡◌, ℕ, ◌+◌, ◌<◌, ◌≤◌, Bool, true, false, refl, sym, ap, subst, ◌∙◌, arith, Some, Result, Ok, Err}
 use Rattle.std.specs.Prelude.{nat_lt, nat_le, if◌then◌else◌, slice_index}
 use Rattle.std.proofs.lemmas.Bool.{ltb-true, ltb-false, le-leb, lt-leb}
 use Rattle.console_defs.specs.Words.{even}
@@ -20,17 +20,16 @@ use Rattle.step_defs.specs.declared.reason.Reason.TheVariants.{Length, Register}
 use Rattle.step_defs.specs.Reasons.{number_of}
 use Rattle.step_defs.specs.State.{GplState}
 use Rattle.step_defs.specs.Place.{Place, place_of}
-use Rattle.step_defs.specs.Copy.{To, ToMemory, ToRegisters, target_of, within_limit}
+use Rattle.step_defs.specs.Copy.{To, ToMemory, ToRegisters, target_of}
 use Rattle.interp_defs.specs.Match.{PortsAreIdle, IsFetched}
 use Rattle.sim_view.specs.View.{View, view, view_of, Stands}
 use Rattle.sim_view.specs.Exits.{Exit, Exits, Comes}
 use Rattle.sim_view.proofs.Bridge.{is_view}
 use Rattle.sim_view.proofs.Compose.{comes, comes_then, comes_as, comes_on}
-use Rattle.sim_view.proofs.Places.{pick}
 use Rattle.sim_operands.specs.Pieces.{exit, past, return_of}
 use Rattle.sim_operands.specs.Subroutines.{grom_at, state_of, next_at, Placed, Finds, FindsOperand}
-use Rattle.sim_rows.specs.States.{Sees, StoppedBy, code_byte, operation_in}
-use Rattle.sim_rows.specs.Rows.{Holds, LoadsFrom, StoresTo}
+use Rattle.sim_rows.specs.States.{StoppedBy, code_byte, operation_in}
+use Rattle.sim_rows.specs.Rows.{Holds, LoadsFrom}
 use Rattle.sim_rows.proofs.Again.{idle_again}
 use Rattle.sim_rows.proofs.Fronting.{Asking, barred, finds_of, from_placed, holds_addressed, holds_again}
 use Rattle.sim_move.specs.Pieces as pieces

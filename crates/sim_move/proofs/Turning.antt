@@ -1,7 +1,5 @@
 -- MOVE from its dispatch to the end of the step.
-use Rattle.std.proofs.Common.{◌≡◌, ℕ, ◌+◌, ◌*◌, ◌<◌, ◌≤◌, true, false, refl, sym, ap, subst, ◌∙◌, arith, Option, Some, Result, Ok, Err}
-use Rattle.console_defs.specs.Grom.{GromState}
-use Rattle.console_defs.specs.Memory.{Memory}
+use Rattle.std.proofs.Common.{◌≡◌, ℕ, ◌+◌, ◌*◌, ◌<◌, ◌≤◌, true, false, refl, sym, ap, subst, arith, Some, Ok, Err}
 use Rattle.console_defs.specs.Machine.{MachineState}
 use Rattle.gpl_defs.specs.declared.instruction.MoveKind.{MoveKind}
 use Rattle.gpl_defs.specs.declared.instruction.GplOperation.TheVariants.{Move}
@@ -11,12 +9,11 @@ use Rattle.step_defs.specs.State.{GplState}
 use Rattle.step_defs.specs.Changes.{Changes, finished}
 use Rattle.step_defs.specs.Copy.{From, FromMemory, FromGrom, To}
 use Rattle.step_defs.specs.Run.{bound}
-use Rattle.interp_defs.specs.declared.turn.Turn.{Turn}
 use Rattle.interp_defs.specs.declared.turn.Turn.TheVariants.{Stepped, Stopped}
 use Rattle.interp_defs.specs.Match.{PortsAreIdle, IsFetched}
 use Rattle.interp_defs.specs.Runs.{is_end}
 use Rattle.interp_defs.specs.Turned.{Turned}
-use Rattle.sim_view.specs.View.{View, view, view_of, Stands}
+use Rattle.sim_view.specs.View.{View, view, Stands}
 use Rattle.sim_view.proofs.Compose.{comes_on}
 use Rattle.sim_operands.specs.Subroutines.{grom_at}
 use Rattle.sim_rows.specs.States.{Sees, operation_in}

@@ -1,5 +1,5 @@
 -- Which way a piece took, by where the machine is not.
-use Rattle.std.proofs.Common.{◌≡◌, ℕ, Bool, true, false, refl, sym, ◌∙◌}
+use Rattle.std.proofs.Common.{◌≡◌, ℕ, Bool, true, false, refl, ◌∙◌}
 use Rattle.std.specs.Prelude.{if◌then◌else◌}
 use Rattle.console_defs.specs.Machine.{MachineState}
 use Rattle.sim_view.specs.Exits.{Exit, Exits}
