@@ -28,13 +28,28 @@ const PROGRAMS: &[(&[u8], &[u8], Status, &[u8], &[u8])] = &[
         b"stop 2 at >6000\ngpl >6000 S00 D9F R7E\npad\n",
         b"\nvdp\n>0000 00 00 00 00 00 00 00 00 00 00 00 00 00 00 00 00\n*\nregs",
     ),
-    // its row is not built yet
+    // the colour of the border, and 768 bytes of the screen
+    (
+        b"2",
+        b"S BACK >17\n ALL >20\n END S\n",
+        Status::Done,
+        b"gpl >6004 S00 D9F R7E\npad\n",
+        b"\n>0300 00 00 00 00 00 00 00 00 00 00 00 00 00 00 00 00\n*\nregs 00 00 00 00 00 00 00 17\n",
+    ),
+    // a MOVE that is longer than 16,384 bytes, and one to a register that is not there
     (
         b"1",
-        b"S BACK 0\n END S\n",
+        b"S MOVE 16385,V@0,G@>6000\n END S\n",
         Status::Stopped,
-        b"stop 1 at >6000\ngpl >6000 S00 D9F R7E\npad\n",
-        b"\n>8370 00 00 9F 7E 00 00 00 00 00 00 00 00 00 00 00 00\n",
+        b"stop 4 at >6000\ngpl >6000 S00 D9F R7E\npad\n",
+        b"\nregs 00 00 00 00 00 00 00 00\n",
+    ),
+    (
+        b"1",
+        b"S MOVE 9,R@0,G@>6000\n END S\n",
+        Status::Stopped,
+        b"stop 5 at >6000\ngpl >6000 S00 D9F R7E\npad\n",
+        b"\nregs 00 00 00 00 00 00 00 00\n",
     ),
     // the last visible cell, and what is behind it
     (

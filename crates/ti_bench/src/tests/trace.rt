@@ -153,6 +153,43 @@ const TRACES: &[(&str, &[u8], &[u8], &[&[u8]], Status)] = &[
         ],
         Status::Done,
     ),
+    (
+        "bytes that are copied over themselves, and no bytes",
+        b"5",
+        b"S DST @>8300,>0102; DST @>8302,>0304; MOVE 4,@>8301,@>8300; MOVE 0,V@0,G@>6000; EXIT; END S",
+        &[
+            b"     1 >6000 S00 D9F R7E DST @>8300,>0102 C2 >8300=01",
+            b"     2 >6004 S00 D9F R7E DST @>8302,>0304 C2 >8302=03",
+            b"     3 >6008 S00 D9F R7E MOVE >0004,@>8301,@>8300 C4 >8301=01",
+            b"     4 >600D S00 D9F R7E MOVE >0000,V@>0000,G@>6000",
+            b"exit at >6014",
+        ],
+        Status::Done,
+    ),
+    (
+        "bytes that are copied over the character's cell and its place",
+        b"5",
+        b"S DST @>837E,>0502; MOVE 3,@>837C,G@T; EXIT;T BYTE >20,>41,>01; END S",
+        &[
+            b"     1 >6000 S00 D9F R7E DST @>837E,>0502 C2 >837E=05",
+            b"     2 >6004 S00 D9F R7E MOVE >0003,@>837C,G@>600B C3 >837C=20 V1 >0022=41",
+            b"exit at >600A",
+            b"gpl >600A S20 D9F R7E",
+        ],
+        Status::Done,
+    ),
+    (
+        "bytes across the end of a GROM, by an index, to registers, and over the end of video memory",
+        b"9",
+        b"S DST @>8300,>1FFE; MOVE 3,@>8310,G@>6000(@>8300); MOVE 2,R@6,G@>6000; MOVE @>8311,V@>3FFF,@>8310; END S",
+        &[
+            b"     1 >6000 S00 D9F R7E DST @>8300,>1FFE C2 >8300=1F",
+            b"     2 >6004 S00 D9F R7E MOVE >0003,@>8310,G@>6000(@>8300) C1 >8312=BF",
+            b"     3 >600B S00 D9F R7E MOVE >0002,R@>06,G@>6000 W2 6=BF",
+            b"stop 4 at >6011",
+        ],
+        Status::Stopped,
+    ),
 ];
 
 #[test]
