@@ -181,12 +181,13 @@ const TRACES: &[(&str, &[u8], &[u8], &[&[u8]], Status)] = &[
     (
         "bytes across the end of a GROM, by an index, to registers, and over the end of video memory",
         b"9",
-        b"S DST @>8300,>1FFE; MOVE 3,@>8310,G@>6000(@>8300); MOVE 2,R@6,G@>6000; MOVE @>8311,V@>3FFF,@>8310; END S",
+        b"S DST @>8300,>1FFE; MOVE 3,@>8310,G@>6000(@>8300); MOVE 2,R@6,G@>6000; MOVE 2,V@>3FFF,@>8311; MOVE @>8312,V@0,@>8300; END S",
         &[
             b"     1 >6000 S00 D9F R7E DST @>8300,>1FFE C2 >8300=1F",
             b"     2 >6004 S00 D9F R7E MOVE >0003,@>8310,G@>6000(@>8300) C1 >8312=BF",
-            b"     3 >600B S00 D9F R7E MOVE >0002,R@>06,G@>6000 W2 6=BF",
-            b"stop 4 at >6011",
+            b"     3 >600B S00 D9F R7E MOVE >0002,R@>06,G@>6000 W1 6=BF",
+            b"     4 >6011 S00 D9F R7E MOVE >0002,V@>3FFF,@>8311 V1 >0000=BF",
+            b"stop 4 at >6018",
         ],
         Status::Stopped,
     ),
