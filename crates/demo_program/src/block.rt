@@ -42,7 +42,7 @@ fn add_line(number: u16) -> Line
     line
 }
 
-/// Stores two bytes of the video memory in cells.
+/// Stores a word of cells in the video memory.
 #[tactic(auto, using(std::proofs::Common::append_assoc), unfolding(report_defs::specs::DemoText::store_line))]
 fn store_line(number: u16) -> Line
     ensures text { result.items ≡ spec.store_line number }

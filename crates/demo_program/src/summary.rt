@@ -13,8 +13,8 @@ use report_lines::{Line, append, append_count};
 use step_defs::{Reason, VISIBLE_CELLS};
 use tms_step::Machine;
 
-/// The summary of a program that was made from a number and whose image has so many bytes: so many of its steps were made, it
-/// ended for a reason, if it did, and this is the machine that ran it.
+/// The summary of a program that was made from a number and whose image has so many bytes: so many of its steps were made,
+/// it ended for a reason, if it did, and this is the machine that ran it.
 pub fn summarize(
     number: u32,
     image: u32,
@@ -46,7 +46,8 @@ fn sum_of_cells(machine: &Machine) -> u64
 /// Writes a summary, each of its lines by one call. No memory is taken.
 ///
 /// # Errors
-/// `Failed` comes where a line could not be written. The sink then got a front of the lines, and its count of faults rose.
+/// `Failed` comes where a line could not be written. The sink then got a front of the lines, and its count of faults
+/// rose.
 pub fn put_summary<O: Sink>(summary: Summary, out: &mut O) -> Result<(), Failed>
     ensures { Written result (O.state out.old) (O.state out.new) (spec.summary_lines summary) }
 {

@@ -9,8 +9,8 @@ use std::alloc::{AllocError, Global};
 /// What stands behind the blocks: the program leaves, and its subroutine follows.
 const LAST_LINES: &[u8] = b"       EXIT\nSUB    XOR @>8340,>5A\n       RTN\n       END >6000\n";
 
-/// The GPL source that is made from a number: as many blocks of one line, each from the next of a row of numbers that begins
-/// with this one, and then the end of the program and its subroutine.
+/// The GPL source that is made from a number: as many blocks of one line, and then the end of the program and its
+/// subroutine. Each block has a number, which comes from that of the block before it, the first from this number.
 ///
 /// # Errors
 /// `AllocError` comes where memory is wanting.

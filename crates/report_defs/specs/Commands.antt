@@ -5,7 +5,8 @@ use Rattle.std.specs.Option.{option_map, option_and_then}
 use Rattle.std.specs.Cmp.Lexicographic.{pointwise}
 use Rattle.source_defs.specs.Numbers.{all_digits, value_after, hexadecimal_number}
 use Rattle.report_defs.specs.declared.command.Command.{Command}
-use Rattle.report_defs.specs.declared.command.Command.TheVariants.{Asm, Gasm, Dis, Gdis, Link, Exec, Interp, Run, Trace, Demo}
+use Rattle.report_defs.specs.declared.command.Command.TheVariants.{Asm, Gasm, Dis, Gdis, Link, Exec, Interp}
+use Rattle.report_defs.specs.declared.command.Command.TheVariants.{Run, Trace, Demo}
 
 abbrev pub same_word : List ℕ → List ℕ → Bool
 same_word word name = pointwise nat_eq word name

@@ -3,8 +3,8 @@ use Rattle.std.specs.Prelude.{ℕ, zero, suc, ◌+◌, ◌*◌, ◌/◌, ◌%◌
 use Rattle.std.specs.List.{flat_map, range_with_len}
 use Rattle.source_defs.specs.Digits.{marked_word, marked_byte}
 
--- Profile: the source has a block of one line for each of its numbers, which have 16 bits. The first comes from the number of
--- the command, and each other from the one before it.
+-- Profile: the source has a block of one line for each of its numbers, which have 16 bits. The first comes from the
+-- number of the command, and each other from the one before it.
 abbrev pub next_number : ℕ → ℕ
 next_number number = (number * 25173 + 13849) % 65536
 
@@ -13,7 +13,8 @@ abbrev pub number_of_block : ℕ → ℕ → ℕ
 number_of_block number zero = next_number number
 number_of_block number (suc before) = next_number (number_of_block number before)
 
--- Profile: a block's number gives its cell, which is one of the first 64, its byte, and its address in the video memory.
+-- Profile: a block's number gives its cell, which is one of the first 64, its byte, and its address in the video
+-- memory.
 abbrev pub cell_text : ℕ → List ℕ
 cell_text number = marked_word (0x8300 + number % 64)
 
@@ -23,8 +24,8 @@ byte_of number = number / 256
 abbrev pub video_text : ℕ → List ℕ
 video_text number = marked_word (number % 16384)
 
--- Profile: of four blocks the first adds to a cell, the second stores two bytes of video memory in cells, the third moves bytes
--- of the program to video memory, and the fourth calls a subroutine.
+-- Profile: of four blocks the first adds to a cell, the second stores a word of cells in video memory, the third moves
+-- bytes of the program to video memory, and the fourth calls a subroutine.
 unfoldable pub add_line : ℕ → List ℕ
 add_line number =
     codes "       ADD @" ++ (cell_text number ++ (codes "," ++ (marked_byte (byte_of number) ++ codes "\n")))

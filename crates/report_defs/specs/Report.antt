@@ -16,7 +16,8 @@ use Rattle.object_defs.specs.Writing.{written}
 use Rattle.module_defs.specs.declared.causes.AsmCause.{AsmCause}
 use Rattle.module_defs.specs.Modules.{module_of_source}
 use Rattle.report_defs.specs.declared.command.Command.{Command}
-use Rattle.report_defs.specs.declared.command.Command.TheVariants.{Asm, Gasm, Dis, Gdis, Link, Exec, Interp, Run, Trace, Demo}
+use Rattle.report_defs.specs.declared.command.Command.TheVariants.{Asm, Gasm, Dis, Gdis, Link, Exec, Interp}
+use Rattle.report_defs.specs.declared.command.Command.TheVariants.{Run, Trace, Demo}
 use Rattle.report_defs.specs.declared.status.Status.{Status}
 use Rattle.report_defs.specs.declared.status.Status.TheVariants.{Done, Refused}
 use Rattle.report_defs.specs.declared.fault.Fault.{Fault}
@@ -104,7 +105,8 @@ abbrev pub interp_report : Result LinkedMemory BuildFault → Report
 interp_report (Ok linked) = Whole Done (linked_lines linked)
 interp_report (Err fault) = Faulty (Interpreter fault)
 
--- What is written of a run of steps from a state, of a program with an image, and of the machine that the interpreter left.
+-- What is written of a run of steps from a state, of a program with an image, and of the machine that the interpreter
+-- left.
 abbrev pub run_lines : Image → GplState → GplRun → MachineState → List (List ℕ)
 run_lines image s r left = program_lines r.stop r.last left
 
@@ -116,9 +118,10 @@ trace_lines image s r left = step_lines s r.done ++ run_lines image s r left
 abbrev pub demo_lines : ℕ → Image → GplState → GplRun → MachineState → List (List ℕ)
 demo_lines number image s r left = summary_lines (summary_of number (length (written_bytes image)) r left)
 
--- The report of a program that the interpreter runs for up to so many steps from its entry, by what is written of such a run.
-pub record ReportsProgram (lines : Image → GplState → GplRun → MachineState → List (List ℕ)) (limit : ℕ) (image : Image) (entry : ℕ)
-    (report : Report) : Type 0 where
+-- The report of a program that the interpreter runs for up to so many steps from its entry, by what is written of such a
+-- run.
+pub record ReportsProgram (lines : Image → GplState → GplRun → MachineState → List (List ℕ)) (limit : ℕ) (image : Image)
+    (entry : ℕ) (report : Report) : Type 0 where
   pub bytes : List ℕ
   pub of_image : AreBytesOf image bytes
   pub left : MachineState
@@ -161,7 +164,8 @@ AcceptedReport (Run limit) input report =
 AcceptedReport (Trace limit) input report =
     RunReport (ReportsProgram trace_lines limit) built_interpreter (program_of_source input) report
 AcceptedReport (Demo number) input report =
-    RunReport (ReportsProgram (demo_lines number) most_steps) built_interpreter (program_of_source (demo_text number)) report
+    RunReport (ReportsProgram (demo_lines number) most_steps) built_interpreter
+    (program_of_source (demo_text number)) report
 
 -- Whatever else holds, an input is refused that is too large.
 abbrev pub ReportOn : Command → List ℕ → Report → Type 0

@@ -1,74 +1,73 @@
-use Rattle.std.proofs.Common.{[], ◌∷◌}
-use Rattle.std.specs.Prelude.{codes}
 use Rattle.std.proofs.lemmas.Result.{err_from_is_err_and}
-use Rattle.bench_io.proofs.Writing.{wrote_more, missed_early, missed_more, written_more}
-use Rattle.report_defs.specs.Summary.{counted_line, ended_line}
+use Rattle.bench_io.proofs.Progress.{listed_none, listed_more, listed_missed}
+use Rattle.report_defs.specs.Summary.{summary_lines}
+use Rattle.demo_program.proofs.Lines.{last_written}
 use Rattle.demo_program.proofs.summary.put_summary.Goals as goal
 
 pub returns-in_err-put_counted : goal.returns-in_err-put_counted
 returns-in_err-put_counted g c =
-    let s = c.args.summary in
-    let p = err_from_is_err_and c.from_residual.result c.from_residual.ensures.1 in
-    let m = rw c.from.ensures at c.in_err-put_counted.ensures in
-    rw p.1 (missed_early _ _ (counted_line (codes "demo ") s.number ∷ []) (counted_line (codes "image ") s.image ∷ counted_line (codes "steps ") s.steps ∷ counted_line (codes "pad ") s.pad ∷ counted_line (codes "vdp ") s.vdp ∷ ended_line s.ended ∷ counted_line (codes "count ") s.count ∷ []) m)
+    let e = c.from_residual in
+    let p = err_from_is_err_and e.result e.ensures.1 in
+    let l0 = listed_none _ (summary_lines c.args.summary) in
+    rw p.1 (listed_missed _ _ _ _ _ _ l0 (rw c.from.ensures at c.in_err-put_counted.ensures))
 
 pub returns-in_err-put_counted-2 : goal.returns-in_err-put_counted-2
 returns-in_err-put_counted-2 g c =
-    let s = c.args.summary in
-    let p = err_from_is_err_and c.from_residual-in_err-put_counted-2.result c.from_residual-in_err-put_counted-2.ensures.1 in
-    let w1 = rw c.from.ensures at c.in_ok-put_counted.ensures in
-    let m = rw c.from-2.ensures at c.in_err-put_counted-2.ensures in
-    rw p.1 (missed_early _ _ (counted_line (codes "demo ") s.number ∷ counted_line (codes "image ") s.image ∷ []) (counted_line (codes "steps ") s.steps ∷ counted_line (codes "pad ") s.pad ∷ counted_line (codes "vdp ") s.vdp ∷ ended_line s.ended ∷ counted_line (codes "count ") s.count ∷ []) (missed_more _ _ _ (counted_line (codes "demo ") s.number ∷ []) (counted_line (codes "image ") s.image ∷ []) w1 m))
+    let e = c.from_residual-in_err-put_counted-2 in
+    let p = err_from_is_err_and e.result e.ensures.1 in
+    let l0 = listed_none _ (summary_lines c.args.summary) in
+    let l1 = listed_more _ _ _ _ _ _ l0 (rw c.from.ensures at c.in_ok-put_counted.ensures) in
+    rw p.1 (listed_missed _ _ _ _ _ _ l1 (rw c.from-2.ensures at c.in_err-put_counted-2.ensures))
 
 pub returns-in_err-put_counted-3 : goal.returns-in_err-put_counted-3
 returns-in_err-put_counted-3 g c =
-    let s = c.args.summary in
-    let p = err_from_is_err_and c.from_residual-in_err-put_counted-3.result c.from_residual-in_err-put_counted-3.ensures.1 in
-    let w1 = rw c.from.ensures at c.in_ok-put_counted.ensures in
-    let w2 = wrote_more _ _ _ (counted_line (codes "demo ") s.number ∷ []) (counted_line (codes "image ") s.image ∷ []) w1 (rw c.from-2.ensures at c.in_ok-put_counted-2.ensures) in
-    let m = rw c.from-3.ensures at c.in_err-put_counted-3.ensures in
-    rw p.1 (missed_early _ _ (counted_line (codes "demo ") s.number ∷ counted_line (codes "image ") s.image ∷ counted_line (codes "steps ") s.steps ∷ []) (counted_line (codes "pad ") s.pad ∷ counted_line (codes "vdp ") s.vdp ∷ ended_line s.ended ∷ counted_line (codes "count ") s.count ∷ []) (missed_more _ _ _ (counted_line (codes "demo ") s.number ∷ counted_line (codes "image ") s.image ∷ []) (counted_line (codes "steps ") s.steps ∷ []) w2 m))
+    let e = c.from_residual-in_err-put_counted-3 in
+    let p = err_from_is_err_and e.result e.ensures.1 in
+    let l0 = listed_none _ (summary_lines c.args.summary) in
+    let l1 = listed_more _ _ _ _ _ _ l0 (rw c.from.ensures at c.in_ok-put_counted.ensures) in
+    let l2 = listed_more _ _ _ _ _ _ l1 (rw c.from-2.ensures at c.in_ok-put_counted-2.ensures) in
+    rw p.1 (listed_missed _ _ _ _ _ _ l2 (rw c.from-3.ensures at c.in_err-put_counted-3.ensures))
 
 pub returns-in_err-put_counted-4 : goal.returns-in_err-put_counted-4
 returns-in_err-put_counted-4 g c =
-    let s = c.args.summary in
-    let p = err_from_is_err_and c.from_residual-in_err-put_counted-4.result c.from_residual-in_err-put_counted-4.ensures.1 in
-    let w1 = rw c.from.ensures at c.in_ok-put_counted.ensures in
-    let w2 = wrote_more _ _ _ (counted_line (codes "demo ") s.number ∷ []) (counted_line (codes "image ") s.image ∷ []) w1 (rw c.from-2.ensures at c.in_ok-put_counted-2.ensures) in
-    let w3 = wrote_more _ _ _ (counted_line (codes "demo ") s.number ∷ counted_line (codes "image ") s.image ∷ []) (counted_line (codes "steps ") s.steps ∷ []) w2 (rw c.from-3.ensures at c.in_ok-put_counted-3.ensures) in
-    let m = c.in_err-put_counted-4.ensures in
-    rw p.1 (missed_early _ _ (counted_line (codes "demo ") s.number ∷ counted_line (codes "image ") s.image ∷ counted_line (codes "steps ") s.steps ∷ counted_line (codes "pad ") s.pad ∷ []) (counted_line (codes "vdp ") s.vdp ∷ ended_line s.ended ∷ counted_line (codes "count ") s.count ∷ []) (missed_more _ _ _ (counted_line (codes "demo ") s.number ∷ counted_line (codes "image ") s.image ∷ counted_line (codes "steps ") s.steps ∷ []) (counted_line (codes "pad ") s.pad ∷ []) w3 m))
+    let e = c.from_residual-in_err-put_counted-4 in
+    let p = err_from_is_err_and e.result e.ensures.1 in
+    let l0 = listed_none _ (summary_lines c.args.summary) in
+    let l1 = listed_more _ _ _ _ _ _ l0 (rw c.from.ensures at c.in_ok-put_counted.ensures) in
+    let l2 = listed_more _ _ _ _ _ _ l1 (rw c.from-2.ensures at c.in_ok-put_counted-2.ensures) in
+    let l3 = listed_more _ _ _ _ _ _ l2 (rw c.from-3.ensures at c.in_ok-put_counted-3.ensures) in
+    rw p.1 (listed_missed _ _ _ _ _ _ l3 c.in_err-put_counted-4.ensures)
 
 pub returns-in_err-put_counted-5 : goal.returns-in_err-put_counted-5
 returns-in_err-put_counted-5 g c =
-    let s = c.args.summary in
-    let p = err_from_is_err_and c.from_residual-in_err-put_counted-5.result c.from_residual-in_err-put_counted-5.ensures.1 in
-    let w1 = rw c.from.ensures at c.in_ok-put_counted.ensures in
-    let w2 = wrote_more _ _ _ (counted_line (codes "demo ") s.number ∷ []) (counted_line (codes "image ") s.image ∷ []) w1 (rw c.from-2.ensures at c.in_ok-put_counted-2.ensures) in
-    let w3 = wrote_more _ _ _ (counted_line (codes "demo ") s.number ∷ counted_line (codes "image ") s.image ∷ []) (counted_line (codes "steps ") s.steps ∷ []) w2 (rw c.from-3.ensures at c.in_ok-put_counted-3.ensures) in
-    let w4 = wrote_more _ _ _ (counted_line (codes "demo ") s.number ∷ counted_line (codes "image ") s.image ∷ counted_line (codes "steps ") s.steps ∷ []) (counted_line (codes "pad ") s.pad ∷ []) w3 (c.in_ok-put_counted-4.ensures) in
-    let m = c.in_err-put_counted-5.ensures in
-    rw p.1 (missed_early _ _ (counted_line (codes "demo ") s.number ∷ counted_line (codes "image ") s.image ∷ counted_line (codes "steps ") s.steps ∷ counted_line (codes "pad ") s.pad ∷ counted_line (codes "vdp ") s.vdp ∷ []) (ended_line s.ended ∷ counted_line (codes "count ") s.count ∷ []) (missed_more _ _ _ (counted_line (codes "demo ") s.number ∷ counted_line (codes "image ") s.image ∷ counted_line (codes "steps ") s.steps ∷ counted_line (codes "pad ") s.pad ∷ []) (counted_line (codes "vdp ") s.vdp ∷ []) w4 m))
+    let e = c.from_residual-in_err-put_counted-5 in
+    let p = err_from_is_err_and e.result e.ensures.1 in
+    let l0 = listed_none _ (summary_lines c.args.summary) in
+    let l1 = listed_more _ _ _ _ _ _ l0 (rw c.from.ensures at c.in_ok-put_counted.ensures) in
+    let l2 = listed_more _ _ _ _ _ _ l1 (rw c.from-2.ensures at c.in_ok-put_counted-2.ensures) in
+    let l3 = listed_more _ _ _ _ _ _ l2 (rw c.from-3.ensures at c.in_ok-put_counted-3.ensures) in
+    let l4 = listed_more _ _ _ _ _ _ l3 c.in_ok-put_counted-4.ensures in
+    rw p.1 (listed_missed _ _ _ _ _ _ l4 c.in_err-put_counted-5.ensures)
 
 pub returns-in_err-put_piece : goal.returns-in_err-put_piece
 returns-in_err-put_piece g c =
-    let s = c.args.summary in
-    let p = err_from_is_err_and c.from_residual-in_err-put_piece.result c.from_residual-in_err-put_piece.ensures.1 in
-    let w1 = rw c.from.ensures at c.in_ok-put_counted.ensures in
-    let w2 = wrote_more _ _ _ (counted_line (codes "demo ") s.number ∷ []) (counted_line (codes "image ") s.image ∷ []) w1 (rw c.from-2.ensures at c.in_ok-put_counted-2.ensures) in
-    let w3 = wrote_more _ _ _ (counted_line (codes "demo ") s.number ∷ counted_line (codes "image ") s.image ∷ []) (counted_line (codes "steps ") s.steps ∷ []) w2 (rw c.from-3.ensures at c.in_ok-put_counted-3.ensures) in
-    let w4 = wrote_more _ _ _ (counted_line (codes "demo ") s.number ∷ counted_line (codes "image ") s.image ∷ counted_line (codes "steps ") s.steps ∷ []) (counted_line (codes "pad ") s.pad ∷ []) w3 (c.in_ok-put_counted-4.ensures) in
-    let w5 = wrote_more _ _ _ (counted_line (codes "demo ") s.number ∷ counted_line (codes "image ") s.image ∷ counted_line (codes "steps ") s.steps ∷ counted_line (codes "pad ") s.pad ∷ []) (counted_line (codes "vdp ") s.vdp ∷ []) w4 (c.in_ok-put_counted-5.ensures) in
-    let m = rw (c.ended_line.ensures) at c.in_err-put_piece.ensures in
-    rw p.1 (missed_early _ _ (counted_line (codes "demo ") s.number ∷ counted_line (codes "image ") s.image ∷ counted_line (codes "steps ") s.steps ∷ counted_line (codes "pad ") s.pad ∷ counted_line (codes "vdp ") s.vdp ∷ ended_line s.ended ∷ []) (counted_line (codes "count ") s.count ∷ []) (missed_more _ _ _ (counted_line (codes "demo ") s.number ∷ counted_line (codes "image ") s.image ∷ counted_line (codes "steps ") s.steps ∷ counted_line (codes "pad ") s.pad ∷ counted_line (codes "vdp ") s.vdp ∷ []) (ended_line s.ended ∷ []) w5 m))
+    let e = c.from_residual-in_err-put_piece in
+    let p = err_from_is_err_and e.result e.ensures.1 in
+    let l0 = listed_none _ (summary_lines c.args.summary) in
+    let l1 = listed_more _ _ _ _ _ _ l0 (rw c.from.ensures at c.in_ok-put_counted.ensures) in
+    let l2 = listed_more _ _ _ _ _ _ l1 (rw c.from-2.ensures at c.in_ok-put_counted-2.ensures) in
+    let l3 = listed_more _ _ _ _ _ _ l2 (rw c.from-3.ensures at c.in_ok-put_counted-3.ensures) in
+    let l4 = listed_more _ _ _ _ _ _ l3 c.in_ok-put_counted-4.ensures in
+    let l5 = listed_more _ _ _ _ _ _ l4 c.in_ok-put_counted-5.ensures in
+    rw p.1 (listed_missed _ _ _ _ _ _ l5 (rw c.ended_line.ensures at c.in_err-put_piece.ensures))
 
 pub returns : goal.returns
 returns g c =
-    let s = c.args.summary in
-    let w1 = rw c.from.ensures at c.in_ok-put_counted.ensures in
-    let w2 = wrote_more _ _ _ (counted_line (codes "demo ") s.number ∷ []) (counted_line (codes "image ") s.image ∷ []) w1 (rw c.from-2.ensures at c.in_ok-put_counted-2.ensures) in
-    let w3 = wrote_more _ _ _ (counted_line (codes "demo ") s.number ∷ counted_line (codes "image ") s.image ∷ []) (counted_line (codes "steps ") s.steps ∷ []) w2 (rw c.from-3.ensures at c.in_ok-put_counted-3.ensures) in
-    let w4 = wrote_more _ _ _ (counted_line (codes "demo ") s.number ∷ counted_line (codes "image ") s.image ∷ counted_line (codes "steps ") s.steps ∷ []) (counted_line (codes "pad ") s.pad ∷ []) w3 (c.in_ok-put_counted-4.ensures) in
-    let w5 = wrote_more _ _ _ (counted_line (codes "demo ") s.number ∷ counted_line (codes "image ") s.image ∷ counted_line (codes "steps ") s.steps ∷ counted_line (codes "pad ") s.pad ∷ []) (counted_line (codes "vdp ") s.vdp ∷ []) w4 (c.in_ok-put_counted-5.ensures) in
-    let w6 = wrote_more _ _ _ (counted_line (codes "demo ") s.number ∷ counted_line (codes "image ") s.image ∷ counted_line (codes "steps ") s.steps ∷ counted_line (codes "pad ") s.pad ∷ counted_line (codes "vdp ") s.vdp ∷ []) (ended_line s.ended ∷ []) w5 (rw (c.ended_line.ensures) at c.in_ok-put_piece.ensures) in
-    written_more _ _ _ _ (counted_line (codes "demo ") s.number ∷ counted_line (codes "image ") s.image ∷ counted_line (codes "steps ") s.steps ∷ counted_line (codes "pad ") s.pad ∷ counted_line (codes "vdp ") s.vdp ∷ ended_line s.ended ∷ []) (counted_line (codes "count ") s.count ∷ []) w6 c.put_counted-6.ensures
+    let l0 = listed_none _ (summary_lines c.args.summary) in
+    let l1 = listed_more _ _ _ _ _ _ l0 (rw c.from.ensures at c.in_ok-put_counted.ensures) in
+    let l2 = listed_more _ _ _ _ _ _ l1 (rw c.from-2.ensures at c.in_ok-put_counted-2.ensures) in
+    let l3 = listed_more _ _ _ _ _ _ l2 (rw c.from-3.ensures at c.in_ok-put_counted-3.ensures) in
+    let l4 = listed_more _ _ _ _ _ _ l3 c.in_ok-put_counted-4.ensures in
+    let l5 = listed_more _ _ _ _ _ _ l4 c.in_ok-put_counted-5.ensures in
+    let l6 = listed_more _ _ _ _ _ _ l5 (rw c.ended_line.ensures at c.in_ok-put_piece.ensures) in
+    last_written _ _ _ _ _ _ l6 c.put_counted-6.ensures
