@@ -17,7 +17,7 @@ use tms_step::Machine;
 /// it ended for a reason, if it did, and this is the machine that ran it.
 pub fn summarize(
     number: u32,
-    image: u32,
+    image: u64,
     steps: u32,
     ended: Option<Reason>,
     machine: &Machine,
@@ -52,7 +52,7 @@ pub fn put_summary<O: Sink>(summary: Summary, out: &mut O) -> Result<(), Failed>
     ensures { Written result (O.state out.old) (O.state out.new) (spec.summary_lines summary) }
 {
     put_counted(b"demo ", u64::from(summary.number), out)?;
-    put_counted(b"image ", u64::from(summary.image), out)?;
+    put_counted(b"image ", summary.image, out)?;
     put_counted(b"steps ", u64::from(summary.steps), out)?;
     put_counted(b"pad ", summary.pad, out)?;
     put_counted(b"vdp ", summary.vdp, out)?;

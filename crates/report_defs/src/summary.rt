@@ -8,7 +8,7 @@ pub struct Summary {
     /// The number that the program was made from.
     pub number: u32,
     /// How many bytes the image has.
-    pub image: u32,
+    pub image: u64,
     /// How many steps were done.
     pub steps: u32,
     /// The sum of the visible cells after these steps.

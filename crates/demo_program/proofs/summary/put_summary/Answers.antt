@@ -17,7 +17,7 @@ returns-in_err-put_counted-2 g c =
     let p = err_from_is_err_and e.result e.ensures.1 in
     let l0 = listed_none _ (summary_lines c.args.summary) in
     let l1 = listed_more _ _ _ _ _ _ l0 (rw c.from.ensures at c.in_ok-put_counted.ensures) in
-    rw p.1 (listed_missed _ _ _ _ _ _ l1 (rw c.from-2.ensures at c.in_err-put_counted-2.ensures))
+    rw p.1 (listed_missed _ _ _ _ _ _ l1 c.in_err-put_counted-2.ensures)
 
 pub returns-in_err-put_counted-3 : goal.returns-in_err-put_counted-3
 returns-in_err-put_counted-3 g c =
@@ -25,8 +25,8 @@ returns-in_err-put_counted-3 g c =
     let p = err_from_is_err_and e.result e.ensures.1 in
     let l0 = listed_none _ (summary_lines c.args.summary) in
     let l1 = listed_more _ _ _ _ _ _ l0 (rw c.from.ensures at c.in_ok-put_counted.ensures) in
-    let l2 = listed_more _ _ _ _ _ _ l1 (rw c.from-2.ensures at c.in_ok-put_counted-2.ensures) in
-    rw p.1 (listed_missed _ _ _ _ _ _ l2 (rw c.from-3.ensures at c.in_err-put_counted-3.ensures))
+    let l2 = listed_more _ _ _ _ _ _ l1 c.in_ok-put_counted-2.ensures in
+    rw p.1 (listed_missed _ _ _ _ _ _ l2 (rw c.from-2.ensures at c.in_err-put_counted-3.ensures))
 
 pub returns-in_err-put_counted-4 : goal.returns-in_err-put_counted-4
 returns-in_err-put_counted-4 g c =
@@ -34,8 +34,8 @@ returns-in_err-put_counted-4 g c =
     let p = err_from_is_err_and e.result e.ensures.1 in
     let l0 = listed_none _ (summary_lines c.args.summary) in
     let l1 = listed_more _ _ _ _ _ _ l0 (rw c.from.ensures at c.in_ok-put_counted.ensures) in
-    let l2 = listed_more _ _ _ _ _ _ l1 (rw c.from-2.ensures at c.in_ok-put_counted-2.ensures) in
-    let l3 = listed_more _ _ _ _ _ _ l2 (rw c.from-3.ensures at c.in_ok-put_counted-3.ensures) in
+    let l2 = listed_more _ _ _ _ _ _ l1 c.in_ok-put_counted-2.ensures in
+    let l3 = listed_more _ _ _ _ _ _ l2 (rw c.from-2.ensures at c.in_ok-put_counted-3.ensures) in
     rw p.1 (listed_missed _ _ _ _ _ _ l3 c.in_err-put_counted-4.ensures)
 
 pub returns-in_err-put_counted-5 : goal.returns-in_err-put_counted-5
@@ -44,8 +44,8 @@ returns-in_err-put_counted-5 g c =
     let p = err_from_is_err_and e.result e.ensures.1 in
     let l0 = listed_none _ (summary_lines c.args.summary) in
     let l1 = listed_more _ _ _ _ _ _ l0 (rw c.from.ensures at c.in_ok-put_counted.ensures) in
-    let l2 = listed_more _ _ _ _ _ _ l1 (rw c.from-2.ensures at c.in_ok-put_counted-2.ensures) in
-    let l3 = listed_more _ _ _ _ _ _ l2 (rw c.from-3.ensures at c.in_ok-put_counted-3.ensures) in
+    let l2 = listed_more _ _ _ _ _ _ l1 c.in_ok-put_counted-2.ensures in
+    let l3 = listed_more _ _ _ _ _ _ l2 (rw c.from-2.ensures at c.in_ok-put_counted-3.ensures) in
     let l4 = listed_more _ _ _ _ _ _ l3 c.in_ok-put_counted-4.ensures in
     rw p.1 (listed_missed _ _ _ _ _ _ l4 c.in_err-put_counted-5.ensures)
 
@@ -55,8 +55,8 @@ returns-in_err-put_piece g c =
     let p = err_from_is_err_and e.result e.ensures.1 in
     let l0 = listed_none _ (summary_lines c.args.summary) in
     let l1 = listed_more _ _ _ _ _ _ l0 (rw c.from.ensures at c.in_ok-put_counted.ensures) in
-    let l2 = listed_more _ _ _ _ _ _ l1 (rw c.from-2.ensures at c.in_ok-put_counted-2.ensures) in
-    let l3 = listed_more _ _ _ _ _ _ l2 (rw c.from-3.ensures at c.in_ok-put_counted-3.ensures) in
+    let l2 = listed_more _ _ _ _ _ _ l1 c.in_ok-put_counted-2.ensures in
+    let l3 = listed_more _ _ _ _ _ _ l2 (rw c.from-2.ensures at c.in_ok-put_counted-3.ensures) in
     let l4 = listed_more _ _ _ _ _ _ l3 c.in_ok-put_counted-4.ensures in
     let l5 = listed_more _ _ _ _ _ _ l4 c.in_ok-put_counted-5.ensures in
     rw p.1 (listed_missed _ _ _ _ _ _ l5 (rw c.ended_line.ensures at c.in_err-put_piece.ensures))
@@ -65,8 +65,8 @@ pub returns : goal.returns
 returns g c =
     let l0 = listed_none _ (summary_lines c.args.summary) in
     let l1 = listed_more _ _ _ _ _ _ l0 (rw c.from.ensures at c.in_ok-put_counted.ensures) in
-    let l2 = listed_more _ _ _ _ _ _ l1 (rw c.from-2.ensures at c.in_ok-put_counted-2.ensures) in
-    let l3 = listed_more _ _ _ _ _ _ l2 (rw c.from-3.ensures at c.in_ok-put_counted-3.ensures) in
+    let l2 = listed_more _ _ _ _ _ _ l1 c.in_ok-put_counted-2.ensures in
+    let l3 = listed_more _ _ _ _ _ _ l2 (rw c.from-2.ensures at c.in_ok-put_counted-3.ensures) in
     let l4 = listed_more _ _ _ _ _ _ l3 c.in_ok-put_counted-4.ensures in
     let l5 = listed_more _ _ _ _ _ _ l4 c.in_ok-put_counted-5.ensures in
     let l6 = listed_more _ _ _ _ _ _ l5 (rw c.ended_line.ensures at c.in_ok-put_piece.ensures) in
