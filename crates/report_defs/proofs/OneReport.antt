@@ -1,9 +1,8 @@
 -- There is one report on each command and input.
-use Rattle.std.proofs.Common.{◌≡◌, ℕ, suc, ◌-◌, List, [], ◌∷◌, length, refl, sym, ap, ◌∙◌, subst, arith, Option, Some, None, Bool, true, false}
+use Rattle.std.proofs.Common.{◌≡◌, ℕ, List, length, refl, sym, ap, ◌∙◌, subst, arith, Option, Some, None, Bool, true, false}
 use Rattle.std.specs.Prelude.{MatchBool, nat_lt, Result, Ok, Err}
 use Rattle.std.proofs.lemmas.Bool.Decides.{nat_tests}
-use Rattle.console_defs.specs.Bytes.{HoldsZeros}
-use Rattle.console_defs.specs.Vdp.{VdpState, IsNewVdp}
+use Rattle.console_defs.specs.Vdp.{VdpState}
 use Rattle.std.specs.FinMap.{entries}
 use Rattle.console_defs.specs.Grom.{GromState, new_grom}
 use Rattle.console_defs.specs.Memory.{Memory, IsNewMemory}
@@ -14,12 +13,14 @@ use Rattle.console_defs.specs.Machine.{MachineState, new_machine}
 use Rattle.console_defs.specs.Runs.{IsRun, end_at, after}
 use Rattle.console_defs.specs.declared.ends.RunEnd.{RunEnd}
 use Rattle.report_defs.specs.declared.command.Command.{Command}
-use Rattle.report_defs.specs.declared.command.Command.TheVariants.{Asm, Gasm, Dis, Gdis, Link, Exec, Interp, Run, Trace}
+use Rattle.report_defs.specs.declared.command.Command.TheVariants.{Asm, Gasm, Dis, Gdis, Link, Exec, Interp, Run, Trace, Demo}
 use Rattle.report_defs.specs.Exec.{IsStart, Executes, exec_lines, end_status}
 use Rattle.report_defs.specs.declared.fault.Fault.TheVariants.{TooLarge}
-use Rattle.report_defs.specs.Report.{Report, Whole, Faulty, ReportsExecution, ExecReport, AcceptedReport, largest_input, program_report}
-use Rattle.report_defs.specs.Report.{ReportsProgram, EnteredReport, ProgramReport, RunReport, no_lines}
-use Rattle.report_defs.specs.Trace.{step_lines}
+use Rattle.report_defs.specs.Report.{Report, Whole, Faulty, ReportsExecution, ExecReport, AcceptedReport, largest_input}
+use Rattle.report_defs.specs.Report.{ReportsProgram, EnteredReport, ProgramReport, RunReport, run_lines, trace_lines, demo_lines}
+use Rattle.report_defs.specs.Program.{program_status}
+use Rattle.report_defs.specs.DemoText.{demo_text}
+use Rattle.report_defs.specs.Commands.{most_steps}
 use Rattle.source_defs.specs.Refusals.{Refusal}
 use Rattle.gpl_defs.specs.Image.{Image, AreBytesOf}
 use Rattle.program_defs.specs.declared.causes.GplCause.{GplCause}
@@ -27,7 +28,7 @@ use Rattle.program_defs.specs.Programs.{Program, program_of_source}
 use Rattle.build_defs.specs.declared.fault.BuildFault.{BuildFault}
 use Rattle.build_defs.specs.Interpreter.{built_interpreter}
 use Rattle.step_defs.specs.State.{GplState, start}
-use Rattle.step_defs.specs.Run.{run}
+use Rattle.step_defs.specs.Run.{GplRun, run}
 use Rattle.interp_defs.specs.Programs.{RunsProgram}
 use Rattle.interp_defs.proofs.OneBoot.{same_list, one_zeros, one_vdp, same_memory}
 use Rattle.interp_defs.proofs.OneMachine.{one_machine_is_left}
@@ -106,13 +107,13 @@ one_bytes image xs ys p q =
     same_list xs ys size (λ at below. p.each at below ∙ sym (q.each at (omega arith)))
 
 -- one report of a program
-one_program : (show : GplState → ℕ → List (List ℕ)) (limit : ℕ) (image : Image) (entry : ℕ) (first second : Report) → ReportsProgram show limit image entry first →
-    ReportsProgram show limit image entry second → first ≡ second
-one_program show limit image entry first second p q =
+one_program : (lines : Image → GplState → GplRun → MachineState → List (List ℕ)) (limit : ℕ) (image : Image) (entry : ℕ) (first second : Report) →
+    ReportsProgram lines limit image entry first → ReportsProgram lines limit image entry second → first ≡ second
+one_program lines limit image entry first second p q =
     let bytes : p.bytes ≡ q.bytes = one_bytes image p.bytes q.bytes p.of_image q.of_image in
     let runs : RunsProgram q.bytes entry limit p.left = subst (λ (b : List ℕ). RunsProgram b entry limit p.left) bytes p.runs in
     let left : p.left ≡ q.left = one_machine_is_left q.bytes entry limit p.left q.left runs q.runs in
-    let by : List ℕ → MachineState → Report = λ b x. let s = start b entry in let r = run limit s in program_report (show s r.done) r x in
+    let by : List ℕ → MachineState → Report = λ b x. let s = start b entry in let r = run limit s in Whole (program_status r.stop) (lines image s r x) in
     p.is ∙ ap (λ (b : List ℕ). by b p.left) bytes ∙ ap (by q.bytes) left ∙ sym q.is
 
 abbrev One : (Report → Type 0) → Type 0
@@ -142,9 +143,12 @@ one_accepted Link input first second p q = p ∙ sym q
 one_accepted (Exec limit) input first second p q = one_exec limit (linked_input input) first second p q
 one_accepted Interp input first second p q = p ∙ sym q
 one_accepted (Run limit) input first second p q =
-    one_run (ReportsProgram no_lines limit) (one_program no_lines limit) built_interpreter (program_of_source input) first second p q
+    one_run (ReportsProgram run_lines limit) (one_program run_lines limit) built_interpreter (program_of_source input) first second p q
 one_accepted (Trace limit) input first second p q =
-    one_run (ReportsProgram step_lines limit) (one_program step_lines limit) built_interpreter (program_of_source input) first second p q
+    one_run (ReportsProgram trace_lines limit) (one_program trace_lines limit) built_interpreter (program_of_source input) first second p q
+one_accepted (Demo number) input first second p q =
+    one_run (ReportsProgram (demo_lines number) most_steps) (one_program (demo_lines number) most_steps) built_interpreter
+    (program_of_source (demo_text number)) first second p q
 
 pub one_report : OneReport
 one_report command input first second p q =

@@ -5,7 +5,8 @@ use Rattle.std.specs.Option.{option_map, option_and_then}
 use Rattle.std.specs.Cmp.Lexicographic.{pointwise}
 use Rattle.source_defs.specs.Numbers.{all_digits, value_after, hexadecimal_number}
 use Rattle.report_defs.specs.declared.command.Command.{Command}
-use Rattle.report_defs.specs.declared.command.Command.TheVariants.{Asm, Gasm, Dis, Gdis, Link, Exec, Interp, Run, Trace}
+use Rattle.report_defs.specs.declared.command.Command.TheVariants.{Asm, Gasm, Dis, Gdis, Link, Exec, Interp}
+use Rattle.report_defs.specs.declared.command.Command.TheVariants.{Run, Trace, Demo}
 
 abbrev pub same_word : List ℕ → List ℕ → Bool
 same_word word name = pointwise nat_eq word name
@@ -39,6 +40,16 @@ run_command word = option_map Run (number_word most_steps word)
 abbrev pub trace_command : List ℕ → Option Command
 trace_command word = option_map Trace (number_word most_steps word)
 
+-- Profile: demo makes its program from a number from 1 to 500.
+abbrev pub most_blocks : ℕ
+most_blocks = 500
+
+abbrev pub demo_of : ℕ → Option Command
+demo_of number = if number == 0 then None else Some (Demo number)
+
+abbrev pub demo_command : List ℕ → Option Command
+demo_command word = option_and_then demo_of (number_word most_blocks word)
+
 -- Profile: an address is four hexadecimal digits of either case.
 abbrev pub address_word : List ℕ → Option ℕ
 address_word word = if length word == 4 then hexadecimal_number word else None
@@ -67,12 +78,13 @@ command_of (name ∷ word ∷ []) =
     if same_word name (codes "exec") then exec_command word
     else if same_word name (codes "run") then run_command word
     else if same_word name (codes "trace") then trace_command word
+    else if same_word name (codes "demo") then demo_command word
     else if same_word name (codes "dis") then dis_command word
     else if same_word name (codes "gdis") then gdis_command word
     else None
 command_of (name ∷ word ∷ next ∷ others) = None
 
--- Profile: each command reads its input but interp.
+-- Profile: each command reads its input but interp and demo.
 abbrev pub reads : Command → Bool
 reads Asm = true
 reads Gasm = true
@@ -83,3 +95,4 @@ reads (Exec limit) = true
 reads Interp = false
 reads (Run limit) = true
 reads (Trace limit) = true
+reads (Demo number) = false

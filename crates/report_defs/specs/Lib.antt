@@ -8,6 +8,8 @@ pub mod Dump
 pub mod Exec
 pub mod Program
 pub mod Trace
+pub mod DemoText
+pub mod Summary
 pub mod Listing
 pub mod ObjectFaults
 pub mod ObjectInput

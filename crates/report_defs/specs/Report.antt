@@ -16,7 +16,8 @@ use Rattle.object_defs.specs.Writing.{written}
 use Rattle.module_defs.specs.declared.causes.AsmCause.{AsmCause}
 use Rattle.module_defs.specs.Modules.{module_of_source}
 use Rattle.report_defs.specs.declared.command.Command.{Command}
-use Rattle.report_defs.specs.declared.command.Command.TheVariants.{Asm, Gasm, Dis, Gdis, Link, Exec, Interp, Run, Trace}
+use Rattle.report_defs.specs.declared.command.Command.TheVariants.{Asm, Gasm, Dis, Gdis, Link, Exec, Interp}
+use Rattle.report_defs.specs.declared.command.Command.TheVariants.{Run, Trace, Demo}
 use Rattle.report_defs.specs.declared.status.Status.{Status}
 use Rattle.report_defs.specs.declared.status.Status.TheVariants.{Done, Refused}
 use Rattle.report_defs.specs.declared.fault.Fault.{Fault}
@@ -34,6 +35,9 @@ use Rattle.report_defs.specs.ObjectInput.{linked_input}
 use Rattle.report_defs.specs.Exec.{Executes, exec_lines, end_status}
 use Rattle.report_defs.specs.Program.{program_lines, program_status}
 use Rattle.report_defs.specs.Trace.{step_lines}
+use Rattle.report_defs.specs.DemoText.{demo_text}
+use Rattle.report_defs.specs.Summary.{summary_of, summary_lines}
+use Rattle.report_defs.specs.Commands.{most_steps}
 
 -- The pieces that standard output gets, each by one write, with the status; or the fault whose line standard error gets; or
 -- the line itself, of an input that is refused.
@@ -101,24 +105,30 @@ abbrev pub interp_report : Result LinkedMemory BuildFault → Report
 interp_report (Ok linked) = Whole Done (linked_lines linked)
 interp_report (Err fault) = Faulty (Interpreter fault)
 
--- The report of a run of steps: what is shown of its steps, its end, and the machine that the interpreter left.
-abbrev pub program_report : List (List ℕ) → GplRun → MachineState → Report
-program_report shown r left = Whole (program_status r.stop) (shown ++ program_lines r.stop r.last left)
+-- What is written of a run of steps from a state, of a program with an image, and of the machine that the interpreter
+-- left.
+abbrev pub run_lines : Image → GplState → GplRun → MachineState → List (List ℕ)
+run_lines image s r left = program_lines r.stop r.last left
 
--- The report of a program that the interpreter runs for up to so many steps from its entry. The steps that are done are shown in
--- some way, by the first state and their number.
-pub record ReportsProgram (show : GplState → ℕ → List (List ℕ)) (limit : ℕ) (image : Image) (entry : ℕ) (report : Report) : Type 0 where
+-- `trace` shows each step by its line, and then what `run` writes
+abbrev pub trace_lines : Image → GplState → GplRun → MachineState → List (List ℕ)
+trace_lines image s r left = step_lines s r.done ++ run_lines image s r left
+
+-- `demo` writes the summary of the run
+abbrev pub demo_lines : ℕ → Image → GplState → GplRun → MachineState → List (List ℕ)
+demo_lines number image s r left = summary_lines (summary_of number (length (written_bytes image)) r left)
+
+-- The report of a program that the interpreter runs for up to so many steps from its entry, by what is written of such a
+-- run.
+pub record ReportsProgram (lines : Image → GplState → GplRun → MachineState → List (List ℕ)) (limit : ℕ) (image : Image)
+    (entry : ℕ) (report : Report) : Type 0 where
   pub bytes : List ℕ
   pub of_image : AreBytesOf image bytes
   pub left : MachineState
   pub runs : RunsProgram bytes entry limit left
   pub is : let s = start bytes entry in
       let r = run limit s in
-      report ≡ program_report (show s r.done) r left
-
--- `run` does not show the steps; `trace` shows each by its line
-abbrev pub no_lines : GplState → ℕ → List (List ℕ)
-no_lines s count = []
+      report ≡ Whole (program_status r.stop) (lines image s r left)
 
 -- The lines of a program's steps, without what follows them.
 pub record ShowsSteps (limit : ℕ) (image : Image) (entry : ℕ) (front : Report) : Type 0 where
@@ -150,9 +160,12 @@ AcceptedReport Link input report = report ≡ link_report (linked_input input)
 AcceptedReport (Exec limit) input report = ExecReport limit (linked_input input) report
 AcceptedReport Interp input report = report ≡ interp_report built_interpreter
 AcceptedReport (Run limit) input report =
-    RunReport (ReportsProgram no_lines limit) built_interpreter (program_of_source input) report
+    RunReport (ReportsProgram run_lines limit) built_interpreter (program_of_source input) report
 AcceptedReport (Trace limit) input report =
-    RunReport (ReportsProgram step_lines limit) built_interpreter (program_of_source input) report
+    RunReport (ReportsProgram trace_lines limit) built_interpreter (program_of_source input) report
+AcceptedReport (Demo number) input report =
+    RunReport (ReportsProgram (demo_lines number) most_steps) built_interpreter
+    (program_of_source (demo_text number)) report
 
 -- Whatever else holds, an input is refused that is too large.
 abbrev pub ReportOn : Command → List ℕ → Report → Type 0

@@ -36,4 +36,9 @@ pub enum Command {
         /// The most steps, up to 100,000.
         limit: u32,
     },
+    /// `demo K`: makes a GPL program from a number, and the interpreter runs it.
+    Demo {
+        /// The number, from 1 to 500.
+        number: u32,
+    },
 }

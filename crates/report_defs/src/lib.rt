@@ -4,7 +4,9 @@
 mod command;
 mod fault;
 mod status;
+mod summary;
 
 pub use command::Command;
 pub use fault::Fault;
 pub use status::Status;
+pub use summary::Summary;

@@ -1,0 +1,97 @@
+//! The summary of the program's run.
+
+ghost use Rattle.std.specs.Prelude.{◌≡◌, ◌≤◌, [], ◌∷◌, length};
+ghost use Rattle.bench_io.specs.Written.{Written};
+ghost use Rattle.interp_defs.specs.Match.{shown_by};
+ghost use Rattle.lane_scan.specs.Plain as plain;
+ghost use Rattle.report_defs.specs.Summary as spec;
+
+use bench_io::{Failed, Sink, put_piece};
+use lane_scan::sum_bytes;
+use report_defs::Summary;
+use report_lines::{Line, append, append_count};
+use step_defs::{Reason, VISIBLE_CELLS};
+use tms_step::Machine;
+
+/// The summary of a program that was made from a number and whose image has so many bytes: so many of its steps were made,
+/// it ended for a reason, if it did, and this is the machine that ran it.
+pub fn summarize(
+    number: u32,
+    image: u64,
+    steps: u32,
+    ended: Option<Reason>,
+    machine: &Machine,
+) -> Summary
+    ensures { result ≡ spec.summary_of number image
+        (record { done = steps; last = shown_by machine.now.cpu.memory; stop = ended }) machine.now }
+{
+    Summary {
+        number,
+        image,
+        steps,
+        pad: sum_of_cells(machine),
+        vdp: sum_bytes(machine.bus().vdp().memory()),
+        ended,
+        count: machine.count(),
+    }
+}
+
+/// The sum of the cells that a GPL program sees.
+fn sum_of_cells(machine: &Machine) -> u64
+    ensures { result ≡ plain.sum_bytes (shown_by machine.now.cpu.memory).cells }
+{
+    sum_bytes(&machine.bus().pad()[..usize::from(VISIBLE_CELLS)])
+}
+
+/// Writes a summary, each of its lines by one call. No memory is taken.
+///
+/// # Errors
+/// `Failed` comes where a line could not be written. The sink then got a front of the lines, and its count of faults
+/// rose.
+pub fn put_summary<O: Sink>(summary: Summary, out: &mut O) -> Result<(), Failed>
+    ensures { Written result (O.state out.old) (O.state out.new) (spec.summary_lines summary) }
+{
+    put_counted(b"demo ", u64::from(summary.number), out)?;
+    put_counted(b"image ", summary.image, out)?;
+    put_counted(b"steps ", u64::from(summary.steps), out)?;
+    put_counted(b"pad ", summary.pad, out)?;
+    put_counted(b"vdp ", summary.vdp, out)?;
+    put_piece(out, ended_line(summary.ended))?;
+    put_counted(b"count ", summary.count, out)
+}
+
+/// Writes a line of a label and a number.
+fn put_counted<O: Sink>(label: &[u8], count: u64, out: &mut O) -> Result<(), Failed>
+    requires { length label.now ≤ 16 }
+    ensures { Written result (O.state out.old) (O.state out.new) (spec.counted_line label.now count ∷ []) }
+{
+    put_piece(out, counted_line(label, count).as_slice())
+}
+
+/// A label, and a number in decimal digits.
+#[tactic(auto, using(std::proofs::Common::append_assoc), unfolding(report_defs::specs::Summary::counted_line))]
+fn counted_line(label: &[u8], count: u64) -> Line
+    requires { length label.now ≤ 16 }
+    ensures { result.items ≡ spec.counted_line label.now count }
+{
+    let mut line = Line::new();
+    append(&mut line, label);
+    append_count(&mut line, count);
+    line.push(b'\n');
+    line
+}
+
+/// The line that says why a program ended.
+fn ended_line(ended: Option<Reason>) -> &'static [u8]
+    ensures { result.now ≡ spec.ended_line ended }
+{
+    match ended {
+        None => b"limit\n",
+        Some(Reason::Exit) => b"exit\n",
+        Some(Reason::Opcode) => b"stop 1\n",
+        Some(Reason::Cell) => b"stop 2\n",
+        Some(Reason::Stack) => b"stop 3\n",
+        Some(Reason::Length) => b"stop 4\n",
+        Some(Reason::Register) => b"stop 5\n",
+    }
+}
