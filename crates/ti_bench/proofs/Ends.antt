@@ -13,6 +13,7 @@ use Rattle.report_defs.specs.declared.status.Status.{Status}
 use Rattle.report_defs.specs.declared.status.Status.TheVariants as status
 use Rattle.report_defs.specs.Commands.{command_of, reads}
 use Rattle.report_defs.specs.Report as spec
+use Rattle.report_defs.specs.Summary.{summary_lines}
 use Rattle.report_defs.specs.Program.{program_lines, program_status}
 use Rattle.step_defs.specs.declared.reason.Reason.{Reason}
 use Rattle.step_defs.specs.declared.reason.Reason.TheVariants.{Exit, Opcode, Cell, Stack, Length, Register}
@@ -49,6 +50,7 @@ written_ends o (made.Execution (Refused address) machine) wrote = (refl, wrote)
 written_ends o (made.Execution (Port address) machine) wrote = (refl, wrote)
 written_ends o (made.Execution SelfJump machine) wrote = (refl, wrote)
 written_ends o (made.Program session) wrote = program_ends o session wrote
+written_ends o (made.Demo summary) wrote = ends_program o summary.ended (summary_lines summary) wrote
 written_ends o (made.Memory linked) wrote = (refl, wrote)
 written_ends o (made.Refused line) wrote = (refl, wrote)
 written_ends o (made.Fault fault.Usage) wrote = (refl, wrote)

@@ -1,21 +1,25 @@
 -- Reports of GPL programs.
-use Rattle.std.proofs.Common.{◌≡◌, ℕ, List, [], ◌++◌, Option, Some, None, refl, sym, ap, ◌∙◌, subst, lit<}
+use Rattle.std.proofs.Common.{◌≡◌, ℕ, List, [], ◌++◌, length, Option, Some, None, refl, sym, ap, ◌∙◌, subst, lit<}
 use Rattle.std.proofs.lemmas.List.{take-append-drop}
 use Rattle.console_defs.specs.Grom.{GromState}
 use Rattle.console_defs.specs.Memory.{IsMemory}
 use Rattle.console_defs.specs.Machine.{MachineState}
-use Rattle.gpl_defs.specs.Image.{Image, AreBytesOf}
+use Rattle.gpl_defs.specs.Image.{Image, written_bytes}
 use Rattle.step_defs.specs.declared.reason.Reason.{Reason}
 use Rattle.step_defs.specs.State.{GplState, start}
 use Rattle.step_defs.specs.Run.{GplRun, run}
 use Rattle.interp_defs.specs.Match.{IsHalted, shown_by}
 use Rattle.interp_defs.specs.Programs.{EndsAs}
-use Rattle.interp_defs.specs.Boot.{IsBoot}
 use Rattle.sim_view.proofs.Bridge.{register_is, reg_word}
 use Rattle.gpl_run.specs.Sessions.{SessionState, seen, address_in, image_of, entry_of}
 use Rattle.report_defs.specs.Program.{showing, state_text, state_line, program_lines, program_status}
-use Rattle.report_defs.specs.Report.{Whole, ReportsProgram, program_report, no_lines}
-use Rattle.ti_bench.specs.declared.report.Report.TheVariants as made
+use Rattle.report_defs.specs.declared.summary.Summary.{Summary}
+use Rattle.report_defs.specs.Summary.{summary_of, summary_lines}
+use Rattle.report_defs.specs.Report.{Report, Whole, ReportsProgram, run_lines, demo_lines}
+use Rattle.lane_scan.specs.Plain.{sum_bytes}
+use Rattle.ti_bench.specs.declared.report.Report.TheVariants as reported
+use Rattle.ti_bench.specs.declared.commands.program.LoadedProgram.{LoadedProgram}
+use Rattle.ti_bench.specs.Loaded.{LoadsEntered}
 use Rattle.ti_bench.specs.Made.{defined_report}
 use Rattle.ti_bench.specs.Ran.{RanProgram}
 
@@ -55,23 +59,67 @@ ended_lines (Some reason) last x memory halted =
 
 -- The end of a session is that of the run of its program, behind what was shown of its steps.
 pub ends_alike : (shown : List (List ℕ)) (r : GplRun) (t : SessionState) → t.ended ≡ r.stop → IsMemory t.machine.cpu.memory → EndsAs r.stop r.last t.machine →
-    Whole (program_status t.ended) (shown ++ program_lines t.ended (seen t) t.machine) ≡ program_report shown r t.machine
+    Whole (program_status t.ended) (shown ++ program_lines t.ended (seen t) t.machine) ≡ Whole (program_status r.stop) (shown ++ program_lines r.stop r.last t.machine)
 ends_alike shown r t ended memory ends =
     let x = t.machine in
     ap (λ (e : Option Reason). Whole (program_status e) (shown ++ program_lines e (seen (record { machine = x; ended = e })) x)) ended
     ∙ ap (λ (lines : List (List ℕ)). Whole (program_status r.stop) (shown ++ lines)) (ended_lines r.stop r.last x memory ends)
 
-pub reports_program : (limit : ℕ) (image : Image) (entry : ℕ) (bytes : List ℕ) (x : MachineState) (t : SessionState) →
-    AreBytesOf image bytes → IsBoot bytes entry x → RanProgram (image_of x) (entry_of x) limit t →
-    ReportsProgram no_lines limit image entry (defined_report (made.Program t))
-reports_program limit image entry bytes x t are boot ran =
-    let of_bytes : image_of x ≡ bytes = ap (λ (g : GromState). g.image) boot.grom in
-    let entered = subst (λ (e : ℕ). RanProgram (image_of x) e limit t) boot.scratchpad.word ran in
-    let begun = subst (λ (i : List ℕ). RanProgram i entry limit t) of_bytes entered in
-    record {
-      bytes = bytes;
-      of_image = are;
-      left = t.machine;
-      runs = begun.runs;
-      is = ends_alike [] (run limit (start bytes entry)) t begun.ended begun.memory begun.runs.runs.ends;
-    }
+-- The cells and the video memory that are seen at the end are those of the last state.
+ended_bytes : (stop : Option Reason) (last : GplState) (x : MachineState) → EndsAs stop last x →
+    ((shown_by x.cpu.memory).cells ≡ last.cells) × (x.cpu.memory.vdp.memory ≡ last.vdp)
+ended_bytes None last x matches = (ap (λ (s : GplState). s.cells) matches.shows, ap (λ (s : GplState). s.vdp) matches.shows)
+ended_bytes (Some reason) last x halted = (halted.cells, halted.vdp)
+
+-- what a session has come to after so many steps
+abbrev pub ran_of : ℕ → SessionState → GplRun
+ran_of made t = record { done = made; last = shown_by t.machine.cpu.memory; stop = t.ended }
+
+-- The summary of a session is that of the run of its program.
+summaries_alike : (number size image made : ℕ) (r : GplRun) (t : SessionState) → size ≡ image → made ≡ r.done → t.ended ≡ r.stop → EndsAs r.stop r.last t.machine →
+    Whole (program_status t.ended) (summary_lines (summary_of number size (ran_of made t) t.machine)) ≡ Whole (program_status r.stop) (summary_lines (summary_of number image r t.machine))
+summaries_alike number size image made r t same done ended ends =
+    let x = t.machine in
+    let of : ℕ → ℕ → List ℕ → List ℕ → Option Reason → Report =
+    λ i d cells vdp e. Whole (program_status e) (summary_lines (record { number = number; image = i; steps = d; pad = sum_bytes cells; vdp = sum_bytes vdp; ended = e; count = x.count })) in
+    let bytes = ended_bytes r.stop r.last x ends in
+    let cells = (shown_by x.cpu.memory).cells in
+    let vdp = x.cpu.memory.vdp.memory in
+    ap (λ (i : ℕ). of i made cells vdp t.ended) same
+    ∙ ap (λ (d : ℕ). of image d cells vdp t.ended) done
+    ∙ ap (λ (c : List ℕ). of image r.done c vdp t.ended) bytes.0
+    ∙ ap (λ (v : List ℕ). of image r.done r.last.cells v t.ended) bytes.1
+    ∙ ap (λ (e : Option Reason). of image r.done r.last.cells r.last.vdp e) ended
+
+module _ (limit : ℕ) (image : Image) (entry : Option ℕ) (loaded : LoadedProgram) (l : LoadsEntered image entry loaded) (t : SessionState) (made : ℕ)
+    (ran : RanProgram (image_of loaded.machine) (entry_of loaded.machine) limit t made) where
+  -- the session ran the program of the image from its entry
+  begun : RanProgram l.bytes l.address limit t made
+  begun =
+      let of_bytes : image_of loaded.machine ≡ l.bytes = ap (λ (g : GromState). g.image) l.boots.grom in
+      let entered = subst (λ (e : ℕ). RanProgram (image_of loaded.machine) e limit t made) l.boots.scratchpad.word ran in
+      subst (λ (i : List ℕ). RanProgram i l.address limit t made) of_bytes entered
+
+  abbrev run_is : GplRun
+  run_is = run limit (start l.bytes l.address)
+
+  pub reports_program : ReportsProgram run_lines limit image l.address (defined_report (reported.Program t))
+  reports_program = record {
+    bytes = l.bytes;
+    of_image = l.of_image;
+    left = t.machine;
+    runs = begun.runs;
+    is = ends_alike [] run_is t begun.ended begun.memory begun.runs.runs.ends;
+  }
+
+  pub reports_demo : (number : ℕ) (summary : Summary) → summary ≡ summary_of number loaded.image_size (ran_of made t) t.machine →
+      ReportsProgram (demo_lines number) limit image l.address (defined_report (reported.Demo summary))
+  reports_demo number summary is = record {
+    bytes = l.bytes;
+    of_image = l.of_image;
+    left = t.machine;
+    runs = begun.runs;
+    is =
+        ap (λ (s : Summary). Whole (program_status s.ended) (summary_lines s)) is
+        ∙ summaries_alike number loaded.image_size (length (written_bytes image)) made run_is t l.size begun.made_is begun.ended begun.runs.runs.ends;
+  }

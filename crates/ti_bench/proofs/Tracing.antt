@@ -1,19 +1,18 @@
 -- A trace is the run of its program.
-use Rattle.std.proofs.Common.{◌≡◌, ◌≤◌, ℕ, List, ◌++◌, length, Option, Some, None, Ok, refl, sym, ap, ◌∙◌, subst, inl, inr}
+use Rattle.std.proofs.Common.{◌≡◌, ◌≤◌, ℕ, List, ◌++◌, length, Option, Some, Ok, refl, sym, ap, ◌∙◌, subst, inl, inr}
 use Rattle.std.proofs.Common.{Bool, true, false, Result, Err, arith}
 use Rattle.std.specs.Prelude.{nat_lt, is_err}
 use Rattle.std.proofs.lemmas.Bool.Decides.{nat_tests}
 use Rattle.console_defs.specs.Grom.{GromState}
-use Rattle.console_defs.specs.Machine.{MachineState}
 use Rattle.gpl_defs.specs.Image.{Image}
 use Rattle.console_defs.specs.Memory.{IsMemory}
 use Rattle.bench_io.specs.Stream.{SinkState}
-use Rattle.bench_io.specs.Written.{Wrote, Missed}
+use Rattle.bench_io.specs.Written.{Wrote}
 use Rattle.bench_io.proofs.Writing.{wrote_more, missed_more}
 use Rattle.trace_dump.specs.Plays.{Plays}
 use Rattle.ti_bench.specs.declared.report.Report.TheVariants as made
 use Rattle.step_defs.specs.State.{GplState, start}
-use Rattle.step_defs.specs.Run.{GplRun, run}
+use Rattle.step_defs.specs.Run.{run}
 use Rattle.interp_defs.specs.Programs.{RunsSteps}
 use Rattle.gpl_run.specs.Sessions.{SessionState, seen, image_of, entry_of}
 use Rattle.report_defs.specs.declared.status.Status.{Status}
@@ -25,19 +24,21 @@ use Rattle.report_defs.specs.Report as spec
 use Rattle.report_defs.specs.Program.{program_lines, program_status}
 use Rattle.report_defs.specs.Trace.{step_lines}
 use Rattle.ti_bench.specs.declared.trace.Trace.{Trace}
+use Rattle.ti_bench.specs.declared.commands.program.LoadedProgram.{LoadedProgram}
 use Rattle.ti_bench.specs.declared.prepared.Prepared.{Prepared}
 use Rattle.ti_bench.specs.declared.prepared.Prepared.TheVariants as prepared
 use Rattle.ti_bench.specs.Made.{defined_report}
-use Rattle.ti_bench.specs.Run.{Outputs, Run, Reads, ReportsOn, EndsWith, EndsBy}
+use Rattle.ti_bench.specs.Run.{Outputs, Run, Reads, EndsWith, EndsBy}
 use Rattle.ti_bench.specs.Loaded.{LoadsEntered}
-use Rattle.ti_bench.specs.Traced.{Started, TracesSource, TracesWhole, BreaksOff, EndsTrace, Prepares, Finishes}
+use Rattle.ti_bench.specs.Traced.{Started, TracesSource, TracesWhole, EndsTrace, Prepares, Finishes}
 use Rattle.ti_bench.proofs.Ends.{by_report, by_front, reports_by, begins_by}
 use Rattle.ti_bench.proofs.Loading.{of_built}
 use Rattle.ti_bench.proofs.Programs.{ends_alike}
 
 -- the state before the first step is the start of the program
-began : (image : Image) (entry : Option ℕ) (x : MachineState) (l : LoadsEntered image entry x) (t : SessionState) (s : Started x t) → seen t ≡ start l.bytes l.address
-began image entry x l t s =
+began : (image : Image) (entry : Option ℕ) (loaded : LoadedProgram) (l : LoadsEntered image entry loaded) (t : SessionState) (s : Started loaded.machine t) → seen t ≡ start l.bytes l.address
+began image entry loaded l t s =
+    let x = loaded.machine in
     let shown : seen t ≡ start (image_of x) (entry_of x) = ap (λ (e : Option _). seen (record { machine = t.machine; ended = e })) s.running ∙ s.matches.shows in
     shown
     ∙ ap (λ (i : List ℕ). start i (entry_of x)) (ap (λ (g : GromState). g.image) l.boots.grom)
@@ -61,12 +62,12 @@ module _ (input : List ℕ) (trace : Trace) (t : TracesSource input trace) where
       let s : GplState = start l.bytes l.address in
       let runs = subst (λ (q : GplState). RunsSteps q trace.limit w.count trace.session.machine w.left.machine) first_is w.runs in
       let ended : w.left.ended ≡ (run trace.limit s).stop = w.ended ∙ ap (λ (q : GplState). (run trace.limit q).stop) first_is in
-      of_built (spec.ReportsProgram step_lines trace.limit) input (whole_from (seen trace.session) w.left) t.new t.loads (record {
+      of_built (spec.ReportsProgram spec.trace_lines trace.limit) input (whole_from (seen trace.session) w.left) t.new t.loads (record {
         bytes = l.bytes;
         of_image = l.of_image;
         left = w.left.machine;
         runs = record {
-          new = t.new;
+          new = t.new.machine;
           machine = t.started.machine;
           is_boot = l.boots;
           boot = t.started.boot;

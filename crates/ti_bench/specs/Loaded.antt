@@ -1,51 +1,51 @@
 -- A GPL source that is to be run, in the terms of the definitions.
-use Rattle.std.specs.Prelude.{◌≡◌, ℕ, List, Option, Some, Result, Ok}
+use Rattle.std.specs.Prelude.{◌≡◌, ℕ, List, length, Option, Some, Result, Ok}
 use Rattle.source_defs.specs.Refusals.{Refusal}
 use Rattle.link_defs.specs.LinkedMemory.{LinkedMemory}
-use Rattle.gpl_defs.specs.Image.{Image, AreBytesOf}
+use Rattle.gpl_defs.specs.Image.{Image, AreBytesOf, written_bytes}
 use Rattle.program_defs.specs.declared.causes.GplCause.{GplCause}
 use Rattle.program_defs.specs.Programs.{Program, program_of_source}
-use Rattle.build_defs.specs.declared.fault.BuildFault.{BuildFault}
 use Rattle.build_defs.specs.Interpreter.{built_interpreter}
-use Rattle.console_defs.specs.Machine.{MachineState}
 use Rattle.interp_defs.specs.Boot.{IsBoot}
 use Rattle.report_defs.specs.Report.{Report, EnteredReport, ProgramReport, RunReport}
+use Rattle.ti_bench.specs.declared.commands.program.LoadedProgram.{LoadedProgram}
 use Rattle.ti_bench.specs.declared.commands.program.Loaded.{Loaded}
-use Rattle.ti_bench.specs.declared.commands.program.Loaded.TheVariants as loaded
+use Rattle.ti_bench.specs.declared.commands.program.Loaded.TheVariants as made
 use Rattle.ti_bench.specs.Made.{defined_report}
 
 -- no program is run
 abbrev pub RunsNone : Image → ℕ → Report → Type 0
 RunsNone image entry report = ⊥
 
--- the interpreter begins on a machine with an image and an entry
-pub record LoadsEntered (image : Image) (entry : Option ℕ) (x : MachineState) : Type 0 where
+-- the interpreter begins on a machine with an image and an entry, and this is how many bytes the image has
+pub record LoadsEntered (image : Image) (entry : Option ℕ) (loaded : LoadedProgram) : Type 0 where
   pub address : ℕ
   pub is : entry ≡ Some address
   pub bytes : List ℕ
   pub of_image : AreBytesOf image bytes
-  pub boots : IsBoot bytes address x
+  pub boots : IsBoot bytes address loaded.machine
+  pub size : loaded.image_size ≡ length (written_bytes image)
 
 abbrev pub LoadsImage : Image → Option ℕ → Loaded → Type 0
-LoadsImage image entry (loaded.Machine machine) = LoadsEntered image entry machine
-LoadsImage image entry (loaded.Report report) = EnteredReport RunsNone image entry (defined_report report)
+LoadsImage image entry (made.Program program) = LoadsEntered image entry program
+LoadsImage image entry (made.Report report) = EnteredReport RunsNone image entry (defined_report report)
 
 -- a source that is accepted
-pub record LoadsProgram (source : Result Program (Refusal GplCause)) (x : MachineState) : Type 0 where
+pub record LoadsProgram (source : Result Program (Refusal GplCause)) (loaded : LoadedProgram) : Type 0 where
   pub program : Program
   pub is : source ≡ Ok program
-  pub entered : LoadsEntered program.image program.entry x
+  pub entered : LoadsEntered program.image program.entry loaded
 
 abbrev pub LoadsSource : Result Program (Refusal GplCause) → Loaded → Type 0
-LoadsSource source (loaded.Machine machine) = LoadsProgram source machine
-LoadsSource source (loaded.Report report) = ProgramReport RunsNone source (defined_report report)
+LoadsSource source (made.Program program) = LoadsProgram source program
+LoadsSource source (made.Report report) = ProgramReport RunsNone source (defined_report report)
 
 -- an interpreter that is built
-pub record LoadsBuilt (input : List ℕ) (x : MachineState) : Type 0 where
+pub record LoadsBuilt (input : List ℕ) (loaded : LoadedProgram) : Type 0 where
   pub interpreter : LinkedMemory
   pub built : built_interpreter ≡ Ok interpreter
-  pub program : LoadsProgram (program_of_source input) x
+  pub program : LoadsProgram (program_of_source input) loaded
 
 abbrev pub Loads : List ℕ → Loaded → Type 0
-Loads input (loaded.Machine machine) = LoadsBuilt input machine
-Loads input (loaded.Report report) = RunReport RunsNone built_interpreter (program_of_source input) (defined_report report)
+Loads input (made.Program program) = LoadsBuilt input program
+Loads input (made.Report report) = RunReport RunsNone built_interpreter (program_of_source input) (defined_report report)

@@ -8,6 +8,7 @@ use Rattle.report_defs.specs.Exec.{exec_lines, end_status}
 use Rattle.report_defs.specs.Program.{program_lines, program_status}
 use Rattle.gpl_run.specs.Sessions.{seen}
 use Rattle.report_defs.specs.MemoryListing.{linked_lines}
+use Rattle.report_defs.specs.Summary.{summary_lines}
 use Rattle.link_loader.specs.View.{defined_linked}
 use Rattle.report_defs.specs.Report as spec
 use Rattle.ti_bench.specs.declared.report.Report.{Report}
@@ -22,6 +23,7 @@ defined_report (made.Grom image) = spec.Whole Done (image_listing image)
 defined_report (made.Execution ending machine) = spec.Whole (end_status ending) (exec_lines ending machine)
 defined_report (made.Program session) =
     spec.Whole (program_status session.ended) (program_lines session.ended (seen session) session.machine)
+defined_report (made.Demo summary) = spec.Whole (program_status summary.ended) (summary_lines summary)
 defined_report (made.Memory linked) = spec.Whole Done (linked_lines (defined_linked linked))
 defined_report (made.Refused line) = spec.Rejected line.items
 defined_report (made.Fault fault) = spec.Faulty fault

@@ -1,9 +1,8 @@
 -- A trace, from where its memory is taken to its end.
-use Rattle.std.specs.Prelude.{◌≡◌, ◌≤◌, ◌⊎◌, ℕ, List, ◌++◌, length, Option, None}
+use Rattle.std.specs.Prelude.{◌≡◌, ◌≤◌, ◌⊎◌, ℕ, List, ◌++◌, length, None}
 use Rattle.console_defs.specs.Memory.{IsMemory}
 use Rattle.console_defs.specs.Machine.{MachineState, IsMachine}
-use Rattle.gpl_defs.specs.Image.{Image}
-use Rattle.step_defs.specs.State.{GplState, start}
+use Rattle.step_defs.specs.State.{start}
 use Rattle.step_defs.specs.Run.{run}
 use Rattle.bench_io.specs.Written.{Missed}
 use Rattle.interp_defs.specs.Match.{Matches}
@@ -14,10 +13,11 @@ use Rattle.report_defs.specs.declared.command.Command.{Command}
 use Rattle.report_defs.specs.declared.command.Command.TheVariants as asked
 use Rattle.report_defs.specs.declared.status.Status.{Status}
 use Rattle.report_defs.specs.declared.status.Status.TheVariants.{WriteFault}
-use Rattle.report_defs.specs.Commands.{most_steps}
+use Rattle.report_defs.specs.Commands.{most_steps, most_blocks}
 use Rattle.report_defs.specs.Program.{program_lines, program_status}
 use Rattle.report_defs.specs.Trace.{seen_state, step_lines}
 use Rattle.report_defs.specs.Report.{Whole, largest_input, ReportOn}
+use Rattle.ti_bench.specs.declared.commands.program.LoadedProgram.{LoadedProgram}
 use Rattle.ti_bench.specs.declared.prepared.Prepared.{Prepared}
 use Rattle.ti_bench.specs.declared.prepared.Prepared.TheVariants as prepared
 use Rattle.ti_bench.specs.declared.trace.Trace.{Trace}
@@ -25,9 +25,10 @@ use Rattle.ti_bench.specs.Made.{defined_report}
 use Rattle.ti_bench.specs.Loaded.{LoadsBuilt}
 use Rattle.ti_bench.specs.Run.{Outputs, EndsWith}
 
--- a trace has a limit that it keeps
+-- a trace has a limit that it keeps, and so has demo
 abbrev pub KeepsLimit : Command → Type 0
 KeepsLimit (asked.Trace limit) = limit ≤ most_steps
+KeepsLimit (asked.Demo number) = number ≤ most_blocks
 KeepsLimit command = Unit {0}
 
 -- The interpreter has booted on a machine, and stands before the first step of the program.
@@ -47,9 +48,9 @@ pub record CanTrace (trace : Trace) : Type 0 where
 
 -- a trace of the program of a source
 pub record TracesSource (input : List ℕ) (trace : Trace) : Type 0 where
-  pub new : MachineState
+  pub new : LoadedProgram
   pub loads : LoadsBuilt input new
-  pub started : Started new trace.session
+  pub started : Started new.machine trace.session
   pub can : CanTrace trace
 
 -- what is made of an input that is not too large

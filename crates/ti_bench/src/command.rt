@@ -14,6 +14,9 @@ const MOST_INSTRUCTIONS: u32 = 10_000_000;
 /// The most steps that `run` and `trace` make.
 const MOST_STEPS: u32 = 100_000;
 
+/// The most blocks of the program that `demo` makes.
+const MOST_BLOCKS: u32 = 500;
+
 /// The command that the words say, or `None` where they are in no shape of one.
 pub(crate) fn read_command(words: &Words) -> Option<Command>
     ensures command { result ≡ spec.command_of words.now }
@@ -36,6 +39,7 @@ pub(crate) fn read_command(words: &Words) -> Option<Command>
             let limit = number_word(limit.as_slice(), MOST_STEPS)?;
             Some(Command::Trace { limit })
         }
+        [name, number] if name.as_slice() == b"demo".as_slice() => demo_of(number.as_slice()),
         [name, address] if name.as_slice() == b"dis".as_slice() => dis_at(address.as_slice()),
         [name, address] if name.as_slice() == b"gdis".as_slice() => {
             let at = address_word(address.as_slice())?;
@@ -43,6 +47,18 @@ pub(crate) fn read_command(words: &Words) -> Option<Command>
         }
         _ => None,
     }
+}
+
+/// The command `demo` with a number, where that is not 0.
+fn demo_of(word: &[u8]) -> Option<Command>
+    ensures command { result ≡ spec.demo_command word.now }
+    ensures limit { IfSome result KeepsLimit }
+{
+    let number = number_word(word, MOST_BLOCKS)?;
+    if number == 0 {
+        return None;
+    }
+    Some(Command::Demo { number })
 }
 
 /// The command `dis` with an address, where that is an even one.

@@ -1,6 +1,7 @@
 //! The commands, each by what it makes of its input.
 
 mod asm;
+mod demo;
 mod dis;
 mod exec;
 mod gasm;
@@ -16,6 +17,7 @@ ghost use Rattle.report_defs.specs.Report.{largest_input};
 ghost use Rattle.ti_bench.specs.Traced.{KeepsLimit, Prepares};
 
 use crate::commands::asm::asm;
+use crate::commands::demo::demo;
 use crate::commands::dis::dis;
 use crate::commands::exec::exec;
 use crate::commands::gasm::gasm;
@@ -47,6 +49,7 @@ pub(crate) fn prepare(
         Command::Exec { limit } => exec(alloc, limit, input.as_slice())?,
         Command::Interp => interp(alloc)?,
         Command::Run { limit } => run(alloc, limit, input.as_slice())?,
+        Command::Demo { number } => demo(alloc, number)?,
         Command::Trace { limit } => return trace(alloc, limit, input.as_slice()),
     };
     Ok(Prepared::Report(report))

@@ -42,6 +42,6 @@ fn reads(command: Command) -> bool
         | Command::Exec { .. }
         | Command::Run { .. }
         | Command::Trace { .. } => true,
-        Command::Interp => false,
+        Command::Interp | Command::Demo { .. } => false,
     }
 }

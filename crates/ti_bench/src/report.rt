@@ -16,12 +16,13 @@ use crate::fault_line::fault_line;
 use crate::listing::Listing;
 use bench_io::{Failed, Sink, put_piece};
 use console_defs::RunEnd;
+use demo_program::put_summary;
 use gpl_disasm::disassemble;
 use gpl_forms::GromImage;
 use gpl_run::Session;
 use link_loader::Linked;
 use memory_listing::put_memory;
-use report_defs::{Fault, Status};
+use report_defs::{Fault, Status, Summary};
 use report_lines::{Line, append, append_word, put_text};
 use step_defs::Reason;
 use tms_step::Machine;
@@ -47,6 +48,8 @@ pub(crate) enum Report {
     },
     /// A GPL program that was run, whose end, state and dump go to standard output line by line.
     Program(Session),
+    /// The summary of a program that was made from a number and run, which goes to standard output line by line.
+    Demo(Summary),
     /// Linked memory, whose listing goes to standard output line by line.
     Memory(Linked),
     /// The line of an input that is refused, which goes to standard error.
@@ -88,6 +91,7 @@ impl Report {
             Report::Grom(image) => put_grom(image, out),
             Report::Execution { ending, machine } => put_execution(out, *ending, machine),
             Report::Program(session) => put_program(out, session),
+            Report::Demo(summary) => put_summary(*summary, out),
             Report::Memory(linked) => put_memory(linked, out),
             Report::Refused(line) => put_piece(err, line.as_slice()),
             Report::Fault(fault) => put_piece(err, fault_line(*fault).as_slice()),
@@ -107,6 +111,7 @@ impl Report {
             Report::Refused(_) => Status::Refused,
             Report::Execution { ending, .. } => end_status(*ending),
             Report::Program(session) => program_status(session.ended()),
+            Report::Demo(summary) => program_status(summary.ended),
             Report::Fault(fault) => fault_status(*fault),
         }
     }

@@ -1,6 +1,7 @@
 //! Runs of the program over sources and sinks in memory.
 
 mod asm;
+mod demo;
 mod dis;
 mod exec;
 mod gasm;

@@ -1,28 +1,40 @@
-//! A GPL program for the interpreter: assembled from its source, and loaded.
+//! A GPL program for the interpreter: assembled from its source, loaded, and run.
 
-ghost use Rattle.std.specs.Prelude.{◌≡◌, ◌≤◌, length, Ok, IfOk};
+ghost use Rattle.std.specs.Prelude.{◌≡◌, ◌<◌, ◌≤◌, length, Ok, IfOk};
 ghost use Rattle.build_defs.specs.Interpreter.{built_interpreter};
+ghost use Rattle.gpl_run.specs.Sessions.{IsNew, image_of, entry_of};
 ghost use Rattle.link_loader.specs.View.{defined_linked};
 ghost use Rattle.program_defs.specs.Programs.{program_of_source};
 ghost use Rattle.report_defs.specs.Report.{largest_input};
 ghost use Rattle.ti_bench.specs.Loaded.{Loads, LoadsSource, LoadsImage};
+ghost use Rattle.ti_bench.specs.Ran.{RanProgram};
 
 use crate::interpreter::{BuiltInterpreter, build_interpreter};
 use crate::report::Report;
 use gpl_asm::{GplError, gpl_assemble};
 use gpl_forms::GromImage;
-use gpl_run::load_interpreter;
+use gpl_run::{Session, load_interpreter};
 use link_loader::Linked;
 use report_defs::Fault;
 use report_lines::gpl_line;
 use std::alloc::{AllocError, Global};
-use tms_step::Machine;
+use std::sync::ledger::{Blank, Ledger};
+use tms_step::{Machine, Steps};
+
+/// A GPL program before its first step.
+#[derive(Drop)]
+pub(crate) struct LoadedProgram {
+    /// A machine on which the interpreter begins, with the program and its entry.
+    pub(crate) machine: Machine,
+    /// How many bytes the program's image has.
+    pub(crate) image_size: u64,
+}
 
 /// What comes of a GPL source that is to be run.
 #[derive(Drop)]
 pub(crate) enum Loaded {
-    /// A machine on which the interpreter begins, with the program and its entry.
-    Machine(Machine),
+    /// A program that is to be run.
+    Program(LoadedProgram),
     /// The report of a program that is not run: the interpreter is not built, the source is refused, or it names no entry.
     Report(Report),
 }
@@ -68,5 +80,24 @@ fn load_image(
     let Some(entry) = entry else {
         return Ok(Loaded::Report(Report::Fault(Fault::NoEntry)));
     };
-    Ok(Loaded::Machine(load_interpreter(alloc, interpreter, image.bytes(), entry)?))
+    Ok(Loaded::Program(LoadedProgram {
+        machine: load_interpreter(alloc, interpreter, image.bytes(), entry)?,
+        image_size: image.written().len() as u64,
+    }))
+}
+
+/// Up to `limit` steps of the program that a machine holds on which the interpreter begins, and how many were made.
+pub(crate) fn run_session<L: Ledger>(machine: Machine, limit: u32, blank: Blank) -> (Session, u32)
+    requires name { blank.name ≡ L.name }
+    requires parts { blank.parts ≡ L.parts }
+    requires some { 0 < L.parts }
+    requires new { IsNew machine }
+    ensures { RanProgram (image_of machine) (entry_of machine) limit result.0 result.1 }
+{
+    let mut steps = Steps::<L>::new(blank);
+    machine.holds_bounds();
+    let mut session = Session::new(machine, &mut steps);
+    let made = session.run(limit, &mut steps);
+    session.machine().holds_bounds();
+    (session, made)
 }

@@ -25,8 +25,8 @@ pub(crate) fn trace(alloc: Global, limit: u32, input: &[u8]) -> Result<Prepared,
     ensures { IfOk result (Prepares (Command.Trace limit) input.now) }
 {
     match load_program(alloc, input)? {
-        Loaded::Machine(machine) => {
-            let session = start_session::<Brand>(machine, Blank::new(1));
+        Loaded::Program(program) => {
+            let session = start_session::<Brand>(program.machine, Blank::new(1));
             let seen = Seen::new(alloc, session.machine())?;
             Ok(Prepared::Trace(Trace {
                 session,

@@ -1,4 +1,4 @@
-use Rattle.std.proofs.Common.{Some, refl}
+use Rattle.std.proofs.Common.{refl}
 use Rattle.bench_io.specs.ReadAll.{GaveUp}
 use Rattle.bench_io.specs.declared.whole.ReadError.TheVariants as error
 use Rattle.report_defs.specs.declared.fault.Fault.TheVariants as fault

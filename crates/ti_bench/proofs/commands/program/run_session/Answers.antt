@@ -1,11 +1,10 @@
-use Rattle.std.proofs.Common.{◌≡◌, sym, ap, ◌∙◌, subst}
+use Rattle.std.proofs.Common.{ap, ◌∙◌, subst}
 use Rattle.console_defs.specs.Memory.{IsMemory}
 use Rattle.console_defs.specs.Machine.{MachineState}
-use Rattle.step_defs.specs.State.{GplState, start}
+use Rattle.step_defs.specs.State.{GplState}
 use Rattle.step_defs.specs.Run.{run}
 use Rattle.interp_defs.specs.Programs.{RunsSteps}
-use Rattle.gpl_run.specs.Sessions.{image_of, entry_of}
-use Rattle.ti_bench.proofs.commands.run.run_session.Goals as goal
+use Rattle.ti_bench.proofs.commands.program.run_session.Goals as goal
 
 pub returns : goal.returns
 returns g c =
@@ -13,8 +12,8 @@ returns g c =
     let limit = c.args.limit in
     let begins = c.new-session.ensures.begins in
     let first = c.new-session.result.machine in
-    let ran = c.run.ensures in
-    let last = c.run.new.self.machine in
+    let ran = c.run-made.ensures in
+    let last = c.run-made.new.self.machine in
     let runs = subst (λ (s : GplState). RunsSteps s limit ran.count first last) begins.matches.shows ran.runs in
     record {
       runs = record {
@@ -29,5 +28,6 @@ returns g c =
         runs = runs;
       };
       ended = ran.stop_is ∙ ap (λ (s : GplState). (run limit s).stop) begins.matches.shows;
+      made_is = ran.done_is ∙ ap (λ (s : GplState). (run limit s).done) begins.matches.shows;
       memory = subst (λ (y : MachineState). IsMemory y.cpu.memory) c.machine.ensures c.holds_bounds-2.ensures.memory;
     }
