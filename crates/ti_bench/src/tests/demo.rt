@@ -15,6 +15,10 @@ const SUMMARIES: &[(&[u8], &[u8])] = &[
         b"2",
         b"demo 2\nimage 13\nsteps 2\npad 663\nvdp 0\nexit\ncount ",
     ),
+    (
+        b"500",
+        b"demo 500\nimage 2331\nsteps 750\npad 2745\nvdp 980463\nexit\ncount ",
+    ),
 ];
 
 /// Whether `demo` with a number, of which the input could not be read, writes a summary that begins so and ends with a

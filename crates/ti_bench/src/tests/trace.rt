@@ -1,9 +1,27 @@
-//! The lines of `trace`: flow, the two stacks, RAND, and what each step changed.
+//! The lines of `trace`: flow, the two stacks, RAND, MOVE, and what each step changed.
+
+ghost use Rattle.std.specs.Prelude.{◌≡◌, ◌<◌};
 
 use super::run::{Ended, run};
-use report_defs::Status;
+use crate::commands::prepare;
+use crate::prepared::Prepared;
+use bench_io::MemSink;
+use gpl_run::Session;
+use report_defs::{Command, Status};
 use std::alloc::{AllocError, Global};
+use std::marker::Brand;
+use std::sync::ledger::{Blank, Ledger};
 use std::test::Fail;
+use tms_step::Steps;
+use trace_dump::{Seen, play};
+
+/// A cartridge that sets up the video processor and then calls a subroutine three times, which branches by a table.
+const CARTRIDGE: &[u8] =
+    b" BYTE >AA,1,1,0; DATA 0,MENU,0,0;MENU DATA 0,START; BYTE 5;HELLO TEXT 'HELLO'\
+;REGS BYTE >00,>E0,>00,>0E,>01,>06,>00,>07;COUNT EQU >8300;SUM EQU >8302\
+;START MOVE 8,R@0,G@REGS; ALL >20; BACK >17; ST @COUNT,3;LOOP CALL SHOW; DEC @COUNT; CZ @COUNT; BR LOOP; EXIT\
+;SHOW CASE @COUNT; BR NONE; BR ONE; BR TWO; BR THREE;THREE MOVE 5,V@0,G@HELLO; RTN;TWO ST V@>0021,@COUNT; RTN\
+;ONE ADD @SUM,>7F; RTN;NONE RTN; END START";
 
 /// What a trace shows: a name, the words behind `trace`, the statements of a source (apart by semicolons, each behind its
 /// label's column), the first lines of the report, and the status.
@@ -221,18 +239,74 @@ fn traces(
     )
 }
 
-/// A trace of statements that are apart by semicolons, over an output of which the calls with these numbers fail.
+/// The source of statements that are apart by semicolons.
+fn source_of(alloc: Global, statements: &[u8]) -> Result<Vec<u8>, AllocError> {
+    let mut source = Vec::new(alloc);
+    for &byte in statements {
+        source.push(if byte == b';' { b'\n' } else { byte })?;
+    }
+    Ok(source)
+}
+
+/// A trace of statements, over an output of which the calls with these numbers fail.
 fn traced(
     alloc: Global,
     limit: &[u8],
     statements: &[u8],
     put_fails: &[u64],
 ) -> Result<Ended, AllocError> {
-    let mut source = Vec::new(alloc);
-    for &byte in statements {
-        source.push(if byte == b';' { b'\n' } else { byte })?;
-    }
+    let source = source_of(alloc, statements)?;
     run(alloc, &[b"trace", limit], source, &[], put_fails)
+}
+
+/// What `play` writes of the step behind the first 23 of the cartridge, as the first that it sees.
+fn played(alloc: Global) -> Result<Option<MemSink>, AllocError> {
+    let source = source_of(alloc, CARTRIDGE)?;
+    if source.len() > 1000 {
+        return Ok(None);
+    }
+    match prepare(alloc, Command::Trace { limit: 100 }, source)? {
+        Prepared::Trace(trace) => played_behind::<Brand>(alloc, trace.session, Blank::new(1)),
+        Prepared::Report(_) => Ok(None),
+    }
+}
+
+/// What `play` writes of the step behind 23 more of a program.
+fn played_behind<L: Ledger>(
+    alloc: Global,
+    mut session: Session,
+    blank: Blank,
+) -> Result<Option<MemSink>, AllocError>
+    requires name { blank.name ≡ L.name }
+    requires parts { blank.parts ≡ L.parts }
+    requires some { 0 < L.parts }
+{
+    let mut steps = Steps::<L>::new(blank);
+    for _ in 0..23 {
+        if !session.is_running() {
+            return Ok(None);
+        }
+        session.next(&mut steps);
+    }
+    if !session.is_running() {
+        return Ok(None);
+    }
+    let mut seen = Seen::new(alloc, session.machine())?;
+    let mut out = MemSink::new(alloc, 200, Vec::new(alloc))?;
+    match play(&mut session, &mut seen, 1, &mut out, &mut steps) {
+        Ok(1) => Ok(Some(out)),
+        _ => Ok(None),
+    }
+}
+
+#[test]
+fn play_begins_where_a_session_stands(rt: HostRuntime) -> Result<(), Fail> {
+    let out = played(rt.alloc())?;
+    assert!(rt;
+        out.is_some_and(|sink| sink.bytes()
+            == b"     1 >604C SD0 D9F R80 ADD @>8302,>7F C2 >8302=7F\n".as_slice())
+    );
+    Ok(())
 }
 
 #[test]
@@ -241,6 +315,12 @@ fn failed_trace_keeps_its_first_lines(rt: HostRuntime) -> Result<(), Fail> {
     assert_eq!(rt; ended.status, Status::WriteFault);
     assert!(rt;
         ended.out.bytes() == b"     1 >6000 S00 D9F R7E CALL >6005 C3 >8373=80\n".as_slice()
+    );
+    let ended = traced(rt.alloc(), b"100", CARTRIDGE, &[2])?;
+    assert_eq!(rt; ended.status, Status::WriteFault);
+    assert!(rt;
+        ended.out.bytes()
+            == b"     1 >601E S00 D9F R7E MOVE >0008,R@>00,G@>6016 W5 1=E0\n     2 >6024 S00 D9F R7E ALL >20 V768 >0000=20\n".as_slice()
     );
     Ok(())
 }
