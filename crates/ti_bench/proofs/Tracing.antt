@@ -10,6 +10,7 @@ use Rattle.bench_io.specs.Stream.{SinkState}
 use Rattle.bench_io.specs.Written.{Wrote}
 use Rattle.bench_io.proofs.Writing.{wrote_more, missed_more}
 use Rattle.trace_dump.specs.Plays.{Plays}
+use Rattle.trace_dump.proofs.Playing.{breaks_front}
 use Rattle.ti_bench.specs.declared.report.Report.TheVariants as made
 use Rattle.step_defs.specs.State.{GplState, start}
 use Rattle.step_defs.specs.Run.{run}
@@ -149,3 +150,10 @@ traces_whole o trace left middle before after (Ok done) st p none memory ends =
       ends = ends_behind o middle (step_lines s (run trace.limit s).done) (program_lines left.ended (seen left) left.machine) (program_status left.ended) st wrote ends;
     })
 traces_whole o trace left middle before after (Err error) st p none memory ends = absurd (not_both true refl none)
+
+-- the line of a step could not be written
+pub breaks_off : {E : Type 0} (o : Outputs) (trace : Trace) (left : SessionState) (before after : ℕ) (r : Result ℕ E) →
+    Plays trace.limit trace.session left before after o.out o.out' r → is_err r ≡ true → o.err' ≡ o.err → EndsTrace o trace status.WriteFault
+breaks_off o trace left before after (Ok done) p failed silent = absurd (cc)
+breaks_off o trace left before after (Err error) p failed silent =
+    inr (record { is = refl; missed = breaks_front trace.limit trace.session left before after o.out o.out' p; silent = silent })

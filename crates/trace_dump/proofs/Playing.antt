@@ -125,20 +125,26 @@ module _ (x y z : SessionState) (t u v made : ℕ) (o o' : SinkState) (kept : Se
 
       pub breaks_off : (limit : ℕ) (o2 : SinkState) → made < limit → Missed o' o2 (line ∷ []) → BreaksOff limit x z t v o o2
       breaks_off limit o2 less missed =
-          let done = (run limit (seen x)).done in
-          let within : made + 1 ≤ done = done_at_least (made + 1) limit (seen x) more.now more.steps_are (omega arith) in
-          let behind = lines_behind (seen x) (made + 1) done within in
-          let here : Missed o o2 (step_lines (seen x) (made + 1)) =
-          subst (Missed o o2) (ap (λ (l : List ℕ). step_lines (seen x) made ++ l ∷ []) line_is ∙ sym (one_more_line (seen x) made))
-          (missed_more o o' o2 (step_lines (seen x) made) (line ∷ []) p.wrote missed) in
+          let within : made + 1 ≤ (run limit (seen x)).done = done_at_least (made + 1) limit (seen x) more.now more.steps_are (omega arith) in
           record {
-            made = made + 1;
-            some = omega arith;
-            within = within;
+            shown = made;
+            within = omega arith;
             runs = whole (made + 1) (seen x) x.machine z.machine t v more;
             running = runs_on;
-            missed = subst (Missed o o2) (sym behind.1) (missed_early o o2 (step_lines (seen x) (made + 1)) behind.0 here);
+            between = o';
+            wrote = p.wrote;
+            missed = subst (λ (l : List ℕ). Missed o' o2 (l ∷ [])) line_is missed;
           }
+
+-- what was written is a front of the lines of all steps up to the limit
+pub breaks_front : (limit : ℕ) (x y : SessionState) (t u : ℕ) (o o' : SinkState) → BreaksOff limit x y t u o o' → Missed o o' (step_lines (seen x) (run limit (seen x)).done)
+breaks_front limit x y t u o o' b =
+    let s = seen x in
+    let less = b.within in
+    let behind = lines_behind s (b.shown + 1) (run limit s).done (omega arith) in
+    let here : Missed o o' (step_lines s (b.shown + 1)) =
+    subst (Missed o o') (sym (one_more_line s b.shown)) (missed_more o b.between o' (step_lines s b.shown) (line_at s b.shown ∷ []) b.wrote b.missed) in
+    subst (Missed o o') (sym behind.1) (missed_early o o' (step_lines s (b.shown + 1)) behind.0 here)
 
 pub plays_whole : (limit made : ℕ) (x y : SessionState) (t u : ℕ) (o o' : SinkState) (kept : SeenState) → made ≡ limit → Playing x y t u made o o' kept → PlaysWhole limit x y t u o o' limit
 plays_whole limit made x y t u o o' kept all p =
