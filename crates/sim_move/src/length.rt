@@ -29,7 +29,8 @@ fn load_count<L: Ledger>(machine: &mut Machine, steps: &mut Steps<L>)
 pub(crate) fn find_length<L: Ledger>(machine: &mut Machine, steps: &mut Steps<L>)
     requires stands { Stands machine.old address.GOMOVE }
     requires dispatched { let v = view machine.old in Dispatched (state_at_dispatch v) v }
-    ensures { let s = state_at_dispatch (view machine.old) in FindsLength s machine.old machine.new steps.old steps.new }
+    ensures { let s = state_at_dispatch (view machine.old) in
+        FindsLength s machine.old machine.new steps.old steps.new }
 {
     ask_length(machine, steps);
     if machine.pc() != ADDR {

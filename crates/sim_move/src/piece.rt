@@ -26,7 +26,8 @@ pub fn load_length<L: Ledger>(machine: &mut Machine, steps: &mut Steps<L>)
     run_piece(machine, steps, &[LOAD]);
 }
 
-/// The piece of MOVE that keeps the length and asks ADDR for the target, unless that is registers, or stops by reason 4.
+/// The piece of MOVE that keeps the length and asks ADDR for the target, unless that is registers, or stops by reason
+/// 4.
 pub fn keep_length<L: Ledger>(machine: &mut Machine, steps: &mut Steps<L>)
     requires { Stands machine.old address.MOVEL }
     ensures { Exits machine.old machine.new steps.old steps.new (piece.keep_length (view machine.old)) }
