@@ -322,8 +322,8 @@ def limits(rng, turn):
 
 WORDS = [b'asm', b'link', b'dis', b'gdis', b'exec', b'gasm', b'interp', b'run', b'trace', b'demo', b'', b'0', b'1',
          b'5', b'007', b'-1', b'A000', b'a001', b'A00', b'A0000', b'>A000', b'100000', b'100001', b'10000000',
-         b'10000001', b'500', b'501', b'--help', b'--version', b'-h', b'--', b'ASM', b'\xff\xfe', b'\xc3\xa9', b'9' * 20,
-         b'+1', b' 1', b'1 ', b'0x10', b'?', b'asm\n', b'1e3']
+         b'10000001', b'500', b'501', b'--help', b'--version', b'-h', b'--', b'ASM', b'\xff\xfe', b'\xc3\xa9',
+         b'9' * 20, b'+1', b' 1', b'1 ', b'0x10', b'?', b'asm\n', b'1e3']
 
 
 def words(rng, turn):
