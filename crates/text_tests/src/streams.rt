@@ -1,3 +1,5 @@
+ghost use Rattle.std.specs.Prelude.{None};
+
 use bench_io::{
     Failed, MemSink, MemSource, ReadError, Sink, Source, StdSink, StdSource, SteadySink,
     SteadySource, put_piece, read_all,
@@ -42,6 +44,22 @@ impl Write for Narrow {
 
     fn flush(&mut self) -> io::Result<()> {
         Ok(())
+    }
+}
+
+/// A source that gives one byte at each call, and has no end. It counts its calls.
+#[derive(Drop)]
+struct Endless {
+    calls: u64,
+}
+
+impl Source for Endless {
+    ghost state = { λ s. record { left = None; calls = s.calls; taken = s.calls; empty = 0; faults = 0 } };
+
+    fn take(&mut self, buffer: &mut [u8]) -> Result<usize, Failed> {
+        self.calls = self.calls.saturating_add(1);
+        buffer[0] = 7;
+        Ok(1)
     }
 }
 
@@ -95,6 +113,12 @@ fn reads_steadily(alloc: Global) -> Result<bool, AllocError> {
     Ok(are_read(read_all(alloc, &mut source, 3), b"one"))
 }
 
+/// Whether reading a source without an end gives up one byte past the limit.
+fn gives_up_without_an_end(alloc: Global) -> bool {
+    let mut source = Endless { calls: 0 };
+    matches!(read_all(alloc, &mut source, 10), Err(ReadError::TooLarge)) && source.calls == 11
+}
+
 #[test]
 fn a_source_is_read_up_to_its_end_or_its_limit(rt: HostRuntime) -> Result<(), Fail> {
     for &(size, fails, limit, want) in READINGS {
@@ -103,7 +127,7 @@ fn a_source_is_read_up_to_its_end_or_its_limit(rt: HostRuntime) -> Result<(), Fa
             "{size} bytes, limit {limit}, call {fails} fails"
         );
     }
-    assert!(rt; reads_steadily(rt.alloc())?);
+    assert!(rt; reads_steadily(rt.alloc())? && gives_up_without_an_end(rt.alloc()));
     Ok(())
 }
 

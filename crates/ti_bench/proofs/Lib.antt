@@ -6,3 +6,4 @@ pub mod ModuleCount
 pub mod Told
 pub mod Loading
 pub mod Tracing
+pub mod Steadily

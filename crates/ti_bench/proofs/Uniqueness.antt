@@ -42,7 +42,7 @@ on_all command before after bytes input report told reading on = left after.left
         by rest is all (nat_lt largest_input (length bytes)) refl on
 
 -- the report of a run on a command is the report on its input
-on_input : (run : Run) (command : Command) (input : List ℕ) (report : Report) → run.input.left ≡ Some input → ReportsOn (Some command) run report → ReportOn command (read_of command input) report
+pub on_input : (run : Run) (command : Command) (input : List ℕ) (report : Report) → run.input.left ≡ Some input → ReportsOn (Some command) run report → ReportOn command (read_of command input) report
 on_input run command input report told (bytes, reading, on) = by (reads command) refl reading
   where
     by : (read : Bool) → reads command ≡ read → Reads read run.input run.input' bytes → ReportOn command (if read then input else []) report
@@ -55,7 +55,7 @@ no_miss run (Faulty fault) none missed = none.err missed.0.rose
 no_miss run (Rejected line) none missed = none.err missed.0.rose
 
 -- a run in which no count rose wrote its report
-reported : (run : Run) (s : Status) → EndsBy run s → HasNoFault run → s ≢ status.Memory → (report : Report) × Reports run report × (s ≡ status_of report) × WroteReport run.outputs report
+pub reported : (run : Run) (s : Status) → EndsBy run s → HasNoFault run → s ≢ status.Memory → (report : Report) × Reports run report × (s ≡ status_of report) × WroteReport run.outputs report
 reported run status.Done (report, reports, (is, wrote)) none some = (report, reports, sym is, wrote)
 reported run status.Refused (report, reports, (is, wrote)) none some = (report, reports, sym is, wrote)
 reported run status.Usage (report, reports, (is, wrote)) none some = (report, reports, sym is, wrote)

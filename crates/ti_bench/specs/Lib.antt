@@ -9,3 +9,4 @@ pub mod Made
 pub mod Loaded
 pub mod Traced
 pub mod Laws
+pub mod Steady

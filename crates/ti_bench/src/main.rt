@@ -12,6 +12,7 @@ mod listing_lines;
 mod object_input;
 mod prepared;
 mod report;
+mod steady;
 #[cfg(test)]
 mod tests;
 mod trace;

@@ -4,6 +4,7 @@ mod asm;
 mod demo;
 mod dis;
 mod exec;
+mod failing_ends;
 mod gasm;
 mod gdis;
 mod gpl_programs;

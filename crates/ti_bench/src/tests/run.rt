@@ -19,6 +19,15 @@ pub(crate) struct Ended {
     pub(crate) input: MemSource,
 }
 
+/// The words of a command line.
+pub(crate) fn words_of(alloc: Global, words: &[&[u8]]) -> Result<Words, AllocError> {
+    let mut list = Words::new(alloc);
+    for word in words {
+        list.push(word)?;
+    }
+    Ok(list)
+}
+
 /// Runs words over an input, with room for 16,384 bytes in each sink. The calls of each with these numbers fail.
 pub(crate) fn run(
     alloc: Global,
@@ -27,10 +36,7 @@ pub(crate) fn run(
     take_fails: &[u64],
     put_fails: &[u64],
 ) -> Result<Ended, AllocError> {
-    let mut list = Words::new(alloc);
-    for word in words {
-        list.push(word)?;
-    }
+    let list = words_of(alloc, words)?;
     let mut input = MemSource::new(input, Vec::from_slice(alloc, take_fails)?);
     let mut out = MemSink::new(alloc, 16384, Vec::from_slice(alloc, put_fails)?)?;
     let mut err = MemSink::new(alloc, 16384, Vec::from_slice(alloc, put_fails)?)?;
