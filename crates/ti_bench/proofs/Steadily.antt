@@ -1,5 +1,5 @@
 -- What is answered where nothing fails.
-use Rattle.std.proofs.Common.{◌≡◌, ◌≢◌, ◌⊎◌, ◌<◌, ℕ, List, Option, Some, None, refl, sym, ap, ◌∙◌, subst, inl, inr, arith}
+use Rattle.std.proofs.Common.{◌≡◌, ◌≢◌, ◌⊎◌, ◌<◌, ℕ, List, Option, Some, None, refl, ap, ◌∙◌, subst, inl, inr, arith}
 use Rattle.std.specs.Prelude.{IsSome}
 use Rattle.bench_io.specs.Memory.{Supply}
 use Rattle.bench_io.specs.Stream.{SinkCounts}
@@ -8,8 +8,8 @@ use Rattle.report_defs.specs.declared.command.Command.{Command}
 use Rattle.report_defs.specs.declared.status.Status.{Status}
 use Rattle.report_defs.specs.declared.status.Status.TheVariants as status
 use Rattle.report_defs.specs.Commands.{command_of}
-use Rattle.report_defs.specs.Report.{Report, status_of}
-use Rattle.ti_bench.specs.Run.{Run, ReportsOn, Reports, EndsBy, WroteNothing}
+use Rattle.report_defs.specs.Report.{status_of}
+use Rattle.ti_bench.specs.Run.{Run, ReportsOn, EndsBy, WroteNothing}
 use Rattle.ti_bench.specs.Laws.{HasNoFault}
 use Rattle.ti_bench.specs.Steady.{AnswersSteadily, EndsSteadily, steady_source, steady_sink}
 use Rattle.ti_bench.proofs.Uniqueness.{reported, on_input}
