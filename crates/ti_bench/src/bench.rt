@@ -12,9 +12,9 @@ use bench_io::{ReadError, Sink, Source};
 use report_defs::{Fault, Status};
 use std::alloc::{AllocError, Global};
 
-/// Runs the command that the words say. It reads all of `input` before it writes, writes the report to `out`, or a fault
-/// line or the usage line to `err`, and takes all its memory before the first byte is written. The lines of a trace are
-/// written while the program runs, each once its step is made.
+/// Runs the command that the words say. It reads all of `input` before it writes, writes the report to `out`, or a
+/// fault line or the usage line to `err`, and takes all its memory before the first byte is written. The lines of a
+/// trace are written while the program runs, each once its step is made.
 ///
 /// The contract says of each status its cause, and what the input and the outputs are then; that there is one report on
 /// each command and input; that where the source tells its bytes and nothing fails, the answer is that report with its

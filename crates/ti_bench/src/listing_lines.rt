@@ -26,7 +26,8 @@ pub(crate) fn origin_line(at: u16) -> Line
     line
 }
 
-/// Writes the lines of the words that bytes hold, of which the first stands at an address: each an instruction, or DATA.
+/// Writes the lines of the words that bytes hold, of which the first stands at an address: each an instruction, or
+/// DATA.
 #[tactic(auto, using(bench_io::proofs::Writing::wrote_none))]
 pub(crate) fn put_instructions<O: Sink>(at: u16, bytes: &[u8], out: &mut O) -> Result<(), Failed>
     requires { at + length bytes.now ≤ 65536 }
@@ -42,8 +43,8 @@ pub(crate) fn put_instructions<O: Sink>(at: u16, bytes: &[u8], out: &mut O) -> R
     Ok(())
 }
 
-/// Makes the line of the instruction at the front of some bytes, or of DATA with their first word, whatever the line held;
-/// and says how many words it has.
+/// Makes the line of the instruction at the front of some bytes, or of DATA with their first word, whatever the line
+/// held; and says how many words it has.
 fn make_front_line(line: &mut Line, bytes: &[u8], at: u16) -> u8
     requires { 1 < length bytes.now }
     ensures line { line.new.items ≡ spec.listing_line (printed (spec.words_in bytes.now) at).text }

@@ -28,8 +28,8 @@ use std::env::Env;
 use std::io::{BufWriter, ErrorKind, Write};
 use std::process::ExitCode;
 
-/// Runs the command that the words of the command line say, over the standard streams. Standard output is buffered, where
-/// there is memory for that, and else it is not: so `bench` is called in either case.
+/// Runs the command that the words of the command line say, over the standard streams. Standard output is buffered,
+/// where there is memory for that, and else it is not: so `bench` is called in either case.
 fn main(rt: HostRuntime) -> ExitCode {
     let Ok(words) = command_words(&rt) else {
         return ExitCode::from(Status::Memory as u8);
@@ -55,8 +55,8 @@ fn run<W: Write + Drop>(rt: &HostRuntime, words: &Words, output: W) -> Status {
     )
 }
 
-/// The words behind the program's name; or the one word `?`, which is no command, where they cannot be had, as where one
-/// of them is no UTF-8.
+/// The words behind the program's name; or the one word `?`, which is no command, where they cannot be had, as where
+/// one of them is no UTF-8.
 fn command_words<R: Env + AllocGlobal>(rt: &R) -> Result<Words, AllocError> {
     let mut words = Words::new(rt.alloc());
     match env::args(rt) {

@@ -25,8 +25,8 @@ pub(crate) struct Trace {
 }
 
 impl Trace {
-    /// Runs the program and writes the line of each step once it is made; then the program's end, its last state and the dump.
-    /// The status is that of the program's end, or a write fault.
+    /// Runs the program and writes the line of each step once it is made; then the program's end, its last state and
+    /// the dump. The status is that of the program's end, or a write fault.
     pub(crate) fn finish<O: Sink, E: Sink>(self, out: &mut O, err: &mut E) -> Status
         requires { CanTrace self }
         ensures { EndsTrace (record {

@@ -17,8 +17,8 @@ pub record PlaysWhole (limit : ℕ) (x y : SessionState) (before after : ℕ) (o
 abbrev pub line_behind : GplState → ℕ → List ℕ
 line_behind s made = step_line (made + 1) (run made s).last (run (made + 1) s).last
 
--- A line could not be written: those of the steps before it were, each by one call, and of it a front. Its step is the last that
--- was made, and the program is running.
+-- A line could not be written: those of the steps before it were, each by one call, and of it a front. Its step is the
+-- last that was made, and the program is running.
 pub record BreaksOff (limit : ℕ) (x y : SessionState) (before after : ℕ) (out out' : SinkState) : Type 0 where
   pub shown : ℕ
   pub within : shown < (run limit (seen x)).done

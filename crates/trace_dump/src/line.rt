@@ -14,8 +14,8 @@ use itoa::Buffer;
 /// How many places the number of a step has.
 const NUMBER_PLACES: usize = 6;
 
-/// The front of the line of the step that a running program is about to make: its number, which is up to 100,000, the state
-/// before it, and the text of the instruction there. It has at most 77 characters.
+/// The front of the line of the step that a running program is about to make: its number, which is up to 100,000, the
+/// state before it, and the text of the instruction there. It has at most 77 characters.
 #[tactic(auto, using(std::proofs::Common::append_assoc), unfolding(report_defs::specs::Trace::step_front))]
 pub fn trace_line(session: &Session, number: u32) -> ArrayString<120>
     requires running { session.now.ended ≡ None }

@@ -19,7 +19,8 @@ use vdp_ports::Vdp;
 /// Each line is written by one call, and no memory is taken.
 ///
 /// # Errors
-/// `Failed` comes where a line could not be written. The sink then got a front of the dump, and its count of faults rose.
+/// `Failed` comes where a line could not be written. The sink then got a front of the dump, and its count of faults
+/// rose.
 pub fn dump<O: Sink>(machine: &Machine, out: &mut O) -> Result<(), Failed>
     ensures { Written result (O.state out.old) (O.state out.new) (spec.dump_lines machine.now) }
 {

@@ -67,9 +67,9 @@ impl Seen {
     }
 }
 
-/// Ends the front of a step's line by what has changed since, and a line feed; and keeps what is seen of the machine now.
-/// Of the visible cells, the video memory and its registers the line shows how many have changed, the first of them, and what
-/// it is now.
+/// Ends the front of a step's line by what has changed since, and a line feed; and keeps what is seen of the machine
+/// now. Of the visible cells, the video memory and its registers the line shows how many have changed, the first of
+/// them, and what it is now.
 #[tactic(auto, using(std::proofs::Common::append_assoc), unfolding(report_defs::specs::Trace::changes_text))]
 pub fn changes(line: &mut ArrayString<120>, seen: &mut Seen, machine: &Machine)
     requires { array_string_len line.old ≤ 77 }
@@ -172,8 +172,8 @@ fn count_changes(before: &[u8], after: &[u8]) -> usize
     count_differences(before, after)
 }
 
-/// Appends a label of two characters, a number of changed bytes in at most five digits, or three where it is below 1,000, and a
-/// blank.
+/// Appends a label of two characters, a number of changed bytes in at most five digits, or three where it is below
+/// 1,000, and a blank.
 #[tactic(auto, using(std::proofs::Common::append_assoc))]
 fn push_count(line: &mut ArrayString<120>, label: &str, count: usize)
     requires label { length label.now ≡ 2 }

@@ -13,8 +13,8 @@ use gpl_disasm::push_word;
 use gpl_run::Session;
 use step_defs::{RETURN_STACK, Reason, STATUS, VALUE_STACK};
 
-/// The line of the state that a program stands in: the address of its next code byte, or of the one that ended it, and its
-/// status and the pointers of its two stacks.
+/// The line of the state that a program stands in: the address of its next code byte, or of the one that ended it, and
+/// its status and the pointers of its two stacks.
 #[tactic(auto, using(std::proofs::Common::append_assoc), unfolding(report_defs::specs::Program::state_line))]
 pub fn state_line(session: &Session) -> ArrayString<120>
     ensures { result.bytes ≡ spec.state_line (seen session.now) }
@@ -26,8 +26,8 @@ pub fn state_line(session: &Session) -> ArrayString<120>
     line
 }
 
-/// Appends the address of the next code byte, or of the one that ended the program, and its status and the pointers of its two
-/// stacks.
+/// Appends the address of the next code byte, or of the one that ended the program, and its status and the pointers of
+/// its two stacks.
 #[tactic(auto, using(std::proofs::Common::append_assoc), unfolding(report_defs::specs::Program::state_text))]
 pub(crate) fn push_state(line: &mut ArrayString<120>, session: &Session)
     requires { array_string_len line.old + 17 ≤ 120 }

@@ -13,13 +13,13 @@ use interp_defs::Turn;
 use std::sync::ledger::Ledger;
 use tms_step::Steps;
 
-/// Runs a program that is running up to its end, and no more than `limit` steps, which are up to 100,000, and writes the
-/// line of each step, by one call, once it is made. The answer is how many steps were made. What is kept in `seen` is what the
-/// machine shows, before and after. No memory is taken.
+/// Runs a program that is running up to its end, and no more than `limit` steps, which are up to 100,000, and writes
+/// the line of each step, by one call, once it is made. The answer is how many steps were made. What is kept in `seen`
+/// is what the machine shows, before and after. No memory is taken.
 ///
 /// # Errors
-/// `Failed` comes where a line could not be written. The sink then got a front of the lines, and its count of faults rose; the
-/// program is running, and its last step is that of the line that failed.
+/// `Failed` comes where a line could not be written: those of the steps before it were, and of it a front. The sink's
+/// count of faults rose; the program is running, and its last step is that of the line that failed.
 pub fn play<O: Sink, L: Ledger>(
     session: &mut Session,
     seen: &mut Seen,
