@@ -11,7 +11,7 @@ use Rattle.source_defs.specs.Digits.{marked_word}
 use Rattle.build_defs.specs.declared.fault.BuildFault.{BuildFault}
 use Rattle.build_defs.specs.declared.fault.BuildFault.TheVariants.{SourceRefused, ImageDiffers}
 
--- Profile: the commands that are not built yet stand in it too.
+-- Profile: words that are no command are answered by how the program is called.
 unfoldable pub usage_line : List ℕ
 usage_line = codes "usage: ti_bench asm|link|dis ADDR|exec N|gasm|gdis ADDR|interp|run N|trace N|demo K\n"
 

@@ -11,8 +11,8 @@ use report_defs::Command;
 /// The most instructions that `exec` makes.
 const MOST_INSTRUCTIONS: u32 = 10_000_000;
 
-/// The most steps that `run` and `trace` make.
-const MOST_STEPS: u32 = 100_000;
+/// The most steps that `run`, `trace` and `demo` make.
+pub(crate) const MOST_STEPS: u32 = 100_000;
 
 /// The most blocks of the program that `demo` makes.
 const MOST_BLOCKS: u32 = 500;

@@ -8,7 +8,7 @@ use build_defs::BuildFault;
 use report_defs::Fault;
 use report_lines::{Line, append, append_word};
 
-/// How the program is called. The commands that are not built yet stand in it too.
+/// How the program is called, with each of its commands.
 const USAGE: &[u8] =
     b"usage: ti_bench asm|link|dis ADDR|exec N|gasm|gdis ADDR|interp|run N|trace N|demo K\n";
 

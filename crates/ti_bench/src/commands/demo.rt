@@ -7,6 +7,7 @@ ghost use Rattle.report_defs.specs.Commands.{most_blocks, most_steps};
 ghost use Rattle.report_defs.specs.Report as spec;
 ghost use Rattle.ti_bench.specs.Made.{defined_report};
 
+use crate::command::MOST_STEPS;
 use crate::commands::program::{Loaded, load_program, run_session};
 use crate::report::Report;
 use demo_program::{demo_text, summarize};
@@ -14,9 +15,6 @@ use report_defs::Command;
 use std::alloc::{AllocError, Global};
 use std::marker::Brand;
 use std::sync::ledger::Blank;
-
-/// The most steps of the program.
-const MOST_STEPS: u32 = 100_000;
 
 /// The summary of the program that is made from a number, which runs from its entry; or why the interpreter is not built,
 /// or why the program is refused.
