@@ -1,11 +1,14 @@
 -- The interpreter as it is built.
-use Rattle.std.specs.Prelude.{Result}
 use Rattle.link_defs.specs.LinkedMemory.{LinkedMemory}
 use Rattle.native_interp.specs.Source.{source}
 use Rattle.native_interp.specs.Words.{words}
-use Rattle.build_defs.specs.declared.fault.BuildFault.{BuildFault}
-use Rattle.build_defs.specs.Building.{built}
+use Rattle.build_defs.specs.Building.{Links, HasShipped}
 
--- The linked memory of the interpreter's source, where it has the interpreter's words and no others; or why not.
-unfoldable pub built_interpreter : Result LinkedMemory BuildFault
-built_interpreter = built source words
+-- The linked memory of the interpreter's source, which has the interpreter's words from >2000 up and no others.
+pub record IsInterpreter (memory : LinkedMemory) : Type 0 where
+  pub links : Links source memory
+  pub words : HasShipped words memory
+
+-- The law, which is proved: the source has such a memory.
+abbrev pub SourceGivesWords : Type 0
+SourceGivesWords = (memory : LinkedMemory) × IsInterpreter memory

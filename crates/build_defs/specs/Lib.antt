@@ -1,4 +1,2 @@
-pub mod Differences
 pub mod Building
 pub mod Interpreter
-pub mod Laws

@@ -1,0 +1,3 @@
+pub mod KnownLines
+pub mod Texts
+pub mod Laws

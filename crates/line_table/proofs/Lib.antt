@@ -1,0 +1,10 @@
+pub mod Reading
+pub mod Blocks
+pub mod FirstBlocks
+pub mod SecondBlocks
+pub mod ThirdBlocks
+pub mod Fronts
+pub mod Known
+pub mod Joined
+pub mod Places
+pub mod Defined

@@ -1,0 +1,194 @@
+-- Each row is that of its line.
+use Rattle.std.proofs.Common.{◌≡◌, ℕ, zero, suc, ◌-◌, ◌/◌, ◌<◌, Bool, true, false, ◌&&◌, List, [], ◌∷◌, ◌++◌, length, Some, None, refl, sym, ap, subst, ◌∙◌, arith}
+use Rattle.std.specs.Prelude.{Option, is_some, nat_eq, map, take, drop, slice_index_or}
+use Rattle.std.specs.Option.{unwrap_or}
+use Rattle.std.specs.List.{list_all}
+use Rattle.std.specs.Cmp.Lexicographic.{pointwise}
+use Rattle.std.proofs.lemmas.Bool.Decides.{nat_tests}
+use Rattle.object_defs.specs.declared.spot.Spot.TheVariants as spot
+use Rattle.module_defs.specs.SecondChecks.{Outcome, Nothing, Words, Bytes, Entry}
+use Rattle.known_lines.specs.KnownLines as known
+use Rattle.known_lines.specs.KnownLines.{KnownLine, words_in, is_plain, are_plain, is_plain_statement}
+use Rattle.known_lines.specs.Laws.{StandsIn}
+use Rattle.known_lines.proofs.Placing.{are_numbers}
+use Rattle.known_lines.proofs.Standing.{known_lines_stand}
+use Rattle.native_interp.specs.Source.{lines}
+use Rattle.native_interp.specs.Words.{words}
+use Rattle.native_interp.specs.declared.addresses.TheConstants.{GBOOT}
+use Rattle.build_defs.specs.Building.{origin}
+use Rattle.line_table.specs.declared.line_row.LineRow.{LineRow}
+use Rattle.line_table.specs.declared.rows.routines.TheConstants.{ROUTINE_ROWS}
+use Rattle.line_table.specs.declared.rows.operations.TheConstants.{OPERATION_ROWS}
+use Rattle.line_table.specs.declared.rows.flow.TheConstants.{FLOW_ROWS}
+use Rattle.line_table.specs.declared.rows.copy.TheConstants.{COPY_ROWS}
+use Rattle.line_table.specs.Table.{Row, table, as_row, rows, defined, nothing, no_row, location_of, words_of}
+use Rattle.line_table.specs.Rows.{Places, IsRow}
+use Rattle.line_table.proofs.Reading.{Shown, shown, row_shown}
+use Rattle.line_table.proofs.Known.{last, ending, front_texts, front_lines, are_known, lines_are}
+use Rattle.line_table.proofs.Fronts.{to_last}
+
+some_words : (come : Outcome) (found : List ℕ) → known.words_of come ≡ Some found → Places come found
+some_words Nothing found e = let same : ◌≡◌ {A = List ℕ} [] found = cc e in sym same
+some_words (Words values) found e = are_numbers values found e
+some_words (Bytes bytes) found e = cc e
+some_words (Entry entry) found e = cc e
+
+plain_places : (line : KnownLine) → is_plain line ≡ true → Places line.outcome (words_in line)
+plain_places line e = by (is_plain_statement line.found.statement) (known.words_of line.outcome) refl e
+  where
+    by : (b : Bool) (found : Option (List ℕ)) → known.words_of line.outcome ≡ found → (b && is_some found) ≡ true → Places line.outcome (unwrap_or found [])
+    by true (Some found) is e = some_words line.outcome found is
+    by true None is e = cc e
+    by false found is e = cc e
+
+-- a fact of each line, at a number
+module _ (d : KnownLine) where
+  at_index : (some : List KnownLine) (final : KnownLine) (index : ℕ) → are_plain some ≡ true → Places final.outcome (words_in final) → index < length (some ++ final ∷ [])
+      → let line = slice_index_or (some ++ final ∷ []) index d in Places line.outcome (words_in line)
+  at_index [] final zero plain places lt = places
+  at_index [] final (suc index) plain places lt = absurd (omega (arith, lt))
+  at_index (line ∷ some) final zero plain places lt = plain_places line (front (is_plain line) (are_plain some) plain)
+    where
+      front : (a b : Bool) → (a && b) ≡ true → a ≡ true
+      front true b e = refl
+      front false b e = cc e
+  at_index (line ∷ some) final (suc index) plain places lt = at_index some final index (rest (is_plain line) (are_plain some) plain) places (omega (arith, lt))
+    where
+      rest : (a b : Bool) → (a && b) ≡ true → b ≡ true
+      rest true b e = e
+      rest false b e = cc e
+
+pub index_map : {A B : Type 0} (f : A → B) (items : List A) (index : ℕ) (d : A) (e : B) → index < length items → slice_index_or (map f items) index e ≡ f (slice_index_or items index d)
+index_map f [] index d e lt = absurd (omega (arith, lt))
+index_map f (item ∷ items) zero d e lt = refl
+index_map f (item ∷ items) (suc index) d e lt = index_map f items index d e (omega (arith, lt))
+
+-- the row of a line that is shown alike
+module _ (some : List KnownLine) (table : List LineRow) (same : map shown some ≡ map row_shown table) (index : ℕ) (d : KnownLine) (r : LineRow) (inside : index < length some) (there : index < length table) where
+  shown_alike : shown (slice_index_or some index d) ≡ row_shown (slice_index_or table index r)
+  shown_alike =
+      sym (index_map shown some index d (shown d) inside) ∙ (ap (λ items. slice_index_or items index (shown d)) same ∙ index_map row_shown table index r (shown d) there)
+
+append_map : {A B : Type 0} (f : A → B) (items more : List A) → map f (items ++ more) ≡ map f items ++ map f more
+append_map f [] more = refl
+append_map f (item ∷ items) more = ap (λ rest. f item ∷ rest) (append_map f items more)
+
+place_number : (row : LineRow) → row.place ≡ (location_of row).number
+place_number row = by (nat_eq row.place 0) refl
+  where
+    by : (b : Bool) → nat_eq row.place 0 ≡ b → row.place ≡ (location_of row).number
+    by true e = let none : row.place ≡ 0 = grind (arith, nat_tests, e) in rw e none
+    by false e = rw e refl
+
+-- what the tests find of each row
+abbrev has_words : LineRow → Bool
+has_words row = nat_eq (length (words_of row)) row.count
+
+abbrev is_shipped : List ℕ → LineRow → Bool
+is_shipped held row = pointwise nat_eq (words_of row) (take row.count (drop ((row.place - origin) / 2) held))
+
+rows_have_words : list_all has_words rows ≡ true
+rows_have_words = refl
+
+rows_are_shipped : list_all (is_shipped words) rows ≡ true
+rows_are_shipped = refl
+
+pub tested : {A : Type 0} (test : A → Bool) (items : List A) (index : ℕ) (d : A) → list_all test items ≡ true → index < length items → test (slice_index_or items index d) ≡ true
+tested test [] index d e lt = absurd (omega (arith, lt))
+tested test (item ∷ items) zero d e lt = front (test item) (list_all test items) e
+  where
+    front : (a b : Bool) → (a && b) ≡ true → a ≡ true
+    front true b e = refl
+    front false b e = cc e
+tested test (item ∷ items) (suc index) d e lt = tested test items index d (rest (test item) (list_all test items) e) (omega (arith, lt))
+  where
+    rest : (a b : Bool) → (a && b) ≡ true → b ≡ true
+    rest true b e = e
+    rest false b e = cc e
+
+alike : (a b : List ℕ) → pointwise nat_eq a b ≡ true → a ≡ b
+alike [] [] e = refl
+alike [] (y ∷ ys) e = cc e
+alike (x ∷ xs) [] e = cc e
+alike (x ∷ xs) (y ∷ ys) e = by (nat_eq x y) refl e (alike xs ys)
+  where
+    by : (b : Bool) → nat_eq x y ≡ b → (b && pointwise nat_eq xs ys) ≡ true → (pointwise nat_eq xs ys ≡ true → xs ≡ ys) → x ∷ xs ≡ y ∷ ys
+    by true is e rest =
+        let same : x ≡ y = grind (arith, nat_tests, is) in
+        λ i. same i ∷ rest e i
+    by false is e rest = cc e
+
+-- all lines are shown as all rows
+abbrev all_lines : List KnownLine
+all_lines = front_lines ++ ending ∷ []
+
+split_rows : take 834 rows ++ drop 834 rows ≡ rows
+split_rows = refl
+
+ending_shown : map shown (ending ∷ []) ≡ map row_shown (drop 834 rows)
+ending_shown = refl
+
+all_shown : map shown all_lines ≡ map row_shown rows
+all_shown =
+    append_map shown front_lines (ending ∷ [])
+    ∙ (ap (λ front. front ++ map shown (ending ∷ [])) to_last.as_rows
+    ∙ (ap (λ rest. map row_shown (take 834 rows) ++ rest) ending_shown
+    ∙ (sym (append_map row_shown (take 834 rows) (drop 834 rows)) ∙ ap (map row_shown) split_rows)))
+
+pub map_length : {A B : Type 0} (f : A → B) (items : List A) → length (map f items) ≡ length items
+map_length f [] = refl
+map_length f (item ∷ items) = ap suc (map_length f items)
+
+rows_counted : length rows ≡ 835
+rows_counted = refl
+
+lines_counted : length lines ≡ 835
+lines_counted = refl
+
+all_counted : length all_lines ≡ 835
+all_counted = sym (map_length shown all_lines) ∙ (ap length all_shown ∙ (map_length row_shown rows ∙ rows_counted))
+
+-- a row of a table, whose line stands among lines
+module _ (some : List KnownLine) (table : List LineRow) (held : List ℕ) (texts : List (List ℕ)) (index : ℕ) (same : map shown some ≡ map row_shown table) (inside : index < length some) (there : index < length table) where
+  abbrev line_there : KnownLine
+  line_there = slice_index_or some index ending
+
+  abbrev row_there : LineRow
+  row_there = slice_index_or table index no_row
+
+  alike_there : shown line_there ≡ row_shown row_there
+  alike_there = shown_alike some table same index ending no_row inside there
+
+  pub row_stands : StandsIn texts index line_there.at line_there.outcome → Places line_there.outcome (words_in line_there)
+      → list_all has_words table ≡ true → list_all (is_shipped held) table ≡ true
+      → texts ≡ lines → held ≡ words → IsRow index row_there
+  row_stands stands places counted shipped are hold = record {
+    at = line_there.at;
+    come = line_there.outcome;
+    stands = subst (λ texts. StandsIn texts index line_there.at line_there.outcome) are stands;
+    place = place_number row_there ∙ ap (λ (s : Shown). s.at.number) (sym alike_there);
+    count = grind (arith, nat_tests, tested has_words table index no_row counted there);
+    placed = subst (Places line_there.outcome) (ap (λ (s : Shown). s.words) alike_there) places;
+    shipped = subst (λ held. words_of row_there ≡ take row_there.count (drop ((row_there.place - origin) / 2) held)) hold
+        (alike (words_of row_there) (take row_there.count (drop ((row_there.place - origin) / 2) held))
+        (tested (is_shipped held) table index no_row shipped there));
+  }
+
+pub rows_stand : (index : ℕ) → index < length lines → IsRow index (slice_index_or rows index no_row)
+rows_stand index lt =
+    let inside : index < length all_lines = omega (arith, lt, lines_counted, all_counted) in
+    let there : index < length rows = omega (arith, lt, lines_counted, rows_counted) in
+    row_stands all_lines rows words (front_texts ++ last ∷ []) index all_shown inside there
+    (known_lines_stand 0x1000 front_texts last defined front_lines ending (spot.Absolute GBOOT) index ending are_known inside)
+    (at_index ending front_lines ending index to_last.plain refl inside) rows_have_words rows_are_shipped lines_are refl
+
+-- the row that is found among the four parts of the table
+pub row_found : (index : ℕ) (row : LineRow) (found : Row) (a b c d : List Row) → a ≡ ROUTINE_ROWS → b ≡ OPERATION_ROWS → c ≡ FLOW_ROWS → d ≡ COPY_ROWS
+    → found ≡ slice_index_or (a ++ (b ++ (c ++ d))) index nothing → row ≡ as_row found → index < length lines → IsRow index row
+row_found index row found a b c d one two three four is made lt =
+    let same : a ++ (b ++ (c ++ d)) ≡ table = λ i. one i ++ (two i ++ (three i ++ four i)) in
+    let counted : length table ≡ 835 = sym (map_length as_row table) ∙ rows_counted in
+    let there : slice_index_or rows index no_row ≡ as_row (slice_index_or table index nothing) =
+    index_map as_row table index nothing no_row (omega (arith, lt, lines_counted, counted)) in
+    let here : row ≡ slice_index_or rows index no_row = made ∙ (ap as_row (is ∙ ap (λ table. slice_index_or table index nothing) same) ∙ sym there) in
+    subst (IsRow index) (sym here) (rows_stand index lt)
