@@ -8,11 +8,10 @@ use Rattle.console_defs.specs.Memory.{Memory, IsNewMemory}
 use Rattle.console_defs.specs.Machine.{MachineState}
 use Rattle.link_defs.specs.LinkedMemory.{LinkedMemory}
 use Rattle.load_defs.specs.Loaded.{IsLoaded, IsLoadedMachine, with_words, with_first_word}
-use Rattle.native_interp.specs.Source.{source}
 use Rattle.native_interp.specs.Words.{words}
 use Rattle.native_interp.specs.declared.addresses.TheConstants.{GBOOT, WORKSPACE}
 use Rattle.native_interp.specs.declared.words.TheConstants.{INTERP}
-use Rattle.build_defs.specs.Laws.{HasShipped}
+use Rattle.build_defs.specs.Building.{HasShipped}
 use Rattle.interp_defs.specs.Boot.{HoldsEntry, HoldsWords, IsBoot, entry_cell}
 use Rattle.boot_defs.specs.Booting.{LoadedInterpretersBoot}
 use Rattle.boot_defs.proofs.Bytes.{length_with, other_byte, same_word}
@@ -51,7 +50,7 @@ stands_placed shipped image linked entry vdp empty after few has new_vdp fresh p
   scratchpad = subst (HoldsEntry entry) (sym placed.scratchpad) (holds_entry entry empty.scratchpad fresh.scratchpad);
   low_expansion = record {
     size = placed.size ∙ fresh.low_expansion.size;
-    words = λ number inside. placed.words number inside (inr (all_occur shipped linked has few number inside));
+    words = λ number inside. placed.words number inside (inr (all_occur shipped linked has number inside));
     behind = λ at past. placed.behind at past ∙ fresh.low_expansion.zeros at;
   };
   high_expansion = subst (HoldsZeros 24576) (sym placed.high_expansion) fresh.high_expansion;
@@ -68,7 +67,7 @@ stands_loaded shipped image linked entry memory few has loaded =
     subst (Stands shipped image entry) (sym loaded.loaded)
     (stands_placed shipped image linked entry loaded.vdp loaded.empty (with_words (entries linked.words) (with_first_word entry loaded.empty))
     few has loaded.new_vdp fresh
-    (all_placed shipped (entries linked.words) (with_first_word entry loaded.empty) few fresh.low_expansion.size fresh.high_expansion.size
+    (all_placed shipped (entries linked.words) (with_first_word entry loaded.empty) few fresh.low_expansion.size
     (all_belong shipped linked has)))
 
 -- the words, with nothing else said of them
@@ -102,4 +101,4 @@ boots shipped image linked entry x has few same loaded =
 pub interpreters_boot : LoadedInterpretersBoot
 interpreters_boot memory image entry x is loaded =
     boots opaque_words.0 image memory entry x
-    (has_words source opaque_words.0 memory refl opaque_words.1 is) opaque_words.3 opaque_words.2 loaded
+    (has_words opaque_words.0 memory opaque_words.1 is) opaque_words.3 opaque_words.2 loaded

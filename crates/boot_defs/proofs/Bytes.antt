@@ -1,7 +1,6 @@
 -- Words in lists of bytes.
-use Rattle.std.proofs.Common.{◌≡◌, ◌≢◌, ◌<◌, ◌≤◌, ℕ, ◌+◌, List, length, slice_index, slice_set, ap, ap₂, ◌∙◌, arith}
+use Rattle.std.proofs.Common.{◌≡◌, ◌≢◌, ◌<◌, ℕ, ◌+◌, List, length, slice_index, slice_set, ap₂, ◌∙◌, arith}
 use Rattle.std.proofs.Common.{length-set, get_or-set_same, get_or-set_other}
-use Rattle.std.proofs.lemmas.List.{set_past}
 use Rattle.console_defs.specs.Words.{high, low, join}
 use Rattle.console_defs.proofs.WordLaws.{join-high-low}
 use Rattle.console_defs.specs.Bytes.{word_in, with_word_in}
@@ -37,10 +36,3 @@ pub other_word : (bytes : List ℕ) (at word place : ℕ) → place ≢ at → p
 other_word bytes at word place one two three =
     let four : place + 1 ≢ at + 1 = omega arith in
     ap₂ join (other_byte bytes at word place one two) (other_byte bytes at word (place + 1) three four)
-
--- a word behind the end is not put
-pub past_end : (bytes : List ℕ) (at word : ℕ) → length bytes ≤ at → with_word_in bytes at word ≡ bytes
-past_end bytes at word past =
-    let behind : length bytes ≤ at + 1 = omega arith in
-    ap (λ (left : List ℕ). slice_set left (at + 1) (low word)) (set_past bytes at (high word) past)
-    ∙ set_past bytes (at + 1) (low word) behind

@@ -4,19 +4,11 @@ use Rattle.std.proofs.Common.{List, [], ◌∷◌, length, slice_index, refl, sy
 use Rattle.std.proofs.lemmas.Bool.Decides.{nat_tests}
 use Rattle.console_defs.specs.Bytes.{word_in, with_word_in}
 use Rattle.console_defs.specs.Memory.{Memory, Region, LowExpansion, word_placed, word_placed_in}
-use Rattle.console_defs.proofs.MemoryLaws.{region_low, region_high}
+use Rattle.console_defs.proofs.MemoryLaws.{region_low}
 use Rattle.load_defs.specs.Loaded.{with_words}
-use Rattle.boot_defs.proofs.Bytes.{length_with, other_byte, same_word, other_word, past_end}
+use Rattle.boot_defs.proofs.Bytes.{length_with, other_byte, same_word, other_word}
 use Rattle.boot_defs.proofs.Pairs.{Every, Occurs}
-use Rattle.boot_defs.proofs.Shipped.{Belongs}
-
--- a word behind the last address is not placed
-placed_nowhere : (memory : Memory) (address word : ℕ) → length memory.high_expansion ≡ 24576 → 65536 ≤ address
-    → word_placed memory address word ≡ memory
-placed_nowhere memory address word size past =
-    let behind : length memory.high_expansion ≤ address - 0xA000 = omega arith in
-    ap (λ (there : Region). word_placed_in there memory word) (region_high address (omega arith))
-    ∙ ap (λ (bytes : List ℕ). record memory { high_expansion = bytes }) (past_end memory.high_expansion (address - 0xA000) word behind)
+use Rattle.boot_defs.proofs.Shipped.{IsWord}
 
 -- a word in low expansion memory is placed there
 placed_low : (memory : Memory) (number word : ℕ) → number < 4096
@@ -56,28 +48,6 @@ placed_none shipped memory = record {
         → word_in memory.low_expansion (2 * number) ≡ slice_index shipped number
     right number (inl is) = is
     right number (inr none) = absurd none
-
--- a pair that stands at no address
-placed_past : (shipped : List ℕ) (pair : ℕ × ℕ) (pairs : List (ℕ × ℕ)) (before after : Memory) → length shipped ≤ 4096
-    → 65536 ≤ pair.0
-    → Placed shipped pairs before after → Placed shipped (pair ∷ pairs) before after
-placed_past shipped pair pairs before after few past placed = record {
-  scratchpad = placed.scratchpad;
-  high_expansion = placed.high_expansion;
-  rom = placed.rom;
-  vdp = placed.vdp;
-  grom = placed.grom;
-  size = placed.size;
-  words = λ number inside held. placed.words number inside (left number inside held);
-  behind = placed.behind;
-}
-  where
-    left : (number : ℕ) → number < length shipped
-        → (word_in before.low_expansion (2 * number) ≡ slice_index shipped number) ⊎ ((pair.0 ≡ 0x2000 + 2 * number) ⊎ Occurs (0x2000 + 2 * number) pairs)
-        → (word_in before.low_expansion (2 * number) ≡ slice_index shipped number) ⊎ Occurs (0x2000 + 2 * number) pairs
-    left number inside (inl is) = inl is
-    left number inside (inr (inl at)) = absurd (omega arith)
-    left number inside (inr (inr there)) = inr there
 
 -- the word that was put is right, and each that was right still is
 right_with : (shipped : List ℕ) (bytes : List ℕ) (put number : ℕ) → length bytes ≡ 8192 → length shipped ≤ 4096 → put < length shipped
@@ -123,19 +93,16 @@ placed_word shipped pair pairs before after put few size inside at placed = reco
     left number (inr (inl there)) = inl (right_with shipped before.low_expansion put number size few inside (inr (omega arith)))
     left number (inr (inr there)) = inr there
 
--- words of which each is one that is shipped, or stands at no address
+-- words of which each is one that is shipped
 pub all_placed : (shipped : List ℕ) (pairs : List (ℕ × ℕ)) (memory : Memory) → length shipped ≤ 4096 → length memory.low_expansion ≡ 8192
-    → length memory.high_expansion ≡ 24576 → Every (Belongs shipped) pairs → Placed shipped pairs memory (with_words pairs memory)
-all_placed shipped [] memory few size high every = placed_none shipped memory
-all_placed shipped (pair ∷ pairs) memory few size high (belongs, every) =
-    by belongs (λ next. all_placed shipped pairs next few)
+    → Every (IsWord shipped) pairs → Placed shipped pairs memory (with_words pairs memory)
+all_placed shipped [] memory few size every = placed_none shipped memory
+all_placed shipped (pair ∷ pairs) memory few size (is, every) =
+    by (λ next. all_placed shipped pairs next few)
   where
-    by : Belongs shipped pair → ((next : Memory) → length next.low_expansion ≡ 8192 → length next.high_expansion ≡ 24576 → Every (Belongs shipped) pairs
-        → Placed shipped pairs next (with_words pairs next)) → Placed shipped (pair ∷ pairs) memory (with_words pairs (word_placed memory pair.0 pair.1))
-    by (inl past) rest =
-        subst (λ (next : Memory). Placed shipped (pair ∷ pairs) memory (with_words pairs next)) (sym (placed_nowhere memory pair.0 pair.1 high past))
-        (placed_past shipped pair pairs memory (with_words pairs memory) few past (rest memory size high every))
-    by (inr is) rest =
+    by : ((next : Memory) → length next.low_expansion ≡ 8192 → Every (IsWord shipped) pairs → Placed shipped pairs next (with_words pairs next))
+        → Placed shipped (pair ∷ pairs) memory (with_words pairs (word_placed memory pair.0 pair.1))
+    by rest =
         let put : ℕ = is.number in
         let word : ℕ = slice_index shipped put in
         let next : Memory = record memory { low_expansion = with_word_in memory.low_expansion (2 * put) word } in
@@ -143,4 +110,4 @@ all_placed shipped (pair ∷ pairs) memory few size high (belongs, every) =
         let comes : word_placed memory pair.0 pair.1 ≡ next = (λ i. word_placed memory (is.address i) (is.word i)) ∙ placed_low memory put word below in
         subst (λ (there : Memory). Placed shipped (pair ∷ pairs) memory (with_words pairs there)) (sym comes)
         (placed_word shipped pair pairs memory (with_words pairs next) put few size is.inside is.address
-        (rest next (length_with memory.low_expansion (2 * put) word ∙ size) high every))
+        (rest next (length_with memory.low_expansion (2 * put) word ∙ size) every))

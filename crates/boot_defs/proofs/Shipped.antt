@@ -1,20 +1,16 @@
 -- The words that are shipped, as pairs of an address and a word.
-use Rattle.std.proofs.Common.{◌≡◌, ◌<◌, ◌≤◌, ℕ, ◌+◌, ◌-◌, ◌*◌, ◌/◌, ◌%◌, Bool, true, false, ◌⊎◌, inl, inr}
+use Rattle.std.proofs.Common.{◌≡◌, ◌<◌, ◌≤◌, ℕ, ◌+◌, ◌-◌, ◌*◌, ◌/◌, ◌%◌, Bool, true, false}
 use Rattle.std.proofs.Common.{List, length, slice_index, refl, sym, ap, ◌∙◌, subst, arith}
-use Rattle.std.proofs.Common.{Some, None, Result, Ok, nat_cmp, nat_le, ◌==◌, if◌then◌else◌}
+use Rattle.std.proofs.Common.{Some, None, nat_cmp, nat_le, ◌==◌, if◌then◌else◌}
 use Rattle.std.specs.Prelude.{◌&&◌}
 use Rattle.std.specs.List.{slice_get}
 use Rattle.std.specs.FinMap.{get-entries, entries, entries_sorted, find}
 use Rattle.std.proofs.lemmas.Bool.Decides.{nat_tests}
 use Rattle.std.proofs.lemmas.Option.{get_or_from_slice_get, slice_get-get_or, slice_get_past}
 use Rattle.link_defs.specs.LinkedMemory.{LinkedMemory}
-use Rattle.native_interp.specs.Source.{source}
 use Rattle.native_interp.specs.Words.{words}
-use Rattle.build_defs.specs.declared.fault.BuildFault.{BuildFault}
-use Rattle.build_defs.specs.Building.{shipped_at, built}
-use Rattle.build_defs.specs.Interpreter.{built_interpreter}
-use Rattle.build_defs.specs.Laws.{BuildsAs, HasShipped}
-use Rattle.build_defs.proofs.Compared.{are_compared}
+use Rattle.build_defs.specs.Building.{shipped_at, HasShipped}
+use Rattle.build_defs.specs.Interpreter.{IsInterpreter}
 use Rattle.boot_defs.proofs.Pairs.{Every, Occurs, every_found, occurs, none_is_not}
 
 -- a pair is one of the words that are shipped, at its address
@@ -23,10 +19,6 @@ pub record IsWord (shipped : List ℕ) (pair : ℕ × ℕ) : Type 0 where
   pub inside : number < length shipped
   pub address : pair.0 ≡ 0x2000 + 2 * number
   pub word : pair.1 ≡ slice_index shipped number
-
--- a pair is one of them, or stands at no address
-abbrev pub Belongs : List ℕ → ℕ × ℕ → Type 0
-Belongs shipped pair = (65536 ≤ pair.0) ⊎ IsWord shipped pair
 
 -- a word that is found is inside the list
 inside_of : (shipped : List ℕ) (number word : ℕ) → slice_get shipped number ≡ Some word → number < length shipped
@@ -75,38 +67,19 @@ shipped_word shipped number inside =
 
 module _ (shipped : List ℕ) (memory : LinkedMemory) (has : HasShipped shipped memory) where
   -- each pair of linked memory is one of the words
-  pub all_belong : Every (Belongs shipped) (entries memory.words)
-  all_belong = every_found (Belongs shipped) (entries memory.words) (entries_sorted memory.words) belongs
+  pub all_belong : Every (IsWord shipped) (entries memory.words)
+  all_belong = every_found (IsWord shipped) (entries memory.words) (entries_sorted memory.words) belongs
     where
-      belongs : (pair : ℕ × ℕ) → find nat_cmp pair.0 (entries memory.words) ≡ Some pair.1 → Belongs shipped pair
-      belongs pair found = by (nat_le 65536 pair.0) refl
-        where
-          by : (past : Bool) → nat_le 65536 pair.0 ≡ past → Belongs shipped pair
-          by true past = inl (grind (arith, nat_tests))
-          by false past =
-              let below : pair.0 < 65536 = grind (arith, nat_tests) in
-              inr (is_word shipped pair.0 pair.1 (sym (has pair.0 below) ∙ (get-entries memory.words pair.0 ∙ found)))
+      belongs : (pair : ℕ × ℕ) → find nat_cmp pair.0 (entries memory.words) ≡ Some pair.1 → IsWord shipped pair
+      belongs pair found = is_word shipped pair.0 pair.1 (sym (has pair.0) ∙ (get-entries memory.words pair.0 ∙ found))
 
   -- and each of the words stands there
-  pub all_occur : length shipped ≤ 4096 → (number : ℕ) → number < length shipped → Occurs (0x2000 + 2 * number) (entries memory.words)
-  all_occur few number inside =
-      let below : 0x2000 + 2 * number < 65536 = omega arith in
+  pub all_occur : (number : ℕ) → number < length shipped → Occurs (0x2000 + 2 * number) (entries memory.words)
+  all_occur number inside =
       occurs (0x2000 + 2 * number) (slice_index shipped number) (entries memory.words)
       (sym (get-entries memory.words (0x2000 + 2 * number))
-      ∙ (has (0x2000 + 2 * number) below ∙ shipped_word shipped number inside))
+      ∙ (has (0x2000 + 2 * number) ∙ shipped_word shipped number inside))
 
--- what is built has the words that are shipped
-has_shipped : (text shipped : List ℕ) (memory : LinkedMemory) → built text shipped ≡ Ok memory → HasShipped shipped memory
-has_shipped text shipped memory is =
-    let P : Result LinkedMemory BuildFault → Type 0 = λ found. BuildsAs text shipped found in
-    (subst P is (are_compared text shipped)).1
-
--- the source and the words, with nothing else said of them
-built_is : (text shipped : List ℕ) → text ≡ source → shipped ≡ words → built_interpreter ≡ built text shipped
-unfolding built_interpreter
-built_is text shipped one two = sym (λ i. built (one i) (two i))
-
--- the interpreter's linked memory has the interpreter's words
-pub has_words : (text shipped : List ℕ) (memory : LinkedMemory) → text ≡ source → shipped ≡ words → built_interpreter ≡ Ok memory
-    → HasShipped shipped memory
-has_words text shipped memory one two is = has_shipped text shipped memory (sym (built_is text shipped one two) ∙ is)
+-- the interpreter's linked memory has the interpreter's words, of which nothing else is said here
+pub has_words : (shipped : List ℕ) (memory : LinkedMemory) → shipped ≡ words → IsInterpreter memory → HasShipped shipped memory
+has_words shipped memory same is = subst (λ (list : List ℕ). HasShipped list memory) (sym same) is.words

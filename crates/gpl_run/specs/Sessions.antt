@@ -1,5 +1,5 @@
 -- A session: the machine that runs a GPL program, and whether the program has ended.
-use Rattle.std.specs.Prelude.{◌≡◌, ℕ, ◌+◌, List, Option, Some, None}
+use Rattle.std.specs.Prelude.{ℕ, ◌+◌, List, Option, Some, None}
 use Rattle.console_defs.specs.Bytes.{word_in}
 use Rattle.console_defs.specs.Machine.{MachineState}
 use Rattle.step_defs.specs.declared.reason.Reason.{Reason}

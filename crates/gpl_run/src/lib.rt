@@ -2,13 +2,12 @@
 #![tactic(auto)]
 
 mod build;
-mod compare;
 mod error;
 mod load;
 mod session;
 mod text;
 
-pub use build::{build_interp, build_words};
+pub use build::build_interp;
 pub use error::BuildError;
 pub use load::load_interpreter;
 pub use machine_load::load_machine;

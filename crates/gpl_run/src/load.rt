@@ -1,7 +1,7 @@
 //! The machine on which the interpreter begins.
 
-ghost use Rattle.std.specs.Prelude.{◌≡◌, length, Ok, IfOk};
-ghost use Rattle.build_defs.specs.Interpreter.{built_interpreter};
+ghost use Rattle.std.specs.Prelude.{◌≡◌, length, IfOk};
+ghost use Rattle.build_defs.specs.Interpreter.{IsInterpreter};
 ghost use Rattle.interp_defs.specs.Boot.{IsBoot};
 ghost use Rattle.link_loader.specs.View.{defined_linked};
 
@@ -20,7 +20,7 @@ pub fn load_interpreter(
     grom: &[u8],
     entry: u16,
 ) -> Result<Machine, AllocError>
-    requires built { built_interpreter ≡ Ok (defined_linked interpreter.now) }
+    requires built { IsInterpreter (defined_linked interpreter.now) }
     requires size { length grom.now ≡ 65536 }
     ensures { IfOk result (IsBoot grom.now entry) }
 {

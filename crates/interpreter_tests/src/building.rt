@@ -1,60 +1,64 @@
-//! Words that are built from a source, and compared with words that are shipped.
+//! The interpreter, built from its source.
 
-use gpl_run::{BuildError, build_words};
+use gpl_run::{BuildError, build_interp};
+use link_loader::Linked;
+use native_interp::interpreter_words;
 use std::alloc::Global;
 use std::test::Fail;
 
-/// A source of two words from >2000 on.
-const SOURCE: &[u8] = b"       AORG >2000\nS      LI   R1,>1234\n       END  S\n";
+/// The address of the first word.
+const ORIGIN: u16 = 0x2000;
 
-/// A source of one word from >A000 on.
-const ELSEWHERE: &[u8] = b"S      DATA 5\n       END  S\n";
+/// How many addresses there are.
+const ADDRESSES: usize = 65536;
 
-/// A source, other words that are shipped, and the lowest address at which they differ, with both words.
-const DIFFERENCES: &[(&[u8], &[u16], u16, u16, u16)] = &[
-    (SOURCE, &[0x0201, 0x1235], 0x2002, 0x1234, 0x1235),
-    (SOURCE, &[0x0202, 0x1235], 0x2000, 0x0201, 0x0202),
-    (SOURCE, &[0x0201], 0x2002, 0x1234, 0),
-    (SOURCE, &[0x0201, 0x1234, 0x045B], 0x2004, 0, 0x045B),
-    (ELSEWHERE, &[5], 0x2000, 0, 5),
-    (ELSEWHERE, &[], 0xA000, 5, 0),
+/// Addresses, and the word there: before the words, the first two, between two words, the last, and behind it.
+const WORDS: &[(u16, Option<u16>)] = &[
+    (0x1FFE, None),
+    (0x2000, Some(0x2274)),
+    (0x2001, None),
+    (0x2002, Some(0x228C)),
+    (0x287C, Some(0x228C)),
+    (0x287E, None),
 ];
 
-/// Sources that are refused: a line, a name that no module gives, and no entry.
-const REFUSED: &[&[u8]] = &[
-    b"       LI   R1\n",
-    b"       REF  FAR\nS      B    @FAR\n       END  S\n",
-    b"       DATA 5\n       END\n",
-];
-
-/// Why words are not built from a source, if they are not.
-fn refusal(alloc: Global, source: &[u8], shipped: &[u16]) -> Option<BuildError> {
-    if source.len() > 1024 {
+/// The word at an address, of words that stand one behind the other from >2000 up.
+fn placed(words: &[u16], address: u16) -> Option<u16> {
+    if address < ORIGIN || address % 2 != 0 {
         return None;
     }
-    build_words(alloc, source, shipped).err()
+    words.get(usize::from((address - ORIGIN) / 2)).copied()
+}
+
+/// Whether linked memory has these words from >2000 up and no others.
+fn has_words(linked: &Linked, words: &[u16]) -> bool {
+    for at in 0..ADDRESSES {
+        let address = at as u16;
+        if linked.word_at(address) != placed(words, address) {
+            return false;
+        }
+    }
+    true
+}
+
+/// Whether linked memory has these words at these addresses.
+fn has_rows(linked: &Linked, rows: &[(u16, Option<u16>)]) -> bool {
+    for &(address, word) in rows {
+        if linked.word_at(address) != word {
+            return false;
+        }
+    }
+    true
+}
+
+/// Whether the interpreter is built, and has the words that are shipped and no others.
+fn is_built(alloc: Global) -> Result<bool, BuildError> {
+    let linked = build_interp(alloc)?;
+    Ok(has_rows(&linked, WORDS) && has_words(&linked, interpreter_words()))
 }
 
 #[test]
-fn words_are_built_where_they_are_those_that_are_shipped(rt: HostRuntime) -> Result<(), Fail> {
-    let alloc = rt.alloc();
-    assert!(rt; refusal(alloc, SOURCE, &[0x0201, 0x1234]).is_none());
-    for &(source, shipped, address, assembled, there) in DIFFERENCES {
-        let differs = BuildError::ImageDiffers {
-            address,
-            assembled,
-            shipped: there,
-        };
-        assert!(rt;
-            refusal(alloc, source, shipped) == Some(differs),
-            "{shipped:?}"
-        );
-    }
-    for source in REFUSED {
-        assert!(rt;
-            refusal(alloc, source, &[5]) == Some(BuildError::SourceRefused),
-            "{source:?}"
-        );
-    }
+fn the_interpreter_has_the_words_that_are_shipped(rt: HostRuntime) -> Result<(), Fail> {
+    assert!(rt; is_built(rt.alloc()) == Ok(true));
     Ok(())
 }

@@ -11,4 +11,6 @@ mod pieces;
 #[cfg(test)]
 mod sessions;
 #[cfg(test)]
+mod table;
+#[cfg(test)]
 mod turns;

@@ -1,5 +1,5 @@
 -- The bytes of an image.
-use Rattle.std.proofs.Common.{◌≡◌, ℕ, ◌+◌, ◌<◌, length, arith}
+use Rattle.std.proofs.Common.{arith}
 use Rattle.std.proofs.lemmas.List.FromFn.{length-map-range_with_len, get_or-map-range_with_len}
 use Rattle.gpl_defs.specs.Image.{Image, byte_at, AreBytesOf}
 use Rattle.report_defs.specs.GromListing.{grom_bytes}

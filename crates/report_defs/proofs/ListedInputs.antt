@@ -1,23 +1,20 @@
 -- What gdis lists of an input is assembled to the input.
-use Rattle.std.proofs.Common.{◌≡◌, ◌≢◌, ℕ, zero, suc, ◌+◌, ◌-◌, ◌<◌, ◌≤◌, Bool, true, false, List, [], ◌∷◌, length, take, drop, get_or, Some, refl, sym, ap}
-use Rattle.std.proofs.Common.{◌∙◌, subst, max, min, arith}
-use Rattle.std.specs.Prelude.{map, unwrap_or, ◌==◌, if◌then◌else◌, slice_range, slice_index, nat_lt, None, Ok}
-use Rattle.std.specs.List.{range_with_len, concat}
+use Rattle.std.proofs.Common.{◌≡◌, ◌≢◌, ℕ, zero, suc, ◌+◌, ◌-◌, ◌<◌, ◌≤◌, Bool, true, false, List, [], ◌∷◌, length, take, drop, get_or, Some, refl, ap}
+use Rattle.std.proofs.Common.{◌∙◌, max, min, arith}
+use Rattle.std.specs.Prelude.{map, unwrap_or, ◌==◌, if◌then◌else◌, nat_lt, None, Ok}
+use Rattle.std.specs.List.{range_with_len}
 use Rattle.std.specs.Ordering.{nat_cmp, eq_by_cmp}
 use Rattle.std.specs.Cmp.{nat_cmp_total}
 use Rattle.std.specs.FinMap.{empty, get, insert, get-insert, get-empty}
 use Rattle.std.proofs.lemmas.Cmp.{eq_by_cmp_equiv}
 use Rattle.std.proofs.lemmas.Bool.Decides.{nat_tests}
-use Rattle.std.proofs.lemmas.Grind.{common_steps}
 use Rattle.console_defs.specs.Bytes.{HoldsBytes}
 use Rattle.source_defs.specs.Symbols.{predefined}
-use Rattle.gpl_defs.specs.Image.{Image, byte_at, low_of, high_of, placed, AreBytesOf}
+use Rattle.gpl_defs.specs.Image.{Image, byte_at, low_of, high_of, placed}
 use Rattle.gpl_defs.proofs.ImageLaws.{high_of-insert, low_of-insert, high_of-empty, low_of-empty, ties-other, part_by}
 use Rattle.program_defs.specs.Programs.{program_of_source}
-use Rattle.listing_defs.specs.Listing.{grom_listing}
-use Rattle.listing_defs.specs.Law.{ListingsComeBack}
 use Rattle.listing_defs.proofs.ListingLaw.{listings_come_back}
-use Rattle.report_defs.specs.GromListing.{grom_bytes, image_listing}
+use Rattle.report_defs.specs.GromListing.{grom_bytes}
 use Rattle.report_defs.specs.Laws.{ListedInputsComeBack, listed_text}
 use Rattle.report_defs.proofs.GromBytes.{bytes_of_image}
 

@@ -16,8 +16,10 @@ use Rattle.report_defs.specs.declared.command.Command.{Command}
 use Rattle.report_defs.specs.declared.command.Command.TheVariants.{Asm, Gasm, Dis, Gdis, Link, Exec, Interp, Run, Trace, Demo}
 use Rattle.report_defs.specs.Exec.{IsStart, Executes, exec_lines, end_status}
 use Rattle.report_defs.specs.declared.fault.Fault.TheVariants.{TooLarge}
+use Rattle.report_defs.specs.declared.status.Status.TheVariants.{Done}
 use Rattle.report_defs.specs.Report.{Report, Whole, Faulty, ReportsExecution, ExecReport, AcceptedReport, largest_input}
-use Rattle.report_defs.specs.Report.{ReportsProgram, EnteredReport, ProgramReport, RunReport, run_lines, trace_lines, demo_lines}
+use Rattle.report_defs.specs.Report.{ReportsInterpreter, ReportsProgram, EnteredReport, ProgramReport, run_lines, trace_lines, demo_lines}
+use Rattle.report_defs.specs.MemoryListing.{linked_lines}
 use Rattle.report_defs.specs.Program.{program_status}
 use Rattle.report_defs.specs.DemoText.{demo_text}
 use Rattle.report_defs.specs.Commands.{most_steps}
@@ -25,8 +27,7 @@ use Rattle.source_defs.specs.Refusals.{Refusal}
 use Rattle.gpl_defs.specs.Image.{Image, AreBytesOf}
 use Rattle.program_defs.specs.declared.causes.GplCause.{GplCause}
 use Rattle.program_defs.specs.Programs.{Program, program_of_source}
-use Rattle.build_defs.specs.declared.fault.BuildFault.{BuildFault}
-use Rattle.build_defs.specs.Interpreter.{built_interpreter}
+use Rattle.build_defs.proofs.OneMemory.{one_memory_links}
 use Rattle.step_defs.specs.State.{GplState, start}
 use Rattle.step_defs.specs.Run.{GplRun, run}
 use Rattle.interp_defs.specs.Programs.{RunsProgram}
@@ -91,6 +92,11 @@ one_execution_report limit linked first second p q =
     let same = one_execution limit linked p.ending q.ending p.left q.left p.executes q.executes in
     p.is ∙ ap (λ ending. Whole (end_status ending) (exec_lines ending p.left)) same.0 ∙ ap (λ left. Whole (end_status q.ending) (exec_lines q.ending left)) same.1 ∙ sym q.is
 
+one_interpreter_report : (first second : Report) → ReportsInterpreter first → ReportsInterpreter second → first ≡ second
+one_interpreter_report first second p q =
+    let same = one_memory_links _ p.memory q.memory p.links q.links in
+    p.is ∙ ap (λ memory. Whole Done (linked_lines memory)) same ∙ sym q.is
+
 -- by a test, one fault or one of other reports
 one_by : (test : Bool) (fault first second : Report) (Other : Report → Type 0) → ((first second : Report) → Other first → Other second → first ≡ second) → MatchBool test (first ≡ fault) (Other first) → MatchBool test (second ≡ fault) (Other second) → first ≡ second
 one_by true fault first second Other one p q = p ∙ sym q
@@ -129,11 +135,6 @@ one_assembled : (Reports : Image → ℕ → Report → Type 0) → ((image : Im
 one_assembled Reports one (Ok program) first second p q = one_entered Reports one program.image program.entry first second p q
 one_assembled Reports one (Err refused) first second p q = p ∙ sym q
 
-one_run : (Reports : Image → ℕ → Report → Type 0) → ((image : Image) (entry : ℕ) → One (Reports image entry)) →
-    (interpreter : Result LinkedMemory BuildFault) (program : Result Program (Refusal GplCause)) → One (RunReport Reports interpreter program)
-one_run Reports one (Ok interpreter) program first second p q = one_assembled Reports one program first second p q
-one_run Reports one (Err fault) program first second p q = p ∙ sym q
-
 one_accepted : (command : Command) (input : List ℕ) (first second : Report) → AcceptedReport command input first → AcceptedReport command input second → first ≡ second
 one_accepted Asm input first second p q = p ∙ sym q
 one_accepted Gasm input first second p q = p ∙ sym q
@@ -141,13 +142,13 @@ one_accepted (Dis at) input first second p q = p ∙ sym q
 one_accepted (Gdis at) input first second p q = p ∙ sym q
 one_accepted Link input first second p q = p ∙ sym q
 one_accepted (Exec limit) input first second p q = one_exec limit (linked_input input) first second p q
-one_accepted Interp input first second p q = p ∙ sym q
+one_accepted Interp input first second p q = one_interpreter_report first second p q
 one_accepted (Run limit) input first second p q =
-    one_run (ReportsProgram run_lines limit) (one_program run_lines limit) built_interpreter (program_of_source input) first second p q
+    one_assembled (ReportsProgram run_lines limit) (one_program run_lines limit) (program_of_source input) first second p q
 one_accepted (Trace limit) input first second p q =
-    one_run (ReportsProgram trace_lines limit) (one_program trace_lines limit) built_interpreter (program_of_source input) first second p q
+    one_assembled (ReportsProgram trace_lines limit) (one_program trace_lines limit) (program_of_source input) first second p q
 one_accepted (Demo number) input first second p q =
-    one_run (ReportsProgram (demo_lines number) most_steps) (one_program (demo_lines number) most_steps) built_interpreter
+    one_assembled (ReportsProgram (demo_lines number) most_steps) (one_program (demo_lines number) most_steps)
     (program_of_source (demo_text number)) first second p q
 
 pub one_report : OneReport

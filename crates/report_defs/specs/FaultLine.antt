@@ -6,10 +6,7 @@ use Rattle.std.specs.Fmt.{decimal}
 use Rattle.report_defs.specs.declared.status.Status.{Status}
 use Rattle.report_defs.specs.declared.status.Status.TheVariants as status
 use Rattle.report_defs.specs.declared.fault.Fault.{Fault}
-use Rattle.report_defs.specs.declared.fault.Fault.TheVariants.{Usage, TooLarge, PastEnd, NoEntry, Interpreter}
-use Rattle.source_defs.specs.Digits.{marked_word}
-use Rattle.build_defs.specs.declared.fault.BuildFault.{BuildFault}
-use Rattle.build_defs.specs.declared.fault.BuildFault.TheVariants.{SourceRefused, ImageDiffers}
+use Rattle.report_defs.specs.declared.fault.Fault.TheVariants.{Usage, TooLarge, PastEnd, NoEntry}
 
 -- Profile: words that are no command are answered by how the program is called.
 unfoldable pub usage_line : List ℕ
@@ -19,26 +16,15 @@ usage_line = codes "usage: ti_bench asm|link|dis ADDR|exec N|gasm|gdis ADDR|inte
 unfoldable pub refusal_line : ℕ → List ℕ → List ℕ
 refusal_line line text = codes "line " ++ (decimal line ++ (codes ": " ++ (text ++ codes "\n")))
 
--- Profile: words that differ are told by their address, the word that the source gives, and the word that is shipped.
-abbrev pub interpreter_line : BuildFault → List ℕ
-interpreter_line SourceRefused = codes "interpreter refused\n"
-interpreter_line (ImageDiffers address assembled shipped) =
-    codes "interpreter differs at "
-    ++ (marked_word address
-    ++ (codes ": " ++ (marked_word assembled ++ (codes " " ++ (marked_word shipped ++ codes "\n")))))
-
 abbrev pub fault_line : Fault → List ℕ
 fault_line Usage = usage_line
 fault_line TooLarge = codes "too large\n"
 fault_line PastEnd = codes "past the end of memory\n"
 fault_line NoEntry = codes "no entry\n"
-fault_line (Interpreter fault) = interpreter_line fault
 
--- Profile: words that are no command have a status of their own, and so has an interpreter that is not built; else the
--- input is refused.
+-- Profile: words that are no command have a status of their own; else the input is refused.
 abbrev pub fault_status : Fault → Status
 fault_status Usage = status.Usage
 fault_status TooLarge = status.Refused
 fault_status PastEnd = status.Refused
 fault_status NoEntry = status.Refused
-fault_status (Interpreter fault) = status.Interpreter

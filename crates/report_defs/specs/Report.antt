@@ -21,15 +21,15 @@ use Rattle.report_defs.specs.declared.command.Command.TheVariants.{Run, Trace, D
 use Rattle.report_defs.specs.declared.status.Status.{Status}
 use Rattle.report_defs.specs.declared.status.Status.TheVariants.{Done, Refused}
 use Rattle.report_defs.specs.declared.fault.Fault.{Fault}
-use Rattle.report_defs.specs.declared.fault.Fault.TheVariants.{TooLarge, PastEnd, NoEntry, Interpreter}
+use Rattle.report_defs.specs.declared.fault.Fault.TheVariants.{TooLarge, PastEnd, NoEntry}
 use Rattle.report_defs.specs.FaultLine.{fault_status}
 use Rattle.report_defs.specs.SourceFaults.{asm_line, gpl_line}
 use Rattle.report_defs.specs.TextLines.{text_lines}
 use Rattle.report_defs.specs.Listing.{memory_listing}
 use Rattle.report_defs.specs.GromListing.{image_listing}
 use Rattle.link_defs.specs.LinkedMemory.{LinkedMemory}
-use Rattle.build_defs.specs.declared.fault.BuildFault.{BuildFault}
-use Rattle.build_defs.specs.Interpreter.{built_interpreter}
+use Rattle.native_interp.specs.Source.{source}
+use Rattle.build_defs.specs.Building.{Links}
 use Rattle.report_defs.specs.MemoryListing.{linked_lines}
 use Rattle.report_defs.specs.ObjectInput.{linked_input}
 use Rattle.report_defs.specs.Exec.{Executes, exec_lines, end_status}
@@ -99,11 +99,11 @@ abbrev pub ExecReport : ℕ → Result LinkedMemory (List ℕ) → Report → Ty
 ExecReport limit (Ok linked) report = ReportsExecution limit linked report
 ExecReport limit (Err line) report = report ≡ Rejected line
 
--- Profile: the report of interp is the listing of the interpreter's linked memory, unless its source does not give its
--- words.
-abbrev pub interp_report : Result LinkedMemory BuildFault → Report
-interp_report (Ok linked) = Whole Done (linked_lines linked)
-interp_report (Err fault) = Faulty (Interpreter fault)
+-- Profile: the report of interp is the listing of the linked memory of the interpreter's source.
+pub record ReportsInterpreter (report : Report) : Type 0 where
+  pub memory : LinkedMemory
+  pub links : Links source memory
+  pub is : report ≡ Whole Done (linked_lines memory)
 
 -- What is written of a run of steps from a state, of a program with an image, and of the machine that the interpreter
 -- left.
@@ -142,14 +142,10 @@ abbrev pub EnteredReport : (Image → ℕ → Report → Type 0) → Image → O
 EnteredReport Reports image (Some entry) report = Reports image entry report
 EnteredReport Reports image None report = report ≡ Faulty NoEntry
 
+-- What is reported of a GPL source, which may be refused.
 abbrev pub ProgramReport : (Image → ℕ → Report → Type 0) → Result Program (Refusal GplCause) → Report → Type 0
 ProgramReport Reports (Ok program) report = EnteredReport Reports program.image program.entry report
 ProgramReport Reports (Err refused) report = report ≡ Rejected (gpl_line refused)
-
--- Profile: no program is looked at where the interpreter's source does not give its words.
-abbrev pub RunReport : (Image → ℕ → Report → Type 0) → Result LinkedMemory BuildFault → Result Program (Refusal GplCause) → Report → Type 0
-RunReport Reports (Ok interpreter) program report = ProgramReport Reports program report
-RunReport Reports (Err fault) program report = report ≡ Faulty (Interpreter fault)
 
 abbrev pub AcceptedReport : Command → List ℕ → Report → Type 0
 AcceptedReport Asm input report = report ≡ asm_report (module_of_source input)
@@ -158,14 +154,12 @@ AcceptedReport (Dis at) input report = report ≡ dis_report at input
 AcceptedReport (Gdis at) input report = report ≡ gdis_report at input
 AcceptedReport Link input report = report ≡ link_report (linked_input input)
 AcceptedReport (Exec limit) input report = ExecReport limit (linked_input input) report
-AcceptedReport Interp input report = report ≡ interp_report built_interpreter
-AcceptedReport (Run limit) input report =
-    RunReport (ReportsProgram run_lines limit) built_interpreter (program_of_source input) report
+AcceptedReport Interp input report = ReportsInterpreter report
+AcceptedReport (Run limit) input report = ProgramReport (ReportsProgram run_lines limit) (program_of_source input) report
 AcceptedReport (Trace limit) input report =
-    RunReport (ReportsProgram trace_lines limit) built_interpreter (program_of_source input) report
+    ProgramReport (ReportsProgram trace_lines limit) (program_of_source input) report
 AcceptedReport (Demo number) input report =
-    RunReport (ReportsProgram (demo_lines number) most_steps) built_interpreter
-    (program_of_source (demo_text number)) report
+    ProgramReport (ReportsProgram (demo_lines number) most_steps) (program_of_source (demo_text number)) report
 
 -- Whatever else holds, an input is refused that is too large.
 abbrev pub ReportOn : Command → List ℕ → Report → Type 0
@@ -176,5 +170,5 @@ ReportOn command input report =
 -- once it is made. Such lines are a front of the report.
 abbrev pub FrontOn : Command → List ℕ → Report → Type 0
 FrontOn (Trace limit) input front =
-    (length input ≤ largest_input) × RunReport (ShowsSteps limit) built_interpreter (program_of_source input) front
+    (length input ≤ largest_input) × ProgramReport (ShowsSteps limit) (program_of_source input) front
 FrontOn command input front = ⊥

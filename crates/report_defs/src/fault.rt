@@ -1,7 +1,5 @@
 //! Why a fault line stands in the place of a report.
 
-use build_defs::BuildFault;
-
 /// What a fault line says.
 #[derive(Clone, Copy, Debug, PartialEq, Eq)]
 pub enum Fault {
@@ -13,6 +11,4 @@ pub enum Fault {
     PastEnd,
     /// The GPL source of `run` or `trace` names no entry.
     NoEntry,
-    /// The interpreter's source does not give the interpreter's words.
-    Interpreter(BuildFault),
 }

@@ -1,6 +1,6 @@
 //! How the program ends.
 
-/// How a command ended. Its number is the program's exit status.
+/// How a command ended. Its number is the program's exit status; 6 is the number of none.
 #[derive(Clone, Copy, Debug, PartialEq, Eq)]
 pub enum Status {
     /// The report is whole.
@@ -15,8 +15,6 @@ pub enum Status {
     WriteFault = 4,
     /// Memory was wanting.
     Memory = 5,
-    /// The interpreter's source does not give the interpreter's words.
-    Interpreter = 6,
     /// The report is whole, and its machine stopped at a word that is not executed or at a port, or its GPL program at a step
     /// that cannot be made.
     Stopped = 7,

@@ -1,25 +1,7 @@
 //! A workbench for cartridges of the TI-99/4A.
 #![tactic(auto)]
 
-mod bench;
-mod command;
-mod commands;
-mod fault_line;
-mod input;
-mod interpreter;
-mod listing;
-mod listing_lines;
-mod object_input;
-mod prepared;
-mod report;
-mod steady;
-#[cfg(test)]
-mod tests;
-mod trace;
-mod words;
-
-use crate::bench::bench;
-use crate::words::Words;
+use bench_commands::{Words, bench};
 use bench_io::{StdSink, StdSource};
 use report_defs::Status;
 use std::alloc::AllocError;

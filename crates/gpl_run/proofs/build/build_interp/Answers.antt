@@ -1,15 +1,18 @@
 use Rattle.std.proofs.Common.{◌<◌, ◌^◌, ◌∙◌, ℕ, List, length, sym, subst}
-use Rattle.gpl_run.proofs.Built.{interpreter_there, source_is_short}
+use Rattle.link_loader.specs.View.{defined_linked}
+use Rattle.gpl_run.proofs.Built.{interpreter_there, source_is_short, text_links}
 use Rattle.gpl_run.proofs.build.build_interp.Goals as goal
 
-pub build_words-requires : goal.build_words-requires
-build_words-requires c =
+pub link_source-requires-clause-short : goal.link_source-requires-clause-short
+link_source-requires-clause-short c =
     let P : List ℕ → Type 0 = λ text. length text < 2 ^ 32 in
     subst P (sym (c.as_slice.ensures.value ∙ c.in_ok-text.ensures)) source_is_short
 
-pub returns : goal.returns
-returns c =
-    interpreter_there c.build_words.result c.as_slice.result.now c.interpreter_words.result.now
-    (c.as_slice.ensures.value ∙ c.in_ok-text.ensures)
-    c.interpreter_words.ensures
-    c.build_words.ensures
+pub link_source-requires-clause-links : goal.link_source-requires-clause-links
+link_source-requires-clause-links c =
+    text_links c.as_slice.result.now (c.as_slice.ensures.value ∙ c.in_ok-text.ensures) c.source_gives_words.ensures
+
+pub returns-clause-built : goal.returns-clause-built
+returns-clause-built c =
+    interpreter_there defined_linked c.link_source.result c.as_slice.result.now
+    (c.as_slice.ensures.value ∙ c.in_ok-text.ensures) c.source_gives_words.ensures c.link_source.ensures

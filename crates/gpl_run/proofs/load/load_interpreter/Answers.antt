@@ -1,4 +1,4 @@
-use Rattle.std.proofs.Common.{ℕ, List, Result, Ok, Err}
+use Rattle.std.proofs.Common.{Result, Ok, Err}
 use Rattle.std.specs.Prelude.{IfOk}
 use Rattle.console_defs.specs.Machine.{MachineState}
 use Rattle.native_interp.specs.declared.addresses.TheConstants.{GBOOT, WORKSPACE}

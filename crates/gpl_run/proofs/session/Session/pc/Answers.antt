@@ -1,4 +1,4 @@
-use Rattle.std.proofs.Common.{◌≡◌, ℕ, Option, Some, ap, sym, ◌∙◌, lit<}
+use Rattle.std.proofs.Common.{Option, ap, sym, ◌∙◌, lit<}
 use Rattle.step_defs.specs.declared.reason.Reason.{Reason}
 use Rattle.sim_view.proofs.Bridge.{reg_word}
 use Rattle.gpl_run.specs.Sessions.{SessionState, address_in}

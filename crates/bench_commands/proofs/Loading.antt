@@ -1,0 +1,43 @@
+-- Sources that are loaded, and the reports of those that are not run.
+use Rattle.std.proofs.Common.{◌≡◌, ℕ, Option, Some, None, Result, Ok, Err, sym, subst}
+use Rattle.std.specs.Prelude.{IfOk}
+use Rattle.source_defs.specs.Refusals.{Refusal}
+use Rattle.gpl_defs.specs.Image.{Image}
+use Rattle.program_defs.specs.declared.causes.GplCause.{GplCause}
+use Rattle.program_defs.specs.Programs.{Program}
+use Rattle.report_defs.specs.Report.{Report, EnteredReport, ProgramReport}
+use Rattle.bench_commands.specs.declared.commands.program.LoadedProgram.{LoadedProgram}
+use Rattle.bench_commands.specs.declared.commands.program.Loaded.{Loaded}
+use Rattle.bench_commands.specs.declared.commands.program.Loaded.TheVariants as made
+use Rattle.bench_commands.specs.Made.{defined_report}
+use Rattle.bench_commands.specs.Loaded.{RunsNone, LoadsEntered, LoadsProgram, LoadsImage, LoadsSource}
+
+-- what is reported of a program that is not run is so whatever would be reported of one that is
+module _ (Reports : Image → ℕ → Report → Type 0) where
+  entered_none : (image : Image) (entry : Option ℕ) (report : Report) → EnteredReport RunsNone image entry report → EnteredReport Reports image entry report
+  entered_none image (Some entry) report none = absurd none
+  entered_none image None report is = is
+
+  pub program_none : (program : Result Program (Refusal GplCause)) (report : Report) → ProgramReport RunsNone program report → ProgramReport Reports program report
+  program_none (Ok program) report e = entered_none program.image program.entry report e
+  program_none (Err refused) report is = is
+
+  -- what is reported of a program that is loaded
+  of_entered : (image : Image) (entry : Option ℕ) (report : Report) (x : LoadedProgram) (l : LoadsEntered image entry x) → Reports image l.address report → EnteredReport Reports image entry report
+  of_entered image entry report x l e = subst (λ (o : Option ℕ). EnteredReport Reports image o report) (sym l.is) e
+
+  pub of_program : (source : Result Program (Refusal GplCause)) (report : Report) (x : LoadedProgram) (l : LoadsProgram source x) →
+      Reports l.program.image l.entered.address report → ProgramReport Reports source report
+  of_program source report x l e =
+      subst (λ (o : Result Program (Refusal GplCause)). ProgramReport Reports o report) (sym l.is) (of_entered l.program.image l.program.entry report x l.entered e)
+
+-- what comes of an image is what comes of its source
+loads_source : (source : Result Program (Refusal GplCause)) (program : Program) (l : Loaded) → source ≡ Ok program → LoadsImage program.image program.entry l → LoadsSource source l
+loads_source source program (made.Program x) is h = record { program = program; is = is; entered = h }
+loads_source source program (made.Report report) is h =
+    subst (λ (s : Result Program (Refusal GplCause)). ProgramReport RunsNone s (defined_report report)) (sym is) h
+
+pub source_loaded : {E : Type 0} (source : Result Program (Refusal GplCause)) (program : Program) (r : Result Loaded E) → source ≡ Ok program →
+    IfOk r (LoadsImage program.image program.entry) → IfOk r (LoadsSource source)
+source_loaded source program (Ok l) is h = loads_source source program l is h
+source_loaded source program (Err error) is h = tt

@@ -1,0 +1,125 @@
+-- Reports of GPL programs.
+use Rattle.std.proofs.Common.{◌≡◌, ℕ, List, [], ◌++◌, length, Option, Some, None, refl, sym, ap, ◌∙◌, subst, lit<}
+use Rattle.std.proofs.lemmas.List.{take-append-drop}
+use Rattle.console_defs.specs.Grom.{GromState}
+use Rattle.console_defs.specs.Memory.{IsMemory}
+use Rattle.console_defs.specs.Machine.{MachineState}
+use Rattle.gpl_defs.specs.Image.{Image, written_bytes}
+use Rattle.step_defs.specs.declared.reason.Reason.{Reason}
+use Rattle.step_defs.specs.State.{GplState, start}
+use Rattle.step_defs.specs.Run.{GplRun, run}
+use Rattle.interp_defs.specs.Match.{IsHalted, shown_by}
+use Rattle.interp_defs.specs.Programs.{EndsAs}
+use Rattle.sim_view.proofs.Bridge.{register_is, reg_word}
+use Rattle.gpl_run.specs.Sessions.{SessionState, seen, address_in, image_of, entry_of}
+use Rattle.report_defs.specs.Program.{showing, state_text, state_line, program_lines, program_status}
+use Rattle.report_defs.specs.declared.summary.Summary.{Summary}
+use Rattle.report_defs.specs.Summary.{summary_of, summary_lines}
+use Rattle.report_defs.specs.Report.{Report, Whole, ReportsProgram, run_lines, demo_lines}
+use Rattle.lane_scan.specs.Plain.{sum_bytes}
+use Rattle.bench_commands.specs.declared.report.Report.TheVariants as reported
+use Rattle.bench_commands.specs.declared.commands.program.LoadedProgram.{LoadedProgram}
+use Rattle.bench_commands.specs.Loaded.{LoadsEntered}
+use Rattle.bench_commands.specs.Made.{defined_report}
+use Rattle.bench_commands.specs.Ran.{RanProgram}
+
+-- A machine shows the state that is seen in it.
+pub showing_seen : (t : SessionState) → showing (seen t) t.machine ≡ t.machine
+showing_seen t =
+    let x = t.machine in
+    ap (λ (cells : List ℕ). record x { cpu = record x.cpu { memory = record x.cpu.memory { scratchpad = cells } } })
+    (take-append-drop 194 x.cpu.memory.scratchpad)
+
+-- The lines of a program are those of what is seen of its state.
+same_lines : (stop : Option Reason) (a b : GplState) (x : MachineState) → a.cells ≡ b.cells → a.vdp ≡ b.vdp →
+    a.registers ≡ b.registers → a.pc ≡ b.pc → program_lines stop a x ≡ program_lines stop b x
+unfolding state_line state_text
+same_lines stop a b x cells vdp registers pc =
+    ap (λ (c : List ℕ). program_lines stop (record a { cells = c }) x) cells
+    ∙ ap (λ (v : List ℕ). program_lines stop (record a { cells = b.cells; vdp = v }) x) vdp
+    ∙ ap (λ (r : List ℕ). program_lines stop (record a { cells = b.cells; vdp = b.vdp; registers = r }) x) registers
+    ∙ ap (λ (p : ℕ). program_lines stop (record b { pc = p; image = a.image }) x) pc
+
+-- Register 1 of a halted machine has the address of the instruction that ended the program.
+address_is : (s : GplState) (reason : Reason) (x : MachineState) → IsMemory x.cpu.memory → IsHalted s reason x →
+    address_in (Some reason) x ≡ s.pc
+address_is s reason x memory halted =
+    let m = x.cpu.memory in
+    sym (register_is m 0x83E0 1 s.pc memory refl (lit< tt) (sym halted.address) ∙ reg_word m 1 memory (lit< tt))
+
+-- What is seen of a program at its end is its last state.
+ended_lines : (stop : Option Reason) (last : GplState) (x : MachineState) → IsMemory x.cpu.memory → EndsAs stop last x →
+    program_lines stop (seen (record { machine = x; ended = stop })) x ≡ program_lines stop last x
+ended_lines None last x memory matches =
+    same_lines None _ last x
+    (ap (λ (s : GplState). s.cells) matches.shows) (ap (λ (s : GplState). s.vdp) matches.shows)
+    (ap (λ (s : GplState). s.registers) matches.shows) (ap (λ (s : GplState). s.pc) matches.shows)
+ended_lines (Some reason) last x memory halted =
+    same_lines (Some reason) _ last x halted.cells halted.vdp halted.registers (address_is last reason x memory halted)
+
+-- The end of a session is that of the run of its program, behind what was shown of its steps.
+pub ends_alike : (shown : List (List ℕ)) (r : GplRun) (t : SessionState) → t.ended ≡ r.stop → IsMemory t.machine.cpu.memory → EndsAs r.stop r.last t.machine →
+    Whole (program_status t.ended) (shown ++ program_lines t.ended (seen t) t.machine) ≡ Whole (program_status r.stop) (shown ++ program_lines r.stop r.last t.machine)
+ends_alike shown r t ended memory ends =
+    let x = t.machine in
+    ap (λ (e : Option Reason). Whole (program_status e) (shown ++ program_lines e (seen (record { machine = x; ended = e })) x)) ended
+    ∙ ap (λ (lines : List (List ℕ)). Whole (program_status r.stop) (shown ++ lines)) (ended_lines r.stop r.last x memory ends)
+
+-- The cells and the video memory that are seen at the end are those of the last state.
+ended_bytes : (stop : Option Reason) (last : GplState) (x : MachineState) → EndsAs stop last x →
+    ((shown_by x.cpu.memory).cells ≡ last.cells) × (x.cpu.memory.vdp.memory ≡ last.vdp)
+ended_bytes None last x matches = (ap (λ (s : GplState). s.cells) matches.shows, ap (λ (s : GplState). s.vdp) matches.shows)
+ended_bytes (Some reason) last x halted = (halted.cells, halted.vdp)
+
+-- what a session has come to after so many steps
+abbrev pub ran_of : ℕ → SessionState → GplRun
+ran_of made t = record { done = made; last = shown_by t.machine.cpu.memory; stop = t.ended }
+
+-- The summary of a session is that of the run of its program.
+summaries_alike : (number size image made : ℕ) (r : GplRun) (t : SessionState) → size ≡ image → made ≡ r.done → t.ended ≡ r.stop → EndsAs r.stop r.last t.machine →
+    Whole (program_status t.ended) (summary_lines (summary_of number size (ran_of made t) t.machine)) ≡ Whole (program_status r.stop) (summary_lines (summary_of number image r t.machine))
+summaries_alike number size image made r t same done ended ends =
+    let x = t.machine in
+    let of : ℕ → ℕ → List ℕ → List ℕ → Option Reason → Report =
+    λ i d cells vdp e. Whole (program_status e) (summary_lines (record { number = number; image = i; steps = d; pad = sum_bytes cells; vdp = sum_bytes vdp; ended = e; count = x.count })) in
+    let bytes = ended_bytes r.stop r.last x ends in
+    let cells = (shown_by x.cpu.memory).cells in
+    let vdp = x.cpu.memory.vdp.memory in
+    ap (λ (i : ℕ). of i made cells vdp t.ended) same
+    ∙ ap (λ (d : ℕ). of image d cells vdp t.ended) done
+    ∙ ap (λ (c : List ℕ). of image r.done c vdp t.ended) bytes.0
+    ∙ ap (λ (v : List ℕ). of image r.done r.last.cells v t.ended) bytes.1
+    ∙ ap (λ (e : Option Reason). of image r.done r.last.cells r.last.vdp e) ended
+
+module _ (limit : ℕ) (image : Image) (entry : Option ℕ) (loaded : LoadedProgram) (l : LoadsEntered image entry loaded) (t : SessionState) (made : ℕ)
+    (ran : RanProgram (image_of loaded.machine) (entry_of loaded.machine) limit t made) where
+  -- the session ran the program of the image from its entry
+  begun : RanProgram l.bytes l.address limit t made
+  begun =
+      let of_bytes : image_of loaded.machine ≡ l.bytes = ap (λ (g : GromState). g.image) l.boots.grom in
+      let entered = subst (λ (e : ℕ). RanProgram (image_of loaded.machine) e limit t made) l.boots.scratchpad.word ran in
+      subst (λ (i : List ℕ). RanProgram i l.address limit t made) of_bytes entered
+
+  abbrev run_is : GplRun
+  run_is = run limit (start l.bytes l.address)
+
+  pub reports_program : ReportsProgram run_lines limit image l.address (defined_report (reported.Program t))
+  reports_program = record {
+    bytes = l.bytes;
+    of_image = l.of_image;
+    left = t.machine;
+    runs = begun.runs;
+    is = ends_alike [] run_is t begun.ended begun.memory begun.runs.runs.ends;
+  }
+
+  pub reports_demo : (number : ℕ) (summary : Summary) → summary ≡ summary_of number loaded.image_size (ran_of made t) t.machine →
+      ReportsProgram (demo_lines number) limit image l.address (defined_report (reported.Demo summary))
+  reports_demo number summary is = record {
+    bytes = l.bytes;
+    of_image = l.of_image;
+    left = t.machine;
+    runs = begun.runs;
+    is =
+        ap (λ (s : Summary). Whole (program_status s.ended) (summary_lines s)) is
+        ∙ summaries_alike number loaded.image_size (length (written_bytes image)) made run_is t l.size begun.made_is begun.ended begun.runs.runs.ends;
+  }

@@ -1,0 +1,98 @@
+-- Where nothing fails, a run has one answer.
+use Rattle.std.proofs.Common.{◌≡◌, ◌≢◌, ℕ, ◌≤◌, List, [], ◌++◌, length, Option, Some, None, Bool, true, false, refl, sym, ap, ◌∙◌, subst, inl, inr, append-nil}
+use Rattle.std.proofs.Common.{length-append, arith}
+use Rattle.std.specs.Prelude.{MatchBool, nat_lt, if◌then◌else◌}
+use Rattle.std.specs.Option.{option_map}
+use Rattle.std.proofs.lemmas.Bool.Decides.{nat_tests}
+use Rattle.bench_io.specs.Stream.{SourceState, IsAtEnd}
+use Rattle.report_defs.specs.declared.command.Command.{Command}
+use Rattle.report_defs.specs.declared.fault.Fault.TheVariants.{TooLarge}
+use Rattle.report_defs.specs.declared.status.Status.{Status}
+use Rattle.report_defs.specs.declared.status.Status.TheVariants as status
+use Rattle.report_defs.specs.Commands.{command_of, reads}
+use Rattle.report_defs.specs.Report.{Report, Whole, Faulty, Rejected, status_of, largest_input, AcceptedReport, ReportOn}
+use Rattle.report_defs.proofs.OneReport.{one_report}
+use Rattle.report_defs.proofs.ListedInputs.{listed_inputs_come_back}
+use Rattle.bench_commands.specs.Run.{Run, ReadsInput, Reads, ReportsOn, Reports, WroteReport, MissedReport, EndsBy}
+use Rattle.bench_commands.specs.Laws.{HasNoFault, read_of, Completeness, BeginAlike, OneAnswer, LawsOfRuns}
+
+-- a report on bytes that were taken is one on all bytes of the input
+on_all : (command : Command) (before after : SourceState) (bytes input : List ℕ) (report : Report) → before.left ≡ Some input → ReadsInput before after bytes → ReportOn command bytes report → ReportOn command input report
+on_all command before after bytes input report told reading on = left after.left refl
+  where
+    by : (rest : List ℕ) → after.left ≡ Some rest → input ≡ bytes ++ rest → (large : Bool) → nat_lt largest_input (length bytes) ≡ large → MatchBool large (report ≡ Faulty TooLarge) (AcceptedReport command bytes report) → ReportOn command input report
+    by rest is all true large found =
+        let above : nat_lt largest_input (length input) ≡ true = rw all (rw length-append (grind (arith, nat_tests))) in
+        rw above found
+    by rest is all false small found =
+        let within : length bytes ≤ largest_input = grind (arith, nat_tests) in
+        let P : Option (List ℕ) → Type 0 = λ l. IsAtEnd l in
+        let none : rest ≡ [] = subst P is (reading.whole within) in
+        let same : input ≡ bytes = all ∙ ap (λ r. bytes ++ r) none ∙ append-nil bytes in
+        let Q : List ℕ → Type 0 = λ i. ReportOn command i report in
+        subst Q (sym same) on
+
+    left : (l : Option (List ℕ)) → after.left ≡ l → ReportOn command input report
+    left None is =
+        let e : Some input ≡ None = sym told ∙ (reading.took.told ∙ ap (option_map (λ rest. bytes ++ rest)) is) in
+        absurd (cc)
+    left (Some rest) is =
+        let e : Some input ≡ Some (bytes ++ rest) = sym told ∙ (reading.took.told ∙ ap (option_map (λ rest. bytes ++ rest)) is) in
+        let all : input ≡ bytes ++ rest = cc in
+        by rest is all (nat_lt largest_input (length bytes)) refl on
+
+-- the report of a run on a command is the report on its input
+pub on_input : (run : Run) (command : Command) (input : List ℕ) (report : Report) → run.input.left ≡ Some input → ReportsOn (Some command) run report → ReportOn command (read_of command input) report
+on_input run command input report told (bytes, reading, on) = by (reads command) refl reading
+  where
+    by : (read : Bool) → reads command ≡ read → Reads read run.input run.input' bytes → ReportOn command (if read then input else []) report
+    by true is reading = on_all command run.input run.input' bytes input report told reading on
+    by false is (same, none) = let P : List ℕ → Type 0 = λ b. ReportOn command b report in subst P none on
+
+no_miss : (run : Run) (report : Report) → HasNoFault run → MissedReport run.outputs report → ⊥
+no_miss run (Whole status pieces) none missed = none.out missed.0.rose
+no_miss run (Faulty fault) none missed = none.err missed.0.rose
+no_miss run (Rejected line) none missed = none.err missed.0.rose
+
+-- a run in which no count rose wrote its report
+pub reported : (run : Run) (s : Status) → EndsBy run s → HasNoFault run → s ≢ status.Memory → (report : Report) × Reports run report × (s ≡ status_of report) × WroteReport run.outputs report
+reported run status.Done (report, reports, (is, wrote)) none some = (report, reports, sym is, wrote)
+reported run status.Refused (report, reports, (is, wrote)) none some = (report, reports, sym is, wrote)
+reported run status.Usage (report, reports, (is, wrote)) none some = (report, reports, sym is, wrote)
+reported run status.ReadFault (nothing, rose) none some = absurd (none.input rose)
+reported run status.WriteFault (inl (report, reports, missed)) none some = absurd (no_miss run report none missed)
+reported run status.WriteFault (inr (front, begins, missed)) none some = absurd (no_miss run front none missed)
+reported run status.Memory nothing none some = absurd (some refl)
+reported run status.Stopped (report, reports, (is, wrote)) none some = (report, reports, sym is, wrote)
+
+pub completeness : Completeness
+completeness run command input report s is told none on ends some =
+    let r = reported run s ends none some in
+    let P : Option Command → Type 0 = λ found. ReportsOn found run r.0 in
+    let found : ReportOn command (read_of command input) r.0 = on_input run command input r.0 told (subst P is r.1) in
+    let same : r.0 ≡ report = one_report command (read_of command input) r.0 report found on in
+    let W : Report → Type 0 = λ x. WroteReport run.outputs x in
+    (r.2 ∙ ap status_of same, subst W same r.3)
+
+-- two runs that begin alike have one report
+alike : (a b : Run) (found : Option Command) (x y : Report) → BeginAlike a b → ReportsOn found a x → ReportsOn found b y → x ≡ y
+alike a b None x y begin p q = p.0 ∙ sym q.0
+alike a b (Some command) x y begin p q =
+    one_report command (read_of command begin.bytes) x y (on_input a command begin.bytes x begin.one p) (on_input b command begin.bytes y begin.other q)
+
+pub one_answer : OneAnswer
+one_answer a b s t begin none other ends ends' some some' =
+    let p = reported a s ends none some in
+    let q = reported b t ends' other some' in
+    let P : List (List ℕ) → Type 0 = λ words. ReportsOn (command_of words) b q.0 in
+    let same : p.0 ≡ q.0 = alike a b (command_of a.words) p.0 q.0 begin p.1 (subst P (sym begin.words) q.1) in
+    p.2 ∙ ap status_of same ∙ sym q.2
+
+pub laws : LawsOfRuns
+laws =
+    record {
+      one_report = one_report;
+      completeness = completeness;
+      one_answer = one_answer;
+      listed_inputs = listed_inputs_come_back;
+    }

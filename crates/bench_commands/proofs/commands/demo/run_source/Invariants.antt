@@ -1,0 +1,4 @@
+use Rattle.bench_commands.proofs.commands.demo.run_source.Given as goal
+
+abbrev pub ghosts-run_session : goal.ghosts-run_session
+ghosts-run_session a = record { name = a.blank.name; parts = a.blank.parts }

@@ -1,0 +1,52 @@
+-- What holds of all runs of the program that end as `EndsBy` says.
+use Rattle.std.specs.Prelude.{◌≡◌, ◌≢◌, ℕ, if◌then◌else◌, List, [], Some}
+use Rattle.count_defs.specs.Counts.{Rose}
+use Rattle.report_defs.specs.declared.command.Command.{Command}
+use Rattle.report_defs.specs.declared.status.Status.{Status}
+use Rattle.report_defs.specs.declared.status.Status.TheVariants.{Memory}
+use Rattle.report_defs.specs.Commands.{command_of, reads}
+use Rattle.report_defs.specs.Report.{Report, status_of, ReportOn}
+use Rattle.report_defs.specs.Laws.{OneReport, ListedInputsComeBack}
+use Rattle.bench_commands.specs.Run.{Run, EndsBy, WroteReport}
+
+-- no count of faults rose in a run
+pub record HasNoFault (run : Run) : Type 0 where
+  pub input : Rose run.input.faults run.input'.faults → ⊥
+  pub out : Rose run.outputs.out.faults run.outputs.out'.faults → ⊥
+  pub err : Rose run.outputs.err.faults run.outputs.err'.faults → ⊥
+
+-- the bytes that a command reports on, of an input of these bytes
+abbrev pub read_of : Command → List ℕ → List ℕ
+read_of command input = if reads command then input else []
+
+-- The law, which is proved: where the words are a command, the source tells its bytes and no count rose, the answer is
+-- the status of the report on these bytes, and the whole report was written; or memory was wanting.
+abbrev pub Completeness : Type 0
+Completeness =
+    (run : Run) (command : Command) (input : List ℕ) (report : Report) (status : Status)
+    → command_of run.words ≡ Some command → run.input.left ≡ Some input → HasNoFault run
+    → ReportOn command (read_of command input) report
+    → EndsBy run status → status ≢ Memory
+    → (status ≡ status_of report) × WroteReport run.outputs report
+
+-- two runs begin with the same words and with inputs of the same bytes, which are told
+pub record BeginAlike (first second : Run) : Type 0 where
+  pub words : first.words ≡ second.words
+  pub bytes : List ℕ
+  pub one : first.input.left ≡ Some bytes
+  pub other : second.input.left ≡ Some bytes
+
+-- the law, which is proved: two such runs in which no count rose have one answer, if neither is want of memory
+abbrev pub OneAnswer : Type 0
+OneAnswer =
+    (first second : Run) (one other : Status)
+    → BeginAlike first second → HasNoFault first → HasNoFault second
+    → EndsBy first one → EndsBy second other → one ≢ Memory → other ≢ Memory
+    → one ≡ other
+
+-- the laws of all runs, and that what gdis lists is assembled to what was listed
+pub record LawsOfRuns : Type 0 where
+  pub one_report : OneReport
+  pub completeness : Completeness
+  pub one_answer : OneAnswer
+  pub listed_inputs : ListedInputsComeBack

@@ -1,0 +1,90 @@
+-- A trace, from where its memory is taken to its end.
+use Rattle.std.specs.Prelude.{◌≡◌, ◌≤◌, ◌⊎◌, ℕ, List, ◌++◌, length, None}
+use Rattle.console_defs.specs.Memory.{IsMemory}
+use Rattle.console_defs.specs.Machine.{MachineState, IsMachine}
+use Rattle.step_defs.specs.State.{start}
+use Rattle.step_defs.specs.Run.{run}
+use Rattle.program_defs.specs.Programs.{program_of_source}
+use Rattle.bench_io.specs.Written.{Missed}
+use Rattle.interp_defs.specs.Match.{Matches}
+use Rattle.interp_defs.specs.Turns.{Boots}
+use Rattle.interp_defs.specs.Programs.{RunsSteps, most_of_boot}
+use Rattle.gpl_run.specs.Sessions.{SessionState, seen, image_of, entry_of}
+use Rattle.report_defs.specs.declared.command.Command.{Command}
+use Rattle.report_defs.specs.declared.command.Command.TheVariants as asked
+use Rattle.report_defs.specs.declared.status.Status.{Status}
+use Rattle.report_defs.specs.declared.status.Status.TheVariants.{WriteFault}
+use Rattle.report_defs.specs.Commands.{most_steps, most_blocks}
+use Rattle.report_defs.specs.Program.{program_lines, program_status}
+use Rattle.report_defs.specs.Trace.{seen_state, step_lines}
+use Rattle.report_defs.specs.Report.{Whole, largest_input, ReportOn}
+use Rattle.bench_commands.specs.declared.commands.program.LoadedProgram.{LoadedProgram}
+use Rattle.bench_commands.specs.declared.prepared.Prepared.{Prepared}
+use Rattle.bench_commands.specs.declared.prepared.Prepared.TheVariants as prepared
+use Rattle.bench_commands.specs.declared.trace.Trace.{Trace}
+use Rattle.bench_commands.specs.Made.{defined_report}
+use Rattle.bench_commands.specs.Loaded.{LoadsProgram}
+use Rattle.bench_commands.specs.Run.{Outputs, EndsWith}
+
+-- a trace has a limit that it keeps, and so has demo
+abbrev pub KeepsLimit : Command → Type 0
+KeepsLimit (asked.Trace limit) = limit ≤ most_steps
+KeepsLimit (asked.Demo number) = number ≤ most_blocks
+KeepsLimit command = Unit {0}
+
+-- The interpreter has booted on a machine, and stands before the first step of the program.
+pub record Started (new : MachineState) (session : SessionState) : Type 0 where
+  pub machine : IsMachine new
+  pub boot : ℕ
+  pub boots : Boots boot new session.machine
+  pub within : boot ≤ most_of_boot
+  pub matches : Matches (start (image_of new) (entry_of new)) session.machine
+  pub running : session.ended ≡ None
+
+-- what a trace needs: its program is running, and was seen
+pub record CanTrace (trace : Trace) : Type 0 where
+  pub running : trace.session.ended ≡ None
+  pub kept : trace.seen ≡ seen_state (seen trace.session)
+  pub limit : trace.limit ≤ most_steps
+
+-- a trace of the program of a source
+pub record TracesSource (input : List ℕ) (trace : Trace) : Type 0 where
+  pub new : LoadedProgram
+  pub loads : LoadsProgram (program_of_source input) new
+  pub started : Started new.machine trace.session
+  pub can : CanTrace trace
+
+-- what is made of an input that is not too large
+abbrev pub Prepares : Command → List ℕ → Prepared → Type 0
+Prepares command input (prepared.Report report) = ReportOn command input (defined_report report)
+Prepares command input (prepared.Trace trace) =
+    (command ≡ asked.Trace trace.limit) × (length input ≤ largest_input) × TracesSource input trace
+
+-- The program was run, and its report was written, or a front of it.
+pub record TracesWhole (o : Outputs) (trace : Trace) (status : Status) : Type 0 where
+  pub left : SessionState
+  pub memory : IsMemory left.machine.cpu.memory
+  pub count : ℕ
+  pub runs : RunsSteps (seen trace.session) trace.limit count trace.session.machine left.machine
+  pub ended : left.ended ≡ (run trace.limit (seen trace.session)).stop
+  pub ends : let s = seen trace.session in
+      let lines = step_lines s (run trace.limit s).done ++ program_lines left.ended (seen left) left.machine in
+      EndsWith o (Whole (program_status left.ended) lines) status
+
+-- The line of a step could not be written.
+pub record BreaksOff (o : Outputs) (trace : Trace) (status : Status) : Type 0 where
+  pub is : status ≡ WriteFault
+  pub missed : let s = seen trace.session in Missed o.out o.out' (step_lines s (run trace.limit s).done)
+  pub silent : o.err' ≡ o.err
+
+abbrev pub EndsTrace : Outputs → Trace → Status → Type 0
+EndsTrace o trace status = TracesWhole o trace status ⊎ BreaksOff o trace status
+
+abbrev pub CanFinish : Prepared → Type 0
+CanFinish (prepared.Report report) = Unit {0}
+CanFinish (prepared.Trace trace) = CanTrace trace
+
+-- how what was made ends
+abbrev pub Finishes : Outputs → Prepared → Status → Type 0
+Finishes o (prepared.Report report) status = EndsWith o (defined_report report) status
+Finishes o (prepared.Trace trace) status = EndsTrace o trace status

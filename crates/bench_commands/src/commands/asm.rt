@@ -1,0 +1,36 @@
+//! `asm`: the object text of an assembler source.
+
+ghost use Rattle.std.specs.Prelude.{◌≡◌, ◌≤◌, length, Ok, IfOk};
+ghost use Rattle.object_defs.specs.Writing.{written};
+ghost use Rattle.object_tags.specs.Seen.{defined_module};
+ghost use Rattle.module_defs.specs.Modules.{module_of_source};
+ghost use Rattle.report_defs.specs.Report as spec;
+ghost use Rattle.bench_commands.specs.Made.{defined_report};
+
+use crate::report::Report;
+use asm_core::{AsmError, assemble, modules_have_texts};
+use object_tags::{Module, write_module};
+use report_defs::Command;
+use report_lines::asm_line;
+use std::alloc::{AllocError, Global};
+
+/// The object text of the module of an assembler source, or its first refused line.
+pub(crate) fn asm(alloc: Global, input: &[u8]) -> Result<Report, AllocError>
+    requires { length input.now ≤ spec.largest_input }
+    ensures { IfOk result (λ report. spec.AcceptedReport Command.Asm input.now (defined_report report)) }
+{
+    match assemble(alloc, input) {
+        Ok(module) => Ok(Report::Text(text_of(alloc, input, &module)?)),
+        Err(AsmError::At { line, cause }) => Ok(Report::Refused(asm_line(line, cause))),
+        Err(AsmError::Memory) => Err(AllocError),
+    }
+}
+
+/// The object text of a source's module.
+fn text_of(alloc: Global, source: &[u8], module: &Module) -> Result<Vec<u8>, AllocError>
+    requires { module_of_source source.now ≡ Ok (defined_module «module».now) }
+    ensures { IfOk result (λ text. text.items ≡ written (defined_module «module».now)) }
+{
+    modules_have_texts();
+    write_module(alloc, module)
+}

@@ -1,0 +1,72 @@
+//! `exec`: linked memory, executed from its entry on.
+
+ghost use Rattle.std.specs.Prelude.{◌≡◌, ◌<◌, ◌≤◌, ℕ, length, None, IfOk};
+ghost use Rattle.console_defs.specs.Runs.{IsRun};
+ghost use Rattle.link_loader.specs.View.{defined_linked};
+ghost use Rattle.report_defs.specs.Exec as runs;
+ghost use Rattle.report_defs.specs.Report as spec;
+ghost use Rattle.bench_commands.specs.Made.{defined_report};
+
+use crate::object_input::{LinkedInput, link_input};
+use crate::report::Report;
+use byte_lists::zeros;
+use console_defs::RunEnd;
+use link_loader::Linked;
+use machine_load::load_machine;
+use report_defs::Command;
+use std::alloc::{AllocError, Global};
+use std::marker::Brand;
+use std::sync::ledger::{Blank, Ledger};
+use tms_step::{Machine, Steps};
+
+/// Where the workspace of a program begins.
+const WORKSPACE: u16 = 0x83E0;
+
+/// How many bytes the GROMs have.
+const GROM_SIZE: usize = 65536;
+
+/// The report of up to `limit` instructions of the linked memory of an object text, from its entry on.
+pub(crate) fn exec(alloc: Global, limit: u32, input: &[u8]) -> Result<Report, AllocError>
+    requires { length input.now ≤ spec.largest_input }
+    ensures { IfOk result (λ report. spec.AcceptedReport (Command.Exec limit) input.now (defined_report report)) }
+{
+    match link_input(alloc, input)? {
+        LinkedInput::Linked(linked) => execute(alloc, limit, &linked),
+        LinkedInput::Refused(line) => Ok(Report::Refused(line)),
+    }
+}
+
+/// The report of up to `limit` instructions of linked memory, from its entry on.
+fn execute(alloc: Global, limit: u32, linked: &Linked) -> Result<Report, AllocError>
+    ensures { IfOk result (λ report. spec.ReportsExecution limit (defined_linked linked.now) (defined_report report)) }
+{
+    let mut machine = start(alloc, linked)?;
+    let ending = run::<Brand>(&mut machine, u64::from(limit), Blank::new(1));
+    Ok(Report::Execution { ending, machine })
+}
+
+/// A machine at the entry of linked memory.
+fn start(alloc: Global, linked: &Linked) -> Result<Machine, AllocError>
+    ensures { IfOk result (λ machine. runs.IsStart (defined_linked linked.now) machine) }
+{
+    let image = zeros(alloc, GROM_SIZE)?;
+    load_machine(
+        alloc,
+        linked,
+        image.as_slice(),
+        WORKSPACE,
+        linked.entry(),
+        0,
+    )
+}
+
+/// Executes up to so many instructions on a machine that has executed none.
+fn run<L: Ledger>(machine: &mut Machine, limit: u64, blank: Blank) -> RunEnd
+    requires name { blank.name ≡ L.name }
+    requires parts { blank.parts ≡ L.parts }
+    requires some { 0 < L.parts }
+    ensures { (made : ℕ) × IsRun None limit made machine.old result machine.new }
+{
+    let mut steps = Steps::<L>::new(blank);
+    machine.run_to(None, limit, &mut steps)
+}

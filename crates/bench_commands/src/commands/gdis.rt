@@ -1,0 +1,33 @@
+//! `gdis`: bytes of GROM, listed as a GPL source.
+
+ghost use Rattle.std.specs.Prelude.{◌≡◌, ◌≤◌, ◌+◌, length, IfOk};
+ghost use Rattle.std.specs.FinMap.{empty};
+ghost use Rattle.gpl_defs.specs.Image.{placed};
+ghost use Rattle.report_defs.specs.Report as spec;
+ghost use Rattle.bench_commands.specs.Made.{defined_report};
+
+use crate::report::Report;
+use gpl_forms::GromImage;
+use report_defs::{Command, Fault};
+use std::alloc::{AllocError, Global};
+
+/// The listing of bytes of GROM that stand from an address on, unless they run past >FFFF.
+pub(crate) fn gdis(alloc: Global, at: u16, input: &[u8]) -> Result<Report, AllocError>
+    requires { length input.now ≤ spec.largest_input }
+    ensures { IfOk result (λ report. spec.AcceptedReport (Command.Gdis at) input.now (defined_report report)) }
+{
+    if usize::from(at) + input.len() > 65536 {
+        return Ok(Report::Fault(Fault::PastEnd));
+    }
+    Ok(Report::Grom(image_of(alloc, at, input)?))
+}
+
+/// The image that holds these bytes from an address on, and no others.
+fn image_of(alloc: Global, at: u16, bytes: &[u8]) -> Result<GromImage, AllocError>
+    requires { at + length bytes.now ≤ 65536 }
+    ensures { IfOk result (λ image. image ≡ placed empty at bytes.now) }
+{
+    let mut image = GromImage::new(alloc)?;
+    image.put_all(at, bytes);
+    Ok(image)
+}

@@ -1,0 +1,56 @@
+//! The program, over any input and outputs.
+
+ghost use Rattle.bench_commands.specs.Laws.{LawsOfRuns};
+ghost use Rattle.bench_commands.specs.Run.{EndsBy};
+
+use crate::command::read_command;
+use crate::commands::prepare;
+use crate::input::take_input;
+use crate::report::Report;
+use crate::words::Words;
+use bench_io::{ReadError, Sink, Source};
+use report_defs::{Fault, Status};
+use std::alloc::{AllocError, Global};
+
+/// Runs the command that the words say. It reads all of `input` before it writes, writes the report to `out`, or a
+/// fault line or the usage line to `err`, and takes all its memory before the first byte is written. The lines of a
+/// trace are written while the program runs, each once its step is made.
+///
+/// The contract says of each status its cause, and what the input and the outputs are then; that there is one report on
+/// each command and input; that where the source tells its bytes and nothing fails, the answer is that report with its
+/// status, or want of memory; and that what `gdis` lists is assembled by `gasm`'s rules to the bytes that were listed.
+#[tactic(auto, using(crate::proofs::Uniqueness::laws))]
+pub fn bench<S: Source, O: Sink, E: Sink>(
+    alloc: Global,
+    words: &Words,
+    input: &mut S,
+    out: &mut O,
+    err: &mut E,
+) -> Status
+    ensures laws { LawsOfRuns }
+    ensures ends { EndsBy (record {
+      words = words.now;
+      input = S.state input.old;
+      input' = S.state input.new;
+      outputs = record {
+        out = O.state out.old;
+        out' = O.state out.new;
+        err = E.state err.old;
+        err' = E.state err.new;
+      };
+    }) result }
+{
+    let Some(command) = read_command(words) else {
+        return Report::Fault(Fault::Usage).finish(out, err);
+    };
+    let bytes = match take_input(alloc, command, input) {
+        Ok(bytes) => bytes,
+        Err(ReadError::TooLarge) => return Report::Fault(Fault::TooLarge).finish(out, err),
+        Err(ReadError::Fault) => return Status::ReadFault,
+        Err(ReadError::Memory) => return Status::Memory,
+    };
+    match prepare(alloc, command, bytes) {
+        Ok(prepared) => prepared.finish(out, err),
+        Err(AllocError) => Status::Memory,
+    }
+}

@@ -1,0 +1,71 @@
+//! A trace, which is written while its program runs.
+
+ghost use Rattle.std.specs.Prelude.{◌≡◌, ◌<◌, ◌≤◌, ℕ, None};
+ghost use Rattle.gpl_run.specs.Sessions as sessions;
+ghost use Rattle.report_defs.specs.Trace.{seen_state};
+ghost use Rattle.report_defs.specs.Commands.{most_steps};
+ghost use Rattle.trace_dump.specs.Plays.{Plays};
+ghost use Rattle.bench_commands.specs.Traced.{CanTrace, EndsTrace};
+
+use crate::report::Report;
+use bench_io::{Failed, Sink};
+use gpl_run::Session;
+use report_defs::Status;
+use std::marker::Brand;
+use std::sync::ledger::{Blank, Ledger};
+use tms_step::Steps;
+use trace_dump::{Seen, play};
+
+/// A GPL program that stands before its first step, what is seen of it, and how many steps are to be made at most.
+#[derive(Drop)]
+pub(crate) struct Trace {
+    pub(crate) session: Session,
+    pub(crate) seen: Seen,
+    pub(crate) limit: u32,
+}
+
+impl Trace {
+    /// Runs the program and writes the line of each step once it is made; then the program's end, its last state and
+    /// the dump. The status is that of the program's end, or a write fault.
+    pub(crate) fn finish<O: Sink, E: Sink>(self, out: &mut O, err: &mut E) -> Status
+        requires { CanTrace self }
+        ensures { EndsTrace (record {
+          out = O.state out.old;
+          out' = O.state out.new;
+          err = E.state err.old;
+          err' = E.state err.new;
+        }) self result }
+    {
+        let Trace {
+            mut session,
+            mut seen,
+            limit,
+        } = self;
+        if play_session::<O, Brand>(&mut session, &mut seen, limit, out, Blank::new(1)).is_err() {
+            return Status::WriteFault;
+        }
+        session.machine().holds_bounds();
+        Report::Program(session).finish(out, err)
+    }
+}
+
+/// Runs a program that is running, and writes the lines of its steps.
+fn play_session<O: Sink, L: Ledger>(
+    session: &mut Session,
+    seen: &mut Seen,
+    limit: u32,
+    out: &mut O,
+    blank: Blank,
+) -> Result<u32, Failed>
+    requires name { blank.name ≡ L.name }
+    requires parts { blank.parts ≡ L.parts }
+    requires some { 0 < L.parts }
+    requires running { session.old.ended ≡ None }
+    requires kept { seen.old ≡ seen_state (sessions.seen session.old) }
+    requires limit { limit ≤ most_steps }
+    ensures { (before : ℕ) × (after : ℕ)
+        × Plays limit session.old session.new before after (O.state out.old) (O.state out.new) result }
+{
+    let mut steps = Steps::<L>::new(blank);
+    play(session, seen, limit, out, &mut steps)
+}

@@ -1,0 +1,32 @@
+//! Runs of the program's commands over sources and sinks in memory. The crate holds tests alone, so that the crates below it are
+//! proved once.
+#![tactic(auto)]
+
+#[cfg(test)]
+mod asm;
+#[cfg(test)]
+mod demo;
+#[cfg(test)]
+mod dis;
+#[cfg(test)]
+mod exec;
+#[cfg(test)]
+mod failing_ends;
+#[cfg(test)]
+mod gasm;
+#[cfg(test)]
+mod gdis;
+#[cfg(test)]
+mod gpl_programs;
+#[cfg(test)]
+mod gpl_rows;
+#[cfg(test)]
+mod interp;
+#[cfg(test)]
+mod link;
+#[cfg(test)]
+mod run;
+#[cfg(test)]
+mod statuses;
+#[cfg(test)]
+mod trace;

@@ -1,0 +1,345 @@
+//! The lines of `trace`: flow, the two stacks, RAND, MOVE, and what each step changed.
+
+ghost use Rattle.std.specs.Prelude.{◌≡◌, ◌<◌};
+ghost use Rattle.gpl_run.specs.Sessions.{IsNew};
+
+use super::run::{Ended, run};
+use bench_io::MemSink;
+use gpl_asm::gpl_assemble;
+use gpl_run::{Session, build_interp, load_interpreter};
+use report_defs::Status;
+use std::alloc::{AllocError, Global};
+use std::marker::Brand;
+use std::sync::ledger::{Blank, Ledger};
+use std::test::Fail;
+use tms_step::{Machine, Steps};
+use trace_dump::{Seen, play};
+
+/// A cartridge that sets up the video processor and then calls a subroutine three times, which branches by a table.
+const CARTRIDGE: &[u8] =
+    b" BYTE >AA,1,1,0; DATA 0,MENU,0,0;MENU DATA 0,START; BYTE 5;HELLO TEXT 'HELLO'\
+;REGS BYTE >00,>E0,>00,>0E,>01,>06,>00,>07;COUNT EQU >8300;SUM EQU >8302\
+;START MOVE 8,R@0,G@REGS; ALL >20; BACK >17; ST @COUNT,3;LOOP CALL SHOW; DEC @COUNT; CZ @COUNT; BR LOOP; EXIT\
+;SHOW CASE @COUNT; BR NONE; BR ONE; BR TWO; BR THREE;THREE MOVE 5,V@0,G@HELLO; RTN;TWO ST V@>0021,@COUNT; RTN\
+;ONE ADD @SUM,>7F; RTN;NONE RTN; END START";
+
+/// What a trace shows: a name, the words behind `trace`, the statements of a source (apart by semicolons, each behind its
+/// label's column), the first lines of the report, and the status.
+const TRACES: &[(&str, &[u8], &[u8], &[&[u8]], Status)] = &[
+    (
+        "a subroutine in the last bytes of a GROM",
+        b"5",
+        b" EXIT; AORG >1FF0;SUB RTN; AORG >1FFD;S CALL SUB; END S",
+        &[
+            b"     1 >7FFD S00 D9F R7E CALL >7FF0 C2 >8373=80",
+            b"     2 >7FF0 S00 D9F R80 RTN C1 >8373=7E",
+            b"exit at >6000",
+            b"gpl >6000 S00 D9F R7E",
+            b"pad",
+        ],
+        Status::Done,
+    ),
+    (
+        "a stack of return addresses that is full",
+        b"5",
+        b"S ST @>8373,>C0; CALL S; END S",
+        &[
+            b"     1 >6000 S00 D9F R7E ST @>8373,>C0 C1 >8373=C0",
+            b"stop 3 at >6003",
+            b"gpl >6003 S00 D9F RC0",
+            b"pad",
+        ],
+        Status::Stopped,
+    ),
+    (
+        "a code byte that is no instruction's, in the third step",
+        b"5",
+        b"S ST @>8300,5; INC @>8300; BYTE >0F,>77; END S",
+        &[
+            b"     1 >6000 S00 D9F R7E ST @>8300,>05 C1 >8300=05",
+            b"     2 >6003 S00 D9F R7E INC @>8300 C2 >8300=06",
+            b"stop 1 at >6005",
+            b"gpl >6005 SC0 D9F R7E",
+            b"pad",
+        ],
+        Status::Stopped,
+    ),
+    (
+        "no step",
+        b"0",
+        b"S ST @>8300,5; INC @>8300; BYTE >0F,>77; END S",
+        &[b"gpl >6000 S00 D9F R7E", b"pad"],
+        Status::Done,
+    ),
+    (
+        "two steps of three",
+        b"2",
+        b"S ST @>8300,5; INC @>8300; BYTE >0F,>77; END S",
+        &[
+            b"     1 >6000 S00 D9F R7E ST @>8300,>05 C1 >8300=05",
+            b"     2 >6003 S00 D9F R7E INC @>8300 C2 >8300=06",
+            b"gpl >6005 SC0 D9F R7E",
+            b"pad",
+        ],
+        Status::Done,
+    ),
+    (
+        "the first random number",
+        b"5",
+        b"S RAND 9; EXIT; END S",
+        &[
+            b"     1 >6000 S00 D9F R7E RAND >09 C3 >8378=02",
+            b"exit at >6002",
+        ],
+        Status::Done,
+    ),
+    (
+        "a byte behind a call",
+        b"9",
+        b"S CALL GET; BYTE >5A; EXIT;GET FETCH @>8300; RTN; END S",
+        &[
+            b"     1 >6000 S00 D9F R7E CALL >6005 C3 >8373=80",
+            b"     2 >6005 S00 D9F R80 FETCH @>8300 C2 >8300=5A",
+            b"     3 >6007 S00 D9F R80 RTN C1 >8373=7E",
+            b"exit at >6004",
+            b"gpl >6004 S00 D9F R7E",
+        ],
+        Status::Done,
+    ),
+    (
+        "a byte on the data stack",
+        b"5",
+        b"S ST @>8300,7; PUSH @>8300; EXIT; END S",
+        &[
+            b"     1 >6000 S00 D9F R7E ST @>8300,>07 C1 >8300=07",
+            b"     2 >6003 S00 D9F R7E PUSH @>8300 C2 >8372=A0",
+            b"exit at >6005",
+            b"gpl >6005 S00 DA0 R7E",
+        ],
+        Status::Done,
+    ),
+    (
+        "a data stack that is full",
+        b"5",
+        b"S ST @>8372,>C1; PUSH @>8300; END S",
+        &[
+            b"     1 >6000 S00 D9F R7E ST @>8372,>C1 C1 >8372=C1",
+            b"stop 3 at >6003",
+            b"gpl >6003 S00 DC1 R7E",
+        ],
+        Status::Stopped,
+    ),
+    (
+        "a return address over the character's cell",
+        b"5",
+        b"S ST @>8373,>7B; CALL T;T EXIT; END S",
+        &[
+            b"     1 >6000 S00 D9F R7E ST @>8373,>7B C1 >8373=7B",
+            b"     2 >6003 S00 D9F R7B CALL >6006 C3 >8373=7D V1 >00C0=60",
+            b"exit at >6006",
+            b"gpl >6006 S00 D9F R7D",
+        ],
+        Status::Done,
+    ),
+    (
+        "branches and a table of them",
+        b"20",
+        b"S ST @>8300,1; CASE @>8300; BR N;ONE CEQ @>8300,1; BS TWO;N EXIT;TWO CEQ @>8300,2; BR OUT; EXIT;OUT DST V@>3FFF,>1234; EXIT; END S",
+        &[
+            b"     1 >6000 S00 D9F R7E ST @>8300,>01 C1 >8300=01",
+            b"     2 >6003 S00 D9F R7E CASE @>8300",
+            b"     3 >6007 S00 D9F R7E CEQ @>8300,>01 C1 >837C=20",
+            b"     4 >600A S20 D9F R7E BS >600D C1 >837C=00",
+            b"     5 >600D S00 D9F R7E CEQ @>8300,>02",
+            b"     6 >6010 S00 D9F R7E BR >6013",
+            b"     7 >6013 S00 D9F R7E DST V@>3FFF,>1234 V2 >0000=34",
+            b"exit at >6019",
+        ],
+        Status::Done,
+    ),
+    (
+        "a return that keeps the condition, and one that does not",
+        b"9",
+        b"S CZ @>8300; CALL A; CALL B; EXIT;A RTNC;B RTN; END S",
+        &[
+            b"     1 >6000 S00 D9F R7E CZ @>8300 C1 >837C=20",
+            b"     2 >6002 S20 D9F R7E CALL >6009 C3 >8373=80",
+            b"     3 >6009 S20 D9F R80 RTNC C1 >8373=7E",
+            b"     4 >6005 S20 D9F R7E CALL >600A C2 >8373=80",
+            b"     5 >600A S20 D9F R80 RTN C2 >8373=7E",
+            b"exit at >6008",
+        ],
+        Status::Done,
+    ),
+    (
+        "bytes that are copied over themselves, and no bytes",
+        b"5",
+        b"S DST @>8300,>0102; DST @>8302,>0304; MOVE 4,@>8301,@>8300; MOVE 0,V@0,G@>6000; EXIT; END S",
+        &[
+            b"     1 >6000 S00 D9F R7E DST @>8300,>0102 C2 >8300=01",
+            b"     2 >6004 S00 D9F R7E DST @>8302,>0304 C2 >8302=03",
+            b"     3 >6008 S00 D9F R7E MOVE >0004,@>8301,@>8300 C4 >8301=01",
+            b"     4 >600D S00 D9F R7E MOVE >0000,V@>0000,G@>6000",
+            b"exit at >6014",
+        ],
+        Status::Done,
+    ),
+    (
+        "bytes that are copied over the character's cell and its place",
+        b"5",
+        b"S DST @>837E,>0502; MOVE 3,@>837C,G@T; EXIT;T BYTE >20,>41,>01; END S",
+        &[
+            b"     1 >6000 S00 D9F R7E DST @>837E,>0502 C2 >837E=05",
+            b"     2 >6004 S00 D9F R7E MOVE >0003,@>837C,G@>600B C3 >837C=20 V1 >0022=41",
+            b"exit at >600A",
+            b"gpl >600A S20 D9F R7E",
+        ],
+        Status::Done,
+    ),
+    (
+        "bytes across the end of a GROM, by an index, to registers, and over the end of video memory",
+        b"9",
+        b"S DST @>8300,>1FFE; MOVE 3,@>8310,G@>6000(@>8300); MOVE 2,R@6,G@>6000; MOVE 2,V@>3FFF,@>8311; MOVE @>8312,V@0,@>8300; END S",
+        &[
+            b"     1 >6000 S00 D9F R7E DST @>8300,>1FFE C2 >8300=1F",
+            b"     2 >6004 S00 D9F R7E MOVE >0003,@>8310,G@>6000(@>8300) C1 >8312=BF",
+            b"     3 >600B S00 D9F R7E MOVE >0002,R@>06,G@>6000 W1 6=BF",
+            b"     4 >6011 S00 D9F R7E MOVE >0002,V@>3FFF,@>8311 V1 >0000=BF",
+            b"stop 4 at >6018",
+        ],
+        Status::Stopped,
+    ),
+];
+
+#[test]
+fn steps_are_shown(rt: HostRuntime) -> Result<(), Fail> {
+    for (name, limit, source, lines, status) in TRACES {
+        assert!(rt;
+            traces(rt.alloc(), limit, source, lines, *status)?,
+            "{name}"
+        );
+    }
+    Ok(())
+}
+
+/// Whether `trace` shows these lines first, and ends with the status.
+fn traces(
+    alloc: Global,
+    limit: &[u8],
+    statements: &[u8],
+    lines: &[&[u8]],
+    status: Status,
+) -> Result<bool, AllocError> {
+    let ended = traced(alloc, limit, statements, &[])?;
+    let shown = ended.out.bytes().split(|&byte| byte == b'\n');
+    Ok(
+        ended.status == status
+            && ended.err.bytes().is_empty()
+            && shown.zip(lines.iter()).all(|(got, wanted)| got == *wanted),
+    )
+}
+
+/// The source of statements that are apart by semicolons.
+fn source_of(alloc: Global, statements: &[u8]) -> Result<Vec<u8>, AllocError> {
+    let mut source = Vec::new(alloc);
+    for &byte in statements {
+        source.push(if byte == b';' { b'\n' } else { byte })?;
+    }
+    Ok(source)
+}
+
+/// A trace of statements, over an output of which the calls with these numbers fail.
+fn traced(
+    alloc: Global,
+    limit: &[u8],
+    statements: &[u8],
+    put_fails: &[u64],
+) -> Result<Ended, AllocError> {
+    let source = source_of(alloc, statements)?;
+    run(alloc, &[b"trace", limit], source, &[], put_fails)
+}
+
+/// What `play` writes of the step behind the first 23 of the cartridge, as the first that it sees.
+fn played(alloc: Global) -> Option<MemSink> {
+    let source = source_of(alloc, CARTRIDGE).ok()?;
+    if source.len() > 1000 {
+        return None;
+    }
+    let program = gpl_assemble(alloc, source.as_slice()).ok()?;
+    let interpreter = build_interp(alloc).ok()?;
+    let machine = load_interpreter(
+        alloc,
+        &interpreter,
+        program.image.bytes(),
+        program.entry?,
+    ).ok()?;
+    played_behind::<Brand>(alloc, machine, Blank::new(1)).ok()?
+}
+
+/// What `play` writes of the step behind 23 more of a program.
+fn played_behind<L: Ledger>(
+    alloc: Global,
+    machine: Machine,
+    blank: Blank,
+) -> Result<Option<MemSink>, AllocError>
+    requires name { blank.name ≡ L.name }
+    requires parts { blank.parts ≡ L.parts }
+    requires some { 0 < L.parts }
+    requires new { IsNew machine }
+{
+    let mut steps = Steps::<L>::new(blank);
+    let mut session = Session::new(machine, &mut steps);
+    for _ in 0..23 {
+        if !session.is_running() {
+            return Ok(None);
+        }
+        session.next(&mut steps);
+    }
+    if !session.is_running() {
+        return Ok(None);
+    }
+    let mut seen = Seen::new(alloc, session.machine())?;
+    let mut out = MemSink::new(alloc, 200, Vec::new(alloc))?;
+    match play(&mut session, &mut seen, 1, &mut out, &mut steps) {
+        Ok(1) => Ok(Some(out)),
+        _ => Ok(None),
+    }
+}
+
+#[test]
+fn play_begins_where_a_session_stands(rt: HostRuntime) -> Result<(), Fail> {
+    let out = played(rt.alloc());
+    assert!(rt;
+        out.is_some_and(|sink| sink.bytes()
+            == b"     1 >604C SD0 D9F R80 ADD @>8302,>7F C2 >8302=7F\n".as_slice())
+    );
+    Ok(())
+}
+
+#[test]
+fn failed_trace_keeps_its_first_lines(rt: HostRuntime) -> Result<(), Fail> {
+    let ended = traced(rt.alloc(), b"5", TRACES[6].2, &[1])?;
+    assert_eq!(rt; ended.status, Status::WriteFault);
+    assert!(rt;
+        ended.out.bytes() == b"     1 >6000 S00 D9F R7E CALL >6005 C3 >8373=80\n".as_slice()
+    );
+    let ended = traced(rt.alloc(), b"100", CARTRIDGE, &[2])?;
+    assert_eq!(rt; ended.status, Status::WriteFault);
+    assert!(rt;
+        ended.out.bytes()
+            == b"     1 >601E S00 D9F R7E MOVE >0008,R@>00,G@>6016 W5 1=E0\n     2 >6024 S00 D9F R7E ALL >20 V768 >0000=20\n".as_slice()
+    );
+    Ok(())
+}
+
+#[test]
+fn run_is_trace_without_its_lines(rt: HostRuntime) -> Result<(), Fail> {
+    let alloc = rt.alloc();
+    let source = b"S ST @>8300,5\n INC @>8300\n BYTE >0F,>77\n END S\n";
+    let lines =
+        b"     1 >6000 S00 D9F R7E ST @>8300,>05 C1 >8300=05\n     2 >6003 S00 D9F R7E INC @>8300 C2 >8300=06\n";
+    let ran = run(alloc, &[b"run", b"2"], source.to_vec(alloc)?, &[], &[])?;
+    let traced = run(alloc, &[b"trace", b"2"], source.to_vec(alloc)?, &[], &[])?;
+    assert!(rt; traced.out.bytes().strip_prefix(lines.as_slice()) == Some(ran.out.bytes()));
+    Ok(())
+}

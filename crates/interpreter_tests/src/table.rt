@@ -1,0 +1,69 @@
+//! The table of the source's lines and names, beside the words that are shipped.
+
+use line_table::{name_count, name_row, row, row_count};
+use native_interp::interpreter_words;
+use std::test::Fail;
+
+/// Lines by their numbers from 0: the place, how many words there are, and the first of them, else 0. They are the first comment,
+/// the origin, an EQU, the first words, and the last lines.
+const LINES: &[(usize, u16, u8, u16)] = &[
+    (0, 0, 0, 0),
+    (23, 0, 0, 0),
+    (24, 0x2000, 0, 0),
+    (33, 0x2000, 3, 0x2274),
+    (34, 0x2006, 1, 0x22BA),
+    (833, 0x287A, 2, 0x0460),
+    (834, 0x287E, 0, 0),
+];
+
+/// Names by their numbers from 0, and what they stand for: the first EQU, the first place, and the last.
+const NAMES: &[(usize, &[u8], u16)] = &[
+    (0, b"GRMRD", 0x9800),
+    (9, b"TABLE", 0x2008),
+    (153, b"GOBACK", 0x286A),
+];
+
+/// Whether a line has such a row.
+fn is_row(index: usize, place: u16, count: u8, first: u16) -> bool {
+    if index >= row_count() {
+        return false;
+    }
+    let found = row(index);
+    found.place == place && found.count == count && found.words[0] == first
+}
+
+/// Whether a name has such a row.
+fn is_name(index: usize, name: &[u8], value: u16) -> bool {
+    if index >= name_count() {
+        return false;
+    }
+    let found = name_row(index);
+    found.name.as_bytes() == name && found.value == value
+}
+
+/// Whether the words of all rows, one behind the other, are those that are shipped.
+fn words_are_shipped(shipped: &[u16]) -> bool {
+    let mut place = 0;
+    for index in 0..row_count() {
+        let found = row(index);
+        for &word in found.words.iter().take(usize::from(found.count)) {
+            if shipped.get(place) != Some(&word) {
+                return false;
+            }
+            place += 1;
+        }
+    }
+    place == shipped.len()
+}
+
+#[test]
+fn rows_are_those_of_the_source(rt: HostRuntime) -> Result<(), Fail> {
+    for &(index, place, count, first) in LINES {
+        assert!(rt; is_row(index, place, count, first), "line {index}");
+    }
+    for &(index, name, value) in NAMES {
+        assert!(rt; is_name(index, name, value), "name {index}");
+    }
+    assert!(rt; words_are_shipped(interpreter_words()));
+    Ok(())
+}

@@ -1,4 +1,0 @@
-use Rattle.ti_bench.proofs.commands.demo.run_source.Given as goal
-
-abbrev pub ghosts-run_session : goal.ghosts-run_session
-ghosts-run_session a = record { name = a.blank.name; parts = a.blank.parts }

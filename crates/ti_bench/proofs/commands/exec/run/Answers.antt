@@ -1,5 +1,0 @@
-use Rattle.std.proofs.Common.{rules}
-use Rattle.ti_bench.proofs.commands.exec.run.Goals as goal
-
-pub returns : goal.returns
-returns c = search rules

@@ -1,6 +1,0 @@
-use Rattle.program_defs.specs.Programs.{program_of_source}
-use Rattle.ti_bench.proofs.Loading.{source_loaded}
-use Rattle.ti_bench.proofs.commands.program.load_source.Goals as goal
-
-pub returns-in-Ok : goal.returns-in-Ok
-returns-in-Ok c = source_loaded (program_of_source c.args.input.now) _ c.load_image.result c.in-Ok.ensures c.load_image.ensures

@@ -1,4 +1,0 @@
-use Rattle.ti_bench.proofs.commands.trace.trace.Given as goal
-
-abbrev pub ghosts-start_session : goal.ghosts-start_session
-ghosts-start_session a = record { name = a.blank.name; parts = a.blank.parts }
