@@ -1,0 +1,13 @@
+pub mod Keeping
+pub mod Names
+pub mod LaidLonger
+pub mod LeadingLaws
+pub mod Reading
+pub mod TakingLaws
+pub mod LoopLaws
+pub mod FileLaws
+pub mod OneLines
+pub mod ModuleLaws
+pub mod CountLaws
+pub mod SinceLaws
+pub mod RunLaws

@@ -1,0 +1,112 @@
+-- Lines of a file that are taken one after the other.
+use Rattle.std.proofs.Common.{◌≡◌, ℕ, ◌+◌, ◌*◌, ◌≤◌, List, [], ◌∷◌, Some, None, length, refl, sym, ap, ◌∙◌, subst, arith}
+use Rattle.std.specs.Prelude.{Option, IfSome}
+use Rattle.shelf_defs.specs.Files.{Files}
+use Rattle.shelf_defs.specs.Copied.{Place, lines_in, copy_line, one_line}
+use Rattle.asm_core.specs.Building.{IsOpen}
+use Rattle.bench_shelf.specs.States.{ShelfState}
+use Rattle.bench_shelf.specs.declared.copying.Copying.{Copying}
+use Rattle.bench_shelf.specs.declared.copy_error.CopyError.{CopyError}
+use Rattle.source_defs.specs.declared.text.Line.{Line as TextLine}
+use Rattle.source_defs.specs.Lines.{lines}
+use Rattle.shelf_defs.specs.Copied.{most_bytes}
+use Rattle.bench_shelf.specs.Leading.{Leads, IsHeld, HasRoom, Grows, count}
+use Rattle.bench_shelf.specs.Causes.{Later, ReadsOnce}
+use Rattle.bench_shelf.proofs.CountLaws.{few_lines}
+use Rattle.bench_shelf.proofs.LeadingLaws.{leads_none, leads_then, leads_ended, leads_refused}
+
+module _ (levels : ℕ) (file : Option (List ℕ)) where
+  -- what the lines that are left lead to, all lines lead to
+  abbrev pub Follows : Copying → List (ℕ × List ℕ) → Copying → List (ℕ × List ℕ) → Files → Type 0
+  Follows old all now left files =
+      (error : Option CopyError) (last : Copying) → Leads now (lines_in (copy_line files levels) file now.copies left) error last
+      → Leads old (lines_in (copy_line files levels) file old.copies all) error last
+
+  -- the place of a line
+  abbrev pub place_in : ℕ → Place
+  place_in number = record { file = file; line = number }
+
+  abbrev pub Told : Option Files → (Files → Type 0) → Type 0
+  Told told holds = IfSome told holds
+
+  pub follows_first : (told : Option Files) (old : Copying) (all : List (ℕ × List ℕ)) → IfSome told (Follows old all old all)
+  follows_first None old all = tt
+  follows_first (Some files) old all = λ error last leads. leads
+
+  module _ (old now : Copying) (all left : List (ℕ × List ℕ)) where
+    pub all_taken : (told : Option Files) → left ≡ [] → IsOpen now.builder → IfSome told (Follows old all now left)
+        → IfSome told (λ files. Leads old (lines_in (copy_line files levels) file old.copies all) None now)
+    all_taken None none going follows = tt
+    all_taken (Some files) none going follows =
+        follows None now (subst (λ lines. Leads now (lines_in (copy_line files levels) file now.copies lines) None now) (sym none) (leads_none now going))
+
+  module _ (old now mid : Copying) (all rest left : List (ℕ × List ℕ)) (number : ℕ) (text : List ℕ) (first : left ≡ (number, text) ∷ rest) where
+    abbrev OneLeads : Option CopyError → Files → Type 0
+    OneLeads error files = Leads now (one_line (copy_line files levels) (place_in number) now.copies text) error mid
+
+    from_first : (files : Files) → Follows old all now left files → Follows old all now ((number, text) ∷ rest) files
+    from_first files follows = subst (λ lines. Follows old all now lines files) first follows
+
+    pub follows_more : (told then : Option Files) → then ≡ told → IsOpen mid.builder → IfSome told (Follows old all now left)
+        → IfSome then (OneLeads None) → IfSome told (Follows old all mid rest)
+    follows_more None then same going follows leads = tt
+    follows_more (Some files) then same going follows leads =
+        let one : OneLeads None files = subst (λ found. IfSome found (OneLeads None)) same leads in
+        λ error last more. from_first files follows error last
+        (leads_then now mid last (one_line (copy_line files levels) (place_in number) now.copies text)
+        (λ copies. lines_in (copy_line files levels) file copies rest) error going one more)
+
+    pub follows_end : (told then : Option Files) → then ≡ told → (IsOpen mid.builder → ⊥) → IfSome told (Follows old all now left)
+        → IfSome then (OneLeads None) → IfSome told (λ files. Leads old (lines_in (copy_line files levels) file old.copies all) None mid)
+    follows_end None then same closed follows leads = tt
+    follows_end (Some files) then same closed follows leads =
+        let one : OneLeads None files = subst (λ found. IfSome found (OneLeads None)) same leads in
+        from_first files follows None mid
+        (leads_ended now mid (one_line (copy_line files levels) (place_in number) now.copies text)
+        (λ copies. lines_in (copy_line files levels) file copies rest) closed one)
+
+    pub follows_refused : (told then : Option Files) (error : CopyError) → then ≡ told → IfSome told (Follows old all now left)
+        → IfSome then (OneLeads (Some error)) → IfSome told (λ files. Leads old (lines_in (copy_line files levels) file old.copies all) (Some error) mid)
+    follows_refused None then error same follows leads = tt
+    follows_refused (Some files) then error same follows leads =
+        let one : OneLeads (Some error) files = subst (λ found. IfSome found (OneLeads (Some error))) same leads in
+        from_first files follows (Some error) mid
+        (leads_refused now mid mid (one_line (copy_line files levels) (place_in number) now.copies text)
+        (λ copies. lines_in (copy_line files levels) file copies rest) error one)
+
+-- what is later than a later shelf
+pub later_then : (a b c : ShelfState) → Later a b → Later b c → Later a c
+later_then a b c first then = record {
+  files = then.files ∙ first.files;
+  faults = omega (arith, first.faults, then.faults);
+  misses = omega (arith, first.misses, then.misses);
+  taken = omega (arith, first.taken, then.taken);
+}
+
+-- the lines that were taken so far, and those that are left of a text
+pub record Counts (text : List ℕ) (old now : Copying) (left : List TextLine) : Type 0 where
+  pub held : IsHeld now
+  pub few : count now + length left + most_bytes * old.copies ≤ count old + length text + most_bytes * now.copies
+
+pub counts_first : (text : List ℕ) (old : Copying) (left : List TextLine) → HasRoom (length text) old → left ≡ lines text → Counts text old old left
+counts_first text old left room is = record { held = room.held; few = omega (arith, few_lines text, ap length is) }
+
+pub once_first : (text : List ℕ) (old : Copying) (s : ShelfState) → HasRoom (length text) old → ReadsOnce old old s s
+once_first text old s room = record { copies = omega arith; most = room.copies; bytes = omega arith }
+
+pub room_left : (text : List ℕ) (old now : Copying) (s t : ShelfState) (left rest : List TextLine) (line : TextLine) → HasRoom (length text) old
+    → Counts text old now left → ReadsOnce old now s t → left ≡ line ∷ rest → HasRoom 1 now
+room_left text old now s t left rest line room counts once is =
+    record { held = counts.held; copies = once.most; room = omega (arith, room.room, counts.few, once.copies, once.most, ap length is) }
+
+pub counts_more : (text : List ℕ) (old now mid : Copying) (left rest : List TextLine) (line : TextLine) → Counts text old now left → left ≡ line ∷ rest
+    → Grows 1 now mid → Counts text old mid rest
+counts_more text old now mid left rest line counts is grows =
+    record { held = grows.held; few = omega (arith, counts.few, grows.few, grows.copies, ap length is) }
+
+pub counts_grow : (text : List ℕ) (old now : Copying) (s t : ShelfState) (left : List TextLine) → Counts text old now left → ReadsOnce old now s t
+    → Grows (length text) old now
+counts_grow text old now s t left counts once = record { held = counts.held; copies = once.copies; few = omega (arith, counts.few) }
+
+pub later_first : (a : ShelfState) → Later a a
+later_first a = record { files = refl; faults = omega arith; misses = omega arith; taken = omega arith }

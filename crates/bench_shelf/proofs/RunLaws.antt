@@ -1,0 +1,87 @@
+-- Places that are kept by runs.
+use Rattle.std.proofs.Common.{◌≡◌, ℕ, zero, suc, ◌+◌, ◌-◌, ◌<◌, ◌≤◌, List, [], ◌∷◌, ◌++◌, Some, length, drop, get_or, refl, sym, ap, ◌∙◌, arith, append_assoc, append-nil}
+use Rattle.std.specs.Prelude.{Option, slice_get}
+use Rattle.std.specs.Option.{unwrap_or}
+use Rattle.std.proofs.lemmas.List.{drop_more}
+use Rattle.shelf_defs.specs.Copied as spec
+use Rattle.bench_shelf.specs.declared.place.Place.{Place}
+use Rattle.bench_shelf.specs.declared.run.Run.{Run}
+use Rattle.bench_shelf.specs.CopyAnswers.{defined_place}
+use Rattle.bench_shelf.specs.Runs.{places_from, run_places, places_of, ComesNext}
+
+-- one place more
+from_more : (file : Option (List ℕ)) (line count : ℕ)
+    → places_from file line (suc count) ≡ places_from file line count ++ record { file = file; line = line + count } ∷ []
+from_more file line zero =
+    let here : line ≡ line + 0 = omega arith in
+    ap (λ n. record { file = file; line = n } ∷ []) here
+from_more file line (suc count) =
+    let next : line + 1 + count ≡ line + suc count = omega arith in
+    ap (λ others. record { file = file; line = line } ∷ others) (from_more file (line + 1) count
+    ∙ ap (λ n. places_from file (line + 1) count ++ record { file = file; line = n } ∷ []) next)
+
+of_append : (first others : List Run) → places_of (first ++ others) ≡ places_of first ++ places_of others
+of_append [] others = refl
+of_append (run ∷ first) others =
+    ap (λ places. run_places run ++ places) (of_append first others) ∙ sym (append_assoc (run_places run) (places_of first) (places_of others))
+
+of_last : (first : List Run) (run : Run) → places_of (first ++ run ∷ []) ≡ places_of first ++ run_places run
+of_last first run = of_append first (run ∷ []) ∙ ap (λ places. places_of first ++ places) (append-nil (run_places run))
+
+-- the last run with the place that comes next
+pub places_next : (old mid new : List Run) (last longer : Run) (place : Place) → old ≡ mid ++ last ∷ [] → ComesNext last place
+    → longer.file ≡ last.file → longer.line ≡ last.line → longer.count ≡ last.count + 1 → new ≡ mid ++ longer ∷ []
+    → places_of new ≡ places_of old ++ defined_place place ∷ []
+places_next old mid new last longer place was next same first count is =
+    let file = last.file in
+    let line = last.line in
+    let more : suc last.count ≡ last.count + 1 = omega arith in
+    let place_is : record { file = file; line = line + last.count } ≡ defined_place place =
+    ap (λ (found : Option (List ℕ)). record { file = found; line = line + last.count }) next.file
+    ∙ ap (λ n. record { file = place.file; line = n }) next.line in
+    let run_is : run_places longer ≡ run_places last ++ defined_place place ∷ [] =
+    ap (λ (found : Option (List ℕ)). places_from found longer.line longer.count) same
+    ∙ ap (λ n. places_from file n longer.count) first
+    ∙ (ap (λ n. places_from file line n) (count ∙ sym more)
+    ∙ (from_more file line last.count ∙ ap (λ (found : spec.Place). run_places last ++ found ∷ []) place_is)) in
+    ap places_of is
+    ∙ (of_last mid longer
+    ∙ (ap (λ places. places_of mid ++ places) run_is
+    ∙ (sym (append_assoc (places_of mid) (run_places last) (defined_place place ∷ []))
+    ∙ ap (λ places. places ++ defined_place place ∷ []) (sym (of_last mid last) ∙ sym (ap places_of was)))))
+
+-- a place of a run, and one behind it
+get_in : (file : Option (List ℕ)) (line count left : ℕ) (others : List spec.Place) → left < count
+    → slice_get (places_from file line count ++ others) left ≡ Some (record { file = file; line = line + left })
+get_in file line zero left others lt = absurd (omega (arith, lt))
+get_in file line (suc count) zero others lt = let here : line ≡ line + 0 = omega arith in ap (λ n. Some (record { file = file; line = n })) here
+get_in file line (suc count) (suc left) others lt =
+    let next : line + 1 + left ≡ line + suc left = omega arith in
+    get_in file (line + 1) count left others (omega (arith, lt)) ∙ ap (λ n. Some (record { file = file; line = n })) next
+
+get_behind : (file : Option (List ℕ)) (line count left : ℕ) (others : List spec.Place) → count ≤ left
+    → slice_get (places_from file line count ++ others) left ≡ slice_get others (left - count)
+get_behind file line zero left others le = let here : left ≡ left - 0 = omega arith in ap (slice_get others) here
+get_behind file line (suc count) zero others le = absurd (omega (arith, le))
+get_behind file line (suc count) (suc left) others le =
+    let next : left - count ≡ suc left - suc count = omega arith in
+    get_behind file (line + 1) count left others (omega (arith, le)) ∙ ap (slice_get others) next
+
+-- the place that so many others of the runs stand before
+abbrev pub place_at : spec.Place → List Run → ℕ → spec.Place
+place_at none runs left = unwrap_or (slice_get (places_of runs) left) none
+
+pub at_here : (none : spec.Place) (runs : List Run) (at left line : ℕ) (run : Run) → at < length runs → run ≡ get_or runs at run → left < run.count
+    → line ≡ run.line + left → record { file = run.file; line = line } ≡ place_at none (drop at runs) left
+at_here none runs at left line run lt is inside line_is =
+    let rest : drop at runs ≡ run ∷ drop (at + 1) runs = drop_more runs at run lt ∙ ap (λ (found : Run). found ∷ drop (at + 1) runs) (sym is) in
+    ap (λ n. record { file = run.file; line = n }) line_is
+    ∙ (sym (ap (λ found. unwrap_or found none) (get_in run.file run.line run.count left (places_of (drop (at + 1) runs)) inside))
+    ∙ sym (ap (λ found. place_at none found left) rest))
+
+pub at_behind : (none : spec.Place) (runs : List Run) (at left : ℕ) (run : Run) → at < length runs → run ≡ get_or runs at run → run.count ≤ left
+    → place_at none (drop (at + 1) runs) (left - run.count) ≡ place_at none (drop at runs) left
+at_behind none runs at left run lt is past =
+    let rest : drop at runs ≡ run ∷ drop (at + 1) runs = drop_more runs at run lt ∙ ap (λ (found : Run). found ∷ drop (at + 1) runs) (sym is) in
+    sym (ap (λ found. unwrap_or found none) (get_behind run.file run.line run.count left (places_of (drop (at + 1) runs)) past))
+    ∙ sym (ap (λ found. place_at none found left) rest)

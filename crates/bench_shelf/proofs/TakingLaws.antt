@@ -1,0 +1,165 @@
+-- A line that is taken behind others.
+use Rattle.std.proofs.Common.{◌≡◌, ℕ, ◌+◌, ◌-◌, Bool, true, false, ◌||◌, List, [], ◌∷◌, ◌++◌, None, Ok, Err, length, get_or, refl, sym, ap, ◌∙◌, arith, subst}
+use Rattle.std.specs.Prelude.{⊤, Result, if◌then◌else◌}
+use Rattle.std.proofs.Math.Seq.{get_or-append_seam}
+use Rattle.std.proofs.lemmas.Option.{unwrap_or-slice_get}
+use Rattle.std.proofs.lemmas.List.{length-map}
+use Rattle.source_defs.specs.declared.causes.ExprError.TheVariants as expr
+use Rattle.source_defs.specs.Refusals.{Refusal, ◌>>=◌, at_line}
+use Rattle.source_defs.specs.Layout.{laid, numbered, has_ended}
+use Rattle.source_defs.proofs.LaidLaws.{laid_more, last_line}
+use Rattle.asm_defs.specs.declared.causes.FormError.TheVariants as form
+use Rattle.module_defs.specs.declared.causes.AsmCause.{AsmCause}
+use Rattle.module_defs.specs.declared.causes.AsmCause.TheVariants as cause
+use Rattle.module_defs.specs.Locations.{Line}
+use Rattle.module_defs.specs.FirstChecks.{check, checked, known_of, line_of}
+use Rattle.module_defs.proofs.CheckLaws.{bound, checked_said}
+use Rattle.shelf_defs.specs.CopyLines.{says_end, ends_source}
+use Rattle.shelf_defs.specs.Copied as spec
+use Rattle.shelf_defs.specs.Copied.{Place, PlacedLine, CopyRefusal, Ending, Open, Ended, Copied, own_line, prepend}
+use Rattle.shelf_defs.specs.Assembly.{texts, places, place_of, in_place, unless_refused, laid_copied}
+use Rattle.asm_checks.specs.Answers.{Causes}
+use Rattle.asm_core.specs.Building.{HasTaken, IsOpen}
+use Rattle.asm_core.specs.Finishing.{RefusesAt}
+use Rattle.asm_core.specs.declared.lines.AsmLines.{AsmLines}
+use Rattle.asm_core.specs.declared.error.AsmError.TheVariants as asm
+use Rattle.bench_shelf.specs.declared.place.Place.{Place as KeptPlace}
+use Rattle.bench_shelf.specs.declared.copying.Copying.{Copying}
+use Rattle.bench_shelf.specs.declared.copy_error.CopyCause.TheVariants.{Asm}
+use Rattle.bench_shelf.specs.CopyAnswers.{defined_place, refused_at, CopyRefuses}
+use Rattle.bench_shelf.specs.Runs.{places_of}
+use Rattle.bench_shelf.specs.Leading.{Holds, EndsAs, GoesOn}
+use Rattle.bench_shelf.proofs.LeadingLaws.{map_append}
+
+-- a refusal of the assembler is the definitions' own
+pub refusal_is : {B : Type 0} (line : ℕ) (refused : AsmCause) (defined : Result B (Refusal AsmCause)) → RefusesAt (asm.At line refused) defined
+    → Causes {B = ⊤} refused (Err refused) × (defined ≡ Err (record { line = line; cause = refused }))
+refusal_is line (cause.Text error) defined refuses = (refl, refuses)
+refusal_is line (cause.Expr expr.BadToken) defined refuses = (refl, refuses)
+refusal_is line (cause.Expr expr.UnknownName) defined refuses = (refl, refuses)
+refusal_is line (cause.Expr expr.BadRelocation) defined refuses = (refl, refuses)
+refusal_is line (cause.Expr expr.TooLarge) defined refuses = (refl, refuses)
+refusal_is line (cause.Expr expr.DivideByZero) defined refuses = (refl, refuses)
+refusal_is line (cause.Form form.UnknownOperation) defined refuses = (refl, refuses)
+refusal_is line (cause.Form form.OperandCount) defined refuses = (refl, refuses)
+refusal_is line (cause.Form form.BadOperand) defined refuses = (refl, refuses)
+refusal_is line (cause.Form form.JumpTooFar) defined refuses = (refl, refuses)
+refusal_is line (cause.Form (form.Expr expr.BadToken)) defined refuses = (refl, refuses)
+refusal_is line (cause.Form (form.Expr expr.UnknownName)) defined refuses = (refl, refuses)
+refusal_is line (cause.Form (form.Expr expr.BadRelocation)) defined refuses = (refl, refuses)
+refusal_is line (cause.Form (form.Expr expr.TooLarge)) defined refuses = (refl, refuses)
+refusal_is line (cause.Form (form.Expr expr.DivideByZero)) defined refuses = (refl, refuses)
+refusal_is line cause.DuplicateLabel defined refuses = (refl, refuses)
+refusal_is line cause.BadDirective defined refuses = (refl, refuses)
+refusal_is line cause.Overflow defined refuses = (refl, refuses)
+refusal_is line cause.Overlap defined refuses = (refl, refuses)
+refusal_is line (cause.Expr expr.Memory) defined refuses = absurd refuses
+refusal_is line (cause.Form form.Memory) defined refuses = absurd refuses
+refusal_is line (cause.Form (form.Expr expr.Memory)) defined refuses = absurd refuses
+
+-- what the first checks let through ends the source where it says so
+last_is : (before : List Line) (number : ℕ) (text : List ℕ) (line : Line) → check before number text ≡ Ok line → line.last ≡ ends_source text
+unfolding ends_source
+last_is before number text line e =
+    let a = bound (checked (known_of before) text) _ line e in
+    let same : line_of number a.0 ≡ line = cc a.2 in
+    sym (ap (λ (line : Line). line.last) same) ∙ sym (ap says_end (checked_said (known_of before) text a.0 a.1))
+
+at_line_ok : {A : Type 0} (number : ℕ) (answer : Result A AsmCause) (found : A) → at_line number answer ≡ Ok found → answer ≡ Ok found
+at_line_ok number (Ok value) found e = cc e
+at_line_ok number (Err refused) found e = cc e
+
+at_line_err : {A : Type 0} (number : ℕ) (answer : Result A AsmCause) (refusal : Refusal AsmCause) → at_line number answer ≡ Err refusal → refusal.line ≡ number
+at_line_err number (Ok value) refusal e = cc e
+at_line_err number (Err refused) refusal e = let same : record { line = number; cause = refused } ≡ refusal = cc e in sym (ap (λ (r : Refusal AsmCause). r.line) same)
+
+open_false : (b : Bool) → (b || false) ≡ b
+open_false true = refl
+open_false false = refl
+
+err_came : {A B : Type 0} (answer : Result A (Refusal AsmCause)) (make : A → B) (refusal : Refusal AsmCause)
+    → (answer >>= λ value. Ok (make value)) ≡ Err refusal → answer ≡ Err refusal
+err_came (Ok value) make refusal e = cc e
+err_came (Err found) make refusal e = cc e
+
+module _ (done : List PlacedLine) (place : Place) (text : List ℕ) where
+  abbrev more : List PlacedLine
+  more = record { place = place; text = text } ∷ []
+
+  abbrev all : List PlacedLine
+  all = done ++ more
+
+  texts_are : texts all ≡ texts done ++ text ∷ []
+  texts_are = map_append (λ line. line.text) done more
+
+  module _ (builder : AsmLines) (taken : HasTaken (texts done) builder) (going : IsOpen builder) where
+    still : has_ended taken.lines ≡ false
+    still = sym taken.behind.ended ∙ going
+
+    whole_is : laid check (numbered 1 (texts done ++ text ∷ [])) ≡ last_line check text taken.lines (1 + length (texts done))
+    whole_is = laid_more check text (texts done) [] 1 (1 + length (texts done)) taken.lines refl taken.laid still
+
+    -- the line was taken
+    ends_by : (new : AsmLines) (b : Bool) → new.ended ≡ b → EndsAs (if b then Ended else Open) new
+    ends_by new true is = λ still_open. (cc (is, still_open))
+    ends_by new false is = is
+
+    pub taken_ends : (new : AsmLines) → HasTaken (texts done ++ text ∷ []) new → EndsAs (if ends_source text then Ended else Open) new
+    taken_ends new behind =
+        let e : last_line check text taken.lines (1 + length (texts done)) ≡ Ok behind.lines = sym whole_is ∙ behind.laid in
+        let a = bound (at_line (1 + length (texts done)) (check taken.lines (1 + length (texts done)) text)) _ behind.lines e in
+        let found : check taken.lines (1 + length (texts done)) text ≡ Ok a.0 =
+        at_line_ok (1 + length (texts done)) (check taken.lines (1 + length (texts done)) text) a.0 a.1 in
+        let lines_are : a.0 ∷ taken.lines ≡ behind.lines = cc a.2 in
+        let last : has_ended behind.lines ≡ ends_source text =
+        sym (ap has_ended lines_are) ∙ (ap (λ b. a.0.last || b) still ∙ (open_false a.0.last ∙ last_is taken.lines _ text a.0 found)) in
+        ends_by new (ends_source text) (behind.behind.ended ∙ last)
+
+    -- or it is refused
+    refused_last : (refusal : Refusal AsmCause) → laid check (numbered 1 (texts done ++ text ∷ [])) ≡ Err refusal → refusal.line ≡ 1 + length (texts done)
+    refused_last refusal e =
+        at_line_err _ (check taken.lines (1 + length (texts done)) text) refusal (err_came _ (λ line. line ∷ taken.lines) refusal (sym whole_is ∙ e))
+
+    size : length (texts done) ≡ length (places done)
+    size = length-map done (λ line. line.text) ∙ sym (length-map done (λ line. line.place))
+
+    last_place : place_of (places all) (1 + length (texts done)) ≡ place
+    last_place =
+        let at : 1 + length (texts done) - 1 ≡ length (places done) = omega (arith, size) in
+        let none : Place = record { file = None; line = 1 + length (texts done) } in
+        unwrap_or-slice_get (places all) (1 + length (texts done) - 1) none
+        ∙ (ap (λ n. get_or (places all) n none) at
+        ∙ (ap (λ (found : List Place). get_or found (length (places done)) none) (map_append (λ line. line.place) done more)
+        ∙ get_or-append_seam (places done) place [] none))
+
+    laid_refused : (copies : ℕ) (refusal : Refusal AsmCause) → laid check (numbered 1 (texts done ++ text ∷ [])) ≡ Err refusal
+        → laid_copied (prepend done (own_line place copies text)) ≡ Err (spec.At place (spec.Asm refusal.cause))
+    laid_refused copies refusal e =
+        let ending : Ending = if ends_source text then Ended else Open in
+        ap (λ found. in_place all (laid check (numbered 1 found)) >>= λ lines. unless_refused ending lines) texts_are
+        ∙ (ap (λ answer. in_place all answer >>= λ lines. unless_refused ending lines) e
+        ∙ ap (λ place. Err (spec.At place (spec.Asm refusal.cause))) (ap (place_of (places all)) (refused_last refusal e) ∙ last_place))
+
+-- a line that stands for itself and is taken
+pub own_taken : (old new : Copying) (place : KeptPlace) (text : List ℕ) (done : List PlacedLine) → IsOpen old.builder → Holds done old
+    → HasTaken (texts done ++ text ∷ []) new.builder → places_of new.runs.items ≡ places_of old.runs.items ++ defined_place place ∷ [] → new.copies ≡ old.copies
+    → GoesOn done (own_line (defined_place place) old.copies text) new
+own_taken old new place text done going holds taken kept copies = record {
+  holds = record {
+    taken = subst (λ found. HasTaken found new.builder) (sym (texts_are done (defined_place place) text)) taken;
+    places = kept
+        ∙ (ap (λ (found : List Place). found ++ defined_place place ∷ []) holds.places
+        ∙ sym (map_append (λ line. line.place) done (record { place = defined_place place; text = text } ∷ [])));
+  };
+  copies = copies;
+  ending = taken_ends done (defined_place place) text old.builder holds.taken going new.builder taken;
+}
+
+-- and one that the first checks refuse
+pub own_refused : (old : Copying) (place : KeptPlace) (text : List ℕ) (done : List PlacedLine) (number : ℕ) (refused : AsmCause)
+    → IsOpen old.builder → Holds done old
+    → RefusesAt (asm.At number refused) (laid check (numbered 1 (texts done ++ text ∷ [])))
+    → CopyRefuses (refused_at place (Asm refused)) (laid_copied (prepend done (own_line (defined_place place) old.copies text)))
+own_refused old place text done number refused going holds refuses =
+    let is = refusal_is number refused _ refuses in
+    (is.0, laid_refused done (defined_place place) text old.builder holds.taken going old.copies (record { line = number; cause = refused }) is.1)

@@ -1,0 +1,34 @@
+use Rattle.std.proofs.Common.{◌+◌, ◌*◌}
+use Rattle.std.specs.Prelude.{IfSome}
+use Rattle.source_defs.specs.Lines.{LinesLieInside}
+use Rattle.source_defs.specs.Layout.{line_texts}
+use Rattle.source_defs.proofs.LaidLaws.{texts_of}
+use Rattle.asm_core.specs.Building.{IsOpen}
+use Rattle.bench_shelf.specs.Causes.{Later, ReadsOnce}
+use Rattle.bench_shelf.proofs.LoopLaws.{Follows, Counts}
+use Rattle.bench_shelf.specs.KeptLines.{KeepsLines}
+use Rattle.bench_shelf.proofs.copying.Copying.+copying.Given as goal
+
+-- a COPY line leads to files that are one level deeper
+abbrev pub decreases-copy_file : goal.decreases-copy_file
+decreases-copy_file g l = 3 * l.levels
+
+abbrev pub decreases-copy_one : goal.decreases-copy_one
+decreases-copy_one g l = 3 * l.levels + 1
+
+abbrev pub decreases-copy_lines : goal.decreases-copy_lines
+decreases-copy_lines g l = 3 * l.levels + 2
+
+-- some lines were taken, of which none ends the source, and the lines that are left go on from there
+abbrev pub invariant-copy_lines-loop-line : goal.invariant-copy_lines-loop-line
+invariant-copy_lines-loop-line g l =
+    let state = g.F.Shelf.state in
+    (goal.iterator-copy_lines-loop-line g).can_next l.line-iterator
+    × (goal.iterator-copy_lines-loop-line g).is_finite l.line-iterator
+    × IsOpen l.self.builder
+    × Later (state l.fn.shelf) (state l.shelf)
+    × ReadsOnce l.fn.self l.self (state l.fn.shelf) (state l.shelf)
+    × Counts l.text l.fn.self l.self l.line-iterator
+    × LinesLieInside l.text l.line-iterator
+    × IfSome (state l.fn.shelf).files (Follows l.levels l.file l.fn.self (line_texts l.text) l.self (texts_of l.text l.line-iterator))
+    × KeepsLines l.fn.self l.self

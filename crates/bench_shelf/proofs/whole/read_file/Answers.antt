@@ -1,0 +1,111 @@
+use Rattle.std.proofs.Common.{◌≡◌, ◌≤◌, ◌+◌, [], length, take, drop, ◌++◌, ap, ◌∙◌, refl, arith, rules, length-append, length-take}
+use Rattle.std.proofs.lemmas.Result.{err_from_is_err_and}
+use Rattle.std.proofs.lemmas.List.{take-append-le}
+use Rattle.bench_io.proofs.Taking.{took_then, took_more, took_last, rose_since, few_calls}
+use Rattle.bench_shelf.proofs.Keeping.{same_then}
+use Rattle.bench_shelf.proofs.whole.read_file.Goals as goal
+
+pub loop-bytes-preserved : goal.loop-bytes-preserved
+loop-bytes-preserved g c =
+    let count = c.in_ok-count.count in
+    let le : count ≤ length c.take_once.new.buffer = omega (arith, c.in_ok-count.ensures.within, c.take_once.auto.buffer) in
+    let piece = take-append-le count c.take_once.new.buffer (drop c.min-room.result c.loop-bytes.buffer) le in
+    let items = c.in_ok-extend_from_slice.ensures.items ∙ ap (λ x. c.loop-bytes.bytes.items ++ x) piece in
+    let len : length (take count c.take_once.new.buffer) ≡ count = simp length-take (omega arith) in
+    let size : length c.extend_from_slice.new.self.items ≡ length c.loop-bytes.bytes.items + count =
+    ap length items
+    ∙ (length-append c.loop-bytes.bytes.items (take count c.take_once.new.buffer)
+    ∙ ap (λ n. length c.loop-bytes.bytes.items + n) len) in
+    record {
+      took = rw items (took_more _ _ _ _ _ _ (omega arith) c.loop-bytes.invariant.took c.in_ok-count.ensures.took);
+      within = omega (arith, c.loop-bytes.bytes.ok.0);
+      same = same_then _ _ _ c.loop-bytes.invariant.same c.take_once.ensures.same;
+      piece = search rules;
+    }
+
+pub returns-then-count-eq0-clause-ok : goal.returns-then-count-eq0-clause-ok
+returns-then-count-eq0-clause-ok g c =
+    let none = c.if-count-eq0.true in
+    let nothing : take c.in_ok-count.count c.take_once.new.buffer ≡ [] = rw none refl in
+    record {
+      took = took_last _ _ _ _ _ _ nothing (omega arith) c.loop-bytes.invariant.took c.in_ok-count.ensures.took;
+      within = c.loop-bytes.invariant.within;
+      end = c.in_ok-count.ensures.end none;
+    }
+
+pub returns-in_err-count-clause-err : goal.returns-in_err-count-clause-err
+returns-in_err-count-clause-err g c =
+    let p = err_from_is_err_and c.from_residual.result c.from_residual.ensures.1 in
+    rw (p.1, p.2) (
+      c.loop-bytes.bytes.items,
+      c.loop-bytes.invariant.within,
+      took_last _ _ _ _ _ _ refl refl c.loop-bytes.invariant.took c.in_err-count.ensures.failed,
+      rose_since _ _ _ c.loop-bytes.invariant.took.faults c.in_err-count.ensures.cause,
+    )
+
+pub returns-then-limit-len-clause-err : goal.returns-then-limit-len-clause-err
+returns-then-limit-len-clause-err g c =
+    let count = c.in_ok-count.count in
+    let le : count ≤ length c.take_once.new.buffer = omega (arith, c.in_ok-count.ensures.within, c.take_once.auto.buffer) in
+    let len : length (take count c.take_once.new.buffer) ≡ count = simp length-take (omega arith) in
+    let room : length c.loop-bytes.bytes.items + count ≡ c.args.limit + 1 = omega (
+      arith,
+      c.in_ok-count.ensures.within,
+      length-take c.min-room.result c.loop-bytes.buffer,
+      c.if-limit-len.true,
+      c.len.ensures,
+      c.len-in-loop-bytes.ensures,
+      c.min-room.ensures,
+      c.loop-bytes.bytes.ok.0,
+    ) in (
+      c.loop-bytes.bytes.items ++ take count c.take_once.new.buffer,
+      length-append c.loop-bytes.bytes.items (take count c.take_once.new.buffer)
+          ∙ (ap (λ n. length c.loop-bytes.bytes.items + n) len ∙ room),
+      took_more _ _ _ _ _ _ (omega arith) c.loop-bytes.invariant.took c.in_ok-count.ensures.took,
+    )
+
+pub returns-in_err-extend_from_slice-clause-err : goal.returns-in_err-extend_from_slice-clause-err
+returns-in_err-extend_from_slice-clause-err g c =
+    let p = err_from_is_err_and c.from_residual-in_err-extend_from_slice.result c.from_residual-in_err-extend_from_slice.ensures.1 in
+    let count = c.in_ok-count.count in
+    let le : count ≤ length c.take_once.new.buffer = omega (arith, c.in_ok-count.ensures.within, c.take_once.auto.buffer) in
+    let len : length (take count c.take_once.new.buffer) ≡ count = simp length-take (omega arith) in
+    rw (p.1, p.2) (
+      c.loop-bytes.bytes.items ++ take count c.take_once.new.buffer,
+      simp length-append (omega (arith, len, c.loop-bytes.bytes.ok.0)),
+      took_more _ _ _ _ _ _ (omega arith) c.loop-bytes.invariant.took c.in_ok-count.ensures.took,
+    )
+
+pub returns-in_err-count-clause-calls : goal.returns-in_err-count-clause-calls
+returns-in_err-count-clause-calls g c =
+    let took = took_last _ _ _ _ _ _ refl refl c.loop-bytes.invariant.took c.in_err-count.ensures.failed in
+    few_calls _ _ _ _ _ took (omega (arith, c.loop-bytes.invariant.within))
+
+pub returns-then-count-eq0-clause-calls : goal.returns-then-count-eq0-clause-calls
+returns-then-count-eq0-clause-calls g c =
+    let nothing : take c.in_ok-count.count c.take_once.new.buffer ≡ [] = rw c.if-count-eq0.true refl in
+    let took = took_last _ _ _ _ _ _ nothing (omega arith) c.loop-bytes.invariant.took c.in_ok-count.ensures.took in
+    few_calls _ _ _ _ _ took (omega (arith, c.loop-bytes.invariant.within))
+
+pub returns-then-limit-len-clause-calls : goal.returns-then-limit-len-clause-calls
+returns-then-limit-len-clause-calls g c =
+    let count = c.in_ok-count.count in
+    let took = took_then _ _ _ _ _ _ _ c.loop-bytes.invariant.took c.in_ok-count.ensures.took in
+    few_calls _ _ _ _ _ took (simp (length-append, length-take) (omega (
+      arith,
+      c.in_ok-count.ensures.within,
+      length-take c.min-room.result c.loop-bytes.buffer,
+      c.min-room.ensures,
+      c.loop-bytes.bytes.ok.0,
+    )))
+
+pub returns-in_err-extend_from_slice-clause-calls : goal.returns-in_err-extend_from_slice-clause-calls
+returns-in_err-extend_from_slice-clause-calls g c =
+    let took = took_then _ _ _ _ _ _ _ c.loop-bytes.invariant.took c.in_ok-count.ensures.took in
+    few_calls _ _ _ _ _ took (simp (length-append, length-take) (omega (
+      arith,
+      c.in_ok-count.ensures.within,
+      length-take c.min-room.result c.loop-bytes.buffer,
+      c.min-room.ensures,
+      c.loop-bytes.bytes.ok.0,
+    )))

@@ -1,0 +1,45 @@
+-- What the definitions say of a source with the files that it copies, and the answers to it.
+use Rattle.std.specs.Prelude.{◌≡◌, ⊤, Result, Ok, Err}
+use Rattle.shelf_defs.specs.Copied as spec
+use Rattle.shelf_defs.specs.Copied.{CopyRefusal}
+use Rattle.object_defs.specs.Modules as object
+use Rattle.object_tags.specs.Seen.{defined_module}
+use Rattle.object_tags.specs.declared.parts.Module.{Module}
+use Rattle.asm_checks.specs.Answers.{Causes}
+use Rattle.bench_shelf.specs.declared.place.Place.{Place}
+use Rattle.bench_shelf.specs.declared.copy_error.CopyCause.{CopyCause}
+use Rattle.bench_shelf.specs.declared.copy_error.CopyCause.TheVariants.{Asm, BadCopy, TooDeep, TooMany, Missing}
+use Rattle.bench_shelf.specs.declared.copy_error.CopyError.{CopyError}
+use Rattle.bench_shelf.specs.declared.copy_error.CopyError.TheVariants.{At, TooLarge, Fault, Memory}
+
+abbrev pub defined_place : Place → spec.Place
+defined_place place = record { file = place.file; line = place.line }
+
+abbrev pub defined_cause : CopyCause → spec.Cause
+defined_cause (Asm cause) = spec.Asm cause
+defined_cause BadCopy = spec.BadCopy
+defined_cause TooDeep = spec.TooDeep
+defined_cause TooMany = spec.TooMany
+defined_cause (Missing name) = spec.Missing name
+
+-- the error of a line at a place
+abbrev pub refused_at : Place → CopyCause → CopyError
+refused_at place cause = At place.file place.line cause
+
+-- no cause of the assembler stands for want of memory
+abbrev pub IsNoMemory : CopyCause → Type 0
+IsNoMemory (Asm cause) = Causes {B = ⊤} cause (Err cause)
+IsNoMemory cause = ⊤
+
+-- The definitions refuse a source for this cause. Of a shelf that failed and of want of memory they say nothing.
+abbrev pub CopyRefuses : {B : Type 0} → CopyError → Result B CopyRefusal → Type 0
+CopyRefuses (At file line cause) defined =
+    IsNoMemory cause × (defined ≡ Err (spec.At (record { file = file; line = line }) (defined_cause cause)))
+CopyRefuses TooLarge defined = defined ≡ Err spec.TooLarge
+CopyRefuses Fault defined = ⊤
+CopyRefuses Memory defined = ⊤
+
+-- the module that is defined, or the refusal
+abbrev pub GivesCopied : Result Module CopyError → Result object.Module CopyRefusal → Type 0
+GivesCopied (Ok found) defined = defined ≡ Ok (defined_module found)
+GivesCopied (Err error) defined = CopyRefuses error defined

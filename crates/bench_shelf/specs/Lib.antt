@@ -1,0 +1,12 @@
+pub mod Padding
+pub mod States
+pub mod Opening
+pub mod Reading
+pub mod MemoryShelf
+pub mod FolderShelf
+pub mod Asking
+pub mod CopyAnswers
+pub mod Leading
+pub mod Causes
+pub mod KeptLines
+pub mod Runs

@@ -1,0 +1,28 @@
+-- What opening a file does to a shelf.
+use Rattle.std.specs.Prelude.{◌≡◌, ℕ, List, Option, Some, None, IfSome}
+use Rattle.std.specs.FinMap.{get}
+use Rattle.count_defs.specs.Counts.{Rose}
+use Rattle.bench_io.specs.Stream.{SourceState}
+use Rattle.shelf_defs.specs.Files.{Files}
+use Rattle.bench_shelf.specs.States.{ShelfState}
+use Rattle.bench_shelf.specs.declared.error.OpenError.{OpenError}
+use Rattle.bench_shelf.specs.declared.error.OpenError.TheVariants.{Failed, Missing}
+
+-- what is left after a file was opened: its bytes, where the files are told
+abbrev pub Opens : Option Files → List ℕ → Option (List ℕ) → Type 0
+Opens told name left = IfSome told (λ files. (bytes : List ℕ) × (get files name ≡ Some bytes) × (left ≡ Some bytes))
+
+-- no file has the name, where the files are told
+abbrev pub IsMissing : Option Files → List ℕ → Type 0
+IsMissing told name = IfSome told (λ files. get files name ≡ None)
+
+-- why a file was not opened: the shelf failed, or the name was missing
+abbrev pub Refuses : OpenError → ShelfState → ShelfState → List ℕ → Type 0
+Refuses Failed before after name = Rose before.source.faults after.source.faults
+Refuses Missing before after name = Rose before.misses after.misses × IsMissing before.files name
+
+-- the counts of a source other than that of faults stand as before
+pub record SameCounts (before after : SourceState) : Type 0 where
+  pub calls : after.calls ≡ before.calls
+  pub taken : after.taken ≡ before.taken
+  pub empty : after.empty ≡ before.empty

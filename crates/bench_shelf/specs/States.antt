@@ -1,0 +1,46 @@
+-- What a shelf of files has, and what it counts.
+use Rattle.std.specs.Prelude.{ℕ, List, Option, Some}
+use Rattle.std.specs.FinMap.{from_entries}
+use Rattle.bench_io.specs.Stream.{SourceState}
+use Rattle.shelf_defs.specs.Files.{Files}
+
+-- A shelf: what is left of the open file, with the counts of a source; how often a name was not among the files; and
+-- the files, where the shelf tells them.
+pub record ShelfState : Type 0 where
+  pub source : SourceState
+  pub misses : ℕ
+  pub files : Option Files
+
+-- A shelf in memory: its files by name, where the first of equal names counts; what is left of the open one; the number
+-- of calls of `open_file` and `take` together, and of calls of `take` alone; the bytes given; the calls of `take` that
+-- gave none; the numbers from 0 of the calls that fail; and how many have failed, and how many names were missing.
+pub record Shelved : Type 0 where
+  pub files : List (List ℕ × List ℕ)
+  pub left : List ℕ
+  pub requests : ℕ
+  pub calls : ℕ
+  pub taken : ℕ
+  pub empty : ℕ
+  pub fails : List ℕ
+  pub faults : ℕ
+  pub misses : ℕ
+
+-- files by their names; the first of equal names counts
+abbrev pub by_name : List (List ℕ × List ℕ) → Files
+by_name files = from_entries files
+
+-- a shelf in memory as a shelf that tells its files
+abbrev pub told : Shelved → ShelfState
+told shelf =
+    record {
+      source =
+          record {
+            left = Some shelf.left;
+            calls = shelf.calls;
+            taken = shelf.taken;
+            empty = shelf.empty;
+            faults = shelf.faults;
+          };
+      misses = shelf.misses;
+      files = Some (by_name shelf.files);
+    }

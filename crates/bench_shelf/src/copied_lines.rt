@@ -1,0 +1,125 @@
+//! Lines with the lines of the files that they copy.
+
+ghost use Rattle.std.specs.Prelude.{◌≡◌, OnOk, IfSome, IfErr, length};
+ghost use Rattle.source_defs.specs.Layout.{line_texts};
+ghost use Rattle.shelf_defs.specs.Copied as spec;
+ghost use Rattle.asm_core.specs.Building.{IsOpen};
+ghost use Rattle.bench_shelf.specs.CopyAnswers.{defined_place};
+ghost use Rattle.bench_shelf.specs.Leading.{Leads, HasRoom, Grows, trouble};
+ghost use Rattle.bench_shelf.specs.Causes.{Later, ShelfCauses, ReadsOnce};
+ghost use Rattle.bench_shelf.specs.KeptLines.{KeepsLines};
+
+use crate::copy_error::{CopyCause, CopyError};
+use crate::copy_line::{Asked, asked_by};
+use crate::copying::Copying;
+use crate::file_name::FileName;
+use crate::named_file::read_named;
+use crate::place::Place;
+use crate::shelf::Shelf;
+use asm_text::{lines, part};
+
+/// The most COPY lines of a source with its files.
+const MOST_COPIES: u32 = 64;
+
+impl Copying {
+    /// Takes the lines of a file, or of the source itself, with those of the files that they copy, which may be copied
+    /// `levels` deep. It ends behind a line that ends the source.
+    ///
+    /// # Errors
+    /// The first line that is refused, or why a file was not read.
+    #[cycle(copying)]
+    #[tactic(auto, using(crate::proofs::LoopLaws::room_left))]
+    pub(crate) fn copy_lines<F: Shelf>(
+        &mut self,
+        shelf: &mut F,
+        levels: u32,
+        file: &Option<FileName>,
+        text: &[u8],
+    ) -> Result<(), CopyError>
+        requires going { IsOpen self.old.builder }
+        requires room { HasRoom (length text.now) self.old }
+        ensures leads { IfSome (F.state shelf.old).files (λ files. Leads self.old
+            (spec.lines_in (spec.copy_line files levels) file.now self.old.copies (line_texts text.now))
+            (trouble result) self.new) }
+        ensures causes { IfErr result (λ error. ShelfCauses error (F.state shelf.old) (F.state shelf.new)) }
+        ensures later { Later (F.state shelf.old) (F.state shelf.new) }
+        ensures grows { OnOk result (Grows (length text.now) self.old self.new) }
+        ensures once { ReadsOnce self.old self.new (F.state shelf.old) (F.state shelf.new) }
+        ensures kept { KeepsLines self.old self.new }
+    {
+        for line in lines(text) {
+            let place = Place {
+                file: *file,
+                line: line.number,
+            };
+            match self.copy_one(shelf, levels, place, part(text, line.span)) {
+                Ok(()) => {}
+                Err(error) => return Err(error),
+            }
+            if self.builder.is_ended() {
+                return Ok(());
+            }
+        }
+        Ok(())
+    }
+
+    /// Takes a line, or the lines of the file that it copies.
+    #[cycle(copying)]
+    fn copy_one<F: Shelf>(
+        &mut self,
+        shelf: &mut F,
+        levels: u32,
+        place: Place,
+        text: &[u8],
+    ) -> Result<(), CopyError>
+        requires going { IsOpen self.old.builder }
+        requires room { HasRoom 1 self.old }
+        ensures leads { IfSome (F.state shelf.old).files (λ files. Leads self.old
+            (spec.one_line (spec.copy_line files levels) (defined_place place) self.old.copies text.now)
+            (trouble result) self.new) }
+        ensures causes { IfErr result (λ error. ShelfCauses error (F.state shelf.old) (F.state shelf.new)) }
+        ensures later { Later (F.state shelf.old) (F.state shelf.new) }
+        ensures grows { OnOk result (Grows 1 self.old self.new) }
+        ensures once { ReadsOnce self.old self.new (F.state shelf.old) (F.state shelf.new) }
+        ensures kept { KeepsLines self.old self.new }
+    {
+        match asked_by(text) {
+            Asked::Itself => self.take(place, text),
+            Asked::File(name) => self.copy_file(shelf, levels, place, name),
+            Asked::Bad => Err(place.refused(CopyCause::BadCopy)),
+        }
+    }
+
+    /// Takes the lines of the file that the COPY line at a place names.
+    #[cycle(copying)]
+    fn copy_file<F: Shelf>(
+        &mut self,
+        shelf: &mut F,
+        levels: u32,
+        place: Place,
+        name: FileName,
+    ) -> Result<(), CopyError>
+        requires going { IsOpen self.old.builder }
+        requires room { HasRoom 1 self.old }
+        ensures leads { IfSome (F.state shelf.old).files (λ files. Leads self.old
+            (spec.copy_line files levels (defined_place place) self.old.copies name) (trouble result) self.new) }
+        ensures causes { IfErr result (λ error. ShelfCauses error (F.state shelf.old) (F.state shelf.new)) }
+        ensures later { Later (F.state shelf.old) (F.state shelf.new) }
+        ensures grows { OnOk result (Grows 1 self.old self.new) }
+        ensures once { ReadsOnce self.old self.new (F.state shelf.old) (F.state shelf.new) }
+        ensures kept { KeepsLines self.old self.new }
+    {
+        if levels == 0 {
+            return Err(place.refused(CopyCause::TooDeep));
+        }
+        if self.copies >= MOST_COPIES {
+            return Err(place.refused(CopyCause::TooMany));
+        }
+        self.copies += 1;
+        let bytes = match read_named(self.alloc, shelf, place, &name) {
+            Ok(bytes) => bytes,
+            Err(error) => return Err(error),
+        };
+        self.copy_lines(shelf, levels - 1, &Some(name), bytes.as_slice())
+    }
+}

@@ -1,0 +1,161 @@
+//! The current folder as a shelf.
+
+ghost use Rattle.std.specs.Prelude.{◌≡◌, ◌<◌, ◌≤◌, length, None, IfOk, IfErr, OnOk, OnErr};
+ghost use Rattle.count_defs.specs.Counts.{raised, Rose};
+ghost use Rattle.bench_io.specs.Stream.{empty_calls};
+ghost use Rattle.bench_shelf.specs.FolderShelf.{untold, OpensFrom};
+
+use crate::error::OpenError;
+use crate::file_name::FileName;
+use crate::shelf::Shelf;
+use bench_io::Failed;
+use std::fs::{File, OpenFile};
+use std::io::{ErrorKind, Read};
+use std::marker::Model;
+use std::os::unix::fs::MetadataExt;
+use std::rt::Files;
+use std::{fs, io};
+
+/// The regular files of the current folder by their names. A link is none of them, and neither is a folder, a device or
+/// a pipe: their names are missing, as is a name that no entry has. Each error of the system but that is a fault. To a
+/// caller of the trait it tells nothing of its files.
+#[derive(Drop)]
+pub struct DirShelf<'a, R: Files> {
+    folder: &'a R,
+    file: Option<R::File>,
+    calls: u64,
+    taken: u64,
+    empty: u64,
+    faults: u64,
+    misses: u64,
+}
+
+impl<'a, R: Files> Model for DirShelf<'a, R> {
+    ghost use Rattle.bench_shelf.specs.FolderShelf.{FolderCounts};
+
+    ghost Value = { FolderCounts };
+
+    ghost view = { λ s. record {
+      calls = s.calls;
+      taken = s.taken;
+      empty = s.empty;
+      faults = s.faults;
+      misses = s.misses;
+    } };
+}
+
+impl<'a, R: Files> DirShelf<'a, R> {
+    /// The current folder of a runtime, of which no file is open.
+    pub fn new(folder: &'a R) -> DirShelf<'a, R>
+        ensures { result ≡ record { calls = 0; taken = 0; empty = 0; faults = 0; misses = 0 } }
+    {
+        DirShelf {
+            folder,
+            file: None,
+            calls: 0,
+            taken: 0,
+            empty: 0,
+            faults: 0,
+            misses: 0,
+        }
+    }
+
+    /// Opens a file. A call that is refused raises the count of faults or that of misses by one, and no other call
+    /// does.
+    fn open(&mut self, name: &FileName) -> Result<(), OpenError>
+        ensures { OpensFrom self.old result self.new }
+    {
+        self.file = None;
+        match regular_file(self.folder, name.as_bytes()) {
+            Ok(Some(file)) => {
+                self.file = Some(file);
+                Ok(())
+            }
+            Ok(None) => {
+                self.misses = self.misses.saturating_add(1);
+                Err(OpenError::Missing)
+            }
+            Err(_) => {
+                self.faults = self.faults.saturating_add(1);
+                Err(OpenError::Failed)
+            }
+        }
+    }
+
+    /// Reads from the open file. A call that fails raises the count of faults by one, and no other call does.
+    fn read(&mut self, buffer: &mut [u8]) -> Result<usize, Failed>
+        ensures within { IfOk result (λ count. count ≤ length buffer.old) }
+        ensures cause { OnErr result (Rose self.old.faults self.new.faults) }
+        ensures ok { IfOk result (λ count. self.new ≡ record self.old {
+          calls = raised self.old.calls 1;
+          taken = raised self.old.taken count;
+          empty = raised self.old.empty (empty_calls count);
+        }) }
+        ensures error { OnErr result (self.new ≡ record self.old {
+          calls = raised self.old.calls 1;
+          empty = raised self.old.empty 1;
+          faults = raised self.old.faults 1;
+        }) }
+    {
+        self.calls = self.calls.saturating_add(1);
+        match take_from(&mut self.file, buffer) {
+            Ok(count) => {
+                self.taken = self.taken.saturating_add(count as u64);
+                if count == 0 {
+                    self.empty = self.empty.saturating_add(1);
+                }
+                Ok(count)
+            }
+            Err(_) => {
+                self.empty = self.empty.saturating_add(1);
+                self.faults = self.faults.saturating_add(1);
+                Err(Failed)
+            }
+        }
+    }
+}
+
+impl<'a, R: Files> Shelf for DirShelf<'a, R> {
+    ghost state = { untold };
+
+    fn open_file(&mut self, name: &FileName) -> Result<(), OpenError> {
+        self.open(name)
+    }
+
+    fn take(&mut self, buffer: &mut [u8]) -> Result<usize, Failed> {
+        self.read(buffer)
+    }
+}
+
+/// Reads from a file, where there is one.
+fn take_from<F: Read>(file: &mut Option<F>, buffer: &mut [u8]) -> io::Result<usize>
+    ensures { IfOk result (λ count. count ≤ length buffer.old) }
+{
+    match file {
+        Some(file) => file.read(buffer),
+        None => Ok(0),
+    }
+}
+
+/// The regular file of a name, where there is one. What was opened is the file that was found to be regular, or else it
+/// is none.
+fn regular_file<R: Files>(folder: &R, name: &[u8]) -> io::Result<Option<R::File>> {
+    let Ok(name) = str::from_utf8(name) else {
+        return Ok(None);
+    };
+    let found = match fs::symlink_metadata(folder, name) {
+        Ok(found) => found,
+        Err(error) if error.kind() == ErrorKind::NotFound => return Ok(None),
+        Err(error) => return Err(error),
+    };
+    if !found.is_file() {
+        return Ok(None);
+    }
+    let file = File::open(folder, name)?;
+    let opened = file.metadata()?;
+    if opened.dev() == found.dev() && opened.ino() == found.ino() {
+        Ok(Some(file))
+    } else {
+        Ok(None)
+    }
+}

@@ -1,0 +1,29 @@
+//! Files by name: where they are read from, and a source that copies files.
+#![tactic(auto)]
+
+mod assemble;
+mod copied_lines;
+mod copy_error;
+mod copy_line;
+mod copying;
+mod directory;
+mod error;
+mod file_name;
+mod memory;
+mod named_file;
+mod own_lines;
+mod place;
+mod run;
+mod runs;
+mod shelf;
+mod whole;
+
+pub use crate::assemble::copy_assemble;
+pub use crate::copy_error::{CopyCause, CopyError};
+pub use crate::directory::DirShelf;
+pub use crate::error::OpenError;
+pub use crate::file_name::FileName;
+pub use crate::memory::MemShelf;
+pub use crate::shelf::Shelf;
+pub use crate::whole::read_file;
+pub use bench_io::{Failed, ReadError};

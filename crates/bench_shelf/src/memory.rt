@@ -1,0 +1,240 @@
+//! A shelf in memory.
+
+ghost use Rattle.std.specs.Prelude.{◌≡◌, ◌↔◌, ◌<◌, ◌≤◌, min, [], ◌++◌, length, take, drop, true, false};
+ghost use Rattle.std.specs.Prelude.{IsErr, IfOk, OnOk, OnErr, IfErr, Contains, is_some, Option};
+ghost use Rattle.std.specs.Option.{option_map, unwrap_or};
+ghost use Rattle.count_defs.specs.Counts.{raised, Rose};
+ghost use Rattle.bench_io.specs.Stream.{empty_calls};
+ghost use Rattle.bench_shelf.specs.States.{told};
+ghost use Rattle.bench_shelf.specs.MemoryShelf.{named, bytes_of, OpensIn};
+
+use crate::error::OpenError;
+use crate::file_name::FileName;
+use crate::shelf::Shelf;
+use bench_io::Failed;
+use std::marker::Model;
+
+/// A shelf of files in memory, of which the first of equal names counts. It gives as many bytes at a time as there is
+/// room for, and fails where it is told to.
+#[derive(Debug, Drop)]
+pub struct MemShelf {
+    files: Vec<(FileName, Vec<u8>)>,
+    // The name of the open file, and how many of its bytes are left.
+    current: Option<FileName>,
+    rest: usize,
+    // The number of calls of `open_file` and `take` together.
+    requests: u64,
+    calls: u64,
+    taken: u64,
+    empty: u64,
+    fails: Vec<u64>,
+    faults: u64,
+    misses: u64,
+}
+
+impl Model for MemShelf {
+    ghost use Rattle.bench_shelf.specs.States.{Shelved};
+    ghost use Rattle.bench_shelf.specs.MemoryShelf.{named, open_bytes, left_of, IsWithin};
+
+    ghost Value = { Shelved };
+
+    ghost view = { λ s. record {
+      files = named (λ bytes. bytes.items) s.files.items;
+      left = left_of s.rest (open_bytes (named (λ bytes. bytes.items) s.files.items) s.current);
+      requests = s.requests;
+      calls = s.calls;
+      taken = s.taken;
+      empty = s.empty;
+      fails = s.fails.items;
+      faults = s.faults;
+      misses = s.misses;
+    } };
+
+    ghost invariant = { λ s. IsWithin s.rest (open_bytes (named (λ bytes. bytes.items) s.files.items) s.current) };
+}
+
+impl MemShelf {
+    /// A shelf of these files, of which none is open. Its calls of `open_file` and `take` are numbered together from 0,
+    /// and those whose numbers stand in `fails` fail.
+    pub fn new(files: Vec<(FileName, Vec<u8>)>, fails: Vec<u64>) -> MemShelf
+        ensures { result ≡ record {
+          files = named (λ bytes. bytes.items) files.items;
+          left = [];
+          requests = 0;
+          calls = 0;
+          taken = 0;
+          empty = 0;
+          fails = fails.items;
+          faults = 0;
+          misses = 0;
+        } }
+    {
+        MemShelf {
+            files,
+            current: None,
+            rest: 0,
+            requests: 0,
+            calls: 0,
+            taken: 0,
+            empty: 0,
+            fails,
+            faults: 0,
+            misses: 0,
+        }
+    }
+
+    /// How many calls have failed.
+    pub fn faults(&self) -> u64
+        ensures { result ≡ self.now.faults }
+    {
+        self.faults
+    }
+
+    /// How many names were missing.
+    pub fn misses(&self) -> u64
+        ensures { result ≡ self.now.misses }
+    {
+        self.misses
+    }
+
+    /// Whether the next call fails, which is then counted as made.
+    fn fails_next(&mut self) -> bool
+        ensures fails { (result ≡ true) ↔ Contains self.old.fails self.old.requests }
+        ensures counted { self.new ≡ record self.old { requests = raised self.old.requests 1 } }
+    {
+        let request = self.requests;
+        self.requests = request.saturating_add(1);
+        self.fails.contains(&request)
+    }
+
+    /// Closes the open file.
+    fn close(&mut self)
+        ensures { self.new ≡ record self.old { left = [] } }
+    {
+        self.current = None;
+        self.rest = 0;
+    }
+
+    /// Opens the file of a name and says whether there is one.
+    fn open(&mut self, name: &FileName) -> bool
+        ensures there { result ≡ is_some (bytes_of self.old.files name.now) }
+        ensures opened { (result ≡ true) →
+            self.new ≡ record self.old { left = unwrap_or (bytes_of self.old.files name.now) [] } }
+        ensures missing { (result ≡ false) → self.new ≡ self.old }
+    {
+        match bytes_of(self.files.as_slice(), name) {
+            Some(bytes) => {
+                self.rest = bytes.len();
+                self.current = Some(*name);
+                true
+            }
+            None => false,
+        }
+    }
+
+    /// Goes on behind some bytes of the open file, which are given.
+    fn advance(&mut self, count: usize)
+        requires { count ≤ length self.old.left }
+        ensures { self.new ≡ record self.old {
+          left = drop count self.old.left;
+          taken = raised self.old.taken count;
+          empty = raised self.old.empty (empty_calls count);
+        } }
+    {
+        self.rest -= count;
+        self.taken = self.taken.saturating_add(count as u64);
+        if count == 0 {
+            self.empty = self.empty.saturating_add(1);
+        }
+    }
+
+    /// What is left of the open file.
+    fn left(&self) -> &[u8]
+        ensures { result.now ≡ self.now.left }
+    {
+        match &self.current {
+            Some(name) => match bytes_of(self.files.as_slice(), name) {
+                Some(bytes) => &bytes[bytes.len() - self.rest..],
+                None => &[],
+            },
+            None => &[],
+        }
+    }
+}
+
+impl Shelf for MemShelf {
+    ghost state = { told };
+
+    fn open_file(&mut self, name: &FileName) -> Result<(), OpenError>
+        ensures { OpensIn self.old name.now result self.new }
+    {
+        let fails = self.fails_next();
+        self.close();
+        if fails {
+            self.faults = self.faults.saturating_add(1);
+            return Err(OpenError::Failed);
+        }
+        if self.open(name) {
+            return Ok(());
+        }
+        self.misses = self.misses.saturating_add(1);
+        Err(OpenError::Missing)
+    }
+
+    fn take(&mut self, buffer: &mut [u8]) -> Result<usize, Failed>
+        requires { 0 < length buffer.old }
+        ensures fails { IsErr result ↔ Contains self.old.fails self.old.requests }
+        ensures failed { OnErr result (self.new ≡ record self.old {
+          requests = raised self.old.requests 1;
+          calls = raised self.old.calls 1;
+          empty = raised self.old.empty 1;
+          faults = raised self.old.faults 1;
+        }) }
+        ensures cause { OnErr result (Rose self.old.faults self.new.faults) }
+        ensures count { IfOk result (λ count. count ≡ min (length buffer.old) (length self.old.left)) }
+        ensures bytes { IfOk result (λ count. buffer.new ≡ take count self.old.left ++ drop count buffer.old) }
+        ensures ok { IfOk result (λ count. self.new ≡ record self.old {
+          left = drop count self.old.left;
+          requests = raised self.old.requests 1;
+          calls = raised self.old.calls 1;
+          taken = raised self.old.taken count;
+          empty = raised self.old.empty (empty_calls count);
+        }) }
+    {
+        let fails = self.fails_next();
+        self.calls = self.calls.saturating_add(1);
+        if fails {
+            self.empty = self.empty.saturating_add(1);
+            self.faults = self.faults.saturating_add(1);
+            return Err(Failed);
+        }
+        let count = copy_front(self.left(), buffer);
+        self.advance(count);
+        Ok(count)
+    }
+}
+
+/// The bytes of the first file of a name.
+#[tactic(auto, using(crate::proofs::Names::name_here))]
+fn bytes_of<'a>(files: &'a [(FileName, Vec<u8>)], name: &FileName) -> Option<&'a [u8]>
+    ensures { option_map (λ bytes. bytes.now) result ≡ bytes_of (named (λ bytes. bytes.items) files.now) name.now }
+{
+    let mut rest = files;
+    while let [file, others @ ..] = rest {
+        if *name == file.0 {
+            return Some(file.1.as_slice());
+        }
+        rest = others;
+    }
+    None
+}
+
+/// Copies as many bytes from the front of one list to the front of another as both have room for.
+fn copy_front(from: &[u8], to: &mut [u8]) -> usize
+    ensures count { result ≡ min (length to.old) (length from.now) }
+    ensures bytes { to.new ≡ take result from.now ++ drop result to.old }
+{
+    let count = to.len().min(from.len());
+    to[..count].copy_from_slice(&from[..count]);
+    count
+}

@@ -1,0 +1,80 @@
+//! Lines that stand for themselves.
+
+ghost use Rattle.std.specs.Prelude.{◌≡◌, List, [], OnOk, IfOk, IfErr, length};
+ghost use Rattle.shelf_defs.specs.Copied.{PlacedLine, own_line};
+ghost use Rattle.shelf_defs.specs.Assembly.{texts, in_place};
+ghost use Rattle.module_defs.specs.Modules.{module_of_lines};
+ghost use Rattle.asm_core.specs.Building.{IsOpen};
+ghost use Rattle.object_tags.specs.Seen.{defined_module};
+ghost use Rattle.bench_shelf.specs.CopyAnswers.{defined_place, GivesCopied};
+ghost use Rattle.bench_shelf.specs.Leading.{Holds, Leads, HasRoom, Grows, count, trouble};
+ghost use Rattle.bench_shelf.specs.Causes.{IsOfLine};
+ghost use Rattle.bench_shelf.specs.KeptLines.{HasLines, KeepsLines, IsOfLines};
+
+use crate::copy_error::{CopyCause, CopyError};
+use crate::copying::Copying;
+use crate::place::Place;
+use crate::runs::{note_place, place_of};
+use asm_core::{AsmError, AsmLines};
+use object_tags::Module;
+use std::alloc::Global;
+
+impl Copying {
+    /// No line was taken.
+    pub(crate) fn new(alloc: Global) -> Copying
+        ensures none { Holds [] result }
+        ensures going { IsOpen result.builder }
+        ensures copies { result.copies ≡ 0 }
+        ensures count { count result ≡ 0 }
+        ensures lines { HasLines result }
+    {
+        Copying {
+            alloc,
+            builder: AsmLines::new(alloc),
+            runs: Vec::new(alloc),
+            copies: 0,
+        }
+    }
+
+    /// Takes a line that stands for itself.
+    #[tactic(auto, using(crate::proofs::CountLaws::can_count))]
+    pub(crate) fn take(&mut self, place: Place, text: &[u8]) -> Result<(), CopyError>
+        requires going { IsOpen self.old.builder }
+        requires room { HasRoom 1 self.old }
+        ensures leads { Leads self.old (own_line (defined_place place) self.old.copies text.now)
+            (trouble result) self.new }
+        ensures grows { OnOk result (Grows 1 self.old self.new) }
+        ensures copies { self.new.copies ≡ self.old.copies }
+        ensures causes { IfErr result IsOfLine }
+        ensures kept { KeepsLines self.old self.new }
+    {
+        match self.builder.line(text) {
+            Ok(()) => {}
+            Err(AsmError::At { cause, .. }) => {
+                return Err(place.refused(CopyCause::Asm(cause)));
+            }
+            Err(AsmError::Memory) => return Err(CopyError::Memory),
+        }
+        match note_place(&mut self.runs, place) {
+            Ok(()) => Ok(()),
+            Err(_) => Err(CopyError::Memory),
+        }
+    }
+
+    /// The module of the lines that were taken.
+    pub(crate) fn finish(self) -> Result<Module, CopyError>
+        ensures module { (done : List PlacedLine) → Holds done self →
+            GivesCopied result (in_place done (module_of_lines (texts done))) }
+        ensures causes { IfErr result IsOfLine }
+        ensures lines { HasLines self → IfOk result (λ found. IsOfLines (defined_module found)) }
+    {
+        let Copying { builder, runs, .. } = self;
+        match builder.finish() {
+            Ok(module) => Ok(module),
+            Err(AsmError::At { line, cause }) => {
+                Err(place_of(runs.as_slice(), line).refused(CopyCause::Asm(cause)))
+            }
+            Err(AsmError::Memory) => Err(CopyError::Memory),
+        }
+    }
+}

@@ -1,0 +1,82 @@
+//! The places of lines. Those that stand one behind the other are kept as one run.
+
+ghost use Rattle.std.specs.Prelude.{◌≡◌, ◌++◌, ◌∷◌, [], OnOk, true};
+ghost use Rattle.shelf_defs.specs.Assembly.{place_of};
+ghost use Rattle.bench_shelf.specs.CopyAnswers.{defined_place};
+ghost use Rattle.bench_shelf.specs.Runs.{places_of, ComesNext};
+
+use crate::file_name::FileName;
+use crate::place::Place;
+use crate::run::Run;
+use std::alloc::AllocError;
+
+impl Run {
+    /// Whether a place comes next behind the lines.
+    fn is_next(&self, place: &Place) -> bool
+        ensures { (result ≡ true) → ComesNext self.now place.now }
+    {
+        self.line.checked_add(self.count) == Some(place.line)
+            && self.count < u32::MAX
+            && is_same(&self.file, &place.file)
+    }
+}
+
+/// Whether two lines stand in the same file.
+fn is_same(one: &Option<FileName>, other: &Option<FileName>) -> bool
+    ensures { (result ≡ true) → one.now ≡ other.now }
+{
+    match (one, other) {
+        (None, None) => true,
+        (Some(one), Some(other)) => one.as_bytes() == other.as_bytes(),
+        _ => false,
+    }
+}
+
+/// Notes the place of one more line.
+pub(crate) fn note_place(runs: &mut Vec<Run>, place: Place) -> Result<(), AllocError>
+    ensures { OnOk result (places_of runs.new.items ≡ places_of runs.old.items ++ defined_place place ∷ []) }
+{
+    let Some(last) = runs.pop() else {
+        runs.push(Run {
+            file: place.file,
+            line: place.line,
+            count: 1,
+        })?;
+        return Ok(());
+    };
+    if last.is_next(&place) {
+        runs.push(Run {
+            file: last.file,
+            line: last.line,
+            count: last.count + 1,
+        })?;
+        return Ok(());
+    }
+    runs.push(last)?;
+    runs.push(Run {
+        file: place.file,
+        line: place.line,
+        count: 1,
+    })?;
+    Ok(())
+}
+
+/// The place of a line by its number among all lines, from 1.
+pub(crate) fn place_of(runs: &[Run], number: u32) -> Place
+    ensures { defined_place result ≡ place_of (places_of runs.now) number }
+{
+    let mut left = number.saturating_sub(1);
+    for run in runs {
+        if left < run.count {
+            return Place {
+                file: run.file,
+                line: run.line.saturating_add(left),
+            };
+        }
+        left -= run.count;
+    }
+    Place {
+        file: None,
+        line: number,
+    }
+}

@@ -1,0 +1,84 @@
+-- The report of a source with the files that it copies.
+use Rattle.std.proofs.Common.{◌≡◌, ℕ, List, Some, None, Ok, Err, sym, ap}
+use Rattle.std.specs.Prelude.{Option, Result, IfSome, IfOk}
+use Rattle.source_defs.specs.Refusals.{seen}
+use Rattle.object_defs.specs.Writing.{written}
+use Rattle.object_tags.specs.Seen.{defined_module}
+use Rattle.object_tags.specs.declared.parts.Module.{Module}
+use Rattle.shelf_defs.specs.Files.{Files}
+use Rattle.shelf_defs.specs.Copied as copied
+use Rattle.shelf_defs.specs.Assembly.{module_of_files}
+use Rattle.bench_shelf.specs.States.{ShelfState}
+use Rattle.bench_shelf.specs.CopyAnswers.{GivesCopied, CopyRefuses, defined_cause}
+use Rattle.bench_shelf.specs.Causes.{ShelfCauses}
+use Rattle.bench_shelf.specs.KeptLines.{IsOfLines}
+use Rattle.bench_shelf.specs.declared.copy_error.CopyCause.{CopyCause}
+use Rattle.bench_shelf.specs.declared.copy_error.CopyCause.TheVariants.{Asm, BadCopy, TooDeep, TooMany, Missing}
+use Rattle.bench_shelf.specs.declared.copy_error.CopyError.{CopyError}
+use Rattle.bench_shelf.specs.declared.copy_error.CopyError.TheVariants.{At, TooLarge, Fault, Memory}
+use Rattle.report_defs.specs.declared.status.Status.TheVariants.{Done}
+use Rattle.report_defs.specs.TextLines.{text_lines}
+use Rattle.report_defs.specs.Report.{Whole}
+use Rattle.file_report_defs.specs.Reports.{copy_report}
+use Rattle.file_commands.specs.declared.report.FilesReport.{FilesReport}
+use Rattle.file_commands.specs.declared.report.FilesFailure.{FilesFailure}
+use Rattle.file_commands.specs.Made.{defined_report}
+use Rattle.file_commands.specs.Copying.{copy_refusal}
+use Rattle.file_commands.specs.Reported.{CopyCauses, CopyReported}
+
+module _ (before after : ShelfState) (source : List ℕ) where
+  told_module : (told : Option Files) (found : Module)
+      → IfSome told (λ files. GivesCopied (Ok found) (module_of_files files source))
+      → IfSome told (λ files. Ok (defined_module found) ≡ module_of_files files source)
+  told_module None found gives = tt
+  told_module (Some files) found gives = sym gives
+
+  pub module_reported : (found : Module) (text : List ℕ)
+      → IfSome before.files (λ files. GivesCopied (Ok found) (module_of_files files source))
+      → IsOfLines (defined_module found) → text ≡ written (defined_module found)
+      → CopyReported before after source (Whole Done (text_lines text))
+  module_reported found text gives lines is = record {
+    answer = Ok (defined_module found);
+    told = told_module before.files found gives;
+    causes = lines;
+    is = ap (λ text. Whole Done (text_lines text)) is;
+  }
+
+  told_line : (told : Option Files) (file : Option (List ℕ)) (line : ℕ) (cause : CopyCause)
+      → IfSome told (λ files. CopyRefuses (At file line cause) (module_of_files files source))
+      → IfSome told (λ files. Err (copied.At (record { file = file; line = line }) (defined_cause cause)) ≡ module_of_files files source)
+  told_line None file line cause gives = tt
+  told_line (Some files) file line cause gives = sym gives.1
+
+  line_causes : (file : Option (List ℕ)) (line : ℕ) (cause : CopyCause) → ShelfCauses (At file line cause) before after
+      → CopyCauses (Err (copied.At (record { file = file; line = line }) (defined_cause cause))) before after
+  line_causes file line (Asm cause) causes = tt
+  line_causes file line BadCopy causes = tt
+  line_causes file line TooDeep causes = tt
+  line_causes file line TooMany causes = tt
+  line_causes file line (Missing name) causes = causes
+
+  told_large : (told : Option Files) → IfSome told (λ files. CopyRefuses TooLarge (module_of_files files source))
+      → IfSome told (λ files. Err copied.TooLarge ≡ module_of_files files source)
+  told_large None gives = tt
+  told_large (Some files) gives = sym gives
+
+  pub error_reported : (error : CopyError) (result : Result FilesReport FilesFailure)
+      → IfSome before.files (λ files. CopyRefuses error (module_of_files files source)) → ShelfCauses error before after
+      → seen defined_report result ≡ seen (λ refusal. copy_report (Err refusal)) (copy_refusal error)
+      → IfOk result (λ report. CopyReported before after source (defined_report report))
+  error_reported error (Err failure) gives causes is = tt
+  error_reported (At file line cause) (Ok report) gives causes is = record {
+    answer = Err (copied.At (record { file = file; line = line }) (defined_cause cause));
+    told = told_line before.files file line cause gives;
+    causes = line_causes file line cause causes;
+    is = cc is;
+  }
+  error_reported TooLarge (Ok report) gives causes is = record {
+    answer = Err copied.TooLarge;
+    told = told_large before.files gives;
+    causes = causes;
+    is = cc is;
+  }
+  error_reported Fault (Ok report) gives causes is = cc is
+  error_reported Memory (Ok report) gives causes is = cc is

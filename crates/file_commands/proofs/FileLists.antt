@@ -1,0 +1,142 @@
+-- Files that are read one after the other, and their texts.
+use Rattle.std.proofs.Common.{◌≡◌, ℕ, List, [], ◌∷◌, ◌++◌, Some, None}
+use Rattle.std.proofs.Common.{Ok, Err, sym, ap, ◌∙◌, subst, append_assoc, append-nil}
+use Rattle.std.proofs.lemmas.List.{map-append}
+use Rattle.std.specs.Prelude.{Option, Result, IfSome}
+use Rattle.std.specs.FinMap.{get}
+use Rattle.source_defs.specs.Refusals.{◌>>=◌}
+use Rattle.object_defs.specs.Modules.{Module}
+use Rattle.object_defs.specs.Reading.{read}
+use Rattle.module_defs.proofs.CheckLaws.{bound}
+use Rattle.shelf_defs.specs.Files.{Files}
+use Rattle.file_report_defs.specs.LinkedFiles.{FilesRefusal, InFile, bytes_of, read_files, in_file, modules_of}
+use Rattle.file_commands.specs.declared.file_text.FileText.{FileText}
+use Rattle.file_commands.specs.declared.error.ReadingError.{ReadingError}
+use Rattle.file_commands.specs.declared.error.ReadingError.TheVariants as error
+use Rattle.file_commands.specs.declared.modules.ModulesError.{ModulesError}
+use Rattle.file_commands.specs.declared.modules.ModulesError.TheVariants as broken
+use Rattle.file_commands.specs.Reading.{defined_text, defined_texts, Refuses}
+use Rattle.file_commands.specs.Modules.{RefusesModules}
+
+abbrev Text : Type 0
+Text = List ℕ × List ℕ
+
+abbrev Texts : Type 0
+Texts = Result (List Text) FilesRefusal
+
+abbrev with_others : Texts → Text → Texts
+with_others rest first = rest >>= λ others. Ok (first ∷ others)
+
+module _ (files : Files) where
+  -- one more file is read
+  read_more : (front : List (List ℕ)) (name : List ℕ) (found : List Text) (text : Text)
+      → read_files files front ≡ Ok found
+      → bytes_of name (get files name) ≡ Ok text → read_files files (front ++ name ∷ []) ≡ Ok (found ++ text ∷ [])
+  read_more [] name found text e one =
+      let none : [] ≡ found = cc e in
+      ap (λ (answer : Result Text FilesRefusal). answer >>= with_others (Ok [])) one ∙ ap (λ found. Ok (found ++ text ∷ [])) none
+  read_more (next ∷ front) name found text e one =
+      let a = bound (bytes_of next (get files next)) (with_others (read_files files front)) found e in
+      let b = bound (read_files files front) (λ others. Ok (a.0 ∷ others)) found a.2 in
+      let is : a.0 ∷ b.0 ≡ found = cc b.2 in
+      ap (λ (answer : Result Text FilesRefusal). answer >>= with_others (read_files files (front ++ name ∷ []))) a.1
+      ∙ (ap (λ (rest : Texts). with_others rest a.0) (read_more front name b.0 text b.1 one) ∙ ap (λ found. Ok (found ++ text ∷ [])) is)
+
+  -- the next file is not read
+  read_stop : (front rest : List (List ℕ)) (name : List ℕ) (found : List Text) (refusal : FilesRefusal)
+      → read_files files front ≡ Ok found
+      → bytes_of name (get files name) ≡ Err refusal → read_files files (front ++ name ∷ rest) ≡ Err refusal
+  read_stop [] rest name found refusal e one = ap (λ (answer : Result Text FilesRefusal). answer >>= with_others (read_files files rest)) one
+  read_stop (next ∷ front) rest name found refusal e one =
+      let a = bound (bytes_of next (get files next)) (with_others (read_files files front)) found e in
+      let b = bound (read_files files front) (λ others. Ok (a.0 ∷ others)) found a.2 in
+      ap (λ (answer : Result Text FilesRefusal). answer >>= with_others (read_files files (front ++ name ∷ rest))) a.1
+      ∙ ap (λ (rest : Texts). with_others rest a.0) (read_stop front rest name b.0 refusal b.1 one)
+
+abbrev ReadSoFar : List (List ℕ) → List FileText → Files → Type 0
+ReadSoFar names texts files = read_files files names ≡ Ok (defined_texts texts)
+
+texts_more : (texts : List FileText) (text : FileText)
+    → defined_texts (texts ++ text ∷ []) ≡ defined_texts texts ++ defined_text text ∷ []
+texts_more texts text = map-append defined_text texts (text ∷ [])
+
+pub read_next : (told then : Option Files) (front names : List (List ℕ)) (name : List ℕ) (texts more : List FileText) (text : FileText)
+    → then ≡ told → names ≡ front ++ name ∷ [] → more ≡ texts ++ text ∷ [] → IfSome told (ReadSoFar front texts)
+    → IfSome then (λ files. bytes_of name (get files name) ≡ Ok (defined_text text))
+    → IfSome told (ReadSoFar names more)
+read_next None then front names name texts more text same all longer so_far one = tt
+read_next (Some files) then front names name texts more text same all longer so_far one =
+    let here : bytes_of name (get files name) ≡ Ok (defined_text text) =
+    subst (λ told. IfSome told (λ files. bytes_of name (get files name) ≡ Ok (defined_text text))) same one in
+    ap (read_files files) all
+    ∙ (read_more files front name (defined_texts texts) (defined_text text) so_far here
+    ∙ ap Ok (sym (ap defined_texts longer ∙ texts_more texts text)))
+
+refused_by : {A B : Type 0} (error : ReadingError) (a : Result A FilesRefusal) (b : Result B FilesRefusal)
+    → ((refusal : FilesRefusal) → a ≡ Err refusal → b ≡ Err refusal) → Refuses error a → Refuses error b
+refused_by (error.Missing name) a b same refused = same _ refused
+refused_by error.TooLarge a b same refused = same _ refused
+refused_by error.Fault a b same refused = tt
+refused_by error.Memory a b same refused = tt
+
+pub read_stops : (told then : Option Files) (front rest names : List (List ℕ)) (name : List ℕ) (texts : List FileText) (error : ReadingError)
+    → then ≡ told → names ≡ front ++ name ∷ rest → IfSome told (ReadSoFar front texts)
+    → IfSome then (λ files. Refuses error (bytes_of name (get files name)))
+    → IfSome told (λ files. Refuses error (read_files files names))
+read_stops None then front rest names name texts error same all so_far one = tt
+read_stops (Some files) then front rest names name texts error same all so_far one =
+    let here : Refuses error (bytes_of name (get files name)) =
+    subst (λ told. IfSome told (λ files. Refuses error (bytes_of name (get files name)))) same one in
+    refused_by error (bytes_of name (get files name)) (read_files files names)
+    (λ refusal e. ap (read_files files) all ∙ read_stop files front rest name (defined_texts texts) refusal so_far e) here
+
+abbrev Modules : Type 0
+Modules = Result (List Module) FilesRefusal
+
+abbrev and_others : Modules → List Module → Modules
+and_others rest first = rest >>= λ others. Ok (first ++ others)
+
+-- the modules of one more file
+modules_more : (front : List Text) (text : Text) (found more : List Module) → modules_of front ≡ Ok found
+    → in_file text.0 (read text.1) ≡ Ok more → modules_of (front ++ text ∷ []) ≡ Ok (found ++ more)
+modules_more [] text found more e one =
+    let none : [] ≡ found = cc e in
+    ap (λ (answer : Modules). answer >>= and_others (Ok [])) one ∙ ap Ok (append-nil more ∙ ap (λ found. found ++ more) none)
+modules_more (next ∷ front) text found more e one =
+    let a = bound (in_file next.0 (read next.1)) (and_others (modules_of front)) found e in
+    let b = bound (modules_of front) (λ others. Ok (a.0 ++ others)) found a.2 in
+    let is : a.0 ++ b.0 ≡ found = cc b.2 in
+    ap (λ (answer : Modules). answer >>= and_others (modules_of (front ++ text ∷ []))) a.1
+    ∙ (ap (λ (rest : Modules). and_others rest a.0) (modules_more front text b.0 more b.1 one)
+    ∙ ap Ok (sym (append_assoc a.0 b.0 more) ∙ ap (λ found. found ++ more) is))
+
+-- the next file has a bad place
+modules_stop : (front rest : List Text) (text : Text) (found : List Module) (refusal : FilesRefusal)
+    → modules_of front ≡ Ok found
+    → in_file text.0 (read text.1) ≡ Err refusal → modules_of (front ++ text ∷ rest) ≡ Err refusal
+modules_stop [] rest text found refusal e one = ap (λ (answer : Modules). answer >>= and_others (modules_of rest)) one
+modules_stop (next ∷ front) rest text found refusal e one =
+    let a = bound (in_file next.0 (read next.1)) (and_others (modules_of front)) found e in
+    let b = bound (modules_of front) (λ others. Ok (a.0 ++ others)) found a.2 in
+    ap (λ (answer : Modules). answer >>= and_others (modules_of (front ++ text ∷ rest))) a.1
+    ∙ ap (λ (rest : Modules). and_others rest a.0) (modules_stop front rest text b.0 refusal b.1 one)
+
+pub modules_next : (front texts : List FileText) (text : FileText) (found more all : List Module)
+    → texts ≡ front ++ text ∷ []
+    → all ≡ found ++ more → modules_of (defined_texts front) ≡ Ok found
+    → in_file text.name (read text.bytes.items) ≡ Ok more
+    → modules_of (defined_texts texts) ≡ Ok all
+modules_next front texts text found more all is longer so_far one =
+    ap (λ texts. modules_of (defined_texts texts)) is
+    ∙ (ap modules_of (texts_more front text)
+    ∙ (modules_more (defined_texts front) (defined_text text) found more so_far one ∙ ap Ok (sym longer)))
+
+pub modules_end : (front rest texts : List FileText) (text : FileText) (found : List Module) (error : ModulesError)
+    → texts ≡ front ++ text ∷ rest → modules_of (defined_texts front) ≡ Ok found
+    → RefusesModules error (in_file text.name (read text.bytes.items))
+    → RefusesModules error (modules_of (defined_texts texts))
+modules_end front rest texts text found (broken.InFile name line cause) is so_far refused =
+    ap (λ texts. modules_of (defined_texts texts)) is
+    ∙ (ap modules_of (map-append defined_text front (text ∷ rest))
+    ∙ modules_stop (defined_texts front) (defined_texts rest) (defined_text text) found (InFile name (record { line = line; cause = cause })) so_far refused)
+modules_end front rest texts text found broken.Memory is so_far refused = tt

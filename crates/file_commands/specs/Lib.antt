@@ -1,0 +1,5 @@
+pub mod Made
+pub mod Reported
+pub mod Reading
+pub mod Modules
+pub mod Copying

@@ -1,0 +1,55 @@
+-- What is read of files.
+use Rattle.std.specs.Prelude.{◌≡◌, ⊤, ℕ, List, map, Result, Ok, Err}
+use Rattle.count_defs.specs.Counts.{Rose}
+use Rattle.bench_io.specs.Stream.{SourceState}
+use Rattle.bench_io.specs.ReadAll.{GaveUp}
+use Rattle.bench_io.specs.declared.whole.ReadError.TheVariants as read
+use Rattle.bench_shelf.specs.States.{ShelfState}
+use Rattle.report_defs.specs.Report.{largest_input}
+use Rattle.file_report_defs.specs.LinkedFiles as spec
+use Rattle.file_report_defs.specs.LinkedFiles.{FilesRefusal}
+use Rattle.file_commands.specs.declared.file_text.FileText.{FileText}
+use Rattle.file_commands.specs.declared.error.ReadingError.{ReadingError}
+use Rattle.file_commands.specs.declared.error.ReadingError.TheVariants.{Missing, TooLarge, Fault, Memory}
+use Rattle.file_commands.specs.declared.report.FilesFailure.{FilesFailure}
+use Rattle.file_commands.specs.declared.report.FilesFailure.TheVariants as failure
+use Rattle.file_commands.specs.Reported.{TookMore}
+
+-- a file with its name
+abbrev pub defined_text : FileText → List ℕ × List ℕ
+defined_text text = (text.name, text.bytes.items)
+
+abbrev pub defined_texts : List FileText → List (List ℕ × List ℕ)
+defined_texts texts = map defined_text texts
+
+abbrev pub Refuses : {B : Type 0} → ReadingError → Result B FilesRefusal → Type 0
+Refuses (Missing name) defined = defined ≡ Err (spec.Missing name)
+Refuses TooLarge defined = defined ≡ Err spec.TooLarge
+Refuses Fault defined = ⊤
+Refuses Memory defined = ⊤
+
+-- what is read is what is defined; of a shelf that failed and of want of memory the definitions say nothing
+abbrev pub Gives : {A B : Type 0} → (A → B) → Result A ReadingError → Result B FilesRefusal → Type 0
+Gives see (Ok value) defined = defined ≡ Ok (see value)
+Gives see (Err error) defined = Refuses error defined
+
+-- what an error tells of the shelf
+abbrev pub ErrorCauses : ReadingError → ShelfState → ShelfState → Type 0
+ErrorCauses (Missing name) before after = Rose before.misses after.misses
+ErrorCauses TooLarge before after = TookMore largest_input before after
+ErrorCauses Fault before after = Rose before.source.faults after.source.faults
+ErrorCauses Memory before after = ⊤
+
+-- why the open file was not read whole
+abbrev pub ReadFails : ReadingError → SourceState → SourceState → Type 0
+ReadFails (Missing name) before after = ⊥
+ReadFails TooLarge before after = GaveUp read.TooLarge largest_input before after
+ReadFails Fault before after = ⊤
+ReadFails Memory before after = ⊤
+
+-- the refusal of the definitions; a shelf that failed and want of memory have none
+abbrev pub refusal_of : ReadingError → Result FilesRefusal FilesFailure
+refusal_of (Missing name) = Ok (spec.Missing name)
+refusal_of TooLarge = Ok spec.TooLarge
+refusal_of Fault = Err failure.Fault
+refusal_of Memory = Err failure.Memory

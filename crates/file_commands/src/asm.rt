@@ -1,0 +1,64 @@
+//! `asm` with the files that the source copies.
+
+ghost use Rattle.std.specs.Prelude.{◌≡◌, ◌≤◌, length, Err, IfOk, IfErr};
+ghost use Rattle.source_defs.specs.Refusals.{seen};
+ghost use Rattle.object_defs.specs.Writing.{written};
+ghost use Rattle.object_tags.specs.Seen.{defined_module};
+ghost use Rattle.bench_shelf.specs.Causes.{Later};
+ghost use Rattle.bench_shelf.specs.KeptLines.{IsOfLines};
+ghost use Rattle.report_defs.specs.Report.{largest_input};
+ghost use Rattle.file_report_defs.specs.Reports.{copy_report};
+ghost use Rattle.file_commands.specs.Copying.{copy_refusal};
+ghost use Rattle.file_commands.specs.Made.{defined_report};
+ghost use Rattle.file_commands.specs.Reported.{CopyReported, FailureCauses};
+
+use crate::causes::copy_line;
+use crate::report::{FilesFailure, FilesReport};
+use bench_shelf::{CopyError, Shelf, copy_assemble};
+use object_tags::{Module, write_module};
+use std::alloc::{AllocError, Global};
+
+/// What is to be reported of a source of at most 1,048,576 bytes with the files of a shelf that it copies: the object
+/// text of its module, or the first line that is refused, or that a file is too large. It is the report of the defined
+/// module where the shelf tells its files.
+///
+/// # Errors
+/// `Fault` comes only where the shelf's count of faults rose, and `Memory` is want of memory.
+pub fn asm_files<F: Shelf>(
+    alloc: Global,
+    shelf: &mut F,
+    text: &[u8],
+) -> Result<FilesReport, FilesFailure>
+    requires { length text.now ≤ largest_input }
+    ensures report { IfOk result (λ report.
+        CopyReported (F.state shelf.old) (F.state shelf.new) text.now (defined_report report)) }
+    ensures failure { IfErr result (λ failure. FailureCauses failure (F.state shelf.old) (F.state shelf.new)) }
+    ensures later { Later (F.state shelf.old) (F.state shelf.new) }
+{
+    match copy_assemble(alloc, shelf, text) {
+        Ok(module) => Ok(FilesReport::Text(text_of(alloc, &module)?)),
+        Err(error) => refused(error),
+    }
+}
+
+/// What is to be reported of a source that is refused.
+fn refused(error: CopyError) -> Result<FilesReport, FilesFailure>
+    ensures { seen defined_report result ≡ seen (λ refusal. copy_report (Err refusal)) (copy_refusal error) }
+{
+    match error {
+        CopyError::At { file, line, cause } => Ok(FilesReport::Refused(copy_line(
+            file, line, cause,
+        ))),
+        CopyError::TooLarge => Ok(FilesReport::TooLarge),
+        CopyError::Fault => Err(FilesFailure::Fault),
+        CopyError::Memory => Err(FilesFailure::Memory),
+    }
+}
+
+/// The object text of a module of some lines.
+fn text_of(alloc: Global, module: &Module) -> Result<Vec<u8>, AllocError>
+    requires { IsOfLines (defined_module «module».now) }
+    ensures { IfOk result (λ text. text.items ≡ written (defined_module «module».now)) }
+{
+    write_module(alloc, module)
+}

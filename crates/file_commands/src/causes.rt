@@ -1,0 +1,66 @@
+//! The lines that standard error gets of files.
+
+ghost use Rattle.std.specs.Prelude.{◌≡◌, Some};
+ghost use Rattle.bench_shelf.specs.CopyAnswers.{defined_cause};
+ghost use Rattle.file_report_defs.specs.FileLines as spec;
+ghost use Rattle.report_defs.specs.FaultLine as faults;
+ghost use Rattle.report_defs.specs.ObjectFaults as objects;
+
+use crate::line::{FileLine, in_file, name_bytes};
+use bench_shelf::{CopyCause, FileName};
+use memory_listing::tag_line;
+use object_defs::TagCause;
+use report_lines::{Line, append, append_count, asm_line, refusal_line};
+
+/// The line of a refused line of a source, or of a file that it copies, by its number there, from 1.
+pub fn copy_line(file: Option<FileName>, line: u32, cause: CopyCause) -> FileLine
+    ensures { result.items ≡ spec.place_line (record { file = file; line = line }) (defined_cause cause) }
+{
+    in_file(file, cause_line(line, cause).as_slice())
+}
+
+/// What is said of a refused line, by its number.
+fn cause_line(number: u32, cause: CopyCause) -> Line
+    ensures { result.items ≡ faults.refusal_line number (spec.copy_cause_text (defined_cause cause)) }
+{
+    match cause {
+        CopyCause::Asm(cause) => asm_line(number, cause),
+        CopyCause::BadCopy => refusal_line(number, b"bad directive"),
+        CopyCause::TooDeep => refusal_line(number, b"copy too deep"),
+        CopyCause::TooMany => refusal_line(number, b"too many copies"),
+        CopyCause::Missing(name) => missing_copy_line(number, &name),
+    }
+}
+
+/// What is said of a COPY line that names no file.
+#[tactic(auto, using(std::proofs::Common::append_assoc), unfolding(report_defs::specs::FaultLine::refusal_line))]
+fn missing_copy_line(number: u32, name: &FileName) -> Line
+    ensures { result.items ≡ faults.refusal_line number (spec.missing_text name.now) }
+{
+    let mut line = Line::new();
+    append(&mut line, b"line ");
+    append_count(&mut line, u64::from(number));
+    append(&mut line, b": ");
+    append(&mut line, b"missing ");
+    append(&mut line, name_bytes(name));
+    line.push(b'\n');
+    line
+}
+
+/// The line of a file that is missing.
+pub fn missing_line(name: FileName) -> FileLine
+    ensures { result.items ≡ spec.missing_line name }
+{
+    let mut line = Line::new();
+    append(&mut line, b"missing ");
+    append(&mut line, name_bytes(&name));
+    line.push(b'\n');
+    in_file(None, line.as_slice())
+}
+
+/// The line of a bad place in a file of object text, by the number of its line, from 1.
+pub fn file_tag_line(name: FileName, line: u32, cause: TagCause) -> FileLine
+    ensures { result.items ≡ spec.in_file (Some name) (objects.tag_line (record { line = line; cause = cause })) }
+{
+    in_file(Some(name), tag_line(line, cause).as_slice())
+}

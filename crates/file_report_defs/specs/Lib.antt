@@ -1,0 +1,5 @@
+pub mod Words
+pub mod FileLines
+pub mod LinkedFiles
+pub mod Watching
+pub mod Reports

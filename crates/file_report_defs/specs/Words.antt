@@ -1,0 +1,100 @@
+-- The words of the program's command line.
+use Rattle.std.specs.Prelude.{◌≡◌, ℕ, ◌+◌, ◌-◌, ◌==◌, Bool, true, not, ◌&&◌, nat_eq, nat_lt, nat_le, if◌then◌else◌}
+use Rattle.std.specs.Prelude.{List, [], ◌∷◌, ◌++◌}
+use Rattle.std.specs.Prelude.{length, take, drop, slice_index, codes, Option, Some, None}
+use Rattle.std.specs.Option.{option_map, option_and_then}
+use Rattle.std.specs.List.{list_all}
+use Rattle.source_defs.specs.Numbers.{hexadecimal_number}
+use Rattle.gpl_defs.specs.declared.instruction.Space.{Space}
+use Rattle.gpl_defs.specs.declared.instruction.Space.TheVariants.{Cpu, Vdp}
+use Rattle.shelf_defs.specs.Files.{is_file_name}
+use Rattle.watch_defs.specs.declared.item.Item.{Item}
+use Rattle.watch_defs.specs.declared.item.Item.TheVariants.{Range, Pc}
+use Rattle.watch_defs.specs.Items.{base_of, size_of}
+use Rattle.report_defs.specs.declared.command.Command.{Command}
+use Rattle.report_defs.specs.declared.command.Command.TheVariants as command
+use Rattle.report_defs.specs.Commands.{same_word, number_word, most_steps, address_word, command_of}
+
+-- What the words say: `asm`, whose source may copy files; `link` with names of files; `watch` with a number of steps
+-- and with
+-- items; or another command, which reads no file.
+pub data ProgramCommand : Type 0 where
+  AsmFiles : ProgramCommand
+  LinkFiles : List (List ℕ) → ProgramCommand
+  Watch : ℕ → List Item → ProgramCommand
+  Plain : Command → ProgramCommand
+
+-- Profile: `link` takes up to 16 names of files.
+abbrev pub most_files : ℕ
+most_files = 16
+
+abbrev pub are_file_names : List (List ℕ) → Bool
+are_file_names words = nat_le (length words) most_files && list_all is_file_name words
+
+abbrev pub link_command : List (List ℕ) → Option ProgramCommand
+link_command words = if are_file_names words then Some (LinkFiles words) else None
+
+-- Profile: a range is an address, `+`, and its size, a decimal number from 1 on without a leading zero.
+abbrev pub size_word : List ℕ → Option ℕ
+size_word text = if nat_eq (slice_index text 0) 0x2B then number_word 0x4000 (drop 1 text) else None
+
+abbrev pub range_in : Space → ℕ → ℕ → Option Item
+range_in space at size =
+    if nat_le 1 size && nat_le (base_of space) at && nat_le (at + size) (base_of space + size_of space)
+    then Some (Range space at size)
+    else None
+
+abbrev pub range_word : Space → List ℕ → Option Item
+range_word space text =
+    option_and_then (λ at. option_and_then (λ size. range_in space at size) (size_word (drop 4 text)))
+    (address_word (take 4 text))
+
+-- Profile: an item is `pad:AAAA+LEN` or `vdp:AAAA+LEN`, a range in what a program sees, or `pc:AAAA`.
+abbrev pub item_word : List ℕ → Option Item
+item_word word =
+    if same_word (take 4 word) (codes "pad:") then range_word Cpu (drop 4 word)
+    else if same_word (take 4 word) (codes "vdp:") then range_word Vdp (drop 4 word)
+    else if same_word (take 3 word) (codes "pc:") then option_map Pc (address_word (drop 3 word))
+    else None
+
+abbrev pub item_words : List (List ℕ) → Option (List Item)
+item_words [] = Some []
+item_words (word ∷ words) =
+    option_and_then (λ item. option_map (λ items. item ∷ items) (item_words words)) (item_word word)
+
+-- Profile: one to eight items are watched.
+abbrev pub most_items : ℕ
+most_items = 8
+
+abbrev pub watched_command : List (List ℕ) → ℕ → Option ProgramCommand
+watched_command words limit =
+    if nat_le 1 (length words) && nat_le (length words) most_items
+    then option_map (Watch limit) (item_words words)
+    else None
+
+abbrev pub watch_command : List (List ℕ) → Option ProgramCommand
+watch_command [] = None
+watch_command (word ∷ words) = option_and_then (watched_command words) (number_word most_steps word)
+
+-- a command over one input; `asm` alone reads files beside it
+abbrev pub over_input : Command → ProgramCommand
+over_input command.Asm = AsmFiles
+over_input found = Plain found
+
+abbrev pub input_command : List (List ℕ) → Option ProgramCommand
+input_command words = option_map over_input (command_of words)
+
+-- Profile: words in any other shape are no command.
+abbrev pub program_command : List (List ℕ) → Option ProgramCommand
+program_command [] = None
+program_command (name ∷ []) = input_command (name ∷ [])
+program_command (name ∷ word ∷ words) =
+    if same_word name (codes "link") then link_command (word ∷ words)
+    else if same_word name (codes "watch") then watch_command (word ∷ words)
+    else input_command (name ∷ word ∷ words)
+
+-- Profile: words that are no command are answered by how the program is called.
+unfoldable pub program_usage : List ℕ
+program_usage =
+    codes "usage: ti_bench asm|link [NAME ...]|dis ADDR|exec N|gasm|gdis ADDR|interp|run N|trace N|demo K"
+    ++ codes "|watch N ITEM ...\n"

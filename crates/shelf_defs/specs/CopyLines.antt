@@ -1,0 +1,72 @@
+-- Lines that copy a file.
+--
+-- Editor/Assembler manual, "Copy File": COPY takes the lines of a file in its place.
+-- Profile: it has no label, and its operand is the name of a file, as written, in a pair of single or double quotes.
+use Rattle.std.specs.Prelude.{ℕ, ◌-◌, ◌==◌, Bool, false, ◌&&◌, ◌||◌, nat_le, if◌then◌else◌, List, length, slice_index, codes}
+use Rattle.std.specs.Prelude.{Option, Some, None, Result, Ok, Err}
+use Rattle.source_defs.specs.declared.text.Span.{Span}
+use Rattle.source_defs.specs.declared.causes.TextError.{TextError}
+use Rattle.source_defs.specs.Characters.{is_quote}
+use Rattle.source_defs.specs.Expression.{between_quotes}
+use Rattle.source_defs.specs.Fields.{Fields, fields}
+use Rattle.source_defs.specs.Lines.{part}
+use Rattle.source_defs.specs.Names.{is_word}
+use Rattle.module_defs.specs.declared.causes.AsmCause.{AsmCause}
+use Rattle.module_defs.specs.Statements.{Statement, said_of}
+use Rattle.module_defs.specs.FirstChecks.{is_end}
+use Rattle.shelf_defs.specs.Files.{is_file_name}
+
+-- What a line asks for: itself, the lines of a file, or a file in a way that is none.
+pub data Asked : Type 0 where
+  Itself : Asked
+  File : List ℕ → Asked
+  Bad : Asked
+
+-- a double quote
+abbrev pub is_double_quote : ℕ → Bool
+is_double_quote byte = byte == 0x22
+
+abbrev pub is_either_quote : ℕ → Bool
+is_either_quote byte = is_quote byte || is_double_quote byte
+
+-- a quote stands at both ends of a text, the same at each
+abbrev pub stands_in_quotes : List ℕ → Bool
+stands_in_quotes text =
+    nat_le 2 (length text) && is_either_quote (slice_index text 0)
+    && (slice_index text 0 == slice_index text (length text - 1))
+
+-- the name of a file that stands in quotes
+abbrev pub quoted_name : List ℕ → Option (List ℕ)
+quoted_name operand =
+    if stands_in_quotes operand && is_file_name (between_quotes operand) then Some (between_quotes operand) else None
+
+-- what a line with the operation COPY asks for, by its label and the name in its operand field
+abbrev pub asked_for : Option (List ℕ) → Option (List ℕ) → Asked
+asked_for None (Some name) = File name
+asked_for None None = Bad
+asked_for (Some label) name = Bad
+
+-- what a line with these fields asks for, by its operation
+abbrev pub asked_by : List ℕ → Fields → Option Span → Asked
+asked_by line found None = Itself
+asked_by line found (Some operation) =
+    if is_word (part line operation) (codes "COPY")
+    then asked_for found.label (quoted_name (part line found.operands))
+    else Itself
+
+-- a line without fields stands for itself: the first checks refuse it
+abbrev pub asked_in : List ℕ → Result Fields TextError → Asked
+asked_in line (Ok found) = asked_by line found found.operation
+asked_in line (Err error) = Itself
+
+-- what a line asks for
+unfoldable pub asked : List ℕ → Asked
+asked line = asked_in line (fields line)
+
+-- a line ends its source where it says END
+abbrev pub says_end : Result Statement AsmCause → Bool
+says_end (Ok statement) = is_end statement
+says_end (Err cause) = false
+
+unfoldable pub ends_source : List ℕ → Bool
+ends_source line = says_end (said_of line)

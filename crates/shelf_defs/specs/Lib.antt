@@ -1,0 +1,4 @@
+pub mod Files
+pub mod CopyLines
+pub mod Copied
+pub mod Assembly

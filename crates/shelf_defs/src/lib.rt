@@ -1,0 +1,3 @@
+//! Files by name, and the lines of a source with the lines of the files that it copies. The definitions stand in
+//! `specs/`.
+#![tactic(auto)]
