@@ -1,0 +1,160 @@
+-- Reports of programs whose items were watched.
+use Rattle.std.proofs.Common.{◌≡◌, ℕ, List, ◌∷◌, ◌++◌, Option, Some, None, refl, sym, ap, ap₂, ◌∙◌, subst, lit<}
+use Rattle.std.proofs.lemmas.List.{take-append-drop}
+use Rattle.console_defs.specs.Grom.{GromState}
+use Rattle.console_defs.specs.Memory.{IsMemory}
+use Rattle.console_defs.specs.Machine.{MachineState, IsMachine}
+use Rattle.gpl_defs.specs.Image.{Image, AreBytesOf}
+use Rattle.step_defs.specs.declared.reason.Reason.{Reason}
+use Rattle.step_defs.specs.State.{GplState, start}
+use Rattle.step_defs.specs.Run.{GplRun, run}
+use Rattle.interp_defs.specs.Boot.{IsBoot}
+use Rattle.interp_defs.specs.Match.{IsHalted, shown_by}
+use Rattle.interp_defs.specs.Programs.{EndsAs, RunsSteps, most_of_boot}
+use Rattle.sim_steps.specs.Running.{RunsTurns}
+use Rattle.sim_steps.specs.Starting.{Begins}
+use Rattle.sim_view.proofs.Bridge.{register_is, reg_word}
+use Rattle.gpl_run.specs.Sessions.{SessionState, IsNew, seen, address_in, image_of, entry_of}
+use Rattle.watch_defs.specs.declared.item.Item.{Item}
+use Rattle.watch_defs.specs.declared.found.Found.{Found}
+use Rattle.watch_defs.specs.declared.found.Found.TheVariants as result
+use Rattle.watch_defs.specs.Hits as hits
+use Rattle.gpl_watch.specs.Watches.{Watches}
+use Rattle.report_defs.specs.declared.status.Status.TheVariants.{Done}
+use Rattle.report_defs.specs.Program.{showing, state_text, state_line, state_lines, stop_lines, program_status}
+use Rattle.report_defs.specs.Report.{Whole}
+use Rattle.file_report_defs.specs.Watching.{ReportsWatch, hit_line, no_hit_line, steps_to, watch_report}
+use Rattle.watch_command.specs.declared.watched.Watched.{Watched}
+use Rattle.watch_command.specs.Made.{watched_status, watched_lines, defined_report}
+use Rattle.watch_command.specs.Ran.{WatchesProgram}
+
+-- A machine shows the state that is seen in it.
+pub showing_seen : (t : SessionState) → showing (seen t) t.machine ≡ t.machine
+showing_seen t =
+    let x = t.machine in
+    ap (λ (cells : List ℕ). record x { cpu = record x.cpu { memory = record x.cpu.memory { scratchpad = cells } } })
+    (take-append-drop 194 x.cpu.memory.scratchpad)
+
+-- what is seen of a machine whose program has ended so
+abbrev seen_by : Option Reason → MachineState → GplState
+seen_by stop x = seen (record { machine = x; ended = stop })
+
+-- States that look alike have the same lines.
+same_lines : (a b : GplState) (x : MachineState) → a.cells ≡ b.cells → a.vdp ≡ b.vdp → a.registers ≡ b.registers
+    → a.pc ≡ b.pc → state_lines a x ≡ state_lines b x
+unfolding state_line state_text
+same_lines a b x cells vdp registers pc =
+    ap (λ (c : List ℕ). state_lines (record a { cells = c }) x) cells
+    ∙ ap (λ (v : List ℕ). state_lines (record a { cells = b.cells; vdp = v }) x) vdp
+    ∙ ap (λ (r : List ℕ). state_lines (record a { cells = b.cells; vdp = b.vdp; registers = r }) x) registers
+    ∙ ap (λ (p : ℕ). state_lines (record b { pc = p; image = a.image }) x) pc
+
+-- Register 1 of a halted machine has the address of the instruction that ended the program.
+address_is : (s : GplState) (reason : Reason) (x : MachineState) → IsMemory x.cpu.memory → IsHalted s reason x
+    → address_in (Some reason) x ≡ s.pc
+address_is s reason x memory halted =
+    let m = x.cpu.memory in
+    sym (register_is m 0x83E0 1 s.pc memory refl (lit< tt) (sym halted.address) ∙ reg_word m 1 memory (lit< tt))
+
+-- What is seen at the end of a run is its last state.
+module _ (last : GplState) (x : MachineState) (memory : IsMemory x.cpu.memory) where
+  same_pc : (stop : Option Reason) → EndsAs stop last x → (seen_by stop x).pc ≡ last.pc
+  same_pc None matches = ap (λ (s : GplState). s.pc) matches.shows
+  same_pc (Some reason) halted = address_is last reason x memory halted
+
+  same_state : (stop : Option Reason) → EndsAs stop last x → state_lines (seen_by stop x) x ≡ state_lines last x
+  same_state None matches = ap (λ (s : GplState). state_lines s x) matches.shows
+  same_state (Some reason) halted =
+      same_lines (seen_by (Some reason) x) last x halted.cells halted.vdp halted.registers
+      (address_is last reason x memory halted)
+
+-- The report that is made is that of the run up to what was found.
+module _ (limit : ℕ) (s : GplState) (t : SessionState) (memory : IsMemory t.machine.cpu.memory) where
+  abbrev ran : Found → GplRun
+  ran found = run (steps_to found limit) s
+
+  same_report : (found : Found) → t.ended ≡ (ran found).stop → EndsAs (ran found).stop (ran found).last t.machine
+      → Whole (watched_status found t) (watched_lines found t) ≡ watch_report found limit s t.machine
+  same_report (result.Hit step from item change) ended ends =
+      let x = t.machine in
+      let r = run step s in
+      let line = hit_line step from item change in
+      ap (λ (e : Option Reason). Whole Done (line ∷ state_lines (seen_by e x) x)) ended
+      ∙ ap (λ (lines : List (List ℕ)). Whole Done (line ∷ lines)) (same_state r.last x memory r.stop ends)
+  same_report result.None ended ends =
+      let x = t.machine in
+      let r = run limit s in
+      ap
+      (λ (e : Option Reason).
+      Whole (program_status e) (no_hit_line ∷ (stop_lines e (seen_by e x).pc ++ state_lines (seen_by e x) x)))
+      ended
+      ∙ ap₂
+      (λ (p : ℕ) (lines : List (List ℕ)). Whole (program_status r.stop) (no_hit_line ∷ (stop_lines r.stop p ++ lines)))
+      (same_pc r.last x memory r.stop ends) (same_state r.last x memory r.stop ends)
+
+-- A program that is watched is run up to what is found.
+runs_of : (found : Found) (limit : ℕ) (x y : SessionState) (before after : ℕ) → Watches limit x y before after found
+    → (done : ℕ) × RunsTurns (seen x) (steps_to found limit) x.machine y.machine before after done y.ended
+runs_of (result.Hit step from item change) limit x y before after w = (step, w.0.runs)
+runs_of result.None limit x y before after w = ((run limit (seen x)).done, w.runs)
+
+-- The interpreter has booted on a new machine, and the program was watched.
+module _ (new : MachineState) (machine : IsMachine new) (is_new : IsNew new) (first : SessionState) (begun booted : ℕ)
+    (begins : Begins (start (image_of new) (entry_of new)) most_of_boot new first.machine begun booted)
+    (running : first.ended ≡ None) where
+  abbrev s : GplState
+  s = start (image_of new) (entry_of new)
+
+  seen_is : seen first ≡ s
+  seen_is =
+      ap (λ (o : Option Reason). record (shown_by first.machine.cpu.memory) { pc = address_in o first.machine }) running
+      ∙ begins.matches.shows
+
+  pub watches : (limit : ℕ) (items watched_items : List Item) (found : Found) (t : SessionState) (before after : ℕ)
+      → watched_items ≡ items → found ≡ hits.found watched_items limit (seen first)
+      → Watches limit first t before after found
+      → IsMemory t.machine.cpu.memory
+      → WatchesProgram (image_of new) (entry_of new) limit items (record { found = found; session = t })
+  watches limit items watched_items found t before after same is w memory =
+      let ran = (runs_of found limit first t before after w).1 in
+      let n = steps_to found limit in
+      let runs : RunsSteps s n ran.count first.machine t.machine =
+      subst (λ (state : GplState). RunsSteps state n ran.count first.machine t.machine) seen_is ran.runs in
+      let ended = ran.stop_is ∙ ap (λ (state : GplState). (run n state).stop) seen_is in
+      record {
+        found = is ∙ ap₂ (λ (i : List Item) (state : GplState). hits.found i limit state) same seen_is;
+        runs = record {
+          new = new;
+          machine = machine;
+          is_boot = is_new;
+          boot = begins.count;
+          first = first.machine;
+          boots = begins.boots;
+          within = begins.within;
+          count = ran.count;
+          runs = runs;
+        };
+        ended = ended;
+        memory = memory;
+        report = same_report limit s t memory found ended runs.ends;
+      }
+
+-- What is made of a machine on which the interpreter begins with an image and its entry is the report of its program.
+pub reports_watch : (limit : ℕ) (items : List Item) (image : Image) (entry : ℕ) (bytes : List ℕ) (new : MachineState)
+    (watched : Watched) → AreBytesOf image bytes → IsBoot bytes entry new
+    → WatchesProgram (image_of new) (entry_of new) limit items watched
+    → ReportsWatch limit items image entry (defined_report watched)
+reports_watch limit items image entry bytes new watched of_image boots w =
+    let of_bytes : image_of new ≡ bytes = ap (λ (g : GromState). g.image) boots.grom in
+    let entered = subst (λ (e : ℕ). WatchesProgram (image_of new) e limit items watched) boots.scratchpad.word w in
+    let begun : WatchesProgram bytes entry limit items watched =
+    subst (λ (i : List ℕ). WatchesProgram i entry limit items watched) of_bytes entered in
+    record {
+      bytes = bytes;
+      of_image = of_image;
+      left = watched.session.machine;
+      found = watched.found;
+      is_found = begun.found;
+      runs = begun.runs;
+      is = begun.report;
+    }

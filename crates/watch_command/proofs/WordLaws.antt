@@ -1,0 +1,35 @@
+-- The items that words say.
+use Rattle.std.proofs.Common.{◌≡◌, List, [], ◌∷◌, ◌++◌, Option, Some, None}
+use Rattle.std.proofs.Common.{refl, sym, ap, ◌∙◌, append_assoc, append-nil}
+use Rattle.std.specs.Prelude.{ℕ, option_map, option_and_then}
+use Rattle.watch_defs.specs.declared.item.Item.{Item}
+use Rattle.file_report_defs.specs.Words.{item_word, item_words}
+
+-- The words that are left say what follows these items.
+abbrev pub Said : List Item → List (List ℕ) → Option (List Item) → Type 0
+Said items left all = all ≡ option_map (λ rest. items ++ rest) (item_words left)
+
+-- by what the next word says, and by what follows
+abbrev by_word : List Item → Option (List Item) → Option Item → Option (List Item)
+by_word items others o =
+    option_map (λ rest. items ++ rest) (option_and_then (λ item. option_map (λ rest. item ∷ rest) others) o)
+
+behind : (items : List Item) (item : Item) (others : Option (List Item))
+    → by_word items others (Some item) ≡ option_map (λ rest. (items ++ item ∷ []) ++ rest) others
+behind items item None = refl
+behind items item (Some rest) = ap Some (sym (append_assoc items (item ∷ []) rest))
+
+pub said_first : (item : Item) (words : List (List ℕ))
+    → Said (item ∷ []) words (option_map (λ items. item ∷ items) (item_words words))
+said_first item words = refl
+
+module _ (items : List Item) (word : List ℕ) (left : List (List ℕ)) (all : Option (List Item))
+    (said : Said items (word ∷ left) all) where
+  pub said_more : (item : Item) → Some item ≡ item_word word → Said (items ++ item ∷ []) left all
+  said_more item is = said ∙ ap (by_word items (item_words left)) (sym is) ∙ behind items item (item_words left)
+
+  pub said_none : None ≡ item_word word → None ≡ all
+  said_none is = ap (by_word items (item_words left)) is ∙ sym said
+
+pub said_all : (items : List Item) (all : Option (List Item)) → Said items [] all → Some items ≡ all
+said_all items all said = sym (said ∙ ap Some (append-nil items))

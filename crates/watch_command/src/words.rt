@@ -1,0 +1,52 @@
+//! The words of `watch`.
+
+ghost use Rattle.std.specs.Prelude.{◌≡◌, ◌≤◌, ◌<◌, ◌∷◌, length, map, option_map, IfSome};
+ghost use Rattle.file_report_defs.specs.Words as spec;
+ghost use Rattle.report_defs.specs.Commands.{most_steps};
+ghost use Rattle.watch_defs.specs.Items.{IsItem};
+ghost use Rattle.watch_command.specs.Asked.{some_items};
+
+use crate::item::item_word;
+use crate::items::{Items, MOST_ITEMS};
+use crate::numbers::number_word;
+use gpl_watch::Item;
+
+/// The most steps of a program.
+const MOST_STEPS: u32 = 100_000;
+
+/// The most steps and the items that the words behind `watch` say: a number up to 100,000, and the words of one to
+/// eight items. It takes no memory.
+pub fn watch_words(words: &[Vec<u8>]) -> Option<(u32, Items)>
+    ensures said { option_map (λ said. spec.Watch said.0 said.1) result
+        ≡ spec.watch_command (map (λ word. word.items) words.now) }
+    ensures limit { IfSome result (λ said. said.0 ≤ most_steps) }
+{
+    let (number, words) = words.split_first()?;
+    let limit = number_word(number.as_slice(), MOST_STEPS)?;
+    let items = item_words(words)?;
+    Some((limit, items))
+}
+
+/// The items that one to eight words say. It takes no memory.
+pub fn item_words(words: &[Vec<u8>]) -> Option<Items>
+    ensures { result ≡ some_items (map (λ word. word.items) words.now) }
+{
+    let (first, others) = words.split_first()?;
+    if others.len() >= MOST_ITEMS {
+        return None;
+    }
+    items_from(item_word(first.as_slice())?, others)
+}
+
+/// An item, and those that fewer than eight words say.
+fn items_from(first: Item, words: &[Vec<u8>]) -> Option<Items>
+    requires few { length words.now < 8 }
+    requires item { IsItem first }
+    ensures { result ≡ option_map (λ items. first ∷ items) (spec.item_words (map (λ word. word.items) words.now)) }
+{
+    let mut items = Items::one(first);
+    for word in words {
+        items.push(item_word(word.as_slice())?);
+    }
+    Some(items)
+}

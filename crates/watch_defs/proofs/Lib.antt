@@ -1,0 +1,4 @@
+pub mod Places
+pub mod Hitting
+pub mod FirstHits
+pub mod Changes

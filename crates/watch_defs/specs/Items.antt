@@ -1,0 +1,64 @@
+-- What is watched of a GPL program, and when it holds.
+use Rattle.std.specs.Prelude.{◌≤◌, ℕ, ◌+◌, ◌-◌, ◌==◌, List, [], length, Bool, slice_index, slice_range}
+use Rattle.std.specs.Prelude.{Option, None, is_some, option_map, All, ⊤}
+use Rattle.gpl_defs.specs.declared.instruction.Space.{Space}
+use Rattle.gpl_defs.specs.declared.instruction.Space.TheVariants.{Cpu, Vdp}
+use Rattle.lane_scan.specs.Plain.{first_difference}
+use Rattle.step_defs.specs.State.{GplState}
+use Rattle.watch_defs.specs.declared.item.Item.{Item}
+use Rattle.watch_defs.specs.declared.item.Item.TheVariants.{Range, Pc}
+
+-- The bytes of a memory that a program sees, and the address of the first of them.
+abbrev pub bytes_in : Space → GplState → List ℕ
+bytes_in Cpu s = s.cells
+bytes_in Vdp s = s.vdp
+
+abbrev pub base_of : Space → ℕ
+base_of Cpu = 0x8300
+base_of Vdp = 0
+
+-- how many they are
+abbrev pub size_of : Space → ℕ
+size_of Cpu = 0xC2
+size_of Vdp = 0x4000
+
+-- Profile: a range has a byte at least and lies in what a program sees: from >8300 to >83C1 of the processor's memory,
+-- or in the video memory. Any address can be watched.
+pub record IsRange (space : Space) (at len : ℕ) : Type 0 where
+  pub some : 1 ≤ len
+  pub begins : base_of space ≤ at
+  pub ends : at + len ≤ base_of space + size_of space
+
+abbrev pub IsItem : Item → Type 0
+IsItem (Range space at len) = IsRange space at len
+IsItem (Pc at) = ⊤
+
+-- Profile: one to eight items are watched.
+pub record AreItems (items : List Item) : Type 0 where
+  pub some : 1 ≤ length items
+  pub few : length items ≤ 8
+  pub each : All IsItem items
+
+-- The bytes of an item's range in a state. An address has none.
+abbrev pub bytes_of : Item → GplState → List ℕ
+bytes_of (Range space at len) s = slice_range (bytes_in space s) (at - base_of space) (at - base_of space + len)
+bytes_of (Pc at) s = []
+
+-- Whether an item holds at a step that leads from bytes of its range to a state: a byte of the range differs, or the
+-- address is that of the next instruction.
+abbrev pub holds_since : Item → List ℕ → GplState → Bool
+holds_since (Range space at len) before s = is_some (first_difference before (bytes_of (Range space at len) s))
+holds_since (Pc at) before s = s.pc == at
+
+abbrev pub holds : Item → GplState → GplState → Bool
+holds item before s = holds_since item (bytes_of item before) s
+
+-- The lowest address of its range at which the bytes differ, and the byte that the state has there.
+abbrev pub change_since : Item → List ℕ → GplState → Option (ℕ × ℕ)
+change_since (Range space at len) before s =
+    let now = bytes_of (Range space at len) s in
+    option_map (λ place. (at + place, slice_index now place)) (first_difference before now)
+change_since (Pc at) before s = None
+
+abbrev pub change : Item → GplState → GplState → Option (ℕ × ℕ)
+change item before s = change_since item (bytes_of item before) s

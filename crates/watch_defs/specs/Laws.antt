@@ -1,0 +1,44 @@
+-- What the definitions say of what is found.
+use Rattle.std.specs.Prelude.{◌≡◌, ◌<◌, ◌≤◌, ℕ, ◌-◌, List, slice_get, true, false, Option, Some}
+use Rattle.step_defs.specs.State.{GplState}
+use Rattle.step_defs.specs.Run.{run}
+use Rattle.watch_defs.specs.declared.item.Item.{Item}
+use Rattle.watch_defs.specs.declared.found.Found.{Found}
+use Rattle.watch_defs.specs.declared.found.Found.TheVariants.{Hit, None}
+use Rattle.watch_defs.specs.Items as items
+use Rattle.watch_defs.specs.Hits.{behind, found}
+
+-- No item of a list that stands before a place holds at the step from one state to the next.
+abbrev pub NoneHoldsBefore : List Item → ℕ → GplState → GplState → Type 0
+NoneHoldsBefore list end before next =
+    (place : ℕ) (item : Item) → place < end → slice_get list place ≡ Some item → items.holds item before next ≡ false
+
+-- no item of the list holds
+abbrev pub NoneHolds : List Item → GplState → GplState → Type 0
+NoneHolds list before next =
+    (place : ℕ) (item : Item) → slice_get list place ≡ Some item → items.holds item before next ≡ false
+
+-- A step of a run of up to so many steps is the first at which an item holds. The item is the first that holds there,
+-- and its change is shown.
+pub record IsFirstHit (list : List Item) (limit : ℕ) (s : GplState) (step from number : ℕ)
+    (shown : Option (ℕ × ℕ)) : Type 0 where
+  pub counted : 1 ≤ step
+  pub made : step ≤ (run limit s).done
+  pub first : (earlier : ℕ) → 1 ≤ earlier → earlier < step → NoneHolds list (behind s (earlier - 1)) (behind s earlier)
+  pub begins : from ≡ (behind s (step - 1)).pc
+  pub numbered : 1 ≤ number
+  pub item : Item
+  pub stands : slice_get list (number - 1) ≡ Some item
+  pub holds : items.holds item (behind s (step - 1)) (behind s step) ≡ true
+  pub none_before : NoneHoldsBefore list (number - 1) (behind s (step - 1)) (behind s step)
+  pub changed : shown ≡ items.change item (behind s (step - 1)) (behind s step)
+
+-- What is found says so; where nothing is, no item holds at any step of the run.
+abbrev pub IsFound : List Item → ℕ → GplState → Found → Type 0
+IsFound list limit s (Hit step from number shown) = IsFirstHit list limit s step from number shown
+IsFound list limit s None =
+    (step : ℕ) → 1 ≤ step → step ≤ (run limit s).done → NoneHolds list (behind s (step - 1)) (behind s step)
+
+-- the law, which is proved
+abbrev pub HitsAreFirst : Type 0
+HitsAreFirst = (list : List Item) (limit : ℕ) (s : GplState) → IsFound list limit s (found list limit s)

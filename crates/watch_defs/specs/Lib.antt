@@ -1,0 +1,4 @@
+pub mod Items
+pub mod Hits
+pub mod Laws
+pub mod RangeLaw
