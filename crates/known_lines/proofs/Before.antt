@@ -13,10 +13,12 @@ use Rattle.source_defs.specs.declared.causes.ExprError.{ExprError}
 use Rattle.module_defs.specs.declared.causes.AsmCause.{AsmCause}
 use Rattle.module_defs.specs.declared.causes.AsmCause.TheVariants.{Overflow, BadDirective}
 use Rattle.module_defs.specs.declared.location.Location.{Location}
-use Rattle.module_defs.specs.Statements.{Statement, Nothing, Instruction, Aorg, Rorg, Dorg, Bss, Bes, Even, Equ, Data, Byte, Text, Def, Ref, Idt, Titl, End}
+use Rattle.module_defs.specs.Statements.{Statement, Nothing, Instruction, Aorg, Rorg, Dorg, Bss, Bes, Even, Equ, Data}
+use Rattle.module_defs.specs.Statements.{Byte, Text, Def, Ref, Idt, Titl, End}
 use Rattle.module_defs.specs.Statements.{as_text, statement_in}
 use Rattle.module_defs.specs.Locations.{value_of}
-use Rattle.module_defs.specs.FirstChecks.{Before, Said, Checked, Move, unless, any_known, label_in, is_taken, refs_in, said, moved, move, as_expr}
+use Rattle.module_defs.specs.FirstChecks.{Before, Said, Checked, Move, unless, any_known, label_in, is_taken, refs_in}
+use Rattle.module_defs.specs.FirstChecks.{said, moved, move, as_expr}
 use Rattle.module_defs.specs.FirstChecks.{is_too_far, is_bad, value, known_here}
 use Rattle.asm_defs.specs.SecondChecks.{absolute}
 use Rattle.module_defs.proofs.CheckLaws.{bound}

@@ -1,5 +1,6 @@
 -- Lines that are ended by line feeds are the lines of their text.
-use Rattle.std.proofs.Common.{◌≡◌, ℕ, zero, suc, ◌+◌, ◌-◌, ◌<◌, Bool, true, false, ◌&&◌, List, [], ◌∷◌, ◌++◌, length, get_or, append_assoc, length-append, refl, ap}
+use Rattle.std.proofs.Common.{◌≡◌, ℕ, zero, suc, ◌+◌, ◌-◌, ◌<◌, Bool, true, false, List, [], ◌∷◌, ◌++◌, length}
+use Rattle.std.proofs.Common.{get_or, append_assoc, length-append, refl, ap}
 use Rattle.std.proofs.Common.{sym, subst, ◌∙◌, arith}
 use Rattle.std.specs.Prelude.{map, nat_lt, nat_le}
 use Rattle.std.specs.List.{AllByRecursion}
@@ -10,10 +11,7 @@ use Rattle.source_defs.specs.Characters.{is_line_feed, is_carriage_return}
 use Rattle.source_defs.specs.Lines.{line_feeds_from, lines_from, without_return, part}
 use Rattle.source_defs.specs.Layout.{numbered}
 use Rattle.known_lines.specs.Texts.{IsWithoutControls, fed_text, FedTextsHaveTheirLines}
-
-both : (a b : Bool) → (a && b) ≡ true → (a ≡ true) × (b ≡ true)
-both true b e = (refl, e)
-both false b e = cc e
+use Rattle.known_lines.proofs.Small.{both}
 
 no_feed : (byte : ℕ) → nat_le 0x20 byte ≡ true → is_line_feed byte ≡ false
 no_feed byte e = grind (arith, nat_tests, e)

@@ -1,5 +1,6 @@
 -- Lines that are known by themselves are laid one behind the other.
-use Rattle.std.proofs.Common.{◌≡◌, ℕ, ◌+◌, Bool, true, false, List, [], ◌∷◌, ◌++◌, Some, None, Ok, refl, sym, ap, subst, ◌∙◌, arith}
+use Rattle.std.proofs.Common.{◌≡◌, ℕ, ◌+◌, Bool, true, false, List, [], ◌∷◌, ◌++◌, Some, None, Ok, refl, sym, ap}
+use Rattle.std.proofs.Common.{subst, ◌∙◌, arith}
 use Rattle.std.specs.Prelude.{Option, Result, ◌&&◌, ◌||◌, not, is_some, if◌then◌else◌}
 use Rattle.std.proofs.lemmas.Cmp.{nat_list_cmp_total}
 use Rattle.std.specs.FinMap.{insert, get-insert}
@@ -10,15 +11,21 @@ use Rattle.source_defs.specs.Expression.{Value}
 use Rattle.source_defs.specs.Layout.{numbered, laid_behind, with_names, has_ended, set_or, none_or}
 use Rattle.module_defs.specs.declared.causes.AsmCause.{AsmCause}
 use Rattle.module_defs.specs.declared.location.Location.{Location}
-use Rattle.module_defs.specs.Statements.{Statement, as_text, statement_in, Nothing, Instruction, Aorg, Equ, Data, Rorg, Dorg, Bss, Bes, Even, Byte, Text, Def, Ref, Idt, Titl, End}
+use Rattle.module_defs.specs.Statements.{Statement, as_text, statement_in, Nothing, Instruction, Aorg, Equ, Data}
+use Rattle.module_defs.specs.Statements.{Rorg, Dorg, Bss, Bes, Even, Byte, Text, Def, Ref, Idt, Titl, End}
 use Rattle.module_defs.specs.Locations.{Line, behind, location}
-use Rattle.module_defs.specs.FirstChecks.{Checked, Said, any_known, label_in, moved, checked, check, known_of, line_of, location_behind, names, refs, defs, refs_in, defs_in, is_end, label_entry, external_entries}
+use Rattle.module_defs.specs.FirstChecks.{Checked, Said, any_known, label_in, moved, checked, check, known_of}
+use Rattle.module_defs.specs.FirstChecks.{line_of, location_behind, names, refs, defs, refs_in, defs_in, is_end}
+use Rattle.module_defs.specs.FirstChecks.{label_entry, external_entries}
 use Rattle.module_defs.specs.FirstChecks.{unless, is_too_far, is_bad, as_expr, move}
 use Rattle.module_defs.specs.declared.causes.AsmCause.TheVariants.{Overflow, BadDirective}
 use Rattle.module_defs.specs.SecondChecks.{outcome}
 use Rattle.module_defs.proofs.CheckLaws.{bound}
-use Rattle.known_lines.specs.KnownLines.{KnownLine, nothing_before, known_line, known_lines, names_in, all_names, names_behind, look_in, are_new, is_plain, is_plain_statement, are_plain, end_of}
+use Rattle.known_lines.specs.KnownLines.{KnownLine, nothing_before, known_line, known_lines, names_in, all_names}
+use Rattle.known_lines.specs.KnownLines.{names_behind, look_in, are_new, is_plain, is_plain_statement, are_plain}
+use Rattle.known_lines.specs.KnownLines.{end_of}
 use Rattle.known_lines.proofs.Before.{is_free, said_same, moved_same}
+use Rattle.known_lines.proofs.Small.{both, append_none}
 
 -- what a line that is known by itself is made of
 pub record Parts (look : List ℕ → Option Value) (at : Location) (text : List ℕ) (line : KnownLine) : Type 0 where
@@ -156,10 +163,6 @@ plain_free (Ref names) plain = cc plain
 plain_free (Idt text) plain = cc plain
 plain_free (Titl text) plain = cc plain
 
-pub both : (a b : Bool) → (a && b) ≡ true → (a ≡ true) × (b ≡ true)
-both true b e = (refl, e)
-both false b e = cc e
-
 -- the lines as they are laid behind others
 abbrev pub laid_list : List Line → ℕ → List KnownLine → List Line
 laid_list before number [] = before
@@ -177,10 +180,6 @@ pub record AreLaid (look : List ℕ → Option Value) (texts : List (List ℕ)) 
   pub going_on : has_ended (laid_list before number lines) ≡ has_ended before
   pub refs : refs (laid_list before number lines) ≡ refs before
   pub defs : defs (laid_list before number lines) ≡ defs before
-
-append_none : {A : Type 0} (items more : List A) → more ≡ [] → items ++ more ≡ items
-append_none [] more e = e
-append_none (item ∷ items) more e = ap (λ items. item ∷ items) (append_none items more e)
 
 module _ (look : List ℕ → Option Value) where
   abbrev Others : Location → List (List ℕ) → KnownLine → List KnownLine → Type 0

@@ -1,3 +1,4 @@
+pub mod Small
 pub mod Before
 pub mod Laying
 pub mod Placing

@@ -1,5 +1,6 @@
 -- The pieces of words that stand one behind the other, and their linked memory.
-use Rattle.std.proofs.Common.{◌≡◌, ℕ, zero, suc, ◌+◌, ◌-◌, ◌*◌, ◌/◌, ◌%◌, ◌<◌, ◌≤◌, Bool, true, false, cond, List, [], ◌∷◌, ◌++◌, Some, None, Ok, length, refl, sym, ap, ◌∙◌, arith, nat_cmp, eqb-true}
+use Rattle.std.proofs.Common.{◌≡◌, ℕ, zero, suc, ◌+◌, ◌-◌, ◌*◌, ◌/◌, ◌%◌, ◌<◌, ◌≤◌, Bool, true, false, cond, List, []}
+use Rattle.std.proofs.Common.{◌∷◌, ◌++◌, Some, None, Ok, length, refl, sym, ap, ◌∙◌, arith, nat_cmp, eqb-true}
 use Rattle.std.specs.Prelude.{Option, ◌&&◌, not, is_some, ◌==◌, nat_le, if◌then◌else◌, map, slice_get}
 use Rattle.std.specs.List.{list_all}
 use Rattle.std.proofs.lemmas.Bool.Decides.{nat_tests}
@@ -21,6 +22,7 @@ use Rattle.link_defs.specs.First.{first, first_behind}
 use Rattle.link_defs.specs.LinkedMemory.{LinkedMemory, linked, linked_parts, filled, is_outside, is_taken, is_loadable}
 use Rattle.known_lines.specs.KnownLines.{pieces_of}
 use Rattle.known_lines.proofs.Placing.{HoldWords, content_of, cells, cells_length}
+use Rattle.known_lines.proofs.Small.{both, chosen, get_past}
 
 abbrev piece_at : Part → ℕ → Spot → Piece
 piece_at found w word = record { at = spot_by found (2 * w); word = word }
@@ -54,9 +56,6 @@ module _ (f : ℕ → Option Content) where
       (at_word found first None None (none (2 * first) (omega arith) (omega arith)) (none (2 * first + 1) (omega arith) (omega arith)))
       ∙ none_from found (first + 1) n (λ p le lt. none p (omega (arith, le)) (omega (arith, lt)))
 
-chosen : {A : Type 0} (d b : Bool) (this that : A) → d ≡ b → (if d then this else that) ≡ (if b then this else that)
-chosen d b this that e = ap (λ c. if c then this else that) e
-
 -- what stands behind the first word
 content_behind : (a : ℕ) (word : ℕ) (words : List ℕ) (p : ℕ) → 2 * (a + 1) ≤ p → content_of (2 * a) (word ∷ words) p ≡ content_of (2 * (a + 1)) words p
 content_behind a word words p le =
@@ -83,16 +82,11 @@ pieces_there f a (word ∷ words) same =
     (pieces_there f (a + 1) words (λ p le. same p (omega (arith, le)) ∙ content_behind a word words p le))
     ∙ ap (λ from. record { at = spot.Absolute (2 * a); word = spot.Absolute word } ∷ pieces_of from words) next)
 
-past : {A : Type 0} (items : List A) (k : ℕ) → length items ≤ k → slice_get items k ≡ None
-past [] k le = refl
-past (item ∷ items) zero le = absurd (omega (arith, le))
-past (item ∷ items) (suc k) le = past items k (omega (arith, le))
-
 content_none : (from : ℕ) (words : List ℕ) (p : ℕ) → from + 2 * length words ≤ p → content_of from words p ≡ None
 content_none from words p le =
     let size = cells_length words in
     let here : nat_le from p ≡ true = grind (arith, nat_tests, le) in
-    chosen _ true _ _ here ∙ past (cells words) (p - from) (omega (arith, le, size))
+    chosen _ true _ _ here ∙ get_past (cells words) (p - from) (omega (arith, le, size))
 
 content_not_yet : (from : ℕ) (words : List ℕ) (p : ℕ) → p < from → content_of from words p ≡ None
 content_not_yet from words p lt =
@@ -134,10 +128,6 @@ pairs_of from (word ∷ words) = (from, word) ∷ pairs_of (from + 2) words
 
 abbrev pub are_words : List ℕ → Bool
 are_words words = list_all (λ word. nat_le word 0xFFFF) words
-
-both : (a b : Bool) → (a && b) ≡ true → (a ≡ true) × (b ≡ true)
-both true b e = (refl, e)
-both false b e = cc e
 
 pairs_there : (base from : ℕ) (words : List ℕ) → are_words words ≡ true → map (word_at base) (pieces_of from words) ≡ pairs_of from words
 pairs_there base from [] fit = refl

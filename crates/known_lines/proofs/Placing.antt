@@ -1,5 +1,6 @@
 -- What plain lines place: their words, one behind the other.
-use Rattle.std.proofs.Common.{inl, inr, ◌≡◌, ℕ, zero, suc, ◌+◌, ◌-◌, ◌*◌, ◌<◌, ◌≤◌, Bool, true, false, List, [], ◌∷◌, ◌++◌, Some, None, length, length-append, refl, sym, ap, subst, ◌∙◌, arith}
+use Rattle.std.proofs.Common.{inl, inr, ◌≡◌, ℕ, zero, suc, ◌+◌, ◌-◌, ◌*◌, ◌<◌, ◌≤◌, Bool, true, false, List, [], ◌∷◌}
+use Rattle.std.proofs.Common.{◌++◌, Some, None, length, length-append, refl, sym, ap, subst, ◌∙◌, arith}
 use Rattle.std.specs.Prelude.{Option, ◌⊎◌, ◌&&◌, ◌||◌, nat_le, nat_lt, if◌then◌else◌, slice_get, map}
 use Rattle.std.specs.Option.{option_map}
 use Rattle.std.proofs.lemmas.Bool.Decides.{nat_tests}
@@ -12,8 +13,11 @@ use Rattle.module_defs.specs.declared.location.Location.{Location}
 use Rattle.module_defs.specs.declared.location.Part.{Part}
 use Rattle.module_defs.specs.declared.location.Part.TheVariants as part
 use Rattle.module_defs.specs.SecondChecks.{Outcome, Nothing, Words, Bytes, Entry}
-use Rattle.module_defs.specs.Memory.{Settled, covers, same_part, is_placed, bytes_in, contents_by, word_contents, content_at, any_from, count_from, is_word, words_in, word_count, part_words, one_if}
+use Rattle.module_defs.specs.Memory.{Settled, covers, same_part, is_placed, bytes_in, contents_by, word_contents}
+use Rattle.module_defs.specs.Memory.{content_at, any_from, count_from, is_word, words_in, word_count, part_words}
+use Rattle.module_defs.specs.Memory.{one_if}
 use Rattle.known_lines.specs.KnownLines.{numbers_of, words_of, is_at, is_empty, is_absolute}
+use Rattle.known_lines.proofs.Small.{both, chosen, map_length, get_past}
 
 -- the bytes of absolute words
 abbrev pub cells : List ℕ → List Content
@@ -50,16 +54,12 @@ contents_of_numbers references at [] = refl
 contents_of_numbers references at (number ∷ numbers) =
     ap (λ rest. content.First (spot.Absolute number) ∷ content.Second ∷ rest) (contents_of_numbers references (at + 2) numbers)
 
-map_length : (numbers : List ℕ) → length (map Absolute numbers) ≡ length numbers
-map_length [] = refl
-map_length (number ∷ numbers) = ap suc (map_length numbers)
-
 -- how many bytes such an outcome places
 pub placed_size : (outcome : Outcome) (words : List ℕ) → words_of outcome ≡ Some words → bytes_in outcome ≡ 2 * length words
 placed_size Nothing words e = let same : ◌≡◌ {A = List ℕ} [] words = cc e in ap (λ words. 2 * length words) same
 placed_size (Words values) words e =
     let are = are_numbers values words e in
-    ap (λ values. 2 * length values) are ∙ ap (λ n. 2 * n) (map_length words)
+    ap (λ values. 2 * length values) are ∙ ap (λ n. 2 * n) (map_length Absolute words)
 placed_size (Bytes bytes) words e = cc e
 placed_size (Entry entry) words e = cc e
 
@@ -87,14 +87,6 @@ get_before : {A : Type 0} (items more : List A) (k : ℕ) → k < length items �
 get_before [] more k lt = absurd (omega (arith, lt))
 get_before (item ∷ items) more zero lt = refl
 get_before (item ∷ items) more (suc k) lt = get_before items more k (omega (arith, lt))
-
-get_past : {A : Type 0} (items : List A) (k : ℕ) → length items ≤ k → slice_get items k ≡ None
-get_past [] k le = refl
-get_past (item ∷ items) zero le = absurd (omega (arith, le))
-get_past (item ∷ items) (suc k) le = get_past items k (omega (arith, le))
-
-chosen : {A : Type 0} (d b : Bool) (this that : A) → d ≡ b → (if d then this else that) ≡ (if b then this else that)
-chosen d b this that e = ap (λ c. if c then this else that) e
 
 module _ (from : ℕ) (words more : List ℕ) where
   abbrev reached : ℕ
@@ -152,10 +144,6 @@ is_there : (place : Location) (at : ℕ) (found : Part) → place.part ≡ found
 is_there place at part.Absolute e absolute same = (e, same)
 is_there place at part.Relocatable e absolute same = cc absolute
 is_there place at part.Dummy e absolute same = cc absolute
-
-both : (a b : Bool) → (a && b) ≡ true → (a ≡ true) × (b ≡ true)
-both true b e = (refl, e)
-both false b e = cc e
 
 stands_by : (place : Location) (at : ℕ) (more : List ℕ) → (is_empty more || is_at at place) ≡ true → Stands place at more
 stands_by place at [] e = inl refl

@@ -1,5 +1,6 @@
 -- Lines that are known by themselves pass the second checks.
-use Rattle.std.proofs.Common.{◌≡◌, ℕ, ◌+◌, ◌*◌, inl, inr, Bool, true, false, List, [], ◌∷◌, ◌++◌, append_assoc, Some, None, Ok, Err, length, length-append, refl, sym, ap, subst, ◌∙◌, arith}
+use Rattle.std.proofs.Common.{◌≡◌, ℕ, ◌+◌, ◌*◌, inl, inr, Bool, true, false, List, [], ◌∷◌, ◌++◌, append_assoc, Some}
+use Rattle.std.proofs.Common.{None, Ok, Err, length, length-append, refl, sym, ap, subst, ◌∙◌, arith}
 use Rattle.std.specs.Prelude.{Option, Result, ◌||◌, is_some, nat_lt, if◌then◌else◌}
 use Rattle.std.specs.Option.{unwrap_or}
 use Rattle.std.proofs.lemmas.Bool.Decides.{nat_tests}
@@ -17,9 +18,11 @@ use Rattle.module_defs.specs.FirstChecks.{line_of, Checked}
 use Rattle.module_defs.specs.SecondChecks.{Outcome, Nothing, Words, Bytes, Entry, outcome}
 use Rattle.module_defs.specs.Memory.{Settled, is_placed, any_from, bytes_in, word_count, overlaps}
 use Rattle.module_defs.specs.Modules.{settle, settle_at, with_room, entry, entry_by}
-use Rattle.known_lines.specs.KnownLines.{KnownLine, known_line, known_lines, are_plain, is_plain, is_plain_statement, words_of, words_in, all_words, are_close, is_at, is_empty}
-use Rattle.known_lines.proofs.Laying.{laid_list, location_more, parts_of, both, first_of, First}
+use Rattle.known_lines.specs.KnownLines.{KnownLine, known_line, known_lines, are_plain, is_plain, is_plain_statement}
+use Rattle.known_lines.specs.KnownLines.{words_of, words_in, all_words, are_close, is_at, is_empty}
+use Rattle.known_lines.proofs.Laying.{laid_list, location_more, parts_of, first_of, First}
 use Rattle.known_lines.proofs.Placing.{HoldWords, ComesNext, hold_more, few_words, any_none, stands, size, Stands}
+use Rattle.known_lines.proofs.Small.{both}
 
 abbrev pub as_settled : KnownLine → Settled
 as_settled line = record { at = line.at; outcome = line.outcome }

@@ -1,5 +1,6 @@
 -- Each line that is known by itself stands where it is known to stand.
-use Rattle.std.proofs.Common.{◌≡◌, ℕ, zero, suc, ◌+◌, ◌*◌, ◌<◌, ◌≤◌, Bool, true, false, List, [], ◌∷◌, ◌++◌, Ok, length, length-append, refl, sym, ap, subst, ◌∙◌, arith}
+use Rattle.std.proofs.Common.{◌≡◌, ℕ, zero, suc, ◌+◌, ◌*◌, ◌<◌, ◌≤◌, Bool, true, false, List, [], ◌∷◌, ◌++◌, Ok}
+use Rattle.std.proofs.Common.{length, length-append, refl, sym, ap, subst, ◌∙◌, arith}
 use Rattle.std.specs.Prelude.{Option, not, is_some, nat_lt, slice_index_or, take}
 use Rattle.std.proofs.lemmas.Bool.Decides.{nat_tests}
 use Rattle.source_defs.specs.Symbols.{look_up, registers}
@@ -10,10 +11,12 @@ use Rattle.module_defs.specs.declared.location.Location.{Location}
 use Rattle.module_defs.specs.Locations.{Line, start, location}
 use Rattle.module_defs.specs.FirstChecks.{check, line_of, names, location_behind}
 use Rattle.module_defs.specs.SecondChecks.{outcome}
-use Rattle.known_lines.specs.KnownLines.{KnownLine, known_line, known_lines, names_in, all_names, names_behind, are_new, are_plain, is_plain, end_of, look_in, is_plain_statement}
+use Rattle.known_lines.specs.KnownLines.{KnownLine, known_line, known_lines, names_in, all_names, names_behind}
+use Rattle.known_lines.specs.KnownLines.{are_new, are_plain, is_plain, end_of, look_in, is_plain_statement}
 use Rattle.known_lines.specs.Laws.{looks, AreKnown, StandsIn, KnownLinesStand}
-use Rattle.known_lines.proofs.Laying.{laid_list, are_laid, check_behind, parts_of, first_of, both, new_by, plain_free}
+use Rattle.known_lines.proofs.Laying.{laid_list, are_laid, check_behind, parts_of, first_of, new_by, plain_free}
 use Rattle.known_lines.proofs.Whole.{front, final, first, final_known, final_checked, all_laid, looked, registers_stand}
+use Rattle.known_lines.proofs.Small.{both}
 
 new_parts : (known entries others : List (List ℕ × Value)) → are_new known (entries ++ others) ≡ true
     → (are_new known entries ≡ true) × (are_new (names_behind known entries) others ≡ true)

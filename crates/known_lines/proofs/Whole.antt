@@ -1,5 +1,6 @@
 -- The module of lines that are known by themselves.
-use Rattle.std.proofs.Common.{◌≡◌, ℕ, ◌+◌, ◌-◌, ◌*◌, ◌<◌, ◌≤◌, Bool, true, false, List, [], ◌∷◌, ◌++◌, None, Ok, length, refl, sym, ap, subst, ◌∙◌, arith}
+use Rattle.std.proofs.Common.{◌≡◌, ℕ, ◌+◌, ◌-◌, ◌*◌, ◌<◌, ◌≤◌, Bool, true, false, List, [], ◌∷◌, ◌++◌, None, Ok}
+use Rattle.std.proofs.Common.{length, refl, sym, ap, subst, ◌∙◌, arith}
 use Rattle.std.specs.Prelude.{Option, Result, ◌&&◌, ◌||◌, nat_le, nat_lt, map, if◌then◌else◌, slice_get}
 use Rattle.std.proofs.lemmas.Bool.Decides.{nat_tests}
 use Rattle.std.proofs.lemmas.Cmp.{nat_list_cmp_total}
@@ -17,18 +18,23 @@ use Rattle.module_defs.specs.declared.location.Part.{Part}
 use Rattle.module_defs.specs.declared.location.Part.TheVariants as part
 use Rattle.module_defs.specs.Locations.{Line, location}
 use Rattle.module_defs.specs.Statements.{Statement, End}
-use Rattle.module_defs.specs.FirstChecks.{check, line_of, names, refs, defs, refs_in, defs_in, any_known, label_in, label_entry, external_entries}
+use Rattle.module_defs.specs.FirstChecks.{check, line_of, names, refs, defs, refs_in, defs_in, any_known, label_in}
+use Rattle.module_defs.specs.FirstChecks.{label_entry, external_entries}
 use Rattle.module_defs.specs.SecondChecks.{Outcome, Nothing, Words, Bytes, Entry}
 use Rattle.module_defs.specs.declared.content.Content.{Content}
-use Rattle.module_defs.specs.Memory.{Settled, covers, same_part, is_placed, bytes_in, any_from, word_count, pieces, references_of, behind_by, behind_words, behind_word, spot_by, is_placed_in}
-use Rattle.module_defs.specs.Modules.{settle, with_room, module_by, module_behind, module_of_lines, entry, entry_by, unused, definition_in}
+use Rattle.module_defs.specs.Memory.{Settled, covers, same_part, is_placed, bytes_in, any_from, word_count, pieces}
+use Rattle.module_defs.specs.Memory.{references_of, behind_by, behind_words, behind_word, spot_by, is_placed_in}
+use Rattle.module_defs.specs.Modules.{settle, with_room, module_by, module_behind, module_of_lines, entry, entry_by}
+use Rattle.module_defs.specs.Modules.{unused, definition_in}
 use Rattle.known_lines.specs.KnownLines.{KnownLine, known_line, all_names, all_words, names_behind, are_new, are_close}
 use Rattle.known_lines.specs.Laws.{looks, AreKnown, HasWords, KnownLinesHaveTheirWords}
 use Rattle.known_lines.proofs.Before.{is_free}
-use Rattle.known_lines.proofs.Laying.{StandFor, laid_list, AreLaid, are_laid, check_behind, both}
+use Rattle.known_lines.proofs.Laying.{StandFor, laid_list, AreLaid, are_laid, check_behind}
 use Rattle.known_lines.proofs.Placing.{HoldWords, few_words, content_of}
-use Rattle.known_lines.proofs.Settling.{as_settled, settled_list, settle_is, AreSettled, are_settled, settled_step, room_by}
+use Rattle.known_lines.proofs.Settling.{as_settled, settled_list, settle_is, AreSettled, are_settled, settled_step}
+use Rattle.known_lines.proofs.Settling.{room_by}
 use Rattle.known_lines.proofs.Linking.{pieces_held}
+use Rattle.known_lines.proofs.Small.{both, append_none}
 
 pub registers_stand : StandFor predefined registers
 registers_stand name = get-from_entries nat_list_cmp_total registers name
@@ -99,10 +105,6 @@ own_names : (statement : Statement) (label : Option (List ℕ)) (value : Value) 
 own_names statement label value text none ends =
     ap (λ (label : Option (List ℕ)). label_entry label value ++ external_entries (refs_in statement)) none
     ∙ ap (λ (statement : Statement). external_entries (refs_in statement)) ends
-
-append_none : {A : Type 0} (items more : List A) → more ≡ [] → items ++ more ≡ items
-append_none [] more e = e
-append_none (item ∷ items) more e = ap (λ items. item ∷ items) (append_none items more e)
 
 checked_last : (before : List Line) (number : ℕ) (found : Line) (answer : Result Line AsmCause) → answer ≡ Ok found
     → (at_line number answer >>= λ line. Ok (line ∷ before)) ≡ Ok (found ∷ before)

@@ -1,5 +1,6 @@
 -- What the lines of a source come to by themselves, where their places and what all names stand for are known.
-use Rattle.std.specs.Prelude.{ℕ, ◌+◌, ◌*◌, ◌==◌, Bool, true, false, not, ◌&&◌, ◌||◌, List, [], ◌∷◌, length, is_some, Option}
+use Rattle.std.specs.Prelude.{ℕ, ◌+◌, ◌*◌, ◌==◌, Bool, true, false, not, ◌&&◌, ◌||◌, List, [], ◌∷◌, length, is_some}
+use Rattle.std.specs.Prelude.{Option}
 use Rattle.std.specs.Prelude.{Some, None, Result, Ok}
 use Rattle.std.specs.Option.{option_map, unwrap_or}
 use Rattle.std.specs.List.{flat_map, list_all}
@@ -31,7 +32,8 @@ pub record KnownLine : Type 0 where
 abbrev pub nothing_before : Location → Before
 nothing_before location = record { names = empty; location = location; reached = 0; defs = []; refs = [] }
 
--- A line by itself at a location, by what each name stands for: its fields, what it says, where it leads, and what it comes to.
+-- A line by itself at a location, by what each name stands for: its fields, what it says, where it leads, and what
+-- it comes to.
 abbrev pub known_line : (List ℕ → Option Value) → Location → List ℕ → Result KnownLine AsmCause
 known_line look location text = do
   fields ← as_text (fields text)
@@ -131,4 +133,5 @@ are_close number (line ∷ lines) =
 -- the pieces of words that stand one behind the other from an absolute place on
 abbrev pub pieces_of : ℕ → List ℕ → List Piece
 pieces_of from [] = []
-pieces_of from (word ∷ words) = record { at = spot.Absolute from; word = spot.Absolute word } ∷ pieces_of (from + 2) words
+pieces_of from (word ∷ words) =
+    record { at = spot.Absolute from; word = spot.Absolute word } ∷ pieces_of (from + 2) words

@@ -1,5 +1,6 @@
 -- What holds of a source whose lines are known by themselves.
-use Rattle.std.specs.Prelude.{◌≡◌, ℕ, ◌+◌, ◌*◌, ◌≤◌, ◌<◌, true, List, [], ◌∷◌, ◌++◌, length, slice_index_or, take, Option, Some, None, Ok}
+use Rattle.std.specs.Prelude.{◌≡◌, ℕ, ◌+◌, ◌*◌, ◌≤◌, ◌<◌, true, List, [], ◌∷◌, ◌++◌, length, slice_index_or, take}
+use Rattle.std.specs.Prelude.{Option, Some, None, Ok}
 use Rattle.source_defs.specs.Expression.{Value}
 use Rattle.source_defs.specs.Symbols.{registers, look_up}
 use Rattle.source_defs.specs.Layout.{laid, numbered}
@@ -12,17 +13,19 @@ use Rattle.module_defs.specs.FirstChecks.{check, names}
 use Rattle.module_defs.specs.SecondChecks as outcome
 use Rattle.module_defs.specs.SecondChecks.{Outcome, outcome}
 use Rattle.module_defs.specs.Modules.{module_of_lines}
-use Rattle.known_lines.specs.KnownLines.{KnownLine, known_line, known_lines, end_of, all_names, names_behind, look_in, are_new}
+use Rattle.known_lines.specs.KnownLines.{KnownLine, known_line, known_lines, end_of, all_names, names_behind, look_in}
+use Rattle.known_lines.specs.KnownLines.{are_new}
 use Rattle.known_lines.specs.KnownLines.{are_plain, are_close, all_words, pieces_of}
 
 -- what all names of a source stand for, by the names that its lines define
 abbrev pub looks : List (List ℕ × Value) → List ℕ → Option Value
 looks defined name = look_in (names_behind registers defined) name
 
--- Lines that are plain, by the names that they define: these are new, and the words stand one behind the other from an absolute
+-- Lines that are plain, by the names that they define: these are new, and the words stand one behind the other from
+-- an absolute
 -- place on. Behind them stands a last line, which is END with an entry.
-pub record AreKnown (from : ℕ) (texts : List (List ℕ)) (last : List ℕ) (defined : List (List ℕ × Value)) (lines : List KnownLine)
-    (end : KnownLine) (entry : Spot) : Type 0 where
+pub record AreKnown (from : ℕ) (texts : List (List ℕ)) (last : List ℕ) (defined : List (List ℕ × Value))
+    (lines : List KnownLine) (end : KnownLine) (entry : Spot) : Type 0 where
   pub known : known_lines (looks defined) start texts ≡ Ok lines
   pub names : all_names lines ≡ defined
   pub plain : are_plain lines ≡ true
@@ -49,7 +52,8 @@ pub record HaveWords (texts : List (List ℕ)) (from : ℕ) (words : List ℕ) (
 -- The law, which is proved: the module of such lines has their words from there on, and nothing else.
 abbrev pub KnownLinesHaveTheirWords : Type 0
 KnownLinesHaveTheirWords =
-    (half : ℕ) (texts : List (List ℕ)) (last : List ℕ) (defined : List (List ℕ × Value)) (lines : List KnownLine) (end : KnownLine)
+    (half : ℕ) (texts : List (List ℕ)) (last : List ℕ) (defined : List (List ℕ × Value)) (lines : List KnownLine)
+    (end : KnownLine)
     (entry : Spot)
     → AreKnown (2 * half) texts last defined lines end entry → half + length (all_words lines) ≤ 32768
     → HaveWords (texts ++ last ∷ []) (2 * half) (all_words lines) entry
@@ -65,10 +69,12 @@ pub record StandsIn (texts : List (List ℕ)) (index : ℕ) (at : Location) (com
   pub all_laid : laid check (numbered 1 texts) ≡ Ok all
   pub comes : outcome (look_up (names all)) at line.statement ≡ Ok come
 
--- The law, which is proved: each of such lines stands where it is known to stand, and comes to what it is known to come to.
+-- The law, which is proved: each of such lines stands where it is known to stand, and comes to what it is known to
+-- come to.
 abbrev pub KnownLinesStand : Type 0
 KnownLinesStand =
-    (half : ℕ) (texts : List (List ℕ)) (last : List ℕ) (defined : List (List ℕ × Value)) (lines : List KnownLine) (end : KnownLine)
+    (half : ℕ) (texts : List (List ℕ)) (last : List ℕ) (defined : List (List ℕ × Value)) (lines : List KnownLine)
+    (end : KnownLine)
     (entry : Spot) (index : ℕ) (d : KnownLine)
     → AreKnown (2 * half) texts last defined lines end entry → index < length (lines ++ end ∷ [])
     → let line = slice_index_or (lines ++ end ∷ []) index d in StandsIn (texts ++ last ∷ []) index line.at line.outcome

@@ -13,4 +13,5 @@ fed_text texts = flat_map (λ text. text ++ 0x0A ∷ []) texts
 
 -- The law, which is proved: the lines of that text are these lines, which count from 1.
 abbrev pub FedTextsHaveTheirLines : Type 0
-FedTextsHaveTheirLines = (texts : List (List ℕ)) → AllByRecursion IsWithoutControls texts → line_texts (fed_text texts) ≡ numbered 1 texts
+FedTextsHaveTheirLines =
+    (texts : List (List ℕ)) → AllByRecursion IsWithoutControls texts → line_texts (fed_text texts) ≡ numbered 1 texts

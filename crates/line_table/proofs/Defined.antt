@@ -1,5 +1,6 @@
 -- The rows of names are the names that the lines of the source define.
-use Rattle.std.proofs.Common.{◌≡◌, ℕ, ◌+◌, ◌<◌, length, arith, true, List, [], ◌∷◌, ◌++◌, append_assoc, Ok, refl, sym, ap, subst, ◌∙◌}
+use Rattle.std.proofs.Common.{◌≡◌, ℕ, ◌+◌, ◌<◌, length, arith, true, List, [], ◌∷◌, ◌++◌, append_assoc, Ok, refl, sym}
+use Rattle.std.proofs.Common.{ap, subst, ◌∙◌}
 use Rattle.std.specs.Prelude.{map, slice_index_or}
 use Rattle.std.specs.List.{list_all}
 use Rattle.source_defs.specs.Names.{is_kept_name}
@@ -9,18 +10,15 @@ use Rattle.object_defs.specs.declared.spot.Spot.TheVariants as spot
 use Rattle.module_defs.specs.Locations.{Line}
 use Rattle.module_defs.specs.FirstChecks.{check, line_of, external_entries, refs_in}
 use Rattle.known_lines.specs.KnownLines.{KnownLine, names_in, all_names, are_plain, is_plain, is_plain_statement}
-use Rattle.known_lines.proofs.Laying.{laid_list, plain_free, both}
+use Rattle.known_lines.proofs.Laying.{laid_list, plain_free}
 use Rattle.known_lines.proofs.Whole.{front, final, all_laid}
 use Rattle.native_interp.specs.declared.addresses.TheConstants.{GBOOT}
 use Rattle.line_table.specs.Table.{defined}
 use Rattle.line_table.specs.Rows.{names_of_lines, NamesAreDefined, named, no_name, IsNameRow}
 use Rattle.line_table.specs.declared.line_row.NameRow.{NameRow}
-use Rattle.line_table.proofs.Places.{index_map, map_length, tested}
+use Rattle.line_table.proofs.Places.{index_map, tested}
 use Rattle.line_table.proofs.Known.{last, ending, front_texts, front_lines, are_known, lines_are}
-
-append_none : (items more : List (List ℕ × Value)) → more ≡ [] → items ++ more ≡ items
-append_none [] more e = e
-append_none (item ∷ items) more e = ap (λ items. item ∷ items) (append_none items more e)
+use Rattle.known_lines.proofs.Small.{both, append_none, map_length}
 
 own_names : (line : KnownLine) (number : ℕ) → is_plain line ≡ true → (line_of number line.found).names ≡ names_in line
 own_names line number plain =

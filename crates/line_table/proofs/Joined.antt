@@ -1,6 +1,7 @@
 -- The source gives the words that are shipped.
-use Rattle.std.proofs.Common.{◌≡◌, ℕ, ◌+◌, ◌-◌, ◌*◌, ◌/◌, ◌%◌, ◌≤◌, Bool, true, false, List, [], ◌∷◌, ◌++◌, length, None, refl, ap, subst, ◌∙◌, arith}
-use Rattle.std.specs.Prelude.{Option, ◌&&◌, ◌==◌, nat_le, if◌then◌else◌}
+use Rattle.std.proofs.Common.{◌≡◌, ℕ, ◌+◌, ◌-◌, ◌*◌, ◌/◌, ◌%◌, ◌≤◌, Bool, true, false, List, [], ◌∷◌, ◌++◌, length}
+use Rattle.std.proofs.Common.{None, refl, ap, subst, ◌∙◌, arith}
+use Rattle.std.specs.Prelude.{◌&&◌, ◌==◌, nat_le}
 use Rattle.std.specs.List.{slice_get, list_all, AllByRecursion}
 use Rattle.std.proofs.lemmas.Bool.Decides.{nat_tests}
 use Rattle.source_defs.specs.Layout.{line_texts, numbered}
@@ -22,9 +23,7 @@ use Rattle.build_defs.specs.Building.{Links, HasShipped}
 use Rattle.build_defs.specs.Interpreter.{SourceGivesWords}
 use Rattle.line_table.specs.Table.{defined}
 use Rattle.line_table.proofs.Known.{last, ending, front_texts, front_lines, are_known, words_are, lines_are}
-
-chosen : (d b : Bool) (found : Option ℕ) → d ≡ b → (if d then found else None) ≡ (if b then found else None)
-chosen d b found e = ap (λ c. if c then found else None) e
+use Rattle.known_lines.proofs.Small.{chosen}
 
 -- both tests ask for an even place from there on
 tests_agree : (at : ℕ) (b c : Bool) → (nat_le 0x2000 at && ((at - 0x2000) % 2 == 0)) ≡ b → (nat_le 0x2000 at && (at % 2 == 0)) ≡ c → b ≡ c
@@ -42,7 +41,7 @@ has_shipped : (shipped : List ℕ) (entry : ℕ) → HasShipped shipped (memory_
 has_shipped shipped entry at =
     word_found (2 * 0x1000) shipped entry at
     ∙ (pair_found (2 * 0x1000) shipped at
-    ∙ chosen (nat_le 0x2000 at && ((at - 0x2000) % 2 == 0)) (nat_le 0x2000 at && (at % 2 == 0)) (slice_get shipped ((at - 0x2000) / 2))
+    ∙ chosen (nat_le 0x2000 at && ((at - 0x2000) % 2 == 0)) (nat_le 0x2000 at && (at % 2 == 0)) (slice_get shipped ((at - 0x2000) / 2)) None
     (tests_agree at (nat_le 0x2000 at && ((at - 0x2000) % 2 == 0)) (nat_le 0x2000 at && (at % 2 == 0)) refl refl))
 
 -- a source whose lines have these words

@@ -1,5 +1,6 @@
 -- Each row is that of its line.
-use Rattle.std.proofs.Common.{◌≡◌, ℕ, zero, suc, ◌-◌, ◌/◌, ◌<◌, Bool, true, false, ◌&&◌, List, [], ◌∷◌, ◌++◌, length, Some, None, refl, sym, ap, subst, ◌∙◌, arith}
+use Rattle.std.proofs.Common.{◌≡◌, ℕ, zero, suc, ◌-◌, ◌/◌, ◌<◌, Bool, true, false, ◌&&◌, List, [], ◌∷◌, ◌++◌, length}
+use Rattle.std.proofs.Common.{Some, None, refl, sym, ap, subst, ◌∙◌, arith}
 use Rattle.std.specs.Prelude.{Option, is_some, nat_eq, map, take, drop, slice_index_or}
 use Rattle.std.specs.Option.{unwrap_or}
 use Rattle.std.specs.List.{list_all}
@@ -26,6 +27,7 @@ use Rattle.line_table.specs.Rows.{Places, IsRow}
 use Rattle.line_table.proofs.Reading.{Shown, shown, row_shown}
 use Rattle.line_table.proofs.Known.{last, ending, front_texts, front_lines, are_known, lines_are}
 use Rattle.line_table.proofs.Fronts.{to_last}
+use Rattle.known_lines.proofs.Small.{append_map, map_length}
 
 some_words : (come : Outcome) (found : List ℕ) → known.words_of come ≡ Some found → Places come found
 some_words Nothing found e = let same : ◌≡◌ {A = List ℕ} [] found = cc e in sym same
@@ -68,10 +70,6 @@ module _ (some : List KnownLine) (table : List LineRow) (same : map shown some �
   shown_alike : shown (slice_index_or some index d) ≡ row_shown (slice_index_or table index r)
   shown_alike =
       sym (index_map shown some index d (shown d) inside) ∙ (ap (λ items. slice_index_or items index (shown d)) same ∙ index_map row_shown table index r (shown d) there)
-
-append_map : {A B : Type 0} (f : A → B) (items more : List A) → map f (items ++ more) ≡ map f items ++ map f more
-append_map f [] more = refl
-append_map f (item ∷ items) more = ap (λ rest. f item ∷ rest) (append_map f items more)
 
 place_number : (row : LineRow) → row.place ≡ (location_of row).number
 place_number row = by (nat_eq row.place 0) refl
@@ -134,10 +132,6 @@ all_shown =
     ∙ (ap (λ front. front ++ map shown (ending ∷ [])) to_last.as_rows
     ∙ (ap (λ rest. map row_shown (take 834 rows) ++ rest) ending_shown
     ∙ (sym (append_map row_shown (take 834 rows) (drop 834 rows)) ∙ ap (map row_shown) split_rows)))
-
-pub map_length : {A B : Type 0} (f : A → B) (items : List A) → length (map f items) ≡ length items
-map_length f [] = refl
-map_length f (item ∷ items) = ap suc (map_length f items)
 
 rows_counted : length rows ≡ 835
 rows_counted = refl

@@ -1,5 +1,6 @@
 -- Lines that are known by themselves, beside their rows.
-use Rattle.std.proofs.Common.{◌≡◌, ℕ, zero, suc, arith, ◌+◌, ◌*◌, Bool, true, false, ◌&&◌, ◌||◌, List, [], ◌∷◌, ◌++◌, append_assoc, length, Ok, Err, refl, sym, ap, subst, ◌∙◌}
+use Rattle.std.proofs.Common.{◌≡◌, ℕ, zero, suc, arith, ◌+◌, ◌*◌, Bool, true, false, ◌&&◌, ◌||◌, List, [], ◌∷◌, ◌++◌}
+use Rattle.std.proofs.Common.{append_assoc, length, Ok, Err, refl, sym, ap, subst, ◌∙◌}
 use Rattle.std.specs.Prelude.{Option, Result, map, take, drop}
 use Rattle.std.specs.List.{flat_map}
 use Rattle.source_defs.specs.Refusals.{seen}
@@ -8,10 +9,12 @@ use Rattle.module_defs.specs.declared.causes.AsmCause.{AsmCause}
 use Rattle.module_defs.specs.declared.location.Location.{Location}
 use Rattle.module_defs.specs.FirstChecks.{location_behind}
 use Rattle.module_defs.proofs.CheckLaws.{bound}
-use Rattle.known_lines.specs.KnownLines.{KnownLine, known_line, known_lines, words_in, names_in, all_names, all_words, end_of, is_plain, are_plain, are_close, is_empty, is_at}
+use Rattle.known_lines.specs.KnownLines.{KnownLine, known_line, known_lines, words_in, names_in, all_names, all_words}
+use Rattle.known_lines.specs.KnownLines.{end_of, is_plain, are_plain, are_close, is_empty, is_at}
 use Rattle.native_interp.specs.Source.{lines}
 use Rattle.line_table.specs.declared.line_row.LineRow.{LineRow}
 use Rattle.line_table.specs.Table.{rows, location_of, words_of}
+use Rattle.known_lines.proofs.Small.{append_map}
 
 -- what a row says of its line
 pub record Shown : Type 0 where
@@ -80,10 +83,6 @@ module _ (look : List ℕ → Option Value) where
       let same : a.0 ∷ b.0 ≡ lines = cc (b.2) in
       let rest = known_append texts more (location_behind from a.0.found.move) b.0 others b.1 (subst (λ lines. known_lines look (end_of from lines) more ≡ Ok others) (sym same) f) in
       subst (λ lines. known_lines look from (text ∷ (texts ++ more)) ≡ Ok (lines ++ others)) same (known_step text (texts ++ more) from a.0 (b.0 ++ others) a.1 rest)
-
-append_map : {A B : Type 0} (f : A → B) (items more : List A) → map f (items ++ more) ≡ map f items ++ map f more
-append_map f [] more = refl
-append_map f (item ∷ items) more = ap (λ rest. f item ∷ rest) (append_map f items more)
 
 append_names : (lines more : List KnownLine) → all_names (lines ++ more) ≡ all_names lines ++ all_names more
 append_names [] more = refl

@@ -23,7 +23,8 @@ Places (Words values) placed = values ≡ map Absolute placed
 Places (Bytes bytes) placed = ⊥
 Places (Entry entry) placed = placed ≡ []
 
--- The row of a line of the source, by its number from 0. The line stands at the row's place by the layout of all lines, and places
+-- The row of a line of the source, by its number from 0. The line stands at the row's place by the layout of all
+-- lines, and places
 -- the row's words, which are the words that are shipped from there on.
 pub record IsRow (index : ℕ) (row : LineRow) : Type 0 where
   pub at : Location
@@ -39,7 +40,8 @@ abbrev pub names_of_lines : List Line → List (List ℕ × Value)
 names_of_lines [] = []
 names_of_lines (line ∷ before) = names_of_lines before ++ line.names
 
--- The names are those that the lines of the source define, each with what it stands for. None stands twice, and none is a register's.
+-- The names are those that the lines of the source define, each with what it stands for. None stands twice, and none
+-- is a register's.
 pub record NamesAreDefined : Type 0 where
   pub all : List Line
   pub are_laid : laid check (numbered 1 lines) ≡ Ok all

@@ -37,7 +37,9 @@ defined = map (λ name. (name.0.now, Absolute name.1)) NAMES
 -- Where the line of a row stands: an address, or relocatable 0, where a source starts.
 abbrev pub location_of : LineRow → Location
 location_of row =
-    if nat_eq row.place 0 then record { part = part.Relocatable; number = 0 } else record { part = part.Absolute; number = row.place }
+    if nat_eq row.place 0
+    then record { part = part.Relocatable; number = 0 }
+    else record { part = part.Absolute; number = row.place }
 
 -- the words of a row
 abbrev pub words_of : LineRow → List ℕ

@@ -16,30 +16,35 @@ use crate::names::NAMES;
 use crate::rows::{COPY_ROWS, FLOW_ROWS, OPERATION_ROWS, ROUTINE_ROWS, Row};
 use asm_text::Name;
 
+/// The names with their values.
 fn names() -> &'static [(&'static str, u16)]
     ensures { map (λ name. (name.0.now, Absolute name.1)) result.now ≡ defined }
 {
     &NAMES
 }
 
+/// The rows of the first part of the source.
 fn routine_rows() -> &'static [Row]
     ensures { result.now ≡ ROUTINE_ROWS }
 {
     &ROUTINE_ROWS
 }
 
+/// The rows of the second part.
 fn operation_rows() -> &'static [Row]
     ensures { result.now ≡ OPERATION_ROWS }
 {
     &OPERATION_ROWS
 }
 
+/// The rows of the third part.
 fn flow_rows() -> &'static [Row]
     ensures { result.now ≡ FLOW_ROWS }
 {
     &FLOW_ROWS
 }
 
+/// The rows of the last part.
 fn copy_rows() -> &'static [Row]
     ensures { result.now ≡ COPY_ROWS }
 {
@@ -111,7 +116,8 @@ fn named_row(text: &[u8], value: u16) -> NameRow
     }
 }
 
-/// The row of a name, by its number below [`name_count`]. They stand in the order of their lines, and no name stands twice.
+/// The row of a name, by its number below [`name_count`]. They stand in the order of their lines, and no name stands
+/// twice.
 pub fn name_row(index: usize) -> NameRow
     requires { index < length defined }
     ensures { IsNameRow index result }
