@@ -3,3 +3,5 @@ pub mod FileLines
 pub mod LinkedFiles
 pub mod Watching
 pub mod Reports
+pub mod Whole
+pub mod Laws

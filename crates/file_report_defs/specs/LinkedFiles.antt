@@ -1,10 +1,9 @@
 -- The linked memory of files of object text.
 --
--- Profile: all files are read first, in their order; then their texts are read in that order; and then the modules
--- of all are
--- linked, in the order of the files.
-use Rattle.std.specs.Prelude.{ℕ, nat_lt, if◌then◌else◌, List, [], ◌∷◌, ◌++◌, length, Option, Some, None, Result, Ok}
-use Rattle.std.specs.Prelude.{Err}
+-- Profile: all files are read first, in their order; then their texts are read in that order; and then the modules of
+-- all are linked, in the order of the files.
+use Rattle.std.specs.Prelude.{ℕ, nat_lt, if◌then◌else◌, List, [], ◌∷◌, ◌++◌, length, Option, Some, None}
+use Rattle.std.specs.Prelude.{Result, Ok, Err}
 use Rattle.std.specs.FinMap.{get}
 use Rattle.source_defs.specs.Refusals.{Refusal, ◌>>=◌}
 use Rattle.object_defs.specs.declared.causes.TagCause.{TagCause}

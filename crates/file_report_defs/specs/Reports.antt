@@ -1,5 +1,5 @@
 -- The reports of the commands that read files.
-use Rattle.std.specs.Prelude.{ℕ, List, Result, Ok, Err}
+use Rattle.std.specs.Prelude.{ℕ, List, Some, Result, Ok, Err}
 use Rattle.object_defs.specs.Modules.{Module}
 use Rattle.object_defs.specs.Writing.{written}
 use Rattle.link_defs.specs.LinkedMemory.{LinkedMemory}
@@ -13,11 +13,9 @@ use Rattle.report_defs.specs.Report.{Report, Whole, Faulty, Rejected}
 use Rattle.file_report_defs.specs.FileLines.{in_file, place_line, missing_line}
 use Rattle.file_report_defs.specs.LinkedFiles as files
 use Rattle.file_report_defs.specs.LinkedFiles.{FilesRefusal}
-use Rattle.std.specs.Prelude.{Some}
 
--- Profile: the report of asm is the object text of the module, line by line; or the first refused line, with the
--- file that it
--- stands in; or that a file is too large.
+-- Profile: the report of asm is the object text of the module, line by line; or the first refused line, with the file
+-- that it stands in; or that a file is too large.
 abbrev pub copy_report : Result Module CopyRefusal → Report
 copy_report (Ok found) = Whole Done (text_lines (written found))
 copy_report (Err (At place cause)) = Rejected (place_line place cause)

@@ -1,10 +1,8 @@
 -- The words of the program's command line.
-use Rattle.std.specs.Prelude.{◌≡◌, ℕ, ◌+◌, ◌-◌, ◌==◌, Bool, true, not, ◌&&◌, nat_eq, nat_lt, nat_le, if◌then◌else◌}
-use Rattle.std.specs.Prelude.{List, [], ◌∷◌, ◌++◌}
-use Rattle.std.specs.Prelude.{length, take, drop, slice_index, codes, Option, Some, None}
+use Rattle.std.specs.Prelude.{ℕ, ◌+◌, Bool, ◌&&◌, nat_eq, nat_le, if◌then◌else◌, List, [], ◌∷◌, ◌++◌, length, take}
+use Rattle.std.specs.Prelude.{drop, slice_index, codes, Option, Some, None}
 use Rattle.std.specs.Option.{option_map, option_and_then}
 use Rattle.std.specs.List.{list_all}
-use Rattle.source_defs.specs.Numbers.{hexadecimal_number}
 use Rattle.gpl_defs.specs.declared.instruction.Space.{Space}
 use Rattle.gpl_defs.specs.declared.instruction.Space.TheVariants.{Cpu, Vdp}
 use Rattle.shelf_defs.specs.Files.{is_file_name}
@@ -15,9 +13,8 @@ use Rattle.report_defs.specs.declared.command.Command.{Command}
 use Rattle.report_defs.specs.declared.command.Command.TheVariants as command
 use Rattle.report_defs.specs.Commands.{same_word, number_word, most_steps, address_word, command_of}
 
--- What the words say: `asm`, whose source may copy files; `link` with names of files; `watch` with a number of steps
--- and with
--- items; or another command, which reads no file.
+-- What the words say: `asm`, whose source may copy files; `link` with names of files; `watch` with a number of steps and
+-- with items; or another command, which reads no file.
 pub data ProgramCommand : Type 0 where
   AsmFiles : ProgramCommand
   LinkFiles : List (List ℕ) → ProgramCommand

@@ -14,16 +14,14 @@ use Rattle.module_defs.specs.SecondChecks as outcome
 use Rattle.module_defs.specs.SecondChecks.{Outcome, outcome}
 use Rattle.module_defs.specs.Modules.{module_of_lines}
 use Rattle.known_lines.specs.KnownLines.{KnownLine, known_line, known_lines, end_of, all_names, names_behind, look_in}
-use Rattle.known_lines.specs.KnownLines.{are_new}
-use Rattle.known_lines.specs.KnownLines.{are_plain, are_close, all_words, pieces_of}
+use Rattle.known_lines.specs.KnownLines.{are_new, are_plain, are_close, all_words, pieces_of}
 
 -- what all names of a source stand for, by the names that its lines define
 abbrev pub looks : List (List ℕ × Value) → List ℕ → Option Value
 looks defined name = look_in (names_behind registers defined) name
 
--- Lines that are plain, by the names that they define: these are new, and the words stand one behind the other from
--- an absolute
--- place on. Behind them stands a last line, which is END with an entry.
+-- Lines that are plain, by the names that they define: these are new, and the words stand one behind the other from an
+-- absolute place on. Behind them stands a last line, which is END with an entry.
 pub record AreKnown (from : ℕ) (texts : List (List ℕ)) (last : List ℕ) (defined : List (List ℕ × Value))
     (lines : List KnownLine) (end : KnownLine) (entry : Spot) : Type 0 where
   pub known : known_lines (looks defined) start texts ≡ Ok lines
@@ -53,8 +51,7 @@ pub record HaveWords (texts : List (List ℕ)) (from : ℕ) (words : List ℕ) (
 abbrev pub KnownLinesHaveTheirWords : Type 0
 KnownLinesHaveTheirWords =
     (half : ℕ) (texts : List (List ℕ)) (last : List ℕ) (defined : List (List ℕ × Value)) (lines : List KnownLine)
-    (end : KnownLine)
-    (entry : Spot)
+    (end : KnownLine) (entry : Spot)
     → AreKnown (2 * half) texts last defined lines end entry → half + length (all_words lines) ≤ 32768
     → HaveWords (texts ++ last ∷ []) (2 * half) (all_words lines) entry
 
@@ -74,7 +71,6 @@ pub record StandsIn (texts : List (List ℕ)) (index : ℕ) (at : Location) (com
 abbrev pub KnownLinesStand : Type 0
 KnownLinesStand =
     (half : ℕ) (texts : List (List ℕ)) (last : List ℕ) (defined : List (List ℕ × Value)) (lines : List KnownLine)
-    (end : KnownLine)
-    (entry : Spot) (index : ℕ) (d : KnownLine)
+    (end : KnownLine) (entry : Spot) (index : ℕ) (d : KnownLine)
     → AreKnown (2 * half) texts last defined lines end entry → index < length (lines ++ end ∷ [])
     → let line = slice_index_or (lines ++ end ∷ []) index d in StandsIn (texts ++ last ∷ []) index line.at line.outcome

@@ -23,9 +23,8 @@ Places (Words values) placed = values ≡ map Absolute placed
 Places (Bytes bytes) placed = ⊥
 Places (Entry entry) placed = placed ≡ []
 
--- The row of a line of the source, by its number from 0. The line stands at the row's place by the layout of all
--- lines, and places
--- the row's words, which are the words that are shipped from there on.
+-- The row of a line of the source, by its number from 0. The line stands at the row's place by the layout of all lines,
+-- and places the row's words, which are the words that are shipped from there on.
 pub record IsRow (index : ℕ) (row : LineRow) : Type 0 where
   pub at : Location
   pub come : Outcome

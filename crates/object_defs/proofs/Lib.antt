@@ -5,3 +5,4 @@ pub mod Characters
 pub mod Adding
 pub mod FirstLine
 pub mod Written
+pub mod ModuleCount

@@ -98,7 +98,7 @@ one_interpreter_report first second p q =
     p.is ∙ ap (λ memory. Whole Done (linked_lines memory)) same ∙ sym q.is
 
 -- by a test, one fault or one of other reports
-one_by : (test : Bool) (fault first second : Report) (Other : Report → Type 0) → ((first second : Report) → Other first → Other second → first ≡ second) → MatchBool test (first ≡ fault) (Other first) → MatchBool test (second ≡ fault) (Other second) → first ≡ second
+pub one_by : (test : Bool) (fault first second : Report) (Other : Report → Type 0) → ((first second : Report) → Other first → Other second → first ≡ second) → MatchBool test (first ≡ fault) (Other first) → MatchBool test (second ≡ fault) (Other second) → first ≡ second
 one_by true fault first second Other one p q = p ∙ sym q
 one_by false fault first second Other one p q = one first second p q
 
@@ -107,7 +107,7 @@ one_exec limit (Ok linked) first second p q = one_execution_report limit linked 
 one_exec limit (Err line) first second p q = p ∙ sym q
 
 -- bytes of an image are one list
-one_bytes : (image : Image) (xs ys : List ℕ) → AreBytesOf image xs → AreBytesOf image ys → xs ≡ ys
+pub one_bytes : (image : Image) (xs ys : List ℕ) → AreBytesOf image xs → AreBytesOf image ys → xs ≡ ys
 one_bytes image xs ys p q =
     let size : length xs ≡ length ys = p.size ∙ sym q.size in
     same_list xs ys size (λ at below. p.each at below ∙ sym (q.each at (omega arith)))
@@ -122,7 +122,8 @@ one_program lines limit image entry first second p q =
     let by : List ℕ → MachineState → Report = λ b x. let s = start b entry in let r = run limit s in Whole (program_status r.stop) (lines image s r x) in
     p.is ∙ ap (λ (b : List ℕ). by b p.left) bytes ∙ ap (by q.bytes) left ∙ sym q.is
 
-abbrev One : (Report → Type 0) → Type 0
+-- two such reports are one
+abbrev pub One : (Report → Type 0) → Type 0
 One Reports = (first second : Report) → Reports first → Reports second → first ≡ second
 
 one_entered : (Reports : Image → ℕ → Report → Type 0) → ((image : Image) (entry : ℕ) → One (Reports image entry)) →
@@ -130,7 +131,7 @@ one_entered : (Reports : Image → ℕ → Report → Type 0) → ((image : Imag
 one_entered Reports one image (Some entry) first second p q = one image entry first second p q
 one_entered Reports one image None first second p q = p ∙ sym q
 
-one_assembled : (Reports : Image → ℕ → Report → Type 0) → ((image : Image) (entry : ℕ) → One (Reports image entry)) →
+pub one_assembled : (Reports : Image → ℕ → Report → Type 0) → ((image : Image) (entry : ℕ) → One (Reports image entry)) →
     (program : Result Program (Refusal GplCause)) → One (ProgramReport Reports program)
 one_assembled Reports one (Ok program) first second p q = one_entered Reports one program.image program.entry first second p q
 one_assembled Reports one (Err refused) first second p q = p ∙ sym q

@@ -1,5 +1,5 @@
 -- The words of the command line.
-use Rattle.std.specs.Prelude.{ℕ, ◌==◌, ◌%◌, Bool, true, false, ◌&&◌, nat_eq, nat_lt, nat_le, if◌then◌else◌, List, []}
+use Rattle.std.specs.Prelude.{⊤, ℕ, ◌≤◌, ◌==◌, ◌%◌, Bool, true, false, ◌&&◌, nat_eq, nat_lt, nat_le, if◌then◌else◌, List, []}
 use Rattle.std.specs.Prelude.{◌∷◌, length, slice_index, codes, Option, Some, None}
 use Rattle.std.specs.Option.{option_map, option_and_then}
 use Rattle.std.specs.Cmp.Lexicographic.{pointwise}
@@ -64,6 +64,14 @@ dis_command word = option_and_then dis_at (address_word word)
 -- Profile: a listing of GROM begins at any address.
 abbrev pub gdis_command : List ℕ → Option Command
 gdis_command word = option_map Gdis (address_word word)
+
+-- a command keeps the limit of its number, where it has one
+abbrev pub KeepsLimit : Command → Type 0
+KeepsLimit (Exec limit) = limit ≤ most_instructions
+KeepsLimit (Run limit) = limit ≤ most_steps
+KeepsLimit (Trace limit) = limit ≤ most_steps
+KeepsLimit (Demo number) = number ≤ most_blocks
+KeepsLimit command = ⊤
 
 -- Profile: words in any other shape are no command.
 abbrev pub command_of : List (List ℕ) → Option Command
