@@ -4,6 +4,7 @@ use Rattle.std.proofs.Common.{length-append, arith}
 use Rattle.std.specs.Prelude.{MatchBool, nat_lt, if◌then◌else◌}
 use Rattle.std.specs.Option.{option_map}
 use Rattle.std.proofs.lemmas.Bool.Decides.{nat_tests}
+use Rattle.count_defs.specs.Counts.{Rose}
 use Rattle.bench_io.specs.Stream.{SourceState, IsAtEnd}
 use Rattle.report_defs.specs.declared.command.Command.{Command}
 use Rattle.report_defs.specs.declared.fault.Fault.TheVariants.{TooLarge}
@@ -13,14 +14,19 @@ use Rattle.report_defs.specs.Commands.{command_of, reads}
 use Rattle.report_defs.specs.Report.{Report, Whole, Faulty, Rejected, status_of, largest_input, AcceptedReport, ReportOn}
 use Rattle.report_defs.proofs.OneReport.{one_report}
 use Rattle.report_defs.proofs.ListedInputs.{listed_inputs_come_back}
-use Rattle.bench_commands.specs.Run.{Run, ReadsInput, Reads, ReportsOn, Reports, WroteReport, MissedReport, EndsBy}
+use Rattle.bench_commands.specs.Run.{Outputs, Run, ReadsInput, Reads, ReportsOn, Reports, WroteReport, MissedReport, EndsBy}
 use Rattle.bench_commands.specs.Laws.{HasNoFault, read_of, Completeness, BeginAlike, OneAnswer, LawsOfRuns}
 
+-- a report on an input, which is refused where it is too large
+abbrev OnInput : (List ℕ → Report → Type 0) → List ℕ → Report → Type 0
+OnInput Accepted input report = MatchBool (nat_lt largest_input (length input)) (report ≡ Faulty TooLarge) (Accepted input report)
+
 -- a report on bytes that were taken is one on all bytes of the input
-on_all : (command : Command) (before after : SourceState) (bytes input : List ℕ) (report : Report) → before.left ≡ Some input → ReadsInput before after bytes → ReportOn command bytes report → ReportOn command input report
-on_all command before after bytes input report told reading on = left after.left refl
+pub on_all : (Accepted : List ℕ → Report → Type 0) (before after : SourceState) (bytes input : List ℕ) (report : Report) → before.left ≡ Some input → ReadsInput before after bytes
+    → OnInput Accepted bytes report → OnInput Accepted input report
+on_all Accepted before after bytes input report told reading on = left after.left refl
   where
-    by : (rest : List ℕ) → after.left ≡ Some rest → input ≡ bytes ++ rest → (large : Bool) → nat_lt largest_input (length bytes) ≡ large → MatchBool large (report ≡ Faulty TooLarge) (AcceptedReport command bytes report) → ReportOn command input report
+    by : (rest : List ℕ) → after.left ≡ Some rest → input ≡ bytes ++ rest → (large : Bool) → nat_lt largest_input (length bytes) ≡ large → MatchBool large (report ≡ Faulty TooLarge) (Accepted bytes report) → OnInput Accepted input report
     by rest is all true large found =
         let above : nat_lt largest_input (length input) ≡ true = rw all (rw length-append (grind (arith, nat_tests))) in
         rw above found
@@ -29,10 +35,10 @@ on_all command before after bytes input report told reading on = left after.left
         let P : Option (List ℕ) → Type 0 = λ l. IsAtEnd l in
         let none : rest ≡ [] = subst P is (reading.whole within) in
         let same : input ≡ bytes = all ∙ ap (λ r. bytes ++ r) none ∙ append-nil bytes in
-        let Q : List ℕ → Type 0 = λ i. ReportOn command i report in
+        let Q : List ℕ → Type 0 = λ i. OnInput Accepted i report in
         subst Q (sym same) on
 
-    left : (l : Option (List ℕ)) → after.left ≡ l → ReportOn command input report
+    left : (l : Option (List ℕ)) → after.left ≡ l → OnInput Accepted input report
     left None is =
         let e : Some input ≡ None = sym told ∙ (reading.took.told ∙ ap (option_map (λ rest. bytes ++ rest)) is) in
         absurd (cc)
@@ -46,13 +52,14 @@ pub on_input : (run : Run) (command : Command) (input : List ℕ) (report : Repo
 on_input run command input report told (bytes, reading, on) = by (reads command) refl reading
   where
     by : (read : Bool) → reads command ≡ read → Reads read run.input run.input' bytes → ReportOn command (if read then input else []) report
-    by true is reading = on_all command run.input run.input' bytes input report told reading on
+    by true is reading = on_all (AcceptedReport command) run.input run.input' bytes input report told reading on
     by false is (same, none) = let P : List ℕ → Type 0 = λ b. ReportOn command b report in subst P none on
 
-no_miss : (run : Run) (report : Report) → HasNoFault run → MissedReport run.outputs report → ⊥
-no_miss run (Whole status pieces) none missed = none.out missed.0.rose
-no_miss run (Faulty fault) none missed = none.err missed.0.rose
-no_miss run (Rejected line) none missed = none.err missed.0.rose
+-- no report is missed by outputs that do not fail
+pub no_miss : (o : Outputs) (report : Report) → (Rose o.out.faults o.out'.faults → ⊥) → (Rose o.err.faults o.err'.faults → ⊥) → MissedReport o report → ⊥
+no_miss o (Whole status pieces) out err missed = out missed.0.rose
+no_miss o (Faulty fault) out err missed = err missed.0.rose
+no_miss o (Rejected line) out err missed = err missed.0.rose
 
 -- a run in which no count rose wrote its report
 pub reported : (run : Run) (s : Status) → EndsBy run s → HasNoFault run → s ≢ status.Memory → (report : Report) × Reports run report × (s ≡ status_of report) × WroteReport run.outputs report
@@ -60,8 +67,8 @@ reported run status.Done (report, reports, (is, wrote)) none some = (report, rep
 reported run status.Refused (report, reports, (is, wrote)) none some = (report, reports, sym is, wrote)
 reported run status.Usage (report, reports, (is, wrote)) none some = (report, reports, sym is, wrote)
 reported run status.ReadFault (nothing, rose) none some = absurd (none.input rose)
-reported run status.WriteFault (inl (report, reports, missed)) none some = absurd (no_miss run report none missed)
-reported run status.WriteFault (inr (front, begins, missed)) none some = absurd (no_miss run front none missed)
+reported run status.WriteFault (inl (report, reports, missed)) none some = absurd (no_miss run.outputs report none.out none.err missed)
+reported run status.WriteFault (inr (front, begins, missed)) none some = absurd (no_miss run.outputs front none.out none.err missed)
 reported run status.Memory nothing none some = absurd (some refl)
 reported run status.Stopped (report, reports, (is, wrote)) none some = (report, reports, sym is, wrote)
 

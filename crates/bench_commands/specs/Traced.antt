@@ -14,7 +14,7 @@ use Rattle.report_defs.specs.declared.command.Command.{Command}
 use Rattle.report_defs.specs.declared.command.Command.TheVariants as asked
 use Rattle.report_defs.specs.declared.status.Status.{Status}
 use Rattle.report_defs.specs.declared.status.Status.TheVariants.{WriteFault}
-use Rattle.report_defs.specs.Commands.{most_steps, most_blocks}
+use Rattle.report_defs.specs.Commands.{most_steps}
 use Rattle.report_defs.specs.Program.{program_lines, program_status}
 use Rattle.report_defs.specs.Trace.{seen_state, step_lines}
 use Rattle.report_defs.specs.Report.{Whole, largest_input, ReportOn}
@@ -25,12 +25,6 @@ use Rattle.bench_commands.specs.declared.trace.Trace.{Trace}
 use Rattle.bench_commands.specs.Made.{defined_report}
 use Rattle.bench_commands.specs.Loaded.{LoadsProgram}
 use Rattle.bench_commands.specs.Run.{Outputs, EndsWith}
-
--- a trace has a limit that it keeps, and so has demo
-abbrev pub KeepsLimit : Command → Type 0
-KeepsLimit (asked.Trace limit) = limit ≤ most_steps
-KeepsLimit (asked.Demo number) = number ≤ most_blocks
-KeepsLimit command = Unit {0}
 
 -- The interpreter has booted on a machine, and stands before the first step of the program.
 pub record Started (new : MachineState) (session : SessionState) : Type 0 where

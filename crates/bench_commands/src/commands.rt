@@ -8,13 +8,14 @@ mod gasm;
 mod gdis;
 mod interp;
 mod link;
-mod program;
+pub(crate) mod program;
 mod run;
 mod trace;
 
 ghost use Rattle.std.specs.Prelude.{◌≤◌, vec_len, IfOk};
+ghost use Rattle.report_defs.specs.Commands.{KeepsLimit};
 ghost use Rattle.report_defs.specs.Report.{largest_input};
-ghost use Rattle.bench_commands.specs.Traced.{KeepsLimit, Prepares};
+ghost use Rattle.bench_commands.specs.Traced.{Prepares};
 
 use crate::commands::asm::asm;
 use crate::commands::demo::demo;

@@ -1,7 +1,6 @@
 //! The commands of the program, over any input and outputs.
 #![tactic(auto)]
 
-mod command;
 mod commands;
 mod fault_line;
 mod input;
@@ -13,9 +12,9 @@ mod report;
 mod running;
 mod steady;
 mod trace;
-mod words;
 
-pub use crate::command::read_command;
+pub use crate::commands::program::{Loaded, LoadedProgram, load_program};
+pub use crate::listing::Listing;
+pub use crate::report::Report;
 pub use crate::running::bench;
 pub use crate::steady::bench_steady;
-pub use crate::words::Words;

@@ -9,7 +9,7 @@ use bench_io::{Failed, Sink, put_piece};
 
 /// Raw bytes that stand in memory from an address on, and end at >FFFF or before.
 #[derive(Drop)]
-pub(crate) struct Listing {
+pub struct Listing {
     at: u16,
     bytes: Vec<u8>,
     ghost within: { at + vec_len bytes ≤ 65536 },

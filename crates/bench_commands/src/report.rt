@@ -24,13 +24,12 @@ use link_loader::Linked;
 use memory_listing::put_memory;
 use report_defs::{Fault, Status, Summary};
 use report_lines::{Line, append, append_word, put_text};
-use step_defs::Reason;
 use tms_step::Machine;
-use trace_dump::{dump, state_line, stop_line};
+use trace_dump::{dump, program_status, put_state, put_stop};
 
 /// A report, made and not yet written. Nothing that is written takes memory.
 #[derive(Drop)]
-pub(crate) enum Report {
+pub enum Report {
     /// A text, whose lines go to standard output, each by one call.
     Text(Vec<u8>),
     /// An image, whose bytes go to standard output by one call.
@@ -61,7 +60,7 @@ pub(crate) enum Report {
 impl Report {
     /// Writes the report, and gives the status that the program ends with: the report's own, or a write fault.
     #[tactic(auto, using(crate::proofs::Ends::ends_done, crate::proofs::Ends::ends_missed))]
-    pub(crate) fn finish<O: Sink, E: Sink>(&self, out: &mut O, err: &mut E) -> Status
+    pub fn finish<O: Sink, E: Sink>(&self, out: &mut O, err: &mut E) -> Status
         ensures { EndsWith (record {
           out = O.state out.old;
           out' = O.state out.new;
@@ -148,28 +147,8 @@ fn put_program<O: Sink>(out: &mut O, session: &Session) -> Result<(), Failed>
     ensures { Written result (O.state out.old) (O.state out.new)
         (programs.program_lines session.now.ended (seen session.now) session.now.machine) }
 {
-    put_stop(out, session)?;
-    put_state(out, session)
-}
-
-/// Writes how a GPL program ended, if it did.
-#[tactic(auto, using(bench_io::proofs::Writing::wrote_none))]
-fn put_stop<O: Sink>(out: &mut O, session: &Session) -> Result<(), Failed>
-    ensures { Written result (O.state out.old) (O.state out.new)
-        (programs.stop_lines session.now.ended (seen session.now).pc) }
-{
-    match session.ended() {
-        Some(reason) => put_piece(out, stop_line(reason, session.pc()).as_bytes()),
-        None => Ok(()),
-    }
-}
-
-/// Writes the state of a GPL program, and the machine that ran it.
-fn put_state<O: Sink>(out: &mut O, session: &Session) -> Result<(), Failed>
-    ensures { Written result (O.state out.old) (O.state out.new) (programs.state_lines (seen session.now) session.now.machine) }
-{
-    put_piece(out, state_line(session).as_bytes())?;
-    dump(session.machine(), out)
+    put_stop(session, out)?;
+    put_state(session, out)
 }
 
 /// The line that says how a run ended.
@@ -206,18 +185,6 @@ fn end_status(ending: RunEnd) -> Status
     match ending {
         RunEnd::Refused(_) | RunEnd::Port(_) => Status::Stopped,
         RunEnd::Limit | RunEnd::SelfJump | RunEnd::Reached => Status::Done,
-    }
-}
-
-/// The status of a GPL program's report: one that was stopped has its own.
-fn program_status(ended: Option<Reason>) -> Status
-    ensures { result ≡ programs.program_status ended }
-{
-    match ended {
-        None | Some(Reason::Exit) => Status::Done,
-        Some(Reason::Opcode | Reason::Cell | Reason::Stack | Reason::Length | Reason::Register) => {
-            Status::Stopped
-        }
     }
 }
 

@@ -3,12 +3,11 @@
 ghost use Rattle.bench_commands.specs.Laws.{LawsOfRuns};
 ghost use Rattle.bench_commands.specs.Run.{EndsBy};
 
-use crate::command::read_command;
 use crate::commands::prepare;
 use crate::input::take_input;
 use crate::report::Report;
-use crate::words::Words;
 use bench_io::{ReadError, Sink, Source};
+use command_words::{Words, read_command};
 use report_defs::{Fault, Status};
 use std::alloc::{AllocError, Global};
 

@@ -6,8 +6,8 @@ ghost use Rattle.report_defs.specs.Commands.{command_of};
 ghost use Rattle.bench_commands.specs.Steady.{AnswersSteadily, EndsSteadily};
 
 use crate::running::bench;
-use crate::words::Words;
 use bench_io::{SteadySink, SteadySource};
+use command_words::Words;
 use report_defs::Status;
 use std::alloc::Global;
 

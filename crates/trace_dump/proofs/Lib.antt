@@ -4,3 +4,4 @@ pub mod Playing
 pub mod Decimals
 pub mod Counting
 pub mod Numbers
+pub mod Shown

@@ -4,6 +4,7 @@
 
 mod line;
 mod parts;
+mod program;
 mod rows;
 mod seen;
 mod state;
@@ -12,6 +13,7 @@ mod workspace;
 
 pub use line::trace_line;
 pub use parts::dump;
+pub use program::{program_status, put_state, put_stop};
 pub use seen::{Seen, changes};
 pub use state::{state_line, stop_line};
 pub use steps::play;

@@ -1,6 +1,5 @@
 -- Reports of programs whose items were watched.
-use Rattle.std.proofs.Common.{◌≡◌, ℕ, List, ◌∷◌, ◌++◌, Option, Some, None, refl, sym, ap, ap₂, ◌∙◌, subst, lit<}
-use Rattle.std.proofs.lemmas.List.{take-append-drop}
+use Rattle.std.proofs.Common.{◌≡◌, ℕ, List, ◌∷◌, ◌++◌, Option, None, ap, ap₂, ◌∙◌, subst}
 use Rattle.console_defs.specs.Grom.{GromState}
 use Rattle.console_defs.specs.Memory.{IsMemory}
 use Rattle.console_defs.specs.Machine.{MachineState, IsMachine}
@@ -9,64 +8,24 @@ use Rattle.step_defs.specs.declared.reason.Reason.{Reason}
 use Rattle.step_defs.specs.State.{GplState, start}
 use Rattle.step_defs.specs.Run.{GplRun, run}
 use Rattle.interp_defs.specs.Boot.{IsBoot}
-use Rattle.interp_defs.specs.Match.{IsHalted, shown_by}
+use Rattle.interp_defs.specs.Match.{shown_by}
 use Rattle.interp_defs.specs.Programs.{EndsAs, RunsSteps, most_of_boot}
 use Rattle.sim_steps.specs.Running.{RunsTurns}
 use Rattle.sim_steps.specs.Starting.{Begins}
-use Rattle.sim_view.proofs.Bridge.{register_is, reg_word}
 use Rattle.gpl_run.specs.Sessions.{SessionState, IsNew, seen, address_in, image_of, entry_of}
+use Rattle.trace_dump.proofs.Shown.{seen_by, same_pc, same_state}
 use Rattle.watch_defs.specs.declared.item.Item.{Item}
 use Rattle.watch_defs.specs.declared.found.Found.{Found}
 use Rattle.watch_defs.specs.declared.found.Found.TheVariants as result
 use Rattle.watch_defs.specs.Hits as hits
 use Rattle.gpl_watch.specs.Watches.{Watches}
 use Rattle.report_defs.specs.declared.status.Status.TheVariants.{Done}
-use Rattle.report_defs.specs.Program.{showing, state_text, state_line, state_lines, stop_lines, program_status}
+use Rattle.report_defs.specs.Program.{state_lines, stop_lines, program_status}
 use Rattle.report_defs.specs.Report.{Whole}
 use Rattle.file_report_defs.specs.Watching.{ReportsWatch, hit_line, no_hit_line, steps_to, watch_report}
 use Rattle.watch_command.specs.declared.watched.Watched.{Watched}
 use Rattle.watch_command.specs.Made.{watched_status, watched_lines, defined_report}
 use Rattle.watch_command.specs.Ran.{WatchesProgram}
-
--- A machine shows the state that is seen in it.
-pub showing_seen : (t : SessionState) → showing (seen t) t.machine ≡ t.machine
-showing_seen t =
-    let x = t.machine in
-    ap (λ (cells : List ℕ). record x { cpu = record x.cpu { memory = record x.cpu.memory { scratchpad = cells } } })
-    (take-append-drop 194 x.cpu.memory.scratchpad)
-
--- what is seen of a machine whose program has ended so
-abbrev seen_by : Option Reason → MachineState → GplState
-seen_by stop x = seen (record { machine = x; ended = stop })
-
--- States that look alike have the same lines.
-same_lines : (a b : GplState) (x : MachineState) → a.cells ≡ b.cells → a.vdp ≡ b.vdp → a.registers ≡ b.registers
-    → a.pc ≡ b.pc → state_lines a x ≡ state_lines b x
-unfolding state_line state_text
-same_lines a b x cells vdp registers pc =
-    ap (λ (c : List ℕ). state_lines (record a { cells = c }) x) cells
-    ∙ ap (λ (v : List ℕ). state_lines (record a { cells = b.cells; vdp = v }) x) vdp
-    ∙ ap (λ (r : List ℕ). state_lines (record a { cells = b.cells; vdp = b.vdp; registers = r }) x) registers
-    ∙ ap (λ (p : ℕ). state_lines (record b { pc = p; image = a.image }) x) pc
-
--- Register 1 of a halted machine has the address of the instruction that ended the program.
-address_is : (s : GplState) (reason : Reason) (x : MachineState) → IsMemory x.cpu.memory → IsHalted s reason x
-    → address_in (Some reason) x ≡ s.pc
-address_is s reason x memory halted =
-    let m = x.cpu.memory in
-    sym (register_is m 0x83E0 1 s.pc memory refl (lit< tt) (sym halted.address) ∙ reg_word m 1 memory (lit< tt))
-
--- What is seen at the end of a run is its last state.
-module _ (last : GplState) (x : MachineState) (memory : IsMemory x.cpu.memory) where
-  same_pc : (stop : Option Reason) → EndsAs stop last x → (seen_by stop x).pc ≡ last.pc
-  same_pc None matches = ap (λ (s : GplState). s.pc) matches.shows
-  same_pc (Some reason) halted = address_is last reason x memory halted
-
-  same_state : (stop : Option Reason) → EndsAs stop last x → state_lines (seen_by stop x) x ≡ state_lines last x
-  same_state None matches = ap (λ (s : GplState). state_lines s x) matches.shows
-  same_state (Some reason) halted =
-      same_lines (seen_by (Some reason) x) last x halted.cells halted.vdp halted.registers
-      (address_is last reason x memory halted)
 
 -- The report that is made is that of the run up to what was found.
 module _ (limit : ℕ) (s : GplState) (t : SessionState) (memory : IsMemory t.machine.cpu.memory) where

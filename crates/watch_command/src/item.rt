@@ -6,7 +6,8 @@ ghost use Rattle.file_report_defs.specs.Words as spec;
 ghost use Rattle.watch_defs.specs.Items.{IsItem};
 ghost use Rattle.watch_defs.specs.declared.item.Item.TheVariants.{Pc};
 
-use crate::numbers::{address_word, size_word};
+use crate::size::size_word;
+use command_words::address_word;
 use gpl_watch::{Item, Space, is_item};
 
 /// The item that a word says: `pad:AAAA+LEN` or `vdp:AAAA+LEN`, a range in what a program sees, or `pc:AAAA`.
@@ -60,7 +61,6 @@ fn behind(text: &[u8], count: usize) -> &[u8]
 }
 
 /// A range of so many bytes from an address on, where it lies in what a program sees.
-
 fn range_in(space: Space, at: u16, size: u32) -> Option<Item>
     requires { size ≤ 0x4000 }
     ensures item { result ≡ spec.range_in space at size }

@@ -4,9 +4,9 @@
 mod item;
 mod items;
 mod line;
-mod numbers;
 mod report;
 mod run;
+mod size;
 mod watched;
 mod words;
 

@@ -2,16 +2,13 @@
 
 ghost use Rattle.std.specs.Prelude.{◌≡◌, [], ◌∷◌};
 ghost use Rattle.bench_io.specs.Written.{Written};
-ghost use Rattle.gpl_run.specs.Sessions.{seen};
-ghost use Rattle.report_defs.specs.Program as programs;
 ghost use Rattle.watch_command.specs.Made.{end_lines, found_line, watched_lines};
 
 use crate::line::{hit_line, no_hit_line};
 use crate::watched::Watched;
 use bench_io::{Failed, Sink, put_piece};
-use gpl_run::Session;
 use gpl_watch::Found;
-use trace_dump::{dump, state_line, stop_line};
+use trace_dump::{put_state, put_stop};
 
 /// Writes the report line by line: behind the line of a hit the state and the dump of its step; else a line that says
 /// so, how the program ended, if it did, its state and the dump. It takes no memory.
@@ -47,25 +44,4 @@ fn put_end<O: Sink>(watched: &Watched, out: &mut O) -> Result<(), Failed>
         Found::Hit { .. } => Ok(()),
         Found::None => put_stop(&watched.session, out),
     }
-}
-
-/// Writes how a program ended, if it did.
-#[tactic(auto, using(bench_io::proofs::Writing::wrote_none))]
-fn put_stop<O: Sink>(session: &Session, out: &mut O) -> Result<(), Failed>
-    ensures { Written result (O.state out.old) (O.state out.new)
-        (programs.stop_lines session.now.ended (seen session.now).pc) }
-{
-    match session.ended() {
-        Some(reason) => put_piece(out, stop_line(reason, session.pc()).as_bytes()),
-        None => Ok(()),
-    }
-}
-
-/// Writes the state of a program, and the machine that runs it.
-fn put_state<O: Sink>(session: &Session, out: &mut O) -> Result<(), Failed>
-    ensures { Written result (O.state out.old) (O.state out.new)
-        (programs.state_lines (seen session.now) session.now.machine) }
-{
-    put_piece(out, state_line(session).as_bytes())?;
-    dump(session.machine(), out)
 }

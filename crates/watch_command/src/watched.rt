@@ -1,13 +1,12 @@
 //! A program whose items were watched.
 
 ghost use Rattle.std.specs.Prelude.{◌≡◌};
-ghost use Rattle.report_defs.specs.Program as programs;
 ghost use Rattle.watch_command.specs.Made.{watched_status};
 
 use gpl_run::Session;
 use gpl_watch::Found;
 use report_defs::Status;
-use step_defs::Reason;
+use trace_dump::program_status;
 
 /// A program whose items were watched: what was found, and the program as it was left.
 #[derive(Drop)]
@@ -26,18 +25,6 @@ impl Watched {
         match self.found {
             Found::Hit { .. } => Status::Done,
             Found::None => program_status(self.session.ended()),
-        }
-    }
-}
-
-/// The status of a program's end: one that was stopped has its own.
-fn program_status(ended: Option<Reason>) -> Status
-    ensures { result ≡ programs.program_status ended }
-{
-    match ended {
-        None | Some(Reason::Exit) => Status::Done,
-        Some(Reason::Opcode | Reason::Cell | Reason::Stack | Reason::Length | Reason::Register) => {
-            Status::Stopped
         }
     }
 }

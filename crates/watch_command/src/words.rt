@@ -8,11 +8,8 @@ ghost use Rattle.watch_command.specs.Asked.{some_items};
 
 use crate::item::item_word;
 use crate::items::{Items, MOST_ITEMS};
-use crate::numbers::number_word;
+use command_words::{MOST_STEPS, number_word};
 use gpl_watch::Item;
-
-/// The most steps of a program.
-const MOST_STEPS: u32 = 100_000;
 
 /// The most steps and the items that the words behind `watch` say: a number up to 100,000, and the words of one to
 /// eight items. It takes no memory.

@@ -6,9 +6,9 @@ ghost use Rattle.report_defs.specs.Commands.{most_blocks, most_steps};
 ghost use Rattle.report_defs.specs.Report as spec;
 ghost use Rattle.bench_commands.specs.Made.{defined_report};
 
-use crate::command::MOST_STEPS;
 use crate::commands::program::{Loaded, load_program, run_session};
 use crate::report::Report;
+use command_words::MOST_STEPS;
 use demo_program::{demo_text, summarize};
 use report_defs::Command;
 use std::alloc::{AllocError, Global};

@@ -22,24 +22,27 @@ use tms_step::{Machine, Steps};
 
 /// A GPL program before its first step.
 #[derive(Drop)]
-pub(crate) struct LoadedProgram {
+pub struct LoadedProgram {
     /// A machine on which the interpreter begins, with the program and its entry.
-    pub(crate) machine: Machine,
+    pub machine: Machine,
     /// How many bytes the program's image has.
-    pub(crate) image_size: u64,
+    pub image_size: u64,
 }
 
 /// What comes of a GPL source that is to be run.
 #[derive(Drop)]
-pub(crate) enum Loaded {
+pub enum Loaded {
     /// A program that is to be run.
     Program(LoadedProgram),
     /// The report of a program that is not run: the source is refused, or it names no entry.
     Report(Report),
 }
 
-/// Assembles a GPL source and loads it with the interpreter.
-pub(crate) fn load_program(alloc: Global, input: &[u8]) -> Result<Loaded, AllocError>
+/// Assembles a GPL source of at most 1,048,576 bytes and loads it with the interpreter; or tells why it is not run.
+///
+/// # Errors
+/// `AllocError` comes where memory is wanting.
+pub fn load_program(alloc: Global, input: &[u8]) -> Result<Loaded, AllocError>
     requires { length input.now ≤ largest_input }
     ensures { IfOk result (LoadsSource (program_of_source input.now)) }
 {

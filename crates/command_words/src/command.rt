@@ -1,18 +1,18 @@
 //! Which command the words say.
 
-ghost use Rattle.std.specs.Prelude.{◌≡◌, ◌≤◌, IfSome};
+ghost use Rattle.std.specs.Prelude.{◌≡◌, IfSome};
 ghost use Rattle.report_defs.specs.Commands as spec;
-ghost use Rattle.bench_commands.specs.Traced.{KeepsLimit};
+ghost use Rattle.report_defs.specs.Commands.{KeepsLimit};
 
+use crate::numbers::{address_word, number_word};
 use crate::words::Words;
-use asm_text::{decimal_up_to, hexadecimal_number};
 use report_defs::Command;
 
 /// The most instructions that `exec` makes.
 const MOST_INSTRUCTIONS: u32 = 10_000_000;
 
-/// The most steps that `run`, `trace` and `demo` make.
-pub(crate) const MOST_STEPS: u32 = 100_000;
+/// The most steps that `run`, `trace`, `demo` and `watch` make.
+pub const MOST_STEPS: u32 = 100_000;
 
 /// The most blocks of the program that `demo` makes.
 const MOST_BLOCKS: u32 = 500;
@@ -71,26 +71,4 @@ fn dis_at(word: &[u8]) -> Option<Command>
         return None;
     }
     Some(Command::Dis { at })
-}
-
-/// The address that a word spells by four hexadecimal digits of either case.
-fn address_word(word: &[u8]) -> Option<u16>
-    ensures { result ≡ spec.address_word word.now }
-{
-    if word.len() != 4 {
-        return None;
-    }
-    hexadecimal_number(word)
-}
-
-/// The number that a word spells by decimal digits without a leading zero, where it is not above a limit.
-fn number_word(word: &[u8], limit: u32) -> Option<u32>
-    requires { limit ≤ 10000000 }
-    ensures number { result ≡ spec.number_word limit word.now }
-    ensures limit { IfSome result (λ number. number ≤ limit) }
-{
-    if word.len() > 1 && word[0] == b'0' {
-        return None;
-    }
-    decimal_up_to(word, limit)
 }

@@ -6,8 +6,8 @@ use Rattle.bench_io.proofs.Writing.{missed_early, written_more}
 use Rattle.gpl_run.specs.Sessions.{seen}
 use Rattle.report_defs.specs.Dump.{dump_lines}
 use Rattle.report_defs.specs.Program.{state_line, showing}
-use Rattle.bench_commands.proofs.Programs.{showing_seen}
-use Rattle.bench_commands.proofs.report.put_state.Goals as goal
+use Rattle.trace_dump.proofs.Shown.{showing_seen}
+use Rattle.trace_dump.proofs.program.put_state.Goals as goal
 
 pub returns-in_err-put_piece : goal.returns-in_err-put_piece
 returns-in_err-put_piece g c =
@@ -21,5 +21,9 @@ returns g c =
     let t = c.args.session.now in
     let wrote = rw (c.as_bytes.ensures.value, c.deref.ensures.0, c.state_line.ensures) at c.in_ok-put_piece.ensures in
     let dumped = rw (c.machine.ensures) at c.dump.ensures in
-    let shown = subst (λ (x : MachineState). Written c.dump.result (g.O.Sink.state c.put_piece.new.sink) (g.O.Sink.state c.dump.new.out) (dump_lines x)) (sym (showing_seen t)) dumped in
+    let shown =
+    subst
+    (λ (x : MachineState).
+    Written c.dump.result (g.O.Sink.state c.put_piece.new.sink) (g.O.Sink.state c.dump.new.out) (dump_lines x))
+    (sym (showing_seen t)) dumped in
     written_more _ _ _ _ (state_line (seen t) ∷ []) (dump_lines (showing (seen t) t.machine)) wrote shown
