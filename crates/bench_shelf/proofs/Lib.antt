@@ -11,3 +11,4 @@ pub mod ModuleLaws
 pub mod CountLaws
 pub mod SinceLaws
 pub mod RunLaws
+pub mod FolderLaws

@@ -1,5 +1,5 @@
 -- What an answer tells of a shelf holds of an earlier shelf too.
-use Rattle.std.proofs.Common.{◌≤◌, Ok, Err, arith}
+use Rattle.std.proofs.Common.{Ok, Err, arith}
 use Rattle.std.specs.Prelude.{Result, IfErr}
 use Rattle.bench_io.proofs.Taking.{rose_since}
 use Rattle.bench_shelf.specs.States.{ShelfState}

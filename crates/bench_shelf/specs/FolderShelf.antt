@@ -1,12 +1,13 @@
 -- A shelf of the current folder, which tells nothing of its files.
-use Rattle.std.specs.Prelude.{◌≡◌, ℕ, None, Result, Ok, Err}
+use Rattle.std.specs.Prelude.{◌≡◌, ℕ, Bool, true, false, None, Result, Ok, Err}
 use Rattle.count_defs.specs.Counts.{raised, Rose}
 use Rattle.bench_shelf.specs.States.{ShelfState}
 use Rattle.bench_shelf.specs.declared.error.OpenError.{OpenError}
 use Rattle.bench_shelf.specs.declared.error.OpenError.TheVariants.{Failed, Missing}
 
--- what is counted of it
-pub record FolderCounts : Type 0 where
+-- whether a file of it is open, and what is counted of it
+pub record Folder : Type 0 where
+  pub is_open : Bool
   pub calls : ℕ
   pub taken : ℕ
   pub empty : ℕ
@@ -14,7 +15,7 @@ pub record FolderCounts : Type 0 where
   pub misses : ℕ
 
 -- it as a shelf
-abbrev pub untold : FolderCounts → ShelfState
+abbrev pub untold : Folder → ShelfState
 untold folder =
     record {
       source =
@@ -29,10 +30,11 @@ untold folder =
       files = None;
     }
 
--- opening a file raises the count of faults or that of misses by one where it is refused, and else none
-abbrev pub OpensFrom : {A : Type 0} → FolderCounts → Result A OpenError → FolderCounts → Type 0
-OpensFrom before (Ok _) after = after ≡ before
+-- Behind Ok a file is open. Where opening one is refused, none is, and the count of faults or that of misses has risen
+-- by one.
+abbrev pub OpensFrom : {A : Type 0} → Folder → Result A OpenError → Folder → Type 0
+OpensFrom before (Ok _) after = after ≡ record before { is_open = true }
 OpensFrom before (Err Failed) after =
-    Rose before.faults after.faults × (after ≡ record before { faults = raised before.faults 1 })
+    Rose before.faults after.faults × (after ≡ record before { is_open = false; faults = raised before.faults 1 })
 OpensFrom before (Err Missing) after =
-    Rose before.misses after.misses × (after ≡ record before { misses = raised before.misses 1 })
+    Rose before.misses after.misses × (after ≡ record before { is_open = false; misses = raised before.misses 1 })

@@ -1,6 +1,6 @@
 //! The current folder as a shelf.
 
-ghost use Rattle.std.specs.Prelude.{◌≡◌, ◌<◌, ◌≤◌, length, None, IfOk, IfErr, OnOk, OnErr};
+ghost use Rattle.std.specs.Prelude.{◌≡◌, ◌<◌, ◌≤◌, length, false, is_some, IfOk, OnErr};
 ghost use Rattle.count_defs.specs.Counts.{raised, Rose};
 ghost use Rattle.bench_io.specs.Stream.{empty_calls};
 ghost use Rattle.bench_shelf.specs.FolderShelf.{untold, OpensFrom};
@@ -31,11 +31,13 @@ pub struct DirShelf<'a, R: Files> {
 }
 
 impl<'a, R: Files> Model for DirShelf<'a, R> {
-    ghost use Rattle.bench_shelf.specs.FolderShelf.{FolderCounts};
+    ghost use Rattle.std.specs.Prelude.{is_some};
+    ghost use Rattle.bench_shelf.specs.FolderShelf.{Folder};
 
-    ghost Value = { FolderCounts };
+    ghost Value = { Folder };
 
     ghost view = { λ s. record {
+      is_open = is_some s.file;
       calls = s.calls;
       taken = s.taken;
       empty = s.empty;
@@ -47,7 +49,7 @@ impl<'a, R: Files> Model for DirShelf<'a, R> {
 impl<'a, R: Files> DirShelf<'a, R> {
     /// The current folder of a runtime, of which no file is open.
     pub fn new(folder: &'a R) -> DirShelf<'a, R>
-        ensures { result ≡ record { calls = 0; taken = 0; empty = 0; faults = 0; misses = 0 } }
+        ensures { result ≡ record { is_open = false; calls = 0; taken = 0; empty = 0; faults = 0; misses = 0 } }
     {
         DirShelf {
             folder,
@@ -57,28 +59,6 @@ impl<'a, R: Files> DirShelf<'a, R> {
             empty: 0,
             faults: 0,
             misses: 0,
-        }
-    }
-
-    /// Opens a file. A call that is refused raises the count of faults or that of misses by one, and no other call
-    /// does.
-    fn open(&mut self, name: &FileName) -> Result<(), OpenError>
-        ensures { OpensFrom self.old result self.new }
-    {
-        self.file = None;
-        match regular_file(self.folder, name.as_bytes()) {
-            Ok(Some(file)) => {
-                self.file = Some(file);
-                Ok(())
-            }
-            Ok(None) => {
-                self.misses = self.misses.saturating_add(1);
-                Err(OpenError::Missing)
-            }
-            Err(_) => {
-                self.faults = self.faults.saturating_add(1);
-                Err(OpenError::Failed)
-            }
         }
     }
 
@@ -118,8 +98,26 @@ impl<'a, R: Files> DirShelf<'a, R> {
 impl<'a, R: Files> Shelf for DirShelf<'a, R> {
     ghost state = { untold };
 
-    fn open_file(&mut self, name: &FileName) -> Result<(), OpenError> {
-        self.open(name)
+    /// Opens a file. A call that is refused leaves none open and raises the count of faults or that of misses by one, and
+    /// no other call does.
+    fn open_file(&mut self, name: &FileName) -> Result<(), OpenError>
+        ensures { OpensFrom self.old result self.new }
+    {
+        self.file = None;
+        match regular_file(self.folder, name.as_bytes()) {
+            Ok(Some(file)) => {
+                self.file = Some(file);
+                Ok(())
+            }
+            Ok(None) => {
+                self.misses = self.misses.saturating_add(1);
+                Err(OpenError::Missing)
+            }
+            Err(_) => {
+                self.faults = self.faults.saturating_add(1);
+                Err(OpenError::Failed)
+            }
+        }
     }
 
     fn take(&mut self, buffer: &mut [u8]) -> Result<usize, Failed> {
@@ -129,7 +127,8 @@ impl<'a, R: Files> Shelf for DirShelf<'a, R> {
 
 /// Reads from a file, where there is one.
 fn take_from<F: Read>(file: &mut Option<F>, buffer: &mut [u8]) -> io::Result<usize>
-    ensures { IfOk result (λ count. count ≤ length buffer.old) }
+    ensures within { IfOk result (λ count. count ≤ length buffer.old) }
+    ensures stays { is_some file.new ≡ is_some file.old }
 {
     match file {
         Some(file) => file.read(buffer),

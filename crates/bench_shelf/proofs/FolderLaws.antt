@@ -1,0 +1,47 @@
+-- What opening a file of the current folder tells, as of any shelf.
+use Rattle.std.proofs.Common.{◌≡◌, ◌≤◌, ℕ, List, Result, Ok, Err, refl, ap, ◌∙◌, arith}
+use Rattle.std.specs.Prelude.{⊤, IfErr, OnErr, OnOk}
+use Rattle.bench_shelf.specs.declared.error.OpenError.{OpenError}
+use Rattle.bench_shelf.specs.declared.error.OpenError.TheVariants.{Failed, Missing}
+use Rattle.bench_shelf.specs.Opening.{Refuses, SameCounts}
+use Rattle.bench_shelf.specs.FolderShelf.{Folder, untold, OpensFrom}
+
+pub nothing_told : {A E : Type 0} (r : Result A E) → OnOk r ⊤
+nothing_told (Ok value) = tt
+nothing_told (Err error) = tt
+
+pub nothing_left : {A E : Type 0} (r : Result A E) → OnErr r ⊤
+nothing_left (Ok value) = tt
+nothing_left (Err error) = tt
+
+same_counts : (before after f : Folder) → after ≡ f → f.calls ≡ before.calls → f.taken ≡ before.taken
+    → f.empty ≡ before.empty → SameCounts (untold before).source (untold after).source
+same_counts before after f is calls taken empty =
+    record {
+      calls = ap (λ (g : Folder). g.calls) is ∙ calls;
+      taken = ap (λ (g : Folder). g.taken) is ∙ taken;
+      empty = ap (λ (g : Folder). g.empty) is ∙ empty;
+    }
+
+module _ {A : Type 0} (before after : Folder) where
+  pub tells_refused : (name : List ℕ) (r : Result A OpenError) → OpensFrom before r after
+      → IfErr r (λ error. Refuses error (untold before) (untold after) name)
+  tells_refused name (Ok value) opens = tt
+  tells_refused name (Err Failed) opens = opens.0
+  tells_refused name (Err Missing) opens = (opens.0, tt)
+
+  pub tells_counts : (r : Result A OpenError) → OpensFrom before r after
+      → SameCounts (untold before).source (untold after).source
+  tells_counts (Ok value) opens = same_counts before after _ opens refl refl refl
+  tells_counts (Err Failed) opens = same_counts before after _ opens.1 refl refl refl
+  tells_counts (Err Missing) opens = same_counts before after _ opens.1 refl refl refl
+
+  pub tells_faults : (r : Result A OpenError) → OpensFrom before r after → before.faults ≤ after.faults
+  tells_faults (Ok value) opens = let same = ap (λ (f : Folder). f.faults) opens in omega (arith, same)
+  tells_faults (Err Failed) opens = let same = ap (λ (f : Folder). f.faults) opens.1 in omega (arith, same)
+  tells_faults (Err Missing) opens = let same = ap (λ (f : Folder). f.faults) opens.1 in omega (arith, same)
+
+  pub tells_misses : (r : Result A OpenError) → OpensFrom before r after → before.misses ≤ after.misses
+  tells_misses (Ok value) opens = let same = ap (λ (f : Folder). f.misses) opens in omega (arith, same)
+  tells_misses (Err Failed) opens = let same = ap (λ (f : Folder). f.misses) opens.1 in omega (arith, same)
+  tells_misses (Err Missing) opens = let same = ap (λ (f : Folder). f.misses) opens.1 in omega (arith, same)
