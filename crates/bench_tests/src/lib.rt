@@ -1,5 +1,5 @@
-//! Runs of the program's commands over sources and sinks in memory. The crate holds tests alone, so that the crates below it are
-//! proved once.
+//! Runs of the program's commands over sources, shelves and sinks in memory. The crate holds tests alone, so that the
+//! crates below it are proved once.
 #![tactic(auto)]
 
 #[cfg(test)]
@@ -12,6 +12,8 @@ mod dis;
 mod exec;
 #[cfg(test)]
 mod failing_ends;
+#[cfg(test)]
+mod files;
 #[cfg(test)]
 mod gasm;
 #[cfg(test)]
@@ -30,3 +32,5 @@ mod run;
 mod statuses;
 #[cfg(test)]
 mod trace;
+#[cfg(test)]
+mod watch;

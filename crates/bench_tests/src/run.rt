@@ -1,13 +1,18 @@
 //! One run, and what came of it.
 
-use bench_commands::{Words, bench};
 use bench_io::{MemSink, MemSource};
+use bench_shelf::{FileName, MemShelf};
+use command_words::Words;
 use report_defs::Status;
 use std::alloc::{AllocError, Global};
+use workbench::bench_with;
 
 /// The usage line.
 pub(crate) const USAGE: &[u8] =
-    b"usage: ti_bench asm|link|dis ADDR|exec N|gasm|gdis ADDR|interp|run N|trace N|demo K\n";
+    b"usage: ti_bench asm|link [NAME ...]|dis ADDR|exec N|gasm|gdis ADDR|interp|run N|trace N|demo K|watch N ITEM ...\n";
+
+/// Names, each with the bytes of its file.
+pub(crate) type Files = &'static [(&'static [u8], &'static [u8])];
 
 /// How a run ended, and what the two sinks hold then.
 #[derive(Drop)]
@@ -27,7 +32,19 @@ pub(crate) fn words_of(alloc: Global, words: &[&[u8]]) -> Result<Words, AllocErr
     Ok(list)
 }
 
-/// Runs words over an input, with room for 16,384 bytes in each sink. The calls of each with these numbers fail.
+/// A shelf of files, each a name and its bytes, of which these calls fail.
+pub(crate) fn shelf_of(alloc: Global, files: Files, fails: &[u64]) -> Result<MemShelf, AllocError> {
+    let mut list = Vec::new(alloc);
+    for &(name, bytes) in files {
+        if let Some(name) = FileName::read(name) {
+            list.push((name, Vec::from_slice(alloc, bytes)?))?;
+        }
+    }
+    Ok(MemShelf::new(list, Vec::from_slice(alloc, fails)?))
+}
+
+/// Runs words over an input and an empty shelf, with room for 16,384 bytes in each sink. The calls of each with these
+/// numbers fail.
 pub(crate) fn run(
     alloc: Global,
     words: &[&[u8]],
@@ -35,11 +52,24 @@ pub(crate) fn run(
     take_fails: &[u64],
     put_fails: &[u64],
 ) -> Result<Ended, AllocError> {
+    let mut shelf = shelf_of(alloc, &[], &[])?;
+    run_with(alloc, words, input, &mut shelf, take_fails, put_fails)
+}
+
+/// The same over a shelf.
+pub(crate) fn run_with(
+    alloc: Global,
+    words: &[&[u8]],
+    input: Vec<u8>,
+    shelf: &mut MemShelf,
+    take_fails: &[u64],
+    put_fails: &[u64],
+) -> Result<Ended, AllocError> {
     let list = words_of(alloc, words)?;
     let mut input = MemSource::new(input, Vec::from_slice(alloc, take_fails)?);
     let mut out = MemSink::new(alloc, 16384, Vec::from_slice(alloc, put_fails)?)?;
     let mut err = MemSink::new(alloc, 16384, Vec::from_slice(alloc, put_fails)?)?;
-    let status = bench(alloc, &list, &mut input, &mut out, &mut err);
+    let status = bench_with(alloc, &list, &mut input, shelf, &mut out, &mut err);
     Ok(Ended {
         status,
         out,

@@ -42,6 +42,28 @@ const NO_COMMANDS: &[&[&[u8]]] = &[
     &[b"exec", b"10000001"],
     &[b"exec", b"99999999999999999999"],
     &[b"exec", b"1", b"1"],
+    // names of files that are none, and one too many
+    &[b"asm", b"A"],
+    &[b"link", b".A"],
+    &[b"link", b"A", b"../A"],
+    &[b"link", b""],
+    &[
+        b"link", b"A", b"A", b"A", b"A", b"A", b"A", b"A", b"A", b"A", b"A", b"A", b"A", b"A",
+        b"A", b"A", b"A", b"A",
+    ],
+    // a range past the last cell, no item, no byte, no whole address, leading zeros, too many steps, nine items
+    &[b"watch", b"10", b"pad:83C1+2"],
+    &[b"watch"],
+    &[b"watch", b"100"],
+    &[b"watch", b"100", b"vdp:0000+0"],
+    &[b"watch", b"100", b"pc:60"],
+    &[b"watch", b"0100", b"pc:6000"],
+    &[b"watch", b"100", b"pad:8300+01"],
+    &[b"watch", b"100001", b"pc:6000"],
+    &[
+        b"watch", b"100", b"pc:6000", b"pc:6001", b"pc:6002", b"pc:6003", b"pc:6004", b"pc:6005",
+        b"pc:6006", b"pc:6007", b"pc:6008",
+    ],
 ];
 
 /// Whether words are answered by the usage line, and nothing is read.

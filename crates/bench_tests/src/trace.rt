@@ -16,7 +16,7 @@ use tms_step::{Machine, Steps};
 use trace_dump::{Seen, play};
 
 /// A cartridge that sets up the video processor and then calls a subroutine three times, which branches by a table.
-const CARTRIDGE: &[u8] =
+pub(crate) const CARTRIDGE: &[u8] =
     b" BYTE >AA,1,1,0; DATA 0,MENU,0,0;MENU DATA 0,START; BYTE 5;HELLO TEXT 'HELLO'\
 ;REGS BYTE >00,>E0,>00,>0E,>01,>06,>00,>07;COUNT EQU >8300;SUM EQU >8302\
 ;START MOVE 8,R@0,G@REGS; ALL >20; BACK >17; ST @COUNT,3;LOOP CALL SHOW; DEC @COUNT; CZ @COUNT; BR LOOP; EXIT\
@@ -240,7 +240,7 @@ fn traces(
 }
 
 /// The source of statements that are apart by semicolons.
-fn source_of(alloc: Global, statements: &[u8]) -> Result<Vec<u8>, AllocError> {
+pub(crate) fn source_of(alloc: Global, statements: &[u8]) -> Result<Vec<u8>, AllocError> {
     let mut source = Vec::new(alloc);
     for &byte in statements {
         source.push(if byte == b';' { b'\n' } else { byte })?;

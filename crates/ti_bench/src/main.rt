@@ -1,17 +1,20 @@
 //! A workbench for cartridges of the TI-99/4A.
 #![tactic(auto)]
 
-use bench_commands::{Words, bench};
 use bench_io::{StdSink, StdSource};
+use bench_shelf::DirShelf;
+use command_words::Words;
 use report_defs::Status;
 use std::alloc::AllocError;
 use std::env;
 use std::env::Env;
 use std::io::{BufWriter, ErrorKind, Write};
 use std::process::ExitCode;
+use workbench::bench_with;
 
-/// Runs the command that the words of the command line say, over the standard streams. Standard output is buffered,
-/// where there is memory for that, and else it is not: so `bench` is called in either case.
+/// Runs the command that the words of the command line say, over the standard streams and the files of the current
+/// folder. Standard output is buffered, where there is memory for that, and else it is not: so `bench_with` is called in
+/// either case.
 fn main(rt: HostRuntime) -> ExitCode {
     let Ok(words) = command_words(&rt) else {
         return ExitCode::from(Status::Memory as u8);
@@ -28,10 +31,11 @@ fn main(rt: HostRuntime) -> ExitCode {
 
 /// Runs the command that the words say, with its report to `output`.
 fn run<W: Write + Drop>(rt: &HostRuntime, words: &Words, output: W) -> Status {
-    bench(
+    bench_with(
         rt.alloc(),
         words,
         &mut StdSource::new(rt.stdin()),
+        &mut DirShelf::new(rt),
         &mut StdSink::new(output),
         &mut StdSink::new(rt.stderr()),
     )

@@ -5,8 +5,6 @@
 #[cfg(test)]
 mod programs;
 #[cfg(test)]
-mod reports;
-#[cfg(test)]
 mod rows;
 #[cfg(test)]
 mod watched;

@@ -1,0 +1,218 @@
+-- What holds of all runs with files.
+use Rattle.std.proofs.Common.{◌≡◌, ◌≢◌, ℕ, List, [], ◌∷◌, length, Option, Some, None, Bool, true, false, refl, sym, ap, ◌∙◌}
+use Rattle.std.proofs.Common.{subst, inl, inr}
+use Rattle.std.specs.Prelude.{IfSome, MatchBool, nat_lt, nat_le, ◌&&◌, if◌then◌else◌, codes}
+use Rattle.std.specs.Option.{option_map, option_and_then}
+use Rattle.source_defs.specs.Refusals.{◌>>=◌}
+use Rattle.program_defs.specs.Programs.{program_of_source}
+use Rattle.watch_defs.specs.declared.item.Item.{Item}
+use Rattle.shelf_defs.specs.Files.{Files}
+use Rattle.shelf_defs.specs.Assembly.{module_of_files}
+use Rattle.report_defs.specs.declared.command.Command.{Command}
+use Rattle.report_defs.specs.declared.command.Command.TheVariants as asked
+use Rattle.report_defs.specs.declared.fault.Fault.TheVariants.{TooLarge}
+use Rattle.report_defs.specs.declared.status.Status.{Status}
+use Rattle.report_defs.specs.declared.status.Status.TheVariants as status
+use Rattle.report_defs.specs.Commands.{command_of, same_word, number_word, most_steps}
+use Rattle.report_defs.specs.Report.{Report, Faulty, ProgramReport, status_of, largest_input}
+use Rattle.file_report_defs.specs.LinkedFiles.{linked_texts, read_files}
+use Rattle.file_report_defs.specs.Reports.{copy_report, files_report}
+use Rattle.file_report_defs.specs.Watching.{ReportsWatch}
+use Rattle.file_report_defs.specs.Words.{ProgramCommand, AsmFiles, LinkFiles, Watch, Plain}
+use Rattle.file_report_defs.specs.Words.{program_command, input_command, over_input, link_command, are_file_names}
+use Rattle.file_report_defs.specs.Words.{watch_command, watched_command, item_words, most_items}
+use Rattle.file_report_defs.specs.Whole.{OnInput, AsmReport, ReportWith}
+use Rattle.file_report_defs.proofs.OneReport.{one_report_with}
+use Rattle.file_commands.specs.Reported.{CopyReported}
+use Rattle.bench_commands.specs.Run as plain
+use Rattle.bench_commands.specs.Run.{WroteReport, ReadsInput, EndsBy}
+use Rattle.bench_commands.specs.Laws as plain_laws
+use Rattle.bench_commands.proofs.Uniqueness as bench
+use Rattle.bench_commands.proofs.Uniqueness.{on_all, on_input, no_miss}
+use Rattle.workbench.specs.FileRun.{FileRun, without_files, AsmOn, Reports, EndsOver, EndsByUsage, EndsAs}
+use Rattle.workbench.specs.Laws.{HasNoFault, input_of, Completeness, BeginAlike, OneAnswer, LawsOfFileRuns}
+
+-- ---- words that say a command without files
+
+over_plain : (found : Option Command) (command : Command) → option_map over_input found ≡ Some (Plain command)
+    → found ≡ Some command
+over_plain None command e = absurd cc
+over_plain (Some asked.Asm) command e = absurd cc
+over_plain (Some asked.Gasm) command e = cc
+over_plain (Some (asked.Dis at)) command e = cc
+over_plain (Some (asked.Gdis at)) command e = cc
+over_plain (Some asked.Link) command e = cc
+over_plain (Some (asked.Exec limit)) command e = cc
+over_plain (Some asked.Interp) command e = cc
+over_plain (Some (asked.Run limit)) command e = cc
+over_plain (Some (asked.Trace limit)) command e = cc
+over_plain (Some (asked.Demo number)) command e = cc
+
+link_plain : (words : List (List ℕ)) (command : Command) → link_command words ≡ Some (Plain command) → ⊥
+link_plain words command e = by (are_file_names words) e
+  where
+    by : (all : Bool) → (if all then Some (LinkFiles words) else None) ≡ Some (Plain command) → ⊥
+    by true e = absurd cc
+    by false e = absurd cc
+
+watched_plain : (words : List (List ℕ)) (limit : ℕ) (command : Command)
+    → watched_command words limit ≡ Some (Plain command) → ⊥
+watched_plain words limit command e = by (nat_le 1 (length words) && nat_le (length words) most_items) (item_words words) e
+  where
+    by : (few : Bool) (items : Option (List Item))
+        → (if few then option_map (Watch limit) items else None) ≡ Some (Plain command) → ⊥
+    by true (Some items) e = absurd cc
+    by true None e = absurd cc
+    by false items e = absurd cc
+
+watch_plain : (words : List (List ℕ)) (command : Command) → watch_command words ≡ Some (Plain command) → ⊥
+watch_plain [] command e = absurd cc
+watch_plain (word ∷ words) command e = by (number_word most_steps word) e
+  where
+    by : (limit : Option ℕ) → option_and_then (watched_command words) limit ≡ Some (Plain command) → ⊥
+    by (Some limit) e = watched_plain words limit command e
+    by None e = absurd cc
+
+pub plain_command : (words : List (List ℕ)) (command : Command) → program_command words ≡ Some (Plain command)
+    → command_of words ≡ Some command
+plain_command [] command e = absurd cc
+plain_command (name ∷ []) command e = over_plain (command_of (name ∷ [])) command e
+plain_command (name ∷ word ∷ words) command e =
+    by (same_word name (codes "link")) (same_word name (codes "watch")) e
+  where
+    by : (link watch : Bool)
+        → (if link then link_command (word ∷ words)
+        else if watch then watch_command (word ∷ words)
+        else input_command (name ∷ word ∷ words)) ≡ Some (Plain command)
+        → command_of (name ∷ word ∷ words) ≡ Some command
+    by true watch e = absurd (link_plain (word ∷ words) command e)
+    by false true e = absurd (watch_plain (word ∷ words) command e)
+    by false false e = over_plain (command_of (name ∷ word ∷ words)) command e
+
+-- ---- the report of a run is that on its input and its files
+
+asm_on_input : (run : FileRun) (source : List ℕ) (report : Report) (files : Files) → run.shelf.files ≡ Some files
+    → AsmOn run source report → OnInput (AsmReport files) source report
+asm_on_input run source report files told on = by (nat_lt largest_input (length source)) on
+  where
+    by : (large : Bool)
+        → MatchBool large ((report ≡ Faulty TooLarge) × (run.shelf' ≡ run.shelf)) (CopyReported run.shelf run.shelf' source report)
+        → MatchBool large (report ≡ Faulty TooLarge) (AsmReport files source report)
+    by true on = on.0
+    by false on =
+        let P : Option Files → Type 0 = λ f. IfSome f (λ files. on.answer ≡ module_of_files files source) in
+        let is : on.answer ≡ module_of_files files source = subst P told on.told in
+        on.is ∙ ap copy_report is
+
+on_files : (command : ProgramCommand) (run : FileRun) (input : List ℕ) (files : Files) (report : Report)
+    → run.input.left ≡ Some input → run.shelf.files ≡ Some files → Reports command run report
+    → ReportWith command (input_of command input) files report
+on_files AsmFiles run input files report left told (source, reading, on) =
+    on_all (AsmReport files) run.input run.input' source input report left reading
+    (asm_on_input run source report files told on)
+on_files (LinkFiles names) run input files report left told (same, linked) =
+    let P : Option Files → Type 0 = λ f. IfSome f (λ files. linked.texts ≡ read_files files names) in
+    let is : linked.texts ≡ read_files files names = subst P told linked.told in
+    linked.is ∙ ap (λ texts. files_report (texts >>= linked_texts)) is
+on_files (Watch limit items) run input files report left told (source, reading, same, on) =
+    on_all (λ source report. ProgramReport (ReportsWatch limit items) (program_of_source source) report)
+    run.input run.input' source input report left reading on
+on_files (Plain command) run input files report left told reports = absurd reports
+
+-- ---- a run in which no count rose wrote its report
+
+over : (command : ProgramCommand) (run : FileRun) (end : Status) → EndsOver command run end → HasNoFault run
+    → end ≢ status.Memory
+    → (report : Report) × Reports command run report × (end ≡ status_of report) × WroteReport run.outputs report
+over command run status.Done (report, is, (same, wrote)) none some = (report, is, sym same, wrote)
+over command run status.Refused (report, is, (same, wrote)) none some = (report, is, sym same, wrote)
+over command run status.Usage (report, is, (same, wrote)) none some = (report, is, sym same, wrote)
+over command run status.ReadFault (nothing, inl rose) none some = absurd (none.input rose.0)
+over command run status.ReadFault (nothing, inr rose) none some = absurd (none.shelf rose)
+over command run status.WriteFault (report, is, missed) none some =
+    absurd (no_miss run.outputs report none.out none.err missed)
+over command run status.Memory nothing none some = absurd (some refl)
+over command run status.Stopped (report, is, (same, wrote)) none some = (report, is, sym same, wrote)
+
+-- what a run in which nothing failed wrote
+record Answered (command : ProgramCommand) (input : List ℕ) (files : Files) (run : FileRun) (end : Status)
+    : Type 0 where
+  report : Report
+  on : ReportWith command (input_of command input) files report
+  is : end ≡ status_of report
+  wrote : WroteReport run.outputs report
+
+over_answered : (command : ProgramCommand) (input : List ℕ) (files : Files) (run : FileRun) (end : Status)
+    → run.input.left ≡ Some input → run.shelf.files ≡ Some files → HasNoFault run → end ≢ status.Memory
+    → EndsOver command run end → Answered command input files run end
+over_answered command input files run end left told none some ends =
+    let r = over command run end ends none some in
+    record { report = r.0; on = on_files command run input files r.0 left told r.1; is = r.2; wrote = r.3 }
+
+plain_answered : (words : List (List ℕ)) (command : Command) (input : List ℕ) (files : Files) (run : FileRun)
+    (end : Status) → program_command words ≡ Some (Plain command) → run.input.left ≡ Some input → HasNoFault run
+    → end ≢ status.Memory → EndsBy (without_files words run) end → Answered (Plain command) input files run end
+plain_answered words command input files run end said left none some ends =
+    let same : plain.Run = without_files words run in
+    let free : plain_laws.HasNoFault same = record { input = none.input; out = none.out; err = none.err } in
+    let r = bench.reported same end ends free some in
+    let P : Option Command → Type 0 = λ found. plain.ReportsOn found same r.0 in
+    let reports = subst P (plain_command words command said) r.1 in
+    record { report = r.0; on = on_input same command input r.0 left reports; is = r.2; wrote = r.3 }
+
+answered : (words : List (List ℕ)) (command : ProgramCommand) (input : List ℕ) (files : Files) (run : FileRun)
+    (end : Status) → program_command words ≡ Some command → run.input.left ≡ Some input
+    → run.shelf.files ≡ Some files → HasNoFault run → end ≢ status.Memory → EndsAs (Some command) words run end
+    → Answered command input files run end
+answered words AsmFiles input files run end said left told none some ends =
+    over_answered AsmFiles input files run end left told none some ends
+answered words (LinkFiles names) input files run end said left told none some ends =
+    over_answered (LinkFiles names) input files run end left told none some ends
+answered words (Watch limit items) input files run end said left told none some ends =
+    over_answered (Watch limit items) input files run end left told none some ends
+answered words (Plain command) input files run end said left told none some ends =
+    plain_answered words command input files run end said left none some ends.0
+
+completeness : Completeness
+completeness words run command input files report end said left told none on ends some =
+    let P : Option ProgramCommand → Type 0 = λ found. EndsAs found words run end in
+    let a = answered words command input files run end said left told none some (subst P said ends) in
+    let same : a.report ≡ report = one_report_with command (input_of command input) files a.report report a.on on in
+    let W : Report → Type 0 = λ x. WroteReport run.outputs x in
+    (a.is ∙ ap status_of same, subst W same a.wrote)
+
+-- ---- two runs that begin alike have one answer
+
+usage_answer : (run : FileRun) (end : Status) → HasNoFault run → EndsByUsage run end → end ≡ status.Usage
+usage_answer run status.Done none (leaves, ends) = absurd ends
+usage_answer run status.Refused none (leaves, ends) = absurd ends
+usage_answer run status.Usage none (leaves, ends) = refl
+usage_answer run status.ReadFault none (leaves, ends) = absurd ends
+usage_answer run status.WriteFault none (leaves, ends) = absurd (none.err ends.rose)
+usage_answer run status.Memory none (leaves, ends) = absurd ends
+usage_answer run status.Stopped none (leaves, ends) = absurd ends
+
+alike : (words : List (List ℕ)) (found : Option ProgramCommand) (a b : FileRun) (s t : Status)
+    → program_command words ≡ found → BeginAlike a b → HasNoFault a → HasNoFault b → EndsAs found words a s
+    → EndsAs found words b t → s ≢ status.Memory → t ≢ status.Memory → s ≡ t
+alike words None a b s t said begin none other ends ends' some some' =
+    usage_answer a s none ends ∙ sym (usage_answer b t other ends')
+alike words (Some command) a b s t said begin none other ends ends' some some' =
+    let p = answered words command begin.bytes begin.files a s said begin.one begin.here none some ends in
+    let q = answered words command begin.bytes begin.files b t said begin.other begin.there other some' ends' in
+    let same : p.report ≡ q.report =
+    one_report_with command (input_of command begin.bytes) begin.files p.report q.report p.on q.on in
+    p.is ∙ ap status_of same ∙ sym q.is
+
+one_answer : OneAnswer
+one_answer words a b s t begin none other ends ends' some some' =
+    alike words (program_command words) a b s t refl begin none other ends ends' some some'
+
+pub laws : LawsOfFileRuns
+laws =
+    record {
+      one_report = one_report_with;
+      completeness = completeness;
+      one_answer = one_answer;
+      plain = bench.laws;
+    }

@@ -1,0 +1,124 @@
+-- One run of the program with a shelf of files: how it may end, and what the input, the shelf and the two outputs are
+-- then.
+use Rattle.std.specs.Prelude.{◌≡◌, ◌⊎◌, ℕ, ◌≤◌, nat_lt, MatchBool, List, [], ◌∷◌, length, Option, Some, None}
+use Rattle.count_defs.specs.Counts.{Rose}
+use Rattle.bench_io.specs.Stream.{SourceState, SinkState}
+use Rattle.bench_io.specs.ReadAll.{Took}
+use Rattle.bench_io.specs.Written.{Wrote, Missed}
+use Rattle.program_defs.specs.Programs.{program_of_source}
+use Rattle.watch_defs.specs.declared.item.Item.{Item}
+use Rattle.report_defs.specs.declared.status.Status.{Status}
+use Rattle.report_defs.specs.declared.status.Status.TheVariants as status
+use Rattle.report_defs.specs.declared.fault.Fault.TheVariants.{TooLarge}
+use Rattle.report_defs.specs.Report.{Report, Faulty, ProgramReport, largest_input}
+use Rattle.file_report_defs.specs.Watching.{ReportsWatch}
+use Rattle.file_report_defs.specs.Words.{ProgramCommand, AsmFiles, LinkFiles, Watch, Plain, program_command, program_usage}
+use Rattle.file_report_defs.specs.Whole.{OnInput}
+use Rattle.bench_shelf.specs.States.{ShelfState}
+use Rattle.file_commands.specs.Reported.{CopyReported, LinkReported}
+use Rattle.bench_commands.specs.Run.{Outputs, Run, ReadsInput, EndsWith, EndsBy}
+
+-- the input and the shelf before and after the run, and the outputs
+pub record FileRun : Type 0 where
+  pub input : SourceState
+  pub input' : SourceState
+  pub shelf : ShelfState
+  pub shelf' : ShelfState
+  pub outputs : Outputs
+
+-- the run of a command that reads no file
+abbrev pub without_files : List (List ℕ) → FileRun → Run
+without_files words run = record { words = words; input = run.input; input' = run.input'; outputs = run.outputs }
+
+-- The report of `asm` on a source that was taken of the input. Where that is too large, no file is opened.
+abbrev pub AsmOn : FileRun → List ℕ → Report → Type 0
+AsmOn run source report =
+    MatchBool (nat_lt largest_input (length source)) ((report ≡ Faulty TooLarge) × (run.shelf' ≡ run.shelf))
+    (CopyReported run.shelf run.shelf' source report)
+
+-- the report of `watch` on a source
+abbrev pub WatchOn : ℕ → List Item → List ℕ → Report → Type 0
+WatchOn limit items =
+    OnInput (λ source report. ProgramReport (ReportsWatch limit items) (program_of_source source) report)
+
+-- The report of the run. `asm` takes the input and the files that it copies, `link` with names of files takes these
+-- alone, and `watch` takes the input alone. Each other command is run by `bench`.
+abbrev pub Reports : ProgramCommand → FileRun → Report → Type 0
+Reports AsmFiles run report = (source : List ℕ) × ReadsInput run.input run.input' source × AsmOn run source report
+Reports (LinkFiles names) run report = (run.input' ≡ run.input) × LinkReported run.shelf run.shelf' names report
+Reports (Watch limit items) run report =
+    (source : List ℕ) × ReadsInput run.input run.input' source × (run.shelf' ≡ run.shelf)
+    × WatchOn limit items source report
+Reports (Plain command) run report = ⊥
+
+-- no more was taken of the input than an input may have, by calls of which one at most gave no byte
+pub record TookWithin (before after : SourceState) : Type 0 where
+  pub bytes : List ℕ
+  pub within : length bytes ≤ largest_input
+  pub empty : ℕ
+  pub one : empty ≤ 1
+  pub took : Took before after bytes empty
+
+-- what a run that wrote nothing leaves of the input and of the shelf
+abbrev pub Leaves : ProgramCommand → FileRun → Type 0
+Leaves AsmFiles run = TookWithin run.input run.input'
+Leaves (LinkFiles names) run = run.input' ≡ run.input
+Leaves (Watch limit items) run = TookWithin run.input run.input' × (run.shelf' ≡ run.shelf)
+Leaves (Plain command) run = ⊥
+
+pub record WroteNothing (command : ProgramCommand) (run : FileRun) : Type 0 where
+  pub leaves : Leaves command run
+  pub out : run.outputs.out' ≡ run.outputs.out
+  pub err : run.outputs.err' ≡ run.outputs.err
+
+-- the input failed, and then no file was opened; or the shelf failed
+abbrev pub ReadFailed : FileRun → Type 0
+ReadFailed run =
+    (Rose run.input.faults run.input'.faults × (run.shelf' ≡ run.shelf))
+    ⊎ Rose run.shelf.source.faults run.shelf'.source.faults
+
+-- the run ended by the writing of its report, whole or up to where an output failed
+abbrev pub EndsByReport : ProgramCommand → FileRun → Status → Type 0
+EndsByReport command run end = (report : Report) × Reports command run report × EndsWith run.outputs report end
+
+-- The statuses of these commands, each with its cause. Want of memory has no cause, but it is never answered once
+-- something was written.
+abbrev pub EndsOver : ProgramCommand → FileRun → Status → Type 0
+EndsOver command run status.Done = EndsByReport command run status.Done
+EndsOver command run status.Refused = EndsByReport command run status.Refused
+EndsOver command run status.Usage = EndsByReport command run status.Usage
+EndsOver command run status.ReadFault = WroteNothing command run × ReadFailed run
+EndsOver command run status.WriteFault = EndsByReport command run status.WriteFault
+EndsOver command run status.Memory = WroteNothing command run
+EndsOver command run status.Stopped = EndsByReport command run status.Stopped
+
+-- Words that are no command are answered by how the program is called: nothing is taken of the input, and no file is
+-- opened.
+pub record LeavesAll (run : FileRun) : Type 0 where
+  pub input : run.input' ≡ run.input
+  pub shelf : run.shelf' ≡ run.shelf
+  pub out : run.outputs.out' ≡ run.outputs.out
+
+-- the usage line was written, or a front of it
+abbrev pub UsageEnds : SinkState → SinkState → Status → Type 0
+UsageEnds before after status.Done = ⊥
+UsageEnds before after status.Refused = ⊥
+UsageEnds before after status.Usage = Wrote before after (program_usage ∷ [])
+UsageEnds before after status.ReadFault = ⊥
+UsageEnds before after status.WriteFault = Missed before after (program_usage ∷ [])
+UsageEnds before after status.Memory = ⊥
+UsageEnds before after status.Stopped = ⊥
+
+abbrev pub EndsByUsage : FileRun → Status → Type 0
+EndsByUsage run end = LeavesAll run × UsageEnds run.outputs.err run.outputs.err' end
+
+-- how the run of what the words say ends
+abbrev pub EndsAs : Option ProgramCommand → List (List ℕ) → FileRun → Status → Type 0
+EndsAs None words run end = EndsByUsage run end
+EndsAs (Some AsmFiles) words run end = EndsOver AsmFiles run end
+EndsAs (Some (LinkFiles names)) words run end = EndsOver (LinkFiles names) run end
+EndsAs (Some (Watch limit items)) words run end = EndsOver (Watch limit items) run end
+EndsAs (Some (Plain command)) words run end = EndsBy (without_files words run) end × (run.shelf' ≡ run.shelf)
+
+abbrev pub EndsFileRun : List (List ℕ) → FileRun → Status → Type 0
+EndsFileRun words run end = EndsAs (program_command words) words run end

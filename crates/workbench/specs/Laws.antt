@@ -1,0 +1,62 @@
+-- What holds of all runs of the program that end as `EndsFileRun` says.
+use Rattle.std.specs.Prelude.{◌≡◌, ◌≢◌, ℕ, List, Some}
+use Rattle.count_defs.specs.Counts.{Rose}
+use Rattle.shelf_defs.specs.Files.{Files}
+use Rattle.report_defs.specs.declared.status.Status.{Status}
+use Rattle.report_defs.specs.declared.status.Status.TheVariants.{Memory}
+use Rattle.report_defs.specs.Report.{Report, status_of}
+use Rattle.file_report_defs.specs.Words.{ProgramCommand, Plain, program_command}
+use Rattle.file_report_defs.specs.Whole.{ReportWith}
+use Rattle.file_report_defs.specs.Laws.{OneReportWith}
+use Rattle.bench_commands.specs.Run.{WroteReport}
+use Rattle.bench_commands.specs.Laws.{LawsOfRuns, read_of}
+use Rattle.workbench.specs.FileRun.{FileRun, EndsFileRun}
+
+-- no count of faults rose in a run
+pub record HasNoFault (run : FileRun) : Type 0 where
+  pub input : Rose run.input.faults run.input'.faults → ⊥
+  pub shelf : Rose run.shelf.source.faults run.shelf'.source.faults → ⊥
+  pub out : Rose run.outputs.out.faults run.outputs.out'.faults → ⊥
+  pub err : Rose run.outputs.err.faults run.outputs.err'.faults → ⊥
+
+-- the bytes that a command reports on, of an input of these bytes
+abbrev pub input_of : ProgramCommand → List ℕ → List ℕ
+input_of (Plain command) input = read_of command input
+input_of command input = input
+
+-- The law, which is proved: where the words are a command, the input tells its bytes, the shelf tells its files and no
+-- count rose, the answer is the status of the report on these, and the whole report was written; or memory was wanting.
+abbrev pub Completeness : Type 0
+Completeness =
+    (words : List (List ℕ)) (run : FileRun) (command : ProgramCommand) (input : List ℕ) (files : Files)
+    (report : Report) (end : Status)
+    → program_command words ≡ Some command → run.input.left ≡ Some input → run.shelf.files ≡ Some files
+    → HasNoFault run
+    → ReportWith command (input_of command input) files report
+    → EndsFileRun words run end → end ≢ Memory
+    → (end ≡ status_of report) × WroteReport run.outputs report
+
+-- two runs begin with inputs of the same bytes and with the same files, which are told
+pub record BeginAlike (first second : FileRun) : Type 0 where
+  pub bytes : List ℕ
+  pub one : first.input.left ≡ Some bytes
+  pub other : second.input.left ≡ Some bytes
+  pub files : Files
+  pub here : first.shelf.files ≡ Some files
+  pub there : second.shelf.files ≡ Some files
+
+-- The law, which is proved: two such runs of the same words in which no count rose have one answer, if neither is want
+-- of memory.
+abbrev pub OneAnswer : Type 0
+OneAnswer =
+    (words : List (List ℕ)) (first second : FileRun) (one other : Status)
+    → BeginAlike first second → HasNoFault first → HasNoFault second
+    → EndsFileRun words first one → EndsFileRun words second other → one ≢ Memory → other ≢ Memory
+    → one ≡ other
+
+-- the laws of all runs with files, and those of runs without
+pub record LawsOfFileRuns : Type 0 where
+  pub one_report : OneReportWith
+  pub completeness : Completeness
+  pub one_answer : OneAnswer
+  pub plain : LawsOfRuns

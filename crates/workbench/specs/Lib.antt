@@ -1,0 +1,4 @@
+pub mod Asked
+pub mod Made
+pub mod FileRun
+pub mod Laws

@@ -1,0 +1,13 @@
+//! The program: its commands over an input, a shelf of files and two outputs.
+#![tactic(auto)]
+
+mod asm;
+mod command;
+mod finish;
+mod input;
+mod link;
+mod running;
+mod usage;
+mod watch;
+
+pub use crate::running::bench_with;

@@ -1,0 +1,60 @@
+//! The program, over any input, shelf and outputs.
+
+ghost use Rattle.bench_shelf.specs.Causes.{Later};
+ghost use Rattle.workbench.specs.FileRun.{EndsFileRun};
+ghost use Rattle.workbench.specs.Laws.{LawsOfFileRuns};
+
+use crate::asm::asm;
+use crate::command::{ProgramCommand, read_program_command};
+use crate::link::link;
+use crate::usage::finish_usage;
+use crate::watch::watch;
+use bench_commands::bench;
+use bench_io::{Sink, Source};
+use bench_shelf::Shelf;
+use command_words::Words;
+use report_defs::Status;
+use std::alloc::Global;
+
+/// Runs the command that the words say. `asm` reads the source from `input` and the files that it copies from `shelf`;
+/// `link` with names of files reads these, in their order; `watch` reads a GPL source from `input`; every other command
+/// is run by [`bench`] and has its whole clause. The report goes to `out`, or a fault line or the usage line to `err`,
+/// and all memory is taken before the first byte is written.
+///
+/// The contract says of each status its cause, and what the input, the shelf and the outputs are then; that there is one
+/// report on each command, input and files; and that where the input tells its bytes, the shelf its files, and nothing
+/// fails, the answer is that report with its status, or want of memory.
+#[tactic(auto, using(crate::proofs::Laws::laws))]
+pub fn bench_with<S: Source, F: Shelf, O: Sink, E: Sink>(
+    alloc: Global,
+    words: &Words,
+    input: &mut S,
+    shelf: &mut F,
+    out: &mut O,
+    err: &mut E,
+) -> Status
+    ensures laws { LawsOfFileRuns }
+    ensures ends { EndsFileRun words.now (record {
+      input = S.state input.old;
+      input' = S.state input.new;
+      shelf = F.state shelf.old;
+      shelf' = F.state shelf.new;
+      outputs = record {
+        out = O.state out.old;
+        out' = O.state out.new;
+        err = E.state err.old;
+        err' = E.state err.new;
+      };
+    }) result }
+    ensures later { Later (F.state shelf.old) (F.state shelf.new) }
+{
+    match read_program_command(words) {
+        Some(ProgramCommand::AsmFiles) => asm(alloc, input, shelf, out, err),
+        Some(ProgramCommand::LinkFiles(names)) => link(alloc, names, shelf, out, err),
+        Some(ProgramCommand::Watch { limit, items }) => watch(
+            alloc, limit, &items, input, out, err,
+        ),
+        Some(ProgramCommand::Plain(_)) => bench(alloc, words, input, out, err),
+        None => finish_usage(err),
+    }
+}
