@@ -6,20 +6,21 @@ import random
 import shlex
 
 LARGEST = 1_048_576
-MOST = {'exec': 10_000_000, 'run': 100_000, 'trace': 100_000, 'demo': 500}
-READERS = ['asm', 'dis', 'exec', 'gasm', 'gdis', 'link', 'run', 'trace']
+MOST = {'exec': 10_000_000, 'run': 100_000, 'trace': 100_000, 'watch': 100_000, 'demo': 500}
+READERS = ['asm', 'dis', 'exec', 'gasm', 'gdis', 'link', 'run', 'trace', 'watch']
 
 
 @dataclasses.dataclass
 class Run:
     """The words, the input and the streams of a run. `spare` is its address space in KiB beyond the least in which the
-    program answers, or None for the bound."""
+    program answers, or None for the bound. `files` says that it reads files by name."""
     words: list
     data: bytes = b''
     stdin: str = 'file'     # or: pipe, closed, folder
     stdout: str = 'file'    # or: closed, full, unread (a pipe without a reader), narrow (a pipe of 4,096 bytes)
     stderr: str = 'file'    # or: closed, full
     spare: int = None
+    files: bool = False
 
     def told(self):
         words = ' '.join(shlex.quote(os.fsdecode(word)[:60]) for word in self.words[:6]) or 'no words'
@@ -31,12 +32,21 @@ class Run:
 def load_examples():
     """The words and the input of each example that has an input."""
     folder = pathlib.Path(__file__).resolve().parent.parent / 'examples'
-    found = [(words.read_bytes().split(), words.with_name('input').read_bytes())
+    found = [(words.read_bytes().split(), words.with_name('input'))
              for words in sorted(folder.glob('*/words'))]
-    return [(words, data) for words, data in found if data]
+    return [(words, data) for words, path in found if path.exists() and (data := path.read_bytes())]
+
+
+def load_files():
+    """The files that examples name, with their bytes."""
+    folder = pathlib.Path(__file__).resolve().parent.parent / 'examples'
+    return {path.name: path.read_bytes() for path in sorted(folder.glob('*/*'))
+            if path.name not in ('words', 'input', 'expected', 'README.md')}
 
 
 EXAMPLES = load_examples()
+ITEMS = [b'pad:8300+1', b'pad:8300+194', b'pad:83c1+1', b'pad:8372+2', b'vdp:0000+768', b'vdp:0000+16384',
+         b'vdp:3FFF+1', b'pc:6000', b'pc:ffff', b'pc:0000']
 ALPHABETS = [bytes(range(256)), bytes(range(256)), bytes(range(32, 127)) + b'\n', b' @>*,()\'+-/$VGRB09AF\n\t',
              b'0123456789ABCDEF:\n ', b'\x01:0123456789ABCF ']
 
@@ -48,7 +58,8 @@ def words_of(command, rng):
     if command == 'exec':
         return [b'exec', b'%d' % rng.choice((0, 1, 2, 100, 20_000))]
     if command in MOST:
-        return [command.encode(), b'%d' % rng.choice((0, 1, 2, 10, 40))]
+        items = rng.choices(ITEMS, k=rng.choice((1, 1, 2, 8))) if command == 'watch' else []
+        return [command.encode(), b'%d' % rng.choice((0, 1, 2, 10, 40)), *items]
     return [command.encode()]
 
 
@@ -170,7 +181,7 @@ def random_line(rng, operations):
 
 def sources(rng, turn):
     """A source of lines that are mostly in form, behind two lines that are accepted."""
-    command, operations = rng.choice((('asm', ASM), ('gasm', GPL), ('run', GPL), ('trace', GPL)))
+    command, operations = rng.choice((('asm', ASM), ('gasm', GPL), ('run', GPL), ('trace', GPL), ('watch', GPL)))
     front = ['S ST @>8300,5', 'L1 DEC @>8300'] if operations is GPL else ['S LI R1,5', 'L1 DEC R1']
     lines = [random_line(rng, operations) for _ in range(rng.choice((1, 1, 1, 2, 3, 40)))]
     return Run(words_of(command, rng), '\n'.join([*front, *lines, ' END S\n']).encode())
@@ -183,7 +194,7 @@ def codes(rng, turn):
     values = rng.choice(([], [], [0xBE, 0x73, 0xC0], [0xBE, 0x72, 0xC1])) + values
     rows = [' BYTE ' + ','.join(map(str, values[at:at + 16])) for at in range(0, len(values), 16)]
     origin = rng.choice((0, 0, 0, 0x2000 - len(values)))
-    return reading(rng, '\n'.join([f' AORG {origin}', *rows, f' END >6000+{origin}\n']), ('run', 'trace'))
+    return reading(rng, '\n'.join([f' AORG {origin}', *rows, f' END >6000+{origin}\n']), ('run', 'trace', 'watch'))
 
 
 def object_group(rng):
@@ -296,8 +307,9 @@ def steps_limit(rng):
         limit = rng.choice((0, 9_999_999, 10_000_000, 10_000_001))
         return Run([b'exec', b'%d' % limit], b'00002        A0000B10FF20000F\n:\n')
     data = rng.choice((b'S EXIT\n END S\n', b'S BYTE >0F\n END S\n', b'S ALL 1\n EXIT\n END S\n'))
-    command = rng.choice(('run', 'trace', 'demo'))
-    return Run([command.encode(), b'%d' % (MOST[command] + rng.choice((-1, 0, 1)))], data)
+    command = rng.choice(('run', 'trace', 'watch', 'demo'))
+    items = [rng.choice(ITEMS)] if command == 'watch' else []
+    return Run([command.encode(), b'%d' % (MOST[command] + rng.choice((-1, 0, 1))), *items], data)
 
 
 def move_limit(rng):
@@ -306,7 +318,7 @@ def move_limit(rng):
               '@>8300(@>8302)']
     source = rng.choice(places + ['G@>6000', 'G@>FFFF', 'G@>7FFF(@>8300)'])
     target = rng.choice(places + ['R@0', 'R@7', 'R@8'])
-    return reading(rng, f'S MOVE {length},{target},{source}\n EXIT\n END S\n', ('run', 'trace'))
+    return reading(rng, f'S MOVE {length},{target},{source}\n EXIT\n END S\n', ('run', 'trace', 'watch'))
 
 
 LIMITS = [input_limit, memory_end, module_limit, name_limit, counts_limit, words_limit, numbers_limit, steps_limit,
@@ -318,9 +330,54 @@ def limits(rng, turn):
     return LIMITS[turn % len(LIMITS)](rng)
 
 
+# ---- Files by name
+
+OBJECT = b'00002        A0000B10FF20000F\n:\n'
+# The files of the folder in which all runs are made; beside them it has a folder, a link and a pipe.
+FILES = {'A.SRC': b' LI R1,>1234\n A R1,R2\n RT\n', 'CRLF.SRC': b' RT\r\n RT\r\n', 'END.SRC': b' DATA 1\n END\n FOO\n',
+         'BAD.SRC': b' DATA 1\n FOO\n', 'OPEN.SRC': b' DATA LATER\n', 'RING.SRC': b' COPY "RING.SRC"\n',
+         'TWICE.SRC': b' COPY "TWO.SRC"\n COPY \'TWO.SRC\'\n', 'TWO.SRC': b' COPY "EMPTY"\n DATA 1\n', 'EMPTY': b'',
+         'MANY63.SRC': b' COPY "EMPTY"\n' * 63, 'MANY64.SRC': b' COPY "EMPTY"\n' * 64, 'FULL.SRC': b'*\n' * 131_072,
+         'OVER.SRC': b'*\n' * 131_072 + b'*', 'NAMES.SRC': b''.join([b'N%05x\n' % i for i in range(37_000)]),
+         'ONE': OBJECT, 'DEFINES': b'00002        A0000B000750000FOO   F\n:\n',
+         'USES': b'00008        A0000B0000C0000BC060C000230006FOO   20000F\n:\n', 'BAD': b'00000        AX000F\n:\n',
+         'SHORT': b'00002        B000', 'PACKED': b'\x01\0\2        B\0\7F'.ljust(80) + b':', 'MODULES': OBJECT * 64,
+         'MODULES65': OBJECT * 65, 'LARGE': b'\n' * LARGEST, 'LARGER': b'\n' * (LARGEST + 1), '-h': OBJECT,
+         'N' * 60: OBJECT, **load_files()}
+NAMED = [name.encode() for name in FILES] + [b'FOLDER', b'LINK', b'PIPE', b'NONE']
+UNNAMED = [b'', b'.', b'..', b'.HIDDEN', b'../A.SRC', b'/etc/passwd', b'FOLDER/A.SRC', b'N' * 61, b'A B', b'\xc3\xa9',
+           b'A\0SRC', b'*']
+
+
+def copies(rng, turn):
+    """A source that copies files: any of the folder's, missing ones, and names that are none."""
+    def line():
+        quote = rng.choice((b'"', b'"', b"'"))
+        name = rng.choice(NAMED) if rng.random() < 0.9 else rng.choice(UNNAMED)
+        ending = quote if rng.random() < 0.97 else rng.choice((b'', b'x', b'"', b"'"))
+        label = b'' if rng.random() < 0.97 else b'L%d' % rng.randrange(9)
+        return label + b' ' + rng.choice((b'COPY', b'COPY', b'copy')) + b' ' + quote + name + ending
+    own = [b' DATA 1', b'LATER', b' RT', b'* a remark', b' END', b' FOO']
+    lines = [line() if rng.random() < 0.6 else rng.choice(own) for _ in range(rng.choice((1, 1, 2, 3, 8, 70)))]
+    command = b'asm' if rng.random() < 0.9 else rng.choice((b'gasm', b'link'))
+    return Run([command], b'\n'.join(lines) + b'\n', files=command == b'asm')
+
+
+def linked_files(rng, turn):
+    """`link` with names: of any of the folder's files, of missing ones, and words that are no names."""
+    count = rng.choice((1, 1, 2, 2, 3, 5, 15, 16, 17))
+    names = [rng.choice(NAMED) if rng.random() < 0.8 else b'DEFINES' for _ in range(count)]
+    if rng.random() < 0.1:
+        names[rng.randrange(count)] = rng.choice([name for name in UNNAMED if b'\0' not in name])
+    stdin = rng.choice(('file', 'file', 'closed', 'folder'))
+    return Run([b'link', *names], stdin=stdin, files=True)
+
+
 # ---- Words, streams and memory
 
 WORDS = [b'asm', b'link', b'dis', b'gdis', b'exec', b'gasm', b'interp', b'run', b'trace', b'demo', b'', b'0', b'1',
+         b'watch', b'pad:8300+1', b'pad:83C1+2', b'pad:8300+0', b'pad:8300+01', b'PAD:8300+1', b'vdp:3FFF+2',
+         b'vdp:0000+16385', b'vdp:0+1', b'pc:6000', b'pc:60', b'pc:>6000', b'pc:6000+1', b'ONE', b'.ONE', b'ONE/',
          b'5', b'007', b'-1', b'A000', b'a001', b'A00', b'A0000', b'>A000', b'100000', b'100001', b'10000000',
          b'10000001', b'500', b'501', b'--help', b'--version', b'-h', b'--', b'ASM', b'\xff\xfe', b'\xc3\xa9',
          b'9' * 20, b'+1', b' 1', b'1 ', b'0x10', b'?', b'asm\n', b'1e3']
@@ -359,7 +416,7 @@ def little_memory(rng, turn):
 
 
 WEIGHTS = {noise: 8, prefixes: 1, mutations: 4, sources: 2, codes: 2, objects: 1, long_lines: 1, many_names: 1,
-           limits: 1, words: 1, streams: 1, little_memory: 1}
+           limits: 1, words: 1, streams: 1, little_memory: 1, copies: 1, linked_files: 1}
 KINDS = [(kind, part, weight) for kind, weight in WEIGHTS.items() for part in range(weight)]
 
 
