@@ -30,7 +30,7 @@ use Rattle.bench_commands.specs.Laws as plain_laws
 use Rattle.bench_commands.proofs.Uniqueness as bench
 use Rattle.bench_commands.proofs.Uniqueness.{on_all, on_input, no_miss}
 use Rattle.workbench.specs.FileRun.{FileRun, without_files, AsmOn, Reports, EndsOver, EndsByUsage, EndsAs}
-use Rattle.workbench.specs.Laws.{HasNoFault, input_of, Completeness, BeginAlike, OneAnswer, LawsOfFileRuns}
+use Rattle.workbench.specs.Laws.{HasNoFault, input_of, Tells, Completeness, BeginAlike, OneAnswer, LawsOfFileRuns}
 
 -- ---- words that say a command without files
 
@@ -105,19 +105,19 @@ asm_on_input run source report files told on = by (nat_lt largest_input (length 
         on.is ∙ ap copy_report is
 
 on_files : (command : ProgramCommand) (run : FileRun) (input : List ℕ) (files : Files) (report : Report)
-    → run.input.left ≡ Some input → run.shelf.files ≡ Some files → Reports command run report
+    → Tells command run input files → Reports command run report
     → ReportWith command (input_of command input) files report
-on_files AsmFiles run input files report left told (source, reading, on) =
-    on_all (AsmReport files) run.input run.input' source input report left reading
-    (asm_on_input run source report files told on)
-on_files (LinkFiles names) run input files report left told (same, linked) =
+on_files AsmFiles run input files report told (source, reading, on) =
+    on_all (AsmReport files) run.input run.input' source input report told.0 reading
+    (asm_on_input run source report files told.1 on)
+on_files (LinkFiles names) run input files report told (same, linked) =
     let P : Option Files → Type 0 = λ f. IfSome f (λ files. linked.texts ≡ read_files files names) in
     let is : linked.texts ≡ read_files files names = subst P told linked.told in
     linked.is ∙ ap (λ texts. files_report (texts >>= linked_texts)) is
-on_files (Watch limit items) run input files report left told (source, reading, same, on) =
+on_files (Watch limit items) run input files report told (source, reading, same, on) =
     on_all (λ source report. ProgramReport (ReportsWatch limit items) (program_of_source source) report)
-    run.input run.input' source input report left reading on
-on_files (Plain command) run input files report left told reports = absurd reports
+    run.input run.input' source input report told reading on
+on_files (Plain command) run input files report told reports = absurd reports
 
 -- ---- a run in which no count rose wrote its report
 
@@ -143,11 +143,11 @@ record Answered (command : ProgramCommand) (input : List ℕ) (files : Files) (r
   wrote : WroteReport run.outputs report
 
 over_answered : (command : ProgramCommand) (input : List ℕ) (files : Files) (run : FileRun) (end : Status)
-    → run.input.left ≡ Some input → run.shelf.files ≡ Some files → HasNoFault run → end ≢ status.Memory
-    → EndsOver command run end → Answered command input files run end
-over_answered command input files run end left told none some ends =
+    → Tells command run input files → HasNoFault run → end ≢ status.Memory → EndsOver command run end
+    → Answered command input files run end
+over_answered command input files run end told none some ends =
     let r = over command run end ends none some in
-    record { report = r.0; on = on_files command run input files r.0 left told r.1; is = r.2; wrote = r.3 }
+    record { report = r.0; on = on_files command run input files r.0 told r.1; is = r.2; wrote = r.3 }
 
 plain_answered : (words : List (List ℕ)) (command : Command) (input : List ℕ) (files : Files) (run : FileRun)
     (end : Status) → program_command words ≡ Some (Plain command) → run.input.left ≡ Some input → HasNoFault run
@@ -161,22 +161,21 @@ plain_answered words command input files run end said left none some ends =
     record { report = r.0; on = on_input same command input r.0 left reports; is = r.2; wrote = r.3 }
 
 answered : (words : List (List ℕ)) (command : ProgramCommand) (input : List ℕ) (files : Files) (run : FileRun)
-    (end : Status) → program_command words ≡ Some command → run.input.left ≡ Some input
-    → run.shelf.files ≡ Some files → HasNoFault run → end ≢ status.Memory → EndsAs (Some command) words run end
-    → Answered command input files run end
-answered words AsmFiles input files run end said left told none some ends =
-    over_answered AsmFiles input files run end left told none some ends
-answered words (LinkFiles names) input files run end said left told none some ends =
-    over_answered (LinkFiles names) input files run end left told none some ends
-answered words (Watch limit items) input files run end said left told none some ends =
-    over_answered (Watch limit items) input files run end left told none some ends
-answered words (Plain command) input files run end said left told none some ends =
-    plain_answered words command input files run end said left none some ends.0
+    (end : Status) → program_command words ≡ Some command → Tells command run input files → HasNoFault run
+    → end ≢ status.Memory → EndsAs (Some command) words run end → Answered command input files run end
+answered words AsmFiles input files run end said told none some ends =
+    over_answered AsmFiles input files run end told none some ends
+answered words (LinkFiles names) input files run end said told none some ends =
+    over_answered (LinkFiles names) input files run end told none some ends
+answered words (Watch limit items) input files run end said told none some ends =
+    over_answered (Watch limit items) input files run end told none some ends
+answered words (Plain command) input files run end said told none some ends =
+    plain_answered words command input files run end said told none some ends.0
 
 completeness : Completeness
-completeness words run command input files report end said left told none on ends some =
+completeness words run command input files report end said told none on ends some =
     let P : Option ProgramCommand → Type 0 = λ found. EndsAs found words run end in
-    let a = answered words command input files run end said left told none some (subst P said ends) in
+    let a = answered words command input files run end said told none some (subst P said ends) in
     let same : a.report ≡ report = one_report_with command (input_of command input) files a.report report a.on on in
     let W : Report → Type 0 = λ x. WroteReport run.outputs x in
     (a.is ∙ ap status_of same, subst W same a.wrote)
@@ -193,13 +192,13 @@ usage_answer run status.Memory none (leaves, ends) = absurd ends
 usage_answer run status.Stopped none (leaves, ends) = absurd ends
 
 alike : (words : List (List ℕ)) (found : Option ProgramCommand) (a b : FileRun) (s t : Status)
-    → program_command words ≡ found → BeginAlike a b → HasNoFault a → HasNoFault b → EndsAs found words a s
+    → program_command words ≡ found → BeginAlike words a b → HasNoFault a → HasNoFault b → EndsAs found words a s
     → EndsAs found words b t → s ≢ status.Memory → t ≢ status.Memory → s ≡ t
 alike words None a b s t said begin none other ends ends' some some' =
     usage_answer a s none ends ∙ sym (usage_answer b t other ends')
 alike words (Some command) a b s t said begin none other ends ends' some some' =
-    let p = answered words command begin.bytes begin.files a s said begin.one begin.here none some ends in
-    let q = answered words command begin.bytes begin.files b t said begin.other begin.there other some' ends' in
+    let p = answered words command begin.bytes begin.files a s said (begin.one command said) none some ends in
+    let q = answered words command begin.bytes begin.files b t said (begin.other command said) other some' ends' in
     let same : p.report ≡ q.report =
     one_report_with command (input_of command begin.bytes) begin.files p.report q.report p.on q.on in
     p.is ∙ ap status_of same ∙ sym q.is

@@ -5,7 +5,7 @@ use Rattle.shelf_defs.specs.Files.{Files}
 use Rattle.report_defs.specs.declared.status.Status.{Status}
 use Rattle.report_defs.specs.declared.status.Status.TheVariants.{Memory}
 use Rattle.report_defs.specs.Report.{Report, status_of}
-use Rattle.file_report_defs.specs.Words.{ProgramCommand, Plain, program_command}
+use Rattle.file_report_defs.specs.Words.{ProgramCommand, AsmFiles, LinkFiles, Watch, Plain, program_command}
 use Rattle.file_report_defs.specs.Whole.{ReportWith}
 use Rattle.file_report_defs.specs.Laws.{OneReportWith}
 use Rattle.bench_commands.specs.Run.{WroteReport}
@@ -24,33 +24,37 @@ abbrev pub input_of : ProgramCommand → List ℕ → List ℕ
 input_of (Plain command) input = read_of command input
 input_of command input = input
 
--- The law, which is proved: where the words are a command, the input tells its bytes, the shelf tells its files and no
--- count rose, the answer is the status of the report on these, and the whole report was written; or memory was wanting.
+-- What a command reads is told: the bytes of the input, the files of the shelf, or both.
+abbrev pub Tells : ProgramCommand → FileRun → List ℕ → Files → Type 0
+Tells AsmFiles run input files = (run.input.left ≡ Some input) × (run.shelf.files ≡ Some files)
+Tells (LinkFiles names) run input files = run.shelf.files ≡ Some files
+Tells (Watch limit items) run input files = run.input.left ≡ Some input
+Tells (Plain command) run input files = run.input.left ≡ Some input
+
+-- The law, which is proved: where the words are a command, what it reads is told and no count rose, the answer is the
+-- status of the report on this, and the whole report was written; or memory was wanting.
 abbrev pub Completeness : Type 0
 Completeness =
     (words : List (List ℕ)) (run : FileRun) (command : ProgramCommand) (input : List ℕ) (files : Files)
     (report : Report) (end : Status)
-    → program_command words ≡ Some command → run.input.left ≡ Some input → run.shelf.files ≡ Some files
-    → HasNoFault run
+    → program_command words ≡ Some command → Tells command run input files → HasNoFault run
     → ReportWith command (input_of command input) files report
     → EndsFileRun words run end → end ≢ Memory
     → (end ≡ status_of report) × WroteReport run.outputs report
 
--- two runs begin with inputs of the same bytes and with the same files, which are told
-pub record BeginAlike (first second : FileRun) : Type 0 where
+-- what the command of the words reads is told of two runs, and is the same
+pub record BeginAlike (words : List (List ℕ)) (first second : FileRun) : Type 0 where
   pub bytes : List ℕ
-  pub one : first.input.left ≡ Some bytes
-  pub other : second.input.left ≡ Some bytes
   pub files : Files
-  pub here : first.shelf.files ≡ Some files
-  pub there : second.shelf.files ≡ Some files
+  pub one : (command : ProgramCommand) → program_command words ≡ Some command → Tells command first bytes files
+  pub other : (command : ProgramCommand) → program_command words ≡ Some command → Tells command second bytes files
 
 -- The law, which is proved: two such runs of the same words in which no count rose have one answer, if neither is want
 -- of memory.
 abbrev pub OneAnswer : Type 0
 OneAnswer =
     (words : List (List ℕ)) (first second : FileRun) (one other : Status)
-    → BeginAlike first second → HasNoFault first → HasNoFault second
+    → BeginAlike words first second → HasNoFault first → HasNoFault second
     → EndsFileRun words first one → EndsFileRun words second other → one ≢ Memory → other ≢ Memory
     → one ≡ other
 
