@@ -3,13 +3,12 @@ use Rattle.std.proofs.Common.{◌≡◌, ℕ, List, [], ◌∷◌, ◌++◌, Ok,
 use Rattle.std.specs.Prelude.{Option, Result}
 use Rattle.source_defs.specs.declared.causes.ExprError.{ExprError}
 use Rattle.source_defs.specs.declared.causes.ExprError.TheVariants as expr
-use Rattle.source_defs.specs.Refusals.{◌>>=◌}
+use Rattle.source_defs.specs.Refusals.{after, ◌>>=◌}
 use Rattle.source_defs.specs.Expression.{Value}
 use Rattle.module_defs.specs.declared.location.Location.{Location}
 use Rattle.module_defs.specs.Locations.{behind}
 use Rattle.module_defs.specs.SecondChecks.{word_in, data_values, absolute_in, byte_values}
 use Rattle.asm_text.specs.Yielded.{Yields}
-use Rattle.asm_checks.specs.Outcomes.{after}
 
 pub after_more : {A E : Type 0} (front : List A) (item : A) (others : Result (List A) E)
     → after front (others >>= λ items. Ok (item ∷ items)) ≡ after (front ++ item ∷ []) others

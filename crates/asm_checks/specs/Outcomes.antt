@@ -1,5 +1,5 @@
 -- What a line of the code comes to, as the definitions have it.
-use Rattle.std.specs.Prelude.{ℕ, List, ◌++◌, Option, Some, None, Result, Ok, Err}
+use Rattle.std.specs.Prelude.{ℕ, Option, Some, None, Result, Ok, Err}
 use Rattle.source_defs.specs.Refusals.{◌>>=◌}
 use Rattle.source_defs.specs.Expression.{Value, known_value}
 use Rattle.asm_defs.specs.declared.causes.FormError.TheVariants.{BadOperand}
@@ -29,11 +29,6 @@ byte_answer None = Err (Form BadOperand)
 -- whether a name of DEF stands for something here
 abbrev pub known_answer : Option Value → Result spec.Outcome AsmCause
 known_answer found = as_expr (known_value found) >>= λ value. spec.defined_here value >>= λ value. Ok spec.Nothing
-
--- some items before others
-abbrev pub after : {A E : Type 0} → List A → Result (List A) E → Result (List A) E
-after front (Ok items) = Ok (front ++ items)
-after front (Err error) = Err error
 
 -- the spot that a name stands for
 abbrev pub defined_spot : Option CodeValue → Spot

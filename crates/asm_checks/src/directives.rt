@@ -6,9 +6,10 @@ ghost use Rattle.module_defs.specs.Directives as spec;
 use asm_text::is_word;
 use module_defs::Directive;
 
-/// The directive that an operation field names, in upper or lower case (Editor/Assembler manual, "Assembler Directives").
+/// The directive that an operation field names, in upper or lower case (Editor/Assembler manual, "Assembler
+/// Directives").
 #[tactic(auto, unfolding(module_defs::specs::Directives::directive))]
-pub fn directive(text: &[u8]) -> Option<Directive>
+pub(crate) fn directive(text: &[u8]) -> Option<Directive>
     ensures { result ≡ spec.directive text.now }
 {
     if is_word(text, b"DATA") {

@@ -27,6 +27,40 @@ impl From<AllocError> for Failure {
     }
 }
 
+impl From<ExprError> for Failure {
+    ghost from_gives = { λ error failure. failure ≡ expr_failure error };
+
+    fn from(error: ExprError) -> Self {
+        match error {
+            ExprError::Memory => Failure::Memory,
+            error => Failure::Refused(AsmCause::Expr(error)),
+        }
+    }
+}
+
+impl From<OperandError> for Failure {
+    ghost from_gives = { λ error failure. failure ≡ operand_failure error };
+
+    fn from(error: OperandError) -> Self {
+        let error = match error {
+            OperandError::Count => FormError::OperandCount,
+            OperandError::Form => FormError::BadOperand,
+        };
+        Failure::Refused(AsmCause::Form(error))
+    }
+}
+
+impl From<FormError> for Failure {
+    ghost from_gives = { λ error failure. failure ≡ form_failure error };
+
+    fn from(error: FormError) -> Self {
+        match error {
+            FormError::Memory | FormError::Expr(ExprError::Memory) => Failure::Memory,
+            error => Failure::Refused(AsmCause::Form(error)),
+        }
+    }
+}
+
 /// Whether a refusal may be lifted by names that are still to come.
 pub fn is_open(cause: AsmCause) -> bool
     ensures { result ≡ growing.is_open cause }
@@ -36,35 +70,4 @@ pub fn is_open(cause: AsmCause) -> bool
         AsmCause::Expr(ExprError::UnknownName)
             | AsmCause::Form(FormError::Expr(ExprError::UnknownName))
     )
-}
-
-/// What the refusal of an expression is in the line of a directive.
-pub fn expr_failure(error: ExprError) -> Failure
-    ensures { result ≡ expr_failure error }
-{
-    match error {
-        ExprError::Memory => Failure::Memory,
-        error => Failure::Refused(AsmCause::Expr(error)),
-    }
-}
-
-/// What the refusal of operands is in the line of a directive.
-pub fn operand_failure(error: OperandError) -> Failure
-    ensures { result ≡ operand_failure error }
-{
-    let error = match error {
-        OperandError::Count => FormError::OperandCount,
-        OperandError::Form => FormError::BadOperand,
-    };
-    Failure::Refused(AsmCause::Form(error))
-}
-
-/// What the refusal of an instruction is in its line.
-pub fn form_failure(error: FormError) -> Failure
-    ensures { result ≡ form_failure error }
-{
-    match error {
-        FormError::Memory | FormError::Expr(ExprError::Memory) => Failure::Memory,
-        error => Failure::Refused(AsmCause::Form(error)),
-    }
 }

@@ -11,7 +11,7 @@ ghost use Rattle.asm_checks.specs.Checks.{defined_before, defined_said, defined_
 ghost use Rattle.asm_checks.specs.Checks.{ListsNames, listed_in};
 ghost use Rattle.asm_checks.specs.Moves.{MovesWithin};
 
-use crate::failure::{Failure, expr_failure};
+use crate::failure::Failure;
 use crate::moves::{Move, behind};
 use crate::names::{any_known, is_taken, label_in, names_in, repeats};
 use crate::statement::{Statement, statement_in};
@@ -19,10 +19,8 @@ use crate::titles::title_in;
 use crate::values::Scope;
 use asm_text::{Fields, Name, Symbols, fields, is_quoted};
 use module_defs::{AsmCause, Location, Part};
+use object_tags::MOST_NAMES;
 use std::alloc::{AllocError, Global};
-
-/// The most names that DEF, or REF, may list in a module.
-pub const MOST_NAMES: usize = 256;
 
 /// What is known of the lines before a line.
 #[derive(Clone, Copy)]
@@ -124,7 +122,8 @@ impl Before<'_> {
         requires places { KnowsPlaces self.now }
         requires listed { ListsNames said }
         requires little { MovesLittle said.statement }
-        ensures checked { Gives defined_checked result (spec.moved (defined_before self.now) (defined_said said.entry)) }
+        ensures checked { Gives defined_checked result
+            (spec.moved (defined_before self.now) (defined_said said.entry)) }
         ensures same { IfOk result (λ checked. checked.said ≡ said.entry) }
         ensures listed { IfOk result (λ checked. ListsNames checked.said) }
         ensures within { IfOk result (λ checked. MovesWithin checked.moved) }
@@ -134,10 +133,7 @@ impl Before<'_> {
             symbols: self.symbols,
             at: self.location,
         };
-        let moved = match scope.move_by(self.reached, &said.statement) {
-            Ok(moved) => moved,
-            Err(error) => return Err(expr_failure(error)),
-        };
+        let moved = scope.move_by(self.reached, &said.statement)?;
         if self.is_too_far(&said, &moved) {
             return Err(Failure::Refused(AsmCause::Overflow));
         }
@@ -172,7 +168,8 @@ impl Before<'_> {
     /// Whether a directive cannot stand as it is.
     fn is_bad(&self, said: &Said<'_>) -> bool
         requires { ListsNames said.now }
-        ensures { result ≡ spec.is_bad (defined_before self.now) said.now.fields.label (defined_statement said.now.statement) }
+        ensures { result
+            ≡ spec.is_bad (defined_before self.now) said.now.fields.label (defined_statement said.now.statement) }
     {
         match said.statement {
             Statement::Equ(_) => said.fields.label.is_none(),

@@ -34,7 +34,8 @@ impl Scope<'_> {
         requires here { self.now.at.number ≤ 65536 }
         requires reached { reached ≤ 65535 }
         requires field { MovesLittle statement.now }
-        ensures moved { Yields defined_move result (spec.move self.now.symbols.now self.now.at reached (defined_statement statement.now)) }
+        ensures moved { Yields defined_move result
+            (spec.move self.now.symbols.now self.now.at reached (defined_statement statement.now)) }
         ensures within { IfOk result MovesWithin }
     {
         match statement {

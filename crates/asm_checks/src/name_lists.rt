@@ -8,8 +8,9 @@ ghost use Rattle.module_defs.specs.Statements as spec;
 use asm_text::{OperandError, is_name, operands};
 
 /// A field of one name or more.
-pub fn names_of(field: &[u8]) -> Result<&[u8], OperandError>
-    ensures names { seen (λ found. spec.upper_names (operand_texts found.now)) result ≡ spec.names_in (operand_texts field.now) }
+pub(crate) fn names_of(field: &[u8]) -> Result<&[u8], OperandError>
+    ensures names { seen (λ found. spec.upper_names (operand_texts found.now)) result
+        ≡ spec.names_in (operand_texts field.now) }
     ensures all { IfOk result (λ found. spec.all_names (operand_texts found.now) ≡ true) }
 {
     if operands(field).next().is_none() {

@@ -9,7 +9,7 @@ use asm_text::{Name, Symbols, operands, upper_case_name};
 use std::alloc::{AllocError, Global};
 
 /// The names of a field, in upper case. Each of its operands is a name.
-pub fn names_in(alloc: Global, field: &[u8]) -> Result<Vec<Name>, AllocError>
+pub(crate) fn names_in(alloc: Global, field: &[u8]) -> Result<Vec<Name>, AllocError>
     requires { all_names (operand_texts field.now) ≡ true }
     ensures { IfOk result (λ names. names.items ≡ upper_names (operand_texts field.now)) }
 {
@@ -23,7 +23,7 @@ pub fn names_in(alloc: Global, field: &[u8]) -> Result<Vec<Name>, AllocError>
 }
 
 /// Whether one of some names stands for something.
-pub fn any_known(symbols: &Symbols, names: &[Name]) -> bool
+pub(crate) fn any_known(symbols: &Symbols, names: &[Name]) -> bool
     ensures { result ≡ spec.any_known symbols.now names.now }
 {
     names.iter().any(|name| symbols.get(name).is_some())
@@ -37,7 +37,7 @@ fn is_among(name: &Name, others: &[Name]) -> bool
 }
 
 /// Whether one of some names stands among earlier ones, or twice among them.
-pub fn repeats(earlier: &[Name], names: &[Name]) -> bool
+pub(crate) fn repeats(earlier: &[Name], names: &[Name]) -> bool
     ensures { result ≡ spec.repeats earlier.now names.now }
 {
     let mut rest = names;
@@ -51,14 +51,14 @@ pub fn repeats(earlier: &[Name], names: &[Name]) -> bool
 }
 
 /// Whether a name of REF stands for something already: by a line before, by the label of its line, or by REF itself.
-pub fn is_taken(symbols: &Symbols, label: Option<Name>, names: &[Name]) -> bool
+pub(crate) fn is_taken(symbols: &Symbols, label: Option<Name>, names: &[Name]) -> bool
     ensures { result ≡ spec.is_taken symbols.now label names.now }
 {
     any_known(symbols, names) || repeats(label_in(&label), names)
 }
 
 /// The label as a list.
-pub fn label_in(label: &Option<Name>) -> &[Name]
+pub(crate) fn label_in(label: &Option<Name>) -> &[Name]
     ensures { result.now ≡ spec.label_in label.now }
 {
     match label {

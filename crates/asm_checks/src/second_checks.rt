@@ -22,7 +22,7 @@ ghost use Rattle.asm_checks.specs.Defined.{defined_statement, IsInstructionOf, N
 ghost use Rattle.asm_checks.specs.Moves.{MovesLittle};
 ghost use Rattle.asm_checks.specs.Outcomes.{defined_outcome, byte_answer, known_answer};
 
-use crate::failure::{Failure, expr_failure, form_failure};
+use crate::failure::Failure;
 use crate::moves::behind;
 use crate::names::names_in;
 use crate::statement::Statement;
@@ -78,17 +78,15 @@ impl Scope<'_> {
     {
         match statement {
             Statement::Instruction(..) => self.instruction_outcome(line, fields),
-            Statement::Data(field) => match self.data_words(field) {
-                Ok(words) => Ok(Outcome::Words(words)),
-                Err(error) => Err(expr_failure(error)),
-            },
-            Statement::Byte(field) => match self.byte_values(field) {
-                Ok(numbers) => {
-                    let bytes = self.bytes_of(numbers.as_slice())?;
-                    Ok(Outcome::Bytes(bytes))
-                }
-                Err(error) => Err(expr_failure(error)),
-            },
+            Statement::Data(field) => {
+                let words = self.data_words(field)?;
+                Ok(Outcome::Words(words))
+            }
+            Statement::Byte(field) => {
+                let numbers = self.byte_values(field)?;
+                let bytes = self.bytes_of(numbers.as_slice())?;
+                Ok(Outcome::Bytes(bytes))
+            }
             Statement::Text(quoted) => {
                 let bytes = quoted_characters(self.alloc, quoted)?;
                 Ok(Outcome::Bytes(bytes))
@@ -97,10 +95,10 @@ impl Scope<'_> {
                 self.check_defs(field)?;
                 Ok(Outcome::Nothing)
             }
-            Statement::End(Some(text)) => match self.entry_of(text) {
-                Ok(entry) => Ok(Outcome::Entry(entry)),
-                Err(error) => Err(expr_failure(error)),
-            },
+            Statement::End(Some(text)) => {
+                let entry = self.entry_of(text)?;
+                Ok(Outcome::Entry(entry))
+            }
             _ => Ok(Outcome::Nothing),
         }
     }
@@ -115,14 +113,10 @@ impl Scope<'_> {
             (spec.instruction_outcome (look_up self.now.symbols.now) self.now.at (operation_in line.now fields.now)
             (operands_in line.now fields.now)) }
     {
-        match parse_instr(self.alloc, line, fields, self.symbols, value_at(self.at)) {
-            Ok(placed) => {
-                let mut words = Vec::new(self.alloc);
-                words.extend_from_slice(placed.words.as_slice())?;
-                Ok(Outcome::Words(words))
-            }
-            Err(error) => Err(form_failure(error)),
-        }
+        let placed = parse_instr(self.alloc, line, fields, self.symbols, value_at(self.at))?;
+        let mut words = Vec::new(self.alloc);
+        words.extend_from_slice(placed.words.as_slice())?;
+        Ok(Outcome::Words(words))
     }
 
     /// The words of DATA.
@@ -136,10 +130,7 @@ impl Scope<'_> {
         let mut words = Vec::new(self.alloc);
         let mut place = self.at;
         for span in operands(field) {
-            let word = match self.word_in(&place, &field[span.start..span.end]) {
-                Ok(word) => word,
-                Err(error) => return Err(error),
-            };
+            let word = self.word_in(&place, &field[span.start..span.end])?;
             if words.push(word).is_err() {
                 return Err(ExprError::Memory);
             }
@@ -150,7 +141,8 @@ impl Scope<'_> {
 
     /// A value of DATA, whose word stands at a place.
     fn word_in(&self, place: &Location, text: &[u8]) -> Result<Word, ExprError>
-        ensures { Yields defined_word result (spec.word_in (look_up self.now.symbols.now) self.now.at place.now text.now) }
+        ensures { Yields defined_word result
+            (spec.word_in (look_up self.now.symbols.now) self.now.at place.now text.now) }
     {
         let value = self.value_of(text)?;
         used_at(place, &value)
@@ -163,10 +155,7 @@ impl Scope<'_> {
     {
         let mut numbers = Vec::new(self.alloc);
         for span in operands(field) {
-            let number = match self.absolute_of(&field[span.start..span.end]) {
-                Ok(number) => number,
-                Err(error) => return Err(error),
-            };
+            let number = self.absolute_of(&field[span.start..span.end])?;
             if numbers.push(number).is_err() {
                 return Err(ExprError::Memory);
             }
@@ -204,7 +193,8 @@ impl Scope<'_> {
 
     /// Whether some names stand for something here.
     fn defs_known(&self, names: &[Name]) -> Result<(), Failure>
-        ensures { Gives (λ _. spec.Nothing) result (spec.defs_known (look_up self.now.symbols.now) self.now.at names.now) }
+        ensures { Gives (λ _. spec.Nothing) result
+            (spec.defs_known (look_up self.now.symbols.now) self.now.at names.now) }
     {
         let mut rest = names;
         while let [name, others @ ..] = rest {

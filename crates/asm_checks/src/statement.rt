@@ -11,7 +11,7 @@ ghost use Rattle.asm_checks.specs.Defined.{defined_statement, IsDirective, IsIns
 ghost use Rattle.asm_checks.specs.Moves.{MovesLittle};
 
 use crate::directives::directive;
-use crate::failure::{Failure, form_failure, operand_failure};
+use crate::failure::Failure;
 use crate::name_lists::names_of;
 use asm_forms::size_of;
 use asm_text::{Fields, OperandError, at_most_one_of, one_of, part, quoted, some_of};
@@ -57,7 +57,7 @@ pub enum Statement<'a> {
     End(Option<&'a [u8]>),
 }
 
-/// What a line with its fields says. It never wants memory.
+/// What a line with its fields says.
 #[tactic(auto, using(crate::proofs::Failures::form_fails), unfolding(module_defs::specs::Statements::statement_in))]
 pub fn statement_in<'a>(
     alloc: Global,
@@ -77,14 +77,11 @@ pub fn statement_in<'a>(
         Some(operation) => {
             let field = part(line, fields.operands);
             match directive(part(line, operation)) {
-                Some(found) => match directive_statement(found, field) {
-                    Ok(statement) => Ok(statement),
-                    Err(error) => Err(operand_failure(error)),
-                },
-                None => match size_of(alloc, line, fields) {
-                    Ok(size) => Ok(Statement::Instruction(size, part(line, operation), field)),
-                    Err(error) => Err(form_failure(error)),
-                },
+                Some(found) => Ok(directive_statement(found, field)?),
+                None => {
+                    let size = size_of(alloc, line, fields)?;
+                    Ok(Statement::Instruction(size, part(line, operation), field))
+                }
             }
         }
     }

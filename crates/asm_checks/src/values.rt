@@ -13,8 +13,11 @@ use std::alloc::Global;
 /// The names that a line sees, and its place.
 #[derive(Clone, Copy)]
 pub struct Scope<'a> {
+    /// What gives memory.
     pub alloc: Global,
+    /// The names.
     pub symbols: &'a Symbols,
+    /// The place of the line.
     pub at: Location,
 }
 
@@ -38,7 +41,7 @@ impl Scope<'_> {
 }
 
 /// What a label at a place stands for.
-pub fn value_at(at: Location) -> Value
+pub(crate) fn value_at(at: Location) -> Value
     ensures value { defined_value result ≡ spec.value_of at }
     ensures known { IsNotExternal result }
 {

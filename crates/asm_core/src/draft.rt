@@ -52,7 +52,8 @@ impl Draft {
     /// Puts what a line comes to into its places.
     fn fill(&mut self, at: Location, outcome: &Outcome) -> Result<(), AllocError>
         requires { at.number + memory.bytes_in (defined_outcome outcome.now) ≤ 65536 }
-        ensures { OnOk result ((unused : List Reference) → Fills unused at (defined_outcome outcome.now) self.old self.new) }
+        ensures { OnOk result
+            ((unused : List Reference) → Fills unused at (defined_outcome outcome.now) self.old self.new) }
     {
         self.fill_bytes(at, outcome)?;
         self.note_entry(outcome);
@@ -62,7 +63,8 @@ impl Draft {
     /// Puts the bytes of a line into its places. There are none in the part of dummy lines.
     fn fill_bytes(&mut self, at: Location, outcome: &Outcome) -> Result<(), AllocError>
         requires { at.number + memory.bytes_in (defined_outcome outcome.now) ≤ 65536 }
-        ensures filled { OnOk result ((unused : List Reference) → FillsBytes unused at (defined_outcome outcome.now) self.old self.new) }
+        ensures filled { OnOk result
+            ((unused : List Reference) → FillsBytes unused at (defined_outcome outcome.now) self.old self.new) }
         ensures entry { self.new.entry ≡ self.old.entry }
     {
         if is_dummy(at.part) {

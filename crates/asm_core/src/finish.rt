@@ -32,17 +32,12 @@ impl AsmLines {
         ensures { (lines : List Line) → IsBehind lines self.old → GivesModule result (module_behind lines) }
     {
         let mut draft = self.draft()?;
-        match self.settle_all(&mut draft) {
-            Ok(()) => {}
-            Err(error) => return Err(error),
-        }
+        self.settle_all(&mut draft)?;
         if let Some(refused) = &self.refused {
             return Err(stopped(&self.symbols, &mut draft, refused));
         }
-        match self.module_of(&draft) {
-            Ok(module) => Ok(module),
-            Err(_) => Err(AsmError::Memory),
-        }
+        let module = self.module_of(&draft)?;
+        Ok(module)
     }
 
     /// What is known of the lines so far. The builder gives up its image.

@@ -49,7 +49,8 @@ impl Judge<'_> {
     pub(crate) fn judge(&self, text: &[u8], said: &Said<'_>) -> Result<Judged, AllocError>
         requires line { IsSaidOf text.now said.now }
         requires room { HasRoom self.now.at text.now (defined_statement said.now.statement) }
-        ensures { IfOk result (Judges self.now.symbols.now self.now.number self.now.at text.now (defined_statement said.now.statement)) }
+        ensures { IfOk result
+            (Judges self.now.symbols.now self.now.number self.now.at text.now (defined_statement said.now.statement)) }
     {
         let scope = Scope {
             alloc: self.alloc,

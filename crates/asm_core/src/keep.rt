@@ -78,9 +78,7 @@ impl AsmLines {
     {
         match waiting {
             Some(line) => {
-                if self.waiting.push(line).is_err() {
-                    return Err(AllocError);
-                }
+                self.waiting.push(line)?;
                 Ok(())
             }
             None => Ok(()),
@@ -112,9 +110,12 @@ impl AsmLines {
     /// Lists the names of DEF and REF.
     fn list_names(&mut self, checked: &Checked<'_>) -> Result<(), AllocError>
         requires { ListsNames checked.now.said }
-        ensures defs { OnOk result (self.new.defs.items ≡ self.old.defs.items ++ defs_in (defined_statement checked.now.said.statement)) }
-        ensures refs { OnOk result (self.new.refs.items ≡ self.old.refs.items ++ refs_in (defined_statement checked.now.said.statement)) }
-        ensures unchanged { OnErr result ((self.new.defs.items ≡ self.old.defs.items) × (self.new.refs.items ≡ self.old.refs.items)) }
+        ensures defs { OnOk result
+            (self.new.defs.items ≡ self.old.defs.items ++ defs_in (defined_statement checked.now.said.statement)) }
+        ensures refs { OnOk result
+            (self.new.refs.items ≡ self.old.refs.items ++ refs_in (defined_statement checked.now.said.statement)) }
+        ensures unchanged { OnErr result
+            ((self.new.defs.items ≡ self.old.defs.items) × (self.new.refs.items ≡ self.old.refs.items)) }
         ensures waiting { self.new.waiting ≡ self.old.waiting }
         ensures symbols { self.new.symbols ≡ self.old.symbols }
         ensures work { SameWork self.old self.new }

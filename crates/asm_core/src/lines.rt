@@ -10,8 +10,8 @@ use module_defs::Location;
 use object_tags::ModuleName;
 use std::alloc::Global;
 
-/// An assembler source, line by line. What a line places is placed when it is taken; a line is kept only where a value of it
-/// is still open, and zeros hold its places.
+/// An assembler source, line by line. What a line places is placed when it is taken; a line is kept only where a value
+/// of it is still open, and zeros hold its places.
 ///
 /// Contracts see it by the lines that it has taken (`HasTaken`).
 #[derive(Drop)]

@@ -12,7 +12,8 @@ use object_tags::Ref;
 /// (Editor/Assembler manual, "External Reference").
 pub(crate) fn use_name(references: &mut Vec<Ref>, name: &Name, at: Spot) -> Spot
     ensures last { result ≡ spec.last_use (map defined_ref references.old.items) name.now }
-    ensures used { map defined_ref references.new.items ≡ spec.with_use (map defined_ref references.old.items) name.now at }
+    ensures used { map defined_ref references.new.items
+        ≡ spec.with_use (map defined_ref references.old.items) name.now at }
 {
     for index in 0..references.len() {
         if references[index].name == *name {

@@ -77,13 +77,15 @@ impl AsmLines {
     fn advance(&mut self, checked: &Checked<'_>)
         requires taken { self.old.taken < 2 ^ 32 - 1 }
         requires within { MovesWithin checked.now.moved }
-        requires place { places.is_in_part (spec.location_behind self.old.location (defined_move checked.now.moved)) ≡ true }
+        requires place { places.is_in_part (spec.location_behind self.old.location (defined_move checked.now.moved))
+            ≡ true }
         requires titled { IsTitled (defined_statement checked.now.said.statement) }
         ensures location { self.new.location ≡ spec.location_behind self.old.location (defined_move checked.now.moved) }
         ensures reached { self.new.reached ≡ max self.old.reached (places.relocatable self.new.location) }
         ensures title { self.new.title ≡ title_by self.old.title (defined_statement checked.now.said.statement) }
         ensures taken { self.new.taken ≡ self.old.taken + 1 }
-        ensures ended { self.new.ended ≡ (spec.is_end (defined_statement checked.now.said.statement) || self.old.ended) }
+        ensures ended { self.new.ended
+            ≡ (spec.is_end (defined_statement checked.now.said.statement) || self.old.ended) }
         ensures kept { IsUnchanged self.old self.new }
         ensures worked { SameWork self.old self.new }
     {

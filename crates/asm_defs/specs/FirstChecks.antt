@@ -14,7 +14,8 @@ use Rattle.asm_defs.specs.Operations.{mnemonic}
 use Rattle.asm_defs.specs.Operands.{slots_of}
 use Rattle.asm_defs.specs.Forms.{Form, Plain, Indirect, Increment, Symbolic, Indexed, form_of, is_star, is_at}
 
--- What the first checks leave of a line: a word that has a name of its own, or an operation with the forms of its operands.
+-- What the first checks leave of a line: a word that has a name of its own, or an operation with the forms of its
+-- operands.
 pub data Skeleton : Type 0 where
   Word : ℕ → Skeleton
   Instruction : Operation → List Form → Skeleton

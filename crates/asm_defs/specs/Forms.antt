@@ -29,8 +29,8 @@ abbrev pub starred_form : List ℕ → Form
 starred_form text = if is_plus (slice_index text (last_place text)) then Increment (without_last text) else Indirect text
 
 -- Behind @: an address, with an index register where the text ends in parentheses.
--- Profile: it is cut at the first parenthesis that opens outside quotes; one that stands elsewhere belongs to an expression, which
--- is refused for it.
+-- Profile: it is cut at the first parenthesis that opens outside quotes; one that stands elsewhere belongs to an
+-- expression, which is refused for it.
 abbrev pub symbolic_form : List ℕ → Form
 symbolic_form text =
     if has_parentheses text

@@ -1,7 +1,7 @@
--- The text of an instruction, which an assembler reads as that instruction again.
+-- The text of an instruction, as a line of source has it.
 --
--- Profile: registers are R0 to R15, values and addresses hexadecimal words, a jump names its target's address; counts, the
--- number of an extended operation and the displacement of a bit are decimal.
+-- Profile: registers are R0 to R15, values and addresses hexadecimal words, a jump names its target's address; counts,
+-- the number of an extended operation and the displacement of a bit are decimal.
 use Rattle.std.specs.Prelude.{ℕ, ℤ, pos, negsuc, suc, ◌+◌, ◌==◌, nat_le, if◌then◌else◌, List, ◌∷◌, ◌++◌, length}
 use Rattle.std.specs.Prelude.{slice_index, codes, Option, Some, None}
 use Rattle.std.specs.Fmt.{decimal}
@@ -57,8 +57,8 @@ target_text SBZ next disp = signed_text disp
 target_text TB next disp = signed_text disp
 target_text op next disp = marked_word (jump_target next disp)
 
--- The operands of an instruction at an address, with the words from its first on; the words that follow stand in the order of the
--- operands. None where it has no operand.
+-- The operands of an instruction at an address, with the words from its first on; the words that follow stand in the
+-- order of the operands. None where it has no operand.
 abbrev pub operands_text : Instr → ℕ → List ℕ → Option (List ℕ)
 operands_text (Two op byte dst src) at words =
     Some (two_texts (operand_text src (slice_index words 1)) (operand_text dst (slice_index words (1 + following_words src))))
@@ -90,7 +90,7 @@ printed_where (Some instr) at words =
     then record { text = instr_text instr at words; count = words_of instr }
     else printed_word (slice_index words 0)
 
--- Profile: the text of the whole instruction at the front of some words, of which the first stands at an address; or DATA with the
--- first word.
+-- Profile: the text of the whole instruction at the front of some words, of which the first stands at an address; or
+-- DATA with the first word.
 unfoldable pub printed : List ℕ → ℕ → Printed
 printed words at = printed_where (instr_at (slice_index words 0)) at words

@@ -20,8 +20,8 @@ use Rattle.asm_defs.specs.Operands.{slots_of}
 use Rattle.asm_defs.specs.Forms.{Form, Plain, Indirect, Increment, Symbolic, Indexed}
 use Rattle.asm_defs.specs.FirstChecks.{Skeleton, Word, Instruction}
 
--- An operand with its values, not yet held against their ranges: R, *R, *R+, @e and @e(R); a register or a count; the displacement of
--- a bit; the target of a jump; and a word that follows.
+-- An operand with its values, not yet held against their ranges: R, *R, *R+, @e and @e(R); a register or a count; the
+-- displacement of a bit; the target of a jump; and a word that follows.
 pub data Operand : Type 0 where
   InRegister : ℕ → Operand
   ByRegister : ℕ → Operand
@@ -144,8 +144,8 @@ is_index register = nat_lt 0 register && nat_lt register 16
 abbrev pub is_displacement : ℕ → Bool
 is_displacement number = nat_lt number 128 || nat_le 0xFF80 number
 
--- An operand whose values are in their ranges: a place, with the word that follows, where one does; a register or a count; a
--- displacement; or a word that follows.
+-- An operand whose values are in their ranges: a place, with the word that follows, where one does; a register or a
+-- count; a displacement; or a word that follows.
 pub data Ready : Type 0 where
   Located : Place → Option Value → Ready
   Counted : ℕ → Ready
@@ -215,7 +215,8 @@ abbrev pub second_of : List Ready → Ready
 second_of [] = Counted 0
 second_of (ready ∷ readies) = first_of readies
 
--- Editor/Assembler manual, "Assembly Language Instructions": a source stands before its destination, and a register before a count.
+-- Editor/Assembler manual, "Assembly Language Instructions": a source stands before its destination, and a register
+-- before a count.
 abbrev pub instruction_of : Operation → List Ready → Instr
 instruction_of (Two op byte) readies = instr.Two op byte (place_in (second_of readies)) (place_in (first_of readies))
 instruction_of (Reg op) readies = instr.Reg op (count_in (second_of readies)) (place_in (first_of readies))

@@ -1,5 +1,5 @@
-//! The TMS9900's assembler source: its operations by name, the operands of each, the words of an instruction line and the
-//! text of an instruction. The definitions stand in `specs/`.
+//! The TMS9900's assembler source: its operations by name, the operands of each, the words of an instruction line and
+//! the text of an instruction. The definitions stand in `specs/`.
 #![tactic(auto)]
 
 mod causes;

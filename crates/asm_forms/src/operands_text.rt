@@ -1,8 +1,9 @@
 //! The operands of an instruction, as text.
 
-ghost use Rattle.std.specs.Prelude.{◌≡◌, ◌<◌, ◌≤◌, ◌+◌, ◌++◌, length, slice_index};
+ghost use Rattle.std.specs.Prelude.{◌≡◌, ◌<◌, ◌≤◌, ◌+◌, ◌++◌, length, slice_index, Some};
 ghost use Rattle.arrayvec.specs.ArrayString.{array_string_len};
 ghost use Rattle.console_defs.specs.Instructions.{IsPlace, HasRoom};
+ghost use Rattle.asm_defs.specs.Operands.{following_words};
 ghost use Rattle.asm_defs.specs.Printed as spec;
 
 use crate::sizes::{following_words, has_immediate, has_value};
@@ -17,12 +18,7 @@ pub(crate) fn push_operands(text: &mut Text, instr: &Instr, at: u16, words: &[u1
     ensures { text.new.bytes ≡ spec.with_operands text.old.bytes (spec.operands_text instr.now at words.now) }
 {
     match *instr {
-        Instr::Two { dst, src, .. } => {
-            text.push(' ');
-            push_operand(text, src, word_at(words, 1));
-            text.push(',');
-            push_operand(text, dst, word_at(words, 1 + following_words(src)));
-        }
+        Instr::Two { dst, src, .. } => push_two(text, src, dst, words),
         Instr::Reg { op, d, src } => {
             text.push(' ');
             push_operand(text, src, word_at(words, 1));
@@ -58,6 +54,22 @@ pub(crate) fn push_operands(text: &mut Text, instr: &Instr, at: u16, words: &[u1
             }
         }
     }
+}
+
+/// Appends a source and a destination behind a blank.
+#[tactic(auto, using(std::proofs::Common::append_assoc))]
+fn push_two(text: &mut Text, src: Place, dst: Place, words: &[u16])
+    requires room { array_string_len text.old ≤ 4 }
+    requires src { IsPlace src }
+    requires dst { IsPlace dst }
+    ensures { text.new.bytes ≡ spec.with_operands text.old.bytes
+        (Some (spec.two_texts (spec.operand_text src (slice_index words.now 1))
+        (spec.operand_text dst (slice_index words.now (1 + following_words src))))) }
+{
+    text.push(' ');
+    push_operand(text, src, word_at(words, 1));
+    text.push(',');
+    push_operand(text, dst, word_at(words, 1 + following_words(src)));
 }
 
 /// The word with a number, or 0 behind the last.

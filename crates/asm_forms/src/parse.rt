@@ -36,11 +36,12 @@ fn second_checks(scope: &Scope<'_>, skeleton: Skeleton<'_>) -> Result<Placed, Fo
     }
 }
 
-/// How many bytes the words of an instruction line take: 2, 4 or 6. The fields are those of the line. It never wants memory.
+/// How many bytes the words of an instruction line take: 2, 4 or 6. The fields are those of the line. It never wants
+/// memory.
 ///
 /// # Errors
-/// The first checks: `UnknownOperation`, then `OperandCount`, then `BadOperand` for the first operand that is empty or has a form
-/// that its place does not allow (Editor/Assembler manual, "Assembly Language Instructions").
+/// The first checks: `UnknownOperation`, then `OperandCount`, then `BadOperand` for the first operand that is empty or
+/// has a form that its place does not allow (Editor/Assembler manual, "Assembly Language Instructions").
 pub fn size_of(_alloc: Global, line: &[u8], fields: &Fields) -> Result<u16, FormError>
     requires read { lines.fields line.now ≡ Ok (defined_fields fields.now) }
     requires operation { IsSome fields.now.operation }
@@ -50,11 +51,12 @@ pub fn size_of(_alloc: Global, line: &[u8], fields: &Fields) -> Result<u16, Form
     Ok(size_in(&skeleton))
 }
 
-/// The words of an instruction line at the place `here`, of which `size_of` refuses nothing; the fields are those of the line.
+/// The words of an instruction line at the place `here`, of which `size_of` refuses nothing; the fields are those of
+/// the line.
 ///
 /// # Errors
-/// The second checks: first the values from the left, each `Expr` with the expression's refusal, then the ranges: `BadOperand`, and
-/// `JumpTooFar` for a jump. `Memory` is want of memory, and `Expr` never carries it.
+/// The second checks: first the values from the left, each `Expr` with the expression's refusal, then the ranges:
+/// `BadOperand`, and `JumpTooFar` for a jump. `Memory` is want of memory, and `Expr` never carries it.
 pub fn parse_instr(
     alloc: Global,
     line: &[u8],
@@ -82,7 +84,8 @@ pub fn parse_instr(
 fn line_checks<'a>(line: &'a [u8], fields: &Fields) -> Result<Skeleton<'a>, FormError>
     requires read { lines.fields line.now ≡ Ok (defined_fields fields.now) }
     requires operation { IsSome fields.now.operation }
-    ensures { skeleton_answer result ≡ first.first_checks (operation_in line.now fields.now) (operands_in line.now fields.now) }
+    ensures { skeleton_answer result
+        ≡ first.first_checks (operation_in line.now fields.now) (operands_in line.now fields.now) }
 {
     let operation = fields.operation.unwrap();
     let field = part(line, fields.operands);

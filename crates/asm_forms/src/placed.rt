@@ -91,7 +91,8 @@ fn instruction_words(operation: Operation, readies: &UpToTwo<Ready>) -> Placed
 /// Appends the word that follows for an operand, where one does.
 fn push_following(words: &mut ArrayVec<Word, 3>, ready: &Ready)
     requires { array_vec_len words.old + 1 ≤ 3 }
-    ensures words { defined_words words.new.items ≡ defined_words words.old.items ++ spec.following_in (defined_ready ready.now) }
+    ensures words { defined_words words.new.items
+        ≡ defined_words words.old.items ++ spec.following_in (defined_ready ready.now) }
     ensures size { array_vec_len words.new ≤ array_vec_len words.old + 1 }
 {
     match ready {

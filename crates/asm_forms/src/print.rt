@@ -14,9 +14,10 @@ use arrayvec::ArrayString;
 use console_defs::Instr;
 use tms_words::decode;
 
-/// The text of the instruction at the front of some words, of which the first stands at the address `at`, and how many of the
-/// words it has (1 to 3). Where the front is no whole instruction, the text is DATA with the first word, and the count is 1.
-/// A jump's target is shown by its address, with 16 bits. Editor/Assembler manual, "Assembly Language Instructions".
+/// The text of the instruction at the front of some words, of which the first stands at the address `at`, and how many
+/// of the words it has (1 to 3). Where the front is no whole instruction, the text is DATA with the first word, and the
+/// count is 1. A jump's target is shown by its address, with 16 bits. Editor/Assembler manual, "Assembly Language
+/// Instructions".
 pub fn print_instr(words: &[u16], at: u16) -> (ArrayString<64>, u8)
     requires { 0 < length words.now }
     ensures text { result.0.bytes ≡ (spec.printed words.now at).text }

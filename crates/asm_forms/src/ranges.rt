@@ -32,7 +32,8 @@ pub(crate) fn all_ranged(
     here: &Value,
     operands: UpToTwo<Operand>,
 ) -> Result<UpToTwo<Ready>, FormError>
-    ensures value { readies_answer result ≡ spec.all_ranged (defined_value here.now) (items_of defined_operand operands) }
+    ensures value { readies_answer result
+        ≡ spec.all_ranged (defined_value here.now) (items_of defined_operand operands) }
     ensures ready { IfOk result AllReady }
 {
     match operands {

@@ -9,7 +9,8 @@ use crate::up_to_two::UpToTwo;
 use asm_defs::Slot;
 use console_defs::{JumpOp, Operation, RegOp};
 
-/// The operands of an operation, in the order of the operand field (Editor/Assembler manual, "Assembly Language Instructions").
+/// The operands of an operation, in the order of the operand field (Editor/Assembler manual, "Assembly Language
+/// Instructions").
 pub(crate) fn slots_of(operation: Operation) -> UpToTwo<Slot>
     ensures { slots_in result ≡ spec.slots_of operation }
 {

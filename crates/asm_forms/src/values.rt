@@ -14,7 +14,7 @@ ghost use Rattle.asm_forms.specs.Values.{defined_operand};
 use crate::forms::Form;
 use crate::up_to_two::UpToTwo;
 use asm_defs::{FormError, Slot};
-use asm_text::{ExprError, Symbols, Value, tokens, value};
+use asm_text::{ExprError, Symbols, Value, expression_value};
 use std::alloc::Global;
 
 /// An operand with its values, not yet held against their ranges.
@@ -60,7 +60,8 @@ impl Scope<'_> {
             (spec.all_valued (look_up self.now.symbols.now) (defined_value self.now.here) (slots_in slots) (items_of defined_form forms.entry)) }
     {
         match (slots, forms) {
-            (UpToTwo::One(slot), UpToTwo::One(form)) => {
+            (UpToTwo::One(slot), UpToTwo::One(form) | UpToTwo::Two(form, _))
+            | (UpToTwo::Two(slot, _), UpToTwo::One(form)) => {
                 let operand = self.valued(slot, form)?;
                 Ok(UpToTwo::One(operand))
             }
@@ -68,14 +69,6 @@ impl Scope<'_> {
                 let operand = self.valued(slot, form)?;
                 let second = self.valued(other, next)?;
                 Ok(UpToTwo::Two(operand, second))
-            }
-            (UpToTwo::One(slot), UpToTwo::Two(form, _)) => {
-                let operand = self.valued(slot, form)?;
-                Ok(UpToTwo::One(operand))
-            }
-            (UpToTwo::Two(slot, _), UpToTwo::One(form)) => {
-                let operand = self.valued(slot, form)?;
-                Ok(UpToTwo::One(operand))
             }
             (UpToTwo::None, _) | (_, UpToTwo::None) => Ok(UpToTwo::None),
         }
@@ -155,16 +148,13 @@ impl Scope<'_> {
     }
 
     /// The value of an expression.
+    #[tactic(auto, using(crate::proofs::Refusals::expr_refuses))]
     fn value_of(&self, text: &[u8]) -> Result<Value, FormError>
         requires { IsNotExternal self.now.here }
         ensures { Gives defined_value result
             (spec.value_of (look_up self.now.symbols.now) (defined_value self.now.here) text.now) }
     {
-        let found = match tokens(self.alloc, text) {
-            Ok(found) => found,
-            Err(cause) => return Err(refused(cause)),
-        };
-        match value(found.as_slice(), text, self.symbols, self.here) {
+        match expression_value(self.alloc, text, self.symbols, self.here) {
             Ok(value) => Ok(value),
             Err(cause) => Err(refused(cause)),
         }

@@ -8,10 +8,8 @@ ghost use Rattle.asm_image.specs.Images.{IsEmpty, IsLaid, any_laid, Places};
 use crate::memory::Table;
 use module_defs::{AsmCause, Content, Location, Part};
 use object_defs::Spot;
+use object_tags::MOST_WORDS;
 use std::alloc::{AllocError, Global};
-
-/// The most words that a module has.
-const MOST_WORDS: u32 = 32_768;
 
 /// The bytes and words that lines place.
 #[derive(Debug, Drop)]
@@ -36,8 +34,8 @@ impl Image {
     /// Places the bytes of a line behind others.
     ///
     /// # Errors
-    /// They are placed in any case. `Overflow` comes where the module has too many words then, and else `Overlap` where one
-    /// was placed there before.
+    /// They are placed in any case. `Overflow` comes where the module has too many words then, and else `Overlap` where
+    /// one was placed there before.
     pub fn place(&mut self, at: Location, contents: &[Content]) -> Result<(), AsmCause>
         requires { at.number + length contents.now ≤ 65536 }
         ensures { (references : List Reference) (earlier : List spec.Settled) (line : spec.Settled) →
@@ -45,7 +43,7 @@ impl Image {
     {
         let overlaps = self.has_any(at, contents.len());
         self.lay(at, contents);
-        if self.relocatable.words + self.absolute.words > MOST_WORDS {
+        if self.relocatable.words + self.absolute.words > MOST_WORDS as u32 {
             return Err(AsmCause::Overflow);
         }
         if overlaps {

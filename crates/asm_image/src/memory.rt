@@ -11,6 +11,9 @@ use std::alloc::{AllocError, Global};
 /// How many places a part has.
 const PLACES: usize = 65_536;
 
+/// How many words lie in a part.
+pub(crate) const WORDS: u32 = 32_768;
+
 /// The bytes of a part, and how many words have one.
 #[derive(Debug, Drop)]
 pub struct Table {

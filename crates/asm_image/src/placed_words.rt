@@ -6,7 +6,7 @@ ghost use Rattle.module_defs.specs.Memory as spec;
 ghost use Rattle.asm_image.specs.Tables.{cell};
 
 use crate::image::{Image, spot_at};
-use crate::memory::Table;
+use crate::memory::{Table, WORDS};
 use module_defs::{Content, Part};
 use object_defs::{Piece, Spot};
 use object_tags::Pieces;
@@ -29,10 +29,8 @@ pub fn pieces(alloc: Global, image: &Image) -> Result<Pieces, AllocError>
 fn add_pieces(pieces: &mut Pieces, part: Part, table: &Table) -> Result<(), AllocError>
     ensures { OnOk result (pieces.new ≡ pieces.old ++ spec.pieces_in (cell table.now.cells.items) part) }
 {
-    for word in 0..32_768u32 {
-        if add_piece(pieces, part, table, word).is_err() {
-            return Err(AllocError);
-        }
+    for word in 0..WORDS {
+        add_piece(pieces, part, table, word)?;
     }
     Ok(())
 }

@@ -16,6 +16,9 @@ use gpl_forms::GromImage;
 use program_defs::Location;
 use std::alloc::{AllocError, Global};
 
+/// The first address of the GROM in which a source begins.
+const FIRST_GROM: u32 = 0x6000;
+
 impl GplLines {
     /// A builder that has taken no line.
     pub fn new(alloc: Global) -> Result<GplLines, AllocError>
@@ -27,8 +30,8 @@ impl GplLines {
             alloc,
             symbols: Symbols::new(alloc),
             location: Location {
-                grom: 0x6000,
-                number: 0x6000,
+                grom: FIRST_GROM,
+                number: FIRST_GROM,
             },
             kept: Vec::new(alloc),
             image: GromImage::new(alloc)?,
@@ -37,12 +40,12 @@ impl GplLines {
         })
     }
 
-    /// Takes a line behind those that were taken. It is given without its line feed, and no line that ends the source was
-    /// taken before.
+    /// Takes a line behind those that were taken. It is given without its line feed, and no line that ends the source
+    /// was taken before.
     ///
     /// # Errors
-    /// `At` comes exactly where the first checks refuse the line there, and carries its number, which is the number of lines
-    /// taken plus 1. `Memory` is want of memory. After an error the builder is as before.
+    /// `At` comes exactly where the first checks refuse the line there, and carries its number, which is the number of
+    /// lines taken plus 1. `Memory` is want of memory. After an error the builder is as before.
     pub fn line(&mut self, line: &[u8]) -> Result<(), GplError>
         requires open { IsOpen self.old }
         requires count { CanCount self.old }
@@ -67,12 +70,12 @@ impl GplLines {
         self.taken
     }
 
-    /// The program of the lines that were taken, which is that of their text, each line ended by a carriage return and a
-    /// line feed.
+    /// The program of the lines that were taken, which is that of their text, each line ended by a carriage return and
+    /// a line feed.
     ///
     /// # Errors
-    /// `At` carries the first line that the second checks refuse, and comes exactly where there is one. `Memory` is want of
-    /// memory. After an error the lines are given up.
+    /// `At` carries the first line that the second checks refuse, and comes exactly where there is one. `Memory` is
+    /// want of memory. After an error the lines are given up.
     #[tactic(auto, using(crate::proofs::EndedLines::lines_make_texts))]
     pub fn finish(self) -> Result<GplProgram, GplError>
         ensures lines { (texts : List (List ℕ)) → HasTaken texts self → GivesProgram result (program_of_lines texts) }

@@ -13,18 +13,15 @@ use std::alloc::Global;
 /// Assembles a GPL source of fewer than 2^32 bytes. Lines after END are not read.
 ///
 /// # Errors
-/// `At` carries the first line that the first checks refuse, else the first that the second checks refuse, and comes exactly
-/// where there is one. `Memory` is want of memory.
+/// `At` carries the first line that the first checks refuse, else the first that the second checks refuse, and comes
+/// exactly where there is one. `Memory` is want of memory.
 pub fn gpl_assemble(alloc: Global, text: &[u8]) -> Result<GplProgram, GplError>
     requires { length text.now < 2 ^ 32 }
     ensures { GivesProgram result (program_of_source text.now) }
 {
     let mut builder = GplLines::new(alloc)?;
     for line in lines(text) {
-        match builder.take(&text[line.span.start..line.span.end]) {
-            Ok(()) => {}
-            Err(error) => return Err(error),
-        }
+        builder.take(&text[line.span.start..line.span.end])?;
         if builder.ended {
             break;
         }

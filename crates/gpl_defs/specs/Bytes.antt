@@ -49,8 +49,8 @@ index_bytes None = []
 index_bytes (Some index) = index ∷ []
 
 -- Profile: an operand's spellings. A plain one below >80, which is at an offset from >8300 and has no index, may have
--- one byte. One below >0F00 may have its address in twelve bits, the high four in the first byte. Each may have it in the
--- two bytes after a first byte whose low four bits are ones.
+-- one byte. One below >0F00 may have its address in twelve bits, the high four in the first byte. Each may have it in
+-- the two bytes after a first byte whose low four bits are ones.
 abbrev pub in_one_byte : GplOperand → List ℕ
 in_one_byte operand = operand.address ∷ []
 

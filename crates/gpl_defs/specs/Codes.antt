@@ -84,13 +84,14 @@ abbrev pub go_row : GoOp → Row
 go_row B = row 0x05 1 (codes "B")
 go_row CALL = row 0x06 1 (codes "CALL")
 
--- Thirteen bits of a target in the same GROM, the high five of them in the code byte. GPL Programmer's Guide, BR and BS.
+-- Thirteen bits of a target in the same GROM, the high five of them in the code byte. GPL Programmer's Guide, BR and
+-- BS.
 abbrev pub branch_row : Bool → Row
 branch_row false = row 0x40 32 (codes "BR")
 branch_row true = row 0x60 32 (codes "BS")
 
--- One operand: the code byte after the first is the form of words. GPL Programmer's Guide, the statements with one operand.
--- Profile: FETCH and PUSH have the form of bytes alone.
+-- One operand: the code byte after the first is the form of words. GPL Programmer's Guide, the statements with one
+-- operand. Profile: FETCH and PUSH have the form of bytes alone.
 abbrev pub one_row : OneName → Row
 one_row ABS = row 0x80 2 (codes "ABS")
 one_row NEG = row 0x82 2 (codes "NEG")
@@ -105,8 +106,8 @@ one_row DEC = row 0x92 2 (codes "DEC")
 one_row INCT = row 0x94 2 (codes "INCT")
 one_row DECT = row 0x96 2 (codes "DECT")
 
--- Two operands: 1 more is the form of words, and 2 more an immediate source. GPL Programmer's Guide, the statements with
--- two operands.
+-- Two operands: 1 more is the form of words, and 2 more an immediate source. GPL Programmer's Guide, the statements
+-- with two operands.
 -- Profile: EX has no immediate source.
 abbrev pub two_row : TwoName → Row
 two_row ADD = row 0xA0 4 (codes "ADD")

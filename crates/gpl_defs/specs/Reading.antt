@@ -110,7 +110,8 @@ move_at kind immediate image at =
     (Move length.0 target.0 source.0, source.1)
 
 -- The low bit of a code byte is the form of words, the next an immediate source; for MOVE the low bit is an immediate
--- length, and for BR and BS the low five bits are the high ones of the target. The address is the one after the code byte.
+-- length, and for BR and BS the low five bits are the high ones of the target. The address is the one after the code
+-- byte.
 abbrev pub instr_at : GplOperation → ℕ → List ℕ → ℕ → GplInstr × ℕ
 instr_at (operation.Plain op) code image at = (Plain op, at)
 instr_at (operation.Byte op) code image at = (Byte op (slice_index image at), next_in_grom at)

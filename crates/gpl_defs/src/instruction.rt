@@ -187,25 +187,33 @@ pub enum MoveKind {
 /// What an instruction does, without its operands: a row of the table of codes.
 #[derive(Clone, Copy, Debug, PartialEq, Eq)]
 pub enum GplOperation {
+    /// An operation without operands.
     Plain(PlainOp),
+    /// An operation with a byte.
     Byte(ByteOp),
+    /// An operation with a GROM address.
     Jump(GoOp),
-    /// With `true` for BS.
+    /// BR, or BS with `true`.
     Branch(bool),
+    /// An operation with one operand.
     One(OneName),
+    /// An operation with a destination and a source.
     Two(TwoName),
+    /// MOVE, by where it copies from and to.
     Move(MoveKind),
 }
 
 /// An instruction.
 #[derive(Clone, Copy, Debug, PartialEq, Eq)]
 pub enum GplInstr {
+    /// An operation without operands.
     Plain(PlainOp),
+    /// An operation with the byte `value`.
     Byte {
         op: ByteOp,
         value: u8,
     },
-    /// `to` is a GROM address.
+    /// An operation with the GROM address `to`.
     Jump {
         op: GoOp,
         to: u16,
@@ -215,19 +223,20 @@ pub enum GplInstr {
         on: bool,
         low: u16,
     },
-    /// `word` is true for the form of words.
+    /// An operation with the operand `at`. `word` is true for the form of words.
     One {
         op: OneName,
         word: bool,
         at: GplOperand,
     },
-    /// `word` is true for the form of words.
+    /// An operation with a destination and a source. `word` is true for the form of words.
     Two {
         op: TwoName,
         word: bool,
         dst: GplOperand,
         src: GplSource,
     },
+    /// MOVE by its length, and by its target and source.
     Move {
         length: MoveLength,
         target: MoveTarget,

@@ -7,6 +7,7 @@ ghost use Rattle.gpl_defs.specs.declared.instruction.GplRead.TheVariants.{Instr}
 ghost use Rattle.gpl_defs.specs.Reading.{reading, IsReadAt};
 ghost use Rattle.listing_defs.specs.Listing as spec;
 
+use crate::listing::GROM_SIZE;
 use crate::text::{push_byte_text, push_instr};
 use arrayvec::ArrayString;
 use gpl_forms::{GplInstr, GplRead, read_instr, size_between, size_of};
@@ -37,7 +38,7 @@ pub fn list_line(image: &[u8], at: u16, end: u32) -> (ArrayString<80>, u32)
 }
 
 /// Appends what is listed at an address, and says how many bytes it stands for.
-pub(crate) fn push_listed(line: &mut Line, image: &[u8], at: u16, end: u32) -> u32
+fn push_listed(line: &mut Line, image: &[u8], at: u16, end: u32) -> u32
     requires room { array_string_len line.old ≤ 7 }
     requires size { length image.now ≡ 65536 }
     requires before { at < end }
@@ -82,7 +83,8 @@ fn push_read(line: &mut Line, image: &[u8], at: u16, end: u32, instr: &GplInstr,
 fn boundary(at: u16) -> u32
     ensures { result ≡ spec.boundary at }
 {
-    u32::from(at) / 0x2000 * 0x2000 + 0x2000
+    let size = u32::from(GROM_SIZE);
+    u32::from(at) / size * size + size
 }
 
 /// Appends BYTE with a byte, and says that it stands for one.

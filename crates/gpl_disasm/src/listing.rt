@@ -8,7 +8,7 @@ ghost use Rattle.gpl_defs.specs.Image.{AreBytesOf, low_of, high_of};
 ghost use Rattle.listing_defs.specs.Listing as spec;
 
 use crate::digits::push_word;
-use crate::line::{Line, MARGIN, push_listed};
+use crate::line::{Line, MARGIN, list_line};
 use bench_io::{Failed, Sink, put_piece};
 use gpl_forms::GromImage;
 
@@ -44,7 +44,8 @@ fn put_listing<O: Sink>(image: &[u8], low: u16, high: u32, out: &mut O) -> Resul
 fn put_lines<O: Sink>(image: &[u8], low: u16, high: u32, out: &mut O) -> Result<(), Failed>
     requires size { length image.now ≡ 65536 }
     requires end { high ≤ 65536 }
-    ensures { Written result (O.state out.old) (O.state out.new) (map listing_line (spec.texts_from image.now low high low 0 (high - low))) }
+    ensures { Written result (O.state out.old) (O.state out.new)
+        (map listing_line (spec.texts_from image.now low high low 0 (high - low))) }
 {
     let mut at = u32::from(low);
     while at < high {
@@ -96,12 +97,10 @@ fn put_line<O: Sink>(image: &[u8], at: u16, high: u32, out: &mut O) -> Result<u3
     ensures after { IfOk result (λ next. at < next) }
     ensures within { IfOk result (λ next. next ≤ high) }
 {
-    let mut line = Line::new();
-    line.push_str(MARGIN);
-    let size = push_listed(&mut line, image, at, high);
+    let (mut line, next) = list_line(image, at, high);
     line.push_str("\n");
     put_piece(out, line.as_str().as_bytes())?;
-    Ok(u32::from(at) + size)
+    Ok(next)
 }
 
 /// Writes the lines for GROM and AORG of an address.

@@ -28,8 +28,8 @@ pub fn instr_text(instr: &GplInstr, at: u16) -> ArrayString<52>
     text
 }
 
-/// Appends the text of what stands at the address `at` of 65,536 bytes: of the instruction there, in whatever spelling it
-/// stands, or `BYTE` and the code byte where that is no instruction's.
+/// Appends the text of what stands at the address `at` of 65,536 bytes: of the instruction there, in whatever spelling
+/// it stands, or `BYTE` and the code byte where that is no instruction's.
 pub fn push_standing<const N: usize>(text: &mut ArrayString<N>, image: &[u8], at: u16)
     requires size { length image.now ≡ 65536 }
     requires room { array_string_len text.old + 52 ≤ N }

@@ -5,10 +5,11 @@ ghost use Rattle.std.specs.Prelude.{length, take, drop, replicate, slice_index, 
 ghost use Rattle.std.specs.FinMap.{empty, insert, contains_key};
 ghost use Rattle.gpl_defs.specs.Image.{byte_at, low_of, high_of, placed, written_bytes};
 
+use byte_lists::zeros;
 use std::alloc::{AllocError, Global};
 use std::marker::Model;
 
-/// The addresses of a GROM, from 0 to 65,535.
+/// The addresses of all GROMs, from 0 to 65,535.
 const SIZE: usize = 65536;
 
 /// The bytes of a GROM image, and which of its addresses were written.
@@ -144,14 +145,6 @@ fn mark_at(marks: &mut [bool], place: usize, count: usize)
     ensures { marks.new ≡ take place marks.old ++ replicate count true ++ drop (place + count) marks.old }
 {
     marks[place..place + count].fill(true);
-}
-
-/// `count` bytes of 0.
-fn zeros(alloc: Global, count: usize) -> Result<Vec<u8>, AllocError>
-    ensures size { IfOk result (λ bytes. length bytes.items ≡ count) }
-    ensures each { IfOk result (λ bytes. EachIndex bytes.items (λ k. slice_index bytes.items k ≡ 0)) }
-{
-    vec![in alloc; 0u8; count]
 }
 
 /// `count` places that are not marked.

@@ -1,6 +1,6 @@
 //! The instruction at an address of GROM.
 //!
-//! Each function gives what it reads from an address on, and the address after its bytes.
+//! Each `read_` function of an operand gives what it reads from an address on, and the address after its bytes.
 ghost use Rattle.std.specs.Prelude.{◌≡◌, ℕ, length, slice_index, IsSome};
 ghost use Rattle.gpl_defs.specs.Codes.{operation_at};
 ghost use Rattle.gpl_defs.specs.Reading as spec;

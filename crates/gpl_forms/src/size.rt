@@ -3,8 +3,11 @@ ghost use Rattle.std.specs.Prelude.{◌≡◌, ◌≤◌, length};
 ghost use Rattle.gpl_defs.specs.Bytes as spec;
 ghost use Rattle.gpl_forms.specs.Sizes as sizes;
 
-use crate::write::fits_one_byte;
+use crate::write::{fits_one_byte, fits_twelve_bits};
 use gpl_defs::{GplInstr, GplOperand, GplSource, MoveLength, MoveSource, MoveTarget};
+
+/// How far the first addresses of GROMs stand apart.
+pub(crate) const GROM_SIZE: u16 = 0x2000;
 
 /// How many bytes an instruction has in its shortest spelling.
 /// GPL Programmer's Guide, the statements.
@@ -30,7 +33,7 @@ pub fn size_of(instr: &GplInstr) -> u32
 pub fn size_between(at: u16, next: u16) -> u32
     ensures { result ≡ sizes.size_between at next }
 {
-    u32::from(next.wrapping_sub(at) % 0x2000)
+    u32::from(next.wrapping_sub(at) % GROM_SIZE)
 }
 
 /// How many bytes a source has.
@@ -85,7 +88,7 @@ fn operand_size(operand: &GplOperand) -> u32
 {
     if fits_one_byte(operand) {
         1
-    } else if operand.address < 0x0F00 {
+    } else if fits_twelve_bits(operand) {
         2 + index_size(operand.index)
     } else {
         3 + index_size(operand.index)

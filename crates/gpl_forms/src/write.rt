@@ -188,7 +188,7 @@ fn push_operand(bytes: &mut Bytes, operand: &GplOperand)
 {
     if fits_one_byte(operand) {
         bytes.push(operand.address as u8);
-    } else if operand.address < 0x0F00 {
+    } else if fits_twelve_bits(operand) {
         bytes.push(form_bits(operand) + (operand.address / 256) as u8);
         bytes.push((operand.address % 256) as u8);
         push_index(bytes, operand.index);
@@ -204,6 +204,13 @@ pub(crate) fn fits_one_byte(operand: &GplOperand) -> bool
     ensures { result ≡ spec.fits_one_byte operand.now }
 {
     !is_vdp(operand.space) && !operand.indirect && operand.index.is_none() && operand.address < 0x80
+}
+
+/// Whether the address of an operand may have twelve bits.
+pub(crate) fn fits_twelve_bits(operand: &GplOperand) -> bool
+    ensures { result ≡ spec.fits_twelve_bits operand.now }
+{
+    operand.address < 0x0F00
 }
 
 /// Whether a space is the video processor's.

@@ -31,7 +31,8 @@ impl Scope<'_> {
     /// A line by the first checks, where the scope has the names and the location of the lines before it.
     ///
     /// # Errors
-    /// `Refused` carries what the first checks refuse first, and comes exactly where they do. `Memory` is want of memory.
+    /// `Refused` carries what the first checks refuse first, and comes exactly where they do. `Memory` is want of
+    /// memory.
     #[tactic(auto, unfolding(program_defs::specs::FirstChecks::checked))]
     pub fn checked<'b>(&self, text: &'b [u8]) -> Result<Checked<'b>, Failure>
         requires { (self.now.at.grom ≤ 65535) × (self.now.at.number ≤ 65536) }

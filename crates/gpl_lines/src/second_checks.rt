@@ -36,8 +36,8 @@ impl Scope<'_> {
     /// What a line comes to that the first checks let through.
     ///
     /// # Errors
-    /// `Refused` carries what its values or their ranges are refused for first, and comes exactly where they are. `Memory`
-    /// is want of memory.
+    /// `Refused` carries what its values or their ranges are refused for first, and comes exactly where they are.
+    /// `Memory` is want of memory.
     #[tactic(auto, unfolding(program_defs::specs::SecondChecks::outcome))]
     pub fn outcome(&self, statement: &Statement<'_>) -> Result<Outcome, Failure>
         requires { IsValid statement.now }
@@ -212,10 +212,7 @@ fn bytes_of(alloc: Global, numbers: &[u16]) -> Result<Vec<u8>, Failure>
     let mut bytes = Vec::new(alloc);
     let mut rest = numbers;
     while let [number, others @ ..] = rest {
-        let byte = match byte_of(*number) {
-            Ok(byte) => byte,
-            Err(cause) => return Err(Failure::Refused(cause)),
-        };
+        let byte = byte_of(*number)?;
         if bytes.push(byte).is_err() {
             return Err(Failure::Memory);
         }

@@ -1,7 +1,6 @@
 //! What the first checks leave of an instruction.
 
-ghost use Rattle.std.specs.Prelude.{◌≡◌, ◌≤◌, IsTrue};
-ghost use Rattle.gpl_defs.specs.Valid.{is_valid};
+ghost use Rattle.std.specs.Prelude.{◌≡◌, ◌≤◌};
 ghost use Rattle.program_defs.specs.Skeletons as spec;
 ghost use Rattle.gpl_lines.specs.Defined.{defined_route, defined_skeleton, defined_source};
 
@@ -9,7 +8,7 @@ use gpl_defs::{
     ByteOp, GoOp, GplInstr, GplOperand, GplSource, MoveLength, MoveSource, MoveTarget, OneName,
     PlainOp, TwoName,
 };
-use gpl_forms::write_instr;
+use gpl_forms::size_of;
 
 /// An operand in memory, or the text of an immediate one.
 #[derive(Clone, Copy)]
@@ -53,11 +52,10 @@ pub enum Skeleton<'a> {
 impl Skeleton<'_> {
     /// How many bytes the instruction takes. A value has as many whatever it is.
     pub(crate) fn size(&self) -> u32
-        requires { IsTrue (is_valid (spec.instr_by_zero (defined_skeleton self.now))) }
         ensures size { result ≡ spec.size_of (defined_skeleton self.now) }
         ensures most { result ≤ 13 }
     {
-        write_instr(&self.instr_by_zero()).len() as u32
+        size_of(&self.instr_by_zero())
     }
 
     /// An instruction that is as long, with 0 for each value that is a text yet.

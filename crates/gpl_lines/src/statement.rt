@@ -21,8 +21,8 @@ use asm_text::{
 };
 use program_defs::{Directive, GplCause};
 
-/// What a line says: an instruction, or a directive with its operands, those that move locations by their numbers. A field
-/// stands for the operands in it.
+/// What a line says: an instruction, or a directive with its operands, those that move locations by their numbers. A
+/// field stands for the operands in it.
 #[derive(Clone, Copy)]
 pub enum Statement<'a> {
     /// Nothing.

@@ -52,10 +52,7 @@ impl Scope<'_> {
     {
         let mut numbers = Vec::new(self.alloc);
         for span in operands(field) {
-            let number = match self.number(&field[span.start..span.end]) {
-                Ok(number) => number,
-                Err(failure) => return Err(failure),
-            };
+            let number = self.number(&field[span.start..span.end])?;
             if numbers.push(number).is_err() {
                 return Err(Failure::Memory);
             }

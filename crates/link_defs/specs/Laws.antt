@@ -40,8 +40,8 @@ pub record StandApart (uses : Uses) : Type 0 where
   pub apart : IsDistinct eqb (map (λ one. one.0) uses)
   pub places : (at : ℕ) → IsSome (find nat_cmp at uses) → (at < most_places) × (at ≢ 0)
 
--- What comes of a chain. It leads to 0, and then its places are new uses; or to a place that holds no loaded word; or to one
--- that a chain has passed.
+-- What comes of a chain. It leads to 0, and then its places are new uses; or to a place that holds no loaded word; or
+-- to one that a chain has passed.
 abbrev pub ChainEnds : List (ℕ × ℕ) → List ℕ → Uses → ℕ → Result Uses LinkCause → Type 0
 ChainEnds words name before last (Ok after) =
     (places : List ℕ) × Leads words last places 0 × (after ≡ before ++ used name places) × StandApart after

@@ -2,7 +2,8 @@
 
 ghost use Rattle.link_defs.specs.Laws.{PlacedWordsAreHeld, ChainsAreFollowed};
 
-/// Linked memory has a word exactly where a module places one: that word, but at a use of a REF name the value of its DEF.
+/// Linked memory has a word exactly where a module places one: that word, but at a use of a REF name the value of its
+/// DEF.
 pub fn placed_words_are_held()
     ensures { PlacedWordsAreHeld }
 {}

@@ -15,8 +15,8 @@ use crate::places::{check_places, load};
 use object_tags::Module;
 use std::alloc::Global;
 
-/// Places up to 1,024 modules in memory, one behind the other, and links them: every use of a REF name becomes the value
-/// of its DEF.
+/// Places up to 1,024 modules in memory, one behind the other, and links them: every use of a REF name becomes the
+/// value of its DEF.
 ///
 /// # Errors
 /// The causes come in the order of `LinkError`, each for all modules before the next. Of one cause the first place in

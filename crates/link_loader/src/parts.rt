@@ -4,7 +4,7 @@ ghost use Rattle.std.specs.Prelude.{◌≡◌, ◌≤◌, ◌<◌, ◌^◌, [], 
 ghost use Rattle.std.specs.Option.{option_to_list};
 ghost use Rattle.object_tags.specs.Seen.{defined_def, defined_ref, defined_module};
 ghost use Rattle.link_defs.specs.Placing as placing;
-ghost use Rattle.link_loader.specs.Parts.{Added, defined_modules};
+ghost use Rattle.link_loader.specs.Parts.{defined_modules};
 ghost use Rattle.std.specs.Prelude.{◌∷◌};
 
 use asm_text::Name;

@@ -63,7 +63,8 @@ impl Table {
 
     /// Puts a word at an address, in the place of one that is there.
     pub(crate) fn put(&mut self, at: u16, word: u16)
-        ensures { (q : ℕ) → word_in self.new.cells.items q ≡ (if q == at then Some word else word_in self.old.cells.items q) }
+        ensures { (q : ℕ) → word_in self.new.cells.items q
+            ≡ (if q == at then Some word else word_in self.old.cells.items q) }
     {
         self.cells[usize::from(at)] = Some(word);
     }
@@ -73,9 +74,5 @@ impl Table {
 fn no_words(alloc: Global, count: usize) -> Result<Vec<Option<u16>>, AllocError>
     ensures { IfOk result (λ cells. cells.items ≡ replicate count None) }
 {
-    let mut cells = Vec::with_capacity(alloc, count)?;
-    for _ in 0..count {
-        cells.push(None)?;
-    }
-    Ok(cells)
+    vec![in alloc; None; count]
 }

@@ -1,6 +1,6 @@
 //! What linked memory shows.
 
-ghost use Rattle.std.specs.Prelude.{◌≡◌, ◌<◌, ◌==◌, true, Some};
+ghost use Rattle.std.specs.Prelude.{◌≡◌, ◌<◌, true, Some};
 ghost use Rattle.std.specs.List.{slice_get};
 ghost use Rattle.std.specs.FinMap.{get, len, entries};
 ghost use Rattle.link_defs.specs.LinkedMemory.{is_loadable};
@@ -36,13 +36,6 @@ impl Linked {
         ensures { result ≡ len (defined_linked self.now).words }
     {
         self.pairs.len()
-    }
-
-    /// Whether no word is loaded.
-    pub fn is_empty(&self) -> bool
-        ensures { result ≡ (len (defined_linked self.now).words == 0) }
-    {
-        self.pairs.is_empty()
     }
 
     /// An address and the word there, by their number in order of address, from 0.

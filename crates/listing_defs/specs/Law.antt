@@ -8,8 +8,8 @@ use Rattle.gpl_defs.specs.Image.{placed}
 use Rattle.program_defs.specs.Programs.{program_of_source}
 use Rattle.listing_defs.specs.Listing.{grom_listing}
 
--- The law, which is proved: the listing of the bytes from an address up to another is a source without refusal, and its image
--- has these bytes at their addresses and no others.
+-- The law, which is proved: the listing of the bytes from an address up to another is a source without refusal, and its
+-- image has these bytes at their addresses and no others.
 abbrev pub ListingsComeBack : Type 0
 ListingsComeBack =
     (image : List ℕ) (low high : ℕ) → HoldsBytes 65536 image → low < 65536 → low ≤ high → high ≤ 65536 →

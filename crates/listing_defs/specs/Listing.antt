@@ -36,8 +36,8 @@ listed_by image at end (Instr instr next) =
     if is_whole image at end instr then instr_listed instr at else byte_listed image at
 listed_by image at end (Refused code) = byte_listed image at
 
--- Profile: a line is an instruction where a whole one stands in its shortest spelling and ends in its GROM and before the
--- end; where that is not so, it is BYTE and the first byte there.
+-- Profile: a line is an instruction where a whole one stands in its shortest spelling and ends in its GROM and before
+-- the end; where that is not so, it is BYTE and the first byte there.
 unfoldable pub listed_at : List ℕ → ℕ → ℕ → Listed
 listed_at image at end = listed_by image at end (reading image at)
 
@@ -50,8 +50,8 @@ origin_texts at =
 abbrev pub origin_texts_at : ℕ → ℕ → List (List ℕ)
 origin_texts_at low at = if (at % grom_size == 0) && not (at == low) then origin_texts at else []
 
--- What the lines of so many bytes from an address on say, by the address of the first of all and the end behind the last. The
--- first of them may belong to the line before, and have none of their own.
+-- What the lines of so many bytes from an address on say, by the address of the first of all and the end behind the
+-- last. The first of them may belong to the line before, and have none of their own.
 abbrev pub texts_from : List ℕ → ℕ → ℕ → ℕ → ℕ → ℕ → List (List ℕ)
 texts_from image low end at belonging zero = []
 texts_from image low end at (suc belonging) (suc left) = texts_from image low end (at + 1) belonging left

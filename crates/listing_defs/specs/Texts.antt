@@ -1,6 +1,7 @@
 -- The text of an instruction, which the assembler reads as that instruction again.
 --
--- Profile: values and addresses are hexadecimal words, and bytes have two digits; BR and BS name their target's address.
+-- Profile: values and addresses are hexadecimal words, and bytes have two digits; BR and BS name their target's
+-- address.
 use Rattle.std.specs.Prelude.{ℕ, ◌+◌, ◌*◌, ◌/◌, ◌%◌, Bool, true, false, List, [], ◌++◌, codes}
 use Rattle.std.specs.Prelude.{Option, Some, None}
 use Rattle.source_defs.specs.Digits.{marked_word, marked_byte}
@@ -33,8 +34,8 @@ prefix Cpu true = codes "*"
 prefix Vdp false = codes "V@"
 prefix Vdp true = codes "V*"
 
--- The address that an operand shows. Profile: one of the processor's memory, as that of each pointer, is held as an offset
--- from >8300.
+-- The address that an operand shows. Profile: one of the processor's memory, as that of each pointer, is held as an
+-- offset from >8300.
 abbrev pub shown_address : Space → Bool → ℕ → ℕ
 shown_address Vdp false address = address
 shown_address Vdp true address = (address + scratchpad) % 0x10000
@@ -102,8 +103,8 @@ operands_text (Move length to source) at =
 unfoldable pub instr_text : GplInstr → ℕ → List ℕ
 instr_text instr at = with_operands (name_of (mnemonic_of instr)) (operands_text instr at)
 
--- The text of what is read at an address, in whatever spelling it stands there. Profile: where that is no instruction it is BYTE
--- and the byte.
+-- The text of what is read at an address, in whatever spelling it stands there. Profile: where that is no instruction
+-- it is BYTE and the byte.
 abbrev pub read_text : GplRead → ℕ → List ℕ
 read_text (Instr instr next) at = instr_text instr at
 read_text (Refused code) at = codes "BYTE " ++ marked_byte code

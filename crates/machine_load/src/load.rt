@@ -14,8 +14,8 @@ use std::alloc::{AllocError, Global};
 use tms_step::Machine;
 use vdp_ports::Vdp;
 
-/// A new machine whose memory holds the linked words at their addresses and the word `first` at >83E0, and is 0 elsewhere.
-/// Its GROMs hold a copy of the 65,536 bytes `grom`. The lowest bits of `wp` and `pc` are cleared.
+/// A new machine whose memory holds the linked words at their addresses and the word `first` at >83E0, and is 0
+/// elsewhere. Its GROMs hold a copy of the 65,536 bytes `grom`. The lowest bits of `wp` and `pc` are cleared.
 pub fn load_machine(
     alloc: Global,
     linked: &Linked,

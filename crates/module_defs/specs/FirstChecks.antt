@@ -86,8 +86,8 @@ defs (line ∷ before) = defs before ++ defs_in line.statement
 abbrev pub is_taken : Names → Option (List ℕ) → List (List ℕ) → Bool
 is_taken known label names = any_known known names || repeats (label_in label) names
 
--- what a line does to the location: the location that it sets, the bytes that it leaves free, its size, and what its label
--- stands for
+-- what a line does to the location: the location that it sets, the bytes that it leaves free, its size, and what its
+-- label stands for
 pub record Move : Type 0 where
   pub origin : Option Location
   pub gap : ℕ

@@ -17,15 +17,16 @@ use Rattle.module_defs.specs.FirstChecks.{check, title_in, names, refs, defs}
 use Rattle.module_defs.specs.SecondChecks.{Outcome, Nothing, Words, Bytes, Entry, outcome}
 use Rattle.module_defs.specs.Memory.{Settled, word_count, overlaps, references_of, pieces}
 
--- Whether what a line places has room behind others. Profile: the 32,769th word comes first, then a byte that was placed
--- before.
+-- Whether what a line places has room behind others. Profile: the 32,769th word comes first, then a byte that was
+-- placed before.
 abbrev pub with_room : List Settled → Settled → Result Settled AsmCause
 with_room earlier line =
     if nat_lt most_words (word_count (line ∷ earlier)) then Err Overflow
     else if overlaps earlier line then Err Overlap
     else Ok line
 
--- The second checks of what a line says at a place behind others, by all names: its values and their ranges, then its room.
+-- The second checks of what a line says at a place behind others, by all names: its values and their ranges, then its
+-- room.
 abbrev pub settle_at : Names → Location → Statement → List Settled → Result Settled AsmCause
 settle_at known at statement earlier = do
   found ← outcome (look_up known) at statement

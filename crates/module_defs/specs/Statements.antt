@@ -22,8 +22,8 @@ use Rattle.module_defs.specs.declared.directive.Directive.{Directive}
 use Rattle.module_defs.specs.declared.directive.Directive.TheVariants as named
 use Rattle.module_defs.specs.Directives.{directive}
 
--- What a line says: nothing; an instruction of a size, by its operation field and its operand field; or a directive with
--- its operands.
+-- What a line says: nothing; an instruction of a size, by its operation field and its operand field; or a directive
+-- with its operands.
 pub data Statement : Type 0 where
   Nothing : Statement
   Instruction : ℕ → List ℕ → List ℕ → Statement
@@ -94,7 +94,8 @@ abbrev pub statement_by : Option Directive → List ℕ → List ℕ → Result 
 statement_by (Some found) operation field = as_operands (directive_statement found (operand_texts field))
 statement_by None operation field = instruction_statement operation field
 
--- the statement of an operation field and an operand field: the operation, then the number of operands, then their forms
+-- the statement of an operation field and an operand field: the operation, then the number of operands, then their
+-- forms
 abbrev pub operation_statement : List ℕ → List ℕ → Result Statement AsmCause
 operation_statement operation field = as_form (statement_by (directive operation) operation field)
 

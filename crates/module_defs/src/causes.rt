@@ -12,10 +12,10 @@ pub enum AsmCause {
     Expr(ExprError),
     /// An instruction is refused, or a directive by the same rule.
     Form(FormError),
-    /// The label, or a name of REF, stands for something already.
+    /// The label, or a name of REF, stands for something already, or REF names it twice or names the label.
     DuplicateLabel,
-    /// EQU without a label; IDT or TITL without a quoted text; a module name that is none; a name that DEF names twice, or
-    /// that REF names too.
+    /// EQU without a label; IDT or TITL without a quoted text; a module name that is none; a name that DEF names twice,
+    /// or that REF names too.
     BadDirective,
     /// A location past the end of its part, the 257th name of DEF or of REF, or the 32,769th word.
     Overflow,

@@ -16,7 +16,7 @@ pub(crate) fn sum_of(bytes: &[u8]) -> u16
 pub(crate) fn complement(sum: u16) -> u16
     ensures { result ≡ digits.complement sum }
 {
-    ((0x1_0000 - u32::from(sum)) % 0x1_0000) as u16
+    sum.wrapping_neg()
 }
 
 /// The checksum of characters.

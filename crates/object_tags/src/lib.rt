@@ -24,6 +24,7 @@ pub use laws::written_modules_are_read;
 pub use lists::{Defs, Items, Pieces, Refs};
 pub use module_name::ModuleName;
 pub use object_defs::{Piece, Spot, TagCause};
+pub use open_module::{MOST_NAMES, MOST_WORDS};
 pub use parts::{Def, Module, Ref};
 pub use read::read_modules;
 pub use write::write_module;

@@ -20,10 +20,10 @@ use std::alloc::{AllocError, Global};
 const MOST_MODULES: usize = 64;
 
 /// The most words of a module.
-const MOST_WORDS: usize = 32_768;
+pub const MOST_WORDS: usize = 32_768;
 
 /// The most DEFs, and the most REFs, of a module.
-const MOST_NAMES: usize = 256;
+pub const MOST_NAMES: usize = 256;
 
 /// What the groups of a module say so far.
 #[derive(Drop)]

@@ -18,9 +18,9 @@ use std::alloc::Global;
 /// How many characters a record has.
 const COLUMNS: usize = 80;
 
-/// The modules of an object text of fewer than 2^32 bytes. A text whose first byte is >01 is compressed, and is cut into
-/// records of 80 bytes, of which the last may be shorter. Every other text is plain: lines, or records of 80 characters
-/// where it has no line feed and its length is a positive multiple of 80.
+/// The modules of an object text of fewer than 2^32 bytes. A text whose first byte is >01 is compressed, and is cut
+/// into records of 80 bytes, of which the last may be shorter. Every other text is plain: lines, or records of 80
+/// characters where it has no line feed and its length is a positive multiple of 80.
 ///
 /// # Errors
 /// `At` carries the first bad place of the text with the number of its line or record, and comes exactly where the text

@@ -101,7 +101,8 @@ impl Reader {
     /// Takes a group of a module that it does not end.
     fn go_on(&mut self, mut begun: OpenModule, found: FoundGroup) -> Result<(), Failure>
         requires { running.ends_module (defined_found found) ≡ false }
-        ensures { Leaves result (kept_of self.new) (running.kept_by (Some (defined_open begun)) (kept_of self.old) (defined_found found)) }
+        ensures { Leaves result (kept_of self.new)
+            (running.kept_by (Some (defined_open begun)) (kept_of self.old) (defined_found found)) }
     {
         begun.take_group(found)?;
         self.current = Some(begun);
@@ -110,7 +111,8 @@ impl Reader {
 
     /// The modules, or `NoEnd` where the last one has not ended.
     pub(crate) fn finish(self) -> Result<Vec<Module>, TagError>
-        ensures { Gives (λ modules. defined_modules modules.items) result (running.finished (kept_of self) (kept_of self).current) }
+        ensures { Gives (λ modules. defined_modules modules.items) result
+            (running.finished (kept_of self) (kept_of self).current) }
     {
         match self.current {
             None => Ok(self.modules),

@@ -15,8 +15,8 @@ pub record Memory : Type 0 where
   pub address : List ℕ
   pub index : Option (List ℕ)
 
--- How an operand is written, by the texts of its expressions: in memory; in GROM, with an index or without; a register of
--- the video processor; and an expression alone.
+-- How an operand is written, by the texts of its expressions: in memory; in GROM, with an index or without; a register
+-- of the video processor; and an expression alone.
 pub data Form : Type 0 where
   InMemory : Memory → Form
   InGrom : List ℕ → Option (List ℕ) → Form

@@ -39,8 +39,8 @@ address_of location = to_word location.number
 abbrev pub passes : Location → ℕ → Bool
 passes here bytes = nat_lt (here.grom + grom_size) (here.number + bytes)
 
--- The location that a line sets. Profile: GROM sets the first address of a GROM, and AORG an offset in the GROM that was set
--- last.
+-- The location that a line sets. Profile: GROM sets the first address of a GROM, and AORG an offset in the GROM that
+-- was set last.
 abbrev pub origin_of : Location → Statement → Option Location
 origin_of here (Grom address) = Some (record { grom = address; number = address })
 origin_of here (Aorg offset) = Some (record { grom = here.grom; number = here.grom + offset })

@@ -35,8 +35,8 @@ pub data Source : Type 0 where
   At : GplOperand → Source
   Immediate : List ℕ → Source
 
--- Where MOVE copies to and from: memory and memory; memory, and the texts of an address in GROM and of its index; and the
--- texts of a register and of an address in GROM.
+-- Where MOVE copies to and from: memory and memory; memory, and the texts of an address in GROM and of its index; and
+-- the texts of a register and of an address in GROM.
 pub data Route : Type 0 where
   Within : GplOperand → GplOperand → Route
   ToMemory : GplOperand → List ℕ → Option (List ℕ) → Route
@@ -150,10 +150,11 @@ module _ (look : List ℕ → Option Value) (here : ℕ) where
       route ← route_in forms.to forms.from
       Ok (Move length route))
 
-  -- The operands of an instruction: how many there are, then their forms, then the addresses of those in memory, from the
-  -- left.
+  -- The operands of an instruction: how many there are, then their forms, then the addresses of those in memory, from
+  -- the left.
   -- GPL Programmer's Guide, the statements: the destination stands first.
-  -- Profile: MOVE has its length, its target and its source; an operation without operands ignores the rest of its line.
+  -- Profile: MOVE has its length, its target and its source; an operation without operands ignores the rest of its
+  -- line.
   abbrev pub skeleton : Mnemonic → List ℕ → Result Skeleton GplCause
   skeleton (named.Plain op) field = Ok (Plain op)
   skeleton (named.Byte op) field = text_of_one (operand_texts field) >>= λ text. Ok (Byte op text)

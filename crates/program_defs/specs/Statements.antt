@@ -1,4 +1,5 @@
--- What a line says: its operation with as many operands as it takes, in their forms, and with the values that move locations.
+-- What a line says: its operation with as many operands as it takes, in their forms, and with the values that move
+-- locations.
 use Rattle.std.specs.Prelude.{ℕ, ◌*◌, List, length, Option, Some, None, Result, Ok, Err}
 use Rattle.source_defs.specs.declared.text.Span.{Span}
 use Rattle.source_defs.specs.Refusals.{◌>>=◌}
@@ -17,7 +18,8 @@ use Rattle.program_defs.specs.Mnemonics.{mnemonic}
 use Rattle.program_defs.specs.Values.{number}
 use Rattle.program_defs.specs.Skeletons.{Skeleton, as_operand, skeleton, size_of}
 
--- What a line says: nothing; an instruction; or a directive with its operands, those that move locations by their numbers.
+-- What a line says: nothing; an instruction; or a directive with its operands, those that move locations by their
+-- numbers.
 pub data Statement : Type 0 where
   Nothing : Statement
   Instruction : Skeleton → Statement

@@ -23,24 +23,18 @@ pub enum OperandError {
 }
 
 /// Why an expression has no value.
-#[derive(Error, Debug, Clone, Copy, PartialEq, Eq)]
+#[derive(Clone, Copy, Debug, PartialEq, Eq)]
 pub enum ExprError {
     /// A place where no token can be read, a token out of its place, or a term that is missing.
-    #[error("bad token")]
     BadToken,
     /// A name that stands for nothing.
-    #[error("unknown name")]
     UnknownName,
     /// Values that are joined in a way that their kinds do not allow, or a value whose kind its place does not allow.
-    #[error("bad relocation")]
     BadRelocation,
     /// A decimal number above 65,535, or more than four hexadecimal digits.
-    #[error("number too large")]
     TooLarge,
     /// A division by zero.
-    #[error("division by zero")]
     DivideByZero,
     /// Memory was wanting.
-    #[error("out of memory")]
     Memory,
 }

@@ -1,5 +1,5 @@
-//! Cases of lines, expressions, instruction lines, modules, object text, bytes of GPL, their listings, GPL sources, images
-//! and streams, worked out by hand. The crate holds tests alone, so that the crates below it are proved once.
+//! Cases of lines, expressions, instruction lines, modules, object text, bytes of GPL, their listings, GPL sources,
+//! images and streams, worked out by hand. The crate holds tests alone, so that the crates below it are proved once.
 #![tactic(auto)]
 
 #[cfg(test)]
@@ -12,6 +12,8 @@ mod gpl_bytes;
 mod gpl_listing;
 #[cfg(test)]
 mod gpl_programs;
+#[cfg(test)]
+mod gpl_spellings;
 #[cfg(test)]
 mod images;
 #[cfg(test)]

@@ -1,3 +1,5 @@
+//! Sources and sinks: what they give and take, and their faults.
+
 ghost use Rattle.std.specs.Prelude.{None};
 
 use bench_io::{
@@ -131,8 +133,8 @@ fn a_source_is_read_up_to_its_end_or_its_limit(rt: HostRuntime) -> Result<(), Fa
     Ok(())
 }
 
-/// Pieces that are put into a sink with room for three bytes whose fourth call fails, whether each is taken, and what the
-/// sink holds then.
+/// Pieces that are put into a sink with room for three bytes whose fourth call fails, whether each is taken, and what
+/// the sink holds then.
 const PIECES: &[(&[u8], bool, &[u8])] = &[
     (b"ab", true, b"ab"),
     (b"cd", false, b"ab"),

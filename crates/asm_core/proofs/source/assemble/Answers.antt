@@ -7,6 +7,7 @@ use Rattle.module_defs.specs.Locations.{Line}
 use Rattle.module_defs.specs.FirstChecks.{check}
 use Rattle.module_defs.specs.Modules.{module_behind}
 use Rattle.std.specs.Prelude.{Result}
+use Rattle.std.proofs.lemmas.Result.{err_from_is_err_and}
 use Rattle.source_defs.specs.Refusals.{Refusal}
 use Rattle.module_defs.specs.declared.causes.AsmCause.{AsmCause}
 use Rattle.source_defs.specs.Layout.{has_ended}
@@ -15,7 +16,7 @@ use Rattle.asm_core.specs.Finishing.{GivesModule}
 use Rattle.asm_core.proofs.SettleLaws.{refuses_on}
 use Rattle.asm_core.proofs.SourceLaws.{IsNumbered, lines_numbered, texts_of, refused_there, ends_there, goes_on, first_of_two, none_of_two}
 use Rattle.asm_core.proofs.source.assemble.Goals as goal
-use Rattle.asm_core.proofs.source.assemble.Goals.{in-None, in-Some+in-Ok+then-builder}
+use Rattle.asm_core.proofs.source.assemble.Goals.{in-None, in-Some+in_ok-take+then-builder}
 
 pub loop-line-init : goal.loop-line-init
 loop-line-init c =
@@ -45,7 +46,7 @@ loop-line-preserved c =
     let steps = c.in-Some.ensures.steps in
     let inside : LinesLieInside text (line ∷ next) = subst (LinesLieInside text) steps i.3 in
     let numbered : IsNumbered (length before + 1) (line ∷ next) = subst (IsNumbered (length before + 1)) steps i.4 in
-    let taken = c.in-Ok.ensures before i.1 in
+    let taken = c.in_ok-take.ensures {u = tt} before i.1 in
     let last = none_of_two taken.0.last (has_ended before) (sym taken.2.ended ∙ c.if-builder.false) in
     let count : length before + 1 + 1 ≡ length (taken.0 ∷ before) + 1 = omega arith in (
       taken.0 ∷ before,
@@ -56,8 +57,8 @@ loop-line-preserved c =
       sym (goes_on text before line next numbered.0 taken.0 taken.1 last) ∙ (ap (left_from text before) (sym steps) ∙ i.5),
     )
 
-pub returns-in-Err : goal.returns-in-Err
-returns-in-Err c =
+pub returns-in_err-take : goal.returns-in_err-take
+returns-in_err-take c =
     let i = c.loop-line.invariant in
     let text = c.args.text.now in
     let before = i.0 in
@@ -65,10 +66,12 @@ returns-in-Err c =
     let next = c.next.new.self in
     let steps = c.in-Some.ensures.steps in
     let numbered : IsNumbered (length before + 1) (line ∷ next) = subst (IsNumbered (length before + 1)) steps i.4 in
-    let refused = refused_there text before line next numbered.0 c.in-Err.error c.take.new.self (c.in-Err.ensures before i.1) in
-    refuses_on c.in-Err.error (left_from text before (line ∷ next)) _
+    let error = c.in_err-take.field-0.0 in
+    let p = err_from_is_err_and c.from_residual.result c.from_residual.ensures.1 in
+    let refused = refused_there text before line next numbered.0 error c.take.new.self (c.in_err-take.ensures {u = tt} before i.1) in
+    rw (p.1, p.2) (refuses_on error (left_from text before (line ∷ next)) _
     (λ refusal e. ap (λ answer. answer >>= module_behind) (sym i.5 ∙ (ap (left_from text before) steps ∙ e)))
-    refused
+    refused)
 
 pub returns : goal.returns
 returns c =
@@ -80,12 +83,12 @@ returns c =
           let whole : Ok before ≡ laid check (line_texts text) = ap (left_from text before) (sym w.in-None.ensures.steps.0) ∙ i.5 in
           subst (GivesModule c.module.result) (ap (λ answer. answer >>= module_behind) whole)
           (c.module.ensures before (subst (IsBehind before) (sym w.builder-is) i.1))
-      | in-Some+in-Ok+then-builder w ↦
+      | in-Some+in_ok-take+then-builder w ↦
           let line = w.in-Some.line in
           let next = c.next.new.self in
           let steps = w.in-Some.ensures.steps in
           let numbered : IsNumbered (length before + 1) (line ∷ next) = subst (IsNumbered (length before + 1)) steps i.4 in
-          let taken = w.in-Ok.ensures before i.1 in
+          let taken = w.in_ok-take.ensures {u = tt} before i.1 in
           let last =
           first_of_two taken.0.last (has_ended before) (sym taken.2.ended ∙ w.if-builder.true) (sym i.1.ended ∙ i.2) in
           let whole : Ok (taken.0 ∷ before) ≡ laid check (line_texts text) =

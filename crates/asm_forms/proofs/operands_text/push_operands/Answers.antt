@@ -1,9 +1,6 @@
 use Rattle.std.proofs.Common.{arith, append_assoc}
 use Rattle.asm_forms.proofs.operands_text.push_operands.Goals as goal
 
-pub returns-in-Two : goal.returns-in-Two
-returns-in-Two c = grind (arith, append_assoc)
-
 pub returns-in-Reg : goal.returns-in-Reg
 returns-in-Reg c = grind (arith, append_assoc)
 

@@ -12,7 +12,7 @@ use Rattle.program_defs.specs.Programs.{program_behind}
 use Rattle.gpl_asm.specs.Building.{IsBehind}
 use Rattle.gpl_asm.specs.Finishing.{GivesProgram}
 use Rattle.gpl_asm.proofs.source.gpl_assemble.Goals as goal
-use Rattle.gpl_asm.proofs.source.gpl_assemble.Goals.{in-None, in-Some+in-Ok+then-builder}
+use Rattle.gpl_asm.proofs.source.gpl_assemble.Goals.{in-None, in-Some+in_ok-take+then-builder}
 
 pub loop-line-init : goal.loop-line-init
 loop-line-init c =
@@ -42,12 +42,12 @@ returns c =
           let whole : Ok before ≡ laid check (line_texts text) = ap (left_from text before) (sym w.in-None.ensures.steps.0) ∙ i.5 in
           subst (GivesProgram c.program.result) (ap (λ answer. answer >>= program_behind) whole)
           (c.program.ensures before (subst (IsBehind before) (sym w.builder-is) i.1))
-      | in-Some+in-Ok+then-builder w ↦
+      | in-Some+in_ok-take+then-builder w ↦
           let line = w.in-Some.line in
           let next = c.next.new.self in
           let steps = w.in-Some.ensures.steps in
           let numbered : IsNumbered (length before + 1) (line ∷ next) = subst (IsNumbered (length before + 1)) steps i.4 in
-          let taken = w.in-Ok.ensures before i.1 in
+          let taken = w.in_ok-take.ensures {u = tt} before i.1 in
           let last = first_of_two taken.0.last (has_ended before) (sym taken.2.ended ∙ w.if-builder.true) (sym i.1.ended ∙ i.2) in
           let whole : Ok (taken.0 ∷ before) ≡ laid check (line_texts text) =
           sym (ends_there check text before line next numbered.0 taken.0 taken.1 last) ∙ (ap (left_from text before) (sym steps) ∙ i.5) in

@@ -5,7 +5,7 @@ use Rattle.source_defs.specs.Lines.{part}
 use Rattle.source_defs.specs.Operands.{OperandsLieInside}
 use Rattle.source_defs.specs.Symbols.{look_up}
 use Rattle.module_defs.specs.SecondChecks.{byte_values}
-use Rattle.asm_checks.specs.Outcomes.{after}
+use Rattle.source_defs.specs.Refusals.{after}
 use Rattle.asm_checks.proofs.Listed.{byte_more}
 use Rattle.asm_checks.proofs.values.Scope.byte_values.Goals as goal
 
@@ -17,9 +17,9 @@ loop-span-preserved c =
     let field = c.args.field.now in
     let front = c.loop-span.numbers.items in
     let ok : is_ok c.push.result ≡ true = c.is_err.ensures.negation ∙ ap not c.if-is_err.false in
-    let kept : c.push.new.self.items ≡ front ++ c.in-Ok.number ∷ [] = rw ok at c.push.ensures.items in
+    let kept : c.push.new.self.items ≡ front ++ c.in_ok-number.number ∷ [] = rw ok at c.push.ensures.items in
     let inside : OperandsLieInside field (c.in-Some.span ∷ c.next.new.self) = rw c.in-Some.ensures.steps at i.inside in
-    let more = byte_more look at front (part field c.in-Some.span) (map (part field) c.next.new.self) c.in-Ok.number c.in-Ok.ensures in
+    let more = byte_more look at front (part field c.in-Some.span) (map (part field) c.next.new.self) c.in_ok-number.number c.in_ok-number.ensures in
     record {
       inside = inside.1;
       so_far = rw kept (sym more ∙ (ap (λ spans. after front (byte_values look at (map (part field) spans))) (sym c.in-Some.ensures.steps) ∙ i.so_far));

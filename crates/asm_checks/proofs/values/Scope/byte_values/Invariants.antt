@@ -5,7 +5,7 @@ use Rattle.source_defs.specs.Lines.{part}
 use Rattle.source_defs.specs.Operands.{OperandsLieInside}
 use Rattle.source_defs.specs.Operands.{operand_texts}
 use Rattle.module_defs.specs.SecondChecks.{byte_values}
-use Rattle.asm_checks.specs.Outcomes.{after}
+use Rattle.source_defs.specs.Refusals.{after}
 use Rattle.asm_checks.proofs.values.Scope.byte_values.Given as goal
 
 -- the values so far, and those of the operands that are left

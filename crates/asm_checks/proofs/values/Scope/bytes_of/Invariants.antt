@@ -1,6 +1,6 @@
 use Rattle.std.proofs.Common.{◌≡◌, length}
 use Rattle.module_defs.specs.SecondChecks.{bytes_of}
-use Rattle.asm_checks.specs.Outcomes.{after}
+use Rattle.source_defs.specs.Refusals.{after}
 use Rattle.asm_checks.proofs.values.Scope.bytes_of.Given as goal
 
 -- the bytes so far, and those of the numbers that are left

@@ -7,7 +7,7 @@ use Rattle.source_defs.specs.Operands.{OperandsLieInside}
 use Rattle.source_defs.specs.Symbols.{look_up}
 use Rattle.asm_forms.specs.Placed.{defined_word, defined_words}
 use Rattle.module_defs.specs.SecondChecks.{data_values}
-use Rattle.asm_checks.specs.Outcomes.{after}
+use Rattle.source_defs.specs.Refusals.{after}
 use Rattle.asm_checks.proofs.Listed.{data_more}
 use Rattle.asm_checks.proofs.values.Scope.data_words.Goals as goal
 
@@ -19,13 +19,13 @@ loop-span-preserved c =
     let field = c.args.field.now in
     let front = defined_words c.loop-span.words.items in
     let ok : is_ok c.push.result ≡ true = c.is_err.ensures.negation ∙ ap not c.if-is_err.false in
-    let kept : c.push.new.self.items ≡ c.loop-span.words.items ++ c.in-Ok.word ∷ [] = rw ok at c.push.ensures.items in
-    let longer : defined_words c.push.new.self.items ≡ front ++ defined_word c.in-Ok.word ∷ [] =
-    ap defined_words kept ∙ map-append defined_word c.loop-span.words.items (c.in-Ok.word ∷ []) in
+    let kept : c.push.new.self.items ≡ c.loop-span.words.items ++ c.in_ok-word.word ∷ [] = rw ok at c.push.ensures.items in
+    let longer : defined_words c.push.new.self.items ≡ front ++ defined_word c.in_ok-word.word ∷ [] =
+    ap defined_words kept ∙ map-append defined_word c.loop-span.words.items (c.in_ok-word.word ∷ []) in
     let inside : OperandsLieInside field (c.in-Some.span ∷ c.next.new.self) = rw c.in-Some.ensures.steps at i.inside in
     let more =
     data_more look at c.loop-span.place front (part field c.in-Some.span) (map (part field) c.next.new.self)
-    (defined_word c.in-Ok.word) c.in-Ok.ensures in
+    (defined_word c.in_ok-word.word) c.in_ok-word.ensures in
     record {
       inside = inside.1;
       room = omega (arith, ap length c.in-Some.ensures.steps, i.room, ap (λ place. place.number) c.behind-place.ensures);

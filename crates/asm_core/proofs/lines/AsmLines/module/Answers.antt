@@ -1,5 +1,6 @@
 use Rattle.std.proofs.Common.{◌≡◌, ℕ, [], List, sym, ap, subst}
 use Rattle.std.specs.Prelude.{map}
+use Rattle.std.proofs.lemmas.Result.{err_from_is_err_and}
 use Rattle.object_tags.specs.Seen.{defined_module}
 use Rattle.module_defs.specs.FirstChecks.{refs}
 use Rattle.module_defs.specs.Modules.{unused}
@@ -7,21 +8,24 @@ use Rattle.asm_core.specs.Drafts.{IsDraft}
 use Rattle.asm_core.proofs.EndLaws.{ends_refused, ends_stopped, ends_going}
 use Rattle.asm_core.proofs.lines.AsmLines.module.Goals as goal
 
-pub returns-in-Err : goal.returns-in-Err
-returns-in-Err c = λ lines is.
-    ends_refused lines c.args.self.now c.draft.new.self is c.draft.ensures.same c.in-Err.error (c.in-Err.ensures (map unused c.args.self.now.refs.items))
+pub returns-in_err-settle_all : goal.returns-in_err-settle_all
+returns-in_err-settle_all c = λ lines is.
+    let result = c.from_residual-in_err-settle_all in
+    let p = err_from_is_err_and result.result result.ensures.1 in
+    rw (p.1, p.2) (ends_refused lines c.args.self.now c.draft.new.self is c.draft.ensures.same c.in_err-settle_all.field-0.0
+    (c.in_err-settle_all.ensures {u = tt} (map unused c.args.self.now.refs.items)))
 
 pub returns-in-Some : goal.returns-in-Some
 returns-in-Some c = λ lines is.
     let none = map unused (refs lines) in
-    ends_stopped lines c.args.self.now c.draft.new.self is c.draft.ensures.same none c.in_ok-draft.draft c.settle_all.new.draft (c.in-Ok.ensures none)
+    ends_stopped lines c.args.self.now c.draft.new.self is c.draft.ensures.same none c.in_ok-draft.draft c.settle_all.new.draft (c.in_ok-settle_all.ensures {u = tt} none)
     c.in-Some.refused c.in-Some.is c.stopped.result c.stopped.ensures
 
-pub returns-in-Ok-module_of : goal.returns-in-Ok-module_of
-returns-in-Ok-module_of c = λ lines is.
+pub returns : goal.returns
+returns c = λ lines is.
     let none = map unused (refs lines) in
-    ends_going lines c.args.self.now c.draft.new.self is c.draft.ensures.same none c.in_ok-draft.draft c.settle_all.new.draft (c.in-Ok.ensures none)
+    ends_going lines c.args.self.now c.draft.new.self is c.draft.ensures.same none c.in_ok-draft.draft c.settle_all.new.draft (c.in_ok-settle_all.ensures {u = tt} none)
     c.in_default.is
     (λ founds image. subst (λ (names : List (List ℕ)). IsDraft (map unused names) [] founds c.in_ok-draft.draft) is.refs (c.in_ok-draft.ensures.draft founds image))
-    (defined_module c.in-Ok-module_of.module)
-    (λ settled knows. c.in-Ok-module_of.ensures lines settled (record { names = knows.names; reached = knows.reached; title = knows.title; defs = knows.defs }))
+    (defined_module c.in_ok-module.module)
+    (λ settled knows. c.in_ok-module.ensures lines settled (record { names = knows.names; reached = knows.reached; title = knows.title; defs = knows.defs }))

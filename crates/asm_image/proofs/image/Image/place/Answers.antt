@@ -13,11 +13,11 @@ overflow_add-self c =
       c.lay.new.self.absolute.counted,
     )
 
-pub returns-then-self-gt-MOST_WORDS : goal.returns-then-self-gt-MOST_WORDS
-returns-then-self-gt-MOST_WORDS c = λ references earlier line is at given.
+pub returns-then-self : goal.returns-then-self
+returns-then-self c = λ references earlier line is at given.
     let image = image_behind references earlier line c.args.at c.args.contents.now c.args.self.now is at given c.requires c.lay.new.self c.lay.ensures in
     record {
-      room = sym (is_full earlier line (omega (arith, words_counted references (line ∷ earlier) c.lay.new.self image, c.if-self-gt-MOST_WORDS.true)));
+      room = sym (is_full earlier line (omega (arith, words_counted references (line ∷ earlier) c.lay.new.self image, c.if-self.true)));
       image = image;
     }
 
@@ -25,7 +25,7 @@ pub returns-then-overlaps : goal.returns-then-overlaps
 returns-then-overlaps c = λ references earlier line is at given.
     let image = image_behind references earlier line c.args.at c.args.contents.now c.args.self.now is at given c.requires c.lay.new.self c.lay.ensures in
     record {
-      room = sym (is_over earlier line (omega (arith, words_counted references (line ∷ earlier) c.lay.new.self image, c.if-self-gt-MOST_WORDS.false))
+      room = sym (is_over earlier line (omega (arith, words_counted references (line ∷ earlier) c.lay.new.self image, c.if-self.false))
           (sym (overlaps_are references earlier line c.args.at c.args.contents.now c.args.self.now is at given c.requires)
           ∙ (sym c.has_any-overlaps.ensures ∙ c.if-overlaps.true)));
       image = image;
@@ -35,7 +35,7 @@ pub returns : goal.returns
 returns c = λ references earlier line is at given.
     let image = image_behind references earlier line c.args.at c.args.contents.now c.args.self.now is at given c.requires c.lay.new.self c.lay.ensures in
     record {
-      room = sym (has_room earlier line (omega (arith, words_counted references (line ∷ earlier) c.lay.new.self image, c.if-self-gt-MOST_WORDS.false))
+      room = sym (has_room earlier line (omega (arith, words_counted references (line ∷ earlier) c.lay.new.self image, c.if-self.false))
           (sym (overlaps_are references earlier line c.args.at c.args.contents.now c.args.self.now is at given c.requires)
           ∙ (sym c.has_any-overlaps.ensures ∙ c.if-overlaps.false)));
       image = image;
