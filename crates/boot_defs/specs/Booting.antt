@@ -7,8 +7,8 @@ use Rattle.native_interp.specs.declared.addresses.TheConstants.{GBOOT, WORKSPACE
 use Rattle.build_defs.specs.Interpreter.{IsInterpreter}
 use Rattle.interp_defs.specs.Boot.{IsBoot}
 
--- The law, which is proved: the interpreter's linked memory, loaded with an image and with an entry at >83E0, is the machine
--- on which the interpreter begins.
+-- The law, which is proved: the interpreter's linked memory, loaded with an image and with an entry at >83E0, is the
+-- machine on which the interpreter begins.
 abbrev pub LoadedInterpretersBoot : Type 0
 LoadedInterpretersBoot =
     (memory : LinkedMemory) (image : List ℕ) (entry : ℕ) (x : MachineState)

@@ -5,16 +5,13 @@ use Rattle.std.specs.FinMap.{get}
 use Rattle.object_defs.specs.Modules.{Module}
 use Rattle.module_defs.specs.Modules.{module_of_source}
 use Rattle.link_defs.specs.LinkedMemory.{LinkedMemory, linked}
+use Rattle.native_interp.specs.Words.{origin}
 
 -- A source has a module, and linked alone the module gives this memory.
 pub record Links (source : List ℕ) (memory : LinkedMemory) : Type 0 where
   pub part : Module
   pub assembled : module_of_source source ≡ Ok part
   pub linked : linked (part ∷ []) ≡ Ok memory
-
--- the address of the first word that is shipped
-abbrev pub origin : ℕ
-origin = 0x2000
 
 -- the word that is shipped at an address, of words that stand one behind the other
 abbrev pub shipped_at : List ℕ → ℕ → Option ℕ

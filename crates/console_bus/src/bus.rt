@@ -52,7 +52,9 @@ impl Model for Bus {
       grom = b.grom;
     } };
 
-    ghost invariant = { λ b. (length b.low_expansion.items ≡ 8192) × (length b.high_expansion.items ≡ 24576) × (length b.rom.items ≡ 8192) };
+    ghost invariant = { λ b. (length b.low_expansion.items ≡ 8192)
+        × (length b.high_expansion.items ≡ 24576)
+        × (length b.rom.items ≡ 8192) };
 }
 
 impl Bus {
@@ -135,9 +137,9 @@ impl Bus {
         }
     }
 
-    /// Writes the byte at an address. A write to the console ROM changes nothing (Editor/Assembler manual, on the memory
-    /// of the computer). By this project's own rules no read comes before it, and a write to a port for reading, to the
-    /// GROM's data port and to an address that leads nowhere changes nothing.
+    /// Writes the byte at an address. A write to the console ROM changes nothing (Editor/Assembler manual, on the
+    /// memory of the computer). By this project's own rules no read comes before it, and a write to a port for reading,
+    /// to the GROM's data port and to an address that leads nowhere changes nothing.
     #[inline]
     pub fn write_byte(&mut self, at: u16, byte: u8)
         ensures { self.new ≡ byte_written self.old at byte }
@@ -239,8 +241,8 @@ impl Bus {
     }
 }
 
-/// One of the eight ports stands at the address (Editor/Assembler manual, on VDP and GROM access). By this project's own
-/// rule each stands at one address only, and none at an odd one.
+/// One of the eight ports stands at the address (Editor/Assembler manual, on VDP and GROM access). By this project's
+/// own rule each stands at one address only, and none at an odd one.
 #[inline]
 pub fn is_port(at: u16) -> bool
     ensures { result ≡ is_port_address at }

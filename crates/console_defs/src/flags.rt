@@ -18,13 +18,17 @@ pub struct Flags {
 /// A word and the status bits that come with it.
 #[derive(Clone, Copy, Debug, PartialEq, Eq)]
 pub struct Out16 {
+    /// The word.
     pub value: u16,
+    /// Its status bits.
     pub flags: Flags,
 }
 
 /// A byte and the status bits that come with it.
 #[derive(Clone, Copy, Debug, PartialEq, Eq)]
 pub struct Out8 {
+    /// The byte.
     pub value: u8,
+    /// Its status bits.
     pub flags: Flags,
 }

@@ -15,8 +15,8 @@ use link_loader::{LinkError, Linked, link};
 use object_tags::Module;
 use std::alloc::Global;
 
-/// Builds the interpreter: assembles its source and links the module. Its words by address are those that are shipped, the
-/// first of them at >2000, and no others: that the source gives them is proved, so they are not compared.
+/// Builds the interpreter: assembles its source and links the module. Its words by address are those that are shipped,
+/// the first of them at >2000, and no others: that the source gives them is proved, so they are not compared.
 ///
 /// # Errors
 /// `Memory` is want of memory.

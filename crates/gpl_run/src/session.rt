@@ -20,8 +20,8 @@ use tms_step::{Machine, Steps};
 
 /// A GPL program that the interpreter runs, step by step.
 ///
-/// Contracts see its machine and why the program has ended, if it has. The machine of a running program matches a state of
-/// GPL; that of a program that has ended is halted.
+/// Contracts see its machine and why the program has ended, if it has. The machine of a running program matches a state
+/// of GPL; that of a program that has ended is halted.
 #[derive(Drop)]
 pub struct Session {
     machine: Machine,
@@ -39,11 +39,12 @@ impl Model for Session {
 }
 
 impl Session {
-    /// Boots the interpreter on a machine that holds it, an image and the entry of a program. The session stands before the
-    /// program's first step. It takes no memory.
+    /// Boots the interpreter on a machine that holds it, an image and the entry of a program. The session stands before
+    /// the program's first step. It takes no memory.
     pub fn new<L: Ledger>(machine: Machine, steps: &mut Steps<L>) -> Session
         requires { IsNew machine }
-        ensures begins { Begins (start (image_of machine) (entry_of machine)) most_of_boot machine result.machine steps.old steps.new }
+        ensures begins { Begins (start (image_of machine) (entry_of machine)) most_of_boot
+            machine result.machine steps.old steps.new }
         ensures running { result.ended ≡ None }
     {
         machine.holds_bounds();
@@ -60,7 +61,8 @@ impl Session {
     /// stop. It takes no memory.
     pub fn next<L: Ledger>(&mut self, steps: &mut Steps<L>) -> Turn
         requires running { self.old.ended ≡ None }
-        ensures turned { Turned (shown_by self.old.machine.cpu.memory) 0 self.old.machine self.new.machine steps.old steps.new result }
+        ensures turned { Turned (shown_by self.old.machine.cpu.memory) 0
+            self.old.machine self.new.machine steps.old steps.new result }
         ensures ended { self.new.ended ≡ ended_by result }
     {
         let turn = gpl_turn(&mut self.machine, steps);
@@ -74,7 +76,8 @@ impl Session {
     /// memory.
     pub fn run<L: Ledger>(&mut self, limit: u32, steps: &mut Steps<L>) -> u32
         requires running { self.old.ended ≡ None }
-        ensures { RunsTurns (shown_by self.old.machine.cpu.memory) limit self.old.machine self.new.machine steps.old steps.new result self.new.ended }
+        ensures { RunsTurns (shown_by self.old.machine.cpu.memory) limit
+            self.old.machine self.new.machine steps.old steps.new result self.new.ended }
     {
         let (made, stop) = run_turns(&mut self.machine, steps, limit);
         self.ended = stop;
@@ -89,8 +92,8 @@ impl Session {
         self.ended.is_none()
     }
 
-    /// Does nothing. Its contract says what holds of every session, for the proof of a caller: the machine of a running program
-    /// matches the state that it shows, and that of another is halted.
+    /// Does nothing. Its contract says what holds of every session, for the proof of a caller: the machine of a running
+    /// program matches the state that it shows, and that of another is halted.
     pub fn holds_match(&self)
         ensures { IsSession self.now.machine self.now.ended }
     {

@@ -33,6 +33,16 @@ fn base_of(space: Space) -> u16
     }
 }
 
+/// How many bytes a program sees of a memory.
+fn size_of(space: Space) -> u16
+    ensures { result ≡ size_of space }
+{
+    match space {
+        Space::Cpu => VISIBLE_CELLS as u16,
+        Space::Vdp => 0x4000,
+    }
+}
+
 /// The bytes of a range that a program shows.
 pub(crate) fn range_bytes(session: &Session, space: Space, at: u16, len: u16) -> &[u8]
     requires { IsRange space at len }
@@ -72,9 +82,6 @@ pub fn is_item(item: &Item) -> bool
 fn is_range(space: Space, at: u16, len: u16) -> bool
     ensures { IsTrue result ↔ IsRange space at len }
 {
-    let end = at as u32 + len as u32;
-    match space {
-        Space::Cpu => len >= 1 && at >= 0x8300 && end <= 0x83C2,
-        Space::Vdp => len >= 1 && end <= 0x4000,
-    }
+    let base = base_of(space);
+    len >= 1 && at >= base && at as u32 + len as u32 <= base as u32 + size_of(space) as u32
 }

@@ -1,8 +1,7 @@
 //! An item that is watched.
 
-ghost use Rattle.std.specs.Prelude.{◌≡◌, ◌<◌, length, IfOk, IfSome, IfNone};
+ghost use Rattle.std.specs.Prelude.{◌≡◌, IfOk};
 ghost use Rattle.gpl_run.specs.Sessions.{seen};
-ghost use Rattle.lane_scan.specs.Plain.{first_difference};
 ghost use Rattle.watch_defs.specs.Items.{IsItem, holds_since, change_since};
 ghost use Rattle.gpl_watch.specs.Watches.{at_address, watched_in};
 
@@ -45,7 +44,7 @@ impl Watched {
         ensures { result ≡ holds_since self.now.item self.now.kept (at_address behind (seen session.now)) }
     {
         match self.item {
-            Item::Range { space, at, len } => first_change(
+            Item::Range { space, at, len } => first_difference(
                 &self.kept,
                 range_bytes(session, space, at, len),
             ).is_some(),
@@ -61,7 +60,7 @@ impl Watched {
             return None;
         };
         let now = range_bytes(session, space, at, len);
-        let place = first_change(&self.kept, now)?;
+        let place = first_difference(&self.kept, now)?;
         Some((at + place as u16, now[place]))
     }
 
@@ -70,18 +69,8 @@ impl Watched {
         ensures { self.new ≡ watched_in (seen session.now) self.old.item }
     {
         let now = item_bytes(session, self.item);
-        if first_change(&self.kept, now).is_some() {
+        if first_difference(&self.kept, now).is_some() {
             self.kept.copy_from_slice(now);
         }
     }
-}
-
-/// The first place where bytes have changed, of which there are as many as before.
-fn first_change(before: &[u8], after: &[u8]) -> Option<usize>
-    requires { length before.now ≡ length after.now }
-    ensures value { result ≡ first_difference before.now after.now }
-    ensures within { IfSome result (λ place. place < length after.now) }
-    ensures same { IfNone result (before.now ≡ after.now) }
-{
-    first_difference(before, after)
 }

@@ -25,7 +25,12 @@ impl Model for Grom {
 
     ghost Value = { GromState };
 
-    ghost view = { λ g. record { image = g.image.items; counter = g.counter; fetched = g.fetched; half_written = g.half_written } };
+    ghost view = { λ g. record {
+      image = g.image.items;
+      counter = g.counter;
+      fetched = g.fetched;
+      half_written = g.half_written;
+    } };
 
     ghost invariant = { λ g. length g.image.items ≡ 65536 };
 }

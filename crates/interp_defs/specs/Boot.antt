@@ -26,8 +26,8 @@ pub record HoldsWords (bytes : List ℕ) : Type 0 where
   pub words : HoldsInterpreter bytes
   pub behind : (at : ℕ) → 2 * length INTERP ≤ at → slice_index bytes at ≡ 0
 
--- A machine with the interpreter, an image in the GROMs and the entry of a GPL program in register 0; all else is as in a
--- new machine.
+-- A machine with the interpreter, an image in the GROMs and the entry of a GPL program in register 0;
+-- all else is as in a new machine.
 pub record IsBoot (image : List ℕ) (entry : ℕ) (x : MachineState) : Type 0 where
   pub scratchpad : HoldsEntry entry x.cpu.memory.scratchpad
   pub low_expansion : HoldsWords x.cpu.memory.low_expansion

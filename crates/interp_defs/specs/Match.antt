@@ -46,14 +46,14 @@ pub record Matches (s : GplState) (x : MachineState) : Type 0 where
   pub matching : IsMatching x
   pub shows : shown_by x.cpu.memory ≡ s
 
--- Where a program leaves by EXIT the machine is at GEXIT; where it stops the machine is at GSTOP, and register 0 has the
--- number of the reason.
+-- Where a program leaves by EXIT the machine is at GEXIT; where it stops the machine is at GSTOP, and register
+-- 0 has the number of the reason.
 abbrev pub StandsBy : Reason → MachineState → Type 0
 StandsBy Exit x = x.cpu.pc ≡ GEXIT
 StandsBy reason x = (x.cpu.pc ≡ GSTOP) × HoldsRegister x.cpu.memory 0 (number_of reason)
 
--- A machine at the end of a program: it still shows what a GPL program can see of the state, and register 1 has the address
--- of the instruction that ended it.
+-- A machine at the end of a program: it still shows what a GPL program can see of the state, and register 1 has the
+-- address of the instruction that ended it.
 pub record IsHalted (s : GplState) (reason : Reason) (x : MachineState) : Type 0 where
   pub cells : (shown_by x.cpu.memory).cells ≡ s.cells
   pub vdp : x.cpu.memory.vdp.memory ≡ s.vdp

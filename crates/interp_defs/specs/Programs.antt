@@ -8,8 +8,9 @@ use Rattle.interp_defs.specs.Boot.{IsBoot}
 use Rattle.interp_defs.specs.Match.{Matches, IsHalted}
 use Rattle.interp_defs.specs.Turns.{Boots, IsTurn, IsAfter}
 
--- So many turns lead from x to y, and have so many instructions in all. They are the steps from a state: each begins where
--- the machine matches the state after the steps before it, and has at most as many instructions as the bound of its step.
+-- So many turns lead from x to y, and have so many instructions in all. They are the steps from a state:
+-- each begins where the machine matches the state after the steps before it, and has at most as many
+-- instructions as the bound of its step.
 abbrev pub AreTurns : GplState → ℕ → ℕ → MachineState → MachineState → Type 0
 AreTurns s zero count x y = (count ≡ 0) × (x ≡ y)
 AreTurns s (suc earlier) count x y =
@@ -49,8 +50,8 @@ OneMachineIsLeft =
     (image : List ℕ) (entry limit : ℕ) (left other : MachineState)
     → RunsProgram image entry limit left → RunsProgram image entry limit other → left ≡ other
 
--- The law, which is proved: it is the machine after the run's turns, which as many instructions as were counted have led to
--- from the start.
+-- The law, which is proved: it is the machine after the run's turns, which as many instructions as were
+-- counted have led to from the start.
 abbrev pub ProgramsAreTurns : Type 0
 ProgramsAreTurns =
     (image : List ℕ) (entry limit : ℕ) (left : MachineState) (p : RunsProgram image entry limit left)

@@ -8,8 +8,8 @@ use Rattle.native_interp.specs.declared.addresses.TheConstants.{GSTEP, GSTOP, GE
 abbrev pub is_end : ℕ → Bool
 is_end pc = eqb pc GSTEP || (eqb pc GSTOP || eqb pc GEXIT)
 
--- So many executed instructions lead from x to y, and the program counter is at none of the three ends after any of them
--- but the last.
+-- So many executed instructions lead from x to y, and the program counter is at none of the three ends
+-- after any of them but the last.
 pub record Runs (count : ℕ) (x y : MachineState) : Type 0 where
   pub leads : steps count x ≡ Gives y
   pub clear : (before : ℕ) → 0 < before → before < count → (z : MachineState) → steps before x ≡ Gives z

@@ -22,4 +22,5 @@ pub record IsTurn (count : ℕ) (x y : MachineState) : Type 0 where
 abbrev pub IsAfter : ℕ → ℕ → MachineState → MachineState → Type 0
 IsAfter zero count x y = Boots count x y
 IsAfter (suc turns) count x y =
-    (z : MachineState) × (earlier : ℕ) × (turn : ℕ) × IsAfter turns earlier x z × IsTurn turn z y × (count ≡ earlier + turn)
+    (z : MachineState) × (earlier : ℕ) × (turn : ℕ)
+    × IsAfter turns earlier x z × IsTurn turn z y × (count ≡ earlier + turn)

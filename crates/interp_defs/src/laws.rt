@@ -2,8 +2,8 @@
 
 ghost use Rattle.interp_defs.specs.Programs.{OneMachineIsLeft, ProgramsAreTurns};
 
-/// One machine is left of a program with an image and an entry that is run for up to so many steps: any two ways in which
-/// the interpreter boots and takes its turns leave the same one.
+/// One machine is left of a program with an image and an entry that is run for up to so many steps: any two ways in
+/// which the interpreter boots and takes its turns leave the same one.
 pub fn one_machine_is_left()
     ensures { OneMachineIsLeft }
 {}

@@ -11,6 +11,8 @@ mod pieces;
 #[cfg(test)]
 mod sessions;
 #[cfg(test)]
+mod subroutines;
+#[cfg(test)]
 mod table;
 #[cfg(test)]
 mod turns;

@@ -29,12 +29,18 @@ fn holding(alloc: Global, program: Program) -> Result<Grom, AllocError> {
     Grom::new(alloc, image.bytes())
 }
 
-/// A machine at the interpreter's boot, with a program and its entry >6000.
-pub(crate) fn booting(alloc: Global, program: Program) -> Result<Machine, AllocError> {
+/// The memory of a console with the interpreter's words and a program.
+pub(crate) fn console(alloc: Global, program: Program) -> Result<Bus, AllocError> {
     let mut bus = Bus::new(alloc, Vdp::new(alloc)?, holding(alloc, program)?)?;
     for (i, word) in INTERP.iter().enumerate() {
         bus.place(0x2000 + 2 * i as u16, *word);
     }
+    Ok(bus)
+}
+
+/// A machine at the interpreter's boot, with a program and its entry >6000.
+pub(crate) fn booting(alloc: Global, program: Program) -> Result<Machine, AllocError> {
+    let mut bus = console(alloc, program)?;
     bus.set_cell(0xE0, 0x60);
     bus.set_cell(0xE1, 0x00);
     Ok(Machine::new(bus, WORKSPACE, GBOOT))

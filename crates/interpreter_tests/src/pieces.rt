@@ -72,7 +72,7 @@ const RUNS: &[(&str, Program, u16, [u16; 2])] = &[
 ];
 
 /// No half of an address was written to either port.
-fn is_idle(machine: &Machine) -> bool
+pub(crate) fn is_idle(machine: &Machine) -> bool
     ensures { result ≡ true → PortsAreIdle machine.now.cpu.memory }
 {
     machine.bus().vdp().is_idle() && machine.bus().grom().is_idle()

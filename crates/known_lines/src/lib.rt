@@ -1,6 +1,5 @@
-//! Lines of a source whose places are known: what each comes to by itself, and the module of them all. The
-//! definitions and
-//! the laws stand in `specs/`.
+//! Lines of a source whose places are known: what each comes to by itself, and the module of them all. The definitions
+//! and the laws stand in `specs/`.
 #![tactic(auto)]
 
 mod laws;

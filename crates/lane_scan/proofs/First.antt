@@ -1,7 +1,7 @@
 -- The first difference is the first.
 use Rattle.std.proofs.Common.{◌≡◌, ◌≢◌, ◌⊎◌, inl, inr, ℕ, suc, ◌+◌, ◌<◌, ◌≤◌, Bool, true, false, cond, nat_eq, ◌&&◌, Some, None, List, [], ◌∷◌, length, get_or}
 use Rattle.std.proofs.Common.{refl, sym, ap, ap₂, ◌∙◌, arith}
-use Rattle.std.specs.Prelude.{if◌then◌else◌}
+use Rattle.std.specs.Prelude.{if◌then◌else◌, IfSome}
 use Rattle.std.specs.List.{zip, slice_get}
 use Rattle.std.proofs.lemmas.Bool.{cases_lt}
 use Rattle.std.proofs.lemmas.Bool.Decides.{nat_tests}
@@ -67,3 +67,12 @@ module _ (a b : List ℕ) where
 
   pub first_is : IsFirstDifference a b (first_difference a b)
   first_is = by (nat_eq common (length a) && nat_eq common (length b)) refl
+
+  by_length : (ends : Bool) → (nat_eq common (length a) && nat_eq common (length b)) ≡ ends → length a ≡ length b →
+      IfSome (if ends then None else Some common) (λ at. at < length a)
+  by_length true e same = tt
+  by_length false e same = grind (arith, nat_tests, bound.0)
+
+  -- in lists of one length it is a place of both
+  pub first_within : length a ≡ length b → IfSome (first_difference a b) (λ at. at < length a)
+  first_within same = by_length (nat_eq common (length a) && nat_eq common (length b)) refl same

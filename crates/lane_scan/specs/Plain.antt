@@ -22,8 +22,8 @@ first_difference a b =
     let common = common_length a b in
     if (common == length a) && (common == length b) then None else Some common
 
--- The law of it, which is proved: where there is none, the lists are equal; else they do not show the same at the place,
--- and they do at every place before it. Behind its end a list shows nothing.
+-- The law of it, which is proved: where there is none, the lists are equal; else they do not show the same at the
+-- place, and they do at every place before it. Behind its end a list shows nothing.
 abbrev pub IsFirstDifference : List ℕ → List ℕ → Option ℕ → Type 0
 IsFirstDifference a b None = a ≡ b
 IsFirstDifference a b (Some place) =

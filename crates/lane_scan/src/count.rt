@@ -9,7 +9,8 @@ use crate::lanes::{LANES, differing_lanes};
 /// In how many places two lists differ. They need to have the same length.
 pub fn count_differences(a: &[u8], b: &[u8]) -> usize
     requires { length a.now ≡ length b.now }
-    ensures { result ≡ count_differences a.now b.now }
+    ensures value { result ≡ count_differences a.now b.now }
+    ensures bound { result ≤ length a.now }
 {
     let mut count = 0;
     let mut at = 0;

@@ -1,6 +1,6 @@
 //! The first place where two lists of bytes differ.
 
-ghost use Rattle.std.specs.Prelude.{◌≡◌, ◌+◌, ◌≤◌, length, drop, min};
+ghost use Rattle.std.specs.Prelude.{◌≡◌, ◌+◌, ◌≤◌, ◌<◌, length, drop, min, IfSome};
 ghost use Rattle.std.specs.List.{zip, prefix_len};
 ghost use Rattle.lane_scan.specs.Plain.{is_same, common_length, first_difference, IsFirstDifference};
 
@@ -11,6 +11,7 @@ use crate::lanes::{LANES, differing_lanes};
 pub fn first_difference(a: &[u8], b: &[u8]) -> Option<usize>
     ensures value { result ≡ first_difference a.now b.now }
     ensures first { IsFirstDifference a.now b.now result }
+    ensures within { length a.now ≡ length b.now → IfSome result (λ at. at < length a.now) }
 {
     let common = common_length(a, b);
     if common == a.len() && common == b.len() {

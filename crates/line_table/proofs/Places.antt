@@ -16,7 +16,7 @@ use Rattle.known_lines.proofs.Standing.{known_lines_stand}
 use Rattle.native_interp.specs.Source.{lines}
 use Rattle.native_interp.specs.Words.{words}
 use Rattle.native_interp.specs.declared.addresses.TheConstants.{GBOOT}
-use Rattle.build_defs.specs.Building.{origin}
+use Rattle.native_interp.specs.Words.{origin}
 use Rattle.line_table.specs.declared.line_row.LineRow.{LineRow}
 use Rattle.line_table.specs.declared.rows.routines.TheConstants.{ROUTINE_ROWS}
 use Rattle.line_table.specs.declared.rows.operations.TheConstants.{OPERATION_ROWS}

@@ -11,7 +11,7 @@ use Rattle.known_lines.specs.KnownLines.{are_new}
 use Rattle.known_lines.specs.Laws.{StandsIn}
 use Rattle.native_interp.specs.Source.{lines}
 use Rattle.native_interp.specs.Words.{words}
-use Rattle.build_defs.specs.Building.{origin}
+use Rattle.native_interp.specs.Words.{origin}
 use Rattle.line_table.specs.declared.line_row.LineRow.{LineRow}
 use Rattle.line_table.specs.declared.line_row.NameRow.{NameRow}
 use Rattle.line_table.specs.Table.{defined, words_of}

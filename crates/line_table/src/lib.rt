@@ -1,5 +1,5 @@
-//! A row for each line of the interpreter's source, with its place and its words, and one for each of its names; and the
-//! law that the source gives the words that are shipped. The rows are data, and no call takes memory.
+//! A row for each line of the interpreter's source, with its place and its words, and one for each of its names; and
+//! the law that the source gives the words that are shipped. The rows are data, and no call takes memory.
 #![tactic(auto)]
 
 mod laws;

@@ -130,8 +130,8 @@ follow address (routine ∷ rest) = nat_eq address routine.0 && follow (address 
 abbrev pub RoutinesStand : Type 0
 RoutinesStand = follow origin routines ≡ true
 
--- Where the instruction of an operation begins: its own place, or that of the operands of all rows, where MUL and DIV have a
--- wider destination. A code byte that is no instruction's stops.
+-- Where the instruction of an operation begins: its own place, or that of the operands of all rows, where MUL and DIV
+-- have a wider destination. A code byte that is no instruction's stops.
 abbrev pub operation_entry : Option GplOperation → ℕ
 operation_entry (Some (Plain RTN)) = GORTN
 operation_entry (Some (Plain RTNC)) = GORTN
@@ -191,10 +191,11 @@ row_entry _ = UNKN
 -- The first table has a word for each code byte. Those that are no instruction's lead to the stop, and they alone.
 pub record CodesAreDispatched : Type 0 where
   pub entries : (code : ℕ) → code < 256 → word_at (TABLE + 2 * code) ≡ operation_entry (operation_at code)
-  pub stops : (code : ℕ) → code < 256 → nat_eq (operation_entry (operation_at code)) UNKN ≡ not (is_some (operation_at code))
+  pub stops : (code : ℕ) → code < 256
+      → nat_eq (operation_entry (operation_at code)) UNKN ≡ not (is_some (operation_at code))
 
--- The second has one for two code bytes, from >80 to >EB. It is read at either: a word's address loses its lowest bit. So
--- an odd code that is no operation's, such as the one behind FETCH, has the word of the code before it.
+-- The second has one for two code bytes, from >80 to >EB. It is read at either: a word's address loses its lowest bit.
+-- So an odd code that is no operation's, such as the one behind FETCH, has the word of the code before it.
 abbrev pub RowsAreDispatched : Type 0
 RowsAreDispatched =
     (code : ℕ) → code < 0x6C → word_at (OPTAB + code) ≡ row_entry (operation_at (0x80 + code / 2 * 2))

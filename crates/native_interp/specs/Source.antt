@@ -60,8 +60,8 @@ is_blank byte = nat_eq byte 0x20
 abbrev pub word_of : List ℕ → List ℕ
 word_of text = take_while (λ byte. not (is_blank byte)) text
 
--- A label has at most six characters from column 1 on, blanks stand behind it up to column 7, and what begins in column 8 is
--- no blank.
+-- A label has at most six characters from column 1 on, blanks stand behind it up to column 7, and what
+-- begins in column 8 is no blank.
 abbrev pub stands_in_columns : List ℕ → Bool
 stands_in_columns line =
     let label = word_of (take 7 line) in
@@ -89,7 +89,8 @@ is_hexadecimal_digit byte = (nat_le 0x30 byte && nat_le byte 0x39) || (nat_le 0x
 abbrev pub names_a_number : List ℕ → Bool
 names_a_number line =
     not (has_operation line (codes "EQU")) ||
-    (bytes_eq (take 5 (drop 7 line)) (codes "EQU >") && nat_eq (length line) 16 && list_all is_hexadecimal_digit (drop 12 line))
+    (bytes_eq (take 5 (drop 7 line)) (codes "EQU >") && nat_eq (length line) 16 &&
+    list_all is_hexadecimal_digit (drop 12 line))
 
 -- A DATA line has at most three words, which stand between commas. An instruction has no more.
 abbrev pub has_three_words : List ℕ → Bool
@@ -100,8 +101,8 @@ is_operator byte = nat_eq byte 0x2A || nat_eq byte 0x2B || nat_eq byte 0x2D || n
 
 abbrev pub statement_is_in_form : List ℕ → Bool
 statement_is_in_form line =
-    stands_in_columns line && has_capitals line && not (list_any (has_operation line) left_out) && names_a_number line && has_three_words line &&
-    nat_le (count_by is_operator line) 1
+    stands_in_columns line && has_capitals line && not (list_any (has_operation line) left_out) &&
+    names_a_number line && has_three_words line && nat_le (count_by is_operator line) 1
 
 pub record LinesAreInForm : Type 0 where
   pub short : list_all is_short_text lines ≡ true

@@ -22,7 +22,8 @@ pub fn rows_are_dispatched()
     ensures { spec.RowsAreDispatched }
 {}
 
-/// The lines of the source are short texts in the form of a source that names no place but its origin and no value but numbers.
+/// The lines of the source are short texts in the form of a source that sets no place but its origin, and whose EQU
+/// lines give numbers alone.
 pub fn lines_are_in_form()
     ensures { LinesAreInForm }
 {}

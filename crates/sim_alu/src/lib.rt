@@ -1,5 +1,5 @@
-//! The rows of ST, of the operations bit by bit, of sums and differences, of the absolute value and the negative, run on the
-//! machine.
+//! The rows of ST, of the operations bit by bit, of sums and differences, of the absolute value and
+//! the negative, run on the machine.
 #![tactic(auto)]
 
 mod logic;

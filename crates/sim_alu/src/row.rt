@@ -112,13 +112,14 @@ fn run_row<L: Ledger>(machine: &mut Machine, steps: &mut Steps<L>, operation: Gp
     }
 }
 
-/// Runs ST, AND, OR, XOR, ADD, SUB, ABS, NEG, INV, CLR, INC, DEC, INCT and DECT, in both widths, from the dispatch to the end of
-/// the step. [`Turn::Stopped`] says that an operand is not visible: nothing is changed then.
+/// Runs ST, AND, OR, XOR, ADD, SUB, ABS, NEG, INV, CLR, INC, DEC, INCT and DECT, in both widths, from the dispatch to
+/// the end of the step. [`Turn::Stopped`] says that an operand is not visible: nothing is changed then.
 pub fn run_alu<L: Ledger>(machine: &mut Machine, steps: &mut Steps<L>) -> Turn
     requires stands { Stands machine.old (operation_entry (operation_seen (view machine.old))) }
     requires dispatched { let v = view machine.old in Dispatched (state_at_dispatch v) v }
     requires family { is_alu (operation_seen (view machine.old)) ≡ true }
-    ensures { Turned (state_at_dispatch (view machine.old)) most_to_dispatch machine.old machine.new steps.old steps.new result }
+    ensures { Turned (state_at_dispatch (view machine.old)) most_to_dispatch
+        machine.old machine.new steps.old steps.new result }
 {
     let Some(operation) = start_row(machine, steps) else {
         return Turn::Stopped(Reason::Cell);

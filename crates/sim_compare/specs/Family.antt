@@ -1,6 +1,7 @@
 -- The comparisons and the tests of the status, and what each tells.
 use Rattle.std.specs.Prelude.{ℕ, ◌==◌, Bool, true, false, ◌||◌, nat_lt, nat_le, int_lt, int_le, bit_and, Option, Some}
 use Rattle.console_defs.specs.Flags.{Width, signed}
+use Rattle.step_defs.specs.declared.status_bits.TheConstants.{HIGHER_BIT, GREATER_BIT, CARRY_BIT, OVERFLOW_BIT}
 use Rattle.console_defs.specs.Machine.{MachineState}
 use Rattle.gpl_defs.specs.declared.instruction.PlainOp.TheVariants.{H, GT, CARRY, OVF}
 use Rattle.gpl_defs.specs.declared.instruction.OneName.TheVariants.{CZ}
@@ -49,10 +50,10 @@ compared operation width x y = false
 
 -- The bit of the status that a test tells.
 abbrev pub tested : Option GplOperation → ℕ
-tested (Some (Plain H)) = 0x80
-tested (Some (Plain GT)) = 0x40
-tested (Some (Plain CARRY)) = 0x10
-tested (Some (Plain OVF)) = 0x08
+tested (Some (Plain H)) = HIGHER_BIT
+tested (Some (Plain GT)) = GREATER_BIT
+tested (Some (Plain CARRY)) = CARRY_BIT
+tested (Some (Plain OVF)) = OVERFLOW_BIT
 tested operation = 0
 
 -- the piece of a comparison

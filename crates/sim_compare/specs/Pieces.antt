@@ -1,5 +1,5 @@
--- What the pieces of the comparisons and the tests come to: how many instructions they have, where they end, and what they
--- change of the view, in the words of the processor. Registers, cells and ports that are not named stay.
+-- What the pieces of the comparisons and the tests come to: how many instructions they have, where they end, and what
+-- they change of the view, in the words of the processor. Registers, cells and ports that are not named stay.
 use Rattle.std.specs.Prelude.{ℕ, ◌==◌, Bool, true, false, not, nat_lt, int_lt, bit_and, if◌then◌else◌, slice_index}
 use Rattle.std.specs.Prelude.{slice_set}
 use Rattle.console_defs.specs.Words.{low, join}
@@ -8,6 +8,7 @@ use Rattle.console_defs.specs.Logic.{ones_set, ones_cleared}
 use Rattle.console_defs.specs.Shifts.{shifted, last_out}
 use Rattle.console_defs.specs.declared.instruction.ShiftOp.TheVariants.{SLA}
 use Rattle.step_defs.specs.declared.cells.TheConstants.{STATUS}
+use Rattle.step_defs.specs.declared.status_bits.TheConstants.{CONDITION_BIT}
 use Rattle.native_interp.specs.declared.addresses.TheConstants.{GSTEP, CTRUE, CFALSE}
 use Rattle.sim_view.specs.View.{View}
 use Rattle.sim_view.specs.Exits.{Exit}
@@ -72,7 +73,7 @@ abbrev pub with_status : ℕ → View → View
 with_status byte v = record v { r = record v.r { r4 = 0x2000 }; cells = slice_set v.cells STATUS byte }
 
 abbrev pub set_condition : View → Exit
-set_condition v = exit 3 GSTEP (with_status (ones_set (slice_index v.cells STATUS) 0x20) v)
+set_condition v = exit 3 GSTEP (with_status (ones_set (slice_index v.cells STATUS) CONDITION_BIT) v)
 
 abbrev pub clear_condition : View → Exit
-clear_condition v = exit 3 GSTEP (with_status (ones_cleared Byte (slice_index v.cells STATUS) 0x20) v)
+clear_condition v = exit 3 GSTEP (with_status (ones_cleared Byte (slice_index v.cells STATUS) CONDITION_BIT) v)

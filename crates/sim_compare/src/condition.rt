@@ -31,7 +31,8 @@ pub fn clear_condition<L: Ledger>(machine: &mut Machine, steps: &mut Steps<L>)
 /// Sets the condition or clears it, as the comparison tells.
 pub fn end_comparison<L: Ledger>(machine: &mut Machine, steps: &mut Steps<L>)
     requires { IsTold machine.old }
-    ensures { Exits machine.old machine.new steps.old steps.new (ending (machine.old.cpu.pc == address.CTRUE) (view machine.old)) }
+    ensures { Exits machine.old machine.new steps.old steps.new
+        (ending (machine.old.cpu.pc == address.CTRUE) (view machine.old)) }
 {
     if machine.pc() == CTRUE {
         set_condition(machine, steps);

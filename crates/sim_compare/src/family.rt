@@ -16,7 +16,7 @@ use crate::compare::{
     compare_higher_or_equal, compare_ones, compare_with_zero,
 };
 use crate::condition::end_comparison;
-use crate::test::{test_carry, test_greater, test_higher, test_overflow};
+use crate::status_tests::{test_carry, test_greater, test_higher, test_overflow};
 use gpl_defs::{GplOperation, OneName, TwoName};
 use interp_defs::Turn;
 use native_interp::{GOCARY, GOGT, GOH, ROW};
@@ -57,7 +57,8 @@ fn run_comparison<L: Ledger>(machine: &mut Machine, steps: &mut Steps<L>, operat
 fn test_status<L: Ledger>(machine: &mut Machine, steps: &mut Steps<L>)
     requires stands { Stands machine.old (operation_entry (operation_seen (view machine.old))) }
     requires test { is_test (operation_seen (view machine.old)) ≡ true }
-    ensures { let v = view machine.old in Exits machine.old machine.new steps.old steps.new (test (operation_seen v) v) }
+    ensures { let v = view machine.old in
+        Exits machine.old machine.new steps.old steps.new (test (operation_seen v) v) }
 {
     if machine.pc() == GOH {
         test_higher(machine, steps);
@@ -75,7 +76,8 @@ fn run_test<L: Ledger>(machine: &mut Machine, steps: &mut Steps<L>) -> Turn
     requires stands { Stands machine.old (operation_entry (operation_seen (view machine.old))) }
     requires dispatched { let v = view machine.old in Dispatched (state_at_dispatch v) v }
     requires test { is_test (operation_seen (view machine.old)) ≡ true }
-    ensures { Turned (state_at_dispatch (view machine.old)) most_to_dispatch machine.old machine.new steps.old steps.new result }
+    ensures { Turned (state_at_dispatch (view machine.old)) most_to_dispatch
+        machine.old machine.new steps.old steps.new result }
 {
     test_status(machine, steps);
     end_comparison(machine, steps);
@@ -87,7 +89,8 @@ fn run_compare_row<L: Ledger>(machine: &mut Machine, steps: &mut Steps<L>) -> Tu
     requires stands { Stands machine.old (operation_entry (operation_seen (view machine.old))) }
     requires dispatched { let v = view machine.old in Dispatched (state_at_dispatch v) v }
     requires comparison { is_comparison (operation_seen (view machine.old)) ≡ true }
-    ensures { Turned (state_at_dispatch (view machine.old)) most_to_dispatch machine.old machine.new steps.old steps.new result }
+    ensures { Turned (state_at_dispatch (view machine.old)) most_to_dispatch
+        machine.old machine.new steps.old steps.new result }
 {
     let Some(operation) = start_row(machine, steps) else {
         return Turn::Stopped(Reason::Cell);
@@ -101,7 +104,8 @@ pub fn run_compare<L: Ledger>(machine: &mut Machine, steps: &mut Steps<L>) -> Tu
     requires stands { Stands machine.old (operation_entry (operation_seen (view machine.old))) }
     requires dispatched { let v = view machine.old in Dispatched (state_at_dispatch v) v }
     requires family { is_compare (operation_seen (view machine.old)) ≡ true }
-    ensures { Turned (state_at_dispatch (view machine.old)) most_to_dispatch machine.old machine.new steps.old steps.new result }
+    ensures { Turned (state_at_dispatch (view machine.old)) most_to_dispatch
+        machine.old machine.new steps.old steps.new result }
 {
     if machine.pc() == ROW {
         return run_compare_row(machine, steps);

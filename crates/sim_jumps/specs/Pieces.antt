@@ -1,9 +1,10 @@
--- What the pieces of a jump come to: how many instructions they have, where they end, and what they change of the view, in the
--- words of the processor. Registers, cells and ports that are not named stay.
+-- What the pieces of a jump come to: how many instructions they have, where they end, and what they change of the view,
+-- in the words of the processor. Registers, cells and ports that are not named stay.
 use Rattle.std.specs.Prelude.{slice_index, slice_set}
 use Rattle.console_defs.specs.Flags.{Byte}
 use Rattle.console_defs.specs.Logic.{ones_cleared}
 use Rattle.step_defs.specs.declared.cells.TheConstants.{STATUS}
+use Rattle.step_defs.specs.declared.status_bits.TheConstants.{CONDITION_BIT}
 use Rattle.native_interp.specs.declared.addresses.TheConstants.{GSTEP, SEEK, GOTO, SHOW}
 use Rattle.sim_view.specs.View.{View}
 use Rattle.sim_view.specs.Exits.{Exit}
@@ -18,7 +19,7 @@ abbrev pub take_branch : View → Exit
 take_branch v =
     exit 3 GOTO (record v {
       r = record v.r { r4 = 0x2000 };
-      cells = slice_set v.cells STATUS (ones_cleared Byte (slice_index v.cells STATUS) 0x20);
+      cells = slice_set v.cells STATUS (ones_cleared Byte (slice_index v.cells STATUS) CONDITION_BIT);
     })
 
 -- RESUME: GROM goes on at the address in register 14, and the row ends.

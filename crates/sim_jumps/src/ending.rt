@@ -29,8 +29,8 @@ pub fn take_jump<L: Ledger>(machine: &mut Machine, steps: &mut Steps<L>)
     jump(machine, steps);
 }
 
-/// Ends a row whose results are stored, and which goes on at the address in register 14: the character goes to the screen if a
-/// byte was stored at its cell.
+/// Ends a row whose results are stored, and which goes on at the address in register 14: the character goes to the
+/// screen if a byte was stored at its cell.
 pub fn resume_row<L: Ledger>(machine: &mut Machine, steps: &mut Steps<L>)
     requires stands { Stands machine.old address.RESUME }
     requires idle { PortsAreIdle machine.old.cpu.memory }

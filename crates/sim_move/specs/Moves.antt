@@ -38,7 +38,8 @@ abbrev pub begun : MoveKind → GplState → Changes
 begun kind s = unchanged (record s { pc = (source_read kind s).1 })
 
 -- The machine arrives at an address with what a definition gives, or stops by its reason.
-abbrev pub Arrives : {X : Type 0} → ℕ → GplState → MachineState → MachineState → ℕ → ℕ → ℕ → (X → View → Type 0) → Result X Reason → Type 0
+abbrev pub Arrives : {X : Type 0} → ℕ → GplState → MachineState → MachineState → ℕ → ℕ → ℕ
+    → (X → View → Type 0) → Result X Reason → Type 0
 Arrives most s x y before after to Shows (Ok found) = Comes most x y before after to (Shows found)
 Arrives most s x y before after to Shows (Err reason) = Comes most x y before after GSTOP (StoppedBy s reason)
 
@@ -104,7 +105,10 @@ FindsTarget x y before after =
 pub record SourceTold (v : View) (image : List ℕ) (next address : ℕ) (w : View) : Type 0 where
   pub r4 : ℕ
   pub r6 : ℕ
-  pub is : w ≡ record v { r = record v.r { r2 = address; r3 = 2; r4 = r4; r5 = 1; r6 = r6; r11 = MOVEX }; grom = grom_at image next }
+  pub is : w ≡ record v {
+    r = record v.r { r2 = address; r3 = 2; r4 = r4; r5 = 1; r6 = r6; r11 = MOVEX };
+    grom = grom_at image next;
+  }
 
 abbrev pub IndexesSource : MachineState → MachineState → ℕ → ℕ → Type 0
 IndexesSource x y before after =
@@ -118,7 +122,10 @@ pub record TurnedTo (v : View) (image : List ℕ) (at : ℕ) (w : View) : Type 0
   pub r4 : ℕ
   pub r6 : ℕ
   pub r11 : ℕ
-  pub is : w ≡ record v { r = record v.r { r4 = r4; r5 = 2; r6 = r6; r11 = r11; r14 = at }; grom = grom_at image v.r.r2 }
+  pub is : w ≡ record v {
+    r = record v.r { r4 = r4; r5 = 2; r6 = r6; r11 = r11; r14 = at };
+    grom = grom_at image v.r.r2;
+  }
 
 abbrev pub TurnsToSource : MachineState → MachineState → ℕ → ℕ → Type 0
 TurnsToSource x y before after =

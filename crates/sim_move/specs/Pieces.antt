@@ -1,11 +1,12 @@
--- What the pieces of MOVE come to up to the copy: how many instructions they have, where they end, and what they change of
--- the view, in the words of the processor. Registers, cells and ports that are not named stay.
+-- What the pieces of MOVE come to up to the copy: how many instructions they have, where they end, and what they change
+-- of the view, in the words of the processor. Registers, cells and ports that are not named stay.
 use Rattle.std.specs.Prelude.{ℕ, nat_lt, if◌then◌else◌}
 use Rattle.console_defs.specs.Flags.{Word, sum_of}
 use Rattle.console_defs.specs.Shifts.{shifted, last_out}
 use Rattle.console_defs.specs.declared.instruction.ShiftOp.TheVariants.{SRL, SLA}
 use Rattle.native_interp.specs.declared.addresses.TheConstants.{GSTOP, WHERE, SEEK, ADDR, INDEX, LOAD, STREAM}
-use Rattle.native_interp.specs.declared.addresses.TheConstants.{MOVEN, MOVEL, MOVED, MOVEB, MOVER, MOVES, MOVEA, MOVEX, MOVEW, MOVEK}
+use Rattle.native_interp.specs.declared.addresses.TheConstants.{MOVEN, MOVEL, MOVED, MOVEB, MOVER, MOVES}
+use Rattle.native_interp.specs.declared.addresses.TheConstants.{MOVEA, MOVEX, MOVEW, MOVEK}
 use Rattle.sim_view.specs.View.{View}
 use Rattle.sim_view.specs.Exits.{Exit}
 use Rattle.sim_operands.specs.Pieces.{exit, past}
@@ -22,7 +23,8 @@ ask_length v =
 abbrev pub load_length : View → Exit
 load_length v = exit 1 LOAD (record v { r = record v.r { r11 = MOVEL } })
 
--- MOVEL: the length is kept if it is not above 16,384. From code byte >38 on the target are registers, else ADDR is asked for it.
+-- MOVEL: the length is kept if it is not above 16,384. From code byte >38 on the target are
+-- registers, else ADDR is asked for it.
 abbrev pub keep_length : View → Exit
 keep_length v =
     let told = record v { r = record v.r { r3 = v.r.r6; r12 = v.r.r6 } } in
@@ -53,8 +55,8 @@ count_registers v =
 abbrev pub ask_source : View → Exit
 ask_source v = exit 2 STREAM (record v { r = record v.r { r3 = 2; r11 = MOVEA } })
 
--- MOVEA: INDEX is asked for the address with its index, if the second lowest bit of the code byte says so, as a place that has no
--- range.
+-- MOVEA: INDEX is asked for the address with its index, if the second lowest bit of the code byte says
+-- so, as a place that has no range.
 abbrev pub form_of : ℕ → ℕ
 form_of code = sum_of Word (shifted SRL (shifted SLA (shifted SRL code 1) 15) 14) 1
 

@@ -64,8 +64,9 @@ fn reason_told(machine: &Machine) -> Reason
     }
 }
 
-/// Runs MOVE from its dispatch to the end of the step. It stops by reason 2 where a cell of its operands or of the index
-/// is not visible, by reason 4 where it is longer than 16,384 bytes, and by reason 5 where a register is not there.
+/// Runs MOVE from its dispatch to the end of the step. It stops by reason 2 where a cell of its operands
+/// or of the index is not visible, by reason 4 where it is longer than 16,384 bytes, and by reason 5
+/// where a register is not there.
 pub fn run_move<L: Ledger>(machine: &mut Machine, steps: &mut Steps<L>) -> Turn
     requires stands { Stands machine.old (operation_entry (operation_seen (view machine.old))) }
     requires dispatched { let v = view machine.old in Dispatched (state_at_dispatch v) v }

@@ -12,8 +12,8 @@ use std::sync::ledger::Ledger;
 use tms_step::{Machine, Steps};
 
 /// Keeps the length of MOVE and finds the target: a place in memory, or registers of the video processor. It stops by
-/// reason 4 where the length is above its limit, by reason 5 where a register is not there, and by reason 2 where a cell
-/// is not visible.
+/// reason 4 where the length is above its limit, by reason 5 where a register is not there, and by reason
+/// 2 where a cell is not visible.
 pub(crate) fn find_target<L: Ledger>(machine: &mut Machine, steps: &mut Steps<L>)
     requires stands { Stands machine.old address.MOVEL }
     requires idle { PortsAreIdle machine.old.cpu.memory }

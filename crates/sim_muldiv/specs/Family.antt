@@ -31,8 +31,8 @@ is_muldiv _ = false
 abbrev pub AreVisible : ℕ → ℕ → ℕ → Type 0
 AreVisible space offset width = space ≡ 0 → offset + 2 * size_of (width_in width) ≤ VISIBLE_CELLS
 
--- A row may store two values of its width: the ports are idle, and both are visible. The divisor, where it is a byte, is
--- left-justified.
+-- A row may store two values of its width: the ports are idle, and both are visible. The divisor, where
+-- it is a byte, is left-justified.
 pub record IsReady (x : MachineState) : Type 0 where
   pub idle : PortsAreIdle x.cpu.memory
   pub space : (view x).r.r8 < 2
@@ -81,8 +81,8 @@ EndsQuotient x y before after =
 -- A row of DIV whose quotient fits.
 abbrev pub Divides : MachineState → MachineState → ℕ → ℕ → Type 0
 Divides x y before after =
-    (s : GplState) → (place : Place) → (source : Source) → operation_in s ≡ Some (Two DIV) → AtRow s place source (view x)
-    → operands_of s ≡ Ok (place, source)
+    (s : GplState) → (place : Place) → (source : Source) → operation_in s ≡ Some (Two DIV)
+    → AtRow s place source (view x) → operands_of s ≡ Ok (place, source)
     → (let dividend = double_at s (row_width s) place in
     has_quotient (row_width s) dividend source.number ≡ true
     → Comes 92 x y before after GSTEP

@@ -1,5 +1,5 @@
--- What the pieces of MUL and DIV come to: how many instructions they have, where they end, and what they change of the view,
--- in the words of the processor. Registers, cells and ports that are not named stay.
+-- What the pieces of MUL and DIV come to: how many instructions they have, where they end, and what they change of the
+-- view, in the words of the processor. Registers, cells and ports that are not named stay.
 use Rattle.std.specs.Prelude.{ℕ, ◌/◌, ◌%◌, ◌==◌, nat_lt, if◌then◌else◌, slice_index, slice_set}
 use Rattle.console_defs.specs.Flags.{Byte, Word, sum_of}
 use Rattle.console_defs.specs.Logic.{ones_set, ones_cleared, swapped}
@@ -7,6 +7,7 @@ use Rattle.console_defs.specs.MultiplyDivide.{double_word, product_of}
 use Rattle.console_defs.specs.Shifts.{shifted}
 use Rattle.console_defs.specs.declared.instruction.ShiftOp.TheVariants.{SRL, SLA}
 use Rattle.step_defs.specs.declared.cells.TheConstants.{STATUS}
+use Rattle.step_defs.specs.declared.status_bits.TheConstants.{OVERFLOW_BIT}
 use Rattle.native_interp.specs.declared.addresses.TheConstants.{
   GSTEP,
   LOAD,
@@ -26,8 +27,8 @@ use Rattle.sim_view.specs.View.{View}
 use Rattle.sim_view.specs.Exits.{Exit}
 use Rattle.sim_operands.specs.Pieces.{exit}
 
--- MUL: of a word the first byte is multiplied, and the product is one word; else STORE is asked for the high word of the
--- product, and the low word is kept.
+-- MUL: of a word the first byte is multiplied, and the product is one word; else STORE is asked for the high word of
+-- the product, and the low word is kept.
 abbrev pub multiply_bytes : View → Exit
 multiply_bytes v =
     let product = product_of (shifted SLA (shifted SRL v.r.r9 8) 8) v.r.r6 in
@@ -92,7 +93,7 @@ abbrev pub with_status : ℕ → View → View
 with_status byte v = record v { r = record v.r { r4 = 0x0800 }; cells = slice_set v.cells STATUS byte }
 
 abbrev pub clear_overflow : View → Exit
-clear_overflow v = exit 3 SHOW (with_status (ones_cleared Byte (slice_index v.cells STATUS) 0x08) v)
+clear_overflow v = exit 3 SHOW (with_status (ones_cleared Byte (slice_index v.cells STATUS) OVERFLOW_BIT) v)
 
 abbrev pub set_overflow : View → Exit
-set_overflow v = exit 3 GSTEP (with_status (ones_set (slice_index v.cells STATUS) 0x08) v)
+set_overflow v = exit 3 GSTEP (with_status (ones_set (slice_index v.cells STATUS) OVERFLOW_BIT) v)

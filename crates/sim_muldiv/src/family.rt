@@ -51,7 +51,8 @@ pub fn run_muldiv<L: Ledger>(machine: &mut Machine, steps: &mut Steps<L>) -> Tur
     requires stands { Stands machine.old (operation_entry (operation_seen (view machine.old))) }
     requires dispatched { let v = view machine.old in Dispatched (state_at_dispatch v) v }
     requires family { is_muldiv (operation_seen (view machine.old)) ≡ true }
-    ensures { Turned (state_at_dispatch (view machine.old)) most_to_dispatch machine.old machine.new steps.old steps.new result }
+    ensures { Turned (state_at_dispatch (view machine.old)) most_to_dispatch
+        machine.old machine.new steps.old steps.new result }
 {
     let Some(operation) = start_row(machine, steps) else {
         return Turn::Stopped(Reason::Cell);

@@ -1,4 +1,5 @@
-//! MUL and DIV of GPL, run on the machine. Each is built of pieces: stretches of at most 16 instructions without a loop.
+//! MUL and DIV of GPL, run on the machine. Each is built of pieces: stretches of at most
+//! 16 instructions without a loop.
 #![tactic(auto)]
 
 mod family;

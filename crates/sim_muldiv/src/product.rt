@@ -19,8 +19,8 @@ use sim_view::{register, run_piece};
 use std::sync::ledger::Ledger;
 use tms_step::{Machine, Steps};
 
-/// The piece of MUL: the product of bytes is the result of the row; that of words is stored in two parts, and STORE is asked
-/// for the first of them.
+/// The piece of MUL: the product of bytes is the result of the row; that of words is stored in two parts, and STORE
+/// is asked for the first of them.
 pub fn multiply<L: Ledger>(machine: &mut Machine, steps: &mut Steps<L>)
     requires { Stands machine.old address.MULV }
     ensures { Exits machine.old machine.new steps.old steps.new (piece.multiply (view machine.old)) }

@@ -1,5 +1,5 @@
--- What the pieces of the subroutines come to: how many instructions they have, where they end, and what they change of the
--- view, in the words of the processor. Registers, cells and ports that are not named stay.
+-- What the pieces of the subroutines come to: how many instructions they have, where they end, and what they change of
+-- the view, in the words of the processor. Registers, cells and ports that are not named stay.
 use Rattle.std.specs.Prelude.{ℕ, ◌+◌, ◌==◌, Bool, true, false, not, ◌&&◌, nat_lt, if◌then◌else◌, List, slice_index}
 use Rattle.std.specs.Prelude.{slice_set}
 use Rattle.console_defs.specs.Words.{high, low, join, even}
@@ -91,8 +91,8 @@ address v =
     then (if base == 0x0F00 then sixteen_bit_address first base v else twelve_bit_address first base v)
     else one_byte_address first v
 
--- APTR: the form of the operand comes down in register 5; where the operand is indirect, the address is that of a pointer,
--- which is read if it may be.
+-- APTR: the form of the operand comes down in register 5; where the operand is indirect, the address is that of a
+-- pointer, which is read if it may be.
 abbrev pub pointer : View → Exit
 pointer v =
     let told = record v { r = record v.r { r5 = shifted SRL v.r.r5 13 } } in
@@ -179,8 +179,8 @@ stream v =
     else exit 8 (return_of v)
     (record v { r = record v.r { r6 = join v.grom.fetched second.fetched }; grom = past second })
 
--- STORE: a value is stored in the cells, or the video processor is set to its address, or it goes on at SREG. Register 13
--- marks a store at the character's cell.
+-- STORE: a value is stored in the cells, or the video processor is set to its address, or it goes on at SREG. Register
+-- 13 marks a store at the character's cell.
 abbrev pub marked : ℕ → ℕ → ℕ → ℕ
 marked cell offset mark = if offset == cell then 0xFFFF else mark
 

@@ -53,8 +53,8 @@ abbrev pub sought : View → Exit
 sought v =
     exit 4 (return_of v) (record v { r = record v.r { r6 = swapped v.r.r6 }; grom = grom_at v.grom.image v.r.r6 })
 
--- ADDR. An address in register 2, the form of an operand or its space in register 5, and what GROM gives next; registers 4
--- and 6 may have changed.
+-- ADDR. An address in register 2, the form of an operand or its space in register 5, and what GROM gives next;
+-- registers 4 and 6 may have changed.
 pub record Addressed (v : View) (address form next : ℕ) (w : View) : Type 0 where
   pub r4 : ℕ
   pub r6 : ℕ

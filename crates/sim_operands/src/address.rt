@@ -21,7 +21,8 @@ pub fn read_address<L: Ledger>(machine: &mut Machine, steps: &mut Steps<L>)
     run_piece(machine, steps, &[APTR]);
 }
 
-/// The piece of ADDR that reads the pointer of an indirect operand. Does it go on? If not, the machine stops by reason 2.
+/// The piece of ADDR that reads the pointer of an indirect operand. Does it go on? If not,
+/// the machine stops by reason 2.
 pub fn read_pointer<L: Ledger>(machine: &mut Machine, steps: &mut Steps<L>) -> bool
     requires { Stands machine.old address.APTR }
     ensures exits { Exits machine.old machine.new steps.old steps.new (piece.pointer (view machine.old)) }
@@ -49,9 +50,9 @@ pub fn check_range<L: Ledger>(machine: &mut Machine, steps: &mut Steps<L>)
     run_piece(machine, steps, &[]);
 }
 
-/// Runs ADDR: finds the place of the operand that follows in GROM, for as many bytes as register 3 says, in registers 2 and
-/// 5, or stops by reason 2. It takes at most 45 instructions, changes registers 4 and 6 too, leaves GROM behind the operand
-/// where there is a place, and comes to the address in register 11, or to GSTOP.
+/// Runs ADDR: finds the place of the operand that follows in GROM, for as many bytes as register 3 says, in registers 2
+/// and 5, or stops by reason 2. It takes at most 45 instructions, changes registers 4 and 6 too, leaves GROM behind the
+/// operand where there is a place, and comes to the address in register 11, or to GSTOP.
 pub fn run_address<L: Ledger>(machine: &mut Machine, steps: &mut Steps<L>)
     requires stands { Stands machine.old address.ADDR }
     requires idle { PortsAreIdle machine.old.cpu.memory }

@@ -19,8 +19,8 @@ pub fn fetch_byte<L: Ledger>(machine: &mut Machine, steps: &mut Steps<L>)
     run_piece(machine, steps, &[]);
 }
 
-/// Runs FETCH: the next GPL byte comes into the high half of register 6, with 0 below it, and GROM goes on by one. It takes 3
-/// instructions, changes nothing else, and comes to the address in register 11.
+/// Runs FETCH: the next GPL byte comes into the high half of register 6, with 0 below it, and GROM goes on by one. It
+/// takes 3 instructions, changes nothing else, and comes to the address in register 11.
 pub fn run_fetch<L: Ledger>(machine: &mut Machine, steps: &mut Steps<L>)
     requires stands { Stands machine.old FETCH }
     requires idle { PortsAreIdle machine.old.cpu.memory }

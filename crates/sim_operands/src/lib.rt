@@ -1,5 +1,6 @@
-//! The subroutines of the interpreter, run on the machine: the next GPL byte, the place of an operand, loading and storing
-//! a value, and setting the address of GROM. Each is built of pieces: stretches of at most 16 instructions without a loop.
+//! The subroutines of the interpreter, run on the machine: the next GPL byte, the place of an operand,
+//! loading and storing a value, and setting the address of GROM. Each is built of pieces: stretches of at
+//! most 16 instructions without a loop.
 #![tactic(auto)]
 
 mod address;

@@ -39,15 +39,17 @@ pub fn stream_value<L: Ledger>(machine: &mut Machine, steps: &mut Steps<L>)
     run_piece(machine, steps, &[]);
 }
 
-/// Runs LOAD: the value at the place in registers 2 and 5, of the width in register 3, comes into register 6. Where register
-/// 5 is above 1 it is the value that follows in GROM, which goes on behind it. It takes at most 17 instructions, changes
-/// register 4 and the address of the video processor too, and comes to the address in register 11.
+/// Runs LOAD: the value at the place in registers 2 and 5, of the width in register 3, comes into
+/// register 6. Where register 5 is above 1 it is the value that follows in GROM, which goes on behind it.
+/// It takes at most 17 instructions, changes register 4 and the address of the video processor too, and
+/// comes to the address in register 11.
 pub fn run_load<L: Ledger>(machine: &mut Machine, steps: &mut Steps<L>)
     requires stands { Stands machine.old address.LOAD }
     requires idle { PortsAreIdle machine.old.cpu.memory }
     requires visible { let r = (view machine.old).r in IsVisible r.r5 r.r2 r.r3 }
     ensures value { (view machine.old).r.r5 < 2 → LoadsValue machine.old machine.new steps.old steps.new }
-    ensures stream { 1 < (view machine.old).r.r5 → IsFetched machine.old.cpu.memory.grom → LoadsStream machine.old machine.new steps.old steps.new }
+    ensures stream { 1 < (view machine.old).r.r5 → IsFetched machine.old.cpu.memory.grom
+        → LoadsStream machine.old machine.new steps.old steps.new }
 {
     let space = register(machine, 5);
     load_value(machine, steps);

@@ -39,16 +39,17 @@ pub fn store_register<L: Ledger>(machine: &mut Machine, steps: &mut Steps<L>)
     run_piece(machine, steps, &[]);
 }
 
-/// Runs STORE: the value in register 9, of the width in register 3, is stored at the place in registers 7 and 8, its high
-/// byte first. Where register 8 is above 1 its high byte goes to the register of the video processor whose number is in
-/// register 7. It takes at most 16 instructions, marks a store at the character's cell in register 13, changes registers 4
-/// and 9 and the address of the video processor too, and comes to the address in register 11.
+/// Runs STORE: the value in register 9, of the width in register 3, is stored at the place in registers 7 and 8, its
+/// high byte first. Where register 8 is above 1 its high byte goes to the register of the video processor whose number
+/// is in register 7. It takes at most 16 instructions, marks a store at the character's cell in register 13, changes
+/// registers 4 and 9 and the address of the video processor too, and comes to the address in register 11.
 pub fn run_store<L: Ledger>(machine: &mut Machine, steps: &mut Steps<L>)
     requires stands { Stands machine.old address.STORE }
     requires idle { PortsAreIdle machine.old.cpu.memory }
     requires visible { let r = (view machine.old).r in IsVisible r.r8 r.r7 r.r3 }
     ensures value { (view machine.old).r.r8 < 2 → StoresValue machine.old machine.new steps.old steps.new }
-    ensures register { 1 < (view machine.old).r.r8 → (view machine.old).r.r7 < 8 → StoresRegister machine.old machine.new steps.old steps.new }
+    ensures register { 1 < (view machine.old).r.r8 → (view machine.old).r.r7 < 8
+        → StoresRegister machine.old machine.new steps.old steps.new }
 {
     let space = register(machine, 8);
     store_value(machine, steps);

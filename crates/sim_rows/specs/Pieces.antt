@@ -1,6 +1,6 @@
--- What the pieces of a step up to its dispatch, of the operands of a row and of the end of a row come to: how many instructions
--- they have, where they end, and what they change of the view, in the words of the processor. Registers, cells and ports that
--- are not named stay.
+-- What the pieces of a step up to its dispatch, of the operands of a row and of the end of a row come to: how many
+-- instructions they have, where they end, and what they change of the view, in the words of the processor. Registers,
+-- cells and ports that are not named stay.
 use Rattle.std.specs.Prelude.{ℕ, ◌+◌, ◌-◌, ◌/◌, ◌==◌, nat_lt, if◌then◌else◌, slice_index}
 use Rattle.console_defs.specs.Words.{low, join, even}
 use Rattle.console_defs.specs.Flags.{Word, sum_of, difference_of}
@@ -40,8 +40,8 @@ first_row = (OPTAB - origin) / 2
 abbrev pub ask_address : View → Exit
 ask_address v = exit 1 WHERE (record v { r = record v.r { r11 = GSTEP + 4 } })
 
--- WHERE: two reads of the address port give the counter, and the address before it in its GROM comes into register 6. The
--- counter is lost.
+-- WHERE: two reads of the address port give the counter, and the address before it in its GROM comes into
+-- register 6. The counter is lost.
 abbrev pub read_once : GromState → GromState
 read_once grom = (grom_address_read grom).1
 

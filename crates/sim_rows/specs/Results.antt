@@ -31,8 +31,8 @@ abbrev pub row_result : GplOperation → GplState → Place → Source → Resul
 row_result operation s place source =
     result_of operation (row_width s) place (value_at s (row_width s) place) source (unchanged (gone_on s))
 
--- The changes so far: they are seen, GROM gives the byte of the next instruction, both ports are idle, and register 13 is a
--- mark where a byte was stored at the character's cell.
+-- The changes so far: they are seen, GROM gives the byte of the next instruction, both ports are idle, and register 13
+-- is a mark where a byte was stored at the character's cell.
 pub record Changed (c : Changes) (w : View) : Type 0 where
   pub cells : w.cells ≡ c.state.cells
   pub vdp : w.vdp.memory ≡ c.state.vdp
@@ -68,7 +68,8 @@ StoresResult x y before after =
     → Comes 47 x y before after GSTEP (SeesFinished (with_value width place number c))
 
 -- A row's operands are loaded, and its operation is told; or it stops.
-abbrev pub StartsRow : GplState → MachineState → MachineState → ℕ → ℕ → Option GplOperation → Result (Place × Source) Reason → Type 0
+abbrev pub StartsRow : GplState → MachineState → MachineState → ℕ → ℕ → Option GplOperation
+    → Result (Place × Source) Reason → Type 0
 StartsRow s x y before after told (Ok operands) =
     (told ≡ operation_in s) × Comes 151 x y before after (row_entry (operation_in s)) (AtRow s operands.0 operands.1)
 StartsRow s x y before after told (Err reason) =
@@ -77,8 +78,8 @@ StartsRow s x y before after told (Err reason) =
 -- A row from its entry to the end of the step, for all operands that may be there: at most so many instructions.
 abbrev pub RunsRow : GplOperation → ℕ → MachineState → MachineState → ℕ → ℕ → Type 0
 RunsRow operation most x y before after =
-    (s : GplState) → (place : Place) → (source : Source) → operation_in s ≡ Some operation → AtRow s place source (view x)
-    → operands_of s ≡ Ok (place, source)
+    (s : GplState) → (place : Place) → (source : Source) → operation_in s ≡ Some operation
+    → AtRow s place source (view x) → operands_of s ≡ Ok (place, source)
     → Comes most x y before after GSTEP (SeesResult (row_result operation s place source))
 
 -- The same of a row that may stop, with its answer.
@@ -89,6 +90,6 @@ TurnsBy most s x y before after turn (Err reason) =
 
 abbrev pub TurnsRow : GplOperation → ℕ → MachineState → MachineState → ℕ → ℕ → Turn → Type 0
 TurnsRow operation most x y before after turn =
-    (s : GplState) → (place : Place) → (source : Source) → operation_in s ≡ Some operation → AtRow s place source (view x)
-    → operands_of s ≡ Ok (place, source)
+    (s : GplState) → (place : Place) → (source : Source) → operation_in s ≡ Some operation
+    → AtRow s place source (view x) → operands_of s ≡ Ok (place, source)
     → TurnsBy most s x y before after turn (row_result operation s place source)

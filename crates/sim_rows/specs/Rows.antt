@@ -81,8 +81,8 @@ operands_of s = do
   source ← second_of s
   Ok (place, source)
 
--- What stays from the dispatch on: the state, the code byte and its address, and that nothing was marked. Register 3 has a
--- number of bytes.
+-- What stays from the dispatch on: the state, the code byte and its address, and that nothing was marked.
+-- Register 3 has a number of bytes.
 pub record Holds (s : GplState) (bytes next : ℕ) (w : View) : Type 0 where
   pub sees : Sees s next w
   pub code : w.r.r0 ≡ code_byte s
@@ -158,7 +158,8 @@ LoadsDestination s x y before after went (Err reason) =
     (went ≡ false) × Comes 47 x y before after GSTOP (StoppedBy s reason)
 
 -- Both operands are there at the entry of the row, or the program stops.
-abbrev pub LoadsOperands : GplState → MachineState → MachineState → ℕ → ℕ → Bool → Result (Place × Source) Reason → Type 0
+abbrev pub LoadsOperands : GplState → MachineState → MachineState → ℕ → ℕ → Bool
+    → Result (Place × Source) Reason → Type 0
 LoadsOperands s x y before after went (Ok operands) =
     (went ≡ true) × Comes 146 x y before after (row_entry (operation_in s)) (AtRow s operands.0 operands.1)
 LoadsOperands s x y before after went (Err reason) =
@@ -167,12 +168,13 @@ LoadsOperands s x y before after went (Err reason) =
 -- From OPVAL the value of the source is loaded, and the machine comes to the entry of the row.
 abbrev pub LoadsPlaced : MachineState → MachineState → ℕ → ℕ → Type 0
 LoadsPlaced x y before after =
-    (s : GplState) → (place source : Place) → (next : ℕ) → is_row (operation_in s) ≡ true → Found s place source next (view x)
-    → Comes 22 x y before after (row_entry (operation_in s))
+    (s : GplState) → (place source : Place) → (next : ℕ) → is_row (operation_in s) ≡ true
+    → Found s place source next (view x) → Comes 22 x y before after (row_entry (operation_in s))
     (Sourced s place (record { number = value_at s (row_width s) source; place = Some source }) next)
 
 abbrev pub LoadsImmediate : MachineState → MachineState → ℕ → ℕ → Type 0
 LoadsImmediate x y before after =
     (s : GplState) → (place : Place) → (next : ℕ) → is_row (operation_in s) ≡ true → Immediate s place next (view x)
     → let read = value_in (word_of s) s.image next in
-    Comes 16 x y before after (row_entry (operation_in s)) (Sourced s place (record { number = read.0; place = None }) read.1)
+    Comes 16 x y before after (row_entry (operation_in s))
+    (Sourced s place (record { number = read.0; place = None }) read.1)

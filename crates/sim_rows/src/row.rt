@@ -79,8 +79,8 @@ pub fn go_to_row<L: Ledger>(machine: &mut Machine, steps: &mut Steps<L>)
     run_piece(machine, steps, &[]);
 }
 
-/// Finds the destination of a row, whose number of bytes is in register 3, and loads its value. Is it visible? If not, the
-/// machine stops by reason 2.
+/// Finds the destination of a row, whose number of bytes is in register 3, and loads its value. Is it visible? If not,
+/// the machine stops by reason 2.
 pub fn load_destination<L: Ledger>(machine: &mut Machine, steps: &mut Steps<L>) -> bool
     requires stands { Stands machine.old address.OPS }
     requires operands { let v = view machine.old in AtOperands (state_at_dispatch v) v }
@@ -114,8 +114,8 @@ pub fn load_source<L: Ledger>(machine: &mut Machine, steps: &mut Steps<L>)
     go_to_row(machine, steps);
 }
 
-/// Loads both operands of a row and goes to its entry; a row of one operand has 1 for the source. Are they visible? If not,
-/// the machine stops by reason 2.
+/// Loads both operands of a row and goes to its entry; a row of one operand has 1 for the source. Are they visible? If
+/// not, the machine stops by reason 2.
 pub fn load_operands<L: Ledger>(machine: &mut Machine, steps: &mut Steps<L>) -> bool
     requires stands { Stands machine.old address.OPS }
     requires operands { let v = view machine.old in AtOperands (state_at_dispatch v) v }
@@ -148,7 +148,8 @@ fn tell_width<L: Ledger>(machine: &mut Machine, steps: &mut Steps<L>)
     requires stands { Stands machine.old (operation_entry (operation_seen (view machine.old))) }
     requires dispatched { let v = view machine.old in Dispatched (state_at_dispatch v) v }
     requires row { is_row (operation_seen (view machine.old)) ≡ true }
-    ensures { Comes 5 machine.old machine.new steps.old steps.new address.OPS (AtOperands (state_at_dispatch (view machine.old))) }
+    ensures { Comes 5 machine.old machine.new steps.old steps.new address.OPS
+        (AtOperands (state_at_dispatch (view machine.old))) }
 {
     if machine.pc() == WIDE {
         wide_width(machine, steps);
@@ -157,8 +158,8 @@ fn tell_width<L: Ledger>(machine: &mut Machine, steps: &mut Steps<L>)
     }
 }
 
-/// Begins a row at its dispatch: both operands are loaded, and the machine is at the entry of the row. The answer is the
-/// operation, and None where an operand is not visible: the machine then stops by reason 2.
+/// Begins a row at its dispatch: both operands are loaded, and the machine is at the entry of the row. The answer is
+/// the operation, and None where an operand is not visible: the machine then stops by reason 2.
 pub fn start_row<L: Ledger>(machine: &mut Machine, steps: &mut Steps<L>) -> Option<GplOperation>
     requires stands { Stands machine.old (operation_entry (operation_seen (view machine.old))) }
     requires dispatched { let v = view machine.old in Dispatched (state_at_dispatch v) v }

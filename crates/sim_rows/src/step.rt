@@ -58,12 +58,13 @@ pub fn dispatch<L: Ledger>(machine: &mut Machine, steps: &mut Steps<L>)
     run_piece(machine, steps, &[]);
 }
 
-/// From the beginning of a step to its dispatch: registers 0 and 1 hold the code byte and its address, GROM has gone on by
-/// one, and the machine is where the first table leads. It takes at most 29 instructions.
+/// From the beginning of a step to its dispatch: registers 0 and 1 hold the code byte and its address, GROM has gone on
+/// by one, and the machine is where the first table leads. It takes at most 29 instructions.
 pub fn begin_step<L: Ledger>(machine: &mut Machine, steps: &mut Steps<L>)
     requires { IsMatching machine.old }
     ensures { let s = shown_by machine.old.cpu.memory in
-        Comes most_to_dispatch machine.old machine.new steps.old steps.new (operation_entry (operation_at (slice_index s.image s.pc))) (Dispatched s) }
+        Comes most_to_dispatch machine.old machine.new steps.old steps.new
+        (operation_entry (operation_at (slice_index s.image s.pc))) (Dispatched s) }
 {
     machine.holds_bounds();
     ask_address(machine, steps);

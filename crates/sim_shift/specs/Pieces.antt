@@ -1,5 +1,5 @@
--- What the pieces of the shifts come to: how many instructions they have, where they end, and what they change of the view, in
--- the words of the processor. Registers, cells and ports that are not named stay.
+-- What the pieces of the shifts come to: how many instructions they have, where they end, and what they change of the
+-- view, in the words of the processor. Registers, cells and ports that are not named stay.
 use Rattle.std.specs.Prelude.{ℕ, ◌+◌, ◌==◌, if◌then◌else◌}
 use Rattle.console_defs.specs.Logic.{swapped, ones_set}
 use Rattle.console_defs.specs.Shifts.{shifted}

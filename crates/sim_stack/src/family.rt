@@ -11,10 +11,10 @@ ghost use Rattle.sim_rows.specs.States.{Dispatched, state_at_dispatch, operation
 ghost use Rattle.sim_rows.specs.Results.{TurnsRow};
 ghost use Rattle.sim_stack.specs.Family.{is_stack_row, is_stack};
 
-use crate::back::run_return;
 use crate::call::run_call;
 use crate::fetch::run_fetched;
 use crate::push::run_push;
+use crate::returns::run_return;
 use gpl_defs::{GplOperation, OneName};
 use interp_defs::Turn;
 use native_interp::{GOCALL, GORTN};

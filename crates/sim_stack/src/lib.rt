@@ -2,13 +2,12 @@
 //! pieces: stretches of at most 16 instructions without a loop.
 #![tactic(auto)]
 
-mod back;
 mod call;
 mod family;
 mod fetch;
 mod push;
+mod returns;
 
-pub use back::{ask_return, take_return};
 pub use call::{ask_target, keep_call_next, keep_target, store_next};
 pub use family::run_stack;
 pub use fetch::{
@@ -16,3 +15,4 @@ pub use fetch::{
     store_byte, store_stacked,
 };
 pub use push::push_pointer;
+pub use returns::{ask_return, take_return};

@@ -10,7 +10,8 @@ use Rattle.sim_stack.specs.Family.{is_stack}
 use Rattle.sim_move.specs.Family.{is_move}
 use Rattle.sim_misc.specs.Family.{is_misc}
 use Rattle.sim_steps.specs.declared.family.Family.{Family}
-use Rattle.sim_steps.specs.declared.family.Family.TheVariants.{Alu, Shift, MulDiv, Compare, Flow, Stack, Move, Misc, Refused}
+use Rattle.sim_steps.specs.declared.family.Family.TheVariants.{Alu, Shift, MulDiv, Compare, Flow, Stack, Move, Misc}
+use Rattle.sim_steps.specs.declared.family.Family.TheVariants.{Refused}
 
 -- The family of an operation is the one that it belongs to. A code byte that is no instruction's is refused.
 abbrev pub family_of : Option GplOperation → Family

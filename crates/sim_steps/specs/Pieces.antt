@@ -1,5 +1,6 @@
 -- What the pieces of boot and of the stop by a code byte come to: how many instructions they have, where they
--- end, and what they change of the view, in the words of the processor. Registers, cells and ports that are not named stay.
+-- end, and what they change of the view, in the words of the processor. Registers, cells and
+-- ports that are not named stay.
 use Rattle.std.specs.Prelude.{slice_set}
 use Rattle.step_defs.specs.declared.cells.TheConstants.{VALUE_STACK, RETURN_STACK}
 use Rattle.native_interp.specs.declared.addresses.TheConstants.{GSTEP, GSTOP, SEEK}

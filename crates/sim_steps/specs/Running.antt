@@ -6,9 +6,10 @@ use Rattle.step_defs.specs.State.{GplState}
 use Rattle.step_defs.specs.Run.{run}
 use Rattle.interp_defs.specs.Programs.{RunsSteps}
 
--- The turns from x to y are the run of up to so many steps from a state, with what the run's answers are, and a counter shows
--- their instructions.
-pub record RunsTurns (s : GplState) (limit : ℕ) (x y : MachineState) (before after done : ℕ) (stop : Option Reason) : Type 0 where
+-- The turns from x to y are the run of up to so many steps from a state, with what the run's answers are, and a
+-- counter shows their instructions.
+pub record RunsTurns (s : GplState) (limit : ℕ) (x y : MachineState) (before after done : ℕ) (stop : Option Reason)
+    : Type 0 where
   pub done_is : done ≡ (run limit s).done
   pub stop_is : stop ≡ (run limit s).stop
   pub count : ℕ

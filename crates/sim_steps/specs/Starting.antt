@@ -10,13 +10,14 @@ use Rattle.interp_defs.specs.Turns.{Boots}
 use Rattle.sim_view.specs.View.{View, view, Stands}
 use Rattle.sim_operands.specs.Subroutines.{state_of}
 
--- The state at the first step of a program with its entry in register 0: its stacks are empty, and all else is as it was.
+-- The state at the first step of a program with its entry in register 0: its stacks are
+-- empty, and all else is as it was.
 abbrev pub booted : View → GplState
 booted w =
     record (state_of w) { cells = slice_set (slice_set w.cells VALUE_STACK 0x9F) RETURN_STACK 0x7E; pc = w.r.r0 }
 
--- From boot the machine comes to the first step, which it matches. It takes at most so many instructions, which the counter
--- shows.
+-- From boot the machine comes to the first step, which it matches. It takes at most so many
+-- instructions, which the counter shows.
 pub record Begins (s : GplState) (most : ℕ) (x y : MachineState) (before after : ℕ) : Type 0 where
   pub count : ℕ
   pub within : count ≤ most
@@ -24,8 +25,8 @@ pub record Begins (s : GplState) (most : ℕ) (x y : MachineState) (before after
   pub boots : Boots count x y
   pub matches : Matches s y
 
--- The law, which is proved: a new machine with the interpreter, an image and an entry stands at boot with its ports idle, and
--- its first step is from the state in which the program starts.
+-- The law, which is proved: a new machine with the interpreter, an image and an entry stands at boot with its ports
+-- idle, and its first step is from the state in which the program starts.
 abbrev pub MachinesStart : Type 0
 MachinesStart =
     (image : List ℕ) (entry : ℕ) (x : MachineState) → IsMachine x → IsBoot image entry x

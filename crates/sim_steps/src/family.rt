@@ -36,20 +36,17 @@ pub fn family_of(operation: Option<GplOperation>) -> Family
     match operation {
         Some(GplOperation::One(op)) => family_of_one(op),
         Some(GplOperation::Two(op)) => family_of_two(op),
-        Some(GplOperation::Plain(PlainOp::H))
-        | Some(GplOperation::Plain(PlainOp::GT))
-        | Some(GplOperation::Plain(PlainOp::CARRY))
-        | Some(GplOperation::Plain(PlainOp::OVF)) => Family::Compare,
-        Some(GplOperation::Plain(PlainOp::EXIT))
-        | Some(GplOperation::Jump(GoOp::B))
-        | Some(GplOperation::Branch(_)) => Family::Flow,
-        Some(GplOperation::Plain(PlainOp::RTN))
-        | Some(GplOperation::Plain(PlainOp::RTNC))
-        | Some(GplOperation::Jump(GoOp::CALL)) => Family::Stack,
+        Some(GplOperation::Plain(PlainOp::H | PlainOp::GT | PlainOp::CARRY | PlainOp::OVF)) =>
+            Family::Compare,
+        Some(
+            GplOperation::Plain(PlainOp::EXIT)
+            | GplOperation::Jump(GoOp::B)
+            | GplOperation::Branch(_),
+        ) => Family::Flow,
+        Some(GplOperation::Plain(PlainOp::RTN | PlainOp::RTNC) | GplOperation::Jump(GoOp::CALL)) =>
+            Family::Stack,
         Some(GplOperation::Move(_)) => Family::Move,
-        Some(GplOperation::Byte(ByteOp::RAND))
-        | Some(GplOperation::Byte(ByteOp::BACK))
-        | Some(GplOperation::Byte(ByteOp::ALL)) => Family::Misc,
+        Some(GplOperation::Byte(ByteOp::RAND | ByteOp::BACK | ByteOp::ALL)) => Family::Misc,
         None => Family::Refused,
     }
 }

@@ -1,5 +1,5 @@
-//! One step of GPL by the interpreter's machine code: boot, and a turn from the beginning of a step to its end. Each is built
-//! of pieces: stretches of at most 16 instructions without a loop.
+//! One step of GPL by the interpreter's machine code: boot, and a turn from the beginning of a step to its end. Each is
+//! built of pieces: stretches of at most 16 instructions without a loop.
 #![tactic(auto)]
 
 mod family;

@@ -9,18 +9,19 @@ use std::sync::ledger::Ledger;
 use step_defs::Reason;
 use tms_step::{Machine, Steps};
 
-/// Makes steps of GPL up to the first that stops, and no more than so many: how many were made, and why there was no further
-/// one, if a step stopped.
+/// Makes steps of GPL up to the first that stops, and no more than so many: how many were made, and why there was no
+/// further one, if a step stopped.
 ///
-/// The machine is as the run of the definitions leaves it: it matches the last state, or is halted with it and the reason.
-/// No turn takes more TMS9900 instructions than the bound of its step.
+/// The machine is as the run of the definitions leaves it: it matches the last state, or is halted with it and the
+/// reason. No turn takes more TMS9900 instructions than the bound of its step.
 pub fn run_turns<L: Ledger>(
     machine: &mut Machine,
     steps: &mut Steps<L>,
     limit: u32,
 ) -> (u32, Option<Reason>)
     requires { IsMatching machine.old }
-    ensures { RunsTurns (shown_by machine.old.cpu.memory) limit machine.old machine.new steps.old steps.new result.0 result.1 }
+    ensures { RunsTurns (shown_by machine.old.cpu.memory) limit
+        machine.old machine.new steps.old steps.new result.0 result.1 }
 {
     for made in 0..limit {
         if let Turn::Stopped(reason) = gpl_turn(machine, steps) {

@@ -21,8 +21,8 @@ pub fn boot<L: Ledger>(machine: &mut Machine, steps: &mut Steps<L>)
     run_piece(machine, steps, &[SEEK]);
 }
 
-/// From boot to the first step: the machine matches the state in which a program begins whose entry is in register 0, with
-/// empty stacks. It takes at most 11 instructions.
+/// From boot to the first step: the machine matches the state in which a program begins whose entry is in register 0,
+/// with empty stacks. It takes at most 11 instructions.
 pub fn start_program<L: Ledger>(machine: &mut Machine, steps: &mut Steps<L>)
     requires stands { Stands machine.old address.GBOOT }
     requires idle { PortsAreIdle machine.old.cpu.memory }

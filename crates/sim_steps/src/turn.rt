@@ -24,8 +24,8 @@ use tms_step::{Machine, Steps};
 /// Runs the interpreter from the beginning of a step of GPL to its end, on a machine that matches a state of GPL.
 ///
 /// The answer is the step's: [`Turn::Stepped`] where it is made, and the machine then matches the state after it;
-/// [`Turn::Stopped`] with the reason where it is not, and the machine is then halted with the state as it was and the address
-/// of the code byte. It executes at most as many TMS9900 instructions as the bound of the step.
+/// [`Turn::Stopped`] with the reason where it is not, and the machine is then halted with the state as it was and the
+/// address of the code byte. It executes at most as many TMS9900 instructions as the bound of the step.
 pub fn gpl_turn<L: Ledger>(machine: &mut Machine, steps: &mut Steps<L>) -> Turn
     requires { IsMatching machine.old }
     ensures { Turned (shown_by machine.old.cpu.memory) 0 machine.old machine.new steps.old steps.new result }

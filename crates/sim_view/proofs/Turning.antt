@@ -4,7 +4,8 @@ use Rattle.std.specs.Prelude.{if◌then◌else◌}
 use Rattle.console_defs.specs.Machine.{MachineState, machine_step}
 use Rattle.console_defs.specs.declared.ends.StepEnd.{StepEnd}
 use Rattle.console_defs.specs.declared.ends.StepEnd.TheVariants.{Done, Refused, Port}
-use Rattle.sim_view.specs.Running.{Ran, one_more, is_last, executed_by, ran}
+use Rattle.tms_step.specs.Turns.{executed_by}
+use Rattle.sim_view.specs.Running.{Ran, one_more, is_last, ran}
 
 pub ran_none : (ends : List ℕ) (most : ℕ) (x : MachineState) → most ≡ 0 → ran ends most x ≡ record { count = 0; left = x }
 unfolding ran

@@ -10,8 +10,8 @@ pub record Exit : Type 0 where
   pub to : ℕ
   pub left : View
 
--- The stretch from x to y ends so: as many instructions were executed, which the counter shows, and none of them but the
--- last came to one of the interpreter's ends.
+-- The stretch from x to y ends so: as many instructions were executed, which the counter shows, and none of them but
+-- the last came to one of the interpreter's ends.
 pub record Exits (x y : MachineState) (before after : ℕ) (e : Exit) : Type 0 where
   pub counted : after ≡ before + e.count
   pub runs : Runs e.count x y

@@ -4,6 +4,7 @@ use Rattle.std.specs.List.{list_any}
 use Rattle.console_defs.specs.Machine.{MachineState, machine_step}
 use Rattle.console_defs.specs.declared.ends.StepEnd.{StepEnd}
 use Rattle.console_defs.specs.declared.ends.StepEnd.TheVariants.{Done, Refused, Port}
+use Rattle.tms_step.specs.Turns.{executed_by}
 use Rattle.interp_defs.specs.Runs.{is_end}
 
 -- B at the address in a register, which has this code. TMS9900 data manual, "Branch".
@@ -19,12 +20,6 @@ abbrev pub is_last : List ℕ → StepEnd → ℕ → Bool
 is_last ends (Done word) pc = ends_piece ends word pc
 is_last ends (Refused address) pc = true
 is_last ends (Port address) pc = true
-
--- how many instructions a step executes
-abbrev pub executed_by : StepEnd → ℕ
-executed_by (Done word) = 1
-executed_by (Refused address) = 0
-executed_by (Port address) = 0
 
 -- What a run is: how many instructions it executed, and the machine after them.
 pub record Ran : Type 0 where

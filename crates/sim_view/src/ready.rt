@@ -1,4 +1,4 @@
-//! Whether a machine is ready to run the interpreter.
+//! Whether a machine is ready to run the interpreter, for hosts and tests that look at a machine before it is run.
 
 ghost use Rattle.std.specs.Prelude.{◌≡◌, ◌<◌, ◌*◌, true, false};
 ghost use Rattle.console_defs.specs.Bytes.{word_in};

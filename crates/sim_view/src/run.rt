@@ -4,6 +4,7 @@ ghost use Rattle.std.specs.Prelude.{◌≡◌, ◌+◌, eqb};
 ghost use Rattle.std.specs.List.{list_any};
 ghost use Rattle.console_defs.specs.Machine.{IsMachine, machine_step};
 ghost use Rattle.interp_defs.specs.Runs as runs;
+ghost use Rattle.tms_step.specs.Turns.{executed_by};
 ghost use Rattle.sim_view.specs.Running as spec;
 
 use native_interp::{GEXIT, GSTEP, GSTOP};
@@ -16,8 +17,9 @@ pub const PIECE: u64 = 16;
 /// The code of B at the address in a register, without the number of the register.
 const BRANCH_BY_REGISTER: u16 = 0x045;
 
-/// Runs a piece of the interpreter: at most 16 steps, fewer where a branch by a register was executed, or where the machine
-/// comes to GSTEP, GSTOP, GEXIT or to one of the ends of the piece. A step that executes no instruction ends it too.
+/// Runs a piece of the interpreter: at most 16 steps, fewer where a branch by a register was executed, or
+/// where the machine comes to GSTEP, GSTOP, GEXIT or to one of the ends of the piece. A step that
+/// executes no instruction ends it too.
 pub fn run_piece<L: Ledger>(machine: &mut Machine, steps: &mut Steps<L>, ends: &[u16])
     ensures left { machine.new ≡ (spec.ran ends.now PIECE machine.old).left }
     ensures count { steps.new ≡ steps.old + (spec.ran ends.now PIECE machine.old).count }
@@ -45,7 +47,7 @@ fn run_at_most<L: Ledger>(machine: &mut Machine, steps: &mut Steps<L>, ends: &[u
 fn step_is_last<L: Ledger>(machine: &mut Machine, steps: &mut Steps<L>, ends: &[u16]) -> bool
     ensures left { machine.new ≡ (machine_step machine.old).1 }
     ensures last { let stepped = machine_step machine.old in result ≡ spec.is_last ends.now stepped.0 stepped.1.cpu.pc }
-    ensures count { steps.new ≡ steps.old + spec.executed_by (machine_step machine.old).0 }
+    ensures count { steps.new ≡ steps.old + executed_by (machine_step machine.old).0 }
 {
     match machine.step() {
         StepEnd::Done(word) => {

@@ -8,6 +8,8 @@ use Rattle.console_defs.specs.Logic.{ones_set, ones_cleared}
 use Rattle.gpl_defs.specs.declared.instruction.Space.{Space}
 use Rattle.gpl_defs.specs.declared.instruction.Space.TheVariants.{Cpu, Vdp}
 use Rattle.step_defs.specs.declared.cells.TheConstants.{STATUS, CHARACTER, ROW, COLUMN}
+use Rattle.step_defs.specs.declared.status_bits.TheConstants.{HIGHER_BIT, GREATER_BIT, CONDITION_BIT, CARRY_BIT}
+use Rattle.step_defs.specs.declared.status_bits.TheConstants.{OVERFLOW_BIT}
 use Rattle.step_defs.specs.State.{GplState}
 use Rattle.step_defs.specs.Place.{Place, behind}
 
@@ -67,7 +69,8 @@ with_status byte c = record c { state = record c.state { cells = slice_set c.sta
 -- Profile: the five status bits of the processor, from the highest bit on; the low three bits are 0.
 abbrev pub status_byte : Flags → ℕ
 status_byte flags =
-    bit_of flags.lgt 0x80 + bit_of flags.agt 0x40 + bit_of flags.eq 0x20 + bit_of flags.c 0x10 + bit_of flags.ov 0x08
+    bit_of flags.lgt HIGHER_BIT + bit_of flags.agt GREATER_BIT + bit_of flags.eq CONDITION_BIT + bit_of flags.c CARRY_BIT
+    + bit_of flags.ov OVERFLOW_BIT
 
 abbrev pub with_flags : Flags → Changes → Changes
 with_flags flags c = with_status (status_byte flags) c
@@ -78,13 +81,13 @@ with_bit bit true c = with_status (ones_set (status_of c.state) bit) c
 with_bit bit false c = with_status (ones_cleared Byte (status_of c.state) bit) c
 
 abbrev pub condition : GplState → Bool
-condition s = is_set (status_of s) 0x20
+condition s = is_set (status_of s) CONDITION_BIT
 
 abbrev pub with_condition : Bool → Changes → Changes
-with_condition holds c = with_bit 0x20 holds c
+with_condition holds c = with_bit CONDITION_BIT holds c
 
 abbrev pub with_overflow : Bool → Changes → Changes
-with_overflow holds c = with_bit 0x08 holds c
+with_overflow holds c = with_bit OVERFLOW_BIT holds c
 
 -- Profile: the byte that the character's cell then holds goes into video memory, at 32 times the row and the column.
 abbrev pub shown : Bool → GplState → GplState

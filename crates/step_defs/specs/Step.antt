@@ -40,6 +40,7 @@ use Rattle.gpl_defs.specs.declared.instruction.GplInstr.TheVariants.{Move}
 use Rattle.gpl_defs.specs.declared.instruction.GplRead.{GplRead}
 use Rattle.gpl_defs.specs.declared.instruction.GplRead.TheVariants.{Instr, Refused}
 use Rattle.gpl_defs.specs.Reading.{reading}
+use Rattle.step_defs.specs.declared.status_bits.TheConstants.{HIGHER_BIT, GREATER_BIT, CARRY_BIT, OVERFLOW_BIT}
 use Rattle.step_defs.specs.declared.reason.Reason.{Reason}
 use Rattle.step_defs.specs.declared.reason.Reason.TheVariants.{Exit, Opcode}
 use Rattle.step_defs.specs.State.{GplState}
@@ -64,10 +65,10 @@ abbrev pub plain : PlainOp → Changes → Result Changes Reason
 plain RTN c = returned c >>= λ c. Ok (with_condition false c)
 plain RTNC c = returned c
 plain EXIT c = Err Exit
-plain H c = Ok (with_tested 0x80 c)
-plain GT c = Ok (with_tested 0x40 c)
-plain CARRY c = Ok (with_tested 0x10 c)
-plain OVF c = Ok (with_tested 0x08 c)
+plain H c = Ok (with_tested HIGHER_BIT c)
+plain GT c = Ok (with_tested GREATER_BIT c)
+plain CARRY c = Ok (with_tested CARRY_BIT c)
+plain OVF c = Ok (with_tested OVERFLOW_BIT c)
 
 -- ALL fills the screen, the first 768 bytes of video memory. GPL Programmer's Guide, ALL.
 abbrev pub filled : ℕ → List ℕ → List ℕ

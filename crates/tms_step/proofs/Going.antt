@@ -14,7 +14,7 @@ use Rattle.console_defs.specs.declared.ends.StepEnd.{StepEnd}
 use Rattle.console_defs.specs.declared.ends.StepEnd.TheVariants.{Done, Refused, Port}
 use Rattle.console_defs.specs.declared.ends.RunEnd.{RunEnd}
 use Rattle.console_defs.specs.declared.ends.RunEnd.TheVariants as run
-use Rattle.tms_step.specs.Turns.{ticks_of, end_of_turn, end_at_limit}
+use Rattle.tms_step.specs.Turns.{executed_by, end_of_turn, end_at_limit}
 
 -- So many steps led from x to y, and nothing has ended the run.
 pub record Going (stop : Option ℕ) (limit made : ℕ) (x y : MachineState) : Type 0 where
@@ -169,14 +169,14 @@ jumps word ending false ends = absurd (cc)
 pub run_ended : (stop : Option ℕ) (limit made : ℕ) (x y z : MachineState) (ending : RunEnd) →
     Going stop limit made x y → made < limit → is_reached stop y.cpu.pc ≡ false →
     end_of_turn (machine_step y).0 ≡ Some ending → z ≡ (machine_step y).1 →
-    IsRun stop limit (made + ticks_of (machine_step y).0) x ending z
+    IsRun stop limit (made + executed_by (machine_step y).0) x ending z
 run_ended stop limit made x y z ending going lt reached ends stepped = by (machine_step y).0 refl ends
   where
     none : made + 0 ≡ made
     none = omega arith
 
     by : (end : StepEnd) → (machine_step y).0 ≡ end → end_of_turn end ≡ Some ending →
-        IsRun stop limit (made + ticks_of end) x ending z
+        IsRun stop limit (made + executed_by end) x ending z
     by (Done word) e some =
         let jump = jumps word ending (eqb word 0x10FF) some in
         record {

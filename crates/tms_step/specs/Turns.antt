@@ -7,10 +7,10 @@ use Rattle.console_defs.specs.declared.ends.RunEnd.{RunEnd}
 use Rattle.console_defs.specs.declared.ends.RunEnd.TheVariants as run
 
 -- How many instructions a step executed.
-abbrev pub ticks_of : StepEnd → ℕ
-ticks_of (Done word) = 1
-ticks_of (Refused address) = 0
-ticks_of (Port address) = 0
+abbrev pub executed_by : StepEnd → ℕ
+executed_by (Done word) = 1
+executed_by (Refused address) = 0
+executed_by (Port address) = 0
 
 -- The end of a run that a step is.
 abbrev pub end_of_turn : StepEnd → Option RunEnd

@@ -10,9 +10,10 @@ ghost use Rattle.console_defs.specs.Machine.{MachineState, IsMachine, new_machin
 ghost use Rattle.console_defs.specs.Machine.{has_workspace};
 ghost use Rattle.console_defs.specs.Causes.{refused_at, refusal, MeetsPort};
 
-use crate::cpu::Cpu;
+use crate::cpu::{Cpu, even};
+use crate::status::status_at;
 use console_bus::Bus;
-use console_defs::{Flags, Status, StepEnd};
+use console_defs::StepEnd;
 use std::marker::Model;
 
 /// A TMS9900 processor over the memory of the console, with a count of the instructions that it executed.
@@ -39,24 +40,12 @@ impl Machine {
         ensures bounds { IsMachine result }
     {
         bus.holds_bounds();
-        let flags = Flags {
-            lgt: false,
-            agt: false,
-            eq: false,
-            c: false,
-            ov: false,
-        };
-        let status = Status {
-            flags,
-            op: false,
-            rest: 0,
-        };
         Machine {
             cpu: Cpu {
                 bus,
-                pc: pc / 2 * 2,
-                wp: wp / 2 * 2,
-                status,
+                pc: even(pc),
+                wp: even(wp),
+                status: status_at(0),
             },
             count: 0,
         }

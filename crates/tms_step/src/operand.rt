@@ -116,7 +116,8 @@ impl Cpu {
     #[inline(always)]
     pub(crate) fn write_value(&mut self, byte: bool, at: u16, value: u16) -> Result<(), Stop>
         requires { value < modulus (byte_or_word byte) }
-        ensures value { left_by result (λ _. self.new) ≡ with_value Memory console (byte_or_word byte) at value self.old }
+        ensures value { left_by result (λ _. self.new)
+            ≡ with_value Memory console (byte_or_word byte) at value self.old }
         ensures stopped { OnErr result (self.new ≡ self.old) }
         ensures byte { byte ≡ true → IsOk result }
     {

@@ -59,33 +59,27 @@ pub(crate) fn difference(byte: bool, destination: u16, source: u16) -> Out16
 /// The ones of the source are set in the destination (TMS9900 data manual, "Set ones corresponding", "Set ones
 /// corresponding bytes").
 #[inline]
+#[tactic(auto, using(crate::proofs::Results::ones_fit))]
 pub(crate) fn ones_set(byte: bool, destination: u16, source: u16) -> u16
     requires destination { destination < modulus (byte_or_word byte) }
     requires source { source < modulus (byte_or_word byte) }
     ensures value { result ≡ ones_set destination source }
     ensures fits { result < modulus (byte_or_word byte) }
 {
-    if byte {
-        u16::from(destination as u8 | source as u8)
-    } else {
-        destination | source
-    }
+    destination | source
 }
 
 /// The ones of the source are cleared in the destination (TMS9900 data manual, "Set zeros corresponding", "Set zeros
 /// corresponding bytes").
 #[inline]
+#[tactic(auto, using(crate::proofs::Results::ones_left, crate::proofs::Results::ones_left_fit))]
 pub(crate) fn ones_cleared(byte: bool, destination: u16, source: u16) -> u16
     requires destination { destination < modulus (byte_or_word byte) }
     requires source { source < modulus (byte_or_word byte) }
     ensures value { result ≡ ones_cleared (byte_or_word byte) destination source }
     ensures fits { result < modulus (byte_or_word byte) }
 {
-    if byte {
-        u16::from(destination as u8 & !(source as u8))
-    } else {
-        destination & !source
-    }
+    destination & !source
 }
 
 /// The result of an operation on bytes, as a number of the width of a word.

@@ -6,7 +6,7 @@ ghost use Rattle.console_defs.specs.Accesses.{Gives};
 ghost use Rattle.console_defs.specs.Machine.{machine_step};
 ghost use Rattle.console_defs.specs.Machine as machine;
 ghost use Rattle.console_defs.specs.Runs.{IsRun, is_reached};
-ghost use Rattle.tms_step.specs.Turns.{ticks_of, end_of_turn, end_at_limit};
+ghost use Rattle.tms_step.specs.Turns.{executed_by, end_of_turn, end_at_limit};
 
 use crate::machine::Machine;
 use crate::steps::Steps;
@@ -58,7 +58,7 @@ impl Machine {
     fn turn<L: Ledger>(&mut self, steps: &mut Steps<L>) -> Option<RunEnd>
         ensures step { self.new ≡ (machine_step self.old).1 }
         ensures end { result ≡ end_of_turn (machine_step self.old).0 }
-        ensures ticks { steps.new ≡ steps.old + ticks_of (machine_step self.old).0 }
+        ensures ticks { steps.new ≡ steps.old + executed_by (machine_step self.old).0 }
     {
         match self.step() {
             StepEnd::Done(word) => {

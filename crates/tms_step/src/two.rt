@@ -101,7 +101,8 @@ impl Cpu {
         address: u16,
     ) -> Result<(), Stop>
         requires { source < modulus (byte_or_word byte) }
-        ensures value { left_by result (λ _. self.new) ≡ two Memory console op (byte_or_word byte) source address self.old }
+        ensures value { left_by result (λ _. self.new)
+            ≡ two Memory console op (byte_or_word byte) source address self.old }
         ensures stopped { OnErr result (self.new ≡ self.old) }
     {
         if op == TwoOp::MOV {
@@ -117,7 +118,8 @@ impl Cpu {
     #[inline(always)]
     fn moved(&mut self, byte: bool, source: u16, address: u16) -> Result<(), Stop>
         requires { source < modulus (byte_or_word byte) }
-        ensures value { left_by result (λ _. self.new) ≡ two Memory console MOV (byte_or_word byte) source address self.old }
+        ensures value { left_by result (λ _. self.new)
+            ≡ two Memory console MOV (byte_or_word byte) source address self.old }
         ensures stopped { OnErr result (self.new ≡ self.old) }
     {
         self.stored_by_result(byte, address, source)
@@ -128,7 +130,8 @@ impl Cpu {
     fn arithmetic(&mut self, op: TwoOp, byte: bool, source: u16, address: u16) -> Result<(), Stop>
         requires source { source < modulus (byte_or_word byte) }
         requires op { is_arithmetic op ≡ true }
-        ensures value { left_by result (λ _. self.new) ≡ two Memory console op (byte_or_word byte) source address self.old }
+        ensures value { left_by result (λ _. self.new)
+            ≡ two Memory console op (byte_or_word byte) source address self.old }
         ensures stopped { OnErr result (self.new ≡ self.old) }
     {
         let found = self.value_at(byte, address)?;
@@ -149,7 +152,8 @@ impl Cpu {
     fn bitwise(&mut self, op: TwoOp, byte: bool, source: u16, address: u16) -> Result<(), Stop>
         requires source { source < modulus (byte_or_word byte) }
         requires op { is_bitwise op ≡ true }
-        ensures value { left_by result (λ _. self.new) ≡ two Memory console op (byte_or_word byte) source address self.old }
+        ensures value { left_by result (λ _. self.new)
+            ≡ two Memory console op (byte_or_word byte) source address self.old }
         ensures stopped { OnErr result (self.new ≡ self.old) }
     {
         let found = self.value_at(byte, address)?;

@@ -52,8 +52,8 @@ pub fn neg16(x: u16) -> Out16
     }
 }
 
-/// The absolute value of a word. L>, A> and EQ are set by the word as it was; OV for >8000, which stays as it is (TMS9900
-/// data manual, "Absolute value"). C is false, which is this project's own rule.
+/// The absolute value of a word. L>, A> and EQ are set by the word as it was; OV for >8000, which stays as it is
+/// (TMS9900 data manual, "Absolute value"). C is false, which is this project's own rule.
 pub fn abs16(x: u16) -> Out16
     ensures value { result.value ≡ absolute_of Word x }
     ensures flags { result.flags ≡ absolute_flags Word x }

@@ -2,6 +2,5 @@ pub mod Dumps
 pub mod Ranges
 pub mod Playing
 pub mod Decimals
-pub mod Counting
 pub mod Numbers
 pub mod Shown

@@ -9,7 +9,8 @@ use Rattle.gpl_run.specs.Sessions.{SessionState, seen}
 use Rattle.report_defs.specs.Trace.{step_line, step_lines}
 
 -- The run of up to so many steps was made, and the lines of all its steps were written.
-pub record PlaysWhole (limit : ℕ) (x y : SessionState) (before after : ℕ) (out out' : SinkState) (done : ℕ) : Type 0 where
+pub record PlaysWhole (limit : ℕ) (x y : SessionState) (before after : ℕ) (out out' : SinkState) (done : ℕ)
+    : Type 0 where
   pub runs : RunsTurns (seen x) limit x.machine y.machine before after done y.ended
   pub wrote : Wrote out out' (step_lines (seen x) done)
 

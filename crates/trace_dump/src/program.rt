@@ -15,7 +15,8 @@ use step_defs::Reason;
 /// Writes how a program ended, if it did. It takes no memory.
 #[tactic(auto, using(bench_io::proofs::Writing::wrote_none))]
 pub fn put_stop<O: Sink>(session: &Session, out: &mut O) -> Result<(), Failed>
-    ensures { Written result (O.state out.old) (O.state out.new) (spec.stop_lines session.now.ended (seen session.now).pc) }
+    ensures { Written result (O.state out.old) (O.state out.new)
+        (spec.stop_lines session.now.ended (seen session.now).pc) }
 {
     match session.ended() {
         Some(reason) => put_piece(out, stop_line(reason, session.pc()).as_bytes()),
@@ -25,7 +26,8 @@ pub fn put_stop<O: Sink>(session: &Session, out: &mut O) -> Result<(), Failed>
 
 /// Writes the state of a program, and the dump of the machine that runs it. It takes no memory.
 pub fn put_state<O: Sink>(session: &Session, out: &mut O) -> Result<(), Failed>
-    ensures { Written result (O.state out.old) (O.state out.new) (spec.state_lines (seen session.now) session.now.machine) }
+    ensures { Written result (O.state out.old) (O.state out.new)
+        (spec.state_lines (seen session.now) session.now.machine) }
 {
     put_piece(out, state_line(session).as_bytes())?;
     dump(session.machine(), out)

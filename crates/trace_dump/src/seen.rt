@@ -1,12 +1,10 @@
 //! What was seen of a program, and what has changed since.
 
-ghost use Rattle.std.specs.Prelude.{◌≡◌, ◌≤◌, ◌<◌, ◌+◌, ◌++◌, length, codes, slice_index};
-ghost use Rattle.std.specs.Prelude.{IfOk, IfSome, IfNone};
+ghost use Rattle.std.specs.Prelude.{◌≡◌, ◌≤◌, ◌<◌, ◌+◌, ◌++◌, length, codes, IfOk};
 ghost use Rattle.std.specs.Fmt.{decimal};
 ghost use Rattle.arrayvec.specs.ArrayString.{array_string_len};
 ghost use Rattle.source_defs.specs.Digits.{byte_digits, marked_word};
 ghost use Rattle.interp_defs.specs.Match.{shown_by};
-ghost use Rattle.lane_scan.specs.Plain.{first_difference, count_differences};
 ghost use Rattle.report_defs.specs.Trace as spec;
 
 use crate::parts::vdp_registers;
@@ -18,10 +16,11 @@ use itoa::Buffer;
 use lane_scan::{count_differences, first_difference};
 use std::alloc::{AllocError, Global};
 use std::marker::Model;
+use step_defs::VISIBLE_CELLS;
 use tms_step::Machine;
 
 /// How many cells a GPL program sees.
-const CELLS: usize = 194;
+const CELLS: usize = VISIBLE_CELLS as usize;
 
 /// How many bytes the video memory has.
 const VIDEO_SIZE: usize = 16384;
@@ -106,10 +105,10 @@ fn show_cells(line: &mut ArrayString<120>, kept: &mut [u8], now: &[u8])
     ensures size { array_string_len line.new ≤ array_string_len line.old + 14 }
     ensures kept { kept.new ≡ now.now }
 {
-    let Some(at) = first_change(kept, now) else {
+    let Some(at) = first_difference(kept, now) else {
         return;
     };
-    push_count(line, " C", count_changes(kept, now));
+    push_count(line, " C", count_differences(kept, now));
     push_word(line, 0x8300 + at as u16);
     push_new(line, now[at]);
     kept.copy_from_slice(now);
@@ -125,10 +124,10 @@ fn show_video(line: &mut ArrayString<120>, kept: &mut [u8], now: &[u8])
     ensures size { array_string_len line.new ≤ array_string_len line.old + 16 }
     ensures kept { kept.new ≡ now.now }
 {
-    let Some(at) = first_change(kept, now) else {
+    let Some(at) = first_difference(kept, now) else {
         return;
     };
-    push_count(line, " V", count_changes(kept, now));
+    push_count(line, " V", count_differences(kept, now));
     push_word(line, at as u16);
     push_new(line, now[at]);
     kept.copy_from_slice(now);
@@ -140,36 +139,18 @@ fn show_registers(line: &mut ArrayString<120>, kept: &mut [u8], now: &[u8])
     requires kept { length kept.old ≡ 8 }
     requires now { length now.now ≡ 8 }
     requires room { array_string_len line.old + 10 ≤ 120 }
-    ensures text { line.new.bytes ≡ line.old.bytes ++ spec.changed_text (codes " W") spec.register_place kept.old now.now }
+    ensures text { line.new.bytes ≡ line.old.bytes
+        ++ spec.changed_text (codes " W") spec.register_place kept.old now.now }
     ensures size { array_string_len line.new ≤ array_string_len line.old + 10 }
     ensures kept { kept.new ≡ now.now }
 {
-    let Some(at) = first_change(kept, now) else {
+    let Some(at) = first_difference(kept, now) else {
         return;
     };
-    push_count(line, " W", count_changes(kept, now));
+    push_count(line, " W", count_differences(kept, now));
     line.push(char::from(b'0' + at as u8));
     push_new(line, now[at]);
     kept.copy_from_slice(now);
-}
-
-/// The first place where bytes have changed, of which there are as many as before.
-fn first_change(before: &[u8], after: &[u8]) -> Option<usize>
-    requires { length before.now ≡ length after.now }
-    ensures value { result ≡ first_difference before.now after.now }
-    ensures bound { IfSome result (λ at. at < length after.now) }
-    ensures same { IfNone result (before.now ≡ after.now) }
-{
-    first_difference(before, after)
-}
-
-/// In how many places bytes have changed, of which there are as many as before.
-fn count_changes(before: &[u8], after: &[u8]) -> usize
-    requires { length before.now ≡ length after.now }
-    ensures value { result ≡ count_differences before.now after.now }
-    ensures bound { result ≤ length after.now }
-{
-    count_differences(before, after)
 }
 
 /// Appends a label of two characters, a number of changed bytes in at most five digits, or three where it is below

@@ -30,7 +30,13 @@ impl Model for Vdp {
 
     ghost Value = { VdpState };
 
-    ghost view = { λ v. record { memory = v.memory.items; registers = v.registers; address = v.address; fetched = v.fetched; held = v.held } };
+    ghost view = { λ v. record {
+      memory = v.memory.items;
+      registers = v.registers;
+      address = v.address;
+      fetched = v.fetched;
+      held = v.held;
+    } };
 
     ghost invariant = { λ v. (length v.memory.items ≡ 16384) × (v.address < 16384) };
 }

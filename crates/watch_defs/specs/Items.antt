@@ -5,6 +5,7 @@ use Rattle.gpl_defs.specs.declared.instruction.Space.{Space}
 use Rattle.gpl_defs.specs.declared.instruction.Space.TheVariants.{Cpu, Vdp}
 use Rattle.lane_scan.specs.Plain.{first_difference}
 use Rattle.step_defs.specs.State.{GplState}
+use Rattle.step_defs.specs.declared.cells.TheConstants.{VISIBLE_CELLS}
 use Rattle.watch_defs.specs.declared.item.Item.{Item}
 use Rattle.watch_defs.specs.declared.item.Item.TheVariants.{Range, Pc}
 
@@ -19,7 +20,7 @@ base_of Vdp = 0
 
 -- how many they are
 abbrev pub size_of : Space → ℕ
-size_of Cpu = 0xC2
+size_of Cpu = VISIBLE_CELLS
 size_of Vdp = 0x4000
 
 -- Profile: a range has a byte at least and lies in what a program sees: from >8300 to >83C1 of the processor's memory,
@@ -34,9 +35,12 @@ IsItem (Range space at len) = IsRange space at len
 IsItem (Pc at) = ⊤
 
 -- Profile: one to eight items are watched.
+abbrev pub most_items : ℕ
+most_items = 8
+
 pub record AreItems (items : List Item) : Type 0 where
   pub some : 1 ≤ length items
-  pub few : length items ≤ 8
+  pub few : length items ≤ most_items
   pub each : All IsItem items
 
 -- The bytes of an item's range in a state. An address has none.

@@ -1,7 +1,7 @@
 //! The lines of boot, the step, the routines, the operands of a row, the end of a row, ST, B and EXIT.
 
-/// The first lines of the interpreter's source: boot, the step and the stops, the routines, the operands and the end of a row, and
-/// ST, B and EXIT.
+/// The first lines of the interpreter's source: boot, the step and the stops, the routines, the operands and the
+/// end of a row, and ST, B and EXIT.
 pub const ROUTINE_LINES: [&str; 393] = [
     "* The interpreter of GPL for the TMS9900.",
     "*",

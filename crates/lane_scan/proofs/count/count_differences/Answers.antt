@@ -25,3 +25,8 @@ pub overflow_add-result : goal.overflow_add-result
 overflow_add-result c =
     let z = zip c.args.a.now c.args.b.now in
     omega (arith, count_by-le-length is_different z, length-zip c.args.a.now c.args.b.now, c.count_from.ensures)
+
+pub returns-clause-bound : goal.returns-clause-bound
+returns-clause-bound c =
+    let z = zip c.args.a.now c.args.b.now in
+    omega (arith, count_by-le-length is_different z, length-zip c.args.a.now c.args.b.now, c.count_from.ensures)

@@ -3,12 +3,12 @@ use Rattle.console_defs.specs.Machine.{machine_step}
 use Rattle.console_defs.specs.Runs.{is_reached}
 use Rattle.console_defs.specs.declared.ends.StepEnd.{StepEnd}
 use Rattle.console_defs.specs.declared.ends.StepEnd.TheVariants.{Done, Refused, Port}
-use Rattle.tms_step.specs.Turns.{ticks_of, end_of_turn, end_at_limit}
+use Rattle.tms_step.specs.Turns.{executed_by, end_of_turn, end_at_limit}
 use Rattle.tms_step.proofs.Going.{going_start, going_more, run_reached, run_ended, run_at_limit}
 use Rattle.tms_step.proofs.machine.Machine.run.Goals as goal
 
 -- a step that does not end the run executed one instruction
-one_tick : (end : StepEnd) → end_of_turn end ≡ None → ticks_of end ≡ 1
+one_tick : (end : StepEnd) → end_of_turn end ≡ None → executed_by end ≡ 1
 one_tick (Done word) none = refl
 one_tick (Refused address) none = absurd (cc)
 one_tick (Port address) none = absurd (cc)
@@ -39,9 +39,9 @@ returns-then-is_reached-clause-run g c =
 
 pub returns-in-Some-clause-run : goal.returns-in-Some-clause-run
 returns-in-Some-clause-run g c =
-    let number : c.turn.new.steps - c.args.steps.now ≡ c.loop-made._made + ticks_of (machine_step c.loop-made.self).0 =
+    let number : c.turn.new.steps - c.args.steps.now ≡ c.loop-made._made + executed_by (machine_step c.loop-made.self).0 =
     risen c.args.steps.now c.loop-made.steps c.turn.new.steps c.loop-made._made
-    (ticks_of (machine_step c.loop-made.self).0) c.loop-made.invariant.1 c.turn.ensures.ticks in
+    (executed_by (machine_step c.loop-made.self).0) c.loop-made.invariant.1 c.turn.ensures.ticks in
     let reached =
     reached_is c.args.stop c.pc.result c.loop-made.self.cpu.pc c.is_reached.result false c.pc.ensures.value
     c.is_reached.ensures c.if-is_reached.false in
@@ -55,7 +55,7 @@ loop-made-preserved g c =
     reached_is c.args.stop c.pc.result c.loop-made.self.cpu.pc c.is_reached.result false c.pc.ensures.value
     c.is_reached.ensures c.if-is_reached.false in
     let one = one_tick (machine_step c.loop-made.self).0 none in
-    (going_more c.args.stop c.args.limit c.loop-made._made c.args.self.now c.loop-made.self c.turn.new.self c.loop-made.invariant.0 c.loop-made-test.true reached none c.turn.ensures.step, steps_more c.args.steps.now c.loop-made.steps c.turn.new.steps c.loop-made._made (ticks_of (machine_step c.loop-made.self).0) c.loop-made.invariant.1 c.turn.ensures.ticks one)
+    (going_more c.args.stop c.args.limit c.loop-made._made c.args.self.now c.loop-made.self c.turn.new.self c.loop-made.invariant.0 c.loop-made-test.true reached none c.turn.ensures.step, steps_more c.args.steps.now c.loop-made.steps c.turn.new.steps c.loop-made._made (executed_by (machine_step c.loop-made.self).0) c.loop-made.invariant.1 c.turn.ensures.ticks one)
 
 pub returns-clause-run : goal.returns-clause-run
 returns-clause-run g c =

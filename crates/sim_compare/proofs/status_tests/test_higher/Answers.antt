@@ -3,7 +3,7 @@ use Rattle.sim_view.specs.View.{view}
 use Rattle.sim_view.proofs.Bridge.{exits}
 use Rattle.sim_compare.specs.Pieces as piece
 use Rattle.sim_compare.proofs.Paths
-use Rattle.sim_compare.proofs.test.test_higher.Goals as goal
+use Rattle.sim_compare.proofs.status_tests.test_higher.Goals as goal
 
 pub returns : goal.returns
 returns g c =

@@ -2,7 +2,7 @@ use Rattle.std.proofs.Common.{◌≡◌, arith}
 use Rattle.sim_view.specs.View.{view}
 use Rattle.sim_rows.specs.States.{state_at_dispatch}
 use Rattle.sim_stack.proofs.Returning
-use Rattle.sim_stack.proofs.back.run_return.Goals as goal
+use Rattle.sim_stack.proofs.returns.run_return.Goals as goal
 
 pub returns-then-pc-eq-GSTOP : goal.returns-then-pc-eq-GSTOP
 returns-then-pc-eq-GSTOP g c =

@@ -1,6 +1,6 @@
 use Rattle.std.proofs.Common.{◌≡◌, arith}
 use Rattle.sim_stack.proofs.Returning
-use Rattle.sim_stack.proofs.back.end_return.Goals as goal
+use Rattle.sim_stack.proofs.returns.end_return.Goals as goal
 
 pub returns-then-pc-eq-TAKE : goal.returns-then-pc-eq-TAKE
 returns-then-pc-eq-TAKE g c =

@@ -3,7 +3,7 @@ use Rattle.sim_view.specs.View.{view}
 use Rattle.sim_view.proofs.Bridge.{exits}
 use Rattle.sim_stack.specs.Pieces as piece
 use Rattle.sim_stack.proofs.Paths
-use Rattle.sim_stack.proofs.back.ask_return.Goals as goal
+use Rattle.sim_stack.proofs.returns.ask_return.Goals as goal
 
 pub returns : goal.returns
 returns g c =
