@@ -62,7 +62,7 @@ answers_by run input s None is told none ends (inr some) =
 answers_by run input s (Some command) is told none ends (inr some) =
     let r = reported run s ends none some in
     let reports = subst (λ (found : Option Command). ReportsOn found run r.0) is r.1 in
-    inl (r.0, on_input run command input r.0 told reports, r.2)
+    inl (r.0, on_input run command input r.0 (λ read. told) reports, r.2)
 
 pub answers_steadily : (words : List (List ℕ)) (input input' : Supply) (s : Status) → EndsSteadily words input input' s → AnswersSteadily (command_of words) input.left s
 answers_steadily words input input' s e =

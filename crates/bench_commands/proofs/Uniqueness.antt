@@ -11,15 +11,11 @@ use Rattle.report_defs.specs.declared.fault.Fault.TheVariants.{TooLarge}
 use Rattle.report_defs.specs.declared.status.Status.{Status}
 use Rattle.report_defs.specs.declared.status.Status.TheVariants as status
 use Rattle.report_defs.specs.Commands.{command_of, reads}
-use Rattle.report_defs.specs.Report.{Report, Whole, Faulty, Rejected, status_of, largest_input, AcceptedReport, ReportOn}
+use Rattle.report_defs.specs.Report.{Report, Whole, Faulty, Rejected, status_of, largest_input, AcceptedReport, OnInput, ReportOn}
 use Rattle.report_defs.proofs.OneReport.{one_report}
 use Rattle.report_defs.proofs.ListedInputs.{listed_inputs_come_back}
 use Rattle.bench_commands.specs.Run.{Outputs, Run, ReadsInput, Reads, ReportsOn, Reports, WroteReport, MissedReport, EndsBy}
-use Rattle.bench_commands.specs.Laws.{HasNoFault, read_of, Completeness, BeginAlike, OneAnswer, LawsOfRuns}
-
--- a report on an input, which is refused where it is too large
-abbrev OnInput : (List ℕ → Report → Type 0) → List ℕ → Report → Type 0
-OnInput Accepted input report = MatchBool (nat_lt largest_input (length input)) (report ≡ Faulty TooLarge) (Accepted input report)
+use Rattle.bench_commands.specs.Laws.{HasNoFault, read_of, TellsInput, Completeness, BeginAlike, OneAnswer, LawsOfRuns}
 
 -- a report on bytes that were taken is one on all bytes of the input
 pub on_all : (Accepted : List ℕ → Report → Type 0) (before after : SourceState) (bytes input : List ℕ) (report : Report) → before.left ≡ Some input → ReadsInput before after bytes
@@ -48,11 +44,11 @@ on_all Accepted before after bytes input report told reading on = left after.lef
         by rest is all (nat_lt largest_input (length bytes)) refl on
 
 -- the report of a run on a command is the report on its input
-pub on_input : (run : Run) (command : Command) (input : List ℕ) (report : Report) → run.input.left ≡ Some input → ReportsOn (Some command) run report → ReportOn command (read_of command input) report
+pub on_input : (run : Run) (command : Command) (input : List ℕ) (report : Report) → TellsInput command run.input input → ReportsOn (Some command) run report → ReportOn command (read_of command input) report
 on_input run command input report told (bytes, reading, on) = by (reads command) refl reading
   where
     by : (read : Bool) → reads command ≡ read → Reads read run.input run.input' bytes → ReportOn command (if read then input else []) report
-    by true is reading = on_all (AcceptedReport command) run.input run.input' bytes input report told reading on
+    by true is reading = on_all (AcceptedReport command) run.input run.input' bytes input report (told is) reading on
     by false is (same, none) = let P : List ℕ → Type 0 = λ b. ReportOn command b report in subst P none on
 
 -- no report is missed by outputs that do not fail
@@ -82,17 +78,19 @@ completeness run command input report s is told none on ends some =
     (r.2 ∙ ap status_of same, subst W same r.3)
 
 -- two runs that begin alike have one report
-alike : (a b : Run) (found : Option Command) (x y : Report) → BeginAlike a b → ReportsOn found a x → ReportsOn found b y → x ≡ y
-alike a b None x y begin p q = p.0 ∙ sym q.0
-alike a b (Some command) x y begin p q =
-    one_report command (read_of command begin.bytes) x y (on_input a command begin.bytes x begin.one p) (on_input b command begin.bytes y begin.other q)
+alike : (a b : Run) (found : Option Command) (x y : Report) (begin : BeginAlike a b) → command_of a.words ≡ found → ReportsOn found a x → ReportsOn found b y → x ≡ y
+alike a b None x y begin is p q = p.0 ∙ sym q.0
+alike a b (Some command) x y begin is p q =
+    let one = begin.one command is in
+    let other = begin.other command (ap command_of (sym begin.words) ∙ is) in
+    one_report command (read_of command begin.bytes) x y (on_input a command begin.bytes x one p) (on_input b command begin.bytes y other q)
 
 pub one_answer : OneAnswer
 one_answer a b s t begin none other ends ends' some some' =
     let p = reported a s ends none some in
     let q = reported b t ends' other some' in
     let P : List (List ℕ) → Type 0 = λ words. ReportsOn (command_of words) b q.0 in
-    let same : p.0 ≡ q.0 = alike a b (command_of a.words) p.0 q.0 begin p.1 (subst P (sym begin.words) q.1) in
+    let same : p.0 ≡ q.0 = alike a b (command_of a.words) p.0 q.0 begin refl p.1 (subst P (sym begin.words) q.1) in
     p.2 ∙ ap status_of same ∙ sym q.2
 
 pub laws : LawsOfRuns

@@ -1,6 +1,7 @@
 -- What holds of all runs of the program that end as `EndsBy` says.
-use Rattle.std.specs.Prelude.{◌≡◌, ◌≢◌, ℕ, if◌then◌else◌, List, [], Some}
+use Rattle.std.specs.Prelude.{◌≡◌, ◌≢◌, ℕ, if◌then◌else◌, true, List, [], Some}
 use Rattle.count_defs.specs.Counts.{Rose}
+use Rattle.bench_io.specs.Stream.{SourceState}
 use Rattle.report_defs.specs.declared.command.Command.{Command}
 use Rattle.report_defs.specs.declared.status.Status.{Status}
 use Rattle.report_defs.specs.declared.status.Status.TheVariants.{Memory}
@@ -19,22 +20,26 @@ pub record HasNoFault (run : Run) : Type 0 where
 abbrev pub read_of : Command → List ℕ → List ℕ
 read_of command input = if reads command then input else []
 
--- The law, which is proved: where the words are a command, the source tells its bytes and no count rose, the answer is
--- the status of the report on these bytes, and the whole report was written; or memory was wanting.
+-- the bytes of an input are told, of which a command reads, if it reads any
+abbrev pub TellsInput : Command → SourceState → List ℕ → Type 0
+TellsInput command source input = reads command ≡ true → source.left ≡ Some input
+
+-- The law, which is proved: where the words are a command, the source tells the bytes that it reads and no count rose,
+-- the answer is the status of the report on these bytes, and the whole report was written; or memory was wanting.
 abbrev pub Completeness : Type 0
 Completeness =
     (run : Run) (command : Command) (input : List ℕ) (report : Report) (status : Status)
-    → command_of run.words ≡ Some command → run.input.left ≡ Some input → HasNoFault run
+    → command_of run.words ≡ Some command → TellsInput command run.input input → HasNoFault run
     → ReportOn command (read_of command input) report
     → EndsBy run status → status ≢ Memory
     → (status ≡ status_of report) × WroteReport run.outputs report
 
--- two runs begin with the same words and with inputs of the same bytes, which are told
+-- two runs begin with the same words, and the bytes that their command reads are told and are the same
 pub record BeginAlike (first second : Run) : Type 0 where
   pub words : first.words ≡ second.words
   pub bytes : List ℕ
-  pub one : first.input.left ≡ Some bytes
-  pub other : second.input.left ≡ Some bytes
+  pub one : (command : Command) → command_of first.words ≡ Some command → TellsInput command first.input bytes
+  pub other : (command : Command) → command_of second.words ≡ Some command → TellsInput command second.input bytes
 
 -- the law, which is proved: two such runs in which no count rose have one answer, if neither is want of memory
 abbrev pub OneAnswer : Type 0

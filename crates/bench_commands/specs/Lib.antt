@@ -1,7 +1,4 @@
 pub mod LinkedInput
-pub use Rattle.report_defs.specs.FaultLine
-pub use Rattle.report_defs.specs.Commands
-pub use Rattle.report_defs.specs.Report
 pub mod Run
 pub mod Ran
 pub mod Made

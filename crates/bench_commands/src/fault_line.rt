@@ -1,4 +1,4 @@
-//! The lines that standard error gets of words that are no command, and of any input that is refused.
+//! The lines that standard error gets of words that are no command of `bench`, and of any input that is refused.
 
 ghost use Rattle.std.specs.Prelude.{◌≡◌, ◌≤◌, length};
 ghost use Rattle.report_defs.specs.FaultLine as spec;
@@ -6,7 +6,7 @@ ghost use Rattle.report_defs.specs.FaultLine as spec;
 use report_defs::Fault;
 use report_lines::{Line, append};
 
-/// How the program is called, with each of its commands.
+/// How `bench` is called, which knows no files and no `watch`.
 const USAGE: &[u8] =
     b"usage: ti_bench asm|link|dis ADDR|exec N|gasm|gdis ADDR|interp|run N|trace N|demo K\n";
 

@@ -7,11 +7,8 @@ ghost use Rattle.bench_io.specs.ReadAll.{GaveUp};
 ghost use Rattle.bench_commands.specs.Run.{TakesWhole};
 
 use bench_io::{ReadError, Source, read_all};
-use report_defs::Command;
+use report_defs::{Command, LARGEST_INPUT};
 use std::alloc::Global;
-
-/// The most bytes that an input has.
-const LARGEST_INPUT: usize = 1048576;
 
 /// The whole input of a command that reads it, and nothing of it for another.
 pub(crate) fn take_input<S: Source>(

@@ -1,4 +1,4 @@
-//! The program, over any input and outputs.
+//! The commands over one input, which read no file.
 
 ghost use Rattle.bench_commands.specs.Laws.{LawsOfRuns};
 ghost use Rattle.bench_commands.specs.Run.{EndsBy};
@@ -16,8 +16,9 @@ use std::alloc::{AllocError, Global};
 /// trace are written while the program runs, each once its step is made.
 ///
 /// The contract says of each status its cause, and what the input and the outputs are then; that there is one report on
-/// each command and input; that where the source tells its bytes and nothing fails, the answer is that report with its
-/// status, or want of memory; and that what `gdis` lists is assembled by `gasm`'s rules to the bytes that were listed.
+/// each command and input; that where the bytes that the command reads are told and nothing fails, the answer is that
+/// report with its status, or want of memory; and that what `gdis` lists is assembled by `gasm`'s rules to the bytes
+/// that were listed.
 #[tactic(auto, using(crate::proofs::Uniqueness::laws))]
 pub fn bench<S: Source, O: Sink, E: Sink>(
     alloc: Global,

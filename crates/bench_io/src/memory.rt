@@ -1,3 +1,5 @@
+//! A source and a sink in memory that fail where they are told to.
+
 ghost use Rattle.std.specs.Prelude.{◌≡◌, ◌⊎◌, ◌↔◌, ◌<◌, ◌≤◌, ◌+◌, ◌-◌, min, ℕ, List, [], ◌++◌, length, take, drop};
 ghost use Rattle.std.specs.Prelude.{vec_len, vec_capacity, Option};
 ghost use Rattle.std.specs.Prelude.{Some, IsErr, IfOk, OnOk, OnErr, Contains};
@@ -40,7 +42,8 @@ impl Model for MemSource {
 impl MemSource {
     /// A source of `bytes`, of which the calls whose numbers from 0 stand in `fails` fail.
     pub fn new(bytes: Vec<u8>, fails: Vec<u64>) -> Self
-        ensures { result ≡ record { left = bytes.items; calls = 0; taken = 0; empty = 0; fails = fails.items; faults = 0 } }
+        ensures { result
+            ≡ record { left = bytes.items; calls = 0; taken = 0; empty = 0; fails = fails.items; faults = 0 } }
     {
         MemSource {
             bytes,
@@ -129,13 +132,14 @@ impl Model for MemSink {
 }
 
 impl MemSink {
-    /// An empty sink with room for `room` bytes, of which the calls whose numbers from 0 stand in `fails` fail. It takes
-    /// the memory for all its room here, and none later.
+    /// An empty sink with room for `room` bytes, of which the calls whose numbers from 0 stand in `fails` fail. It
+    /// takes the memory for all its room here, and none later.
     ///
     /// # Errors
     /// `AllocError` is want of memory; `fails` is then given up.
     pub fn new(alloc: Global, room: usize, fails: Vec<u64>) -> Result<Self, AllocError>
-        ensures { IfOk result (λ sink. sink ≡ record { held = []; room = room; calls = 0; fails = fails.items; faults = 0 }) }
+        ensures { IfOk result
+            (λ sink. sink ≡ record { held = []; room = room; calls = 0; fails = fails.items; faults = 0 }) }
     {
         Ok(MemSink {
             bytes: Vec::with_capacity(alloc, room)?,
@@ -165,10 +169,13 @@ impl Sink for MemSink {
     ghost state = { λ s. record { held = Some s.held; puts = s.calls; faults = s.faults } };
 
     fn put(&mut self, bytes: &[u8]) -> Result<(), Failed>
-        ensures fails { IsErr result ↔ (Contains self.old.fails self.old.calls ⊎ (self.old.room < length self.old.held + length bytes.now)) }
-        ensures failed { OnErr result (self.new ≡ record self.old { calls = raised self.old.calls 1; faults = raised self.old.faults 1 }) }
+        ensures fails { IsErr result
+            ↔ (Contains self.old.fails self.old.calls ⊎ (self.old.room < length self.old.held + length bytes.now)) }
+        ensures failed { OnErr result
+            (self.new ≡ record self.old { calls = raised self.old.calls 1; faults = raised self.old.faults 1 }) }
         ensures cause { OnErr result (Rose self.old.faults self.new.faults) }
-        ensures ok { OnOk result (self.new ≡ record self.old { held = self.old.held ++ bytes.now; calls = raised self.old.calls 1 }) }
+        ensures ok { OnOk result
+            (self.new ≡ record self.old { held = self.old.held ++ bytes.now; calls = raised self.old.calls 1 }) }
     {
         let call = self.calls;
         self.calls = call.saturating_add(1);

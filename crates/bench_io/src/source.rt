@@ -1,3 +1,5 @@
+//! Where bytes come from.
+
 ghost use Rattle.std.specs.Prelude.{◌≡◌, ◌<◌, ◌≤◌, length, take, IfOk, OnErr};
 ghost use Rattle.count_defs.specs.Counts.{raised, Rose};
 ghost use Rattle.bench_io.specs.Stream.{SourceState, Gave, IsAtEnd, empty_calls};
@@ -6,8 +8,8 @@ use crate::Failed;
 
 /// Where bytes come from, one piece after the other.
 pub trait Source {
-    /// The bytes that are left, where the source tells them, and the counts of calls, of bytes given, of calls that gave
-    /// no byte, and of faults. No count falls.
+    /// The bytes that are left, where the source tells them, and the counts of calls, of bytes given, of calls that
+    /// gave no byte, and of faults. No count falls.
     ghost state: { Self → SourceState };
 
     /// Puts the next bytes into the front of `buffer` and says how many these are. 0 is the end. What stands in
@@ -28,7 +30,8 @@ pub trait Source {
         ensures taken { IfOk result (λ count. (state self.new).taken ≡ raised (state self.old).taken count) }
         ensures taken_failed { OnErr result ((state self.new).taken ≡ (state self.old).taken) }
 
-        ensures empty { IfOk result (λ count. (state self.new).empty ≡ raised (state self.old).empty (empty_calls count)) }
+        ensures empty { IfOk result
+            (λ count. (state self.new).empty ≡ raised (state self.old).empty (empty_calls count)) }
         ensures empty_failed { OnErr result ((state self.new).empty ≡ raised (state self.old).empty 1) }
 
         ensures faults { (state self.old).faults ≤ (state self.new).faults }

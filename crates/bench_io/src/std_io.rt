@@ -1,3 +1,5 @@
+//! A source and a sink over the readers and writers of std.
+
 ghost use Rattle.std.specs.Prelude.{◌≡◌, ◌<◌, ◌≤◌, length, None, IfOk, OnOk, OnErr};
 ghost use Rattle.count_defs.specs.Counts.{raised, Rose};
 ghost use Rattle.bench_io.specs.Stream.{AppendsFront, empty_calls};

@@ -1,3 +1,5 @@
+//! A source and a sink that never fail.
+
 ghost use Rattle.std.specs.Prelude.{◌≡◌, ◌<◌, ◌≤◌, ◌+◌, min, ℕ, List, [], ◌++◌, length, take, drop, vec_len, Option};
 ghost use Rattle.std.specs.Prelude.{Some, None, IsOk, IsOkAnd, IfOk};
 ghost use Rattle.count_defs.specs.Counts.{raised};

@@ -1,3 +1,5 @@
+//! A source that is read to its end.
+
 ghost use Rattle.std.specs.Prelude.{◌≡◌, ◌<◌, ◌≤◌, ◌+◌, ℕ, [], length, take, IfOk, IfErr, OnErr};
 ghost use Rattle.count_defs.specs.Counts.{raised, Rose};
 ghost use Rattle.bench_io.specs.ReadAll.{ReadWhole, GaveUp, Took};
@@ -45,8 +47,8 @@ const PIECE: usize = 4096;
 /// `limit + 1` calls of `take`, of which each but the last takes a byte or more.
 ///
 /// # Errors
-/// `TooLarge` comes exactly where more than `limit` bytes were taken, `Fault` only where the source's count of faults rose,
-/// and `Memory` is want of memory. What was taken before an error stays taken.
+/// `TooLarge` comes exactly where more than `limit` bytes were taken, `Fault` only where the source's count of faults
+/// rose, and `Memory` is want of memory. What was taken before an error stays taken.
 pub fn read_all<S: Source>(
     alloc: Global,
     source: &mut S,
@@ -57,7 +59,8 @@ pub fn read_all<S: Source>(
     ensures ok { IfOk result (λ bytes. ReadWhole limit (S.state source.old) (S.state source.new) bytes.items) }
     // `TooLarge` comes exactly where more than `limit` bytes were taken, and then one more were.
     ensures err { IfErr result (λ error. GaveUp error limit (S.state source.old) (S.state source.new)) }
-    ensures calls { (count : ℕ) × (count ≤ limit + 1) × ((S.state source.new).calls ≡ raised (S.state source.old).calls count) }
+    ensures calls { (count : ℕ) × (count ≤ limit + 1)
+        × ((S.state source.new).calls ≡ raised (S.state source.old).calls count) }
 {
     let mut bytes = Vec::new(alloc);
     let mut buffer = [0; PIECE];
@@ -80,7 +83,8 @@ fn take_once<S: Source>(source: &mut S, buffer: &mut [u8]) -> Result<usize, Fail
     requires { 0 < length buffer.old }
     ensures within { IfOk result (λ count. count ≤ length buffer.old) }
     ensures end { IfOk result (λ count. count ≡ 0 → IsAtEnd (S.state source.new).left) }
-    ensures took { IfOk result (λ count. Took (S.state source.old) (S.state source.new) (take count buffer.new) (empty_calls count)) }
+    ensures took { IfOk result
+        (λ count. Took (S.state source.old) (S.state source.new) (take count buffer.new) (empty_calls count)) }
     ensures failed { OnErr result (Took (S.state source.old) (S.state source.new) [] 1) }
     ensures cause { OnErr result (Rose (S.state source.old).faults (S.state source.new).faults) }
 {

@@ -1,3 +1,5 @@
+//! Pieces that are written to a sink.
+
 ghost use Rattle.std.specs.Prelude.{[], ◌∷◌};
 ghost use Rattle.bench_io.specs.Written.{Written};
 

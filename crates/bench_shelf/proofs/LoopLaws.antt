@@ -81,6 +81,9 @@ later_then a b c first then = record {
   faults = omega (arith, first.faults, then.faults);
   misses = omega (arith, first.misses, then.misses);
   taken = omega (arith, first.taken, then.taken);
+  calls = omega (arith, first.calls, then.calls);
+  empty = omega (arith, first.empty, then.empty);
+  largest = omega (arith, first.largest, then.largest);
 }
 
 -- the lines that were taken so far, and those that are left of a text
@@ -109,4 +112,12 @@ pub counts_grow : (text : List ℕ) (old now : Copying) (s t : ShelfState) (left
 counts_grow text old now s t left counts once = record { held = counts.held; copies = once.copies; few = omega (arith, counts.few) }
 
 pub later_first : (a : ShelfState) → Later a a
-later_first a = record { files = refl; faults = omega arith; misses = omega arith; taken = omega arith }
+later_first a = record {
+  files = refl;
+  faults = omega arith;
+  misses = omega arith;
+  taken = omega arith;
+  calls = omega arith;
+  empty = omega arith;
+  largest = omega arith;
+}

@@ -10,6 +10,8 @@ pub record Folder : Type 0 where
   pub is_open : Bool
   pub calls : ℕ
   pub taken : ℕ
+  pub given : ℕ
+  pub largest : ℕ
   pub empty : ℕ
   pub faults : ℕ
   pub misses : ℕ
@@ -26,15 +28,17 @@ untold folder =
             empty = folder.empty;
             faults = folder.faults;
           };
+      given = folder.given;
+      largest = folder.largest;
       misses = folder.misses;
       files = None;
     }
 
 -- Behind Ok a file is open. Where opening one is refused, none is, and the count of faults or that of misses has risen
--- by one.
+-- by one. Nothing was given yet of what was opened last.
 abbrev pub OpensFrom : {A : Type 0} → Folder → Result A OpenError → Folder → Type 0
-OpensFrom before (Ok _) after = after ≡ record before { is_open = true }
+OpensFrom before (Ok _) after = after ≡ record before { is_open = true; given = 0 }
 OpensFrom before (Err Failed) after =
-    Rose before.faults after.faults × (after ≡ record before { is_open = false; faults = raised before.faults 1 })
+    Rose before.faults after.faults × (after ≡ record before { is_open = false; given = 0; faults = raised before.faults 1 })
 OpensFrom before (Err Missing) after =
-    Rose before.misses after.misses × (after ≡ record before { is_open = false; misses = raised before.misses 1 })
+    Rose before.misses after.misses × (after ≡ record before { is_open = false; given = 0; misses = raised before.misses 1 })

@@ -34,10 +34,10 @@ IsWithin rest None = ⊥
 abbrev pub OpensIn : {A : Type 0} → Shelved → List ℕ → Result A OpenError → Shelved → Type 0
 OpensIn before name (Ok _) after =
     (bytes : List ℕ) × (bytes_of before.files name ≡ Some bytes) × (Contains before.fails before.requests → ⊥)
-    × (after ≡ record before { left = bytes; requests = raised before.requests 1 })
+    × (after ≡ record before { left = bytes; given = 0; requests = raised before.requests 1 })
 OpensIn before name (Err Failed) after =
     Contains before.fails before.requests × Rose before.faults after.faults
-    × (after ≡ record before { left = []; requests = raised before.requests 1; faults = raised before.faults 1 })
+    × (after ≡ record before { left = []; given = 0; requests = raised before.requests 1; faults = raised before.faults 1 })
 OpensIn before name (Err Missing) after =
     (bytes_of before.files name ≡ None) × (Contains before.fails before.requests → ⊥) × Rose before.misses after.misses
-    × (after ≡ record before { left = []; requests = raised before.requests 1; misses = raised before.misses 1 })
+    × (after ≡ record before { left = []; given = 0; requests = raised before.requests 1; misses = raised before.misses 1 })

@@ -21,6 +21,11 @@ abbrev pub Refuses : OpenError → ShelfState → ShelfState → List ℕ → Ty
 Refuses Failed before after name = Rose before.source.faults after.source.faults
 Refuses Missing before after name = Rose before.misses after.misses × IsMissing before.files name
 
+-- of the file that was opened no bytes were given yet, nor were any of one that was refused
+pub record StartsAnew (before after : ShelfState) : Type 0 where
+  pub given : after.given ≡ 0
+  pub largest : after.largest ≡ before.largest
+
 -- the counts of a source other than that of faults stand as before
 pub record SameCounts (before after : SourceState) : Type 0 where
   pub calls : after.calls ≡ before.calls

@@ -4,22 +4,28 @@ use Rattle.std.specs.FinMap.{from_entries}
 use Rattle.bench_io.specs.Stream.{SourceState}
 use Rattle.shelf_defs.specs.Files.{Files}
 
--- A shelf: what is left of the open file, with the counts of a source; how often a name was not among the files; and
--- the files, where the shelf tells them.
+-- A shelf: what is left of the open file, with the counts of a source; how many bytes were given of the file that was
+-- opened last, since then, which are 0 where none was; the most bytes that were given of one opening; how often a name
+-- was not among the files; and the files, where the shelf tells them.
 pub record ShelfState : Type 0 where
   pub source : SourceState
+  pub given : ℕ
+  pub largest : ℕ
   pub misses : ℕ
   pub files : Option Files
 
 -- A shelf in memory: its files by name, where the first of equal names counts; what is left of the open one; the number
--- of calls of `open_file` and `take` together, and of calls of `take` alone; the bytes given; the calls of `take` that
--- gave none; the numbers from 0 of the calls that fail; and how many have failed, and how many names were missing.
+-- of calls of `open_file` and `take` together, and of calls of `take` alone; the bytes given in all, those given of the
+-- file that was opened last, and the most that were given of one opening; the calls of `take` that gave none; the
+-- numbers from 0 of the calls that fail; and how many have failed, and how many names were missing.
 pub record Shelved : Type 0 where
   pub files : List (List ℕ × List ℕ)
   pub left : List ℕ
   pub requests : ℕ
   pub calls : ℕ
   pub taken : ℕ
+  pub given : ℕ
+  pub largest : ℕ
   pub empty : ℕ
   pub fails : List ℕ
   pub faults : ℕ
@@ -41,6 +47,8 @@ told shelf =
             empty = shelf.empty;
             faults = shelf.faults;
           };
+      given = shelf.given;
+      largest = shelf.largest;
       misses = shelf.misses;
       files = Some (by_name shelf.files);
     }

@@ -1,6 +1,6 @@
 //! A source with the files that it copies as a module.
 
-ghost use Rattle.std.specs.Prelude.{◌≡◌, ◌≤◌, ◌+◌, ◌*◌, Ok, IfSome, IfOk, IfErr, length};
+ghost use Rattle.std.specs.Prelude.{◌≡◌, ◌≤◌, ◌+◌, ◌*◌, Ok, IfSome, IfOk, IfErr, OnOk, length};
 ghost use Rattle.count_defs.specs.Counts.{raised};
 ghost use Rattle.ended_lines.specs.Texts.{text_of};
 ghost use Rattle.module_defs.specs.Modules.{module_of_source};
@@ -8,7 +8,7 @@ ghost use Rattle.object_tags.specs.Seen.{defined_module};
 ghost use Rattle.shelf_defs.specs.Copied.{copied, most_bytes, most_copies};
 ghost use Rattle.shelf_defs.specs.Assembly.{texts, module_of_files};
 ghost use Rattle.bench_shelf.specs.CopyAnswers.{GivesCopied};
-ghost use Rattle.bench_shelf.specs.Causes.{Later, ShelfCauses};
+ghost use Rattle.bench_shelf.specs.Causes.{Later, ShelfCauses, TookNoMore};
 ghost use Rattle.bench_shelf.specs.KeptLines.{IsOfLines};
 
 use crate::copy_error::CopyError;
@@ -22,16 +22,16 @@ const DEEPEST: u32 = 4;
 
 /// Assembles a source of at most 1,048,576 bytes with the files of a shelf that it copies. Where the shelf tells its
 /// files, the module is that of the copied lines, each with a carriage return and a line feed behind it. Lines behind
-/// the first END line of any file are not read. Each file is read once for each line that copies it, and no more than
-/// one byte past the 262,144 bytes that it may have.
+/// the first END line of any file are not read. In all no more bytes are taken than one more than the 262,144 that a file
+/// may have, for each of the 64 lines that may copy one.
 ///
 /// # Errors
 /// `At` carries the first line that is refused, in the order in which the lines are copied: because it cannot be copied
 /// or by the first checks; else the first that the second checks refuse. Where the shelf tells its files it comes
-/// exactly where there is one. `Missing` comes only where the shelf's count of misses rose. `TooLarge` comes only where
-/// more than 262,144 bytes of a file were taken, and where the shelf tells its files exactly where a file that is
-/// copied has more. `Fault` comes only where the shelf's count of faults rose, and `Memory` is want of memory. What the
-/// shelf gave before an error stays taken.
+/// exactly where there is one. `Missing` comes only where the shelf's count of misses rose. `TooLarge` comes exactly
+/// where more than 262,144 bytes of one file were taken, which is the last that was opened, and where the shelf tells its
+/// files exactly where a file that is copied has more. `Fault` comes only where the shelf's count of faults rose, and
+/// `Memory` is want of memory. What the shelf gave before an error stays taken.
 pub fn copy_assemble<F: Shelf>(
     alloc: Global,
     shelf: &mut F,
@@ -44,6 +44,8 @@ pub fn copy_assemble<F: Shelf>(
     // Also where the shelf tells no files.
     ensures lines { IfOk result (λ found. IsOfLines (defined_module found)) }
     ensures causes { IfErr result (λ error. ShelfCauses error (F.state shelf.old) (F.state shelf.new)) }
+    // Behind Ok too no more bytes of one file were taken than it may have.
+    ensures within { OnOk result (TookNoMore most_bytes (F.state shelf.old) (F.state shelf.new)) }
     ensures later { Later (F.state shelf.old) (F.state shelf.new) }
     ensures taken { (F.state shelf.new).source.taken
         ≤ raised (F.state shelf.old).source.taken ((most_bytes + 1) * most_copies) }

@@ -3,17 +3,18 @@
 ghost use Rattle.std.specs.Prelude.{◌≡◌, OnOk, IfSome, IfErr, length};
 ghost use Rattle.source_defs.specs.Layout.{line_texts};
 ghost use Rattle.shelf_defs.specs.Copied as spec;
+ghost use Rattle.shelf_defs.specs.Copied.{most_bytes};
 ghost use Rattle.asm_core.specs.Building.{IsOpen};
 ghost use Rattle.bench_shelf.specs.CopyAnswers.{defined_place};
 ghost use Rattle.bench_shelf.specs.Leading.{Leads, HasRoom, Grows, trouble};
-ghost use Rattle.bench_shelf.specs.Causes.{Later, ShelfCauses, ReadsOnce};
+ghost use Rattle.bench_shelf.specs.Causes.{Later, ShelfCauses, ReadsOnce, TookNoMore};
 ghost use Rattle.bench_shelf.specs.KeptLines.{KeepsLines};
 
+use crate::copied_file::read_copied;
 use crate::copy_error::{CopyCause, CopyError};
 use crate::copy_line::{Asked, asked_by};
 use crate::copying::Copying;
 use crate::file_name::FileName;
-use crate::named_file::read_named;
 use crate::place::Place;
 use crate::shelf::Shelf;
 use asm_text::{lines, part};
@@ -42,6 +43,7 @@ impl Copying {
             (spec.lines_in (spec.copy_line files levels) file.now self.old.copies (line_texts text.now))
             (trouble result) self.new) }
         ensures causes { IfErr result (λ error. ShelfCauses error (F.state shelf.old) (F.state shelf.new)) }
+        ensures within { OnOk result (TookNoMore most_bytes (F.state shelf.old) (F.state shelf.new)) }
         ensures later { Later (F.state shelf.old) (F.state shelf.new) }
         ensures grows { OnOk result (Grows (length text.now) self.old self.new) }
         ensures once { ReadsOnce self.old self.new (F.state shelf.old) (F.state shelf.new) }
@@ -78,6 +80,7 @@ impl Copying {
             (spec.one_line (spec.copy_line files levels) (defined_place place) self.old.copies text.now)
             (trouble result) self.new) }
         ensures causes { IfErr result (λ error. ShelfCauses error (F.state shelf.old) (F.state shelf.new)) }
+        ensures within { OnOk result (TookNoMore most_bytes (F.state shelf.old) (F.state shelf.new)) }
         ensures later { Later (F.state shelf.old) (F.state shelf.new) }
         ensures grows { OnOk result (Grows 1 self.old self.new) }
         ensures once { ReadsOnce self.old self.new (F.state shelf.old) (F.state shelf.new) }
@@ -104,6 +107,7 @@ impl Copying {
         ensures leads { IfSome (F.state shelf.old).files (λ files. Leads self.old
             (spec.copy_line files levels (defined_place place) self.old.copies name) (trouble result) self.new) }
         ensures causes { IfErr result (λ error. ShelfCauses error (F.state shelf.old) (F.state shelf.new)) }
+        ensures within { OnOk result (TookNoMore most_bytes (F.state shelf.old) (F.state shelf.new)) }
         ensures later { Later (F.state shelf.old) (F.state shelf.new) }
         ensures grows { OnOk result (Grows 1 self.old self.new) }
         ensures once { ReadsOnce self.old self.new (F.state shelf.old) (F.state shelf.new) }
@@ -116,7 +120,7 @@ impl Copying {
             return Err(place.refused(CopyCause::TooMany));
         }
         self.copies += 1;
-        let bytes = match read_named(self.alloc, shelf, place, &name) {
+        let bytes = match read_copied(self.alloc, shelf, place, &name) {
             Ok(bytes) => bytes,
             Err(error) => return Err(error),
         };

@@ -1,6 +1,6 @@
 //! The current folder as a shelf.
 
-ghost use Rattle.std.specs.Prelude.{◌≡◌, ◌<◌, ◌≤◌, length, false, is_some, IfOk, OnErr};
+ghost use Rattle.std.specs.Prelude.{◌≡◌, ◌<◌, ◌≤◌, max, length, false, is_some, IfOk, OnErr};
 ghost use Rattle.count_defs.specs.Counts.{raised, Rose};
 ghost use Rattle.bench_io.specs.Stream.{empty_calls};
 ghost use Rattle.bench_shelf.specs.FolderShelf.{untold, OpensFrom};
@@ -25,6 +25,8 @@ pub struct DirShelf<'a, R: Files> {
     file: Option<R::File>,
     calls: u64,
     taken: u64,
+    given: u64,
+    largest: u64,
     empty: u64,
     faults: u64,
     misses: u64,
@@ -40,6 +42,8 @@ impl<'a, R: Files> Model for DirShelf<'a, R> {
       is_open = is_some s.file;
       calls = s.calls;
       taken = s.taken;
+      given = s.given;
+      largest = s.largest;
       empty = s.empty;
       faults = s.faults;
       misses = s.misses;
@@ -49,13 +53,24 @@ impl<'a, R: Files> Model for DirShelf<'a, R> {
 impl<'a, R: Files> DirShelf<'a, R> {
     /// The current folder of a runtime, of which no file is open.
     pub fn new(folder: &'a R) -> DirShelf<'a, R>
-        ensures { result ≡ record { is_open = false; calls = 0; taken = 0; empty = 0; faults = 0; misses = 0 } }
+        ensures { result ≡ record {
+          is_open = false;
+          calls = 0;
+          taken = 0;
+          given = 0;
+          largest = 0;
+          empty = 0;
+          faults = 0;
+          misses = 0;
+        } }
     {
         DirShelf {
             folder,
             file: None,
             calls: 0,
             taken: 0,
+            given: 0,
+            largest: 0,
             empty: 0,
             faults: 0,
             misses: 0,
@@ -69,6 +84,8 @@ impl<'a, R: Files> DirShelf<'a, R> {
         ensures ok { IfOk result (λ count. self.new ≡ record self.old {
           calls = raised self.old.calls 1;
           taken = raised self.old.taken count;
+          given = raised self.old.given count;
+          largest = max self.old.largest (raised self.old.given count);
           empty = raised self.old.empty (empty_calls count);
         }) }
         ensures error { OnErr result (self.new ≡ record self.old {
@@ -81,6 +98,8 @@ impl<'a, R: Files> DirShelf<'a, R> {
         match take_from(&mut self.file, buffer) {
             Ok(count) => {
                 self.taken = self.taken.saturating_add(count as u64);
+                self.given = self.given.saturating_add(count as u64);
+                self.largest = self.largest.max(self.given);
                 if count == 0 {
                     self.empty = self.empty.saturating_add(1);
                 }
@@ -104,6 +123,7 @@ impl<'a, R: Files> Shelf for DirShelf<'a, R> {
         ensures { OpensFrom self.old result self.new }
     {
         self.file = None;
+        self.given = 0;
         match regular_file(self.folder, name.as_bytes()) {
             Ok(Some(file)) => {
                 self.file = Some(file);
@@ -137,7 +157,7 @@ fn take_from<F: Read>(file: &mut Option<F>, buffer: &mut [u8]) -> io::Result<usi
 }
 
 /// The regular file of a name, where there is one. What was opened is the file that was found to be regular, or else it
-/// is none.
+/// is none, also where its entry is gone by then.
 fn regular_file<R: Files>(folder: &R, name: &[u8]) -> io::Result<Option<R::File>> {
     let Ok(name) = str::from_utf8(name) else {
         return Ok(None);
@@ -150,7 +170,11 @@ fn regular_file<R: Files>(folder: &R, name: &[u8]) -> io::Result<Option<R::File>
     if !found.is_file() {
         return Ok(None);
     }
-    let file = File::open(folder, name)?;
+    let file = match File::open(folder, name) {
+        Ok(file) => file,
+        Err(error) if error.kind() == ErrorKind::NotFound => return Ok(None),
+        Err(error) => return Err(error),
+    };
     let opened = file.metadata()?;
     if opened.dev() == found.dev() && opened.ino() == found.ino() {
         Ok(Some(file))

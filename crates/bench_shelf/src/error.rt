@@ -1,4 +1,4 @@
-//! Why a file is not opened.
+//! Why a file is not opened, or not read.
 
 /// Why a shelf did not open a file.
 #[derive(Clone, Copy, Debug, PartialEq, Eq)]
@@ -7,4 +7,17 @@ pub enum OpenError {
     Failed,
     /// It has no file of that name. Its count of misses has risen.
     Missing,
+}
+
+/// Why the file of a name was not read.
+#[derive(Clone, Copy, Debug, PartialEq, Eq)]
+pub enum FileError {
+    /// The shelf has no file of that name. Its count of misses has risen.
+    Missing,
+    /// The file has more bytes than its limit, of which one more was taken.
+    TooLarge,
+    /// The shelf failed. Its count of faults has risen.
+    Fault,
+    /// Memory was wanting.
+    Memory,
 }

@@ -2,6 +2,7 @@
 #![tactic(auto)]
 
 mod assemble;
+mod copied_file;
 mod copied_lines;
 mod copy_error;
 mod copy_line;
@@ -21,9 +22,10 @@ mod whole;
 pub use crate::assemble::copy_assemble;
 pub use crate::copy_error::{CopyCause, CopyError};
 pub use crate::directory::DirShelf;
-pub use crate::error::OpenError;
+pub use crate::error::{FileError, OpenError};
 pub use crate::file_name::FileName;
 pub use crate::memory::MemShelf;
+pub use crate::named_file::read_named;
 pub use crate::shelf::Shelf;
 pub use crate::whole::read_file;
 pub use bench_io::{Failed, ReadError};

@@ -1,6 +1,6 @@
 //! A shelf in memory.
 
-ghost use Rattle.std.specs.Prelude.{◌≡◌, ◌↔◌, ◌<◌, ◌≤◌, min, [], ◌++◌, length, take, drop, true, false};
+ghost use Rattle.std.specs.Prelude.{◌≡◌, ◌↔◌, ◌<◌, ◌≤◌, min, max, [], ◌++◌, length, take, drop, true, false};
 ghost use Rattle.std.specs.Prelude.{IsErr, IfOk, OnOk, OnErr, IfErr, Contains, is_some, Option};
 ghost use Rattle.std.specs.Option.{option_map, unwrap_or};
 ghost use Rattle.count_defs.specs.Counts.{raised, Rose};
@@ -26,6 +26,9 @@ pub struct MemShelf {
     requests: u64,
     calls: u64,
     taken: u64,
+    // How many bytes were given since a file was opened last, and the most of one opening.
+    given: u64,
+    largest: u64,
     empty: u64,
     fails: Vec<u64>,
     faults: u64,
@@ -44,6 +47,8 @@ impl Model for MemShelf {
       requests = s.requests;
       calls = s.calls;
       taken = s.taken;
+      given = s.given;
+      largest = s.largest;
       empty = s.empty;
       fails = s.fails.items;
       faults = s.faults;
@@ -63,6 +68,8 @@ impl MemShelf {
           requests = 0;
           calls = 0;
           taken = 0;
+          given = 0;
+          largest = 0;
           empty = 0;
           fails = fails.items;
           faults = 0;
@@ -76,6 +83,8 @@ impl MemShelf {
             requests: 0,
             calls: 0,
             taken: 0,
+            given: 0,
+            largest: 0,
             empty: 0,
             fails,
             faults: 0,
@@ -107,12 +116,13 @@ impl MemShelf {
         self.fails.contains(&request)
     }
 
-    /// Closes the open file.
+    /// Closes the open file. Of the one that is opened next no bytes were given yet.
     fn close(&mut self)
-        ensures { self.new ≡ record self.old { left = [] } }
+        ensures { self.new ≡ record self.old { left = []; given = 0 } }
     {
         self.current = None;
         self.rest = 0;
+        self.given = 0;
     }
 
     /// Opens the file of a name and says whether there is one.
@@ -138,11 +148,15 @@ impl MemShelf {
         ensures { self.new ≡ record self.old {
           left = drop count self.old.left;
           taken = raised self.old.taken count;
+          given = raised self.old.given count;
+          largest = max self.old.largest (raised self.old.given count);
           empty = raised self.old.empty (empty_calls count);
         } }
     {
         self.rest -= count;
         self.taken = self.taken.saturating_add(count as u64);
+        self.given = self.given.saturating_add(count as u64);
+        self.largest = self.largest.max(self.given);
         if count == 0 {
             self.empty = self.empty.saturating_add(1);
         }
@@ -198,6 +212,8 @@ impl Shelf for MemShelf {
           requests = raised self.old.requests 1;
           calls = raised self.old.calls 1;
           taken = raised self.old.taken count;
+          given = raised self.old.given count;
+          largest = max self.old.largest (raised self.old.given count);
           empty = raised self.old.empty (empty_calls count);
         }) }
     {

@@ -4,8 +4,8 @@ ghost use Rattle.std.specs.Prelude.{◌≡◌, ◌<◌, ◌≤◌, length, take,
 ghost use Rattle.count_defs.specs.Counts.{raised, Rose};
 ghost use Rattle.bench_io.specs.Stream.{Gave, IsAtEnd, empty_calls};
 ghost use Rattle.bench_shelf.specs.States.{ShelfState};
-ghost use Rattle.bench_shelf.specs.Opening.{Opens, Refuses, SameCounts};
-ghost use Rattle.bench_shelf.specs.Reading.{SameFiles};
+ghost use Rattle.bench_shelf.specs.Opening.{Opens, Refuses, SameCounts, StartsAnew};
+ghost use Rattle.bench_shelf.specs.Reading.{SameFiles, GaveMore, GaveNoMore};
 
 use crate::error::OpenError;
 use crate::file_name::FileName;
@@ -14,8 +14,10 @@ use bench_io::Failed;
 /// Files by name, of which one at a time is open and read piece by piece.
 pub trait Shelf {
     /// What is left of the open file, where the shelf tells that; the counts of calls of `take`, of bytes given, of
-    /// calls that gave no byte, of faults and of names that were missing; and the files, where the shelf tells them.
-    /// No count falls, and no call changes the files.
+    /// calls that gave no byte, of faults and of names that were missing; how many bytes were given of the file that was
+    /// opened last, since then, and the most that were given of one opening; and the files, where the shelf tells them.
+    /// No count falls but that of the bytes of the file opened last, which starts anew where one is opened, and no call
+    /// changes the files.
     ghost state: { Self → ShelfState };
 
     /// Opens a file in place of the one that was open. Its bytes are then left for `take`.
@@ -29,6 +31,8 @@ pub trait Shelf {
         ensures end { OnErr result (IsAtEnd (state self.new).source.left) }
 
         ensures counts { SameCounts (state self.old).source (state self.new).source }
+        // Also where the call is refused.
+        ensures anew { StartsAnew (state self.old) (state self.new) }
         ensures faults { (state self.old).source.faults ≤ (state self.new).source.faults }
         ensures misses { (state self.old).misses ≤ (state self.new).misses }
         ensures files { (state self.new).files ≡ (state self.old).files };
@@ -52,6 +56,9 @@ pub trait Shelf {
         ensures taken { IfOk result (λ count.
             (state self.new).source.taken ≡ raised (state self.old).source.taken count) }
         ensures taken_failed { OnErr result ((state self.new).source.taken ≡ (state self.old).source.taken) }
+
+        ensures given { IfOk result (λ count. GaveMore count (state self.old) (state self.new)) }
+        ensures given_failed { OnErr result (GaveNoMore (state self.old) (state self.new)) }
 
         ensures empty { IfOk result (λ count.
             (state self.new).source.empty ≡ raised (state self.old).source.empty (empty_calls count)) }

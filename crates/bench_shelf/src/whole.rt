@@ -4,7 +4,7 @@ ghost use Rattle.std.specs.Prelude.{◌≡◌, ◌<◌, ◌≤◌, ◌+◌, ℕ,
 ghost use Rattle.count_defs.specs.Counts.{raised, Rose};
 ghost use Rattle.bench_io.specs.ReadAll.{ReadWhole, GaveUp, Took};
 ghost use Rattle.bench_io.specs.Stream.{IsAtEnd, empty_calls};
-ghost use Rattle.bench_shelf.specs.Reading.{SameFiles};
+ghost use Rattle.bench_shelf.specs.Reading.{SameFiles, GaveMore, GaveNoMore, GaveBefore};
 
 use crate::shelf::Shelf;
 use bench_io::{Failed, ReadError};
@@ -28,6 +28,9 @@ pub fn read_file<F: Shelf>(alloc: Global, shelf: &mut F, limit: usize) -> Result
     ensures err { IfErr result (λ error. GaveUp error limit (F.state shelf.old).source (F.state shelf.new).source) }
     ensures calls { (count : ℕ) × (count ≤ limit + 1)
         × ((F.state shelf.new).source.calls ≡ raised (F.state shelf.old).source.calls count) }
+    // All of it is counted as given of the open file.
+    ensures given { IfOk result (λ bytes. GaveMore (length bytes.items) (F.state shelf.old) (F.state shelf.new)) }
+    ensures given_before { IfErr result (λ error. GaveBefore error limit (F.state shelf.old) (F.state shelf.new)) }
     ensures same { SameFiles (F.state shelf.old) (F.state shelf.new) }
 {
     let mut bytes = Vec::new(alloc);
@@ -55,6 +58,8 @@ fn take_once<F: Shelf>(shelf: &mut F, buffer: &mut [u8]) -> Result<usize, Failed
         Took (F.state shelf.old).source (F.state shelf.new).source (take count buffer.new) (empty_calls count)) }
     ensures failed { OnErr result (Took (F.state shelf.old).source (F.state shelf.new).source [] 1) }
     ensures cause { OnErr result (Rose (F.state shelf.old).source.faults (F.state shelf.new).source.faults) }
+    ensures given { IfOk result (λ count. GaveMore count (F.state shelf.old) (F.state shelf.new)) }
+    ensures given_failed { OnErr result (GaveNoMore (F.state shelf.old) (F.state shelf.new)) }
     ensures same { SameFiles (F.state shelf.old) (F.state shelf.new) }
 {
     shelf.take(buffer)

@@ -43,8 +43,8 @@ const RUNS: &[(&[&[u8]], &[u8], Status, u64)] = &[
     (&[b"demo", b"1"], b"", Status::Done, 0),
 ];
 
-/// Whether a call of `take` that fails is a read fault with nothing written, whichever of so many it is, and it makes no
-/// further call.
+/// Whether a call of `take` that fails is a read fault with nothing written, whichever of so many it is, and it makes
+/// no further call.
 fn each_take_fails(
     alloc: Global,
     words: &[&[u8]],

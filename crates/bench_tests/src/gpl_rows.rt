@@ -5,8 +5,8 @@ use report_defs::Status;
 use std::alloc::{AllocError, Global};
 use std::test::Fail;
 
-/// What the rows of a program have in common, the statements of the program, and the first lines of the report. Statements in
-/// one line are apart by semicolons; EXIT follows the last.
+/// What the rows of a program have in common, the statements of the program, and the first lines of the report.
+/// Statements in one line are apart by semicolons; EXIT follows the last.
 const ROWS: &[(&str, &[&[u8]], &[&[u8]])] = &[
     (
         "sums of bytes",

@@ -5,7 +5,8 @@ use report_defs::Status;
 use std::alloc::{AllocError, Global};
 use std::test::Fail;
 
-/// The first lines of the listing: GBOOT; then GBOOT, GSTEP, GSTOP, GEXIT and the first entries of the table by code byte.
+/// The first lines of the listing: GBOOT; then GBOOT, GSTEP, GSTOP, GEXIT and the first entries of the table by code
+/// byte.
 const FRONT: &[u8] = b"entry >2274\n>2000 2274 228C 22B8 22BA 26E6 26E6 2762 22AE\n\
       >2010 286A 24B0 26A4 2848 22AE 25F0 25FA 24C0\n";
 

@@ -23,8 +23,8 @@ pub(crate) const CARTRIDGE: &[u8] =
 ;SHOW CASE @COUNT; BR NONE; BR ONE; BR TWO; BR THREE;THREE MOVE 5,V@0,G@HELLO; RTN;TWO ST V@>0021,@COUNT; RTN\
 ;ONE ADD @SUM,>7F; RTN;NONE RTN; END START";
 
-/// What a trace shows: a name, the words behind `trace`, the statements of a source (apart by semicolons, each behind its
-/// label's column), the first lines of the report, and the status.
+/// What a trace shows: a name, the words behind `trace`, the statements of a source (apart by semicolons, each behind
+/// its label's column), the first lines of the report, and the status.
 const TRACES: &[(&str, &[u8], &[u8], &[&[u8]], Status)] = &[
     (
         "a subroutine in the last bytes of a GROM",

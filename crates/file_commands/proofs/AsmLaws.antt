@@ -1,16 +1,17 @@
 -- The report of a source with the files that it copies.
-use Rattle.std.proofs.Common.{◌≡◌, ℕ, List, Some, None, Ok, Err, sym, ap}
-use Rattle.std.specs.Prelude.{Option, Result, IfSome, IfOk}
+use Rattle.std.proofs.Common.{◌≡◌, ℕ, List, Some, None, Ok, Err, sym, ap, subst}
+use Rattle.std.specs.Prelude.{Option, Result, IfSome, IfOk, IfErr}
 use Rattle.source_defs.specs.Refusals.{seen}
 use Rattle.object_defs.specs.Writing.{written}
 use Rattle.object_tags.specs.Seen.{defined_module}
 use Rattle.object_tags.specs.declared.parts.Module.{Module}
 use Rattle.shelf_defs.specs.Files.{Files}
 use Rattle.shelf_defs.specs.Copied as copied
+use Rattle.shelf_defs.specs.Copied.{most_bytes}
 use Rattle.shelf_defs.specs.Assembly.{module_of_files}
 use Rattle.bench_shelf.specs.States.{ShelfState}
 use Rattle.bench_shelf.specs.CopyAnswers.{GivesCopied, CopyRefuses, defined_cause}
-use Rattle.bench_shelf.specs.Causes.{ShelfCauses}
+use Rattle.bench_shelf.specs.Causes.{ShelfCauses, TookNoMore}
 use Rattle.bench_shelf.specs.KeptLines.{IsOfLines}
 use Rattle.bench_shelf.specs.declared.copy_error.CopyCause.{CopyCause}
 use Rattle.bench_shelf.specs.declared.copy_error.CopyCause.TheVariants.{Asm, BadCopy, TooDeep, TooMany, Missing}
@@ -22,9 +23,10 @@ use Rattle.report_defs.specs.Report.{Whole}
 use Rattle.file_report_defs.specs.Reports.{copy_report}
 use Rattle.file_commands.specs.declared.report.FilesReport.{FilesReport}
 use Rattle.file_commands.specs.declared.report.FilesFailure.{FilesFailure}
+use Rattle.file_commands.specs.declared.report.FilesFailure.TheVariants as failure
 use Rattle.file_commands.specs.Made.{defined_report}
 use Rattle.file_commands.specs.Copying.{copy_refusal}
-use Rattle.file_commands.specs.Reported.{CopyCauses, CopyReported}
+use Rattle.file_commands.specs.Reported.{CopyCauses, CopyReported, FailureCauses}
 
 module _ (before after : ShelfState) (source : List ℕ) where
   told_module : (told : Option Files) (found : Module)
@@ -35,12 +37,12 @@ module _ (before after : ShelfState) (source : List ℕ) where
 
   pub module_reported : (found : Module) (text : List ℕ)
       → IfSome before.files (λ files. GivesCopied (Ok found) (module_of_files files source))
-      → IsOfLines (defined_module found) → text ≡ written (defined_module found)
+      → IsOfLines (defined_module found) → TookNoMore most_bytes before after → text ≡ written (defined_module found)
       → CopyReported before after source (Whole Done (text_lines text))
-  module_reported found text gives lines is = record {
+  module_reported found text gives lines within is = record {
     answer = Ok (defined_module found);
     told = told_module before.files found gives;
-    causes = lines;
+    causes = (lines, within);
     is = ap (λ text. Whole Done (text_lines text)) is;
   }
 
@@ -52,10 +54,10 @@ module _ (before after : ShelfState) (source : List ℕ) where
 
   line_causes : (file : Option (List ℕ)) (line : ℕ) (cause : CopyCause) → ShelfCauses (At file line cause) before after
       → CopyCauses (Err (copied.At (record { file = file; line = line }) (defined_cause cause))) before after
-  line_causes file line (Asm cause) causes = tt
-  line_causes file line BadCopy causes = tt
-  line_causes file line TooDeep causes = tt
-  line_causes file line TooMany causes = tt
+  line_causes file line (Asm cause) causes = causes
+  line_causes file line BadCopy causes = causes
+  line_causes file line TooDeep causes = causes
+  line_causes file line TooMany causes = causes
   line_causes file line (Missing name) causes = causes
 
   told_large : (told : Option Files) → IfSome told (λ files. CopyRefuses TooLarge (module_of_files files source))
@@ -82,3 +84,17 @@ module _ (before after : ShelfState) (source : List ℕ) where
   }
   error_reported Fault (Ok report) gives causes is = cc is
   error_reported Memory (Ok report) gives causes is = cc is
+
+  -- why nothing is reported
+  pub error_failed : (error : CopyError) (result : Result FilesReport FilesFailure) → ShelfCauses error before after
+      → seen defined_report result ≡ seen (λ refusal. copy_report (Err refusal)) (copy_refusal error)
+      → IfErr result (λ failure. FailureCauses most_bytes failure before after)
+  error_failed error (Ok report) causes is = tt
+  error_failed (At file line cause) (Err found) causes is = cc is
+  error_failed TooLarge (Err found) causes is = cc is
+  error_failed Fault (Err found) causes is =
+      let same : failure.Fault ≡ found = cc is in
+      subst (λ found. FailureCauses most_bytes found before after) same causes
+  error_failed Memory (Err found) causes is =
+      let same : failure.Memory ≡ found = cc is in
+      subst (λ found. FailureCauses most_bytes found before after) same causes

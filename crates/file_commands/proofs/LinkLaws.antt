@@ -1,10 +1,11 @@
 -- The report of files that are linked.
-use Rattle.std.proofs.Common.{◌≡◌, ℕ, List, [], ◌∷◌, Some, None, Ok, Err, refl, sym, ap, ◌∙◌}
-use Rattle.std.specs.Prelude.{Option, Result, IfSome, IfOk, map}
+use Rattle.std.proofs.Common.{◌≡◌, ℕ, List, [], ◌∷◌, Some, None, Ok, Err, refl, sym, ap, subst, ◌∙◌}
+use Rattle.std.specs.Prelude.{Option, Result, IfSome, IfOk, IfErr, map}
 use Rattle.source_defs.specs.Refusals.{seen}
 use Rattle.shelf_defs.specs.Files.{Files}
 use Rattle.bench_shelf.specs.States.{ShelfState}
-use Rattle.report_defs.specs.Report.{Report}
+use Rattle.bench_shelf.specs.Causes.{TookNoMore}
+use Rattle.report_defs.specs.Report.{Report, largest_input}
 use Rattle.file_report_defs.specs.LinkedFiles as spec
 use Rattle.file_report_defs.specs.LinkedFiles.{FilesRefusal, read_files, linked_texts}
 use Rattle.file_report_defs.specs.Reports.{files_report}
@@ -13,9 +14,10 @@ use Rattle.file_commands.specs.declared.error.ReadingError.{ReadingError}
 use Rattle.file_commands.specs.declared.error.ReadingError.TheVariants.{Missing, TooLarge, Fault, Memory}
 use Rattle.file_commands.specs.declared.report.FilesReport.{FilesReport}
 use Rattle.file_commands.specs.declared.report.FilesFailure.{FilesFailure}
+use Rattle.file_commands.specs.declared.report.FilesFailure.TheVariants as failure
 use Rattle.file_commands.specs.Made.{defined_report}
 use Rattle.file_commands.specs.Reading.{defined_texts, Refuses, ErrorCauses, refusal_of}
-use Rattle.file_commands.specs.Reported.{LinkReported}
+use Rattle.file_commands.specs.Reported.{LinkReported, FailureCauses}
 
 names_seen : (texts : List FileText) → map (λ text. text.0) (defined_texts texts) ≡ map (λ text. text.name) texts
 names_seen [] = refl
@@ -29,13 +31,13 @@ told_texts (Some files) names found is = sym is
 module _ (before after : ShelfState) (names : List (List ℕ)) where
   pub texts_reported : (texts linked : List FileText) (report : Report)
       → IfSome before.files (λ files. read_files files names ≡ Ok (defined_texts texts))
-      → map (λ text. text.name) texts ≡ names
+      → map (λ text. text.name) texts ≡ names → TookNoMore largest_input before after
       → linked ≡ texts → report ≡ files_report (linked_texts (defined_texts linked))
       → LinkReported before after names report
-  texts_reported texts linked report told named same is = record {
+  texts_reported texts linked report told named within same is = record {
     texts = Ok (defined_texts texts);
     told = told_texts before.files names (Ok (defined_texts texts)) told;
-    causes = names_seen texts ∙ named;
+    causes = (names_seen texts ∙ named, within);
     is = is ∙ ap (λ texts. files_report (linked_texts (defined_texts texts))) same;
   }
 
@@ -58,3 +60,17 @@ module _ (before after : ShelfState) (names : List (List ℕ)) where
   }
   error_reported Fault (Ok report) told causes is = cc is
   error_reported Memory (Ok report) told causes is = cc is
+
+  -- why nothing is reported
+  pub error_failed : (error : ReadingError) (result : Result FilesReport FilesFailure) → ErrorCauses error before after
+      → seen defined_report result ≡ seen (λ refusal. files_report (Err refusal)) (refusal_of error)
+      → IfErr result (λ failure. FailureCauses largest_input failure before after)
+  error_failed error (Ok report) causes is = tt
+  error_failed (Missing name) (Err found) causes is = cc is
+  error_failed TooLarge (Err found) causes is = cc is
+  error_failed Fault (Err found) causes is =
+      let same : failure.Fault ≡ found = cc is in
+      subst (λ found. FailureCauses largest_input found before after) same causes
+  error_failed Memory (Err found) causes is =
+      let same : failure.Memory ≡ found = cc is in
+      subst (λ found. FailureCauses largest_input found before after) same causes

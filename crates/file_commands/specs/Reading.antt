@@ -1,10 +1,8 @@
 -- What is read of files.
 use Rattle.std.specs.Prelude.{◌≡◌, ⊤, ℕ, List, map, Result, Ok, Err}
 use Rattle.count_defs.specs.Counts.{Rose}
-use Rattle.bench_io.specs.Stream.{SourceState}
-use Rattle.bench_io.specs.ReadAll.{GaveUp}
-use Rattle.bench_io.specs.declared.whole.ReadError.TheVariants as read
 use Rattle.bench_shelf.specs.States.{ShelfState}
+use Rattle.bench_shelf.specs.Causes.{TookMore, TookNoMore}
 use Rattle.report_defs.specs.Report.{largest_input}
 use Rattle.file_report_defs.specs.LinkedFiles as spec
 use Rattle.file_report_defs.specs.LinkedFiles.{FilesRefusal}
@@ -13,7 +11,6 @@ use Rattle.file_commands.specs.declared.error.ReadingError.{ReadingError}
 use Rattle.file_commands.specs.declared.error.ReadingError.TheVariants.{Missing, TooLarge, Fault, Memory}
 use Rattle.file_commands.specs.declared.report.FilesFailure.{FilesFailure}
 use Rattle.file_commands.specs.declared.report.FilesFailure.TheVariants as failure
-use Rattle.file_commands.specs.Reported.{TookMore}
 
 -- a file with its name
 abbrev pub defined_text : FileText → List ℕ × List ℕ
@@ -35,17 +32,12 @@ Gives see (Err error) defined = Refuses error defined
 
 -- what an error tells of the shelf
 abbrev pub ErrorCauses : ReadingError → ShelfState → ShelfState → Type 0
-ErrorCauses (Missing name) before after = Rose before.misses after.misses
+ErrorCauses (Missing name) before after =
+    Rose before.misses after.misses × TookNoMore largest_input before after
 ErrorCauses TooLarge before after = TookMore largest_input before after
-ErrorCauses Fault before after = Rose before.source.faults after.source.faults
-ErrorCauses Memory before after = ⊤
-
--- why the open file was not read whole
-abbrev pub ReadFails : ReadingError → SourceState → SourceState → Type 0
-ReadFails (Missing name) before after = ⊥
-ReadFails TooLarge before after = GaveUp read.TooLarge largest_input before after
-ReadFails Fault before after = ⊤
-ReadFails Memory before after = ⊤
+ErrorCauses Fault before after =
+    Rose before.source.faults after.source.faults × TookNoMore largest_input before after
+ErrorCauses Memory before after = TookNoMore largest_input before after
 
 -- the refusal of the definitions; a shelf that failed and want of memory have none
 abbrev pub refusal_of : ReadingError → Result FilesRefusal FilesFailure

@@ -1,18 +1,17 @@
 -- What is reported of files, and what that tells of their shelf.
 --
 -- A shelf may keep its files to itself. Then a report is still that of some lines, or of some texts under the names that
--- were given, and each refusal has its cause.
-use Rattle.std.specs.Prelude.{◌≡◌, ⊤, ℕ, ◌≤◌, List, map, IfSome, Result, Ok, Err}
+-- were given, and each refusal has its cause: a file is told as too large exactly where more bytes of one were taken than
+-- it may have.
+use Rattle.std.specs.Prelude.{◌≡◌, ℕ, List, map, IfSome, Result, Ok, Err}
 use Rattle.count_defs.specs.Counts.{Rose}
 use Rattle.source_defs.specs.Refusals.{◌>>=◌}
 use Rattle.object_defs.specs.Modules.{Module}
-use Rattle.bench_io.specs.Stream.{SourceState}
-use Rattle.bench_io.specs.ReadAll.{GaveUp}
-use Rattle.bench_io.specs.declared.whole.ReadError.TheVariants as read
 use Rattle.shelf_defs.specs.Copied as copied
 use Rattle.shelf_defs.specs.Copied.{CopyRefusal, most_bytes}
 use Rattle.shelf_defs.specs.Assembly.{module_of_files}
 use Rattle.bench_shelf.specs.States.{ShelfState}
+use Rattle.bench_shelf.specs.Causes.{TookMore, TookNoMore}
 use Rattle.bench_shelf.specs.KeptLines.{IsOfLines}
 use Rattle.report_defs.specs.Report.{Report, largest_input}
 use Rattle.file_report_defs.specs.LinkedFiles.{FilesRefusal, Missing, TooLarge, InFile, Unlinked}
@@ -21,21 +20,19 @@ use Rattle.file_report_defs.specs.Reports.{copy_report, files_report}
 use Rattle.file_commands.specs.declared.report.FilesFailure.{FilesFailure}
 use Rattle.file_commands.specs.declared.report.FilesFailure.TheVariants as failure
 
--- the last reading took more bytes of a file than these, one more
-abbrev pub TookMore : ℕ → ShelfState → ShelfState → Type 0
-TookMore limit before after =
-    (reading : SourceState) × (before.source.taken ≤ reading.taken) × GaveUp read.TooLarge limit reading after.source
+-- Why nothing is reported: the shelf failed, which it has counted. Want of memory tells nothing. Of no file more bytes
+-- were taken than it may have.
+abbrev pub FailureCauses : ℕ → FilesFailure → ShelfState → ShelfState → Type 0
+FailureCauses limit failure.Fault before after =
+    Rose before.source.faults after.source.faults × TookNoMore limit before after
+FailureCauses limit failure.Memory before after = TookNoMore limit before after
 
--- Why nothing is reported: the shelf failed, which it has counted. Want of memory tells nothing.
-abbrev pub FailureCauses : FilesFailure → ShelfState → ShelfState → Type 0
-FailureCauses failure.Fault before after = Rose before.source.faults after.source.faults
-FailureCauses failure.Memory before after = ⊤
-
--- A name that is missing was counted, and of a file that is too large more bytes were taken than it may have.
+-- A name that is missing was counted, and a file is too large exactly where more bytes of one were taken than it may have.
 abbrev pub CopyCauses : Result Module CopyRefusal → ShelfState → ShelfState → Type 0
-CopyCauses (Ok found) before after = IsOfLines found
-CopyCauses (Err (copied.At place (copied.Missing name))) before after = Rose before.misses after.misses
-CopyCauses (Err (copied.At place cause)) before after = ⊤
+CopyCauses (Ok found) before after = IsOfLines found × TookNoMore most_bytes before after
+CopyCauses (Err (copied.At place (copied.Missing name))) before after =
+    Rose before.misses after.misses × TookNoMore most_bytes before after
+CopyCauses (Err (copied.At place cause)) before after = TookNoMore most_bytes before after
 CopyCauses (Err copied.TooLarge) before after = TookMore most_bytes before after
 
 -- the report of a source with the files that it copies
@@ -47,8 +44,10 @@ pub record CopyReported (before after : ShelfState) (text : List ℕ) (report : 
 
 -- What reading files tells: all were read; or one is missing, or too large. No text has been looked at.
 abbrev pub ReadCauses : List (List ℕ) → Result (List (List ℕ × List ℕ)) FilesRefusal → ShelfState → ShelfState → Type 0
-ReadCauses names (Ok texts) before after = map (λ text. text.0) texts ≡ names
-ReadCauses names (Err (Missing name)) before after = Rose before.misses after.misses
+ReadCauses names (Ok texts) before after =
+    (map (λ text. text.0) texts ≡ names) × TookNoMore largest_input before after
+ReadCauses names (Err (Missing name)) before after =
+    Rose before.misses after.misses × TookNoMore largest_input before after
 ReadCauses names (Err TooLarge) before after = TookMore largest_input before after
 ReadCauses names (Err (InFile name refused)) before after = ⊥
 ReadCauses names (Err (Unlinked cause)) before after = ⊥

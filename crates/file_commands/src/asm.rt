@@ -1,9 +1,11 @@
 //! `asm` with the files that the source copies.
 
-ghost use Rattle.std.specs.Prelude.{◌≡◌, ◌≤◌, length, Err, IfOk, IfErr};
+ghost use Rattle.std.specs.Prelude.{◌≡◌, ◌≤◌, ◌+◌, ◌*◌, length, Err, IfOk, IfErr};
+ghost use Rattle.count_defs.specs.Counts.{raised};
 ghost use Rattle.source_defs.specs.Refusals.{seen};
 ghost use Rattle.object_defs.specs.Writing.{written};
 ghost use Rattle.object_tags.specs.Seen.{defined_module};
+ghost use Rattle.shelf_defs.specs.Copied.{most_bytes, most_copies};
 ghost use Rattle.bench_shelf.specs.Causes.{Later};
 ghost use Rattle.bench_shelf.specs.KeptLines.{IsOfLines};
 ghost use Rattle.report_defs.specs.Report.{largest_input};
@@ -20,10 +22,13 @@ use std::alloc::{AllocError, Global};
 
 /// What is to be reported of a source of at most 1,048,576 bytes with the files of a shelf that it copies: the object
 /// text of its module, or the first line that is refused, or that a file is too large. It is the report of the defined
-/// module where the shelf tells its files.
+/// module where the shelf tells its files. Also where it tells none, a file is reported as too large exactly where more
+/// than 262,144 bytes of one were taken. In all no more bytes are taken than one more than these, for each of the 64
+/// lines that may copy a file.
 ///
 /// # Errors
-/// `Fault` comes only where the shelf's count of faults rose, and `Memory` is want of memory.
+/// `Fault` comes only where the shelf's count of faults rose, and `Memory` is want of memory. Of no file more bytes were
+/// taken than it may have then.
 pub fn asm_files<F: Shelf>(
     alloc: Global,
     shelf: &mut F,
@@ -32,7 +37,10 @@ pub fn asm_files<F: Shelf>(
     requires { length text.now ≤ largest_input }
     ensures report { IfOk result (λ report.
         CopyReported (F.state shelf.old) (F.state shelf.new) text.now (defined_report report)) }
-    ensures failure { IfErr result (λ failure. FailureCauses failure (F.state shelf.old) (F.state shelf.new)) }
+    ensures failure { IfErr result (λ failure.
+        FailureCauses most_bytes failure (F.state shelf.old) (F.state shelf.new)) }
+    ensures taken { (F.state shelf.new).source.taken
+        ≤ raised (F.state shelf.old).source.taken ((most_bytes + 1) * most_copies) }
     ensures later { Later (F.state shelf.old) (F.state shelf.new) }
 {
     match copy_assemble(alloc, shelf, text) {

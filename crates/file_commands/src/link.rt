@@ -1,10 +1,12 @@
 //! `link` with files.
 
-ghost use Rattle.std.specs.Prelude.{◌≡◌, ◌≤◌, length, vec_len, Err, IfOk, IfErr};
+ghost use Rattle.std.specs.Prelude.{◌≡◌, ◌≤◌, ◌+◌, ◌*◌, length, vec_len, Err, IfOk, IfErr};
+ghost use Rattle.count_defs.specs.Counts.{raised};
 ghost use Rattle.source_defs.specs.Refusals.{seen};
 ghost use Rattle.link_defs.specs.LinkedMemory.{linked};
 ghost use Rattle.object_tags.specs.Answers.{defined_modules};
 ghost use Rattle.bench_shelf.specs.Causes.{Later};
+ghost use Rattle.report_defs.specs.Report.{largest_input};
 ghost use Rattle.file_report_defs.specs.Words.{most_files};
 ghost use Rattle.file_report_defs.specs.LinkedFiles.{as_linked, linked_texts};
 ghost use Rattle.file_report_defs.specs.Reports.{files_report};
@@ -29,9 +31,12 @@ use std::alloc::{AllocError, Global};
 /// What is to be reported of up to 16 files of object text: the linked memory of their modules, or why there is none.
 /// All files are read first, in their order, each of at most 1,048,576 bytes; then their texts are read in that order;
 /// then the modules of all are linked. It is the report of the defined linked memory where the shelf tells its files.
+/// Also where it tells none, a file is reported as too large exactly where more than 1,048,576 bytes of one were taken. In
+/// all no more bytes are taken than one more than these, for each of 16 files.
 ///
 /// # Errors
-/// `Fault` comes only where the shelf's count of faults rose, and `Memory` is want of memory.
+/// `Fault` comes only where the shelf's count of faults rose, and `Memory` is want of memory. Of no file more bytes were
+/// taken than it may have then.
 pub fn link_files<F: Shelf>(
     alloc: Global,
     shelf: &mut F,
@@ -40,7 +45,10 @@ pub fn link_files<F: Shelf>(
     requires { length names.now ≤ most_files }
     ensures report { IfOk result (λ report.
         LinkReported (F.state shelf.old) (F.state shelf.new) names.now (defined_report report)) }
-    ensures failure { IfErr result (λ failure. FailureCauses failure (F.state shelf.old) (F.state shelf.new)) }
+    ensures failure { IfErr result (λ failure.
+        FailureCauses largest_input failure (F.state shelf.old) (F.state shelf.new)) }
+    ensures taken { (F.state shelf.new).source.taken
+        ≤ raised (F.state shelf.old).source.taken ((largest_input + 1) * most_files) }
     ensures later { Later (F.state shelf.old) (F.state shelf.new) }
 {
     match read_files(alloc, shelf, names) {

@@ -8,13 +8,13 @@ use Rattle.gpl_defs.specs.declared.instruction.Space.TheVariants.{Cpu, Vdp}
 use Rattle.shelf_defs.specs.Files.{is_file_name}
 use Rattle.watch_defs.specs.declared.item.Item.{Item}
 use Rattle.watch_defs.specs.declared.item.Item.TheVariants.{Range, Pc}
-use Rattle.watch_defs.specs.Items.{base_of, size_of}
+use Rattle.watch_defs.specs.Items.{base_of, size_of, most_items}
 use Rattle.report_defs.specs.declared.command.Command.{Command}
 use Rattle.report_defs.specs.declared.command.Command.TheVariants as command
 use Rattle.report_defs.specs.Commands.{same_word, number_word, most_steps, address_word, command_of}
 
--- What the words say: `asm`, whose source may copy files; `link` with names of files; `watch` with a number of steps and
--- with items; or another command, which reads no file.
+-- What the words say: `asm`, whose source may copy files; `link` with names of files; `watch` with a number of steps
+-- and with items; or another command, which reads no file.
 pub data ProgramCommand : Type 0 where
   AsmFiles : ProgramCommand
   LinkFiles : List (List ℕ) → ProgramCommand
@@ -59,15 +59,13 @@ item_words [] = Some []
 item_words (word ∷ words) =
     option_and_then (λ item. option_map (λ items. item ∷ items) (item_words words)) (item_word word)
 
--- Profile: one to eight items are watched.
-abbrev pub most_items : ℕ
-most_items = 8
+-- Profile: one to eight words say what is watched.
+abbrev pub some_items : List (List ℕ) → Option (List Item)
+some_items words =
+    if nat_le 1 (length words) && nat_le (length words) most_items then item_words words else None
 
 abbrev pub watched_command : List (List ℕ) → ℕ → Option ProgramCommand
-watched_command words limit =
-    if nat_le 1 (length words) && nat_le (length words) most_items
-    then option_map (Watch limit) (item_words words)
-    else None
+watched_command words limit = option_map (Watch limit) (some_items words)
 
 abbrev pub watch_command : List (List ℕ) → Option ProgramCommand
 watch_command [] = None

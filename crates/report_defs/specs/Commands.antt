@@ -73,7 +73,7 @@ KeepsLimit (Trace limit) = limit ≤ most_steps
 KeepsLimit (Demo number) = number ≤ most_blocks
 KeepsLimit command = ⊤
 
--- Profile: words in any other shape are no command.
+-- words in any other shape are no command of `bench`
 abbrev pub command_of : List (List ℕ) → Option Command
 command_of [] = None
 command_of (name ∷ []) =

@@ -20,8 +20,8 @@ OneReport =
 abbrev pub listed_text : ℕ → List ℕ → List ℕ
 listed_text at input = concat (image_listing (placed empty at input))
 
--- The law, which is proved: what gdis lists of an input is a source without refusal, and its image has the bytes of the input at
--- their addresses and no others.
+-- The law, which is proved: what gdis lists of an input is a source without refusal, and its image has the bytes of the
+-- input at their addresses and no others.
 abbrev pub ListedInputsComeBack : Type 0
 ListedInputsComeBack =
     (at : ℕ) (input : List ℕ) → HoldsBytes (length input) input → at < 65536 → at + length input ≤ 65536

@@ -11,8 +11,8 @@ words_in [] = []
 words_in (byte ∷ []) = []
 words_in (more ∷ less ∷ rest) = join more less ∷ words_in rest
 
--- The lines of words, of which the first stands at an address: one line an instruction, or DATA with a word that is none. The
--- first of the words may belong to the instruction before them, and have no line of their own.
+-- The lines of words, of which the first stands at an address: one line an instruction, or DATA with a word that is
+-- none. The first of the words may belong to the instruction before them, and have no line of their own.
 abbrev pub lines_from : ℕ → ℕ → List ℕ → List (List ℕ)
 lines_from at belonging [] = []
 lines_from at (suc belonging) (word ∷ words) = lines_from (at + 2) belonging words

@@ -11,8 +11,8 @@ use Rattle.report_defs.specs.declared.status.Status.{Status}
 use Rattle.report_defs.specs.declared.status.Status.TheVariants as status
 use Rattle.report_defs.specs.Dump.{dump_lines}
 
--- Profile: where a program ended there is a line that says why and where. EXIT is told by its name, the other reasons by their
--- numbers, which are one digit.
+-- Profile: where a program ended there is a line that says why and where. EXIT is told by its name, the other reasons
+-- by their numbers, which are one digit.
 abbrev pub stop_text : Reason → List ℕ
 stop_text Exit = codes "exit at "
 stop_text reason = codes "stop " ++ (0x30 + number_of reason) ∷ codes " at "
@@ -56,7 +56,8 @@ showing s x =
 abbrev pub state_lines : GplState → MachineState → List (List ℕ)
 state_lines last left = state_line last ∷ dump_lines (showing last left)
 
--- Profile: the report of a program is why it ended, if it did; its last state; and a dump that shows the state in the machine.
+-- Profile: the report of a program is why it ended, if it did; its last state; and a dump that shows the state in the
+-- machine.
 abbrev pub program_lines : Option Reason → GplState → MachineState → List (List ℕ)
 program_lines stop last left = stop_lines stop last.pc ++ state_lines last left
 

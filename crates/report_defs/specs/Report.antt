@@ -20,6 +20,7 @@ use Rattle.report_defs.specs.declared.command.Command.TheVariants.{Asm, Gasm, Di
 use Rattle.report_defs.specs.declared.command.Command.TheVariants.{Run, Trace, Demo}
 use Rattle.report_defs.specs.declared.status.Status.{Status}
 use Rattle.report_defs.specs.declared.status.Status.TheVariants.{Done, Refused}
+use Rattle.report_defs.specs.declared.limits.TheConstants.{LARGEST_INPUT}
 use Rattle.report_defs.specs.declared.fault.Fault.{Fault}
 use Rattle.report_defs.specs.declared.fault.Fault.TheVariants.{TooLarge, PastEnd, NoEntry}
 use Rattle.report_defs.specs.FaultLine.{fault_status}
@@ -39,8 +40,8 @@ use Rattle.report_defs.specs.DemoText.{demo_text}
 use Rattle.report_defs.specs.Summary.{summary_of, summary_lines}
 use Rattle.report_defs.specs.Commands.{most_steps}
 
--- The pieces that standard output gets, each by one write, with the status; or the fault whose line standard error gets; or
--- the line itself, of an input that is refused.
+-- The pieces that standard output gets, each by one write, with the status; or the fault whose line standard error
+-- gets; or the line itself, of an input that is refused.
 pub data Report : Type 0 where
   Whole : Status → List (List ℕ) → Report
   Faulty : Fault → Report
@@ -53,7 +54,7 @@ status_of (Rejected line) = Refused
 
 -- Profile: an input has at most 1,048,576 bytes.
 abbrev pub largest_input : ℕ
-largest_input = 1048576
+largest_input = LARGEST_INPUT
 
 -- bytes in one piece, or in none where there are none
 abbrev pub one_piece : List ℕ → List (List ℕ)
@@ -118,8 +119,8 @@ trace_lines image s r left = step_lines s r.done ++ run_lines image s r left
 abbrev pub demo_lines : ℕ → Image → GplState → GplRun → MachineState → List (List ℕ)
 demo_lines number image s r left = summary_lines (summary_of number (length (written_bytes image)) r left)
 
--- The report of a program that the interpreter runs for up to so many steps from its entry, by what is written of such a
--- run.
+-- The report of a program that the interpreter runs for up to so many steps from its entry, by what is written of such
+-- a run.
 pub record ReportsProgram (lines : Image → GplState → GplRun → MachineState → List (List ℕ)) (limit : ℕ) (image : Image)
     (entry : ℕ) (report : Report) : Type 0 where
   pub bytes : List ℕ
@@ -161,13 +162,16 @@ AcceptedReport (Trace limit) input report =
 AcceptedReport (Demo number) input report =
     ProgramReport (ReportsProgram (demo_lines number) most_steps) (program_of_source (demo_text number)) report
 
--- Whatever else holds, an input is refused that is too large.
-abbrev pub ReportOn : Command → List ℕ → Report → Type 0
-ReportOn command input report =
-    MatchBool (nat_lt largest_input (length input)) (report ≡ Faulty TooLarge) (AcceptedReport command input report)
+-- What is reported of an input. Profile: one that is too large is refused, whatever else holds.
+abbrev pub OnInput : (List ℕ → Report → Type 0) → List ℕ → Report → Type 0
+OnInput Reports input report =
+    MatchBool (nat_lt largest_input (length input)) (report ≡ Faulty TooLarge) (Reports input report)
 
--- What is written before the end of a report is known, of an input that is not too large: `trace` writes the line of each step
--- once it is made. Such lines are a front of the report.
+abbrev pub ReportOn : Command → List ℕ → Report → Type 0
+ReportOn command = OnInput (AcceptedReport command)
+
+-- What is written before the end of a report is known, of an input that is not too large: `trace` writes the line of
+-- each step once it is made. Such lines are a front of the report.
 abbrev pub FrontOn : Command → List ℕ → Report → Type 0
 FrontOn (Trace limit) input front =
     (length input ≤ largest_input) × ProgramReport (ShowsSteps limit) (program_of_source input) front

@@ -5,10 +5,10 @@
 pub enum Fault {
     /// The words of the command line are no command.
     Usage,
-    /// The input has more than 1,048,576 bytes.
+    /// The input, or a file, has more bytes than it may have.
     TooLarge,
     /// The bytes of `dis` or `gdis` run past >FFFF from its address on.
     PastEnd,
-    /// The GPL source of `run` or `trace` names no entry.
+    /// The GPL source of a command that runs it names no entry.
     NoEntry,
 }

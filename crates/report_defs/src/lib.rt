@@ -3,10 +3,12 @@
 
 mod command;
 mod fault;
+mod limits;
 mod status;
 mod summary;
 
 pub use command::Command;
 pub use fault::Fault;
+pub use limits::LARGEST_INPUT;
 pub use status::Status;
 pub use summary::Summary;

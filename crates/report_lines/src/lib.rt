@@ -1,5 +1,5 @@
-//! The lines that reports are made of, how a text is written line by line, and what is said of a source that is refused.
-//! Nothing takes memory.
+//! The lines that reports are made of, how a text is written line by line, and what is said of a source that is
+//! refused. Nothing takes memory.
 #![tactic(auto)]
 
 mod faults;

@@ -1,5 +1,5 @@
-//! Cases of names of files, of shelves and of sources that copy files, worked out by hand. The crate holds tests alone, so
-//! that the crates below it are proved once.
+//! Cases of names of files, of shelves and of sources that copy files, worked out by hand. The crate holds tests alone,
+//! so that the crates below it are proved once.
 #![tactic(auto)]
 
 #[cfg(test)]

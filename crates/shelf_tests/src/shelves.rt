@@ -1,7 +1,7 @@
 //! Names of files, and files that are opened and read.
 
 use bench_io::ReadError;
-use bench_shelf::{DirShelf, FileName, MemShelf, OpenError, Shelf, read_file};
+use bench_shelf::{DirShelf, FileName, MemShelf, OpenError, Shelf, read_file, read_named};
 use std::alloc::{AllocError, Global};
 use std::os::unix::fs::symlink;
 use std::test::Fail;
@@ -171,10 +171,7 @@ fn holds<F: Shelf>(
     name: &[u8],
     bytes: &[u8],
 ) -> Result<bool, AllocError> {
-    if shelf.open_file(&name_of(name)?).is_err() {
-        return Ok(false);
-    }
-    Ok(match read_file(alloc, shelf, 100) {
+    Ok(match read_named(alloc, shelf, &name_of(name)?, 100) {
         Ok(found) => found.as_slice() == bytes,
         Err(_) => false,
     })

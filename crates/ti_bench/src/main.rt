@@ -13,8 +13,8 @@ use std::process::ExitCode;
 use workbench::bench_with;
 
 /// Runs the command that the words of the command line say, over the standard streams and the files of the current
-/// folder. Standard output is buffered, where there is memory for that, and else it is not: so `bench_with` is called in
-/// either case.
+/// folder. Standard output is buffered, where there is memory for that, and else it is not: so `bench_with` is called
+/// in either case.
 fn main(rt: HostRuntime) -> ExitCode {
     let Ok(words) = command_words(&rt) else {
         return ExitCode::from(Status::Memory as u8);

@@ -15,7 +15,7 @@ abbrev pub found_line : Found → List ℕ
 found_line (found.Hit step from item change) = hit_line step from item change
 found_line found.None = no_hit_line
 
--- Profile: why the program ended, if it did, is told where nothing was found.
+-- why the program ended, if it did, is told where nothing was found
 abbrev pub end_lines : Found → SessionState → List (List ℕ)
 end_lines (found.Hit step from item change) session = []
 end_lines found.None session = stop_lines session.ended (seen session).pc
@@ -24,7 +24,7 @@ abbrev pub watched_lines : Found → SessionState → List (List ℕ)
 watched_lines said session =
     found_line said ∷ (end_lines said session ++ state_lines (seen session) session.machine)
 
--- Profile: behind a hit the program is done, whatever it would come to.
+-- behind a hit the program is done, whatever it would come to
 abbrev pub watched_status : Found → SessionState → Status
 watched_status (found.Hit step from item change) session = Done
 watched_status found.None session = program_status session.ended

@@ -4,7 +4,6 @@ ghost use Rattle.std.specs.Prelude.{◌≡◌, ◌≤◌, ◌<◌, ◌∷◌, le
 ghost use Rattle.file_report_defs.specs.Words as spec;
 ghost use Rattle.report_defs.specs.Commands.{most_steps};
 ghost use Rattle.watch_defs.specs.Items.{IsItem};
-ghost use Rattle.watch_command.specs.Asked.{some_items};
 
 use crate::item::item_word;
 use crate::items::{Items, MOST_ITEMS};
@@ -26,7 +25,7 @@ pub fn watch_words(words: &[Vec<u8>]) -> Option<(u32, Items)>
 
 /// The items that one to eight words say. It takes no memory.
 pub fn item_words(words: &[Vec<u8>]) -> Option<Items>
-    ensures { result ≡ some_items (map (λ word. word.items) words.now) }
+    ensures { result ≡ spec.some_items (map (λ word. word.items) words.now) }
 {
     let (first, others) = words.split_first()?;
     if others.len() >= MOST_ITEMS {

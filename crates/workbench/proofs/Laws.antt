@@ -4,7 +4,6 @@ use Rattle.std.proofs.Common.{subst, inl, inr}
 use Rattle.std.specs.Prelude.{IfSome, MatchBool, nat_lt, nat_le, ◌&&◌, if◌then◌else◌, codes}
 use Rattle.std.specs.Option.{option_map, option_and_then}
 use Rattle.source_defs.specs.Refusals.{◌>>=◌}
-use Rattle.program_defs.specs.Programs.{program_of_source}
 use Rattle.watch_defs.specs.declared.item.Item.{Item}
 use Rattle.shelf_defs.specs.Files.{Files}
 use Rattle.shelf_defs.specs.Assembly.{module_of_files}
@@ -14,19 +13,19 @@ use Rattle.report_defs.specs.declared.fault.Fault.TheVariants.{TooLarge}
 use Rattle.report_defs.specs.declared.status.Status.{Status}
 use Rattle.report_defs.specs.declared.status.Status.TheVariants as status
 use Rattle.report_defs.specs.Commands.{command_of, same_word, number_word, most_steps}
-use Rattle.report_defs.specs.Report.{Report, Faulty, ProgramReport, status_of, largest_input}
+use Rattle.report_defs.specs.Report.{Report, Faulty, OnInput, status_of, largest_input}
 use Rattle.file_report_defs.specs.LinkedFiles.{linked_texts, read_files}
 use Rattle.file_report_defs.specs.Reports.{copy_report, files_report}
-use Rattle.file_report_defs.specs.Watching.{ReportsWatch}
 use Rattle.file_report_defs.specs.Words.{ProgramCommand, AsmFiles, LinkFiles, Watch, Plain}
 use Rattle.file_report_defs.specs.Words.{program_command, input_command, over_input, link_command, are_file_names}
-use Rattle.file_report_defs.specs.Words.{watch_command, watched_command, item_words, most_items}
-use Rattle.file_report_defs.specs.Whole.{OnInput, AsmReport, ReportWith}
+use Rattle.file_report_defs.specs.Words.{watch_command, watched_command, some_items}
+use Rattle.file_report_defs.specs.Whole.{AsmReport, WatchReport, ReportWith}
 use Rattle.file_report_defs.proofs.OneReport.{one_report_with}
 use Rattle.file_commands.specs.Reported.{CopyReported}
 use Rattle.bench_commands.specs.Run as plain
 use Rattle.bench_commands.specs.Run.{WroteReport, ReadsInput, EndsBy}
 use Rattle.bench_commands.specs.Laws as plain_laws
+use Rattle.bench_commands.specs.Laws.{TellsInput}
 use Rattle.bench_commands.proofs.Uniqueness as bench
 use Rattle.bench_commands.proofs.Uniqueness.{on_all, on_input, no_miss}
 use Rattle.workbench.specs.FileRun.{FileRun, without_files, AsmOn, Reports, EndsOver, EndsByUsage, EndsAs}
@@ -57,13 +56,11 @@ link_plain words command e = by (are_file_names words) e
 
 watched_plain : (words : List (List ℕ)) (limit : ℕ) (command : Command)
     → watched_command words limit ≡ Some (Plain command) → ⊥
-watched_plain words limit command e = by (nat_le 1 (length words) && nat_le (length words) most_items) (item_words words) e
+watched_plain words limit command e = by (some_items words) e
   where
-    by : (few : Bool) (items : Option (List Item))
-        → (if few then option_map (Watch limit) items else None) ≡ Some (Plain command) → ⊥
-    by true (Some items) e = absurd cc
-    by true None e = absurd cc
-    by false items e = absurd cc
+    by : (items : Option (List Item)) → option_map (Watch limit) items ≡ Some (Plain command) → ⊥
+    by (Some items) e = absurd cc
+    by None e = absurd cc
 
 watch_plain : (words : List (List ℕ)) (command : Command) → watch_command words ≡ Some (Plain command) → ⊥
 watch_plain [] command e = absurd cc
@@ -115,8 +112,7 @@ on_files (LinkFiles names) run input files report told (same, linked) =
     let is : linked.texts ≡ read_files files names = subst P told linked.told in
     linked.is ∙ ap (λ texts. files_report (texts >>= linked_texts)) is
 on_files (Watch limit items) run input files report told (source, reading, same, on) =
-    on_all (λ source report. ProgramReport (ReportsWatch limit items) (program_of_source source) report)
-    run.input run.input' source input report told reading on
+    on_all (WatchReport limit items) run.input run.input' source input report told reading on
 on_files (Plain command) run input files report told reports = absurd reports
 
 -- ---- a run in which no count rose wrote its report
@@ -150,7 +146,7 @@ over_answered command input files run end told none some ends =
     record { report = r.0; on = on_files command run input files r.0 told r.1; is = r.2; wrote = r.3 }
 
 plain_answered : (words : List (List ℕ)) (command : Command) (input : List ℕ) (files : Files) (run : FileRun)
-    (end : Status) → program_command words ≡ Some (Plain command) → run.input.left ≡ Some input → HasNoFault run
+    (end : Status) → program_command words ≡ Some (Plain command) → TellsInput command run.input input → HasNoFault run
     → end ≢ status.Memory → EndsBy (without_files words run) end → Answered (Plain command) input files run end
 plain_answered words command input files run end said left none some ends =
     let same : plain.Run = without_files words run in

@@ -1,20 +1,21 @@
 -- One run of the program with a shelf of files: how it may end, and what the input, the shelf and the two outputs are
 -- then.
-use Rattle.std.specs.Prelude.{◌≡◌, ◌⊎◌, ℕ, ◌≤◌, nat_lt, MatchBool, List, [], ◌∷◌, length, Option, Some, None}
-use Rattle.count_defs.specs.Counts.{Rose}
+use Rattle.std.specs.Prelude.{◌≡◌, ◌⊎◌, ℕ, ◌+◌, ◌*◌, ◌≤◌, nat_lt, MatchBool, List, [], ◌∷◌, length}
+use Rattle.std.specs.Prelude.{Option, Some, None}
+use Rattle.count_defs.specs.Counts.{raised, Rose}
 use Rattle.bench_io.specs.Stream.{SourceState, SinkState}
 use Rattle.bench_io.specs.ReadAll.{Took}
 use Rattle.bench_io.specs.Written.{Wrote, Missed}
-use Rattle.program_defs.specs.Programs.{program_of_source}
-use Rattle.watch_defs.specs.declared.item.Item.{Item}
 use Rattle.report_defs.specs.declared.status.Status.{Status}
 use Rattle.report_defs.specs.declared.status.Status.TheVariants as status
 use Rattle.report_defs.specs.declared.fault.Fault.TheVariants.{TooLarge}
-use Rattle.report_defs.specs.Report.{Report, Faulty, ProgramReport, largest_input}
-use Rattle.file_report_defs.specs.Watching.{ReportsWatch}
-use Rattle.file_report_defs.specs.Words.{ProgramCommand, AsmFiles, LinkFiles, Watch, Plain, program_command, program_usage}
-use Rattle.file_report_defs.specs.Whole.{OnInput}
+use Rattle.report_defs.specs.Report.{Report, Faulty, OnInput, largest_input}
+use Rattle.file_report_defs.specs.Words.{ProgramCommand, AsmFiles, LinkFiles, Watch, Plain}
+use Rattle.file_report_defs.specs.Words.{most_files, program_command, program_usage}
+use Rattle.file_report_defs.specs.Whole.{WatchReport}
+use Rattle.shelf_defs.specs.Copied.{most_bytes, most_copies}
 use Rattle.bench_shelf.specs.States.{ShelfState}
+use Rattle.bench_shelf.specs.Causes.{TookNoMore}
 use Rattle.file_commands.specs.Reported.{CopyReported, LinkReported}
 use Rattle.bench_commands.specs.Run.{Outputs, Run, ReadsInput, EndsWith, EndsBy}
 
@@ -36,11 +37,6 @@ AsmOn run source report =
     MatchBool (nat_lt largest_input (length source)) ((report ≡ Faulty TooLarge) × (run.shelf' ≡ run.shelf))
     (CopyReported run.shelf run.shelf' source report)
 
--- the report of `watch` on a source
-abbrev pub WatchOn : ℕ → List Item → List ℕ → Report → Type 0
-WatchOn limit items =
-    OnInput (λ source report. ProgramReport (ReportsWatch limit items) (program_of_source source) report)
-
 -- The report of the run. `asm` takes the input and the files that it copies, `link` with names of files takes these
 -- alone, and `watch` takes the input alone. Each other command is run by `bench`.
 abbrev pub Reports : ProgramCommand → FileRun → Report → Type 0
@@ -48,7 +44,7 @@ Reports AsmFiles run report = (source : List ℕ) × ReadsInput run.input run.in
 Reports (LinkFiles names) run report = (run.input' ≡ run.input) × LinkReported run.shelf run.shelf' names report
 Reports (Watch limit items) run report =
     (source : List ℕ) × ReadsInput run.input run.input' source × (run.shelf' ≡ run.shelf)
-    × WatchOn limit items source report
+    × OnInput (WatchReport limit items) source report
 Reports (Plain command) run report = ⊥
 
 -- no more was taken of the input than an input may have, by calls of which one at most gave no byte
@@ -59,10 +55,11 @@ pub record TookWithin (before after : SourceState) : Type 0 where
   pub one : empty ≤ 1
   pub took : Took before after bytes empty
 
--- what a run that wrote nothing leaves of the input and of the shelf
+-- What a run that wrote nothing leaves of the input and of the shelf. Of no file more bytes were taken than it may have:
+-- else the file is told as too large.
 abbrev pub Leaves : ProgramCommand → FileRun → Type 0
-Leaves AsmFiles run = TookWithin run.input run.input'
-Leaves (LinkFiles names) run = run.input' ≡ run.input
+Leaves AsmFiles run = TookWithin run.input run.input' × TookNoMore most_bytes run.shelf run.shelf'
+Leaves (LinkFiles names) run = (run.input' ≡ run.input) × TookNoMore largest_input run.shelf run.shelf'
 Leaves (Watch limit items) run = TookWithin run.input run.input' × (run.shelf' ≡ run.shelf)
 Leaves (Plain command) run = ⊥
 
@@ -122,3 +119,14 @@ EndsAs (Some (Plain command)) words run end = EndsBy (without_files words run) e
 
 abbrev pub EndsFileRun : List (List ℕ) → FileRun → Status → Type 0
 EndsFileRun words run end = EndsAs (program_command words) words run end
+
+-- What is taken of a shelf at most, whatever the status: one byte more than a file may have, for each COPY line that may
+-- be followed and for each file of `link`. Each other command, and words that are no command, leave the shelf as it was.
+abbrev pub TakesOfShelf : Option ProgramCommand → ShelfState → ShelfState → Type 0
+TakesOfShelf None before after = after ≡ before
+TakesOfShelf (Some AsmFiles) before after =
+    after.source.taken ≤ raised before.source.taken ((most_bytes + 1) * most_copies)
+TakesOfShelf (Some (LinkFiles names)) before after =
+    after.source.taken ≤ raised before.source.taken ((largest_input + 1) * most_files)
+TakesOfShelf (Some (Watch limit items)) before after = after ≡ before
+TakesOfShelf (Some (Plain command)) before after = after ≡ before

@@ -9,7 +9,7 @@ use Rattle.file_report_defs.specs.Words.{ProgramCommand, AsmFiles, LinkFiles, Wa
 use Rattle.file_report_defs.specs.Whole.{ReportWith}
 use Rattle.file_report_defs.specs.Laws.{OneReportWith}
 use Rattle.bench_commands.specs.Run.{WroteReport}
-use Rattle.bench_commands.specs.Laws.{LawsOfRuns, read_of}
+use Rattle.bench_commands.specs.Laws.{LawsOfRuns, TellsInput, read_of}
 use Rattle.workbench.specs.FileRun.{FileRun, EndsFileRun}
 
 -- no count of faults rose in a run
@@ -24,12 +24,12 @@ abbrev pub input_of : ProgramCommand → List ℕ → List ℕ
 input_of (Plain command) input = read_of command input
 input_of command input = input
 
--- What a command reads is told: the bytes of the input, the files of the shelf, or both.
+-- What a command reads is told: the bytes of the input, the files of the shelf, both, or nothing.
 abbrev pub Tells : ProgramCommand → FileRun → List ℕ → Files → Type 0
 Tells AsmFiles run input files = (run.input.left ≡ Some input) × (run.shelf.files ≡ Some files)
 Tells (LinkFiles names) run input files = run.shelf.files ≡ Some files
 Tells (Watch limit items) run input files = run.input.left ≡ Some input
-Tells (Plain command) run input files = run.input.left ≡ Some input
+Tells (Plain command) run input files = TellsInput command run.input input
 
 -- The law, which is proved: where the words are a command, what it reads is told and no count rose, the answer is the
 -- status of the report on this, and the whole report was written; or memory was wanting.

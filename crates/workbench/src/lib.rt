@@ -4,7 +4,6 @@
 mod asm;
 mod command;
 mod finish;
-mod input;
 mod link;
 mod running;
 mod usage;

@@ -1,7 +1,8 @@
 //! The program, over any input, shelf and outputs.
 
 ghost use Rattle.bench_shelf.specs.Causes.{Later};
-ghost use Rattle.workbench.specs.FileRun.{EndsFileRun};
+ghost use Rattle.file_report_defs.specs.Words.{program_command};
+ghost use Rattle.workbench.specs.FileRun.{EndsFileRun, TakesOfShelf};
 ghost use Rattle.workbench.specs.Laws.{LawsOfFileRuns};
 
 use crate::asm::asm;
@@ -21,9 +22,10 @@ use std::alloc::Global;
 /// is run by [`bench`] and has its whole clause. The report goes to `out`, or a fault line or the usage line to `err`,
 /// and all memory is taken before the first byte is written.
 ///
-/// The contract says of each status its cause, and what the input, the shelf and the outputs are then; that there is one
-/// report on each command, input and files; and that where the input tells its bytes, the shelf its files, and nothing
-/// fails, the answer is that report with its status, or want of memory.
+/// The contract says of each status its cause, and what the input, the shelf and the outputs are then; that there is
+/// one report on each command, input and files; that where what the command reads is told (the input's bytes, the
+/// shelf's files, or both) and nothing fails, the answer is that report with its status, or want of memory; and how
+/// many bytes are taken of the shelf at most.
 #[tactic(auto, using(crate::proofs::Laws::laws))]
 pub fn bench_with<S: Source, F: Shelf, O: Sink, E: Sink>(
     alloc: Global,
@@ -46,6 +48,7 @@ pub fn bench_with<S: Source, F: Shelf, O: Sink, E: Sink>(
         err' = E.state err.new;
       };
     }) result }
+    ensures shelf { TakesOfShelf (program_command words.now) (F.state shelf.old) (F.state shelf.new) }
     ensures later { Later (F.state shelf.old) (F.state shelf.new) }
 {
     match read_program_command(words) {

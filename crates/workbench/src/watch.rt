@@ -1,19 +1,17 @@
 //! `watch`: a GPL program that is run up to the first step that changes a watched place.
 
 ghost use Rattle.std.specs.Prelude.{◌≤◌, length, IfOk};
-ghost use Rattle.program_defs.specs.Programs.{program_of_source};
-ghost use Rattle.report_defs.specs.Report.{ProgramReport, largest_input};
-ghost use Rattle.file_report_defs.specs.Watching.{ReportsWatch};
+ghost use Rattle.report_defs.specs.Report.{largest_input};
+ghost use Rattle.file_report_defs.specs.Whole as whole;
 ghost use Rattle.file_report_defs.specs.Words as spec;
 ghost use Rattle.bench_shelf.specs.States.{ShelfState};
 ghost use Rattle.bench_commands.specs.Run.{EndsWith};
 ghost use Rattle.workbench.specs.FileRun.{EndsOver};
 ghost use Rattle.workbench.specs.Made.{defined_watch};
 
-use crate::input::read_source;
 use bench_commands::{Loaded, Report, load_program};
-use bench_io::{Failed, ReadError, Sink, Source};
-use report_defs::{Fault, Status};
+use bench_io::{Failed, ReadError, Sink, Source, read_all};
+use report_defs::{Fault, LARGEST_INPUT, Status};
 use std::alloc::{AllocError, Global};
 use watch_command::{Items, Watched, put_watched, watch_program};
 
@@ -69,7 +67,7 @@ pub(crate) fn watch<S: Source, O: Sink, E: Sink>(
       };
     }) result }
 {
-    let source = match read_source(alloc, input) {
+    let source = match read_all(alloc, input, LARGEST_INPUT) {
         Ok(source) => source,
         Err(ReadError::TooLarge) => return Report::Fault(Fault::TooLarge).finish(out, err),
         Err(ReadError::Fault) => return Status::ReadFault,
@@ -89,8 +87,7 @@ fn watch_source(
     source: &[u8],
 ) -> Result<WatchReport, AllocError>
     requires { length source.now ≤ largest_input }
-    ensures { IfOk result (λ report.
-        ProgramReport (ReportsWatch limit items.now) (program_of_source source.now) (defined_watch report)) }
+    ensures { IfOk result (λ report. whole.WatchReport limit items.now source.now (defined_watch report)) }
 {
     match load_program(alloc, source)? {
         Loaded::Program(program) => Ok(WatchReport::Watched(watch_program(

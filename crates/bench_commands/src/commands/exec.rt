@@ -22,8 +22,8 @@ use tms_step::{Machine, Steps};
 /// Where the workspace of a program begins.
 const WORKSPACE: u16 = 0x83E0;
 
-/// How many bytes the GROMs have.
-const GROM_SIZE: usize = 65536;
+/// How many bytes all GROMs have together.
+const ALL_GROMS: usize = 65536;
 
 /// The report of up to `limit` instructions of the linked memory of an object text, from its entry on.
 pub(crate) fn exec(alloc: Global, limit: u32, input: &[u8]) -> Result<Report, AllocError>
@@ -49,7 +49,7 @@ fn execute(alloc: Global, limit: u32, linked: &Linked) -> Result<Report, AllocEr
 fn start(alloc: Global, linked: &Linked) -> Result<Machine, AllocError>
     ensures { IfOk result (λ machine. runs.IsStart (defined_linked linked.now) machine) }
 {
-    let image = zeros(alloc, GROM_SIZE)?;
+    let image = zeros(alloc, ALL_GROMS)?;
     load_machine(
         alloc,
         linked,

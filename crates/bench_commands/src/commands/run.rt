@@ -11,8 +11,8 @@ use std::alloc::{AllocError, Global};
 use std::marker::Brand;
 use std::sync::ledger::Blank;
 
-/// The report of up to `limit` steps of a GPL source from its entry, run by the interpreter; or the source's first refused
-/// line, or that it names no entry.
+/// The report of up to `limit` steps of a GPL source from its entry, run by the interpreter; or the source's first
+/// refused line, or that it names no entry.
 pub(crate) fn run(alloc: Global, limit: u32, input: &[u8]) -> Result<Report, AllocError>
     requires { length input.now ≤ spec.largest_input }
     ensures { IfOk result (λ report. spec.AcceptedReport (Command.Run limit) input.now (defined_report report)) }

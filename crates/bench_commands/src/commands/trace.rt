@@ -17,8 +17,8 @@ use std::sync::ledger::{Blank, Ledger};
 use tms_step::{Machine, Steps};
 use trace_dump::Seen;
 
-/// A GPL source that stands before the first step of its program, of which up to `limit` are to be traced; or the report of a
-/// program that is not run. All memory of the trace is taken.
+/// A GPL source that stands before the first step of its program, of which up to `limit` are to be traced; or the
+/// report of a program that is not run. All memory of the trace is taken.
 pub(crate) fn trace(alloc: Global, limit: u32, input: &[u8]) -> Result<Prepared, AllocError>
     requires size { length input.now ≤ largest_input }
     requires limit { limit ≤ most_steps }

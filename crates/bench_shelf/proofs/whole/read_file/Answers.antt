@@ -1,8 +1,9 @@
-use Rattle.std.proofs.Common.{◌≡◌, ◌≤◌, ◌+◌, [], length, take, drop, ◌++◌, ap, ◌∙◌, refl, arith, rules, length-append, length-take}
+use Rattle.std.proofs.Common.{◌≡◌, ◌≤◌, ◌+◌, [], length, take, drop, ◌++◌, ap, ◌∙◌, refl, subst, arith, rules, length-append, length-take}
 use Rattle.std.proofs.lemmas.Result.{err_from_is_err_and}
 use Rattle.std.proofs.lemmas.List.{take-append-le}
 use Rattle.bench_io.proofs.Taking.{took_then, took_more, took_last, rose_since, few_calls}
-use Rattle.bench_shelf.proofs.Keeping.{same_then}
+use Rattle.bench_shelf.proofs.Keeping.{same_then, gave_last, gave_more, gave_failed}
+use Rattle.bench_shelf.specs.Reading.{GaveMore}
 use Rattle.bench_shelf.proofs.whole.read_file.Goals as goal
 
 pub loop-bytes-preserved : goal.loop-bytes-preserved
@@ -19,6 +20,7 @@ loop-bytes-preserved g c =
     record {
       took = rw items (took_more _ _ _ _ _ _ (omega arith) c.loop-bytes.invariant.took c.in_ok-count.ensures.took);
       within = omega (arith, c.loop-bytes.bytes.ok.0);
+      given = rw size (gave_more _ _ _ _ _ c.loop-bytes.invariant.given c.in_ok-count.ensures.given);
       same = same_then _ _ _ c.loop-bytes.invariant.same c.take_once.ensures.same;
       piece = search rules;
     }
@@ -109,3 +111,42 @@ returns-in_err-extend_from_slice-clause-calls g c =
       c.min-room.ensures,
       c.loop-bytes.bytes.ok.0,
     )))
+
+pub returns-then-count-eq0-clause-given : goal.returns-then-count-eq0-clause-given
+returns-then-count-eq0-clause-given g c =
+    let all : length c.loop-bytes.bytes.items + c.in_ok-count.count ≡ length c.loop-bytes.bytes.items = omega (arith, c.if-count-eq0.true) in
+    subst (λ n. GaveMore n (g.F.Shelf.state c.args.shelf.now) (g.F.Shelf.state c.take_once.new.shelf)) all
+    (gave_last _ _ _ _ _ c.loop-bytes.invariant.given c.in_ok-count.ensures.given)
+
+pub returns-in_err-count-clause-given_before : goal.returns-in_err-count-clause-given_before
+returns-in_err-count-clause-given_before g c =
+    let p = err_from_is_err_and c.from_residual.result c.from_residual.ensures.1 in
+    rw (p.1, p.2) (
+      length c.loop-bytes.bytes.items,
+      c.loop-bytes.invariant.within,
+      gave_failed _ _ _ _ c.loop-bytes.invariant.given c.in_err-count.ensures.given_failed,
+    )
+
+pub returns-then-limit-len-clause-given_before : goal.returns-then-limit-len-clause-given_before
+returns-then-limit-len-clause-given_before g c =
+    let room : length c.loop-bytes.bytes.items + c.in_ok-count.count ≡ c.args.limit + 1 = omega (
+      arith,
+      c.in_ok-count.ensures.within,
+      length-take c.min-room.result c.loop-bytes.buffer,
+      c.if-limit-len.true,
+      c.len.ensures,
+      c.len-in-loop-bytes.ensures,
+      c.min-room.ensures,
+      c.loop-bytes.bytes.ok.0,
+    ) in
+    subst (λ n. GaveMore n (g.F.Shelf.state c.args.shelf.now) (g.F.Shelf.state c.take_once.new.shelf)) room
+    (gave_last _ _ _ _ _ c.loop-bytes.invariant.given c.in_ok-count.ensures.given)
+
+pub returns-in_err-extend_from_slice-clause-given_before : goal.returns-in_err-extend_from_slice-clause-given_before
+returns-in_err-extend_from_slice-clause-given_before g c =
+    let p = err_from_is_err_and c.from_residual-in_err-extend_from_slice.result c.from_residual-in_err-extend_from_slice.ensures.1 in
+    rw (p.1, p.2) (
+      length c.loop-bytes.bytes.items + c.in_ok-count.count,
+      omega (arith, c.loop-bytes.bytes.ok.0),
+      gave_more _ _ _ _ _ c.loop-bytes.invariant.given c.in_ok-count.ensures.given,
+    )

@@ -32,5 +32,7 @@ loop-name-preserved g c =
       names = ap (map named) items ∙ (map-append named c.loop-name.texts.items (c.in-Ok.text ∷ [])
           ∙ (ap (λ (x : List ℕ). map named c.loop-name.texts.items ++ x ∷ []) c.in-Ok.ensures.name
           ∙ (ap (λ front. front ++ name ∷ []) c.loop-name.invariant.names ∙ sym next)));
+      within = omega (arith, c.loop-name.invariant.within, c.in-Ok.ensures.within);
+      taken = omega (arith, c.loop-name.invariant.taken, c.read_one.ensures.taken);
       later = later_then _ _ _ c.loop-name.invariant.later c.read_one.ensures.later;
     }

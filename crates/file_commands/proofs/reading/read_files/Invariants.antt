@@ -1,6 +1,8 @@
-use Rattle.std.proofs.Common.{◌≡◌, take, map, Ok}
+use Rattle.std.proofs.Common.{◌≡◌, ◌≤◌, ◌+◌, ◌*◌, take, map, Ok}
 use Rattle.std.specs.Prelude.{IfSome}
-use Rattle.bench_shelf.specs.Causes.{Later}
+use Rattle.bench_shelf.specs.Causes.{Later, TookNoMore}
+use Rattle.count_defs.specs.Counts.{raised}
+use Rattle.report_defs.specs.Report.{largest_input}
 use Rattle.file_report_defs.specs.LinkedFiles.{read_files}
 use Rattle.file_commands.specs.Reading.{defined_texts}
 use Rattle.file_commands.proofs.reading.read_files.Given as goal
@@ -12,5 +14,7 @@ invariant-loop-name g l =
     record {
       read : IfSome (state l.fn.shelf).files (λ files. read_files files (take l.name-index l.names) ≡ Ok (defined_texts l.texts.items));
       names : map (λ text. text.name) l.texts.items ≡ take l.name-index l.names;
+      within : TookNoMore largest_input (state l.fn.shelf) (state l.shelf);
+      taken : (state l.shelf).source.taken ≤ raised (state l.fn.shelf).source.taken ((largest_input + 1) * l.name-index);
       later : Later (state l.fn.shelf) (state l.shelf);
     }

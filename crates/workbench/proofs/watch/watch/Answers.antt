@@ -15,7 +15,7 @@ returns-in-Err-TooLarge g c shelf =
     let err = g.E.Sink.state in
     let run : FileRun = record {
       input = g.S.Source.state c.args.input.now;
-      input' = g.S.Source.state c.read_source.new.input;
+      input' = g.S.Source.state c.read_all.new.source;
       shelf = shelf;
       shelf' = shelf;
       outputs = record { out = out c.args.out.now; out' = out c.finish.new.out; err = err c.args.err.now; err' = err c.finish.new.err };
@@ -32,7 +32,7 @@ returns-in-Ok-watch_source g c shelf =
     let finish = c.finish-in-Ok-watch_source in
     let run : FileRun = record {
       input = g.S.Source.state c.args.input.now;
-      input' = g.S.Source.state c.read_source.new.input;
+      input' = g.S.Source.state c.read_all.new.source;
       shelf = shelf;
       shelf' = shelf;
       outputs = record { out = out c.args.out.now; out' = out finish.new.out; err = err c.args.err.now; err' = err finish.new.err };

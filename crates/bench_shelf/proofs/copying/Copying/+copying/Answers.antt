@@ -6,6 +6,8 @@ use Rattle.source_defs.proofs.LaidLaws.{texts_of}
 use Rattle.bench_shelf.proofs.LoopLaws.{Follows, all_taken, follows_first, later_first, follows_more, follows_end, follows_refused, later_then, counts_first, counts_more, counts_grow, once_first}
 use Rattle.bench_shelf.proofs.CountLaws.{once_then}
 use Rattle.bench_shelf.proofs.SinceLaws.{causes_since, each_since}
+use Rattle.bench_shelf.proofs.Keeping.{within_then}
+use Rattle.shelf_defs.specs.Copied.{most_bytes}
 use Rattle.bench_shelf.proofs.FileLaws.{told_many, told_not_read, told_read}
 use Rattle.bench_shelf.proofs.copying.Copying.+copying.Goals as goal
 
@@ -25,7 +27,7 @@ pub copy_file-returns-clause-leads : goal.copy_file-returns-clause-leads
 copy_file-returns-clause-leads g t c =
     let some : 0 < c.args.levels = omega (arith, c.if-levels-eq0.false) in
     told_read c.args.self.now c.copy_lines.new.self c.args.levels c.args.place c.args.name some _ _ _ c.in-Ok.bytes.items _ _
-    c.read_named.ensures.later.files c.as_slice.ensures.value c.if-self-ge-MOST_COPIES.false c.in-Ok.ensures.ok
+    c.read_copied.ensures.later.files c.as_slice.ensures.value c.if-self-ge-MOST_COPIES.false c.in-Ok.ensures.ok
     (λ done holds. record { taken = holds.taken; places = holds.places }) refl c.copy_lines.ensures.leads
 
 pub copy_lines-returns-in-Err-clause-leads : goal.copy_lines-returns-in-Err-clause-leads
@@ -54,6 +56,7 @@ copy_lines-returns-then-is_ended-clause-leads g t c =
 pub copy_lines-loop-line-preserved : goal.copy_lines-loop-line-preserved
 copy_lines-loop-line-preserved g t c =
     let i = c.loop-line.invariant in
+    let state = g.F.Shelf.state in
     let text = c.args.text.now in
     let line = c.in-Some.line in
     let next = c.next.new.self in
@@ -71,6 +74,7 @@ copy_lines-loop-line-preserved g t c =
       follows_more c.args.levels c.args.file.now c.args.self.now c.loop-line.self c.copy_one.new.self (line_texts text) (texts_of text next) _
           line.number c.part.result.now first _ _ i.3.files going i.7 c.in-Ok.ensures.leads,
       λ has. c.copy_one.ensures.kept (i.8 has),
+      within_then most_bytes (state c.args.shelf.now) (state c.loop-line.shelf) (state c.copy_one.new.shelf) i.9 c.in-Ok.ensures.within,
     )
 
 pub copy_lines-returns-clause-leads : goal.copy_lines-returns-clause-leads
@@ -115,12 +119,13 @@ copy_lines-loop-line-init g t c =
       subst (λ left. IfSome told (Follows c.args.levels c.args.file.now old (line_texts text) old (texts_of text left))) (sym all)
           (follows_first c.args.levels c.args.file.now told old (line_texts text)),
       λ has. has,
+      omega arith,
     )
 
 pub copy_file-returns-clause-causes : goal.copy_file-returns-clause-causes
 copy_file-returns-clause-causes g t c =
-    each_since _ _ _ _ c.read_named.ensures.later c.copy_lines.ensures.causes
+    each_since _ _ _ c.read_copied.ensures.later c.in-Ok.ensures.within _ c.copy_lines.ensures.causes
 
 pub copy_lines-returns-in-Err-clause-causes : goal.copy_lines-returns-in-Err-clause-causes
 copy_lines-returns-in-Err-clause-causes g t c =
-    causes_since _ _ _ c.in-Err.error c.loop-line.invariant.3 c.in-Err.ensures.causes
+    causes_since _ _ _ c.loop-line.invariant.3 c.loop-line.invariant.9 c.in-Err.error c.in-Err.ensures.causes

@@ -1,5 +1,5 @@
 use Rattle.std.proofs.Common.{refl}
-use Rattle.bench_shelf.proofs.FolderLaws.{nothing_told, nothing_left, tells_refused, tells_counts, tells_faults, tells_misses}
+use Rattle.bench_shelf.proofs.FolderLaws.{nothing_told, nothing_left, tells_refused, tells_counts, tells_anew, tells_faults, tells_misses}
 use Rattle.bench_shelf.proofs.directory.DirShelfShelf.TheImpl.Goals as goal
 
 pub open_file-tells : goal.open_file-tells
@@ -11,6 +11,7 @@ open_file-tells g c =
       refused = tells_refused before after c.args.name.now c.result c.ensures;
       end = nothing_left c.result;
       counts = tells_counts before after c.result c.ensures;
+      anew = tells_anew before after c.result c.ensures;
       faults = tells_faults before after c.result c.ensures;
       misses = tells_misses before after c.result c.ensures;
       files = refl;

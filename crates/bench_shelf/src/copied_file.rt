@@ -1,0 +1,44 @@
+//! A file that a COPY line names.
+
+ghost use Rattle.std.specs.Prelude.{◌≡◌, ◌≤◌, ◌+◌, Ok, IfSome, IfOk, IfErr, OnOk, length};
+ghost use Rattle.count_defs.specs.Counts.{raised};
+ghost use Rattle.shelf_defs.specs.Copied.{most_bytes};
+ghost use Rattle.bench_shelf.specs.Causes.{Later, ShelfCauses, Reads, NotRead, TookNoMore};
+
+use crate::copy_error::{CopyCause, CopyError};
+use crate::error::FileError;
+use crate::file_name::FileName;
+use crate::named_file::read_named;
+use crate::place::Place;
+use crate::shelf::Shelf;
+use std::alloc::Global;
+
+/// The most bytes that a file has.
+const MOST_BYTES: usize = 262144;
+
+/// The bytes of the file that the COPY line at a place names.
+pub(crate) fn read_copied<F: Shelf>(
+    alloc: Global,
+    shelf: &mut F,
+    place: Place,
+    name: &FileName,
+) -> Result<Vec<u8>, CopyError>
+    ensures ok { IfOk result (λ bytes.
+        IfSome (F.state shelf.old).files (λ files. Reads files place name.now (Ok bytes.items))) }
+    ensures size { IfOk result (λ bytes. length bytes.items ≤ most_bytes) }
+    // No more than one byte past its limit is taken.
+    ensures taken { (F.state shelf.new).source.taken ≤ raised (F.state shelf.old).source.taken (most_bytes + 1) }
+    ensures err { IfErr result (λ error.
+        IfSome (F.state shelf.old).files (λ files. NotRead files place name.now error)) }
+    ensures causes { IfErr result (λ error. ShelfCauses error (F.state shelf.old) (F.state shelf.new)) }
+    ensures within { OnOk result (TookNoMore most_bytes (F.state shelf.old) (F.state shelf.new)) }
+    ensures later { Later (F.state shelf.old) (F.state shelf.new) }
+{
+    match read_named(alloc, shelf, name, MOST_BYTES) {
+        Ok(bytes) => Ok(bytes),
+        Err(FileError::Missing) => Err(place.refused(CopyCause::Missing(*name))),
+        Err(FileError::TooLarge) => Err(CopyError::TooLarge),
+        Err(FileError::Fault) => Err(CopyError::Fault),
+        Err(FileError::Memory) => Err(CopyError::Memory),
+    }
+}

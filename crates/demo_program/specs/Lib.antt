@@ -1,2 +1,0 @@
-pub use Rattle.report_defs.specs.DemoText
-pub use Rattle.report_defs.specs.Summary

@@ -1,2 +1,0 @@
-pub use Rattle.report_defs.specs.SourceFaults
-pub use Rattle.report_defs.specs.TextLines
