@@ -15,10 +15,10 @@ use std::alloc::{AllocError, Global};
 /// fault line or the usage line to `err`, and takes all its memory before the first byte is written. The lines of a
 /// trace are written while the program runs, each once its step is made.
 ///
-/// The contract says of each status its cause, and what the input and the outputs are then; that there is one report on
-/// each command and input; that where the bytes that the command reads are told and nothing fails, the answer is that
-/// report with its status, or want of memory; and that what `gdis` lists is assembled by `gasm`'s rules to the bytes
-/// that were listed.
+/// The contract says of each status its cause, and what the input and the outputs are then; that there is at most one
+/// report on each command and input; that where the bytes that the command reads are told and nothing fails, the answer
+/// is that report with its status, or want of memory; and that what `gdis` lists is assembled by `gasm`'s rules to the
+/// bytes that were listed.
 #[tactic(auto, using(crate::proofs::Uniqueness::laws))]
 pub fn bench<S: Source, O: Sink, E: Sink>(
     alloc: Global,

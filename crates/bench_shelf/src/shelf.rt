@@ -48,7 +48,7 @@ pub trait Shelf {
         ensures within { IfOk result (λ count. count ≤ length buffer.old) }
         ensures gave { IfOk result (λ count.
             Gave (state self.old).source.left (state self.new).source.left (take count buffer.new)) }
-        // Where the bytes are told, 0 comes only at the end. At the end `gave` leaves no other count.
+        // Where the bytes are told, 0 comes only at the end. Where nothing is left, `gave` allows 0 alone.
         ensures end { IfOk result (λ count. count ≡ 0 → IsAtEnd (state self.new).source.left) }
         ensures failed { OnErr result ((state self.new).source.left ≡ (state self.old).source.left) }
 

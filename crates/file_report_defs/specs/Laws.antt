@@ -5,7 +5,7 @@ use Rattle.report_defs.specs.Report.{Report}
 use Rattle.file_report_defs.specs.Words.{ProgramCommand}
 use Rattle.file_report_defs.specs.Whole.{ReportWith}
 
--- the law, which is proved: there is one report on each command, input and files
+-- the law, which is proved: there is at most one report on each command, input and files
 abbrev pub OneReportWith : Type 0
 OneReportWith =
     (command : ProgramCommand) (input : List ℕ) (files : Files) (first second : Report)

@@ -5,7 +5,7 @@ use Rattle.std.specs.Prelude.{ℕ, List}
 pub data LinkCause : Type 0 where
   -- a name that a DEF defines already
   DuplicateDef : (name : List ℕ) → LinkCause
-  -- a word at an odd address, or at one where nothing is loaded; the address is computed without wrap
+  -- a word at an odd address, or at one where no word may be loaded; the address is computed without wrap
   OutOfMemoryRange : (address : ℕ) → LinkCause
   -- a word at an address that has one
   Overlap : (address : ℕ) → LinkCause

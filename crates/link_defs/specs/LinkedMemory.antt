@@ -34,7 +34,7 @@ abbrev pub is_loadable : ℕ → Bool
 is_loadable address =
     (address % 2 == 0) && ((nat_le 0x0002 address && nat_le address 0x3FFE) || (nat_le 0xA000 address && nat_le address 0xFFFE))
 
--- a word at an address where none is loaded
+-- a word at an address where no word may be loaded
 abbrev pub is_outside : List (ℕ × ℕ) → ℕ × ℕ → Bool
 is_outside before word = not (is_loadable word.0)
 
@@ -51,7 +51,7 @@ abbrev pub first_entry : List ℕ → Result ℕ LinkCause
 first_entry [] = Err NoEntry
 first_entry (entry ∷ entries) = Ok entry
 
--- the word at an address, where a name that stands for so much may be used
+-- a loaded word, or the value of the name that is used in its place
 abbrev pub word_for : List (List ℕ × ℕ) → ℕ → Option (List ℕ) → ℕ
 word_for defs word None = word
 word_for defs word (Some name) = unwrap_or (value_in defs name) 0

@@ -12,7 +12,7 @@ use std::alloc::{AllocError, AllocFailed};
 pub enum LinkError {
     /// A DEF defines a name that one before it defines.
     DuplicateDef(Name),
-    /// A word stands at an odd address, or at one where none is loaded. The address is computed without wrap.
+    /// A word stands at an odd address, or at one where no word may be loaded. The address is computed without wrap.
     OutOfMemoryRange(u32),
     /// A word stands at the address of another.
     Overlap(u16),

@@ -98,7 +98,7 @@ fn word_line(words: &[u8], address: u16) -> Line
     line
 }
 
-/// What is said of an address where no word is loaded. It may have more than four digits.
+/// What is said of an address where no word may be loaded. It may have more than four digits.
 #[tactic(auto, using(std::proofs::Common::append_assoc))]
 fn address_line(address: u32) -> Line
     ensures { result.items ≡ spec.said_of (codes "outside memory ") (spec.marked_address address) }

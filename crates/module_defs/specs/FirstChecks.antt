@@ -133,7 +133,7 @@ module _ (known : Names) (here : Location) where
   abbrev pub absolute_in : List ℕ → Result ℕ ExprError
   absolute_in text = value text >>= absolute
 
-  -- What a line does to the location, where a relocatable one is the highest reached so far. Editor/Assembler manual,
+  -- What a line does to the location, by the highest relocatable location reached so far. Editor/Assembler manual,
   -- "Assembler Directives".
   abbrev pub move : ℕ → Statement → Result Move ExprError
   move reached Nothing = Ok (stays_at here 0)
@@ -199,7 +199,7 @@ lists_too_many before (Def names) = has_too_many before.defs names
 lists_too_many before (Ref names) = has_too_many before.refs names
 lists_too_many before _ = false
 
--- Profile: and so is a location past the end of its part.
+-- Profile: a location past the end of its part is refused.
 abbrev pub is_too_far : Before → Statement → Move → Bool
 is_too_far before statement move =
     not (is_in_part (location_behind before.location move)) || lists_too_many before statement

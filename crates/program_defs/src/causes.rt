@@ -19,10 +19,10 @@ pub enum GplCause {
     DuplicateLabel,
     /// An expression is refused.
     Expr(ExprError),
-    /// The line has no fields.
+    /// The line is too long, or its label is no name.
     Text(TextError),
     /// A byte that was placed before.
     Overlap,
-    /// EQU without a label; a GROM that starts nowhere; an offset past the last byte of a GROM.
+    /// EQU without a label; a GROM that is no multiple of >2000; an offset past the last byte of a GROM.
     BadDirective,
 }

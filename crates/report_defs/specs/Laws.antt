@@ -10,7 +10,7 @@ use Rattle.report_defs.specs.declared.command.Command.{Command}
 use Rattle.report_defs.specs.GromListing.{image_listing}
 use Rattle.report_defs.specs.Report.{Report, ReportOn}
 
--- the law, which is proved: there is one report on each command and input
+-- the law, which is proved: there is at most one report on each command and input
 abbrev pub OneReport : Type 0
 OneReport =
     (command : Command) (input : List ℕ) (first second : Report)

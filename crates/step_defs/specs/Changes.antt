@@ -25,7 +25,7 @@ unchanged s = record { state = s; shows = false }
 abbrev pub with_pc : ℕ → Changes → Changes
 with_pc address c = record c { state = record c.state { pc = address } }
 
--- Stores. A byte that is stored at the character's cell, equal to the old one or not, goes to the screen in the end.
+-- Profile: stores. A byte that is stored at the character's cell, equal to the old one or not, goes to the screen in the end.
 
 abbrev pub with_cell : ℕ → ℕ → Changes → Changes
 with_cell offset byte c =

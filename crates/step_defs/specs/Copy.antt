@@ -29,11 +29,11 @@ abbrev pub length_of : GplState → MoveLength → Result ℕ Reason
 length_of s (counted.At operand) = place_of s 2 operand >>= λ p. Ok (value_at s Word p)
 length_of s (counted.Immediate count) = Ok count
 
--- Profile: a length of 0 is one too.
+-- Profile: a length is at most 16,384 bytes, and 0 is one too.
 abbrev pub within_limit : ℕ → Result ℕ Reason
 within_limit bytes = if nat_lt 16384 bytes then Err Length else Ok bytes
 
--- Profile: the registers that are loaded must be there.
+-- Profile: the number of the first register and the length together are at most 8.
 abbrev pub target_of : GplState → ℕ → MoveTarget → Result To Reason
 target_of s bytes (target.At operand) = place_of s bytes operand >>= λ p. Ok (ToMemory p)
 target_of s bytes (target.Register number) =

@@ -3,7 +3,7 @@
 /// How many cells GPL sees. The interpreter keeps its own words in those behind them.
 pub const VISIBLE_CELLS: u8 = 0xC2;
 
-/// The pointer of the data stack: the cell that holds the offset of its last byte.
+/// The pointer of the data stack, on which PUSH puts values: the cell that holds the offset of its last byte.
 pub const VALUE_STACK: u8 = 0x72;
 
 /// The pointer of the stack of return addresses: the cell that holds the offset of its last word.
