@@ -79,7 +79,7 @@ const PROGRAMS: &[(&[u8], &[u8], Status, &[u8], &[u8])] = &[
         b"S DST V@>3FFF,>1234\n END S\n",
         Status::Done,
         b"gpl >6006 S00 D9F R7E\npad\n",
-        b"\nvdp\n>0000 34 00 00 00 00 00 00 00 00 00 00 00 00 00 00 00\n",
+        b"\nvdp\n>0000 34 00 00 00 00 00 00 00 00 00 00 00 00 00 00 00\n>0010 00 00 00 00 00 00 00 00 00 00 00 00 00 00 00 00\n*\n>3FF0 00 00 00 00 00 00 00 00 00 00 00 00 00 00 00 12\nregs",
     ),
     // the character goes to the screen, at the row and the column in the cells behind it
     (

@@ -23,219 +23,239 @@ pub(crate) const CARTRIDGE: &[u8] =
 ;SHOW CASE @COUNT; BR NONE; BR ONE; BR TWO; BR THREE;THREE MOVE 5,V@0,G@HELLO; RTN;TWO ST V@>0021,@COUNT; RTN\
 ;ONE ADD @SUM,>7F; RTN;NONE RTN; END START";
 
+/// A subroutine that fetches the byte behind its call.
+const FETCHING: &[u8] = b"S CALL GET; BYTE >5A; EXIT;GET FETCH @>8300; RTN; END S";
+
 /// What a trace shows: a name, the words behind `trace`, the statements of a source (apart by semicolons, each behind
 /// its label's column), the first lines of the report, and the status.
-const TRACES: &[(&str, &[u8], &[u8], &[&[u8]], Status)] = &[
+const TRACES: &[(&str, &[u8], &[u8], &[u8], Status)] = &[
     (
         "a subroutine in the last bytes of a GROM",
         b"5",
         b" EXIT; AORG >1FF0;SUB RTN; AORG >1FFD;S CALL SUB; END S",
-        &[
-            b"     1 >7FFD S00 D9F R7E CALL >7FF0 C2 >8373=80",
-            b"     2 >7FF0 S00 D9F R80 RTN C1 >8373=7E",
-            b"exit at >6000",
-            b"gpl >6000 S00 D9F R7E",
-            b"pad",
-        ],
+        b"     1 >7FFD S00 D9F R7E CALL >7FF0 C2 >8373=80
+     2 >7FF0 S00 D9F R80 RTN C1 >8373=7E
+exit at >6000
+gpl >6000 S00 D9F R7E
+pad
+",
         Status::Done,
     ),
     (
         "a stack of return addresses that is full",
         b"5",
         b"S ST @>8373,>C0; CALL S; END S",
-        &[
-            b"     1 >6000 S00 D9F R7E ST @>8373,>C0 C1 >8373=C0",
-            b"stop 3 at >6003",
-            b"gpl >6003 S00 D9F RC0",
-            b"pad",
-        ],
+        b"     1 >6000 S00 D9F R7E ST @>8373,>C0 C1 >8373=C0
+stop 3 at >6003
+gpl >6003 S00 D9F RC0
+pad
+",
         Status::Stopped,
     ),
     (
         "a code byte that is no instruction's, in the third step",
         b"5",
         b"S ST @>8300,5; INC @>8300; BYTE >0F,>77; END S",
-        &[
-            b"     1 >6000 S00 D9F R7E ST @>8300,>05 C1 >8300=05",
-            b"     2 >6003 S00 D9F R7E INC @>8300 C2 >8300=06",
-            b"stop 1 at >6005",
-            b"gpl >6005 SC0 D9F R7E",
-            b"pad",
-        ],
+        b"     1 >6000 S00 D9F R7E ST @>8300,>05 C1 >8300=05
+     2 >6003 S00 D9F R7E INC @>8300 C2 >8300=06
+stop 1 at >6005
+gpl >6005 SC0 D9F R7E
+pad
+",
         Status::Stopped,
     ),
     (
         "no step",
         b"0",
         b"S ST @>8300,5; INC @>8300; BYTE >0F,>77; END S",
-        &[b"gpl >6000 S00 D9F R7E", b"pad"],
+        b"gpl >6000 S00 D9F R7E
+pad
+",
         Status::Done,
     ),
     (
         "two steps of three",
         b"2",
         b"S ST @>8300,5; INC @>8300; BYTE >0F,>77; END S",
-        &[
-            b"     1 >6000 S00 D9F R7E ST @>8300,>05 C1 >8300=05",
-            b"     2 >6003 S00 D9F R7E INC @>8300 C2 >8300=06",
-            b"gpl >6005 SC0 D9F R7E",
-            b"pad",
-        ],
+        b"     1 >6000 S00 D9F R7E ST @>8300,>05 C1 >8300=05
+     2 >6003 S00 D9F R7E INC @>8300 C2 >8300=06
+gpl >6005 SC0 D9F R7E
+pad
+",
         Status::Done,
     ),
     (
         "the first random number",
         b"5",
         b"S RAND 9; EXIT; END S",
-        &[
-            b"     1 >6000 S00 D9F R7E RAND >09 C3 >8378=02",
-            b"exit at >6002",
-        ],
+        b"     1 >6000 S00 D9F R7E RAND >09 C3 >8378=02
+exit at >6002
+",
         Status::Done,
     ),
     (
         "a byte behind a call",
         b"9",
-        b"S CALL GET; BYTE >5A; EXIT;GET FETCH @>8300; RTN; END S",
-        &[
-            b"     1 >6000 S00 D9F R7E CALL >6005 C3 >8373=80",
-            b"     2 >6005 S00 D9F R80 FETCH @>8300 C2 >8300=5A",
-            b"     3 >6007 S00 D9F R80 RTN C1 >8373=7E",
-            b"exit at >6004",
-            b"gpl >6004 S00 D9F R7E",
-        ],
+        FETCHING,
+        b"     1 >6000 S00 D9F R7E CALL >6005 C3 >8373=80
+     2 >6005 S00 D9F R80 FETCH @>8300 C2 >8300=5A
+     3 >6007 S00 D9F R80 RTN C1 >8373=7E
+exit at >6004
+gpl >6004 S00 D9F R7E
+",
         Status::Done,
     ),
     (
         "a byte on the data stack",
         b"5",
         b"S ST @>8300,7; PUSH @>8300; EXIT; END S",
-        &[
-            b"     1 >6000 S00 D9F R7E ST @>8300,>07 C1 >8300=07",
-            b"     2 >6003 S00 D9F R7E PUSH @>8300 C2 >8372=A0",
-            b"exit at >6005",
-            b"gpl >6005 S00 DA0 R7E",
-        ],
+        b"     1 >6000 S00 D9F R7E ST @>8300,>07 C1 >8300=07
+     2 >6003 S00 D9F R7E PUSH @>8300 C2 >8372=A0
+exit at >6005
+gpl >6005 S00 DA0 R7E
+",
         Status::Done,
     ),
     (
         "a data stack that is full",
         b"5",
         b"S ST @>8372,>C1; PUSH @>8300; END S",
-        &[
-            b"     1 >6000 S00 D9F R7E ST @>8372,>C1 C1 >8372=C1",
-            b"stop 3 at >6003",
-            b"gpl >6003 S00 DC1 R7E",
-        ],
+        b"     1 >6000 S00 D9F R7E ST @>8372,>C1 C1 >8372=C1
+stop 3 at >6003
+gpl >6003 S00 DC1 R7E
+",
         Status::Stopped,
     ),
     (
         "a return address over the character's cell",
         b"5",
         b"S ST @>8373,>7B; CALL T;T EXIT; END S",
-        &[
-            b"     1 >6000 S00 D9F R7E ST @>8373,>7B C1 >8373=7B",
-            b"     2 >6003 S00 D9F R7B CALL >6006 C3 >8373=7D V1 >00C0=60",
-            b"exit at >6006",
-            b"gpl >6006 S00 D9F R7D",
-        ],
+        b"     1 >6000 S00 D9F R7E ST @>8373,>7B C1 >8373=7B
+     2 >6003 S00 D9F R7B CALL >6006 C3 >8373=7D V1 >00C0=60
+exit at >6006
+gpl >6006 S00 D9F R7D
+",
         Status::Done,
     ),
     (
         "branches and a table of them",
         b"20",
         b"S ST @>8300,1; CASE @>8300; BR N;ONE CEQ @>8300,1; BS TWO;N EXIT;TWO CEQ @>8300,2; BR OUT; EXIT;OUT DST V@>3FFF,>1234; EXIT; END S",
-        &[
-            b"     1 >6000 S00 D9F R7E ST @>8300,>01 C1 >8300=01",
-            b"     2 >6003 S00 D9F R7E CASE @>8300",
-            b"     3 >6007 S00 D9F R7E CEQ @>8300,>01 C1 >837C=20",
-            b"     4 >600A S20 D9F R7E BS >600D C1 >837C=00",
-            b"     5 >600D S00 D9F R7E CEQ @>8300,>02",
-            b"     6 >6010 S00 D9F R7E BR >6013",
-            b"     7 >6013 S00 D9F R7E DST V@>3FFF,>1234 V2 >0000=34",
-            b"exit at >6019",
-        ],
+        b"     1 >6000 S00 D9F R7E ST @>8300,>01 C1 >8300=01
+     2 >6003 S00 D9F R7E CASE @>8300
+     3 >6007 S00 D9F R7E CEQ @>8300,>01 C1 >837C=20
+     4 >600A S20 D9F R7E BS >600D C1 >837C=00
+     5 >600D S00 D9F R7E CEQ @>8300,>02
+     6 >6010 S00 D9F R7E BR >6013
+     7 >6013 S00 D9F R7E DST V@>3FFF,>1234 V2 >0000=34
+exit at >6019
+",
         Status::Done,
     ),
     (
         "a return that keeps the condition, and one that does not",
         b"9",
         b"S CZ @>8300; CALL A; CALL B; EXIT;A RTNC;B RTN; END S",
-        &[
-            b"     1 >6000 S00 D9F R7E CZ @>8300 C1 >837C=20",
-            b"     2 >6002 S20 D9F R7E CALL >6009 C3 >8373=80",
-            b"     3 >6009 S20 D9F R80 RTNC C1 >8373=7E",
-            b"     4 >6005 S20 D9F R7E CALL >600A C2 >8373=80",
-            b"     5 >600A S20 D9F R80 RTN C2 >8373=7E",
-            b"exit at >6008",
-        ],
+        b"     1 >6000 S00 D9F R7E CZ @>8300 C1 >837C=20
+     2 >6002 S20 D9F R7E CALL >6009 C3 >8373=80
+     3 >6009 S20 D9F R80 RTNC C1 >8373=7E
+     4 >6005 S20 D9F R7E CALL >600A C2 >8373=80
+     5 >600A S20 D9F R80 RTN C2 >8373=7E
+exit at >6008
+",
         Status::Done,
     ),
     (
         "bytes that are copied over themselves, and no bytes",
         b"5",
         b"S DST @>8300,>0102; DST @>8302,>0304; MOVE 4,@>8301,@>8300; MOVE 0,V@0,G@>6000; EXIT; END S",
-        &[
-            b"     1 >6000 S00 D9F R7E DST @>8300,>0102 C2 >8300=01",
-            b"     2 >6004 S00 D9F R7E DST @>8302,>0304 C2 >8302=03",
-            b"     3 >6008 S00 D9F R7E MOVE >0004,@>8301,@>8300 C4 >8301=01",
-            b"     4 >600D S00 D9F R7E MOVE >0000,V@>0000,G@>6000",
-            b"exit at >6014",
-        ],
+        b"     1 >6000 S00 D9F R7E DST @>8300,>0102 C2 >8300=01
+     2 >6004 S00 D9F R7E DST @>8302,>0304 C2 >8302=03
+     3 >6008 S00 D9F R7E MOVE >0004,@>8301,@>8300 C4 >8301=01
+     4 >600D S00 D9F R7E MOVE >0000,V@>0000,G@>6000
+exit at >6014
+",
         Status::Done,
     ),
     (
         "bytes that are copied over the character's cell and its place",
         b"5",
         b"S DST @>837E,>0502; MOVE 3,@>837C,G@T; EXIT;T BYTE >20,>41,>01; END S",
-        &[
-            b"     1 >6000 S00 D9F R7E DST @>837E,>0502 C2 >837E=05",
-            b"     2 >6004 S00 D9F R7E MOVE >0003,@>837C,G@>600B C3 >837C=20 V1 >0022=41",
-            b"exit at >600A",
-            b"gpl >600A S20 D9F R7E",
-        ],
+        b"     1 >6000 S00 D9F R7E DST @>837E,>0502 C2 >837E=05
+     2 >6004 S00 D9F R7E MOVE >0003,@>837C,G@>600B C3 >837C=20 V1 >0022=41
+exit at >600A
+gpl >600A S20 D9F R7E
+",
         Status::Done,
     ),
     (
         "bytes across the end of a GROM, by an index, to registers, and over the end of video memory",
         b"9",
         b"S DST @>8300,>1FFE; MOVE 3,@>8310,G@>6000(@>8300); MOVE 2,R@6,G@>6000; MOVE 2,V@>3FFF,@>8311; MOVE @>8312,V@0,@>8300; END S",
-        &[
-            b"     1 >6000 S00 D9F R7E DST @>8300,>1FFE C2 >8300=1F",
-            b"     2 >6004 S00 D9F R7E MOVE >0003,@>8310,G@>6000(@>8300) C1 >8312=BF",
-            b"     3 >600B S00 D9F R7E MOVE >0002,R@>06,G@>6000 W1 6=BF",
-            b"     4 >6011 S00 D9F R7E MOVE >0002,V@>3FFF,@>8311 V1 >0000=BF",
-            b"stop 4 at >6018",
-        ],
+        b"     1 >6000 S00 D9F R7E DST @>8300,>1FFE C2 >8300=1F
+     2 >6004 S00 D9F R7E MOVE >0003,@>8310,G@>6000(@>8300) C1 >8312=BF
+     3 >600B S00 D9F R7E MOVE >0002,R@>06,G@>6000 W1 6=BF
+     4 >6011 S00 D9F R7E MOVE >0002,V@>3FFF,@>8311 V1 >0000=BF
+stop 4 at >6018
+",
         Status::Stopped,
+    ),
+    (
+        "a MOVE of no bytes as the first step",
+        b"5",
+        b"S MOVE 0,V@0,G@>6000; EXIT; END S",
+        b"     1 >6000 S00 D9F R7E MOVE >0000,V@>0000,G@>6000
+exit at >6007
+",
+        Status::Done,
+    ),
+    (
+        "the character, stored at its cell",
+        b"5",
+        b"S DST @>837E,>0102; ST @>837D,>41; EXIT; END S",
+        b"     1 >6000 S00 D9F R7E DST @>837E,>0102 C2 >837E=01
+     2 >6004 S00 D9F R7E ST @>837D,>41 C1 >837D=41 V1 >0022=41
+exit at >6007
+gpl >6007 S00 D9F R7E
+",
+        Status::Done,
+    ),
+    (
+        "the character, stored as the second byte of a word, of which the first is the status",
+        b"5",
+        b"S DST @>837C,>2041; EXIT; END S",
+        b"     1 >6000 S00 D9F R7E DST @>837C,>2041 C2 >837C=20 V1 >0000=41
+exit at >6004
+gpl >6004 S20 D9F R7E
+",
+        Status::Done,
     ),
 ];
 
 #[test]
 fn steps_are_shown(rt: HostRuntime) -> Result<(), Fail> {
-    for (name, limit, source, lines, status) in TRACES {
+    for (name, limit, source, front, status) in TRACES {
         assert!(rt;
-            traces(rt.alloc(), limit, source, lines, *status)?,
+            traces(rt.alloc(), limit, source, front, *status)?,
             "{name}"
         );
     }
     Ok(())
 }
 
-/// Whether `trace` shows these lines first, and ends with the status.
+/// Whether what `trace` shows begins so, and ends with the status.
 fn traces(
     alloc: Global,
     limit: &[u8],
     statements: &[u8],
-    lines: &[&[u8]],
+    front: &[u8],
     status: Status,
 ) -> Result<bool, AllocError> {
     let ended = traced(alloc, limit, statements, &[])?;
-    let shown = ended.out.bytes().split(|&byte| byte == b'\n');
     Ok(
         ended.status == status
             && ended.err.bytes().is_empty()
-            && shown.zip(lines.iter()).all(|(got, wanted)| got == *wanted),
+            && ended.out.bytes().starts_with(front),
     )
 }
 
@@ -318,7 +338,7 @@ fn play_begins_where_a_session_stands(rt: HostRuntime) -> Result<(), Fail> {
 
 #[test]
 fn failed_trace_keeps_its_first_lines(rt: HostRuntime) -> Result<(), Fail> {
-    let ended = traced(rt.alloc(), b"5", TRACES[6].2, &[1])?;
+    let ended = traced(rt.alloc(), b"5", FETCHING, &[1])?;
     assert_eq!(rt; ended.status, Status::WriteFault);
     assert!(rt;
         ended.out.bytes() == b"     1 >6000 S00 D9F R7E CALL >6005 C3 >8373=80\n".as_slice()

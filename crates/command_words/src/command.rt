@@ -1,6 +1,6 @@
 //! Which command the words say.
 
-ghost use Rattle.std.specs.Prelude.{◌≡◌, IfSome};
+ghost use Rattle.std.specs.Prelude.{◌≡◌, ◌∷◌, [], IfSome};
 ghost use Rattle.report_defs.specs.Commands as spec;
 ghost use Rattle.report_defs.specs.Commands.{KeepsLimit};
 
@@ -23,30 +23,99 @@ pub fn read_command(words: &Words) -> Option<Command>
     ensures limit { IfSome result KeepsLimit }
 {
     match words.as_slice() {
-        [name] if name.as_slice() == b"asm".as_slice() => Some(Command::Asm),
-        [name] if name.as_slice() == b"gasm".as_slice() => Some(Command::Gasm),
-        [name] if name.as_slice() == b"link".as_slice() => Some(Command::Link),
-        [name] if name.as_slice() == b"interp".as_slice() => Some(Command::Interp),
-        [name, limit] if name.as_slice() == b"exec".as_slice() => {
-            let limit = number_word(limit.as_slice(), MOST_INSTRUCTIONS)?;
-            Some(Command::Exec { limit })
-        }
-        [name, limit] if name.as_slice() == b"run".as_slice() => {
-            let limit = number_word(limit.as_slice(), MOST_STEPS)?;
-            Some(Command::Run { limit })
-        }
-        [name, limit] if name.as_slice() == b"trace".as_slice() => {
-            let limit = number_word(limit.as_slice(), MOST_STEPS)?;
-            Some(Command::Trace { limit })
-        }
-        [name, number] if name.as_slice() == b"demo".as_slice() => demo_of(number.as_slice()),
-        [name, address] if name.as_slice() == b"dis".as_slice() => dis_at(address.as_slice()),
-        [name, address] if name.as_slice() == b"gdis".as_slice() => {
-            let at = address_word(address.as_slice())?;
-            Some(Command::Gdis { at })
-        }
+        [name] => command_alone(name.as_slice()),
+        [name, word] => command_with(name.as_slice(), word.as_slice()),
         _ => None,
     }
+}
+
+/// Whether a word is a name.
+fn is_same(word: &[u8], name: &[u8]) -> bool
+    ensures { result ≡ spec.same_word word.now name.now }
+{
+    word == name
+}
+
+/// The command of one word.
+fn command_alone(name: &[u8]) -> Option<Command>
+    ensures command { result ≡ spec.command_of (name.now ∷ []) }
+    ensures limit { IfSome result KeepsLimit }
+{
+    if is_same(name, b"asm") {
+        return Some(Command::Asm);
+    }
+    if is_same(name, b"gasm") {
+        return Some(Command::Gasm);
+    }
+    if is_same(name, b"link") {
+        return Some(Command::Link);
+    }
+    if is_same(name, b"interp") {
+        return Some(Command::Interp);
+    }
+    None
+}
+
+/// The command of two words.
+fn command_with(name: &[u8], word: &[u8]) -> Option<Command>
+    ensures command { result ≡ spec.command_of (name.now ∷ word.now ∷ []) }
+    ensures limit { IfSome result KeepsLimit }
+{
+    if is_same(name, b"exec") {
+        return exec_up_to(word);
+    }
+    if is_same(name, b"run") {
+        return run_up_to(word);
+    }
+    if is_same(name, b"trace") {
+        return trace_up_to(word);
+    }
+    if is_same(name, b"demo") {
+        return demo_of(word);
+    }
+    if is_same(name, b"dis") {
+        return dis_at(word);
+    }
+    if is_same(name, b"gdis") {
+        return gdis_at(word);
+    }
+    None
+}
+
+/// The command `exec` with a limit.
+fn exec_up_to(word: &[u8]) -> Option<Command>
+    ensures command { result ≡ spec.exec_command word.now }
+    ensures limit { IfSome result KeepsLimit }
+{
+    let limit = number_word(word, MOST_INSTRUCTIONS)?;
+    Some(Command::Exec { limit })
+}
+
+/// The command `run` with a limit.
+fn run_up_to(word: &[u8]) -> Option<Command>
+    ensures command { result ≡ spec.run_command word.now }
+    ensures limit { IfSome result KeepsLimit }
+{
+    let limit = number_word(word, MOST_STEPS)?;
+    Some(Command::Run { limit })
+}
+
+/// The command `trace` with a limit.
+fn trace_up_to(word: &[u8]) -> Option<Command>
+    ensures command { result ≡ spec.trace_command word.now }
+    ensures limit { IfSome result KeepsLimit }
+{
+    let limit = number_word(word, MOST_STEPS)?;
+    Some(Command::Trace { limit })
+}
+
+/// The command `gdis` with an address.
+fn gdis_at(word: &[u8]) -> Option<Command>
+    ensures command { result ≡ spec.gdis_command word.now }
+    ensures limit { IfSome result KeepsLimit }
+{
+    let at = address_word(word)?;
+    Some(Command::Gdis { at })
 }
 
 /// The command `demo` with a number, where that is not 0.

@@ -8,7 +8,7 @@ use std::alloc::{AllocError, Global};
 use std::marker::Brand;
 use std::sync::ledger::{Blank, Ledger};
 use std::test::Fail;
-use tms_step::{Machine, RunEnd, Steps};
+use tms_step::{Machine, RunEnd, StepEnd, Steps};
 use vdp_ports::Vdp;
 
 /// A machine with the workspace at >83E0 and the words from >A000 on, where it begins. Extended operation 2 has its
@@ -202,6 +202,28 @@ const THROUGH_PORTS: &[u16] = &[
 const FROM_A_REGISTER_AT_A_PORT: &[u16] = &[
     0x0202, 0xAB00, 0xD802, 0x8C00, 0x02E0, 0x87FE, 0xD801, 0x83E2, 0x02E0, 0x83E0, 0x10FF,
 ];
+
+/// Whether XOP R5,2 goes on at its entry, in its workspace, with the address of R5 and where to return in its registers.
+fn keeps_its_return(alloc: Global) -> Result<bool, AllocError> {
+    let mut machine = loaded(alloc, &[0x2C85])?;
+    let end = machine.step();
+    Ok(
+        end == StepEnd::Done(0x2C85)
+            && machine.wp() == 0xA100
+            && machine.pc() == 0xA200
+            && machine.st() == 0x0200
+            && register(&machine, 11) == 0x83EA
+            && register(&machine, 13) == 0x83E0
+            && register(&machine, 14) == 0xA002
+            && register(&machine, 15) == 0,
+    )
+}
+
+#[test]
+fn an_extended_operation_keeps_its_return(rt: HostRuntime) -> Result<(), Fail> {
+    assert!(rt; keeps_its_return(rt.alloc())?);
+    Ok(())
+}
 
 #[test]
 fn programs_run_to_the_first_end(rt: HostRuntime) -> Result<(), Fail> {

@@ -19,6 +19,18 @@ const CASES: &[(&str, &[Access], u16, bool)] = &[
     ("new", &[], 0, true),
     ("first byte of a pair", &[WriteAddress(0x12)], 0, false),
     (
+        "an address to read from is one ahead",
+        &[
+            WriteAddress(0x00),
+            WriteAddress(0x41),
+            WriteData(0x12),
+            WriteAddress(0x00),
+            WriteAddress(0x01),
+        ],
+        0x0101,
+        true,
+    ),
+    (
         "a write, then a read of the same place",
         &[
             WriteAddress(0x00),
@@ -160,6 +172,7 @@ fn writes_registers(alloc: Global) -> Result<bool, AllocError> {
     let agree = all_agree(&mut vdp, REGISTERS);
     Ok(
         agree
+            && vdp.is_idle()
             && vdp.register(0) == 0
             && vdp.register(1) == 0xE0
             && vdp.register(7) == 0xA5

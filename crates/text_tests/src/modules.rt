@@ -93,6 +93,23 @@ fn gives(alloc: Global, source: &[u8], words: &[Piece]) -> bool {
     }
 }
 
+/// Whether a name of REF that is used twice is told with the place of its last use.
+fn tells_the_last_use(alloc: Global) -> bool {
+    match assemble(alloc, b" REF FOO\n DATA FOO,1,FOO\n") {
+        Ok(module) => match module.refs.as_slice() {
+            [used] => used.name.as_bytes() == b"FOO".as_slice() && used.last == Spot::Relocatable(4),
+            _ => false,
+        },
+        Err(_) => false,
+    }
+}
+
+#[test]
+fn a_name_of_ref_has_its_last_use(rt: HostRuntime) -> Result<(), Fail> {
+    assert!(rt; tells_the_last_use(rt.alloc()));
+    Ok(())
+}
+
 #[test]
 fn assembles_sources(rt: HostRuntime) -> Result<(), Fail> {
     for &(source, words) in ASSEMBLED {
