@@ -1,4 +1,5 @@
--- The first checks of an instruction line: the operation, the number of its operands, and their forms.
+-- The first checks of an instruction line. Profile: the operation is asked first, then the number of its operands, then
+-- their forms.
 use Rattle.std.specs.Prelude.{ℕ, ◌+◌, ◌*◌, ◌==◌, Bool, ◌||◌, if◌then◌else◌, List, [], ◌∷◌, length, slice_index, Option}
 use Rattle.std.specs.Prelude.{Some, None, Result, Ok, Err}
 use Rattle.source_defs.specs.Refusals.{◌>>=◌}

@@ -1,4 +1,5 @@
--- The second checks of an instruction line: the values of its operands from the left, then their ranges; and its words.
+-- The second checks of an instruction line, and its words. Profile: the values of its operands are asked from the left,
+-- and all of them before their ranges.
 use Rattle.std.specs.Prelude.{ℕ, ℤ, pos, neg_ℤ, ◌+◌, ◌-◌, ◌/◌, ◌%◌, ◌==◌, Bool, ◌&&◌, ◌||◌, nat_le, nat_lt}
 use Rattle.std.specs.Prelude.{if◌then◌else◌, List, [], ◌∷◌, ◌++◌, Option, Some, None, Result, Ok, Err}
 use Rattle.std.specs.Int.{w16, cast_signed}
@@ -132,7 +133,7 @@ backward bytes = if (bytes % 2 == 0) && nat_le bytes 256 then Some (neg_ℤ (pos
 abbrev pub displacement_to : ℕ → ℕ → Option ℤ
 displacement_to next target = if nat_le next target then forward (target - next) else backward (next - target)
 
--- a register or a count is below 16
+-- A register or a count is below 16. TMS9900 data manual, "Instruction formats".
 abbrev pub below_sixteen : ℕ → Result ℕ FormError
 below_sixteen number = if nat_lt number 16 then Ok number else Err BadOperand
 
@@ -140,7 +141,7 @@ below_sixteen number = if nat_lt number 16 then Ok number else Err BadOperand
 abbrev pub is_index : ℕ → Bool
 is_index register = nat_lt 0 register && nat_lt register 16
 
--- the displacement of a bit is a signed byte
+-- The displacement of a bit is a signed byte. TMS9900 data manual, "CRU single-bit instructions".
 abbrev pub is_displacement : ℕ → Bool
 is_displacement number = nat_lt number 128 || nat_le 0xFF80 number
 

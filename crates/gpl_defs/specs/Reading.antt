@@ -41,7 +41,8 @@ space_of false = Cpu
 abbrev pub space_at : ℕ → Space
 space_at first = space_of (first / 32 % 2 == 1)
 
--- the low four bits of an operand's first byte begin its address, unless they are ones
+-- Profile: the bits of an operand's first byte, as `Bytes` writes them. The low four begin its address, unless they are
+-- ones.
 abbrev pub address_at : ℕ → List ℕ → ℕ → ℕ × ℕ
 address_at first image at =
     if first % 16 == 15 then word_at image at else (join (first % 16) (slice_index image at), next_in_grom at)

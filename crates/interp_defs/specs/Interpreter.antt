@@ -21,7 +21,7 @@ HoldsRegister memory number word = word_read memory (register_in WORKSPACE numbe
 abbrev pub constants : List (ℕ × ℕ)
 constants = []
 
--- At the dispatch of a step, where the first table has led, these two registers hold the code byte and its address.
+-- Profile: at the dispatch of a step, where the first table has led, these two registers hold the code byte and its address.
 abbrev pub code_register : ℕ
 code_register = 0
 

@@ -46,7 +46,7 @@ pub record Matches (s : GplState) (x : MachineState) : Type 0 where
   pub matching : IsMatching x
   pub shows : shown_by x.cpu.memory ≡ s
 
--- Where a program leaves by EXIT the machine is at GEXIT; where it stops the machine is at GSTOP, and register
+-- Profile: where a program leaves by EXIT the machine is at GEXIT; where it stops the machine is at GSTOP, and register
 -- 0 has the number of the reason.
 abbrev pub StandsBy : Reason → MachineState → Type 0
 StandsBy Exit x = x.cpu.pc ≡ GEXIT

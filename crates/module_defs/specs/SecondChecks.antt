@@ -1,4 +1,5 @@
--- The second checks of a line: the values of its operands from the left, then their ranges; and what it places.
+-- The second checks of a line, and what it places. Profile: the values of its operands are asked from the left, and all
+-- of them before their ranges.
 use Rattle.std.specs.Prelude.{ℕ, ◌%◌, ◌==◌, Bool, false, nat_le, if◌then◌else◌, List, [], ◌∷◌, Option, Some, Result, Ok}
 use Rattle.std.specs.Prelude.{Err}
 use Rattle.source_defs.specs.Refusals.{◌>>=◌}

@@ -1,4 +1,4 @@
-//! Addresses in the interpreter.
+//! Addresses in the interpreter. Profile: where the interpreter and its workspace stand.
 
 /// The interpreter's workspace: the address of its register 0.
 pub const WORKSPACE: u16 = 0x83E0;

@@ -53,7 +53,8 @@ in_quotes line from to = count_by is_quote (slice_range line from to) % 2 == 1
 abbrev pub ends_field : List ℕ → ℕ → ℕ → Bool
 ends_field line start k = is_blank (slice_index line k) && not (in_quotes line start k)
 
--- The operand field goes up to a blank outside quotes, or to the line's end.
+-- The operand field goes up to a blank outside quotes, or to the line's end. Profile: quotes that are not closed go to
+-- the line's end too.
 abbrev pub operand_end : List ℕ → ℕ → ℕ
 operand_end line start = least_place (ends_field line start) line start
 

@@ -1,7 +1,7 @@
 -- Where the lines of a source are placed, for any assembler.
 --
--- The first checks judge a line by the lines before it, of which the nearest stands first. The second checks are made
--- only where the first refuse no line, and see the names of all lines.
+-- Profile: the first checks judge a line by the lines before it, of which the nearest stands first. The second
+-- checks are made only where the first refuse no line, and see the names of all lines.
 use Rattle.std.specs.Prelude.{ℕ, ◌+◌, if◌then◌else◌, Bool, false, ◌||◌, List, [], ◌∷◌, map, Option, Some, None, Result}
 use Rattle.std.specs.Prelude.{Ok}
 use Rattle.std.specs.FinMap.{insert}

@@ -15,7 +15,7 @@ Names = FinMap (slice_cmp nat_cmp) Value
 abbrev pub register_name : ℕ → List ℕ
 register_name number = if nat_lt number 10 then 0x52 ∷ (0x30 + number) ∷ [] else 0x52 ∷ 0x31 ∷ (0x26 + number) ∷ []
 
--- Profile: R0 to R15 stand for 0 to 15 from the start.
+-- Profile: R0 to R15 stand for 0 to 15 from the start, so a label of that name is a second one.
 unfoldable pub registers : List (List ℕ × Value)
 registers = map (λ number. (register_name number, Absolute number)) (range_with_len 0 16)
 

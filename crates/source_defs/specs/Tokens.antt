@@ -67,7 +67,8 @@ name_end text from = least_place (λ k. not (is_letter_or_digit (slice_index tex
 abbrev pub ends_text : List ℕ → ℕ → ℕ → Bool
 ends_text text start k = not (is_quote (slice_index text k)) && not (in_quotes text start k)
 
--- A quoted text goes up to a byte outside its quotes, or to the text's end. Two quotes inside it do not end it.
+-- A quoted text goes up to a byte outside its quotes. Two quotes inside it do not end it. Profile: where the quotes are
+-- not closed it goes to the text's end.
 abbrev pub text_end : List ℕ → ℕ → ℕ
 text_end text start = least_place (ends_text text start) text start
 
@@ -95,6 +96,7 @@ hexadecimal_token text start =
     else number_token start end (hexadecimal_number (slice_range text (start + 1) end))
 
 -- Editor/Assembler manual, "Symbols": the longest run of letters and digits is a name, of at most six characters.
+-- Profile: its letters are taken as upper case.
 abbrev pub name_token : List ℕ → ℕ → Result Token ExprError
 name_token text start =
     let end = name_end text start in

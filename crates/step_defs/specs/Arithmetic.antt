@@ -1,4 +1,4 @@
--- What instructions make of the values of their operands.
+-- What instructions make of the values of their operands. Profile: MUL and DIV take numbers without sign.
 use Rattle.std.specs.Prelude.{ℕ, ◌+◌, ◌*◌, ◌/◌, ◌%◌, ◌^◌, ◌==◌, Bool, true, false, ◌&&◌, nat_lt, nat_le, int_lt, int_le}
 use Rattle.std.specs.Prelude.{bit_and, if◌then◌else◌}
 use Rattle.std.specs.Prelude.{Option, Some, None}

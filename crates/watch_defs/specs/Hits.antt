@@ -13,7 +13,7 @@ use Rattle.watch_defs.specs.Items.{holds, change}
 abbrev pub behind : GplState → ℕ → GplState
 behind s made = (run made s).last
 
--- Of the items that hold at the step from one state to the next, the first, by its place in the list.
+-- Profile: of the items that hold at the step from one state to the next, the first, by its place in the list.
 abbrev pub first_item : List Item → GplState → GplState → Option ℕ
 first_item items before next = position (λ item. holds item before next) items
 
@@ -21,7 +21,7 @@ first_item items before next = position (λ item. holds item before next) items
 abbrev pub change_at : List Item → ℕ → GplState → GplState → Option (ℕ × ℕ)
 change_at items place before next = option_and_then (λ item. change item before next) (slice_get items place)
 
--- The hit of the step with a number, counted from 1, if an item holds there: the number, the address of the
+-- Profile: the hit of the step with a number, counted from 1, if an item holds there: the number, the address of the
 -- instruction, the number of the item, counted from 1, and its change.
 abbrev pub hit_between : List Item → ℕ → GplState → GplState → Option Found
 hit_between items number before next =
