@@ -9,7 +9,7 @@ use Rattle.source_defs.specs.Digits.{marked_byte}
 use Rattle.console_defs.specs.Words.{join}
 use Rattle.asm_defs.specs.Printed.{printed}
 use Rattle.asm_defs.proofs.Windows.{count_within}
-use Rattle.report_defs.specs.Listing.{listing_line, words_in, lines_from, odd_byte_lines}
+use Rattle.word_listings.specs.Listing.{listing_line, words_in, lines_from, odd_byte_lines}
 
 abbrev nothing : List ℕ
 nothing = []

@@ -14,6 +14,8 @@ use Rattle.report_defs.specs.Commands.{command_of, reads}
 use Rattle.report_defs.specs.Report.{Report, Whole, Faulty, Rejected, status_of, largest_input, AcceptedReport, OnInput, ReportOn}
 use Rattle.report_defs.proofs.OneReport.{one_report}
 use Rattle.report_defs.proofs.ListedInputs.{listed_inputs_come_back}
+use Rattle.report_defs.proofs.ListedWords.{listed_words_come_back}
+use Rattle.word_listings.proofs.LinkLaw.{entered_listings_link}
 use Rattle.bench_commands.specs.Run.{Outputs, Run, ReadsInput, Reads, ReportsOn, Reports, WroteReport, MissedReport, EndsBy}
 use Rattle.bench_commands.specs.Laws.{HasNoFault, read_of, TellsInput, Completeness, BeginAlike, OneAnswer, LawsOfRuns}
 
@@ -100,4 +102,6 @@ laws =
       completeness = completeness;
       one_answer = one_answer;
       listed_inputs = listed_inputs_come_back;
+      listed_words = listed_words_come_back;
+      linked_words = entered_listings_link;
     }

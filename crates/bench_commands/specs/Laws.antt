@@ -2,12 +2,13 @@
 use Rattle.std.specs.Prelude.{◌≡◌, ◌≢◌, ℕ, if◌then◌else◌, true, List, [], Some}
 use Rattle.count_defs.specs.Counts.{Rose}
 use Rattle.bench_io.specs.Stream.{SourceState}
+use Rattle.word_listings.specs.Linking.{EnteredListingsLink}
 use Rattle.report_defs.specs.declared.command.Command.{Command}
 use Rattle.report_defs.specs.declared.status.Status.{Status}
 use Rattle.report_defs.specs.declared.status.Status.TheVariants.{Memory}
 use Rattle.report_defs.specs.Commands.{command_of, reads}
 use Rattle.report_defs.specs.Report.{Report, status_of, ReportOn}
-use Rattle.report_defs.specs.Laws.{OneReport, ListedInputsComeBack}
+use Rattle.report_defs.specs.Laws.{OneReport, ListedInputsComeBack, ListedWordsComeBack}
 use Rattle.bench_commands.specs.Run.{Run, EndsBy, WroteReport}
 
 -- no count of faults rose in a run
@@ -49,9 +50,12 @@ OneAnswer =
     → EndsBy first one → EndsBy second other → one ≢ Memory → other ≢ Memory
     → one ≡ other
 
--- the laws of all runs, and that what gdis lists is assembled to what was listed
+-- The laws of all runs; and that what gdis and dis list is assembled to what was listed, and a listing of dis with an
+-- entry is linked to it.
 pub record LawsOfRuns : Type 0 where
   pub one_report : OneReport
   pub completeness : Completeness
   pub one_answer : OneAnswer
   pub listed_inputs : ListedInputsComeBack
+  pub listed_words : ListedWordsComeBack
+  pub linked_words : EnteredListingsLink

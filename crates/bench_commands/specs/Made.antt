@@ -3,7 +3,7 @@ use Rattle.gpl_defs.specs.Image.{written_bytes}
 use Rattle.report_defs.specs.declared.status.Status.TheVariants.{Done}
 use Rattle.report_defs.specs.TextLines.{text_lines}
 use Rattle.report_defs.specs.GromListing.{image_listing}
-use Rattle.report_defs.specs.Listing.{memory_listing}
+use Rattle.word_listings.specs.Listing.{memory_listing}
 use Rattle.report_defs.specs.Exec.{exec_lines, end_status}
 use Rattle.report_defs.specs.Program.{program_lines, program_status}
 use Rattle.gpl_run.specs.Sessions.{seen}

@@ -2,7 +2,7 @@
 
 ghost use Rattle.std.specs.Prelude.{◌≡◌, ◌+◌, ◌≤◌, vec_len};
 ghost use Rattle.bench_io.specs.Written.{Written};
-ghost use Rattle.report_defs.specs.Listing as spec;
+ghost use Rattle.word_listings.specs.Listing as spec;
 
 use crate::listing_lines::{origin_line, put_instructions, put_odd_byte};
 use bench_io::{Failed, Sink, put_piece};

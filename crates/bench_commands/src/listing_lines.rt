@@ -4,7 +4,7 @@ ghost use Rattle.std.specs.Prelude.{◌≡◌, ◌<◌, ◌≤◌, ◌+◌, ◌*
 ghost use Rattle.source_defs.specs.Digits.{marked_byte, marked_word};
 ghost use Rattle.asm_defs.specs.Printed.{printed};
 ghost use Rattle.bench_io.specs.Written.{Written};
-ghost use Rattle.report_defs.specs.Listing as spec;
+ghost use Rattle.word_listings.specs.Listing as spec;
 
 use asm_forms::print_instr;
 use asm_text::byte_digits;

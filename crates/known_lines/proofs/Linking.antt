@@ -32,7 +32,7 @@ assoc [] b c = refl
 assoc (x ∷ a) b c = ap (λ rest. x ∷ rest) (assoc a b c)
 
 module _ (f : ℕ → Option Content) where
-  pieces_split : (found : Part) (first m n : ℕ) → pieces_from f found first (m + n) ≡ pieces_from f found first m ++ pieces_from f found (first + m) n
+  pub pieces_split : (found : Part) (first m n : ℕ) → pieces_from f found first (m + n) ≡ pieces_from f found first m ++ pieces_from f found (first + m) n
   pieces_split found first zero n =
       let same : first ≡ first + 0 = omega arith in
       let sum : 0 + n ≡ n = omega arith in
@@ -45,11 +45,11 @@ module _ (f : ℕ → Option Content) where
       (pieces_split found (first + 1) m n ∙ ap (λ behind. pieces_from f found (first + 1) m ++ pieces_from f found behind n) next)
       ∙ assoc (pieces_at f found first) (pieces_from f found (first + 1) m) (pieces_from f found (first + suc m) n))
 
-  at_word : (found : Part) (w : ℕ) (high low : Option Content) → f (2 * w) ≡ high → f (2 * w + 1) ≡ low → pieces_at f found w ≡ map (piece_at found w) (joined high low)
+  pub at_word : (found : Part) (w : ℕ) (high low : Option Content) → f (2 * w) ≡ high → f (2 * w + 1) ≡ low → pieces_at f found w ≡ map (piece_at found w) (joined high low)
   at_word found w high low a b =
       ap (λ byte. map (piece_at found w) (joined byte (f (2 * w + 1)))) a ∙ ap (λ byte. map (piece_at found w) (joined high byte)) b
 
-  none_from : (found : Part) (first n : ℕ) → ((p : ℕ) → 2 * first ≤ p → p < 2 * (first + n) → f p ≡ None) → pieces_from f found first n ≡ []
+  pub none_from : (found : Part) (first n : ℕ) → ((p : ℕ) → 2 * first ≤ p → p < 2 * (first + n) → f p ≡ None) → pieces_from f found first n ≡ []
   none_from found first zero none = refl
   none_from found first (suc n) none =
       ap (λ pieces. pieces ++ pieces_from f found (first + 1) n)
@@ -70,7 +70,7 @@ content_first a word words k p e =
     let place : p - 2 * a ≡ k = omega (arith, e) in
     chosen _ true _ _ here ∙ ap (slice_get (cells (word ∷ words))) place
 
-pieces_there : (f : ℕ → Option Content) (a : ℕ) (words : List ℕ) → ((p : ℕ) → 2 * a ≤ p → f p ≡ content_of (2 * a) words p)
+pub pieces_there : (f : ℕ → Option Content) (a : ℕ) (words : List ℕ) → ((p : ℕ) → 2 * a ≤ p → f p ≡ content_of (2 * a) words p)
     → pieces_from f part.Absolute a (length words) ≡ pieces_of (2 * a) words
 pieces_there f a [] same = refl
 pieces_there f a (word ∷ words) same =
@@ -82,18 +82,18 @@ pieces_there f a (word ∷ words) same =
     (pieces_there f (a + 1) words (λ p le. same p (omega (arith, le)) ∙ content_behind a word words p le))
     ∙ ap (λ from. record { at = spot.Absolute (2 * a); word = spot.Absolute word } ∷ pieces_of from words) next)
 
-content_none : (from : ℕ) (words : List ℕ) (p : ℕ) → from + 2 * length words ≤ p → content_of from words p ≡ None
+pub content_none : (from : ℕ) (words : List ℕ) (p : ℕ) → from + 2 * length words ≤ p → content_of from words p ≡ None
 content_none from words p le =
     let size = cells_length words in
     let here : nat_le from p ≡ true = grind (arith, nat_tests, le) in
     chosen _ true _ _ here ∙ get_past (cells words) (p - from) (omega (arith, le, size))
 
-content_not_yet : (from : ℕ) (words : List ℕ) (p : ℕ) → p < from → content_of from words p ≡ None
+pub content_not_yet : (from : ℕ) (words : List ℕ) (p : ℕ) → p < from → content_of from words p ≡ None
 content_not_yet from words p lt =
     let here : nat_le from p ≡ false = grind (arith, nat_tests, lt) in
     chosen _ false _ _ here
 
-nothing_before : (front pieces : List Piece) → front ≡ [] → front ++ pieces ≡ pieces
+pub nothing_before : (front pieces : List Piece) → front ≡ [] → front ++ pieces ≡ pieces
 nothing_before front pieces e = ap (λ front. front ++ pieces) e
 
 nothing_behind : (pieces rest : List Piece) → rest ≡ [] → pieces ++ rest ≡ pieces
@@ -129,7 +129,7 @@ pairs_of from (word ∷ words) = (from, word) ∷ pairs_of (from + 2) words
 abbrev pub are_words : List ℕ → Bool
 are_words words = list_all (λ word. nat_le word 0xFFFF) words
 
-pairs_there : (base from : ℕ) (words : List ℕ) → are_words words ≡ true → map (word_at base) (pieces_of from words) ≡ pairs_of from words
+pub pairs_there : (base from : ℕ) (words : List ℕ) → are_words words ≡ true → map (word_at base) (pieces_of from words) ≡ pairs_of from words
 pairs_there base from [] fit = refl
 pairs_there base from (word ∷ words) fit =
     let b = both (nat_le word 0xFFFF) (are_words words) fit in
@@ -159,7 +159,7 @@ not_tied at other lt = by (eq_by_cmp nat_cmp at other) refl
     by false e = refl
     by true e = let same : at ≡ other = eqb-true at other (sym (unsigned_tied at other) ∙ e) in absurd (omega (arith, same, lt))
 
-none_taken : (before : List (ℕ × ℕ)) (from : ℕ) (words : List ℕ) → ((at : ℕ) → from ≤ at → find nat_cmp at before ≡ None) → first_behind is_taken before (pairs_of from words) ≡ None
+pub none_taken : (before : List (ℕ × ℕ)) (from : ℕ) (words : List ℕ) → ((at : ℕ) → from ≤ at → find nat_cmp at before ≡ None) → first_behind is_taken before (pairs_of from words) ≡ None
 none_taken before from [] free = refl
 none_taken before from (word ∷ words) free =
     let none : find nat_cmp from before ≡ None = free from (omega arith) in
@@ -169,7 +169,7 @@ none_taken before from (word ∷ words) free =
     chosen (is_some (find nat_cmp from before)) false (Some (from, word)) _ (ap is_some none)
     ∙ none_taken (before ++ (from, word) ∷ []) (from + 2) words next
 
-all_filled : (from : ℕ) (words : List ℕ) → map (filled [] []) (pairs_of from words) ≡ pairs_of from words
+pub all_filled : (from : ℕ) (words : List ℕ) → map (filled [] []) (pairs_of from words) ≡ pairs_of from words
 all_filled from [] = refl
 all_filled from (word ∷ words) = ap (λ rest. (from, word) ∷ rest) (all_filled (from + 2) words)
 
@@ -181,7 +181,7 @@ parts_linked : (a : ℕ) (words : List ℕ) (entry : ℕ) → 0x1000 ≤ a → a
 parts_linked a words entry from to =
     rw (none_outside [] a words from to, none_taken [] (2 * a) words (λ at le. refl), all_filled (2 * a) words) refl
 
-append_empty : (pairs : List (ℕ × ℕ)) → pairs ++ [] ≡ pairs
+pub append_empty : (pairs : List (ℕ × ℕ)) → pairs ++ [] ≡ pairs
 append_empty [] = refl
 append_empty (pair ∷ pairs) = ap (λ pairs. pair ∷ pairs) (append_empty pairs)
 

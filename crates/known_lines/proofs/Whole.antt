@@ -39,7 +39,7 @@ use Rattle.known_lines.proofs.Small.{both, append_none}
 pub registers_stand : StandFor predefined registers
 registers_stand name = get-from_entries nat_list_cmp_total registers name
 
-none_by : (b : Bool) (k : ℕ) → ◌≡◌ {A = Option Content} None (if b then slice_get [] k else None)
+pub none_by : (b : Bool) (k : ℕ) → ◌≡◌ {A = Option Content} None (if b then slice_get [] k else None)
 none_by true k = refl
 none_by false k = refl
 
@@ -64,14 +64,13 @@ no_line at (Words words) = either_none (is_placed_in at.part) _ (no_words at.par
 no_line at (Bytes bytes) = refl
 no_line at (Entry spot) = refl
 
-no_uses : (lines : List Settled) → references_of [] lines ≡ []
+pub no_uses : (lines : List Settled) → references_of [] lines ≡ []
 no_uses [] = refl
 no_uses (line ∷ lines) = ap (λ references. behind_by line.at references line.outcome) (no_uses lines) ∙ no_line line.at line.outcome
 
 -- a line that places no bytes
--- a line that places no bytes
 module _ (line : Settled) (none : bytes_in line.outcome ≡ 0) where
-  not_covered : (found : Part) (p : ℕ) → covers line found p ≡ false
+  pub not_covered : (found : Part) (p : ℕ) → covers line found p ≡ false
   not_covered found p = by (covers line found p) refl
     where
       by : (b : Bool) → covers line found p ≡ b → b ≡ false
@@ -83,7 +82,7 @@ module _ (line : Settled) (none : bytes_in line.outcome ≡ 0) where
           let to : p < line.at.number + bytes_in line.outcome = grind (arith, nat_tests, b.1) in
           absurd (omega (arith, none, from, to))
 
-  hold_still : (lines : List Settled) (from : ℕ) (words : List ℕ) → HoldWords [] lines from words → HoldWords [] (line ∷ lines) from words
+  pub hold_still : (lines : List Settled) (from : ℕ) (words : List ℕ) → HoldWords [] lines from words → HoldWords [] (line ∷ lines) from words
   hold_still lines from words hold = record {
     absolute = λ p. rw (not_covered part.Absolute p) (hold.absolute p);
     relocatable = λ p. rw (not_covered part.Relocatable p) (hold.relocatable p);
@@ -91,7 +90,7 @@ module _ (line : Settled) (none : bytes_in line.outcome ≡ 0) where
     none = λ p. ap (λ b. b || is_placed lines part.Relocatable p) (not_covered part.Relocatable p) ∙ hold.none p;
   }
 
-  room_still : (lines : List Settled) (from : ℕ) (words : List ℕ) → HoldWords [] lines from words → with_room lines line ≡ Ok line
+  pub room_still : (lines : List Settled) (from : ℕ) (words : List ℕ) → HoldWords [] lines from words → with_room lines line ≡ Ok line
   room_still lines from words hold =
       let few = few_words (line ∷ lines) (hold_still lines from words hold).none in
       let fits : nat_lt 32768 (word_count (line ∷ lines)) ≡ false = grind (arith, nat_tests, few) in

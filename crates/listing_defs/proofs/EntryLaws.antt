@@ -33,15 +33,16 @@ use Rattle.program_defs.specs.SecondChecks.{Bytes, outcome}
 use Rattle.program_defs.specs.Programs.{Settled, overlaps}
 use Rattle.listing_defs.specs.Texts.{prefix, operand_text, source_text, length_text, target_text, from_text, mnemonic_of, operands_text, branch_target}
 use Rattle.listing_defs.specs.Texts.{instr_text, shown_address}
-use Rattle.listing_defs.proofs.Scans.{all_both}
-use Rattle.listing_defs.proofs.DigitLaws.{word_passes, byte_passes, word_value, byte_value}
-use Rattle.listing_defs.proofs.OperandLines.{whole, one_text}
+use Rattle.listed_lines.proofs.Scans.{all_both}
+use Rattle.listed_lines.proofs.DigitLaws.{word_passes, byte_passes}
+use Rattle.listing_defs.proofs.NumberLaws.{word_value, byte_value}
+use Rattle.listed_lines.proofs.OperandLines.{whole, one_text}
 use Rattle.listing_defs.proofs.FormLaws.{rest_of}
 use Rattle.listing_defs.proofs.SkeletonLaws.{Alphabet, InstrFits, operand_all, source_all, length_all, target_all, from_all, operand_some}
-use Rattle.listing_defs.proofs.InstructionText.{left_of, field_of, skeleton_back}
+use Rattle.listing_defs.proofs.InstructionText.{left_of, skeleton_back}
 use Rattle.listing_defs.proofs.InstructionAgain.{InGromOf, size_back, instruction_back}
-use Rattle.listing_defs.proofs.NameLaws.{plain_byte, instr_names}
-use Rattle.listing_defs.proofs.LineTexts.{Fit, cut_listed, in_line, listed_in_line}
+use Rattle.listing_defs.proofs.NameLaws.{instr_names}
+use Rattle.listed_lines.proofs.LineTexts.{Fit, cut_listed, in_line, listed_in_line, plain_byte, field_of}
 use Rattle.listing_defs.proofs.StateLaws.{Stands, Taken, checked_as, taken, here_again}
 
 -- ---- operands stand in a line

@@ -1,10 +1,8 @@
 -- The forms of written operands.
-use Rattle.std.proofs.Common.{◌≡◌, ℕ, ◌+◌, ◌/◌, ◌%◌, Bool, true, false, not}
+use Rattle.std.proofs.Common.{◌≡◌, ℕ, ◌+◌, ◌/◌, Bool, true, false}
 use Rattle.std.proofs.Common.{List, [], ◌∷◌, ◌++◌, length, refl, Option, Some, None, arith}
-use Rattle.std.specs.Prelude.{◌==◌}
 use Rattle.std.specs.List.{list_all}
 use Rattle.source_defs.specs.Digits.{word_digits, marked_byte, marked_word}
-use Rattle.source_defs.specs.Numbers.{hexadecimal_digit}
 use Rattle.source_defs.specs.Fields.{in_quotes}
 use Rattle.source_defs.specs.Parentheses.{closes_at, opening, last_place}
 use Rattle.gpl_defs.specs.declared.instruction.Space.{Space}
@@ -14,12 +12,8 @@ use Rattle.program_defs.specs.Forms.{Memory, InMemory, InGrom, Register, Alone, 
 use Rattle.program_defs.specs.Values.{scratchpad, operand}
 use Rattle.listing_defs.specs.Texts as texts
 use Rattle.listing_defs.specs.Texts.{prefix, shown_address, operand_text}
-use Rattle.listing_defs.proofs.Scans.{all_both, not_true, unquoted, not_quoted}
-use Rattle.listing_defs.proofs.DigitLaws.{digits_pass, digit_passes, word_passes}
-
--- a digit is no parenthesis
-digit_is_not : (byte d : ℕ) → digits_pass (λ b. not (b == byte)) ≡ true → (hexadecimal_digit (d % 16) == byte) ≡ false
-digit_is_not byte d e = not_true _ (digit_passes (λ b. not (b == byte)) d e)
+use Rattle.listed_lines.proofs.Scans.{all_both, unquoted, not_quoted}
+use Rattle.listed_lines.proofs.DigitLaws.{word_passes, digit_is_not}
 
 -- an address without an index
 no_index : (a : ℕ) → has_index (marked_word a) ≡ false

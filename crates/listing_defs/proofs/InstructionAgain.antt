@@ -25,7 +25,7 @@ use Rattle.program_defs.specs.Skeletons.{size_of}
 use Rattle.program_defs.specs.SecondChecks.{instruction, source_value, length_value, moved, register_of}
 use Rattle.program_defs.specs.Locations.{address_of, branch_offset, grom_size}
 use Rattle.listing_defs.specs.Texts.{branch_target}
-use Rattle.listing_defs.proofs.DigitLaws.{word_value, byte_value}
+use Rattle.listing_defs.proofs.NumberLaws.{word_value, byte_value}
 use Rattle.listing_defs.proofs.SkeletonLaws.{SourceFits, LengthFits, TargetFits, FromFits, InstrFits}
 use Rattle.listing_defs.proofs.InstructionText.{source_left, length_left, route_left, left_of}
 

@@ -26,8 +26,9 @@ use Rattle.program_defs.specs.Skeletons.{Source, At, Immediate, Route, Within, T
 use Rattle.program_defs.specs.Skeletons.{written_form, text_of_one, source_in, route_in, two_skeleton, move_skeleton, skeleton}
 use Rattle.listing_defs.specs.Texts.{operand_text, source_text, length_text, target_text, from_text, value_text}
 use Rattle.listing_defs.specs.Texts.{branch_target, mnemonic_of, operands_text}
-use Rattle.listing_defs.proofs.DigitLaws.{word_passes, byte_passes}
-use Rattle.listing_defs.proofs.OperandLines.{whole, one_text, two_operands, three_operands}
+use Rattle.listed_lines.proofs.DigitLaws.{word_passes, byte_passes}
+use Rattle.listed_lines.proofs.OperandLines.{whole, one_text, two_operands, three_operands}
+use Rattle.listed_lines.proofs.LineTexts.{field_of}
 use Rattle.listing_defs.proofs.FormLaws.{memory_of, index_written, operand_form, grom_form, register_form, word_form, byte_form}
 use Rattle.listing_defs.proofs.SkeletonLaws.{OperandFits, SourceFits, LengthFits, TargetFits, FromFits, InstrFits}
 use Rattle.listing_defs.proofs.SkeletonLaws.{whole_letters, operand_all, source_all, length_all, target_all, from_all, operand_some, operand_back}
@@ -59,11 +60,6 @@ left_of (instr.Branch on offset) at = Branch on (marked_word (branch_target at o
 left_of (instr.One op word operand) at = One op word operand
 left_of (instr.Two op word dst src) at = Two op word dst (source_left word src)
 left_of (instr.Move length to source) at = Move (length_left length) (route_left to source)
-
--- the operands as they stand in a field
-abbrev pub field_of : Option (List ℕ) → List ℕ
-field_of None = []
-field_of (Some text) = text
 
 -- ---- forms
 

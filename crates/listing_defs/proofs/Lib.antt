@@ -1,13 +1,10 @@
 pub mod LineSteps
-pub mod Scans
-pub mod DigitLaws
-pub mod OperandLines
+pub mod NumberLaws
 pub mod FormLaws
 pub mod SkeletonLaws
 pub mod InstructionText
 pub mod InstructionAgain
 pub mod NameLaws
-pub mod LineTexts
 pub mod FitLaws
 pub mod PlacingLaws
 pub mod StateLaws

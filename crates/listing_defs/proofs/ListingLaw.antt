@@ -2,12 +2,12 @@
 use Rattle.std.proofs.Common.{◌≡◌, ◌≢◌, ℕ, zero, suc, ◌+◌, ◌-◌, ◌*◌, ◌/◌, ◌%◌, ◌<◌, ◌≤◌, Bool, true, false, not, ◌&&◌, List, [], ◌∷◌, ◌++◌}
 use Rattle.std.proofs.Common.{append_assoc, length, take, drop, refl, ap, sym, subst, ◌∙◌, ◌⊎◌, inl, inr, Ok, None, min, arith}
 use Rattle.std.specs.Prelude.{◌==◌, codes, IsTrue, nat_lt, nat_le, map, slice_index, if◌then◌else◌}
-use Rattle.std.specs.List.{list_all, concat}
+use Rattle.std.specs.List.{list_all}
 use Rattle.std.specs.FinMap.{empty}
 use Rattle.std.proofs.lemmas.List.{drop_more}
 use Rattle.std.proofs.lemmas.Bool.{cases_eq}
 use Rattle.std.proofs.lemmas.Bool.Decides.{nat_tests}
-use Rattle.source_defs.specs.ListedLines.{listed, listing_line}
+use Rattle.source_defs.specs.ListedLines.{listed}
 use Rattle.source_defs.specs.Symbols.{predefined}
 use Rattle.gpl_defs.specs.declared.instruction.GplInstr.{GplInstr}
 use Rattle.gpl_defs.specs.declared.instruction.GplRead.{GplRead}
@@ -23,9 +23,10 @@ use Rattle.program_defs.specs.Programs.{Settled, overlaps, program_of_source}
 use Rattle.listing_defs.specs.Listing.{boundary, Listed, byte_listed, instr_listed, is_whole, listed_by, listed_at}
 use Rattle.listing_defs.specs.Listing.{origin_texts, origin_texts_at, texts_from, grom_texts, grom_listing}
 use Rattle.listing_defs.specs.Law.{ListingsComeBack}
-use Rattle.listing_defs.proofs.Scans.{and_left, and_right}
+use Rattle.listed_lines.proofs.Scans.{and_left, and_right}
 use Rattle.listing_defs.proofs.LineSteps.{texts_step, texts_end}
-use Rattle.listing_defs.proofs.LineTexts.{in_line, joined, lines_joined}
+use Rattle.listed_lines.proofs.LineTexts.{in_line, joined, lines_joined}
+use Rattle.listed_lines.proofs.LineLists.{clean, clean_both, clean_lines, text_of}
 use Rattle.listing_defs.proofs.FitLaws.{read_fits}
 use Rattle.listing_defs.proofs.SkeletonLaws.{InstrFits}
 use Rattle.listing_defs.proofs.InstructionAgain.{InGromOf}
@@ -285,18 +286,6 @@ module _ (image : List ℕ) (low high : ℕ) (bytes : (k : ℕ) → slice_index 
 
   -- ---- no text has a line feed
 
-  abbrev clean : List (List ℕ) → Bool
-  clean texts = list_all (λ text. list_all in_line (listed text)) texts
-
-  clean_both : (xs ys : List (List ℕ)) → clean xs ≡ true → clean ys ≡ true → clean (xs ++ ys) ≡ true
-  clean_both [] ys e f = f
-  clean_both (x ∷ xs) ys e f =
-      rw (
-        and_left (list_all in_line (listed x)) (clean xs) e,
-        clean_both xs ys
-            (and_right (list_all in_line (listed x)) (clean xs) e) f,
-      ) refl
-
   clean_origin : (at : ℕ) → clean (origin_texts at) ≡ true
   clean_origin at = rw (grom_in_line (at / grom_size * grom_size), aorg_in_line (at % grom_size)) refl
 
@@ -334,19 +323,6 @@ module _ (image : List ℕ) (low high : ℕ) (bytes : (k : ℕ) → slice_index 
       clean_both (origin_texts low) (left_from low) (clean_origin low)
       (clean_both (texts_from image low high low 0 (high - low)) (codes "END" ∷ []) (clean_from low 0 (high - low))
       refl)
-
-clean_lines : (texts : List (List ℕ)) → list_all (λ text. list_all in_line (listed text)) texts ≡ true →
-    list_all (λ line. list_all in_line line) (map listed texts) ≡ true
-clean_lines [] e = refl
-clean_lines (text ∷ texts) e =
-    let first = and_left (list_all in_line (listed text)) (list_all (λ text. list_all in_line (listed text)) texts) e in
-    let rest = clean_lines texts (and_right (list_all in_line (listed text))
-    (list_all (λ text. list_all in_line (listed text)) texts) e) in
-    rw (first, rest) refl
-
-text_of : (texts : List (List ℕ)) → concat (map listing_line texts) ≡ joined (map listed texts)
-text_of [] = refl
-text_of (text ∷ texts) = ap (λ rest. listing_line text ++ rest) (text_of texts)
 
 -- a source whose lines are let through to the last
 program_is : (texts : List (List ℕ)) (bytes : Image) → Ends [] 1 (map listed texts) bytes →

@@ -1,8 +1,7 @@
 -- The names of instructions.
-use Rattle.std.proofs.Common.{◌≡◌, ℕ, ◌<◌, ◌≤◌, Bool, true, false, ◌&&◌, ◌||◌, not, List, length, refl, Some, None, arith}
+use Rattle.std.proofs.Common.{◌≡◌, ℕ, ◌<◌, ◌≤◌, Bool, true, false, ◌||◌, not, List, length, refl, Some, None, arith}
 use Rattle.std.specs.Prelude.{IsTrue}
 use Rattle.std.specs.List.{list_all}
-use Rattle.source_defs.specs.Characters.{is_blank, is_line_feed, is_carriage_return}
 use Rattle.program_defs.specs.declared.mnemonic.Mnemonic.{Mnemonic}
 use Rattle.program_defs.specs.declared.mnemonic.Mnemonic.TheVariants.{Plain, Byte, Jump, Branch, One, Two, Move}
 use Rattle.program_defs.specs.Directives.{directive}
@@ -55,10 +54,7 @@ use Rattle.gpl_defs.specs.declared.instruction.GplInstr.{GplInstr}
 use Rattle.gpl_defs.specs.declared.instruction.GplInstr.TheVariants as instr
 use Rattle.gpl_defs.specs.Valid.{is_valid}
 use Rattle.listing_defs.specs.Texts.{mnemonic_of}
-
--- a byte of a line, which is no blank
-abbrev pub plain_byte : ℕ → Bool
-plain_byte byte = not (is_blank byte) && (not (is_line_feed byte) && not (is_carriage_return byte))
+use Rattle.listed_lines.proofs.LineTexts.{plain_byte}
 
 -- a name that is no directive and names an instruction alone
 pub record Names (name : List ℕ) (named : Mnemonic) : Type 0 where

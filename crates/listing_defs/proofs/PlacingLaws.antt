@@ -13,7 +13,7 @@ use Rattle.gpl_defs.specs.Image.{Image, placed}
 use Rattle.gpl_defs.specs.Reading.{stand}
 use Rattle.gpl_defs.proofs.ImageLaws.{ties-other}
 use Rattle.program_defs.specs.Programs.{overlaps}
-use Rattle.listing_defs.proofs.Scans.{and_left, and_right}
+use Rattle.listed_lines.proofs.Scans.{and_left, and_right}
 
 pub placed_behind : (image : Image) (at : ℕ) (xs ys : List ℕ) →
     placed (placed image at xs) (at + length xs) ys ≡ placed image at (xs ++ ys)

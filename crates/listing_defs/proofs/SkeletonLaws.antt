@@ -21,9 +21,10 @@ use Rattle.gpl_defs.specs.declared.instruction.GplInstr.{GplInstr}
 use Rattle.gpl_defs.specs.declared.instruction.GplInstr.TheVariants as instr
 use Rattle.program_defs.specs.Values.{scratchpad, held_address, operand, number, index_of, index_value}
 use Rattle.listing_defs.specs.Texts.{prefix, shown_address, index_text, operand_text, source_text, length_text, target_text, from_text}
-use Rattle.listing_defs.proofs.Scans.{all_both}
-use Rattle.listing_defs.proofs.DigitLaws.{digits_pass, word_passes, byte_passes, word_value}
-use Rattle.listing_defs.proofs.OperandLines.{whole}
+use Rattle.listed_lines.proofs.Scans.{all_both}
+use Rattle.listed_lines.proofs.DigitLaws.{digits_pass, word_passes, byte_passes}
+use Rattle.listing_defs.proofs.NumberLaws.{word_value}
+use Rattle.listed_lines.proofs.OperandLines.{whole}
 use Rattle.listing_defs.proofs.FormLaws.{memory_of, index_written, rest_of}
 
 -- ---- numbers that have room

@@ -11,7 +11,7 @@ use Rattle.program_defs.specs.Locations.{Line, start, behind, location, place, a
 use Rattle.program_defs.specs.FirstChecks.{checked, check, line_of, names, is_full, is_bad, is_end}
 use Rattle.program_defs.specs.SecondChecks.{Bytes, outcome}
 use Rattle.program_defs.specs.Programs.{Settled, image, entry, overlaps, settle, settle_at}
-use Rattle.listing_defs.proofs.LineTexts.{Cut}
+use Rattle.listed_lines.proofs.LineTexts.{Cut}
 
 -- a line whose statement nothing speaks against is let through by the first checks
 pub checked_as : (known : Names) (here : Location) (line name field : List ℕ) (said : Statement) → Cut line name field →

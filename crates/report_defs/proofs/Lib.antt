@@ -1,3 +1,4 @@
 pub mod OneReport
 pub mod GromBytes
 pub mod ListedInputs
+pub mod ListedWords

@@ -1,14 +1,17 @@
 -- What holds of all reports.
-use Rattle.std.specs.Prelude.{◌≡◌, ℕ, ◌+◌, ◌≤◌, ◌<◌, List, length, None, Ok}
+use Rattle.std.specs.Prelude.{◌≡◌, ℕ, ◌+◌, ◌%◌, ◌≤◌, ◌<◌, List, length, None, Ok}
 use Rattle.std.specs.List.{concat}
 use Rattle.std.specs.FinMap.{empty}
 use Rattle.console_defs.specs.Bytes.{HoldsBytes}
 use Rattle.source_defs.specs.Symbols.{predefined}
 use Rattle.gpl_defs.specs.Image.{placed}
 use Rattle.program_defs.specs.Programs.{program_of_source}
+use Rattle.word_listings.specs.Law.{listed_module}
 use Rattle.report_defs.specs.declared.command.Command.{Command}
+use Rattle.report_defs.specs.declared.command.Command.TheVariants.{Asm, Dis}
+use Rattle.report_defs.specs.declared.status.Status.TheVariants.{Done}
 use Rattle.report_defs.specs.GromListing.{image_listing}
-use Rattle.report_defs.specs.Report.{Report, ReportOn}
+use Rattle.report_defs.specs.Report.{Report, Whole, asm_report, ReportOn}
 
 -- the law, which is proved: there is at most one report on each command and input
 abbrev pub OneReport : Type 0
@@ -27,3 +30,13 @@ ListedInputsComeBack =
     (at : ℕ) (input : List ℕ) → HoldsBytes (length input) input → at < 65536 → at + length input ≤ 65536
     → program_of_source (listed_text at input)
     ≡ Ok (record { image = placed empty at input; entry = None; names = predefined })
+
+-- The law, which is proved: the report of asm on what dis writes of an input is the object text of the module that has
+-- its words at their addresses and nothing else; or the refusal of the first of its jumps that wraps around the ends of
+-- memory. So what dis writes is never too large.
+abbrev pub ListedWordsComeBack : Type 0
+ListedWordsComeBack =
+    (at : ℕ) (input : List ℕ) (pieces : List (List ℕ))
+    → HoldsBytes (length input) input → at % 2 ≡ 0 → at < 65536
+    → ReportOn (Dis at) input (Whole Done pieces)
+    → ReportOn Asm (concat pieces) (asm_report (listed_module at input None))

@@ -10,7 +10,6 @@ pub mod Program
 pub mod Trace
 pub mod DemoText
 pub mod Summary
-pub mod Listing
 pub mod ObjectFaults
 pub mod ObjectInput
 pub mod MemoryListing

@@ -26,7 +26,7 @@ use Rattle.report_defs.specs.declared.fault.Fault.TheVariants.{TooLarge, PastEnd
 use Rattle.report_defs.specs.FaultLine.{fault_status}
 use Rattle.report_defs.specs.SourceFaults.{asm_line, gpl_line}
 use Rattle.report_defs.specs.TextLines.{text_lines}
-use Rattle.report_defs.specs.Listing.{memory_listing}
+use Rattle.word_listings.specs.Listing.{memory_listing}
 use Rattle.report_defs.specs.GromListing.{image_listing}
 use Rattle.link_defs.specs.LinkedMemory.{LinkedMemory}
 use Rattle.native_interp.specs.Source.{source}

@@ -3,7 +3,7 @@ use Rattle.std.specs.Prelude.{codes}
 use Rattle.std.proofs.lemmas.Result.{err_from_is_err_and}
 use Rattle.bench_io.proofs.Writing.{missed_early, missed_more, written_more}
 use Rattle.source_defs.specs.Digits.{marked_word}
-use Rattle.report_defs.specs.Listing.{listing_line, lines_from, words_in, odd_byte_lines, memory_listing}
+use Rattle.word_listings.specs.Listing.{listing_line, lines_from, words_in, odd_byte_lines, memory_listing}
 use Rattle.bench_commands.proofs.listing.Listing.write.Goals as goal
 
 pub returns-in_err-put_piece : goal.returns-in_err-put_piece

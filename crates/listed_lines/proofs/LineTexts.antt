@@ -16,9 +16,16 @@ use Rattle.source_defs.specs.Fields.{fields, word_start, word_end, operand_end, 
 use Rattle.source_defs.specs.Layout.{line_texts, numbered}
 use Rattle.source_defs.specs.ListedLines.{listed, with_operands}
 use Rattle.source_defs.proofs.LineSteps.{lines_from_step, lines_from_end}
-use Rattle.listing_defs.proofs.Scans.{place_is, all_get, all_both, at_first, at_second, at_third, and_left, and_right, not_true}
-use Rattle.listing_defs.proofs.NameLaws.{plain_byte}
-use Rattle.listing_defs.proofs.InstructionText.{field_of}
+use Rattle.listed_lines.proofs.Scans.{place_is, all_get, all_both, at_first, at_second, at_third, and_left, and_right, not_true}
+
+-- a byte of a line, which is no blank
+abbrev pub plain_byte : ℕ → Bool
+plain_byte byte = not (is_blank byte) && (not (is_line_feed byte) && not (is_carriage_return byte))
+
+-- the operands as they stand in a field
+abbrev pub field_of : Option (List ℕ) → List ℕ
+field_of None = []
+field_of (Some text) = text
 
 abbrev lead : List ℕ
 lead = codes "       "

@@ -12,7 +12,7 @@ use Rattle.source_defs.specs.Lines.{part}
 use Rattle.source_defs.specs.Operands.{parts_operands, operands_from, operand_texts}
 use Rattle.source_defs.specs.ListedLines.{two_texts}
 use Rattle.source_defs.proofs.OperandSteps.{comma_place, operands_from_step}
-use Rattle.listing_defs.proofs.Scans.{place_is, all_get, all_both, at_second, at_third, and_left, and_right, not_true, unquoted, not_quoted}
+use Rattle.listed_lines.proofs.Scans.{place_is, all_get, all_both, at_second, at_third, and_left, and_right, not_true, unquoted, not_quoted}
 
 -- a byte that stands in one operand
 abbrev pub uncut : ℕ → Bool

@@ -1,6 +1,6 @@
 -- Hexadecimal digits, and the values of the numbers that they write.
 use Rattle.std.proofs.Common.{◌≡◌, ℕ, zero, suc, ◌+◌, ◌-◌, ◌/◌, ◌%◌, ◌<◌, ◌≤◌, Bool, true, false, not, eqb}
-use Rattle.std.proofs.Common.{List, [], ◌∷◌, length, get_or, refl, ap, sym, ◌∙◌, Ok, Option, arith}
+use Rattle.std.proofs.Common.{List, [], ◌∷◌, length, get_or, refl, ap, sym, ◌∙◌, Ok, arith}
 use Rattle.std.specs.List.{list_all}
 use Rattle.std.specs.Prelude.{◌==◌, nat_lt, nat_le, take}
 use Rattle.std.proofs.lemmas.List.{take_all}
@@ -9,9 +9,7 @@ use Rattle.std.proofs.lemmas.Bool.Decides.{nat_tests}
 use Rattle.source_defs.specs.Numbers.{hexadecimal_digit, is_hexadecimal_digit, digit_value, value_after}
 use Rattle.source_defs.specs.Digits.{byte_digits, word_digits, marked_byte, marked_word}
 use Rattle.source_defs.specs.Tokens.{Token, Number, token_to, token_at, tokens_from, tokens, hexadecimal_end}
-use Rattle.source_defs.specs.Expression.{Value}
-use Rattle.program_defs.specs.Values.{number}
-use Rattle.listing_defs.proofs.Scans.{place_is, all_get}
+use Rattle.listed_lines.proofs.Scans.{place_is, all_get, not_true}
 
 -- a test that every digit passes
 abbrev pub digits_pass : (ℕ → Bool) → Bool
@@ -19,6 +17,10 @@ digits_pass p = agree_below (λ d. p (hexadecimal_digit d)) (λ d. true) 16
 
 pub digit_passes : (p : ℕ → Bool) (d : ℕ) → digits_pass p ≡ true → p (hexadecimal_digit (d % 16)) ≡ true
 digit_passes p d e = agree_below_at (λ d. p (hexadecimal_digit d)) (λ d. true) 16 (d % 16) e (omega arith)
+
+-- a digit is no other byte
+pub digit_is_not : (byte d : ℕ) → digits_pass (λ b. not (b == byte)) ≡ true → (hexadecimal_digit (d % 16) == byte) ≡ false
+digit_is_not byte d e = not_true _ (digit_passes (λ b. not (b == byte)) d e)
 
 pub word_passes : (p : ℕ → Bool) (n : ℕ) → digits_pass p ≡ true → p 0x3E ≡ true → list_all p (marked_word n) ≡ true
 unfolding word_digits
@@ -29,7 +31,7 @@ pub byte_passes : (p : ℕ → Bool) (n : ℕ) → digits_pass p ≡ true → p 
 unfolding byte_digits
 byte_passes p n e f = rw (f, digit_passes p (n / 16) e, digit_passes p n e) refl
 
-eqb_same : (m n : ℕ) → eqb m n ≡ true → m ≡ n
+pub eqb_same : (m n : ℕ) → eqb m n ≡ true → m ≡ n
 eqb_same m n e = grind (arith, nat_tests)
 
 digit_back : (d : ℕ) → digit_value (hexadecimal_digit (d % 16)) ≡ d % 16
@@ -112,7 +114,8 @@ word_written n = record {
   ) refl;
 }
 
-word_tokens : (n : ℕ) → n < 65536 → tokens (marked_word n) ≡ Ok (token_to (Number n) 0 5 ∷ [])
+-- the tokens of a written number
+pub word_tokens : (n : ℕ) → n < 65536 → tokens (marked_word n) ≡ Ok (token_to (Number n) 0 5 ∷ [])
 unfolding word_digits
 word_tokens n lt =
     let w = word_written n in
@@ -136,7 +139,7 @@ byte_written n = record {
   digits = rw (digit_passes is_hexadecimal_digit (n / 16) refl, digit_passes is_hexadecimal_digit n refl) refl;
 }
 
-byte_tokens : (n : ℕ) → n < 256 → tokens (marked_byte n) ≡ Ok (token_to (Number n) 0 3 ∷ [])
+pub byte_tokens : (n : ℕ) → n < 256 → tokens (marked_byte n) ≡ Ok (token_to (Number n) 0 3 ∷ [])
 unfolding byte_digits
 byte_tokens n lt =
     let b = byte_written n in
@@ -144,10 +147,3 @@ byte_tokens n lt =
     sole_token (marked_byte n) 2 (token_to (Number n) 0 3) b.size
     (token ∙ ap (λ end. Ok (token_to (Number n) 0 end)) b.size)
     (sym b.size)
-
--- the value of a written number
-pub word_value : (look : List ℕ → Option Value) (here n : ℕ) → n < 65536 → number look here (marked_word n) ≡ Ok n
-word_value look here n lt = rw (word_tokens n lt) refl
-
-pub byte_value : (look : List ℕ → Option Value) (here n : ℕ) → n < 256 → number look here (marked_byte n) ≡ Ok n
-byte_value look here n lt = rw (byte_tokens n lt) refl

@@ -1,0 +1,5 @@
+pub mod Scans
+pub mod DigitLaws
+pub mod OperandLines
+pub mod LineTexts
+pub mod LineLists

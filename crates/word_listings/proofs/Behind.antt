@@ -1,0 +1,194 @@
+-- Lines behind others: where they stand, what they hold, and where the second checks refuse one.
+use Rattle.std.proofs.Common.{◌≡◌, ℕ, ◌+◌, ◌*◌, ◌≤◌, Bool, true, false, List, [], ◌∷◌, ◌++◌}
+use Rattle.std.proofs.Common.{length, refl, ap, ◌∙◌, Ok, Some, None, arith}
+use Rattle.std.specs.Option.{option_map}
+use Rattle.std.specs.Prelude.{Result, Err, ◌||◌, map, max, nat_le}
+use Rattle.std.proofs.lemmas.Bool.Decides.{nat_tests}
+use Rattle.source_defs.specs.Refusals.{Refusal, ◌>>=◌}
+use Rattle.source_defs.specs.ListedLines.{listed}
+use Rattle.source_defs.specs.Expression.{Absolute}
+use Rattle.source_defs.specs.Symbols.{predefined}
+use Rattle.source_defs.specs.Layout.{laid_behind, settled, numbered}
+use Rattle.object_defs.specs.Digits.{padded}
+use Rattle.object_defs.specs.Modules.{Module}
+use Rattle.module_defs.specs.declared.causes.AsmCause.{AsmCause}
+use Rattle.module_defs.specs.declared.location.Location.{Location}
+use Rattle.module_defs.specs.declared.location.Part.{Part}
+use Rattle.module_defs.specs.declared.location.Part.TheVariants as part
+use Rattle.module_defs.specs.Statements.{statement_in}
+use Rattle.module_defs.specs.Locations.{Line, location, place, reached, relocatable, behind}
+use Rattle.module_defs.specs.FirstChecks.{Before, Checked, said, moved, checked, check, known_of, line_of, names, refs, defs}
+use Rattle.module_defs.specs.SecondChecks.{Outcome, Words}
+use Rattle.module_defs.specs.Memory.{Settled}
+use Rattle.module_defs.specs.Modules.{settle, settle_at, with_room, module_by, title, entry}
+use Rattle.known_lines.specs.KnownLines.{numbers_of, is_empty, is_at}
+use Rattle.known_lines.proofs.Placing.{HoldWords, ComesNext, hold_more}
+use Rattle.known_lines.proofs.Settling.{has_room}
+use Rattle.known_lines.proofs.Small.{chosen}
+use Rattle.word_listings.proofs.LineBacks.{absolute_at, LineBack}
+
+-- lines behind which the location is an absolute place, and which say nothing else
+pub record Stands (before : List Line) (at : ℕ) : Type 0 where
+  pub names_are : names before ≡ predefined
+  pub location_is : location before ≡ absolute_at at
+  pub refs_are : refs before ≡ []
+  pub defs_are : defs before ≡ []
+  pub reached_is : reached before ≡ 0
+  pub title_is : title before ≡ padded 8 []
+
+pub same_place : (m n : ℕ) → m ≡ n → absolute_at m ≡ absolute_at n
+same_place m n e = ap absolute_at e
+
+-- a line by itself is let through behind others
+module _ (at : ℕ) (text : List ℕ) (size : ℕ) (last : Bool) (answer : Result Outcome AsmCause) (back : LineBack at text size last answer) (fits : at + size ≤ 65536) where
+  abbrev found : Checked
+  found = record { label = None; statement = back.statement; move = record { origin = None; gap = 0; size = size; label = back.own.label } }
+
+  in_part : nat_le (at + (0 + size)) 65536 ≡ true
+  in_part = grind (arith, nat_tests, fits)
+
+  let_through : (before : Before) → before.location ≡ absolute_at at → checked before (listed text) ≡ Ok found
+  unfolding said moved statement_in
+  let_through before there =
+      rw (back.cut.fields_are, back.cut.name_is, back.cut.field_is, back.says, back.own.refs)
+      (rw (there, back.own.moves before.names before.reached, back.own.few before, back.own.good before, in_part) refl)
+
+  module _ (before : List Line) (stands : Stands before at) (number : ℕ) where
+    abbrev line : Line
+    line = line_of number found
+
+    check_is : check before number (listed text) ≡ Ok line
+    check_is = ap (λ answer. answer >>= λ found. Ok (line_of number found)) (let_through (known_of before) stands.location_is)
+
+    location_next : location (line ∷ before) ≡ absolute_at (at + size)
+    location_next =
+        let n : ℕ = (location before).number in
+        let e : (location before).number ≡ at = ap (λ (l : Location). l.number) stands.location_is in
+        let p : (location before).part ≡ part.Absolute = ap (λ (l : Location). l.part) stands.location_is in
+        here_by (location before).part _ _ p (omega (arith, e))
+      where
+        here_by : (found : Part) (m n : ℕ) → found ≡ part.Absolute → m ≡ n → ◌≡◌ {A = Location} (record { part = found; number = m }) (absolute_at n)
+        here_by found m n p e = rw (p, e) refl
+
+    place_is : place before line ≡ absolute_at at
+    place_is = ap (λ here. behind here 0) stands.location_is ∙ same_place (at + 0) at (omega arith)
+
+    stands_next : Stands (line ∷ before) (at + size)
+    stands_next = record {
+      names_are = with_no_names before stands.names_are;
+      location_is = location_next;
+      refs_are = rw (stands.refs_are, back.own.refs) refl;
+      defs_are = rw (stands.defs_are, back.own.defs) refl;
+      reached_is = ap (λ here. max (reached before) (relocatable here)) location_next ∙ ap (λ n. max n 0) stands.reached_is;
+      title_is = back.own.title_kept (title before) ∙ stands.title_is;
+    }
+      where
+        with_no_names : (before : List Line) → names before ≡ predefined → names (line_of number found ∷ before) ≡ predefined
+        with_no_names before e = rw back.own.refs e
+
+    settle_is : (earlier : List Settled) → settle predefined before earlier line
+        ≡ (answer >>= λ found. with_room earlier (record { at = absolute_at at; outcome = found }))
+    settle_is earlier =
+        ap (λ place. settle_at predefined place back.statement earlier) place_is
+        ∙ ap (λ answer. answer >>= λ found. with_room earlier (record { at = absolute_at at; outcome = found })) back.comes
+
+-- a line that is let through behind others
+pub record Taken (before : List Line) (number : ℕ) (text : List ℕ) (at next : ℕ) (last : Bool) (answer : Result Outcome AsmCause) : Type 0 where
+  pub line : Line
+  pub check_is : check before number (listed text) ≡ Ok line
+  pub last_is : line.last ≡ last
+  pub number_is : line.number ≡ number
+  pub stands : Stands (line ∷ before) next
+  pub settle_is : (earlier : List Settled) → settle predefined before earlier line
+      ≡ (answer >>= λ found. with_room earlier (record { at = absolute_at at; outcome = found }))
+
+pub taken : (at : ℕ) (text : List ℕ) (size : ℕ) (last : Bool) (answer : Result Outcome AsmCause) → LineBack at text size last answer → at + size ≤ 65536
+    → (before : List Line) → Stands before at → (number : ℕ) → Taken before number text at (at + size) last answer
+taken at text size last answer back fits before stands number = record {
+  line = line at text size last answer back fits before stands number;
+  check_is = check_is at text size last answer back fits before stands number;
+  last_is = back.own.last_is;
+  number_is = refl;
+  stands = stands_next at text size last answer back fits before stands number;
+  settle_is = settle_is at text size last answer back fits before stands number;
+}
+
+-- ---- what the lines come to
+
+pub record Holds (before : List Line) (earlier : List Settled) (from : ℕ) (words : List ℕ) : Type 0 where
+  pub settled_are : settled (settle predefined) before ≡ Ok earlier
+  pub hold : HoldWords [] earlier from words
+  pub entry_is : entry earlier ≡ None
+
+abbrev pub Fails : List Line → Refusal AsmCause → Type 0
+Fails before refusal = settled (settle predefined) before ≡ Err refusal
+
+pub fails_still : (line : Line) (before : List Line) (refusal : Refusal AsmCause) → Fails before refusal → Fails (line ∷ before) refusal
+fails_still line before refusal e = rw e refl
+
+-- lines behind others, to the last
+pub record Ends (before : List Line) (number : ℕ) (texts : List (List ℕ)) (answer : Result Module (Refusal AsmCause)) : Type 0 where
+  pub all : List Line
+  pub laid_is : laid_behind check before (numbered number (map listed texts)) ≡ Ok all
+  pub names_are : names all ≡ predefined
+  pub module_is : (settled (settle predefined) all >>= λ found. Ok (module_by all found)) ≡ answer
+
+pub ends_last : (before : List Line) (number : ℕ) (text : List ℕ) (at next : ℕ) (come : Result Outcome AsmCause) (answer : Result Module (Refusal AsmCause))
+    (taken : Taken before number text at next true come)
+    → (settled (settle predefined) (taken.line ∷ before) >>= λ found. Ok (module_by (taken.line ∷ before) found)) ≡ answer
+    → Ends before number (text ∷ []) answer
+ends_last before number text at next come answer taken is = record {
+  all = taken.line ∷ before;
+  laid_is = rw (taken.check_is, taken.last_is) refl;
+  names_are = taken.stands.names_are;
+  module_is = is;
+}
+
+pub ends_more : (before : List Line) (number : ℕ) (text : List ℕ) (texts : List (List ℕ)) (at next : ℕ) (come : Result Outcome AsmCause) (answer : Result Module (Refusal AsmCause))
+    (taken : Taken before number text at next false come) → Ends (taken.line ∷ before) (number + 1) texts answer → Ends before number (text ∷ texts) answer
+ends_more before number text texts at next come answer taken ends = record {
+  all = ends.all;
+  laid_is =
+      rw taken.check_is
+      (chosen taken.line.last false (Ok (taken.line ∷ before)) (laid_behind check (taken.line ∷ before) (numbered (number + 1) (map listed texts))) taken.last_is
+      ∙ ends.laid_is);
+  names_are = ends.names_are;
+  module_is = ends.module_is;
+}
+
+-- a line that is refused
+pub fails_now : (before : List Line) (number : ℕ) (text : List ℕ) (at next : ℕ) (last : Bool) (cause : AsmCause) (earlier : List Settled)
+    (taken : Taken before number text at next last (Err cause)) → settled (settle predefined) before ≡ Ok earlier
+    → Fails (taken.line ∷ before) (record { line = number; cause = cause })
+fails_now before number text at next last cause earlier taken is =
+    rw (is, taken.settle_is earlier) (ap (λ number. Err (record { line = number; cause = cause })) taken.number_is)
+
+-- a line that places something
+pub settles_now : (before : List Line) (number : ℕ) (text : List ℕ) (at next : ℕ) (last : Bool) (found : Outcome) (earlier : List Settled)
+    (taken : Taken before number text at next last (Ok found)) → settled (settle predefined) before ≡ Ok earlier
+    → with_room earlier (record { at = absolute_at at; outcome = found }) ≡ Ok (record { at = absolute_at at; outcome = found })
+    → settled (settle predefined) (taken.line ∷ before) ≡ Ok (record { at = absolute_at at; outcome = found } ∷ earlier)
+settles_now before number text at next last found earlier taken is room =
+    rw (is, taken.settle_is earlier, room) refl
+
+numbers_back : (words : List ℕ) → numbers_of (map Absolute words) ≡ Some words
+numbers_back [] = refl
+numbers_back (word ∷ words) = ap (option_map (λ numbers. word ∷ numbers)) (numbers_back words)
+
+-- a line of words that come next
+pub holds_next : (before : List Line) (number : ℕ) (text : List ℕ) (at next : ℕ) (more : List ℕ) (earlier : List Settled) (from : ℕ) (words : List ℕ)
+    (taken : Taken before number text at next false (Ok (Words (map Absolute more)))) → Holds before earlier from words → at ≡ from + 2 * length words
+    → Holds (taken.line ∷ before) (record { at = absolute_at at; outcome = Words (map Absolute more) } ∷ earlier) from (words ++ more)
+holds_next before number text at next more earlier from words taken holds there =
+    let line : Settled = record { at = absolute_at at; outcome = Words (map Absolute more) } in
+    let comes : ComesNext line (from + 2 * length words) more = record { words = numbers_back more; place = here_next more } in
+    record {
+      settled_are = settles_now before number text at next false (Words (map Absolute more)) earlier taken holds.settled_are
+          (has_room earlier line from words more holds.hold comes);
+      hold = hold_more line (from + 2 * length words) more comes [] earlier from words refl holds.hold;
+      entry_is = holds.entry_is;
+    }
+  where
+    here_next : (more : List ℕ) → (is_empty more || is_at (from + 2 * length words) (absolute_at at)) ≡ true
+    here_next [] = refl
+    here_next (word ∷ more) = grind (arith, nat_tests, there)

@@ -1,0 +1,14 @@
+pub mod Numbers
+pub mod Slots
+pub mod Counts
+pub mod Names
+pub mod Instructions
+pub mod Again
+pub mod LineBacks
+pub mod Behind
+pub mod Going
+pub mod Closing
+pub mod ListingLaw
+pub mod InnerLaw
+pub mod ShortLaw
+pub mod LinkLaw

@@ -1,0 +1,308 @@
+-- The lines of a listing, each by itself: what the first checks find in it, and what the second make of it.
+use Rattle.std.proofs.Common.{◌≡◌, inl, inr, ℕ, ◌+◌, ◌*◌, ◌%◌, ◌<◌, ◌≤◌, Bool, true, false, List, [], ◌∷◌, ◌++◌}
+use Rattle.std.proofs.Common.{length, length-append, take, refl, ap, ◌∙◌, Ok, Option, Some, None, arith}
+use Rattle.std.specs.Prelude.{Result, Err, IfSome, map, nat_le, codes, if◌then◌else◌}
+use Rattle.std.specs.List.{list_all}
+use Rattle.std.proofs.lemmas.Bool.Decides.{nat_tests}
+use Rattle.source_defs.specs.Refusals.{◌>>=◌}
+use Rattle.source_defs.specs.Digits.{marked_word, marked_byte, word_digits, byte_digits}
+use Rattle.source_defs.specs.ListedLines.{listed, with_operands}
+use Rattle.source_defs.specs.Expression.{Value, Absolute}
+use Rattle.source_defs.specs.Symbols.{Names}
+use Rattle.console_defs.specs.Instructions.{instr_at, operation_of}
+use Rattle.console_defs.specs.declared.instruction.Instr.{Instr}
+use Rattle.console_defs.specs.declared.instruction.Instr.TheVariants as instr
+use Rattle.asm_defs.specs.declared.causes.FormError.{FormError}
+use Rattle.asm_defs.specs.declared.causes.FormError.TheVariants.{JumpTooFar}
+use Rattle.asm_defs.specs.Operations.{name_of}
+use Rattle.asm_defs.specs.Operands.{words_of}
+use Rattle.asm_defs.specs.FirstChecks.{size_of}
+use Rattle.asm_defs.specs.SecondChecks.{second_checks}
+use Rattle.asm_defs.specs.Printed.{instr_text, operands_text, printed, printed_where, printed_word, Printed}
+use Rattle.object_defs.specs.declared.spot.Spot.TheVariants as spot
+use Rattle.module_defs.specs.declared.causes.AsmCause.{AsmCause}
+use Rattle.module_defs.specs.declared.causes.AsmCause.TheVariants.{Form}
+use Rattle.module_defs.specs.declared.location.Location.{Location}
+use Rattle.module_defs.specs.declared.location.Part.TheVariants as part
+use Rattle.module_defs.specs.Locations.{behind, value_of}
+use Rattle.module_defs.specs.Directives.{directive}
+use Rattle.module_defs.specs.Statements.{Statement, Instruction, Data, Byte, End, operation_statement, as_form}
+use Rattle.module_defs.specs.FirstChecks.{Before, move, refs_in, defs_in, is_end, lists_too_many, is_bad}
+use Rattle.module_defs.specs.SecondChecks.{Outcome, outcome}
+use Rattle.module_defs.specs.SecondChecks as out
+use Rattle.module_defs.specs.Modules.{title_by}
+use Rattle.listed_lines.proofs.DigitLaws.{word_passes, byte_passes}
+use Rattle.listed_lines.proofs.OperandLines.{whole, one_text}
+use Rattle.listed_lines.proofs.LineTexts.{field_of}
+use Rattle.listed_lines.proofs.LineTexts.{plain_byte}
+use Rattle.listed_lines.proofs.LineTexts.{Cut, Fit, cut_listed, in_line, listed_in_line}
+use Rattle.word_listings.specs.Modules.{wraps}
+use Rattle.word_listings.proofs.Numbers.{known, word_value, byte_value}
+use Rattle.word_listings.proofs.Names.{names}
+use Rattle.word_listings.proofs.Instructions.{AreWords, field_back, instr_back}
+use Rattle.word_listings.proofs.Again.{IsRead, is_read, again, values_unless}
+
+abbrev pub absolute_at : ℕ → Location
+absolute_at at = record { part = part.Absolute; number = at }
+
+-- a statement that moves on by a size and does nothing else to the lines behind it
+pub record IsOwn (at size : ℕ) (last : Bool) (statement : Statement) : Type 0 where
+  pub label : Value
+  pub moves : (known : Names) (reached : ℕ) → move known (absolute_at at) reached statement ≡ Ok (record { origin = None; gap = 0; size = size; label = label })
+  pub refs : refs_in statement ≡ []
+  pub defs : defs_in statement ≡ []
+  pub last_is : is_end statement ≡ last
+  pub few : (before : Before) → lists_too_many before statement ≡ false
+  pub good : (before : Before) → is_bad before None statement ≡ false
+  pub title_kept : (title : List ℕ) → title_by title statement ≡ title
+
+-- a line at an absolute place
+pub record LineBack (at : ℕ) (text : List ℕ) (size : ℕ) (last : Bool) (answer : Result Outcome AsmCause) : Type 0 where
+  pub name : List ℕ
+  pub field : List ℕ
+  pub cut : Cut (listed text) name field
+  pub clean : list_all in_line (listed text) ≡ true
+  pub statement : Statement
+  pub says : operation_statement name field ≡ Ok statement
+  pub own : IsOwn at size last statement
+  pub comes : outcome known (absolute_at at) statement ≡ answer
+
+-- the words of a line, unless it is a jump that wraps
+abbrev pub come_unless : Bool → List ℕ → Result Outcome AsmCause
+come_unless true words = Err (Form JumpTooFar)
+come_unless false words = Ok (out.Words (map Absolute words))
+
+module _ (at : ℕ) (even : at % 2 ≡ 0) where
+  instruction_own : (size : ℕ) (name field : List ℕ) → IsOwn at size false (Instruction size name field)
+  instruction_own size name field = record {
+    label = value_of (behind (absolute_at at) 0);
+    moves = λ known reached. rw even refl;
+    refs = refl;
+    defs = refl;
+    last_is = refl;
+    few = λ before. refl;
+    good = λ before. refl;
+    title_kept = λ title. refl;
+  }
+
+  data_own : (text : List ℕ) → IsOwn at 2 false (Data (text ∷ []))
+  data_own text = record {
+    label = value_of (behind (absolute_at at) 0);
+    moves = λ known reached. rw even refl;
+    refs = refl;
+    defs = refl;
+    last_is = refl;
+    few = λ before. refl;
+    good = λ before. refl;
+    title_kept = λ title. refl;
+  }
+
+byte_own : (at : ℕ) (text : List ℕ) → IsOwn at 1 false (Byte (text ∷ []))
+byte_own at text = record {
+  label = _;
+  moves = λ known reached. refl;
+  refs = refl;
+  defs = refl;
+  last_is = refl;
+  few = λ before. refl;
+  good = λ before. refl;
+  title_kept = λ title. refl;
+}
+
+end_own : (at : ℕ) (text : Option (List ℕ)) → IsOwn at 0 true (End text)
+end_own at text = record {
+  label = _;
+  moves = λ known reached. refl;
+  refs = refl;
+  defs = refl;
+  last_is = refl;
+  few = λ before. refl;
+  good = λ before. refl;
+  title_kept = λ title. refl;
+}
+
+come_of : (far : Bool) (words : List ℕ) (values : Result (List Value) FormError) → values ≡ values_unless far words
+    → (as_form values >>= λ words. Ok (out.Words words)) ≡ come_unless far words
+come_of true words values e = rw e refl
+come_of false words values e = rw e refl
+
+module _ (at : ℕ) (inside : at < 65536) (even : at % 2 ≡ 0) (word : ℕ) (rest : List ℕ) (are : AreWords (word ∷ rest)) where
+  own_place : at % 65536 ≡ at
+  own_place = omega (arith, inside)
+
+  instr_line : (found : Instr) → IsRead word found → words_of found ≤ length (word ∷ rest)
+      → LineBack at (instr_text found at (word ∷ rest)) (2 * words_of found) false (come_unless (wraps at (Some found)) (take (words_of found) (word ∷ rest)))
+  unfolding outcome
+  instr_line found is le =
+      let f = field_back at inside (word ∷ rest) are found is.room is.signed in
+      let b = instr_back (Absolute at) (operation_of found) (operands_text found at (word ∷ rest)) _ f.0 f.2 in
+      let n = names (operation_of found) in
+      let fit : Fit (name_of (operation_of found)) (field_of (operands_text found at (word ∷ rest))) = record
+      { some = n.some; short = n.short; few = b.few; name_plain = n.plain; field_plain = b.is_plain } in
+      let size : size_of b.skeleton ≡ 2 * words_of found = b.size_is ∙ ap (λ n. 2 * n) f.1 in
+      record {
+        name = name_of (operation_of found);
+        field = field_of (operands_text found at (word ∷ rest));
+        cut = cut_listed (name_of (operation_of found)) (operands_text found at (word ∷ rest)) fit f.2.some;
+        clean = listed_in_line (name_of (operation_of found)) (operands_text found at (word ∷ rest)) fit;
+        statement = Instruction (2 * words_of found) (name_of (operation_of found)) (field_of (operands_text found at (word ∷ rest)));
+        says = rw (n.no_directive, b.first_is, size) refl;
+        own = instruction_own at even (2 * words_of found) _ _;
+        comes = come_of (wraps at (Some found)) (take (words_of found) (word ∷ rest)) _
+            (ap (λ answer. answer >>= λ skeleton. second_checks known (Absolute (at % 65536)) skeleton) b.first_is
+            ∙ (ap (λ place. second_checks known (Absolute place) b.skeleton) own_place ∙ (b.second_is ∙ again at word rest found is.encoded le)));
+      }
+
+data_line : (at : ℕ) → at % 2 ≡ 0 → (word : ℕ) → word < 65536 → LineBack at (codes "DATA " ++ marked_word word) 2 false (Ok (out.Words (Absolute word ∷ [])))
+unfolding outcome directive word_digits
+data_line at even word lt =
+    let fit : Fit (codes "DATA") (marked_word word) = record
+    { some = omega arith; short = omega arith; few = omega arith; name_plain = refl; field_plain = word_passes plain_byte word refl refl } in
+    record {
+      name = codes "DATA";
+      field = marked_word word;
+      cut = cut_listed (codes "DATA") (Some (marked_word word)) fit (inr (omega arith));
+      clean = listed_in_line (codes "DATA") (Some (marked_word word)) fit;
+      statement = Data (marked_word word ∷ []);
+      says = rw (one_text (marked_word word) (omega arith) (word_passes whole word refl refl)) refl;
+      own = data_own at even (marked_word word);
+      comes = rw (word_value known (Absolute (at % 65536)) word lt) refl;
+    }
+
+pub byte_line : (at : ℕ) (byte : ℕ) → byte < 256 → LineBack at (codes "BYTE " ++ marked_byte byte) 1 false (Ok (out.Bytes (byte ∷ [])))
+unfolding outcome directive byte_digits
+byte_line at byte lt =
+    let fit : Fit (codes "BYTE") (marked_byte byte) = record
+    { some = omega arith; short = omega arith; few = omega arith; name_plain = refl; field_plain = byte_passes plain_byte byte refl refl } in
+    let small : nat_le byte 0xFF ≡ true = grind (arith, nat_tests, lt) in
+    record {
+      name = codes "BYTE";
+      field = marked_byte byte;
+      cut = cut_listed (codes "BYTE") (Some (marked_byte byte)) fit (inr (omega arith));
+      clean = listed_in_line (codes "BYTE") (Some (marked_byte byte)) fit;
+      statement = Byte (marked_byte byte ∷ []);
+      says = rw (one_text (marked_byte byte) (omega arith) (byte_passes whole byte refl refl)) refl;
+      own = byte_own at (marked_byte byte);
+      comes = rw (byte_value known (Absolute (at % 65536)) byte lt, small) refl;
+    }
+
+-- the last line, by the entry that it names, and what it comes to
+abbrev pub end_text : Option ℕ → List ℕ
+end_text None = codes "END"
+end_text (Some entry) = codes "END " ++ marked_word entry
+
+abbrev pub end_outcome : Option ℕ → Outcome
+end_outcome None = out.Nothing
+end_outcome (Some entry) = out.Entry (spot.Absolute entry)
+
+bare_end : (at : ℕ) → LineBack at (codes "END") 0 true (Ok out.Nothing)
+unfolding outcome directive
+bare_end at =
+    let fit : Fit (codes "END") [] = record
+    { some = omega arith; short = omega arith; few = omega arith; name_plain = refl; field_plain = refl } in
+    record {
+      name = codes "END";
+      field = [];
+      cut = cut_listed (codes "END") None fit (inl refl);
+      clean = listed_in_line (codes "END") None fit;
+      statement = End None;
+      says = refl;
+      own = end_own at None;
+      comes = refl;
+    }
+
+entered_end : (at entry : ℕ) → entry < 65536 → LineBack at (codes "END " ++ marked_word entry) 0 true (Ok (out.Entry (spot.Absolute entry)))
+unfolding outcome directive word_digits
+entered_end at entry lt =
+    let fit : Fit (codes "END") (marked_word entry) = record
+    { some = omega arith; short = omega arith; few = omega arith; name_plain = refl; field_plain = word_passes plain_byte entry refl refl } in
+    record {
+      name = codes "END";
+      field = marked_word entry;
+      cut = cut_listed (codes "END") (Some (marked_word entry)) fit (inr (omega arith));
+      clean = listed_in_line (codes "END") (Some (marked_word entry)) fit;
+      statement = End (Some (marked_word entry));
+      says = rw (one_text (marked_word entry) (omega arith) (word_passes whole entry refl refl)) refl;
+      own = end_own at (Some (marked_word entry));
+      comes = rw (word_value known (Absolute (at % 65536)) entry lt) refl;
+    }
+
+-- an entry, where there is one, is an address
+abbrev pub IsEntry : Option ℕ → Type 0
+IsEntry entry = IfSome entry (λ number. number < 65536)
+
+pub end_line : (at : ℕ) (entry : Option ℕ) → IsEntry entry → LineBack at (end_text entry) 0 true (Ok (end_outcome entry))
+end_line at None is = bare_end at
+end_line at (Some entry) is = entered_end at entry is
+
+-- ---- the line of the words from a place on
+
+-- How many words a line stands for. The line has at most 26 bytes for each, with its blanks and its line feed.
+pub record Counts (words text : List ℕ) (count : ℕ) : Type 0 where
+  pub some : 0 < count
+  pub within : count ≤ length words
+  pub short : 8 + length text ≤ 26 * count
+
+with_operands_short : (name : List ℕ) (operands : Option (List ℕ)) → length (with_operands name operands) ≤ length name + (1 + length (field_of operands))
+with_operands_short name None = omega arith
+with_operands_short name (Some operands) = let l = length-append name (0x20 ∷ operands) in omega (arith, l)
+
+module _ (at : ℕ) (inside : at < 65536) (even : at % 2 ≡ 0) (word : ℕ) (rest : List ℕ) (are : AreWords (word ∷ rest)) where
+  abbrev pub WordsBack : Printed → Type 0
+  WordsBack front = LineBack at front.text (2 * front.count) false (come_unless (wraps at (instr_at word)) (take front.count (word ∷ rest))) × Counts (word ∷ rest) front.text front.count
+
+  instr_short : (found : Instr) → IsRead word found → 8 + length (instr_text found at (word ∷ rest)) ≤ 26 * words_of found
+  instr_short found is =
+      let f = field_back at inside (word ∷ rest) are found is.room is.signed in
+      let n = names (operation_of found) in
+      let name = n.short in
+      let field = f.2.short in
+      let text = with_operands_short (name_of (operation_of found)) (operands_text found at (word ∷ rest)) in
+      omega (arith, name, field, text, f.1)
+
+  as_data : (far : Bool) → far ≡ false → LineBack at (printed_word word).text 2 false (come_unless far (take 1 (word ∷ rest))) × Counts (word ∷ rest) (printed_word word).text 1
+  unfolding word_digits
+  as_data true e = cc e
+  as_data false e = (data_line at even word (are 0), record { some = omega arith; within = omega arith; short = omega arith })
+
+  some_words : (found : Instr) → 0 < words_of found
+  some_words found = one_at_least found
+    where
+      one_at_least : (found : Instr) → 0 < words_of found
+      one_at_least (instr.Two op byte dst src) = omega arith
+      one_at_least (instr.Reg op number src) = omega arith
+      one_at_least (instr.Shift op count number) = omega arith
+      one_at_least (instr.One op place) = omega arith
+      one_at_least (instr.Jump op disp) = omega arith
+      one_at_least (instr.Imm op number) = omega arith
+      one_at_least (instr.Bare op) = omega arith
+
+  -- a jump is one word
+  no_part : (found : Instr) → length (word ∷ rest) < words_of found → wraps at (Some found) ≡ false
+  no_part (instr.Two op byte dst src) lt = refl
+  no_part (instr.Reg op number src) lt = refl
+  no_part (instr.Shift op count number) lt = refl
+  no_part (instr.One op place) lt = refl
+  no_part (instr.Jump op disp) lt = absurd (omega (arith, lt))
+  no_part (instr.Imm op number) lt = refl
+  no_part (instr.Bare op) lt = refl
+
+  abbrev Front : Option Instr → Printed → Type 0
+  Front read front = LineBack at front.text (2 * front.count) false (come_unless (wraps at read) (take front.count (word ∷ rest))) × Counts (word ∷ rest) front.text front.count
+
+  by_fit : (found : Instr) → IsRead word found → (whole : Bool) → nat_le (words_of found) (length (word ∷ rest)) ≡ whole
+      → Front (Some found) (if whole then record { text = instr_text found at (word ∷ rest); count = words_of found } else printed_word word)
+  by_fit found is true e =
+      let le : words_of found ≤ length (word ∷ rest) = grind (arith, nat_tests, e) in
+      (instr_line at inside even word rest are found is le, record { some = some_words found; within = le; short = instr_short found is })
+  by_fit found is false e =
+      let lt : length (word ∷ rest) < words_of found = grind (arith, nat_tests, e) in
+      as_data (wraps at (Some found)) (no_part found lt)
+
+  by_read : (read : Option Instr) → instr_at word ≡ read → Front read (printed_where read at (word ∷ rest))
+  by_read None e = as_data false refl
+  by_read (Some found) e = by_fit found (is_read word found (are 0) e) _ refl
+
+  pub words_back : WordsBack (printed (word ∷ rest) at)
+  unfolding printed
+  words_back = by_read (instr_at word) refl

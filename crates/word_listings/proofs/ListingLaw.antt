@@ -1,0 +1,295 @@
+-- The listing of memory is assembled to its words, or refused for a jump that wraps.
+use Rattle.std.proofs.Common.{◌≡◌, inr, ℕ, zero, suc, ◌+◌, ◌-◌, ◌*◌, ◌/◌, ◌%◌, ◌<◌, ◌≤◌, true, List, [], ◌∷◌, ◌++◌}
+use Rattle.std.proofs.Common.{length, refl, ap, sym, subst, ◌∙◌, Ok, Some, None, arith}
+use Rattle.std.specs.Prelude.{Result, Option, map, nat_le, slice_index, codes}
+use Rattle.std.specs.List.{list_all, concat}
+use Rattle.std.proofs.lemmas.Bool.Decides.{nat_tests}
+use Rattle.source_defs.specs.Refusals.{Refusal, ◌>>=◌}
+use Rattle.source_defs.specs.Digits.{marked_word, marked_byte, word_digits}
+use Rattle.source_defs.specs.ListedLines.{listed, listing_line}
+use Rattle.source_defs.specs.Operands.{operand_texts}
+use Rattle.source_defs.specs.Expression.{Relocatable}
+use Rattle.source_defs.specs.Layout.{laid_behind, settled}
+use Rattle.source_defs.specs.Symbols.{predefined}
+use Rattle.console_defs.specs.Words.{join}
+use Rattle.object_defs.specs.Digits.{padded}
+use Rattle.object_defs.specs.Modules.{Module}
+use Rattle.asm_defs.specs.Printed.{printed}
+use Rattle.module_defs.specs.declared.causes.AsmCause.{AsmCause}
+use Rattle.module_defs.specs.Directives.{directive}
+use Rattle.module_defs.specs.Statements.{Aorg, statement_in}
+use Rattle.module_defs.specs.Locations.{Line, start}
+use Rattle.module_defs.specs.FirstChecks.{Checked, said, moved, check, line_of, names, set_to}
+use Rattle.module_defs.specs.SecondChecks.{Nothing, outcome}
+use Rattle.module_defs.specs.Modules.{settle, module_by, module_behind, module_of_source}
+use Rattle.known_lines.proofs.Placing.{HoldWords}
+use Rattle.known_lines.proofs.Whole.{none_by, room_still, hold_still}
+use Rattle.word_listings.specs.Listing.{memory_listing, words_in, lines_from, odd_byte_lines}
+use Rattle.listed_lines.proofs.DigitLaws.{word_passes}
+use Rattle.listed_lines.proofs.OperandLines.{whole, one_text}
+use Rattle.listed_lines.proofs.LineTexts.{plain_byte}
+use Rattle.listed_lines.proofs.LineTexts.{Cut, Fit, cut_listed, in_line, listed_in_line, joined, lines_joined}
+use Rattle.listed_lines.proofs.LineLists.{clean, clean_both, clean_lines, text_of}
+use Rattle.word_listings.specs.Modules.{padded_words, module_of_words, first_wrapping, unless_far}
+use Rattle.word_listings.specs.Law.{StandEven, listed_module, WordListingsComeBack, EnteredListingsComeBack}
+use Rattle.word_listings.proofs.Numbers.{known, word_value}
+use Rattle.word_listings.proofs.Instructions.{AreWords}
+use Rattle.word_listings.proofs.LineBacks.{absolute_at, byte_line, end_text, end_line, IsEntry, words_back}
+use Rattle.word_listings.proofs.Behind.{Stands, Holds, Ends, same_place}
+use Rattle.word_listings.proofs.Going.{texts_from, goes_from, Closes, Breaks}
+use Rattle.word_listings.proofs.Closing.{closes_end, breaks_end, closes_byte, breaks_byte, words_held}
+
+-- ---- the first line
+
+hold_none : (half : ℕ) → HoldWords [] [] (2 * half) []
+hold_none half = record {
+  absolute = λ p. none_by (nat_le (2 * half) p) (p - 2 * half);
+  relocatable = λ p. refl;
+  free = λ p le. refl;
+  none = λ p. refl;
+}
+
+module _ (at : ℕ) (inside : at < 65536) where
+  abbrev aorg_text : List ℕ
+  aorg_text = codes "AORG " ++ marked_word at
+
+  aorg_fit : Fit (codes "AORG") (marked_word at)
+  unfolding word_digits
+  aorg_fit = record
+      { some = omega arith; short = omega arith; few = omega arith; name_plain = refl; field_plain = word_passes plain_byte at refl refl }
+
+  aorg_cut : Cut (listed aorg_text) (codes "AORG") (marked_word at)
+  unfolding word_digits
+  aorg_cut = cut_listed (codes "AORG") (Some (marked_word at)) aorg_fit (inr (omega arith))
+
+  aorg_clean : list_all in_line (listed aorg_text) ≡ true
+  aorg_clean = listed_in_line (codes "AORG") (Some (marked_word at)) aorg_fit
+
+  abbrev aorg_found : Checked
+  aorg_found = record { label = None; statement = Aorg (marked_word at); move = set_to (absolute_at at) }
+
+  abbrev aorg_line : Line
+  aorg_line = line_of 1 aorg_found
+
+  aorg_operands : operand_texts (marked_word at) ≡ marked_word at ∷ []
+  unfolding word_digits
+  aorg_operands = one_text (marked_word at) (omega arith) (word_passes whole at refl refl)
+
+  aorg_check : check [] 1 (listed aorg_text) ≡ Ok aorg_line
+  unfolding said moved statement_in directive
+  aorg_check =
+      let in_part : nat_le (at + 0) 65536 ≡ true = grind (arith, nat_tests, inside) in
+      rw (aorg_cut.fields_are, aorg_cut.name_is, aorg_cut.field_is, aorg_operands) (rw (word_value known (Relocatable 0) at inside, in_part) refl)
+
+  aorg_stands : Stands (aorg_line ∷ []) at
+  aorg_stands = record {
+    names_are = refl;
+    location_is = same_place (at + 0) at (omega arith);
+    refs_are = refl;
+    defs_are = refl;
+    reached_is = refl;
+    title_is = refl;
+  }
+
+  aorg_holds : (half : ℕ) → Holds (aorg_line ∷ []) (record { at = start; outcome = Nothing } ∷ []) (2 * half) []
+  unfolding outcome
+  aorg_holds half = record {
+    settled_are = rw (room_still (record { at = start; outcome = Nothing }) refl [] (2 * half) [] (hold_none half)) refl;
+    hold = hold_still (record { at = start; outcome = Nothing }) refl [] (2 * half) [] (hold_none half);
+    entry_is = refl;
+  }
+
+  from_first : (texts : List (List ℕ)) (answer : Result Module (Refusal AsmCause)) → Ends (aorg_line ∷ []) 2 texts answer → Ends [] 1 (aorg_text ∷ texts) answer
+  from_first texts answer ends = record {
+    all = ends.all;
+    laid_is = rw aorg_check ends.laid_is;
+    names_are = ends.names_are;
+    module_is = ends.module_is;
+  }
+
+-- ---- bytes and words
+
+abbrev odd_texts : List ℕ → List (List ℕ)
+odd_texts [] = []
+odd_texts (byte ∷ []) = (codes "BYTE " ++ marked_byte byte) ∷ []
+odd_texts (more ∷ less ∷ rest) = odd_texts rest
+
+abbrev tail_texts : List ℕ → Option ℕ → List (List ℕ)
+tail_texts bytes entered = odd_texts bytes ++ end_text entered ∷ []
+
+abbrev pub AllBytes : List ℕ → Type 0
+AllBytes bytes = (k : ℕ) → slice_index bytes k < 256
+
+pub are_words : (bytes : List ℕ) → AllBytes bytes → AreWords (words_in bytes)
+are_words [] all k = omega arith
+are_words (byte ∷ []) all k = omega arith
+are_words (more ∷ less ∷ rest) all zero = let a = all 0 in let b = all 1 in omega (arith, a, b)
+are_words (more ∷ less ∷ rest) all (suc k) = are_words rest (λ k. all (suc (suc k))) k
+
+-- they take no more bytes
+pub words_fit : (bytes : List ℕ) → 2 * length (words_in bytes) ≤ length bytes
+words_fit [] = omega arith
+words_fit (byte ∷ []) = omega arith
+words_fit (more ∷ less ∷ rest) = let ih = words_fit rest in omega (arith, ih)
+
+-- the bytes behind the words: none, or one
+data Rest (bytes : List ℕ) : Type 0 where
+  Even : odd_texts bytes ≡ [] → padded_words bytes ≡ words_in bytes → length bytes ≡ 2 * length (words_in bytes) → Rest bytes
+  Odd : (byte : ℕ) → byte < 256 → odd_texts bytes ≡ (codes "BYTE " ++ marked_byte byte) ∷ [] → padded_words bytes ≡ words_in bytes ++ join byte 0 ∷ []
+      → length bytes ≡ suc (2 * length (words_in bytes)) → Rest bytes
+
+rest_of : (bytes : List ℕ) → AllBytes bytes → Rest bytes
+rest_of [] all = Even refl refl refl
+rest_of (byte ∷ []) all = Odd byte (all 0) refl refl refl
+rest_of (more ∷ less ∷ rest) all = by (rest_of rest (λ k. all (suc (suc k))))
+  where
+    by : Rest rest → Rest (more ∷ less ∷ rest)
+    by (Even a b c) = Even a (ap (λ words. join more less ∷ words) b) (omega (arith, c))
+    by (Odd byte lt a b c) = Odd byte lt a (ap (λ words. join more less ∷ words) b) (omega (arith, c))
+
+module _ (half : ℕ) (bytes : List ℕ) (entered : Option ℕ) (all : AllBytes bytes) (inside : 2 * half < 65536) (fits : 2 * half + length bytes ≤ 65536)
+    (is_entry : IsEntry entered) where
+  abbrev words : List ℕ
+  words = words_in bytes
+
+  abbrev answer : Result Module (Refusal AsmCause)
+  answer = unless_far (first_wrapping 2 (2 * half) 0 words) (module_of_words (2 * half) (padded_words bytes) entered)
+
+  abbrev texts : List (List ℕ)
+  texts = texts_from (2 * half) 0 words ++ tail_texts bytes entered
+
+  all_go : (tails : List (List ℕ)) (whole : Module) (below : 2 * half + 2 * length words ≤ 65536)
+      → Closes (2 * half) words tails whole (2 * half + 2 * length words) below → Breaks (2 * half) words tails whole (2 * half + 2 * length words) below
+      → Ends (aorg_line (2 * half) inside ∷ []) 2 (texts_from (2 * half) 0 words ++ tails) (unless_far (first_wrapping 2 (2 * half) 0 words) whole)
+  all_go tails whole below closes breaks =
+      let here : 2 * half + 2 * 0 ≡ 2 * half = omega arith in
+      goes_from (2 * half) words tails whole (2 * half + 2 * length words) below breaks closes words (2 * half) 0 2 (aorg_line (2 * half) inside ∷ []) _ []
+      (omega arith) (omega arith) refl (are_words bytes all)
+      (subst (Stands (aorg_line (2 * half) inside ∷ [])) (sym here) (aorg_stands (2 * half) inside)) (aorg_holds (2 * half) inside half) refl refl
+
+  by_rest : Rest bytes → Ends (aorg_line (2 * half) inside ∷ []) 2 texts answer
+  by_rest (Even none padded size) =
+      let below : 2 * half + 2 * length words ≤ 65536 = omega (arith, fits, size) in
+      subst (λ odd. Ends (aorg_line (2 * half) inside ∷ []) 2 (texts_from (2 * half) 0 words ++ (odd ++ end_text entered ∷ [])) answer) (sym none)
+      (subst (λ found. Ends (aorg_line (2 * half) inside ∷ []) 2 (texts_from (2 * half) 0 words ++ (end_text entered ∷ []))
+      (unless_far (first_wrapping 2 (2 * half) 0 words) (module_of_words (2 * half) found entered))) (sym padded)
+      (all_go (end_text entered ∷ []) (module_of_words (2 * half) words entered) below
+      (λ before earlier number stands holds.
+      closes_end entered is_entry (2 * half + 2 * length words) below before earlier number _ stands holds.settled_are
+      (words_held earlier half words holds.hold holds.entry_is (omega (arith, below))))
+      (λ before number refusal stands fails. breaks_end entered is_entry (2 * half + 2 * length words) below before number refusal stands fails)))
+  by_rest (Odd byte lt odd padded size) =
+      let below : 2 * half + 2 * length words ≤ 65536 = omega (arith, fits, size) in
+      let more : 2 * half + 2 * length words < 65536 = omega (arith, fits, size) in
+      subst (λ odd. Ends (aorg_line (2 * half) inside ∷ []) 2 (texts_from (2 * half) 0 words ++ (odd ++ end_text entered ∷ [])) answer) (sym odd)
+      (subst (λ found. Ends (aorg_line (2 * half) inside ∷ []) 2 (texts_from (2 * half) 0 words ++ ((codes "BYTE " ++ marked_byte byte) ∷ end_text entered ∷ []))
+      (unless_far (first_wrapping 2 (2 * half) 0 words) (module_of_words (2 * half) found entered))) (sym padded)
+      (all_go ((codes "BYTE " ++ marked_byte byte) ∷ end_text entered ∷ []) (module_of_words (2 * half) (words ++ join byte 0 ∷ []) entered) below
+      (λ before earlier number stands holds.
+      closes_byte entered is_entry (2 * half + 2 * length words) byte more lt half words (omega arith) before earlier number stands holds)
+      (λ before number refusal stands fails. breaks_byte entered is_entry (2 * half + 2 * length words) byte more lt before number refusal stands fails)))
+
+  abbrev pub listing_texts : List (List ℕ)
+  listing_texts = aorg_text (2 * half) inside ∷ texts
+
+  pub listing_ends : Ends [] 1 listing_texts answer
+  listing_ends = from_first (2 * half) inside texts answer (by_rest (rest_of bytes all))
+
+  -- ---- no text has a line feed
+
+  clean_from : (words : List ℕ) (at belonging : ℕ) → at % 2 ≡ 0 → at + 2 * length words ≤ 65536 → AreWords words → clean (texts_from at belonging words) ≡ true
+  clean_from [] at belonging even below are = refl
+  clean_from (word ∷ words) at (suc belonging) even below are = clean_from words (at + 2) belonging (omega (arith, even)) (omega (arith, below)) (λ k. are (suc k))
+  clean_from (word ∷ words) at zero even below are =
+      let there : at < 65536 = omega (arith, below) in
+      let back = words_back at there even word words are in
+      let rest = clean_from words (at + 2) ((printed (word ∷ words) at).count - 1) (omega (arith, even)) (omega (arith, below)) (λ k. are (suc k)) in
+      rw (back.0.clean, rest) refl
+
+  clean_tail : Rest bytes → clean (tail_texts bytes entered) ≡ true
+  clean_tail (Even none padded size) = rw (none, (end_line 0 entered is_entry).clean) refl
+  clean_tail (Odd byte lt odd padded size) = rw (odd, (byte_line 0 byte lt).clean, (end_line 0 entered is_entry).clean) refl
+
+  below_all : Rest bytes → 2 * half + 2 * length words ≤ 65536
+  below_all (Even none padded size) = omega (arith, fits, size)
+  below_all (Odd byte lt odd padded size) = omega (arith, fits, size)
+
+  clean_all : clean listing_texts ≡ true
+  clean_all =
+      let rest = rest_of bytes all in
+      rw (
+        aorg_clean (2 * half) inside,
+        clean_both (texts_from (2 * half) 0 words) (tail_texts bytes entered) (clean_from words (2 * half) 0 (omega arith) (below_all rest) (are_words bytes all)) (clean_tail rest),
+      )
+      refl
+
+-- the lines of a listing by their texts
+lines_are : (words : List ℕ) (at belonging : ℕ) → lines_from at belonging words ≡ map listing_line (texts_from at belonging words)
+lines_are [] at belonging = refl
+lines_are (word ∷ words) at (suc belonging) = lines_are words (at + 2) belonging
+lines_are (word ∷ words) at zero =
+    ap (λ rest. listing_line (printed (word ∷ words) at).text ∷ rest) (lines_are words (at + 2) ((printed (word ∷ words) at).count - 1))
+
+odd_are : (bytes : List ℕ) → odd_byte_lines bytes ≡ map listing_line (odd_texts bytes)
+odd_are [] = refl
+odd_are (byte ∷ []) = refl
+odd_are (more ∷ less ∷ rest) = odd_are rest
+
+map_both : (xs ys : List (List ℕ)) → map listing_line xs ++ map listing_line ys ≡ map listing_line (xs ++ ys)
+map_both [] ys = refl
+map_both (x ∷ xs) ys = ap (λ rest. listing_line x ∷ rest) (map_both xs ys)
+
+-- the lines of a listing with its last
+abbrev listing_to : ℕ → List ℕ → List ℕ → List (List ℕ)
+listing_to at bytes end =
+    listing_line (codes "AORG " ++ marked_word at)
+    ∷ (lines_from at 0 (words_in bytes) ++ (odd_byte_lines bytes ++ listing_line end ∷ []))
+
+listing_is : (at : ℕ) (bytes end : List ℕ)
+    → listing_to at bytes end ≡ map listing_line ((codes "AORG " ++ marked_word at) ∷ (texts_from at 0 (words_in bytes) ++ (odd_texts bytes ++ end ∷ [])))
+listing_is at bytes end =
+    let tail : odd_byte_lines bytes ++ listing_line end ∷ [] ≡ map listing_line (odd_texts bytes ++ end ∷ []) =
+    ap (λ lines. lines ++ listing_line end ∷ []) (odd_are bytes) ∙ map_both (odd_texts bytes) (end ∷ []) in
+    let body : lines_from at 0 (words_in bytes) ++ (odd_byte_lines bytes ++ listing_line end ∷ [])
+    ≡ map listing_line (texts_from at 0 (words_in bytes) ++ (odd_texts bytes ++ end ∷ [])) =
+    ap (λ lines. lines ++ (odd_byte_lines bytes ++ listing_line end ∷ [])) (lines_are (words_in bytes) at 0)
+    ∙ (ap (λ rest. map listing_line (texts_from at 0 (words_in bytes)) ++ rest) tail
+    ∙ map_both (texts_from at 0 (words_in bytes)) (odd_texts bytes ++ end ∷ [])) in
+    ap (λ lines. listing_line (codes "AORG " ++ marked_word at) ∷ lines) body
+
+behind_laid : (all : List Line) (come : Result Module (Refusal AsmCause)) → names all ≡ predefined
+    → (settled (settle predefined) all >>= λ found. Ok (module_by all found)) ≡ come → module_behind all ≡ come
+behind_laid all come names is =
+    ap (λ known. settled (settle known) all >>= λ found. Ok (module_by all found)) names ∙ is
+
+-- the module of a source whose lines are let through to the last
+source_is : (texts : List (List ℕ)) (answer : Result Module (Refusal AsmCause)) → Ends [] 1 texts answer → list_all (λ line. list_all in_line line) (map listed texts) ≡ true
+    → module_of_source (joined (map listed texts)) ≡ answer
+source_is texts answer ends clean =
+    ap (λ lines. laid_behind check [] lines >>= module_behind) (lines_joined (map listed texts) clean)
+    ∙ (ap (λ found. found >>= module_behind) ends.laid_is ∙ behind_laid ends.all answer ends.names_are ends.module_is)
+
+even_comes_back : (half : ℕ) (bytes : List ℕ) (entered : Option ℕ) → AllBytes bytes → 2 * half < 65536 → 2 * half + length bytes ≤ 65536 → IsEntry entered
+    → module_of_source (concat (listing_to (2 * half) bytes (end_text entered))) ≡ listed_module (2 * half) bytes entered
+even_comes_back half bytes entered all inside fits is_entry =
+    ap (λ lines. module_of_source (concat lines)) (listing_is (2 * half) bytes (end_text entered))
+    ∙ (ap module_of_source (text_of (listing_texts half bytes entered all inside fits is_entry))
+    ∙ source_is (listing_texts half bytes entered all inside fits is_entry) _ (listing_ends half bytes entered all inside fits is_entry)
+    (clean_lines (listing_texts half bytes entered all inside fits is_entry) (clean_all half bytes entered all inside fits is_entry)))
+
+comes_back : (at : ℕ) (bytes : List ℕ) (entered : Option ℕ) → StandEven at bytes → IsEntry entered
+    → module_of_source (concat (listing_to at bytes (end_text entered))) ≡ listed_module at bytes entered
+comes_back at bytes entered stands is_entry =
+    let even = stands.even in
+    let below = stands.below in
+    let within = stands.within in
+    let same : 2 * (at / 2) ≡ at = omega (arith, even) in
+    subst (λ at. module_of_source (concat (listing_to at bytes (end_text entered))) ≡ listed_module at bytes entered) same
+    (even_comes_back (at / 2) bytes entered stands.holds.fits (omega (arith, even, below)) (omega (arith, even, within)) is_entry)
+
+pub word_listings_come_back : WordListingsComeBack
+unfolding memory_listing
+word_listings_come_back at bytes stands = comes_back at bytes None stands tt
+
+pub entered_listings_come_back : EnteredListingsComeBack
+entered_listings_come_back at bytes entry stands lt = comes_back at bytes (Some entry) stands lt

@@ -1,0 +1,63 @@
+-- How long a listing is.
+use Rattle.std.proofs.Common.{◌≡◌, ℕ, zero, suc, ◌+◌, ◌-◌, ◌*◌, ◌%◌, ◌≤◌, List, [], ◌∷◌, ◌++◌, length, length-append, refl, arith}
+use Rattle.std.specs.Prelude.{codes}
+use Rattle.std.specs.List.{concat}
+use Rattle.source_defs.specs.Digits.{marked_word, word_digits, byte_digits}
+use Rattle.source_defs.specs.ListedLines.{listing_line}
+use Rattle.asm_defs.specs.Printed.{printed}
+use Rattle.word_listings.specs.Listing.{memory_listing, words_in, lines_from, odd_byte_lines}
+use Rattle.word_listings.specs.Law.{WordListingsAreShort}
+use Rattle.word_listings.proofs.Instructions.{AreWords}
+use Rattle.word_listings.proofs.LineBacks.{words_back}
+use Rattle.word_listings.proofs.ListingLaw.{are_words, words_fit}
+
+concat_both : (xs ys : List (List ℕ)) → length (concat (xs ++ ys)) ≡ length (concat xs) + length (concat ys)
+concat_both [] ys = omega arith
+concat_both (x ∷ xs) ys =
+    let rest = concat_both xs ys in
+    let here = length-append x (concat (xs ++ ys)) in
+    let there = length-append x (concat xs) in
+    omega (arith, rest, here, there)
+
+line_size : (text : List ℕ) → length (listing_line text) ≡ 8 + length text
+line_size text = let l = length-append text (codes "\n") in omega (arith, l)
+
+lines_short : (words : List ℕ) (at belonging : ℕ) → at % 2 ≡ 0 → at + 2 * length words ≤ 65536 → AreWords words → belonging ≤ length words
+    → length (concat (lines_from at belonging words)) + 26 * belonging ≤ 26 * length words
+lines_short [] at belonging even below are le = omega (arith, le)
+lines_short (word ∷ words) at (suc belonging) even below are le =
+    let rest = lines_short words (at + 2) belonging (omega (arith, even)) (omega (arith, below)) (λ k. are (suc k)) (omega (arith, le)) in
+    omega (arith, rest)
+lines_short (word ∷ words) at zero even below are le =
+    let back = words_back at (omega (arith, below)) even word words are in
+    let some = back.1.some in
+    let within = back.1.within in
+    let short = back.1.short in
+    let size = line_size (printed (word ∷ words) at).text in
+    let rest = lines_short words (at + 2) ((printed (word ∷ words) at).count - 1) (omega (arith, even)) (omega (arith, below)) (λ k. are (suc k)) (omega (arith, within)) in
+    let all = length-append (listing_line (printed (word ∷ words) at).text) (concat (lines_from (at + 2) ((printed (word ∷ words) at).count - 1) words)) in
+    omega (arith, some, within, short, size, rest, all)
+
+odd_short : (bytes : List ℕ) → length (concat (odd_byte_lines bytes)) ≤ 16
+unfolding byte_digits
+odd_short [] = omega arith
+odd_short (byte ∷ []) = omega arith
+odd_short (more ∷ less ∷ rest) = odd_short rest
+
+first_short : (at : ℕ) → length (listing_line (codes "AORG " ++ marked_word at)) ≡ 18
+unfolding word_digits
+first_short at = refl
+
+pub word_listings_are_short : WordListingsAreShort
+unfolding memory_listing
+word_listings_are_short at bytes stands =
+    let even = stands.even in
+    let within = stands.within in
+    let fit = words_fit bytes in
+    let words = lines_short (words_in bytes) at 0 even (omega (arith, within, fit)) (are_words bytes stands.holds.fits) (omega arith) in
+    let odd = odd_short bytes in
+    let first = first_short at in
+    let last = concat_both (odd_byte_lines bytes) (listing_line (codes "END") ∷ []) in
+    let rest = concat_both (lines_from at 0 (words_in bytes)) (odd_byte_lines bytes ++ listing_line (codes "END") ∷ []) in
+    let all = length-append (listing_line (codes "AORG " ++ marked_word at)) (concat (lines_from at 0 (words_in bytes) ++ (odd_byte_lines bytes ++ listing_line (codes "END") ∷ []))) in
+    omega (arith, words, odd, first, last, rest, all)

@@ -1,0 +1,60 @@
+-- What the listing of memory is assembled to.
+use Rattle.std.specs.Prelude.{◌≡◌, ℕ, ◌+◌, ◌*◌, ◌%◌, ◌<◌, ◌≤◌, List, [], ◌∷◌, ◌++◌, length, codes, Option, Some, None, Result, Ok}
+use Rattle.std.specs.List.{concat}
+use Rattle.source_defs.specs.Refusals.{Refusal}
+use Rattle.source_defs.specs.Digits.{marked_word}
+use Rattle.source_defs.specs.ListedLines.{listing_line}
+use Rattle.console_defs.specs.Bytes.{HoldsBytes}
+use Rattle.object_defs.specs.Modules.{Module}
+use Rattle.module_defs.specs.declared.causes.AsmCause.{AsmCause}
+use Rattle.module_defs.specs.Modules.{module_of_source}
+use Rattle.word_listings.specs.Listing.{memory_listing, words_in, lines_from, odd_byte_lines}
+use Rattle.word_listings.specs.Modules.{padded_words, module_of_words, first_wrapping, unless_far}
+
+-- bytes that stand from an even address on, within memory
+pub record StandEven (at : ℕ) (bytes : List ℕ) : Type 0 where
+  pub holds : HoldsBytes (length bytes) bytes
+  pub even : at % 2 ≡ 0
+  pub below : at < 65536
+  pub within : at + length bytes ≤ 65536
+
+-- What the listing of bytes comes to, of which the first line is AORG: the module of their words, or the refusal of the
+-- first of its jumps that wraps around the ends of memory.
+abbrev pub listed_module : ℕ → List ℕ → Option ℕ → Result Module (Refusal AsmCause)
+listed_module at bytes entry =
+    unless_far (first_wrapping 2 at 0 (words_in bytes)) (module_of_words at (padded_words bytes) entry)
+
+-- The law, which is proved: the listing of bytes from an even address on is assembled to their words there and to
+-- nothing else; or it is refused for the first of its jumps that wraps around the ends of memory, exactly where there
+-- is one.
+abbrev pub WordListingsComeBack : Type 0
+WordListingsComeBack =
+    (at : ℕ) (bytes : List ℕ) → StandEven at bytes
+    → module_of_source (concat (memory_listing at bytes)) ≡ listed_module at bytes None
+
+-- The law, which is proved: so the listing of bytes that stand far enough from the ends of memory is never refused.
+abbrev pub InnerListingsComeBack : Type 0
+InnerListingsComeBack =
+    (at : ℕ) (bytes : List ℕ) → StandEven at bytes → 0x00FE ≤ at → at + length bytes ≤ 0xFF01
+    → module_of_source (concat (memory_listing at bytes)) ≡ Ok (module_of_words at (padded_words bytes) None)
+
+-- the listing with an entry behind END
+abbrev pub entered_listing : ℕ → List ℕ → ℕ → List (List ℕ)
+entered_listing at bytes entry =
+    listing_line (codes "AORG " ++ marked_word at)
+    ∷ (lines_from at 0 (words_in bytes)
+    ++ (odd_byte_lines bytes ++ listing_line (codes "END " ++ marked_word entry) ∷ []))
+
+-- The law, which is proved: where its END names an entry by its address, the module has that entry, and is the same
+-- otherwise.
+abbrev pub EnteredListingsComeBack : Type 0
+EnteredListingsComeBack =
+    (at : ℕ) (bytes : List ℕ) (entry : ℕ) → StandEven at bytes → entry < 65536
+    → module_of_source (concat (entered_listing at bytes entry)) ≡ listed_module at bytes (Some entry)
+
+-- The law, which is proved: a listing has at most 26 bytes for each word, and 45 for its other lines: AORG, BYTE of a
+-- last odd byte, and END.
+abbrev pub WordListingsAreShort : Type 0
+WordListingsAreShort =
+    (at : ℕ) (bytes : List ℕ) → StandEven at bytes
+    → length (concat (memory_listing at bytes)) ≤ 26 * length (words_in bytes) + 45

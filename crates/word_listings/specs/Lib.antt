@@ -1,0 +1,4 @@
+pub mod Listing
+pub mod Modules
+pub mod Law
+pub mod Linking
