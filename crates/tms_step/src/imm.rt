@@ -8,7 +8,6 @@ ghost use Rattle.tms_step.specs.Stops.{left_by};
 ghost use Rattle.tms_step.specs.Undo.{SameButPc};
 
 use crate::cpu::Cpu;
-use crate::result::with_order;
 use crate::stop::Stop;
 use console_defs::ImmOp;
 use tms_words::add16;
@@ -52,7 +51,7 @@ impl Cpu {
         } else if op == ImmOp::ORI {
             self.stored_by_result(false, address, found | word)
         } else {
-            self.status = with_order(false, found, word, self.status);
+            self.compared(false, found, word);
             Ok(())
         }
     }

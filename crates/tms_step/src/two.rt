@@ -11,7 +11,7 @@ ghost use Rattle.tms_step.specs.Undo.{SameButPc};
 ghost use Rattle.tms_step.specs.Parts.{from_source, from_port, two_from_port, is_arithmetic, is_bitwise};
 
 use crate::cpu::Cpu;
-use crate::result::{difference, ones_cleared, ones_set, sum, with_order};
+use crate::result::{difference, ones_cleared, ones_set, sum};
 use crate::stop::Stop;
 use console_bus::is_port;
 use console_defs::{Place, TwoOp};
@@ -136,7 +136,7 @@ impl Cpu {
     {
         let found = self.value_at(byte, address)?;
         if op == TwoOp::C {
-            self.status = with_order(byte, source, found, self.status);
+            self.compared(byte, source, found);
             return Ok(());
         }
         let out = if op == TwoOp::A {
