@@ -92,22 +92,34 @@ impl Bus {
         ensures bytes { answer_of result ≡ two_bytes_read self.now at }
     {
         let at = at / 2 * 2;
-        if at >= 0x8000 {
-            if at >= 0xA000 {
-                Ok(word_in(&self.high_expansion, (at - 0xA000) as usize))
-            } else if at < 0x8400 {
-                Ok(word_in(&self.scratchpad, (at % 256) as usize))
-            } else if is_port(at) {
-                Err(PortStop(at))
-            } else {
-                Ok(0)
-            }
+        if at >= 0x8000 && at < 0x8400 {
+            Ok(word_in(&self.scratchpad, (at % 256) as usize))
+        } else if at >= 0xA000 {
+            Ok(word_in(&self.high_expansion, (at - 0xA000) as usize))
         } else if at < 0x2000 {
             Ok(word_in(&self.rom, at as usize))
         } else if at < 0x4000 {
             Ok(word_in(&self.low_expansion, (at - 0x2000) as usize))
+        } else if is_port(at) {
+            Err(PortStop(at))
         } else {
             Ok(0)
+        }
+    }
+
+    /// The word that holds an address, as `word_at` gives it. It is for the words of instructions, and tells the
+    /// expansion memory first, where programs stand.
+    #[inline(always)]
+    pub fn code_at(&self, at: u16) -> Result<u16, PortStop>
+        ensures word { answer_of result ≡ word_read self.now at }
+    {
+        let even = at / 2 * 2;
+        if even >= 0xA000 {
+            Ok(word_in(&self.high_expansion, (even - 0xA000) as usize))
+        } else if even >= 0x2000 && even < 0x4000 {
+            Ok(word_in(&self.low_expansion, (even - 0x2000) as usize))
+        } else {
+            self.word_at(at)
         }
     }
 
@@ -122,16 +134,14 @@ impl Bus {
         ensures stopped { OnErr result (self.new ≡ self.old) }
     {
         let at = at / 2 * 2;
-        if at >= 0x8000 {
-            if at >= 0xA000 {
-                set_word(&mut self.high_expansion, (at - 0xA000) as usize, word);
-            } else if at < 0x8400 {
-                set_word(&mut self.scratchpad, (at % 256) as usize, word);
-            } else if is_port(at) {
-                return Err(PortStop(at));
-            }
+        if at >= 0x8000 && at < 0x8400 {
+            set_word(&mut self.scratchpad, (at % 256) as usize, word);
+        } else if at >= 0xA000 {
+            set_word(&mut self.high_expansion, (at - 0xA000) as usize, word);
         } else if at >= 0x2000 && at < 0x4000 {
             set_word(&mut self.low_expansion, (at - 0x2000) as usize, word);
+        } else if is_port(at) {
+            return Err(PortStop(at));
         }
         Ok(())
     }
@@ -142,20 +152,16 @@ impl Bus {
     pub fn read_byte(&mut self, at: u16) -> u8
         ensures { (result, self.new) ≡ byte_read self.old at }
     {
-        if at >= 0x8000 {
-            if at >= 0xA000 {
-                self.high_expansion[(at - 0xA000) as usize]
-            } else if at < 0x8400 {
-                self.scratchpad[(at % 256) as usize]
-            } else {
-                self.read_port(at)
-            }
+        if at >= 0x8000 && at < 0x8400 {
+            self.scratchpad[(at % 256) as usize]
+        } else if at >= 0xA000 {
+            self.high_expansion[(at - 0xA000) as usize]
         } else if at < 0x2000 {
             self.rom[at as usize]
         } else if at < 0x4000 {
             self.low_expansion[(at - 0x2000) as usize]
         } else {
-            0
+            self.read_port(at)
         }
     }
 
@@ -166,16 +172,14 @@ impl Bus {
     pub fn write_byte(&mut self, at: u16, byte: u8)
         ensures { self.new ≡ byte_written self.old at byte }
     {
-        if at >= 0x8000 {
-            if at >= 0xA000 {
-                self.high_expansion[(at - 0xA000) as usize] = byte;
-            } else if at < 0x8400 {
-                self.scratchpad[(at % 256) as usize] = byte;
-            } else {
-                self.write_port(at, byte);
-            }
+        if at >= 0x8000 && at < 0x8400 {
+            self.scratchpad[(at % 256) as usize] = byte;
+        } else if at >= 0xA000 {
+            self.high_expansion[(at - 0xA000) as usize] = byte;
         } else if at >= 0x2000 && at < 0x4000 {
             self.low_expansion[(at - 0x2000) as usize] = byte;
+        } else {
+            self.write_port(at, byte);
         }
     }
 

@@ -9,8 +9,7 @@ ghost use Rattle.tms_step.specs.Stops.{left_by};
 
 use crate::cpu::Cpu;
 use crate::result::{order, result_flags};
-use crate::stop::Stop;
-use console_defs::{Flags, Out16};
+use console_defs::{Flags, Out16, PortStop};
 use tms_words::odd8;
 
 impl Cpu {
@@ -22,7 +21,7 @@ impl Cpu {
         address: u16,
         value: u16,
         flags: Flags,
-    ) -> Result<(), Stop>
+    ) -> Result<(), PortStop>
         requires { value < modulus (byte_or_word byte) }
         ensures value { left_by result (λ _. self.new)
             ≡ stored Memory console (byte_or_word byte) address value flags self.old }
@@ -43,7 +42,7 @@ impl Cpu {
 
     /// Stores a word with its status bits.
     #[inline(always)]
-    pub(crate) fn stored_out(&mut self, address: u16, out: Out16) -> Result<(), Stop>
+    pub(crate) fn stored_out(&mut self, address: u16, out: Out16) -> Result<(), PortStop>
         ensures value { left_by result (λ _. self.new)
             ≡ stored Memory console Word address out.value out.flags self.old }
         ensures stopped { OnErr result (self.new ≡ self.old) }
@@ -58,7 +57,7 @@ impl Cpu {
         byte: bool,
         address: u16,
         value: u16,
-    ) -> Result<(), Stop>
+    ) -> Result<(), PortStop>
         requires { value < modulus (byte_or_word byte) }
         ensures value { left_by result (λ _. self.new)
             ≡ stored_by_result Memory console (byte_or_word byte) address value self.old }
