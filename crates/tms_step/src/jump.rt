@@ -68,12 +68,8 @@ fn other_condition(op: JumpOp, status: Status) -> bool
         JumpOp::JL => !flags.lgt && !flags.eq,
         JumpOp::JH => flags.lgt && !flags.eq,
         JumpOp::JOP => status.op,
-        JumpOp::JMP
-        | JumpOp::JEQ
-        | JumpOp::JNE
-        | JumpOp::SBO
-        | JumpOp::SBZ
-        | JumpOp::TB => unreachable!(),
+        JumpOp::JMP | JumpOp::JEQ | JumpOp::JNE | JumpOp::SBO | JumpOp::SBZ | JumpOp::TB =>
+            unreachable!(),
     }
 }
 

@@ -40,7 +40,13 @@ impl Cpu {
     /// What follows once the source is derived: it is read, and the destination is derived.
     #[inline(always)]
     #[tactic(auto, using(crate::proofs::PutBack::grown_later))]
-    fn from_source(&mut self, op: TwoOp, byte: bool, source: u16, dst: Place) -> Result<(), PortStop>
+    fn from_source(
+        &mut self,
+        op: TwoOp,
+        byte: bool,
+        source: u16,
+        dst: Place,
+    ) -> Result<(), PortStop>
         requires { IsPlace dst }
         ensures value { left_by result (λ _. self.new) ≡ from_source op (byte_or_word byte) source dst self.old }
         ensures stopped { OnErr result (SameButPc self.old self.new) }
@@ -54,7 +60,13 @@ impl Cpu {
     /// The same, where the source is no byte of a port, so that its reading changes nothing.
     #[inline(always)]
     #[tactic(auto, using(crate::proofs::PutBack::grown_later))]
-    fn from_memory(&mut self, op: TwoOp, byte: bool, source: u16, dst: Place) -> Result<(), PortStop>
+    fn from_memory(
+        &mut self,
+        op: TwoOp,
+        byte: bool,
+        source: u16,
+        dst: Place,
+    ) -> Result<(), PortStop>
         requires dst { IsPlace dst }
         requires memory { byte ≡ true → is_port_address source ≡ false }
         ensures value { left_by result (λ _. self.new) ≡ from_source op (byte_or_word byte) source dst self.old }
@@ -126,7 +138,13 @@ impl Cpu {
 
     /// A sum, a difference or a comparison of a source and the destination at an address.
     #[inline(always)]
-    fn arithmetic(&mut self, op: TwoOp, byte: bool, source: u16, address: u16) -> Result<(), PortStop>
+    fn arithmetic(
+        &mut self,
+        op: TwoOp,
+        byte: bool,
+        source: u16,
+        address: u16,
+    ) -> Result<(), PortStop>
         requires source { source < modulus (byte_or_word byte) }
         requires op { is_arithmetic op ≡ true }
         ensures value { left_by result (λ _. self.new)

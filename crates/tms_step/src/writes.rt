@@ -54,7 +54,11 @@ impl Cpu {
     /// How an instruction ends, where a word was written over before: unless it was executed, the word is put back.
     #[inline(always)]
     #[tactic(auto, using(crate::proofs::PutBack::put_back_later))]
-    pub(crate) fn settle(&mut self, end: Result<(), PortStop>, kept: Option<Kept>) -> Result<(), PortStop>
+    pub(crate) fn settle(
+        &mut self,
+        end: Result<(), PortStop>,
+        kept: Option<Kept>,
+    ) -> Result<(), PortStop>
         ensures end { result ≡ end }
         ensures executed { OnOk result (self.new ≡ self.old) }
         ensures stopped { OnErr result (self.new ≡ put_back kept self.old) }
