@@ -13,6 +13,7 @@ ghost use Rattle.console_defs.specs.Memory.{word_written_in, word_written, two_b
 ghost use Rattle.console_defs.specs.Memory.{word_placed, cell_set};
 
 use byte_lists::{holds_bytes, zeros};
+use byteorder::{BigEndian, ByteOrder};
 use console_defs::PortStop;
 use grom_counter::Grom;
 use std::alloc::{AllocError, Global};
@@ -91,13 +92,34 @@ impl Bus {
         ensures bytes { answer_of result ≡ two_bytes_read self.now at }
     {
         let at = at / 2 * 2;
-        match at {
-            0x0000..=0x1FFF => Ok(word_in(&self.rom, at as usize)),
-            0x2000..=0x3FFF => Ok(word_in(&self.low_expansion, (at - 0x2000) as usize)),
-            0x8000..=0x83FF => Ok(word_in(&self.scratchpad, (at % 256) as usize)),
-            0xA000..=0xFFFF => Ok(word_in(&self.high_expansion, (at - 0xA000) as usize)),
-            _ if is_port(at) => Err(PortStop(at)),
-            _ => Ok(0),
+        if at >= 0x8000 && at < 0x8400 {
+            Ok(word_in(&self.scratchpad, (at % 256) as usize))
+        } else if at >= 0xA000 {
+            Ok(word_in(&self.high_expansion, (at - 0xA000) as usize))
+        } else if at < 0x2000 {
+            Ok(word_in(&self.rom, at as usize))
+        } else if at < 0x4000 {
+            Ok(word_in(&self.low_expansion, (at - 0x2000) as usize))
+        } else if is_port(at) {
+            Err(PortStop(at))
+        } else {
+            Ok(0)
+        }
+    }
+
+    /// The word that holds an address, as `word_at` gives it. It is for the words of instructions, and tells the
+    /// expansion memory first, where programs stand.
+    #[inline(always)]
+    pub fn code_at(&self, at: u16) -> Result<u16, PortStop>
+        ensures word { answer_of result ≡ word_read self.now at }
+    {
+        let even = at / 2 * 2;
+        if even >= 0xA000 {
+            Ok(word_in(&self.high_expansion, (even - 0xA000) as usize))
+        } else if even >= 0x2000 && even < 0x4000 {
+            Ok(word_in(&self.low_expansion, (even - 0x2000) as usize))
+        } else {
+            self.word_at(at)
         }
     }
 
@@ -112,12 +134,14 @@ impl Bus {
         ensures stopped { OnErr result (self.new ≡ self.old) }
     {
         let at = at / 2 * 2;
-        match at {
-            0x2000..=0x3FFF => set_word(&mut self.low_expansion, (at - 0x2000) as usize, word),
-            0x8000..=0x83FF => set_word(&mut self.scratchpad, (at % 256) as usize, word),
-            0xA000..=0xFFFF => set_word(&mut self.high_expansion, (at - 0xA000) as usize, word),
-            _ if is_port(at) => return Err(PortStop(at)),
-            _ => {}
+        if at >= 0x8000 && at < 0x8400 {
+            set_word(&mut self.scratchpad, (at % 256) as usize, word);
+        } else if at >= 0xA000 {
+            set_word(&mut self.high_expansion, (at - 0xA000) as usize, word);
+        } else if at >= 0x2000 && at < 0x4000 {
+            set_word(&mut self.low_expansion, (at - 0x2000) as usize, word);
+        } else if is_port(at) {
+            return Err(PortStop(at));
         }
         Ok(())
     }
@@ -128,12 +152,16 @@ impl Bus {
     pub fn read_byte(&mut self, at: u16) -> u8
         ensures { (result, self.new) ≡ byte_read self.old at }
     {
-        match at {
-            0x0000..=0x1FFF => self.rom[at as usize],
-            0x2000..=0x3FFF => self.low_expansion[(at - 0x2000) as usize],
-            0x8000..=0x83FF => self.scratchpad[(at % 256) as usize],
-            0xA000..=0xFFFF => self.high_expansion[(at - 0xA000) as usize],
-            _ => self.read_port(at),
+        if at >= 0x8000 && at < 0x8400 {
+            self.scratchpad[(at % 256) as usize]
+        } else if at >= 0xA000 {
+            self.high_expansion[(at - 0xA000) as usize]
+        } else if at < 0x2000 {
+            self.rom[at as usize]
+        } else if at < 0x4000 {
+            self.low_expansion[(at - 0x2000) as usize]
+        } else {
+            self.read_port(at)
         }
     }
 
@@ -144,11 +172,14 @@ impl Bus {
     pub fn write_byte(&mut self, at: u16, byte: u8)
         ensures { self.new ≡ byte_written self.old at byte }
     {
-        match at {
-            0x2000..=0x3FFF => self.low_expansion[(at - 0x2000) as usize] = byte,
-            0x8000..=0x83FF => self.scratchpad[(at % 256) as usize] = byte,
-            0xA000..=0xFFFF => self.high_expansion[(at - 0xA000) as usize] = byte,
-            _ => self.write_port(at, byte),
+        if at >= 0x8000 && at < 0x8400 {
+            self.scratchpad[(at % 256) as usize] = byte;
+        } else if at >= 0xA000 {
+            self.high_expansion[(at - 0xA000) as usize] = byte;
+        } else if at >= 0x2000 && at < 0x4000 {
+            self.low_expansion[(at - 0x2000) as usize] = byte;
+        } else {
+            self.write_port(at, byte);
         }
     }
 
@@ -259,7 +290,7 @@ fn word_in(bytes: &[u8], at: usize) -> u16
     requires { at + 1 < length bytes.now }
     ensures { result ≡ word_in bytes.now at }
 {
-    256 * bytes[at] as u16 + bytes[at + 1] as u16
+    BigEndian::read_u16(&bytes[at..])
 }
 
 /// Writes a word to a place, its high byte first.
@@ -268,8 +299,10 @@ fn set_word(bytes: &mut [u8], at: usize, word: u16)
     requires { at + 1 < length bytes.old }
     ensures { bytes.new ≡ with_word_in bytes.old at word }
 {
-    bytes[at] = (word / 256) as u8;
-    bytes[at + 1] = (word % 256) as u8;
+    let mut pair = [0; 2];
+    BigEndian::write_u16(&mut pair, word);
+    bytes[at] = pair[0];
+    bytes[at + 1] = pair[1];
 }
 
 /// The 256 bytes of a new scratchpad.

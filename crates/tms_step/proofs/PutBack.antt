@@ -1,16 +1,17 @@
 -- A word that was written over is put back.
-use Rattle.std.proofs.Common.{◌≡◌, ℕ, ◌+◌, ◌<◌, List, refl, sym, ap, ◌∙◌, arith, get_or}
+use Rattle.std.proofs.Common.{◌≡◌, ℕ, ◌+◌, ◌<◌, List, refl, sym, ap, subst, ◌∙◌, arith, get_or}
 use Rattle.std.specs.Prelude.{Option, Some, None, Result, Ok, Err, OnErr}
 use Rattle.std.proofs.Math.ListN.{set}
 use Rattle.std.proofs.lemmas.List.{set_comm, set-set, set-get_or}
 use Rattle.console_defs.specs.Words.{high, low, join, even}
 use Rattle.console_defs.specs.Accesses.{Answer, Gives, AtPort, NoInstruction, ◌>>=◌, written_by}
 use Rattle.console_defs.specs.Operand.{Cpu, with_word}
+use Rattle.console_defs.specs.declared.instruction.Place.{Place}
 use Rattle.console_defs.specs.declared.port_stop.PortStop.{PortStop}
 use Rattle.console_defs.specs.Memory.{Memory, Region, Rom, LowExpansion, HighExpansion, Scratchpad, PortOf, Unmapped}
 use Rattle.console_defs.specs.Memory.{IsMemory, region, word_read_in, word_written_in, word_read, word_written, console}
 use Rattle.tms_step.specs.declared.cpu.Kept.{Kept}
-use Rattle.tms_step.specs.Undo.{taken, put_back, SameButPc}
+use Rattle.tms_step.specs.Undo.{taken, put_back, grown_by, SameButPc}
 
 -- two bytes of a list, written over and set back
 items_back : (l : List ℕ) (i a b : ℕ) →
@@ -81,3 +82,19 @@ put_back_later None old middle later then first =
     record { same = rw (← first.same) (ap (λ (x : Cpu Memory). record x { pc = old.pc }) then.same) }
 put_back_later (Some kept) old middle later then first =
     record { same = ap (λ (x : Cpu Memory). record (put_back (Some kept) x) { pc = old.pc }) then.same ∙ first.same }
+
+-- a word that is put back leaves the workspace
+wp_back : (middle : Cpu Memory) (kept : Option Kept) → (put_back kept middle).wp ≡ middle.wp
+wp_back middle None = refl
+wp_back middle (Some kept) = refl
+
+-- The register that has grown with an operand is put back, where the program counter alone has gone on since.
+pub grown_later : (place : Place) (address : ℕ) (old middle later : Cpu Memory) → SameButPc middle later →
+    SameButPc old (put_back (grown_by place address old.wp) middle) →
+    SameButPc old (put_back (grown_by place address later.wp) later)
+grown_later place address old middle later then first =
+    let there : later.wp ≡ middle.wp = ap (λ (x : Cpu Memory). x.wp) then.same in
+    let here : middle.wp ≡ old.wp =
+    sym (wp_back middle (grown_by place address old.wp)) ∙ ap (λ (x : Cpu Memory). x.wp) first.same in
+    subst (λ (wp : ℕ). SameButPc old (put_back (grown_by place address wp) later)) (sym (there ∙ here))
+    (put_back_later (grown_by place address old.wp) old middle later then first)

@@ -1,8 +1,9 @@
 -- A word that was written over, and its being put back.
-use Rattle.std.specs.Prelude.{◌≡◌, Option, Some, None}
+use Rattle.std.specs.Prelude.{◌≡◌, ℕ, true, false, eqb, Option, Some, None}
 use Rattle.console_defs.specs.Accesses.{Answer, Gives, AtPort, NoInstruction}
 use Rattle.console_defs.specs.Memory.{Memory, word_written}
-use Rattle.console_defs.specs.Operand.{Cpu}
+use Rattle.console_defs.specs.Operand.{Cpu, register_in}
+use Rattle.console_defs.specs.declared.instruction.Place.{Place}
 use Rattle.tms_step.specs.declared.cpu.Kept.{Kept}
 
 -- The memory that a write leaves, or the memory before it where it stops.
@@ -15,6 +16,15 @@ taken NoInstruction memory = memory
 abbrev pub put_back : Option Kept → Cpu Memory → Cpu Memory
 put_back None x = x
 put_back (Some kept) x = record x { memory = taken (word_written x.memory kept.address kept.word) x.memory }
+
+-- A register of a workspace with a number, and the word that it held.
+abbrev pub grown_register : ℕ → ℕ → ℕ → Kept
+grown_register number word wp = record { address = register_in wp number; word = word }
+
+-- The register that has grown with an operand at an address, as it was before: what it held is the address.
+abbrev pub grown_by : Place → ℕ → ℕ → Option Kept
+grown_by place address wp =
+    elim (eqb place.mode 3) [ true ↦ Some (grown_register place.reg address wp) | false ↦ None ]
 
 -- The new state is the old one but for the program counter.
 pub record SameButPc (old new : Cpu Memory) : Type 0 where

@@ -1,22 +1,24 @@
 //! Instructions without an operand but a word that may follow.
 
-ghost use Rattle.std.specs.Prelude.{◌≡◌, OnErr};
+ghost use Rattle.std.specs.Prelude.{◌≡◌, OnErr, false};
 ghost use Rattle.console_defs.specs.Memory.{Memory, console};
+ghost use Rattle.console_defs.specs.Step.{is_stopping};
 ghost use Rattle.console_defs.specs.forms.Bare.{bare};
 ghost use Rattle.console_defs.specs.declared.instruction.BareOp.TheVariants.{RTWP};
+ghost use Rattle.console_defs.specs.declared.instruction.Instr.TheVariants.{Bare};
 ghost use Rattle.tms_step.specs.Stops.{left_by};
 ghost use Rattle.tms_step.specs.Undo.{SameButPc};
 
 use crate::cpu::{Cpu, even};
 use crate::status::status_at;
-use crate::stop::Stop;
-use console_defs::BareOp;
+use console_defs::{BareOp, PortStop};
 
 impl Cpu {
     /// An operation on the processor's registers; the program counter stands at the word that may follow (TMS9900 data
     /// manual, "Internal register load immediate instructions", "Return workspace pointer (RTWP) instruction").
     #[inline(never)]
-    pub(crate) fn bare(&mut self, op: BareOp) -> Result<(), Stop>
+    pub(crate) fn bare(&mut self, op: BareOp) -> Result<(), PortStop>
+        requires { is_stopping (Bare op) ≡ false }
         ensures value { left_by result (λ _. self.new) ≡ bare Memory console op self.old }
         ensures stopped { OnErr result (SameButPc self.old self.new) }
     {
@@ -33,14 +35,14 @@ impl Cpu {
             }
             BareOp::RTWP => self.returned(),
             BareOp::IDLE | BareOp::RSET | BareOp::CKON | BareOp::CKOF | BareOp::LREX => {
-                Err(Stop::NoInstruction)
+                unreachable!()
             }
         }
     }
 
     /// The return from a context switch (TMS9900 data manual, "Return workspace pointer (RTWP) instruction").
     #[inline]
-    fn returned(&mut self) -> Result<(), Stop>
+    fn returned(&mut self) -> Result<(), PortStop>
         ensures value { left_by result (λ _. self.new) ≡ bare Memory console RTWP self.old }
         ensures stopped { OnErr result (self.new ≡ self.old) }
     {

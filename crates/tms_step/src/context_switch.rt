@@ -7,12 +7,12 @@ ghost use Rattle.console_defs.specs.forms.ContextSwitch.{kept_in, vector_at, kep
 ghost use Rattle.tms_step.specs.Stops.{left_by};
 
 use crate::cpu::{Cpu, even, register_in};
-use crate::stop::Stop;
+use console_defs::PortStop;
 
 impl Cpu {
     /// The workspace pointer and the program counter of a context switch, from two words of memory (TMS9900 data
     /// manual, "Branch and load workspace pointer", "Extended operation (XOP) instruction").
-    pub(crate) fn vector_at(&self, at: u16) -> Result<(u16, u16), Stop>
+    pub(crate) fn vector_at(&self, at: u16) -> Result<(u16, u16), PortStop>
         ensures value { left_by result (λ vector. vector) ≡ vector_at Memory console at self.now }
         ensures even { IfOk result (λ vector. (even vector.0 ≡ vector.0) × (even vector.1 ≡ vector.1)) }
     {
@@ -35,7 +35,7 @@ impl Cpu {
 
     /// What a context switch kept: workspace pointer, program counter and status, in registers 13, 14 and 15 (TMS9900
     /// data manual, "Return workspace pointer (RTWP) instruction").
-    pub(crate) fn kept(&self) -> Result<(u16, u16, u16), Stop>
+    pub(crate) fn kept(&self) -> Result<(u16, u16, u16), PortStop>
         ensures { left_by result (λ kept. kept) ≡ kept_of Memory console self.now }
     {
         let wp = self.word_at(self.register_address(13))?;

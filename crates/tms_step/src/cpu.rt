@@ -8,9 +8,8 @@ ghost use Rattle.console_defs.specs.Operand.{word_at, with_word, register_in, re
 ghost use Rattle.tms_step.specs.Stops.{left_by};
 ghost use Rattle.tms_step.specs.Undo.{SameButPc};
 
-use crate::stop::Stop;
 use console_bus::Bus;
-use console_defs::Status;
+use console_defs::{PortStop, Status};
 use std::marker::Model;
 
 /// The processor with its memory (TMS9900 data manual, "Registers and memory").
@@ -63,25 +62,19 @@ impl Cpu {
 
     /// The word that holds an address.
     #[inline(always)]
-    pub(crate) fn word_at(&self, at: u16) -> Result<u16, Stop>
+    pub(crate) fn word_at(&self, at: u16) -> Result<u16, PortStop>
         ensures { left_by result (λ word. (word, self.now)) ≡ word_at Memory console self.now at }
     {
-        match self.bus.word_at(at) {
-            Ok(word) => Ok(word),
-            Err(stop) => Err(Stop::Port(stop.0)),
-        }
+        self.bus.word_at(at)
     }
 
     /// Writes the word that holds an address; where a port stops it, nothing has changed.
     #[inline(always)]
-    pub(crate) fn write_word(&mut self, at: u16, word: u16) -> Result<(), Stop>
+    pub(crate) fn write_word(&mut self, at: u16, word: u16) -> Result<(), PortStop>
         ensures value { left_by result (λ _. self.new) ≡ with_word Memory console self.old at word }
         ensures stopped { OnErr result (self.new ≡ self.old) }
     {
-        match self.bus.write_word(at, word) {
-            Ok(()) => Ok(()),
-            Err(stop) => Err(Stop::Port(stop.0)),
-        }
+        self.bus.write_word(at, word)
     }
 
     /// The address of a workspace register.
@@ -95,11 +88,12 @@ impl Cpu {
 
     /// The word at the program counter, which goes on by two.
     #[inline(always)]
-    pub(crate) fn next_word(&mut self) -> Result<u16, Stop>
+    pub(crate) fn next_word(&mut self) -> Result<u16, PortStop>
         ensures value { left_by result (λ word. (word, self.new)) ≡ next_word Memory console self.old }
         ensures same { SameButPc self.old self.new }
+        ensures stopped { OnErr result (self.new ≡ self.old) }
     {
-        let word = self.word_at(self.pc)?;
+        let word = self.bus.code_at(self.pc)?;
         self.pc = self.pc.wrapping_add(2);
         Ok(word)
     }

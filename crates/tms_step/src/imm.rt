@@ -8,16 +8,14 @@ ghost use Rattle.tms_step.specs.Stops.{left_by};
 ghost use Rattle.tms_step.specs.Undo.{SameButPc};
 
 use crate::cpu::Cpu;
-use crate::result::with_order;
-use crate::stop::Stop;
-use console_defs::ImmOp;
+use console_defs::{ImmOp, PortStop};
 use tms_words::add16;
 
 impl Cpu {
     /// An operation on a register; the program counter stands at the word that may follow (TMS9900 data manual,
     /// "Immediate register instructions", "Internal register store instructions").
     #[inline(never)]
-    pub(crate) fn imm(&mut self, op: ImmOp, number: u8) -> Result<(), Stop>
+    pub(crate) fn imm(&mut self, op: ImmOp, number: u8) -> Result<(), PortStop>
         requires { number < 16 }
         ensures value { left_by result (λ _. self.new) ≡ imm Memory console op number self.old }
         ensures stopped { OnErr result (SameButPc self.old self.new) }
@@ -37,7 +35,7 @@ impl Cpu {
 
     /// AI, ANDI, ORI or CI: the register and the word that follows are both read.
     #[inline(never)]
-    fn with_immediate(&mut self, op: ImmOp, number: u8) -> Result<(), Stop>
+    fn with_immediate(&mut self, op: ImmOp, number: u8) -> Result<(), PortStop>
         requires number { number < 16 }
         requires op { reads_both op ≡ true }
         ensures value { left_by result (λ _. self.new) ≡ imm Memory console op number self.old }
@@ -52,14 +50,14 @@ impl Cpu {
         } else if op == ImmOp::ORI {
             self.stored_by_result(false, address, found | word)
         } else {
-            self.status = with_order(false, found, word, self.status);
+            self.compared(false, found, word);
             Ok(())
         }
     }
 
     /// The word that follows, and a register, which is read after it.
     #[inline(always)]
-    fn immediate(&mut self, number: u8) -> Result<(u16, u16), Stop>
+    fn immediate(&mut self, number: u8) -> Result<(u16, u16), PortStop>
         requires { number < 16 }
         ensures value { left_by result (λ read. (read.0, read.1, self.new)) ≡ immediate Memory console number self.old }
         ensures same { SameButPc self.old self.new }

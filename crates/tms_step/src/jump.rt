@@ -1,47 +1,45 @@
 //! Jumps.
 
-ghost use Rattle.std.specs.Prelude.{◌≡◌, ◌≢◌, OnErr};
+ghost use Rattle.std.specs.Prelude.{◌≡◌, ◌≢◌, Some};
 ghost use Rattle.console_defs.specs.Words.{even};
+ghost use Rattle.console_defs.specs.Accesses.{Gives};
 ghost use Rattle.console_defs.specs.Memory.{Memory};
 ghost use Rattle.console_defs.specs.forms.Jump.{jump_target, condition, jump};
-ghost use Rattle.console_defs.specs.declared.instruction.JumpOp.TheVariants.{JMP, JEQ, JNE};
-ghost use Rattle.tms_step.specs.Stops.{left_by};
+ghost use Rattle.console_defs.specs.declared.instruction.JumpOp.TheVariants.{JMP, JEQ, JNE, SBO, SBZ, TB};
 
 use crate::cpu::Cpu;
-use crate::stop::Stop;
 use console_defs::{JumpOp, Status};
 
 impl Cpu {
     /// A jump; the program counter stands at the next instruction (TMS9900 data manual, "Jump instructions").
     #[inline(always)]
-    pub(crate) fn jump(&mut self, op: JumpOp, disp: i8) -> Result<(), Stop>
-        ensures value { left_by result (λ _. self.new) ≡ jump Memory op disp self.old }
-        ensures stopped { OnErr result (self.new ≡ self.old) }
+    pub(crate) fn jump(&mut self, op: JumpOp, disp: i8)
+        requires set { op ≢ SBO }
+        requires cleared { op ≢ SBZ }
+        requires tested { op ≢ TB }
+        ensures { Gives self.new ≡ jump Memory op disp self.old }
     {
-        match condition(op, self.status) {
-            Some(true) => {
-                self.pc = jump_target(self.pc, disp);
-                Ok(())
-            }
-            Some(false) => Ok(()),
-            None => Err(Stop::NoInstruction),
+        if condition(op, self.status) {
+            self.pc = jump_target(self.pc, disp);
         }
     }
 }
 
-/// The condition of a jump; None for an operation on a bit of the communication register unit (TMS9900 data manual,
-/// "Jump instructions"). Those that programs make most are told first, by tests, and not by a table of jumps (see
-/// `step`).
+/// The condition of a jump (TMS9900 data manual, "Jump instructions"). Those that programs make most are told first, by
+/// tests, and not by a table of jumps (see `step`).
 #[inline(always)]
-fn condition(op: JumpOp, status: Status) -> Option<bool>
-    ensures { result ≡ condition op status }
+fn condition(op: JumpOp, status: Status) -> bool
+    requires set { op ≢ SBO }
+    requires cleared { op ≢ SBZ }
+    requires tested { op ≢ TB }
+    ensures { Some result ≡ condition op status }
 {
     if op == JumpOp::JMP {
-        Some(true)
+        true
     } else if op == JumpOp::JEQ {
-        Some(status.flags.eq)
+        status.flags.eq
     } else if op == JumpOp::JNE {
-        Some(!status.flags.eq)
+        !status.flags.eq
     } else {
         other_condition(op, status)
     }
@@ -49,26 +47,29 @@ fn condition(op: JumpOp, status: Status) -> Option<bool>
 
 /// The condition of one of the other jumps.
 #[inline(never)]
-fn other_condition(op: JumpOp, status: Status) -> Option<bool>
+fn other_condition(op: JumpOp, status: Status) -> bool
     requires jump { op ≢ JMP }
     requires equal { op ≢ JEQ }
     requires not_equal { op ≢ JNE }
-    ensures { result ≡ condition op status }
+    requires set { op ≢ SBO }
+    requires cleared { op ≢ SBZ }
+    requires tested { op ≢ TB }
+    ensures { Some result ≡ condition op status }
 {
     let flags = status.flags;
     match op {
-        JumpOp::JLT => Some(!flags.agt && !flags.eq),
-        JumpOp::JLE => Some(!flags.lgt || flags.eq),
-        JumpOp::JHE => Some(flags.lgt || flags.eq),
-        JumpOp::JGT => Some(flags.agt),
-        JumpOp::JNC => Some(!flags.c),
-        JumpOp::JOC => Some(flags.c),
-        JumpOp::JNO => Some(!flags.ov),
-        JumpOp::JL => Some(!flags.lgt && !flags.eq),
-        JumpOp::JH => Some(flags.lgt && !flags.eq),
-        JumpOp::JOP => Some(status.op),
-        JumpOp::SBO | JumpOp::SBZ | JumpOp::TB => None,
-        JumpOp::JMP | JumpOp::JEQ | JumpOp::JNE => unreachable!(),
+        JumpOp::JLT => !flags.agt && !flags.eq,
+        JumpOp::JLE => !flags.lgt || flags.eq,
+        JumpOp::JHE => flags.lgt || flags.eq,
+        JumpOp::JGT => flags.agt,
+        JumpOp::JNC => !flags.c,
+        JumpOp::JOC => flags.c,
+        JumpOp::JNO => !flags.ov,
+        JumpOp::JL => !flags.lgt && !flags.eq,
+        JumpOp::JH => flags.lgt && !flags.eq,
+        JumpOp::JOP => status.op,
+        JumpOp::JMP | JumpOp::JEQ | JumpOp::JNE | JumpOp::SBO | JumpOp::SBZ | JumpOp::TB =>
+            unreachable!(),
     }
 }
 

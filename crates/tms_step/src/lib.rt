@@ -16,7 +16,6 @@ mod shift;
 mod status;
 mod step;
 mod steps;
-mod stop;
 mod stored;
 mod two;
 mod writes;

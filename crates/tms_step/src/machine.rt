@@ -64,7 +64,7 @@ impl Machine {
     /// stands at its type's end. Where it is refused, or meets a port by a word access, the whole machine is as
     /// before, ports included. It is refused exactly where no step executes the word at the program counter,
     /// and what it meets is one of the eight ports.
-    #[inline]
+    #[inline(always)]
     pub fn step(&mut self) -> StepEnd
         ensures step { (result, self.new) ≡ machine_step self.old }
         ensures refused { refused_at result ≡ refusal self.old.cpu }

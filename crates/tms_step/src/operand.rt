@@ -1,29 +1,20 @@
 //! Operands: where they stand, what they are, and the growth of a register.
 
-ghost use Rattle.std.specs.Prelude.{◌≡◌, ◌<◌, IfOk, IsOk, OnErr, Some, None, true, false};
+ghost use Rattle.std.specs.Prelude.{◌≡◌, ◌<◌, IfOk, IsOk, OnErr, Some, true, false};
 ghost use Rattle.console_defs.specs.Flags.{Word, modulus, byte_or_word};
 ghost use Rattle.console_defs.specs.Memory.{Memory, console};
 ghost use Rattle.console_defs.specs.Operand.{mode_of, index_of, operand, value_at, with_value};
 ghost use Rattle.console_defs.specs.Instructions.{IsPlace};
 ghost use Rattle.tms_step.specs.Stops.{left_by};
-ghost use Rattle.tms_step.specs.Undo.{put_back, SameButPc};
+ghost use Rattle.tms_step.specs.Undo.{put_back, grown_by, grown_register, SameButPc};
 
 use crate::cpu::{Cpu, Kept};
-use crate::stop::Stop;
-use console_defs::Place;
-
-/// An operand.
-#[derive(Clone, Copy, Debug)]
-pub(crate) struct Operand {
-    pub(crate) address: u16,
-    /// The register that has grown, as it was before.
-    pub(crate) grown: Option<Kept>,
-}
+use console_defs::{Place, PortStop};
 
 impl Cpu {
     /// What an index register adds to an address. Register 0 is no index (TMS9900 data manual, "Indexed addressing").
     #[inline]
-    pub(crate) fn index_of(&self, number: u8) -> Result<u16, Stop>
+    pub(crate) fn index_of(&self, number: u8) -> Result<u16, PortStop>
         requires { number < 16 }
         ensures { left_by result (λ index. index) ≡ index_of Memory console self.now number }
     {
@@ -35,39 +26,39 @@ impl Cpu {
 
     /// The address of an operand, after the growth of its register (TMS9900 data manual, "Addressing modes").
     #[inline(always)]
-    pub(crate) fn operand(&mut self, place: Place, byte: bool) -> Result<Operand, Stop>
+    pub(crate) fn operand(&mut self, place: Place, byte: bool) -> Result<u16, PortStop>
         requires { IsPlace place }
-        ensures value { left_by result (λ found. (found.address, self.new))
+        ensures value { left_by result (λ address. (address, self.new))
             ≡ operand Memory console (mode_of place.mode) (byte_or_word byte) place.reg self.old }
-        ensures undo { IfOk result (λ found. SameButPc self.old (put_back found.grown self.new)) }
+        ensures undo { IfOk result (λ address. SameButPc self.old (put_back (grown_by place address self.old.wp) self.new)) }
         ensures stopped { OnErr result (SameButPc self.old self.new) }
     {
         if place.mode == 0 {
-            return Ok(standing(self.register_address(place.reg)));
+            return Ok(self.register_address(place.reg));
         }
         self.in_memory(place, byte)
     }
 
     /// The address of an operand that a register or the following word leads to.
     #[inline(never)]
-    fn in_memory(&mut self, place: Place, byte: bool) -> Result<Operand, Stop>
+    fn in_memory(&mut self, place: Place, byte: bool) -> Result<u16, PortStop>
         requires place { IsPlace place }
         requires mode { 0 < place.mode }
-        ensures value { left_by result (λ found. (found.address, self.new))
+        ensures value { left_by result (λ address. (address, self.new))
             ≡ operand Memory console (mode_of place.mode) (byte_or_word byte) place.reg self.old }
-        ensures undo { IfOk result (λ found. SameButPc self.old (put_back found.grown self.new)) }
+        ensures undo { IfOk result (λ address. SameButPc self.old (put_back (grown_by place address self.old.wp) self.new)) }
         ensures stopped { OnErr result (SameButPc self.old self.new) }
     {
         match place.mode {
-            1 => Ok(standing(self.word_at(self.register_address(place.reg))?)),
-            2 => Ok(standing(self.indexed(place.reg)?)),
+            1 => self.word_at(self.register_address(place.reg)),
+            2 => self.indexed(place.reg),
             _ => self.grown(place.reg, byte),
         }
     }
 
     /// The following word with an index added.
     #[inline]
-    fn indexed(&mut self, number: u8) -> Result<u16, Stop>
+    fn indexed(&mut self, number: u8) -> Result<u16, PortStop>
         requires { number < 16 }
         ensures value { left_by result (λ address. (address, self.new))
             ≡ operand Memory console (mode_of 2) Word number self.old }
@@ -80,26 +71,39 @@ impl Cpu {
 
     /// The address in a register, which then grows by the bytes of the operand.
     #[inline]
-    fn grown(&mut self, number: u8, byte: bool) -> Result<Operand, Stop>
+    fn grown(&mut self, number: u8, byte: bool) -> Result<u16, PortStop>
         requires { number < 16 }
-        ensures value { left_by result (λ found. (found.address, self.new))
+        ensures value { left_by result (λ address. (address, self.new))
             ≡ operand Memory console (mode_of 3) (byte_or_word byte) number self.old }
-        ensures undo { IfOk result (λ found. SameButPc self.old (put_back found.grown self.new)) }
+        ensures undo { IfOk result (λ address. SameButPc self.old
+            (put_back (Some (grown_register number address self.old.wp)) self.new)) }
         ensures stopped { OnErr result (SameButPc self.old self.new) }
     {
         let register = self.register_address(number);
         let address = self.word_at(register)?;
         let more = if byte { 1 } else { 2 };
-        let kept = self.write_over(register, address, address.wrapping_add(more))?;
-        Ok(Operand {
-            address,
-            grown: Some(kept),
+        self.write_over(register, address, address.wrapping_add(more))?;
+        Ok(address)
+    }
+
+    /// The register that has grown with an operand at an address, as it was before.
+    #[inline(always)]
+    pub(crate) fn grown_by(&self, place: Place, address: u16) -> Option<Kept>
+        requires { IsPlace place }
+        ensures { result ≡ grown_by place address self.now.wp }
+    {
+        if place.mode != 3 {
+            return None;
+        }
+        Some(Kept {
+            address: self.register_address(place.reg),
+            word: address,
         })
     }
 
     /// The value at an address, a word or a byte. A byte that is read may change a port, and nothing stops it.
     #[inline(always)]
-    pub(crate) fn value_at(&mut self, byte: bool, at: u16) -> Result<u16, Stop>
+    pub(crate) fn value_at(&mut self, byte: bool, at: u16) -> Result<u16, PortStop>
         ensures value { left_by result (λ value. (value, self.new))
             ≡ value_at Memory console (byte_or_word byte) at self.old }
         ensures fits { IfOk result (λ value. value < modulus (byte_or_word byte)) }
@@ -114,7 +118,7 @@ impl Cpu {
 
     /// Writes a word or a byte to an address. Nothing stops a byte.
     #[inline(always)]
-    pub(crate) fn write_value(&mut self, byte: bool, at: u16, value: u16) -> Result<(), Stop>
+    pub(crate) fn write_value(&mut self, byte: bool, at: u16, value: u16) -> Result<(), PortStop>
         requires { value < modulus (byte_or_word byte) }
         ensures value { left_by result (λ _. self.new)
             ≡ with_value Memory console (byte_or_word byte) at value self.old }
@@ -126,17 +130,5 @@ impl Cpu {
             return Ok(());
         }
         self.write_word(at, value)
-    }
-}
-
-/// An operand that leaves all registers as they are.
-#[inline]
-fn standing(address: u16) -> Operand
-    ensures address { result.address ≡ address }
-    ensures grown { result.grown ≡ None }
-{
-    Operand {
-        address,
-        grown: None,
     }
 }

@@ -1,39 +1,42 @@
 //! Instructions with a source in any mode, and a register or the number of an extended operation.
 
-ghost use Rattle.std.specs.Prelude.{◌≡◌, ◌<◌, OnErr};
+ghost use Rattle.std.specs.Prelude.{◌≡◌, ◌≢◌, ◌<◌, OnErr};
 ghost use Rattle.console_defs.specs.Instructions.{IsPlace};
 ghost use Rattle.console_defs.specs.Memory.{Memory, console};
 ghost use Rattle.console_defs.specs.Operand.{register_address};
 ghost use Rattle.console_defs.specs.forms.Reg.{values_at, with_division, reg, with_source};
-ghost use Rattle.console_defs.specs.declared.instruction.RegOp.TheVariants.{XOP, DIV};
+ghost use Rattle.console_defs.specs.declared.instruction.RegOp.TheVariants.{XOP, LDCR, STCR, DIV};
 ghost use Rattle.tms_step.specs.Stops.{left_by};
 ghost use Rattle.tms_step.specs.Undo.{SameButPc};
 
 use crate::cpu::{Cpu, register_in};
-use crate::stop::Stop;
-use console_defs::{Place, RegOp};
+use console_defs::{Place, PortStop, RegOp};
 use tms_words::{div16, mul16};
 
 impl Cpu {
     /// An operation on a source in any mode (TMS9900 data manual, "Dual operand instructions with multiple addressing
     /// modes for the source operand and workspace register addressing for the destination").
     #[inline(never)]
-    #[tactic(auto, using(crate::proofs::PutBack::put_back_later))]
-    pub(crate) fn with_source(&mut self, op: RegOp, number: u8, src: Place) -> Result<(), Stop>
+    #[tactic(auto, using(crate::proofs::PutBack::grown_later))]
+    pub(crate) fn with_source(&mut self, op: RegOp, number: u8, src: Place) -> Result<(), PortStop>
         requires number { number < 16 }
         requires src { IsPlace src }
+        requires loads { op ≢ LDCR }
+        requires stores { op ≢ STCR }
         ensures value { left_by result (λ _. self.new) ≡ with_source Memory console op number src self.old }
         ensures stopped { OnErr result (SameButPc self.old self.new) }
     {
         let source = self.operand(src, false)?;
-        let end = self.reg(op, number, source.address);
-        self.settle(end, source.grown)
+        let end = self.reg(op, number, source);
+        self.settle(end, self.grown_by(src, source))
     }
 
     /// An operation on a source at an address, and a register or a number.
     #[inline]
-    fn reg(&mut self, op: RegOp, number: u8, source: u16) -> Result<(), Stop>
-        requires { number < 16 }
+    fn reg(&mut self, op: RegOp, number: u8, source: u16) -> Result<(), PortStop>
+        requires number { number < 16 }
+        requires loads { op ≢ LDCR }
+        requires stores { op ≢ STCR }
         ensures value { left_by result (λ _. self.new) ≡ reg Memory console op number source self.old }
         ensures stopped { OnErr result (SameButPc self.old self.new) }
     {
@@ -60,13 +63,13 @@ impl Cpu {
             }
             RegOp::XOP => self.extended(number, source),
             RegOp::DIV => self.divided(number, source),
-            RegOp::LDCR | RegOp::STCR => Err(Stop::NoInstruction),
+            RegOp::LDCR | RegOp::STCR => unreachable!(),
         }
     }
 
     /// The value of a source, and a register, which is read after it.
     #[inline]
-    fn values_at(&self, source: u16, register: u16) -> Result<(u16, u16), Stop>
+    fn values_at(&self, source: u16, register: u16) -> Result<(u16, u16), PortStop>
         ensures { left_by result (λ values. values) ≡ values_at Memory console source register self.now }
     {
         let value = self.word_at(source)?;
@@ -75,7 +78,7 @@ impl Cpu {
     }
 
     /// The number of a register and the word after it, divided by the source (TMS9900 data manual, "Divide").
-    fn divided(&mut self, number: u8, source: u16) -> Result<(), Stop>
+    fn divided(&mut self, number: u8, source: u16) -> Result<(), PortStop>
         requires { number < 16 }
         ensures value { left_by result (λ _. self.new) ≡ reg Memory console DIV number source self.old }
         ensures stopped { OnErr result (SameButPc self.old self.new) }
@@ -90,7 +93,7 @@ impl Cpu {
     }
 
     /// A quotient and a remainder, where there are any, go to an address and the word after it.
-    fn with_division(&mut self, division: Option<(u16, u16)>, address: u16) -> Result<(), Stop>
+    fn with_division(&mut self, division: Option<(u16, u16)>, address: u16) -> Result<(), PortStop>
         ensures value { left_by result (λ _. self.new) ≡ with_division Memory console division address self.old }
         ensures stopped { OnErr result (SameButPc self.old self.new) }
     {
@@ -104,7 +107,7 @@ impl Cpu {
 
     /// An extended operation: a context switch that passes the source's address on (TMS9900 data manual, "Extended
     /// operation (XOP) instruction").
-    fn extended(&mut self, number: u8, source: u16) -> Result<(), Stop>
+    fn extended(&mut self, number: u8, source: u16) -> Result<(), PortStop>
         requires { number < 16 }
         ensures value { left_by result (λ _. self.new) ≡ reg Memory console XOP number source self.old }
         ensures stopped { OnErr result (SameButPc self.old self.new) }

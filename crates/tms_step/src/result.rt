@@ -4,10 +4,9 @@ ghost use Rattle.std.specs.Prelude.{◌≡◌, ◌<◌};
 ghost use Rattle.console_defs.specs.Flags.{modulus, byte_or_word, by_result, sum_of, sum_flags, difference_of};
 ghost use Rattle.console_defs.specs.Flags.{difference_flags, by_order, no_flags};
 ghost use Rattle.console_defs.specs.Logic.{ones_set, ones_cleared};
-ghost use Rattle.console_defs.specs.Status.{IsStatus, with_result, with_order};
 
-use console_defs::{Flags, Out8, Out16, Status};
-use tms_words::{add8, add16, compare8, compare16, odd8, sub8, sub16};
+use console_defs::{Flags, Out8, Out16};
+use tms_words::{add8, add16, compare8, compare16, sub8, sub16};
 
 /// L>, A> and EQ by a result, and the other status bits as they are (TMS9900 data manual, "Status register").
 #[inline(always)]
@@ -94,51 +93,9 @@ fn widened(out: Out8) -> Out16
     }
 }
 
-/// The status after a result: its bits, and for bytes OP by the number of ones (TMS9900 data manual, "Status
-/// register").
-#[inline(always)]
-pub(crate) fn with_result(byte: bool, value: u16, flags: Flags, status: Status) -> Status
-    requires fits { value < modulus (byte_or_word byte) }
-    requires status { IsStatus status }
-    ensures status { result ≡ with_result (byte_or_word byte) value flags status }
-    ensures room { IsStatus result }
-{
-    let op = if byte { odd8(value as u8) } else { status.op };
-    Status {
-        flags,
-        op,
-        ..status
-    }
-}
-
-/// The status after a comparison of a first number with a second; the comparison of bytes sets OP by the first (TMS9900
-/// data manual, "Compare words", "Compare bytes", "Compare immediate").
-#[inline]
-pub(crate) fn with_order(byte: bool, first: u16, second: u16, status: Status) -> Status
-    requires first { first < modulus (byte_or_word byte) }
-    requires second { second < modulus (byte_or_word byte) }
-    requires status { IsStatus status }
-    ensures status { result ≡ with_order (byte_or_word byte) first second status }
-    ensures room { IsStatus result }
-{
-    let Flags { lgt, agt, eq, .. } = order(byte, first, second);
-    let flags = Flags {
-        lgt,
-        agt,
-        eq,
-        ..status.flags
-    };
-    let op = if byte { odd8(first as u8) } else { status.op };
-    Status {
-        flags,
-        op,
-        ..status
-    }
-}
-
 /// L>, A> and EQ of a first number against a second; C and OV are false.
-#[inline]
-fn order(byte: bool, first: u16, second: u16) -> Flags
+#[inline(always)]
+pub(crate) fn order(byte: bool, first: u16, second: u16) -> Flags
     requires first { first < modulus (byte_or_word byte) }
     requires second { second < modulus (byte_or_word byte) }
     ensures { result ≡ by_order (byte_or_word byte) first second no_flags }

@@ -54,7 +54,7 @@ impl Machine {
     }
 
     /// One step, counted where it executed an instruction, and the end of a run that it is.
-    #[inline]
+    #[inline(always)]
     fn turn<L: Ledger>(&mut self, steps: &mut Steps<L>) -> Option<RunEnd>
         ensures step { self.new ≡ (machine_step self.old).1 }
         ensures end { result ≡ end_of_turn (machine_step self.old).0 }

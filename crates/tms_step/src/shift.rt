@@ -8,15 +8,14 @@ ghost use Rattle.tms_step.specs.Stops.{left_by};
 ghost use Rattle.tms_step.specs.Undo.{SameButPc};
 
 use crate::cpu::Cpu;
-use crate::stop::Stop;
-use console_defs::{Flags, Out16, ShiftOp};
+use console_defs::{Flags, Out16, PortStop, ShiftOp};
 use tms_words::shift16;
 
 impl Cpu {
     /// A shift of a register. The count 0 takes the low four bits of register 0, where 0 is sixteen (TMS9900 data
     /// manual, "Shift instructions").
     #[inline(never)]
-    pub(crate) fn shift(&mut self, op: ShiftOp, count: u8, number: u8) -> Result<(), Stop>
+    pub(crate) fn shift(&mut self, op: ShiftOp, count: u8, number: u8) -> Result<(), PortStop>
         requires number { number < 16 }
         requires count { count < 16 }
         ensures value { left_by result (λ _. self.new) ≡ shift Memory console op count number self.old }
@@ -31,7 +30,7 @@ impl Cpu {
 
     /// The count of a shift, from 1 to 16.
     #[inline]
-    fn count_of(&self, count: u8) -> Result<u8, Stop>
+    fn count_of(&self, count: u8) -> Result<u8, PortStop>
         requires { count < 16 }
         ensures value { left_by result (λ places. places) ≡ count_of Memory console count self.now }
         ensures range { IfOk result (λ places. (1 ≤ places) × (places ≤ 16)) }

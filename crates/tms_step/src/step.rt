@@ -4,56 +4,54 @@
 //! which is compiled into a table of jumps: on the machines where this was measured, a jump through a table takes half
 //! as long as a whole step. What is told so stands in functions that are not inlined into each other.
 
-ghost use Rattle.std.specs.Prelude.{◌≡◌, OnErr};
+ghost use Rattle.std.specs.Prelude.{◌≡◌, OnErr, false};
 ghost use Rattle.console_defs.specs.Instructions.{HasRoom};
 ghost use Rattle.console_defs.specs.Machine.{WhereStopped};
 ghost use Rattle.console_defs.specs.Memory.{Memory, console};
-ghost use Rattle.console_defs.specs.Step.{executed, execution, is_stopping, step};
-ghost use Rattle.tms_step.specs.Stops.{left_by, stopped_at};
+ghost use Rattle.console_defs.specs.Step.{executed, is_stopping, step};
+ghost use Rattle.tms_step.specs.Stops.{left_by};
 ghost use Rattle.tms_step.specs.Undo.{SameButPc};
 
 use crate::cpu::Cpu;
-use crate::stop::Stop;
-use console_defs::{BareOp, Instr, JumpOp, OneOp, RegOp, StepEnd};
+use console_defs::{BareOp, Instr, JumpOp, OneOp, PortStop, RegOp, StepEnd};
 use tms_words::decode;
 
 impl Cpu {
-    /// One step. Where it executes no instruction, nothing has changed.
+    /// One step: the instruction at the program counter is read and executed. Where it executes no instruction, nothing
+    /// has changed.
     #[inline(always)]
     pub(crate) fn step(&mut self) -> StepEnd
         ensures step { (result, self.new) ≡ step Memory console self.old }
         ensures stopped { WhereStopped result (self.new ≡ self.old) }
     {
         let start = self.pc;
-        match self.execution() {
-            Ok(word) => StepEnd::Done(word),
+        let word = match self.next_word() {
+            Ok(word) => word,
+            Err(stop) => return StepEnd::Port(stop.0),
+        };
+        let Some(instr) = decode(word) else {
+            self.pc = start;
+            return StepEnd::Refused(start);
+        };
+        if is_stopping(&instr) {
+            self.pc = start;
+            return StepEnd::Refused(start);
+        }
+        match self.executed(instr) {
+            Ok(()) => StepEnd::Done(word),
             Err(stop) => {
                 self.pc = start;
-                stopped_at(stop, start)
+                StepEnd::Port(stop.0)
             }
         }
-    }
-
-    /// The instruction at the program counter is read and executed. The answer is its word; where it is not executed,
-    /// nothing but the program counter has changed.
-    #[inline(always)]
-    pub(crate) fn execution(&mut self) -> Result<u16, Stop>
-        ensures value { left_by result (λ word. (word, self.new)) ≡ execution Memory console self.old }
-        ensures stopped { OnErr result (SameButPc self.old self.new) }
-    {
-        let word = self.next_word()?;
-        match decode(word) {
-            Some(instr) if !is_stopping(&instr) => self.executed(instr)?,
-            _ => return Err(Stop::NoInstruction),
-        }
-        Ok(word)
     }
 
     /// An instruction is executed; the program counter stands behind its first word (TMS9900 data manual,
     /// "Instructions").
     #[inline(always)]
-    pub(crate) fn executed(&mut self, instr: Instr) -> Result<(), Stop>
-        requires { HasRoom instr }
+    pub(crate) fn executed(&mut self, instr: Instr) -> Result<(), PortStop>
+        requires room { HasRoom instr }
+        requires executes { is_stopping instr ≡ false }
         ensures value { left_by result (λ _. self.new) ≡ executed Memory console instr self.old }
         ensures stopped { OnErr result (SameButPc self.old self.new) }
     {
@@ -62,7 +60,10 @@ impl Cpu {
             Instr::Reg { op, d, src } => self.with_source(op, d, src),
             Instr::Shift { op, count, w } => self.shift(op, count, w),
             Instr::One { op, at } => self.one_operand(op, at),
-            Instr::Jump { op, disp } => self.jump(op, disp),
+            Instr::Jump { op, disp } => {
+                self.jump(op, disp);
+                Ok(())
+            }
             Instr::Imm { op, w } => self.imm(op, w),
             Instr::Bare { op } => self.bare(op),
         }
@@ -89,15 +90,4 @@ fn is_stopping(instr: &Instr) -> bool
                 op: BareOp::IDLE | BareOp::RSET | BareOp::CKON | BareOp::CKOF | BareOp::LREX,
             }
     )
-}
-
-/// The end of a step that stopped at an instruction.
-#[inline]
-fn stopped_at(stop: Stop, instruction: u16) -> StepEnd
-    ensures { result ≡ stopped_at stop instruction }
-{
-    match stop {
-        Stop::Port(address) => StepEnd::Port(address),
-        Stop::NoInstruction => StepEnd::Refused(instruction),
-    }
 }

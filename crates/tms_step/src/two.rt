@@ -11,22 +11,21 @@ ghost use Rattle.tms_step.specs.Undo.{SameButPc};
 ghost use Rattle.tms_step.specs.Parts.{from_source, from_port, two_from_port, is_arithmetic, is_bitwise};
 
 use crate::cpu::Cpu;
-use crate::result::{difference, ones_cleared, ones_set, sum, with_order};
-use crate::stop::Stop;
+use crate::result::{difference, ones_cleared, ones_set, sum};
 use console_bus::is_port;
-use console_defs::{Place, TwoOp};
+use console_defs::{Place, PortStop, TwoOp};
 
 impl Cpu {
     /// An operation on two operands: the source is derived first.
     #[inline(always)]
-    #[tactic(auto, using(crate::proofs::PutBack::put_back_later))]
+    #[tactic(auto, using(crate::proofs::PutBack::grown_later))]
     pub(crate) fn two_operands(
         &mut self,
         op: TwoOp,
         byte: bool,
         dst: Place,
         src: Place,
-    ) -> Result<(), Stop>
+    ) -> Result<(), PortStop>
         requires dst { IsPlace dst }
         requires src { IsPlace src }
         ensures value { left_by result (λ _. self.new)
@@ -34,14 +33,20 @@ impl Cpu {
         ensures stopped { OnErr result (SameButPc self.old self.new) }
     {
         let source = self.operand(src, byte)?;
-        let end = self.from_source(op, byte, source.address, dst);
-        self.settle(end, source.grown)
+        let end = self.from_source(op, byte, source, dst);
+        self.settle(end, self.grown_by(src, source))
     }
 
     /// What follows once the source is derived: it is read, and the destination is derived.
     #[inline(always)]
-    #[tactic(auto, using(crate::proofs::PutBack::put_back_later))]
-    fn from_source(&mut self, op: TwoOp, byte: bool, source: u16, dst: Place) -> Result<(), Stop>
+    #[tactic(auto, using(crate::proofs::PutBack::grown_later))]
+    fn from_source(
+        &mut self,
+        op: TwoOp,
+        byte: bool,
+        source: u16,
+        dst: Place,
+    ) -> Result<(), PortStop>
         requires { IsPlace dst }
         ensures value { left_by result (λ _. self.new) ≡ from_source op (byte_or_word byte) source dst self.old }
         ensures stopped { OnErr result (SameButPc self.old self.new) }
@@ -54,8 +59,14 @@ impl Cpu {
 
     /// The same, where the source is no byte of a port, so that its reading changes nothing.
     #[inline(always)]
-    #[tactic(auto, using(crate::proofs::PutBack::put_back_later))]
-    fn from_memory(&mut self, op: TwoOp, byte: bool, source: u16, dst: Place) -> Result<(), Stop>
+    #[tactic(auto, using(crate::proofs::PutBack::grown_later))]
+    fn from_memory(
+        &mut self,
+        op: TwoOp,
+        byte: bool,
+        source: u16,
+        dst: Place,
+    ) -> Result<(), PortStop>
         requires dst { IsPlace dst }
         requires memory { byte ≡ true → is_port_address source ≡ false }
         ensures value { left_by result (λ _. self.new) ≡ from_source op (byte_or_word byte) source dst self.old }
@@ -63,26 +74,26 @@ impl Cpu {
     {
         let value = self.value_at(byte, source)?;
         let destination = self.operand(dst, byte)?;
-        let end = self.two(op, byte, value, destination.address);
-        self.settle(end, destination.grown)
+        let end = self.two(op, byte, value, destination);
+        self.settle(end, self.grown_by(dst, destination))
     }
 
     /// The same, where the source is a byte of a port. The port is read last: words, which alone can stop the
     /// instruction, neither see nor change a port.
-    #[tactic(auto, using(crate::proofs::PutBack::put_back_later))]
+    #[tactic(auto, using(crate::proofs::PutBack::grown_later))]
     #[inline(never)]
-    fn from_port(&mut self, op: TwoOp, source: u16, dst: Place) -> Result<(), Stop>
+    fn from_port(&mut self, op: TwoOp, source: u16, dst: Place) -> Result<(), PortStop>
         requires { IsPlace dst }
         ensures value { left_by result (λ _. self.new) ≡ from_port op source dst self.old }
         ensures stopped { OnErr result (SameButPc self.old self.new) }
     {
         let destination = self.operand(dst, true)?;
-        let end = self.two_from_port(op, source, destination.address);
-        self.settle(end, destination.grown)
+        let end = self.two_from_port(op, source, destination);
+        self.settle(end, self.grown_by(dst, destination))
     }
 
     /// An operation on a byte that is read from a port and a destination.
-    fn two_from_port(&mut self, op: TwoOp, source: u16, address: u16) -> Result<(), Stop>
+    fn two_from_port(&mut self, op: TwoOp, source: u16, address: u16) -> Result<(), PortStop>
         ensures value { left_by result (λ _. self.new) ≡ two_from_port op source address self.old }
         ensures stopped { OnErr result (self.new ≡ self.old) }
     {
@@ -99,7 +110,7 @@ impl Cpu {
         byte: bool,
         source: u16,
         address: u16,
-    ) -> Result<(), Stop>
+    ) -> Result<(), PortStop>
         requires { source < modulus (byte_or_word byte) }
         ensures value { left_by result (λ _. self.new)
             ≡ two Memory console op (byte_or_word byte) source address self.old }
@@ -116,7 +127,7 @@ impl Cpu {
 
     /// A source is stored at an address, and what stands there is not read.
     #[inline(always)]
-    fn moved(&mut self, byte: bool, source: u16, address: u16) -> Result<(), Stop>
+    fn moved(&mut self, byte: bool, source: u16, address: u16) -> Result<(), PortStop>
         requires { source < modulus (byte_or_word byte) }
         ensures value { left_by result (λ _. self.new)
             ≡ two Memory console MOV (byte_or_word byte) source address self.old }
@@ -127,7 +138,13 @@ impl Cpu {
 
     /// A sum, a difference or a comparison of a source and the destination at an address.
     #[inline(always)]
-    fn arithmetic(&mut self, op: TwoOp, byte: bool, source: u16, address: u16) -> Result<(), Stop>
+    fn arithmetic(
+        &mut self,
+        op: TwoOp,
+        byte: bool,
+        source: u16,
+        address: u16,
+    ) -> Result<(), PortStop>
         requires source { source < modulus (byte_or_word byte) }
         requires op { is_arithmetic op ≡ true }
         ensures value { left_by result (λ _. self.new)
@@ -136,7 +153,7 @@ impl Cpu {
     {
         let found = self.value_at(byte, address)?;
         if op == TwoOp::C {
-            self.status = with_order(byte, source, found, self.status);
+            self.compared(byte, source, found);
             return Ok(());
         }
         let out = if op == TwoOp::A {
@@ -149,7 +166,7 @@ impl Cpu {
 
     /// The ones of a source are set or cleared in the destination at an address.
     #[inline(always)]
-    fn bitwise(&mut self, op: TwoOp, byte: bool, source: u16, address: u16) -> Result<(), Stop>
+    fn bitwise(&mut self, op: TwoOp, byte: bool, source: u16, address: u16) -> Result<(), PortStop>
         requires source { source < modulus (byte_or_word byte) }
         requires op { is_bitwise op ≡ true }
         ensures value { left_by result (λ _. self.new)

@@ -8,13 +8,13 @@ ghost use Rattle.tms_step.specs.Stops.{left_by};
 ghost use Rattle.tms_step.specs.Undo.{put_back, SameButPc};
 
 use crate::cpu::{Cpu, Kept};
-use crate::stop::Stop;
+use console_defs::PortStop;
 
 impl Cpu {
     /// Writes words in a row; of each pair the first is the address. Where a port stops one of them, the memory is as
     /// before.
     #[tactic(auto, using(crate::proofs::PutBack::put_back_later))]
-    pub(crate) fn write_words(&mut self, writes: &[(u16, u16)]) -> Result<(), Stop>
+    pub(crate) fn write_words(&mut self, writes: &[(u16, u16)]) -> Result<(), PortStop>
         ensures value { left_by result (λ _. self.new) ≡ with_words Memory console self.old writes.now }
         ensures stopped { OnErr result (SameButPc self.old self.new) }
     {
@@ -27,32 +27,38 @@ impl Cpu {
     }
 
     /// Writes a word over the one that stands there, which is kept.
-    fn replace(&mut self, address: u16, word: u16) -> Result<Kept, Stop>
+    fn replace(&mut self, address: u16, word: u16) -> Result<Kept, PortStop>
         ensures value { left_by result (λ _. self.new) ≡ with_word Memory console self.old address word }
         ensures undo { IfOk result (λ kept. SameButPc self.old (put_back (Some kept) self.new)) }
         ensures stopped { OnErr result (SameButPc self.old self.new) }
     {
         let old = self.word_at(address)?;
-        self.write_over(address, old, word)
+        self.write_over(address, old, word)?;
+        Ok(Kept { address, word: old })
     }
 
-    /// Writes a word over the one that is given, which is kept.
+    /// Writes a word over the one that is given.
     #[inline]
-    pub(crate) fn write_over(&mut self, address: u16, old: u16, word: u16) -> Result<Kept, Stop>
+    pub(crate) fn write_over(&mut self, address: u16, old: u16, word: u16) -> Result<(), PortStop>
         requires { word_read self.old.memory address ≡ Gives old }
         ensures value { left_by result (λ _. self.new) ≡ with_word Memory console self.old address word }
-        ensures undo { IfOk result (λ kept. SameButPc self.old (put_back (Some kept) self.new)) }
+        ensures undo { OnOk result (SameButPc self.old
+            (put_back (Some (record { address = address; word = old })) self.new)) }
         ensures stopped { OnErr result (SameButPc self.old self.new) }
     {
         self.holds_bounds();
         self.write_word(address, word)?;
-        Ok(Kept { address, word: old })
+        Ok(())
     }
 
     /// How an instruction ends, where a word was written over before: unless it was executed, the word is put back.
     #[inline(always)]
     #[tactic(auto, using(crate::proofs::PutBack::put_back_later))]
-    pub(crate) fn settle(&mut self, end: Result<(), Stop>, kept: Option<Kept>) -> Result<(), Stop>
+    pub(crate) fn settle(
+        &mut self,
+        end: Result<(), PortStop>,
+        kept: Option<Kept>,
+    ) -> Result<(), PortStop>
         ensures end { result ≡ end }
         ensures executed { OnOk result (self.new ≡ self.old) }
         ensures stopped { OnErr result (self.new ≡ put_back kept self.old) }
