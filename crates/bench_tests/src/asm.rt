@@ -19,6 +19,19 @@ const SOURCES: &[(&[u8], &[&[u8]])] = &[
             b":",
         ],
     ),
+    // listings at both ends of memory: the nearest jumps that stay in it, a displacement, and a last odd byte
+    (
+        b" AORG >0000\n JMP >0000\n JLT >0100\n BYTE >AA\n END\n",
+        &[b"00000        90000B10FFB117EBAA007F96DF", b":"],
+    ),
+    (
+        b" AORG >FFFA\n JMP >FEFC\n JNE >FFFE\n SBO -1\n END\n",
+        &[b"00000        9FFFAB1080B1600B1DFF7F936F", b":"],
+    ),
+    (
+        b" AORG >FFFE\n BYTE >AA\n END\n",
+        &[b"00000        9FFFEBAA007FB65F", b":"],
+    ),
 ];
 
 /// Sources that are refused, and what is said of them.
@@ -26,6 +39,15 @@ const REFUSED: &[(&[u8], &[u8])] = &[
     (b"X1 DATA Y1\nX1 DATA 2\n", b"line 2: duplicate label\n"),
     (b"X1 DATA Y1\n", b"line 1: unknown name\n"),
     (b" JMP $+256\n JMP $+258\n", b"line 2: jump too far\n"),
+    // listed jumps that wrap around the ends of memory
+    (
+        b" AORG >0000\n JMP >0000\n JMP >FFFE\n END\n",
+        b"line 3: jump too far\n",
+    ),
+    (
+        b" AORG >FFF8\n JMP >FFF8\n JMP >0000\n SRA R1,10\n END\n",
+        b"line 3: jump too far\n",
+    ),
     (b"1ST RT\n", b"line 1: bad label\n"),
     (b" FOO\n", b"line 1: unknown operation\n"),
     (b" A R1\n", b"line 1: operand count\n"),

@@ -27,6 +27,19 @@ const LISTINGS: &[(&[u8], &[u8], &[u8])] = &[
         b"AORG >FFF8\nJMP >FFF8\nJMP >0000\nSRA R1,10\nLDCR R1,5\nEND\n",
     ),
     (b"FFFE", b"\x1D\xFF", b"AORG >FFFE\nSBO -1\nEND\n"),
+    (b"FFFE", b"\xAA", b"AORG >FFFE\nBYTE >AA\nEND\n"),
+    (
+        b"0000",
+        b"\x10\xFF\x11\x7E\xAA",
+        b"AORG >0000\nJMP >0000\nJLT >0100\nBYTE >AA\nEND\n",
+    ),
+    (
+        b"FFFA",
+        b"\x10\x80\x16\x00\x1D\xFF",
+        b"AORG >FFFA\nJMP >FEFC\nJNE >FFFE\nSBO -1\nEND\n",
+    ),
+    // a jump that wraps around the first address
+    (b"0000", b"\x10\xFE", b"AORG >0000\nJMP >FFFE\nEND\n"),
 ];
 
 /// Whether bytes from an address on have this listing.

@@ -1,5 +1,5 @@
 -- The reports of the commands that read files.
-use Rattle.std.specs.Prelude.{ℕ, List, Some, Result, Ok, Err}
+use Rattle.std.specs.Prelude.{Some, Result, Ok, Err}
 use Rattle.object_defs.specs.Modules.{Module}
 use Rattle.object_defs.specs.Writing.{written}
 use Rattle.link_defs.specs.LinkedMemory.{LinkedMemory}

@@ -1,5 +1,5 @@
 -- What dis writes of an input is assembled to its words, and is never too large.
-use Rattle.std.proofs.Common.{◌≡◌, ℕ, ◌+◌, ◌%◌, ◌<◌, ◌≤◌, Bool, true, false, List, length, refl, ap, sym, subst, ◌∙◌, arith}
+use Rattle.std.proofs.Common.{◌≡◌, ℕ, ◌+◌, ◌%◌, ◌<◌, ◌≤◌, Bool, true, false, List, length, refl, ap, sym, subst, arith}
 use Rattle.std.specs.Prelude.{MatchBool, nat_lt, if◌then◌else◌, None}
 use Rattle.std.specs.List.{concat}
 use Rattle.std.proofs.lemmas.Bool.Decides.{nat_tests}
@@ -12,15 +12,15 @@ use Rattle.word_listings.proofs.ShortLaw.{word_listings_are_short}
 use Rattle.report_defs.specs.declared.command.Command.TheVariants.{Asm, Dis}
 use Rattle.report_defs.specs.declared.fault.Fault.TheVariants.{TooLarge, PastEnd}
 use Rattle.report_defs.specs.declared.status.Status.TheVariants.{Done}
-use Rattle.report_defs.specs.Report.{Report, Whole, Faulty, largest_input, asm_report, dis_report, ReportOn}
+use Rattle.report_defs.specs.Report.{Whole, Faulty, largest_input, asm_report, dis_report, ReportOn}
 use Rattle.report_defs.specs.Laws.{ListedWordsComeBack}
 
 -- bytes whose listing was written
-record Listed (at : ℕ) (input : List ℕ) (pieces : List (List ℕ)) : Type 0 where
-  within : at + length input ≤ 65536
-  pieces_are : pieces ≡ memory_listing at input
+pub record Listed (at : ℕ) (input : List ℕ) (pieces : List (List ℕ)) : Type 0 where
+  pub within : at + length input ≤ 65536
+  pub pieces_are : pieces ≡ memory_listing at input
 
-listed : (at : ℕ) (input : List ℕ) (pieces : List (List ℕ)) → ReportOn (Dis at) input (Whole Done pieces) → Listed at input pieces
+pub listed : (at : ℕ) (input : List ℕ) (pieces : List (List ℕ)) → ReportOn (Dis at) input (Whole Done pieces) → Listed at input pieces
 listed at input pieces reports = by (nat_lt largest_input (length input)) reports
   where
     inside : (past : Bool) → nat_lt 65536 (at + length input) ≡ past → Whole Done pieces ≡ (if past then Faulty PastEnd else Whole Done (memory_listing at input)) → Listed at input pieces
@@ -31,15 +31,22 @@ listed at input pieces reports = by (nat_lt largest_input (length input)) report
     by true same = absurd (cc same)
     by false same = inside (nat_lt 65536 (at + length input)) refl same
 
-not_large : (text : List ℕ) (report : Report) → length text ≤ 1048576 → report ≡ asm_report (module_of_source text) → ReportOn Asm text report
-not_large text report le is = let within : nat_lt largest_input (length text) ≡ false = grind (arith, nat_tests, le) in rw within is
+pub stand_even : (at : ℕ) (input : List ℕ) (pieces : List (List ℕ)) → HoldsBytes (length input) input → at % 2 ≡ 0 → at < 65536 → Listed at input pieces → StandEven at input
+stand_even at input pieces holds even below is = record { holds = holds; even = even; below = below; within = is.within }
+
+pub not_large : (at : ℕ) (input : List ℕ) → StandEven at input → nat_lt largest_input (length (concat (memory_listing at input))) ≡ false
+not_large at input stands =
+    let within = stands.within in
+    let fit = words_fit input in
+    let short = word_listings_are_short at input stands in
+    let le : length (concat (memory_listing at input)) ≤ 1048576 = omega (arith, within, fit, short) in
+    grind (arith, nat_tests, le)
 
 pub listed_words_come_back : ListedWordsComeBack
 listed_words_come_back at input pieces holds even below reports =
     let is = listed at input pieces reports in
-    let within = is.within in
-    let stands : StandEven at input = record { holds = holds; even = even; below = below; within = within } in
-    let fit = words_fit input in
-    let short = word_listings_are_short at input stands in
+    let stands = stand_even at input pieces holds even below is in
+    let again : asm_report (listed_module at input None) ≡ asm_report (module_of_source (concat (memory_listing at input))) =
+    ap asm_report (sym (word_listings_come_back at input stands)) in
     subst (λ pieces. ReportOn Asm (concat pieces) (asm_report (listed_module at input None))) (sym is.pieces_are)
-    (not_large (concat (memory_listing at input)) _ (omega (arith, within, fit, short)) (ap asm_report (sym (word_listings_come_back at input stands))))
+    (rw (not_large at input stands) again)

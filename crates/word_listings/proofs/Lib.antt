@@ -12,3 +12,4 @@ pub mod ListingLaw
 pub mod InnerLaw
 pub mod ShortLaw
 pub mod LinkLaw
+pub mod OwnLines

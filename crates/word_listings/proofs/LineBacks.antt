@@ -8,6 +8,7 @@ use Rattle.source_defs.specs.Refusals.{◌>>=◌}
 use Rattle.source_defs.specs.Digits.{marked_word, marked_byte, word_digits, byte_digits}
 use Rattle.source_defs.specs.ListedLines.{listed, with_operands}
 use Rattle.source_defs.specs.Expression.{Value, Absolute}
+use Rattle.source_defs.specs.Names.{is_word}
 use Rattle.source_defs.specs.Symbols.{Names}
 use Rattle.console_defs.specs.Instructions.{instr_at, operation_of}
 use Rattle.console_defs.specs.declared.instruction.Instr.{Instr}
@@ -61,6 +62,7 @@ pub record LineBack (at : ℕ) (text : List ℕ) (size : ℕ) (last : Bool) (ans
   pub name : List ℕ
   pub field : List ℕ
   pub cut : Cut (listed text) name field
+  pub no_copy : is_word name (codes "COPY") ≡ false
   pub clean : list_all in_line (listed text) ≡ true
   pub statement : Statement
   pub says : operation_statement name field ≡ Ok statement
@@ -144,6 +146,7 @@ module _ (at : ℕ) (inside : at < 65536) (even : at % 2 ≡ 0) (word : ℕ) (re
         name = name_of (operation_of found);
         field = field_of (operands_text found at (word ∷ rest));
         cut = cut_listed (name_of (operation_of found)) (operands_text found at (word ∷ rest)) fit f.2.some;
+        no_copy = n.no_copy;
         clean = listed_in_line (name_of (operation_of found)) (operands_text found at (word ∷ rest)) fit;
         statement = Instruction (2 * words_of found) (name_of (operation_of found)) (field_of (operands_text found at (word ∷ rest)));
         says = rw (n.no_directive, b.first_is, size) refl;
@@ -162,6 +165,7 @@ data_line at even word lt =
       name = codes "DATA";
       field = marked_word word;
       cut = cut_listed (codes "DATA") (Some (marked_word word)) fit (inr (omega arith));
+      no_copy = refl;
       clean = listed_in_line (codes "DATA") (Some (marked_word word)) fit;
       statement = Data (marked_word word ∷ []);
       says = rw (one_text (marked_word word) (omega arith) (word_passes whole word refl refl)) refl;
@@ -179,6 +183,7 @@ byte_line at byte lt =
       name = codes "BYTE";
       field = marked_byte byte;
       cut = cut_listed (codes "BYTE") (Some (marked_byte byte)) fit (inr (omega arith));
+      no_copy = refl;
       clean = listed_in_line (codes "BYTE") (Some (marked_byte byte)) fit;
       statement = Byte (marked_byte byte ∷ []);
       says = rw (one_text (marked_byte byte) (omega arith) (byte_passes whole byte refl refl)) refl;
@@ -204,6 +209,7 @@ bare_end at =
       name = codes "END";
       field = [];
       cut = cut_listed (codes "END") None fit (inl refl);
+      no_copy = refl;
       clean = listed_in_line (codes "END") None fit;
       statement = End None;
       says = refl;
@@ -220,6 +226,7 @@ entered_end at entry lt =
       name = codes "END";
       field = marked_word entry;
       cut = cut_listed (codes "END") (Some (marked_word entry)) fit (inr (omega arith));
+      no_copy = refl;
       clean = listed_in_line (codes "END") (Some (marked_word entry)) fit;
       statement = End (Some (marked_word entry));
       says = rw (one_text (marked_word entry) (omega arith) (word_passes whole entry refl refl)) refl;

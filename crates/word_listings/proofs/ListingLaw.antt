@@ -50,7 +50,7 @@ hold_none half = record {
 }
 
 module _ (at : ℕ) (inside : at < 65536) where
-  abbrev aorg_text : List ℕ
+  abbrev pub aorg_text : List ℕ
   aorg_text = codes "AORG " ++ marked_word at
 
   aorg_fit : Fit (codes "AORG") (marked_word at)
@@ -58,7 +58,7 @@ module _ (at : ℕ) (inside : at < 65536) where
   aorg_fit = record
       { some = omega arith; short = omega arith; few = omega arith; name_plain = refl; field_plain = word_passes plain_byte at refl refl }
 
-  aorg_cut : Cut (listed aorg_text) (codes "AORG") (marked_word at)
+  pub aorg_cut : Cut (listed aorg_text) (codes "AORG") (marked_word at)
   unfolding word_digits
   aorg_cut = cut_listed (codes "AORG") (Some (marked_word at)) aorg_fit (inr (omega arith))
 
@@ -71,7 +71,7 @@ module _ (at : ℕ) (inside : at < 65536) where
   abbrev aorg_line : Line
   aorg_line = line_of 1 aorg_found
 
-  aorg_operands : operand_texts (marked_word at) ≡ marked_word at ∷ []
+  pub aorg_operands : operand_texts (marked_word at) ≡ marked_word at ∷ []
   unfolding word_digits
   aorg_operands = one_text (marked_word at) (omega arith) (word_passes whole at refl refl)
 
@@ -109,7 +109,7 @@ module _ (at : ℕ) (inside : at < 65536) where
 
 -- ---- bytes and words
 
-abbrev odd_texts : List ℕ → List (List ℕ)
+abbrev pub odd_texts : List ℕ → List (List ℕ)
 odd_texts [] = []
 odd_texts (byte ∷ []) = (codes "BYTE " ++ marked_byte byte) ∷ []
 odd_texts (more ∷ less ∷ rest) = odd_texts rest
@@ -214,7 +214,7 @@ module _ (half : ℕ) (bytes : List ℕ) (entered : Option ℕ) (all : AllBytes 
   below_all (Even none padded size) = omega (arith, fits, size)
   below_all (Odd byte lt odd padded size) = omega (arith, fits, size)
 
-  clean_all : clean listing_texts ≡ true
+  pub clean_all : clean listing_texts ≡ true
   clean_all =
       let rest = rest_of bytes all in
       rw (
@@ -240,12 +240,12 @@ map_both [] ys = refl
 map_both (x ∷ xs) ys = ap (λ rest. listing_line x ∷ rest) (map_both xs ys)
 
 -- the lines of a listing with its last
-abbrev listing_to : ℕ → List ℕ → List ℕ → List (List ℕ)
+abbrev pub listing_to : ℕ → List ℕ → List ℕ → List (List ℕ)
 listing_to at bytes end =
     listing_line (codes "AORG " ++ marked_word at)
     ∷ (lines_from at 0 (words_in bytes) ++ (odd_byte_lines bytes ++ listing_line end ∷ []))
 
-listing_is : (at : ℕ) (bytes end : List ℕ)
+pub listing_is : (at : ℕ) (bytes end : List ℕ)
     → listing_to at bytes end ≡ map listing_line ((codes "AORG " ++ marked_word at) ∷ (texts_from at 0 (words_in bytes) ++ (odd_texts bytes ++ end ∷ [])))
 listing_is at bytes end =
     let tail : odd_byte_lines bytes ++ listing_line end ∷ [] ≡ map listing_line (odd_texts bytes ++ end ∷ []) =
@@ -257,7 +257,7 @@ listing_is at bytes end =
     ∙ map_both (texts_from at 0 (words_in bytes)) (odd_texts bytes ++ end ∷ [])) in
     ap (λ lines. listing_line (codes "AORG " ++ marked_word at) ∷ lines) body
 
-behind_laid : (all : List Line) (come : Result Module (Refusal AsmCause)) → names all ≡ predefined
+pub behind_laid : (all : List Line) (come : Result Module (Refusal AsmCause)) → names all ≡ predefined
     → (settled (settle predefined) all >>= λ found. Ok (module_by all found)) ≡ come → module_behind all ≡ come
 behind_laid all come names is =
     ap (λ known. settled (settle known) all >>= λ found. Ok (module_by all found)) names ∙ is

@@ -21,6 +21,7 @@ use Rattle.file_report_defs.specs.Words.{program_command, input_command, over_in
 use Rattle.file_report_defs.specs.Words.{watch_command, watched_command, some_items}
 use Rattle.file_report_defs.specs.Whole.{AsmReport, WatchReport, ReportWith}
 use Rattle.file_report_defs.proofs.OneReport.{one_report_with}
+use Rattle.file_report_defs.proofs.ListedFiles.{listed_words_come_back_with}
 use Rattle.file_commands.specs.Reported.{CopyReported}
 use Rattle.bench_commands.specs.Run as plain
 use Rattle.bench_commands.specs.Run.{WroteReport, ReadsInput, EndsBy}
@@ -209,5 +210,6 @@ laws =
       one_report = one_report_with;
       completeness = completeness;
       one_answer = one_answer;
+      listed_words = listed_words_come_back_with;
       plain = bench.laws;
     }

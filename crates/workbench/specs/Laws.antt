@@ -7,7 +7,7 @@ use Rattle.report_defs.specs.declared.status.Status.TheVariants.{Memory}
 use Rattle.report_defs.specs.Report.{Report, status_of}
 use Rattle.file_report_defs.specs.Words.{ProgramCommand, AsmFiles, LinkFiles, Watch, Plain, program_command}
 use Rattle.file_report_defs.specs.Whole.{ReportWith}
-use Rattle.file_report_defs.specs.Laws.{OneReportWith}
+use Rattle.file_report_defs.specs.Laws.{OneReportWith, ListedWordsComeBackWith}
 use Rattle.bench_commands.specs.Run.{WroteReport}
 use Rattle.bench_commands.specs.Laws.{LawsOfRuns, TellsInput, read_of}
 use Rattle.workbench.specs.FileRun.{FileRun, EndsFileRun}
@@ -58,9 +58,11 @@ OneAnswer =
     → EndsFileRun words first one → EndsFileRun words second other → one ≢ Memory → other ≢ Memory
     → one ≡ other
 
--- the laws of all runs with files, and those of runs without
+-- the laws of all runs with files, and those of runs without; and that what dis lists is assembled to what was listed,
+-- whatever files there are
 pub record LawsOfFileRuns : Type 0 where
   pub one_report : OneReportWith
   pub completeness : Completeness
   pub one_answer : OneAnswer
+  pub listed_words : ListedWordsComeBackWith
   pub plain : LawsOfRuns
