@@ -41,7 +41,7 @@ def load_files():
     """The files that examples name, with their bytes."""
     folder = pathlib.Path(__file__).resolve().parent.parent / 'examples'
     return {path.name: path.read_bytes() for path in sorted(folder.glob('*/*'))
-            if path.name not in ('words', 'input', 'expected', 'README.md')}
+            if path.name not in ('words', 'then', 'input', 'expected', 'README.md')}
 
 
 EXAMPLES = load_examples()

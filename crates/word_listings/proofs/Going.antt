@@ -1,6 +1,6 @@
 -- The lines of words, from any place to the last line.
 use Rattle.std.proofs.Common.{◌≡◌, ℕ, zero, suc, ◌+◌, ◌-◌, ◌*◌, ◌%◌, ◌<◌, ◌≤◌, Bool, true, false, List, [], ◌∷◌, ◌++◌}
-use Rattle.std.proofs.Common.{length, length-append, append_assoc, take, drop, refl, ap, sym, subst, ◌∙◌, Ok, Some, arith}
+use Rattle.std.proofs.Common.{length, length-append, append_assoc, append-nil, take-append-drop, length-take-le, take, drop, refl, ap, sym, subst, ◌∙◌, Ok, Some, arith}
 use Rattle.std.specs.Prelude.{Err, if◌then◌else◌}
 use Rattle.source_defs.specs.Refusals.{Refusal}
 use Rattle.object_defs.specs.Modules.{Module}
@@ -72,16 +72,6 @@ module _ (from : ℕ) (total : List ℕ) (tails : List (List ℕ)) (whole : Modu
           → from + 2 * length held ≡ at + 2 * belonging → held ++ drop belonging words ≡ total
           → Ends before number (texts_from at belonging words ++ tails) (unless_far (first_wrapping number at belonging words) whole)
 
-      split : (words : List ℕ) (count : ℕ) → count ≤ length words → take count words ++ drop count words ≡ words
-      split words zero le = refl
-      split [] (suc count) le = absurd (omega (arith, le))
-      split (word ∷ words) (suc count) le = ap (λ rest. word ∷ rest) (split words count (omega (arith, le)))
-
-      taken_length : (words : List ℕ) (count : ℕ) → count ≤ length words → length (take count words) ≡ count
-      taken_length words zero le = refl
-      taken_length [] (suc count) le = absurd (omega (arith, le))
-      taken_length (word ∷ words) (suc count) le = ap suc (taken_length words count (omega (arith, le)))
-
       dropped : (word : ℕ) (words : List ℕ) (count : ℕ) → 0 < count → drop (count - 1) words ≡ drop count (word ∷ words)
       dropped word words zero lt = absurd (omega (arith, lt))
       dropped word words (suc count) lt = let same : suc count - 1 ≡ count = omega arith in ap (λ n. drop n words) same
@@ -115,11 +105,11 @@ module _ (from : ℕ) (total : List ℕ) (tails : List (List ℕ)) (whole : Modu
             let next : at + 2 * count ≡ at + 2 + 2 * (count - 1) = omega (arith, some) in
             let more : List ℕ = take count (word ∷ words) in
             let long : length (held ++ take count (word ∷ words)) ≡ length held + count =
-            length-append held (take count (word ∷ words)) ∙ ap (λ n. length held + n) (taken_length (word ∷ words) count within) in
+            length-append held (take count (word ∷ words)) ∙ ap (λ n. length held + n) (length-take-le count (word ∷ words) within) in
             let whole_again : (held ++ take count (word ∷ words)) ++ drop (count - 1) words ≡ total =
             append_assoc held (take count (word ∷ words)) (drop (count - 1) words)
             ∙ (ap (λ rest. held ++ (take count (word ∷ words) ++ rest)) (dropped word words count some)
-            ∙ (ap (λ rest. held ++ rest) (split (word ∷ words) count within) ∙ all)) in
+            ∙ (ap (λ rest. held ++ rest) (take-append-drop count (word ∷ words)) ∙ all)) in
             ends_more before number _ _ _ _ _ _ line
             (others (at + 2) (count - 1) (number + 1) (line.line ∷ before) _ (held ++ take count (word ∷ words)) (omega (arith, within)) (omega (arith, even))
             (omega (arith, size)) (λ k. are (suc k)) (subst (Stands (line.line ∷ before)) next line.stands)
@@ -135,14 +125,9 @@ module _ (from : ℕ) (total : List ℕ) (tails : List (List ℕ)) (whole : Modu
       pub goes_from : (words : List ℕ) → GoesFrom words
       goes_from [] at belonging number before earlier held le even size are stands holds there all =
           let ends : at + 2 * belonging ≡ end = omega (arith, size, le) in
-          let none : (items : List ℕ) → items ++ [] ≡ items = λ items. append_nothing items in
-          let dropped_none : held ≡ total = sym (append_nothing held) ∙ (ap (λ rest. held ++ rest) (sym (drop_none belonging)) ∙ all) in
+          let dropped_none : held ≡ total = sym (append-nil held) ∙ (ap (λ rest. held ++ rest) (sym (drop_none belonging)) ∙ all) in
           closes before earlier number (subst (Stands before) ends stands) (subst (Holds before earlier from) dropped_none holds)
         where
-          append_nothing : (items : List ℕ) → items ++ [] ≡ items
-          append_nothing [] = refl
-          append_nothing (item ∷ items) = ap (λ items. item ∷ items) (append_nothing items)
-
           drop_none : (n : ℕ) → ◌≡◌ {A = List ℕ} (drop n []) []
           drop_none zero = refl
           drop_none (suc n) = refl
