@@ -30,7 +30,8 @@ impl Cpu {
         requires { IsPlace place }
         ensures value { left_by result (λ address. (address, self.new))
             ≡ operand Memory console (mode_of place.mode) (byte_or_word byte) place.reg self.old }
-        ensures undo { IfOk result (λ address. SameButPc self.old (put_back (grown_by place address self.old.wp) self.new)) }
+        ensures undo { IfOk result (λ address. SameButPc self.old
+            (put_back (grown_by place address self.old.wp) self.new)) }
         ensures stopped { OnErr result (SameButPc self.old self.new) }
     {
         if place.mode == 0 {
@@ -46,7 +47,8 @@ impl Cpu {
         requires mode { 0 < place.mode }
         ensures value { left_by result (λ address. (address, self.new))
             ≡ operand Memory console (mode_of place.mode) (byte_or_word byte) place.reg self.old }
-        ensures undo { IfOk result (λ address. SameButPc self.old (put_back (grown_by place address self.old.wp) self.new)) }
+        ensures undo { IfOk result (λ address. SameButPc self.old
+            (put_back (grown_by place address self.old.wp) self.new)) }
         ensures stopped { OnErr result (SameButPc self.old self.new) }
     {
         match place.mode {

@@ -75,7 +75,8 @@ impl Cpu {
         Ok(())
     }
 
-    /// Sets the status bits by a comparison of a first number with a second; C and OV stay.
+    /// Sets L>, A> and EQ by a comparison of a first number with a second; the comparison of bytes sets OP by the first
+    /// (TMS9900 data manual, "Compare words", "Compare bytes", "Compare immediate").
     #[inline(always)]
     pub(crate) fn compared(&mut self, byte: bool, first: u16, second: u16)
         requires first { first < modulus (byte_or_word byte) }
