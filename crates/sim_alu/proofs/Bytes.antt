@@ -1,10 +1,8 @@
 -- What word instructions make of bytes in the high halves of registers, by trying all bytes.
-use Rattle.std.proofs.Common.{◌≡◌, ℕ, ◌<◌, Bool, true, refl, eqb}
+use Rattle.std.proofs.Common.{ℕ, ◌<◌, ◌≡◌, Bool, eqb, refl, true}
 use Rattle.std.proofs.lemmas.Bool.{agree_below, agree_below_at, eqb-true}
-use Rattle.console_defs.specs.Words.{high, join}
-use Rattle.console_defs.specs.Flags.{Byte, Word, sum_flags, difference_flags, negation_flags, absolute_of, absolute_flags}
-use Rattle.console_defs.specs.Logic.{complement_of, ones_set, ones_cleared, conjunction_of, exclusive_or_of}
-use Rattle.step_defs.specs.Changes.{status_byte}
+use Rattle.sim_rows.proofs.Common.{absolute_flags, absolute_of, Byte, complement_of, conjunction_of, difference_flags, exclusive_or_of, high, join}
+use Rattle.sim_rows.proofs.Common.{negation_flags, ones_cleared, ones_set, status_byte, sum_flags, Word}
 
 -- a test that holds of all bytes, and of all pairs of bytes
 abbrev of_all : (ℕ → Bool) → Bool
@@ -27,7 +25,8 @@ pub sum_status : (x y : ℕ) → x < 256 → y < 256 → status_byte (sum_flags 
 sum_status x y h k = eqb-true _ _ (at_pair (λ x y. eqb (status_byte (sum_flags Word (reg x) (reg y))) (status_byte (sum_flags Byte x y))) x y refl h k)
 
 pub difference_status : (x y : ℕ) → x < 256 → y < 256 → status_byte (difference_flags Word (reg x) (reg y)) ≡ status_byte (difference_flags Byte x y)
-difference_status x y h k = eqb-true _ _ (at_pair (λ x y. eqb (status_byte (difference_flags Word (reg x) (reg y))) (status_byte (difference_flags Byte x y))) x y refl h k)
+difference_status x y h k =
+    eqb-true _ _ (at_pair (λ x y. eqb (status_byte (difference_flags Word (reg x) (reg y))) (status_byte (difference_flags Byte x y))) x y refl h k)
 
 pub negation_status : (x : ℕ) → x < 256 → status_byte (negation_flags Word (reg x)) ≡ status_byte (negation_flags Byte x)
 negation_status x h = eqb-true _ _ (at_byte (λ x. eqb (status_byte (negation_flags Word (reg x))) (status_byte (negation_flags Byte x))) x refl h)

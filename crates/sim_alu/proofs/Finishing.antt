@@ -1,40 +1,29 @@
 -- The result of a row is stored, and then its status.
-use Rattle.std.proofs.Common.{◌≡◌, ⊎_elim, ℕ, true, refl, sym, ap, subst, ◌∙◌, arith, List, Some, Result}
-use Rattle.std.specs.Prelude.{slice_set}
-use Rattle.console_defs.specs.Words.{high, join, even}
-use Rattle.console_defs.specs.Machine.{MachineState}
-use Rattle.gpl_defs.specs.declared.instruction.GplOperation.{GplOperation}
-use Rattle.step_defs.specs.declared.reason.Reason.{Reason}
-use Rattle.step_defs.specs.Changes.{Changes, unchanged, with_value, with_status}
-use Rattle.interp_defs.specs.Match.{PortsAreIdle}
-use Rattle.sim_view.specs.View.{View, view, Stands}
-use Rattle.sim_view.specs.Exits.{Exits, Comes}
-use Rattle.sim_view.proofs.Bridge.{is_view}
-use Rattle.sim_view.proofs.Compose.{Goes, comes, comes_then, comes_as, comes_on}
-use Rattle.sim_operands.specs.Subroutines.{StoresValue}
-use Rattle.sim_rows.specs.Rows.{row_width, gone_on}
-use Rattle.sim_rows.specs.Results.{Changed, Storing, SeesFinished, SeesResult, EndsRow, StoresResult, RunsRow}
-use Rattle.sim_rows.proofs.Again.{idle_again}
-use Rattle.sim_rows.proofs.Storing.{ChangedFrom, store_then, stored_idle}
-use Rattle.sim_alu.specs.Pieces as piece
+use Rattle.std.proofs.Common.{ℕ, ⊎_elim, ◌∙◌, ◌≡◌, ap, arith, List, refl, Result, slice_set, Some, subst, sym, true}
+use Rattle.sim_rows.proofs.Common.{Changed, ChangedFrom, Changes, Comes, comes, comes_as, comes_on, comes_then, EndsRow, even, Exits, Goes, gone_on}
+use Rattle.sim_rows.proofs.Common.{GplOperation, GSTEP, high, idle_again, is_view, join, MachineState, PortsAreIdle, Reason, row_width, RunsRow, SeesFinished}
+use Rattle.sim_rows.proofs.Common.{SeesResult, SHOW, Stands, STATB, STATUS, STO, store_then, stored_idle, StoresResult, StoresValue, Storing, unchanged, View}
+use Rattle.sim_rows.proofs.Common.{view, with_status, with_value}
 use Rattle.sim_alu.specs.Family.{is_alu, result_piece}
 use Rattle.sim_alu.specs.Tails.{StoresWithStatus}
 use Rattle.sim_alu.proofs.Frames.{frame}
+use Rattle.sim_alu.proofs.Making.{Flagged, Plain}
+use Rattle.sim_alu.specs.Pieces as piece
 use Rattle.sim_alu.proofs.Making
-use Rattle.sim_alu.proofs.Making.{Plain, Flagged}
 
 -- ---- the status behind the result
 
 high_is : (status : ℕ) → high (join status 0) ≡ status
 high_is status = omega arith
 
-status_stored : (c : Changes) (status : ℕ) (v : View) → Changed c v → v.r.r12 ≡ join status 0 → Goes (piece.store_status v) 2 0x247A (Changed (with_status status c))
+status_stored : (c : Changes) (status : ℕ) (v : View) → Changed c v → v.r.r12 ≡ join status 0 →
+    Goes (piece.store_status v) 2 SHOW (Changed (with_status status c))
 status_stored c status v h e =
     record {
       within = omega arith;
       to_is = refl;
       holds = record {
-        cells = ap (λ (l : List ℕ). slice_set l 0x7C (high v.r.r12)) h.cells ∙ ap (slice_set c.state.cells 0x7C) (ap high e ∙ high_is status);
+        cells = ap (λ (l : List ℕ). slice_set l STATUS (high v.r.r12)) h.cells ∙ ap (slice_set c.state.cells STATUS) (ap high e ∙ high_is status);
         vdp = h.vdp;
         registers = h.registers;
         held = h.held;
@@ -43,30 +32,36 @@ status_stored c status v h e =
       };
     }
 
-pub with_status_stored : (x y z q : MachineState) (t u w p : ℕ) → (view x).r.r11 ≡ 0x24E0 → StoresValue x y t u → Exits y z u w (piece.store_status (view y)) → EndsRow z q w p → StoresWithStatus x q t p
+pub with_status_stored : (x y z q : MachineState) (t u w p : ℕ) → (view x).r.r11 ≡ STATB → StoresValue x y t u → Exits y z u w (piece.store_status (view y)) →
+    EndsRow z q w p → StoresWithStatus x q t p
 with_status_stored x y z q t u w p link d e f c width place number status h r12 =
     let done : Changes = with_value width place number c in
-    let a : Comes 16 x y t u 0x24E0 (ChangedFrom done (view x)) = subst (λ (n : ℕ). Comes 16 x y t u n (ChangedFrom done (view x))) (ap even link) (store_then c width place number x y t u h d) in
+    let a : Comes 16 x y t u STATB (ChangedFrom done (view x)) = subst (λ (n : ℕ). Comes 16 x y t u n (ChangedFrom done (view x))) (ap even link)
+    (store_then c width place number x y t u h d) in
     let b = comes_then 16 2 a e (status_stored done status (view y) a.holds.changed (a.holds.keeps.r12 ∙ r12)) refl in
     comes_on 18 29 b (f (with_status status done) b.holds) refl
 
 -- the ports stay idle
-pub status_idle : (x y z : MachineState) (t u w : ℕ) → PortsAreIdle x.cpu.memory → StoresValue x y t u → Exits y z u w (piece.store_status (view y)) → PortsAreIdle z.cpu.memory
-status_idle x y z t u w i d e = idle_again y.cpu.memory z.cpu.memory (ap (λ (q : View). q.vdp) e.shows) (ap (λ (q : View). q.grom) e.shows) (stored_idle x y t u i d)
+pub status_idle : (x y z : MachineState) (t u w : ℕ) → PortsAreIdle x.cpu.memory → StoresValue x y t u → Exits y z u w (piece.store_status (view y)) →
+    PortsAreIdle z.cpu.memory
+status_idle x y z t u w i d e =
+    idle_again y.cpu.memory z.cpu.memory (ap (λ (q : View). q.vdp) e.shows) (ap (λ (q : View). q.grom) e.shows) (stored_idle x y t u i d)
 
-pub result_idle : (op : GplOperation) (x y : MachineState) (t u : ℕ) → is_alu (Some op) ≡ true → PortsAreIdle x.cpu.memory → Exits x y t u (result_piece op (view x)) → PortsAreIdle y.cpu.memory
+pub result_idle : (op : GplOperation) (x y : MachineState) (t u : ℕ) → is_alu (Some op) ≡ true → PortsAreIdle x.cpu.memory →
+    Exits x y t u (result_piece op (view x)) → PortsAreIdle y.cpu.memory
 result_idle op x y t u f i e =
     let k = frame op (view x) f in
     idle_again x.cpu.memory y.cpu.memory (ap (λ (q : View). q.vdp) e.shows ∙ k.vdp) (ap (λ (q : View). q.grom) e.shows ∙ k.grom) i
 
 -- ---- a row
 
-module _ (op : GplOperation) (x y z : MachineState) (t u w : ℕ) (f : is_alu (Some op) ≡ true) (start : ℕ) (stands : Stands x start) (e : Exits x y t u (result_piece op (view x))) where
-  pub by_sto : y.cpu.pc ≡ 0x24A8 → StoresResult y z u w → RunsRow op 54 x z t w
+module _ (op : GplOperation) (x y z : MachineState) (t u w : ℕ) (f : is_alu (Some op) ≡ true) (start : ℕ) (stands : Stands x start)
+    (e : Exits x y t u (result_piece op (view x))) where
+  pub by_sto : y.cpu.pc ≡ STO → StoresResult y z u w → RunsRow op 54 x z t w
   by_sto at d s place source o a operands =
       let v : View = view x in
       let c : Changes = unchanged (gone_on s) in
-      let P : Result Changes Reason → Type 0 = λ r. Comes 54 x z t w 0x228C (SeesResult r) in
+      let P : Result Changes Reason → Type 0 = λ r. Comes 54 x z t w GSTEP (SeesResult r) in
       ⊎_elim
       (λ (m : Plain op s place source (result_piece op v)).
       let a1 = comes {Q = Storing c (row_width s) place m.number} e (record { within = m.within; to_is = m.to; holds = m.storing }) in
@@ -75,11 +70,11 @@ module _ (op : GplOperation) (x y z : MachineState) (t u w : ℕ) (f : is_alu (S
       (λ (m : Flagged op s place source (result_piece op v)). let pc = e.stands.pc in let to = m.to in absurd (omega arith))
       (Making.made v (is_view x stands.machine) s place source a op f o operands)
 
-  pub by_store : (y.cpu.pc ≡ 0x24A8 → ⊥) → StoresWithStatus y z u w → RunsRow op 54 x z t w
+  pub by_store : (y.cpu.pc ≡ STO → ⊥) → StoresWithStatus y z u w → RunsRow op 54 x z t w
   by_store away d s place source o a operands =
       let v : View = view x in
       let c : Changes = unchanged (gone_on s) in
-      let P : Result Changes Reason → Type 0 = λ r. Comes 54 x z t w 0x228C (SeesResult r) in
+      let P : Result Changes Reason → Type 0 = λ r. Comes 54 x z t w GSTEP (SeesResult r) in
       ⊎_elim
       (λ (m : Plain op s place source (result_piece op v)). absurd (away (e.stands.pc ∙ m.to)))
       (λ (m : Flagged op s place source (result_piece op v)).

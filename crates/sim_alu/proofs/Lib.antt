@@ -5,4 +5,4 @@ pub mod Numbers
 pub mod Making
 pub mod Frames
 pub mod Finishing
-pub mod Turning
+pub mod Dispatch

@@ -1,46 +1,14 @@
 -- The result of a row, made from its operands.
-use Rattle.std.proofs.Common.{◌≡◌, ◌⊎◌, inl, inr, ℕ, ◌<◌, ◌≤◌, Bool, true, false, refl, sym, ap, ◌∙◌, arith, Some, Result, Ok, Err}
-use Rattle.std.specs.Prelude.{not, nat_lt, slice_index}
-use Rattle.source_defs.specs.Refusals.{◌>>=◌}
-use Rattle.console_defs.specs.Words.{join}
-use Rattle.console_defs.specs.Grom.{GromState}
-use Rattle.console_defs.specs.declared.flags.Flags.{Flags}
-use Rattle.console_defs.specs.Flags.{
-  Width,
-  Byte,
-  Word,
-  modulus,
-  size_of,
-  sum_of,
-  sum_flags,
-  difference_of,
-  difference_flags,
-  negation_of,
-  negation_flags,
-  absolute_of,
-  absolute_flags,
-}
-use Rattle.console_defs.specs.Logic.{complement_of, ones_set, ones_cleared, conjunction_of, exclusive_or_of}
-use Rattle.gpl_defs.specs.declared.instruction.OneName.{OneName}
-use Rattle.gpl_defs.specs.declared.instruction.OneName.TheVariants as one
-use Rattle.gpl_defs.specs.declared.instruction.TwoName.TheVariants as two
-use Rattle.gpl_defs.specs.declared.instruction.GplOperation.{GplOperation}
-use Rattle.gpl_defs.specs.declared.instruction.GplOperation.TheVariants as operation
-use Rattle.step_defs.specs.declared.reason.Reason.{Reason}
-use Rattle.step_defs.specs.State.{GplState}
-use Rattle.step_defs.specs.Place.{Place, value_at}
-use Rattle.step_defs.specs.Arithmetic.{Source}
-use Rattle.step_defs.specs.Changes.{Changes, unchanged, with_value, with_status, status_byte}
-use Rattle.sim_view.specs.View.{View}
-use Rattle.sim_view.specs.Exits.{Exit}
-use Rattle.sim_view.proofs.Bridge.{IsView}
-use Rattle.sim_operands.specs.Pieces.{exit}
-use Rattle.sim_operands.specs.Values.{width_in, in_register, of_register}
-use Rattle.sim_rows.specs.States.{operation_in, code_byte}
-use Rattle.sim_rows.specs.Rows.{row_width, bytes_by, destination_bytes, has_source, second_by, first_of, operands_of, unit, gone_on, AtRow}
-use Rattle.sim_rows.specs.Results.{row_result, Storing}
-use Rattle.sim_rows.proofs.Codes.{one_below}
-use Rattle.sim_rows.proofs.Storing.{width_again}
+use Rattle.std.proofs.Common.{ℕ, ◌<◌, ◌∙◌, ◌≡◌, ◌≤◌, ◌⊎◌, ap, arith, Bool, Err, false, inl, inr, nat_lt, not, Ok, refl, Result, slice_index, Some, sym, true}
+use Rattle.sim_rows.proofs.Common.{◌>>=◌, absolute_flags, absolute_of, AtRow, Byte, bytes_by, Changes, code_byte, complement_of, conjunction_of}
+use Rattle.sim_rows.proofs.Common.{destination_bytes, difference_flags, difference_of, exclusive_or_of, Exit, exit, first_of, Flags, gone_on, GplOperation}
+use Rattle.sim_rows.proofs.Common.{GplState, GromState, has_source, in_register, IsView, join, modulus, negation_flags, negation_of, of_register, one_below}
+use Rattle.sim_rows.proofs.Common.{OneName, ones_cleared, ones_set, operands_of, operation_in, Place, Reason, row_result, row_width, second_by, size_of}
+use Rattle.sim_rows.proofs.Common.{Source, STATB, status_byte, STO, STORE, Storing, sum_flags, sum_of, unchanged, unit, value_at, View, Width, width_again}
+use Rattle.sim_rows.proofs.Common.{width_in, with_status, with_value, Word}
+use Rattle.sim_rows.specs.gpl_defs.declared.instruction.OneName.TheVariants as one
+use Rattle.sim_rows.specs.gpl_defs.declared.instruction.TwoName.TheVariants as two
+use Rattle.sim_rows.specs.gpl_defs.declared.instruction.GplOperation.TheVariants as operation
 use Rattle.sim_alu.specs.Pieces.{kept_status}
 use Rattle.sim_alu.specs.Family.{is_alu, result_piece}
 use Rattle.sim_alu.proofs.Numbers
@@ -73,7 +41,8 @@ none_there : (b : Bool) → b ≡ true → not b ≡ false
 none_there true e = refl
 none_there false e = absurd (cc)
 
-unit_is : (s : GplState) (place : Place) (source : Source) (op : OneName) → code_byte s < 256 → operation_in s ≡ Some (operation.One op) → operands_of s ≡ Ok (place, source) → source.number ≡ 1
+unit_is : (s : GplState) (place : Place) (source : Source) (op : OneName) → code_byte s < 256 → operation_in s ≡ Some (operation.One op) →
+    operands_of s ≡ Ok (place, source) → source.number ≡ 1
 unit_is s place source op byte o e =
     let none : has_source s ≡ false = none_there (nat_lt (code_byte s) 0xA0) (one_below (code_byte s) byte op o) in
     let by : Bool → Result (Place × Source) Reason = λ b. first_of s >>= λ p. second_by b s >>= paired p in
@@ -84,7 +53,7 @@ unit_is s place source op byte o e =
 -- The result alone, by STO.
 pub record Plain (op : GplOperation) (s : GplState) (place : Place) (source : Source) (e : Exit) : Type 0 where
   pub number : ℕ
-  pub to : e.to ≡ 0x24A8
+  pub to : e.to ≡ STO
   pub within : e.count ≤ 3
   pub storing : Storing (unchanged (gone_on s)) (row_width s) place number e.left
   pub is : row_result op s place source ≡ Ok (with_value (row_width s) place number (unchanged (gone_on s)))
@@ -93,10 +62,10 @@ pub record Plain (op : GplOperation) (s : GplState) (place : Place) (source : So
 pub record Flagged (op : GplOperation) (s : GplState) (place : Place) (source : Source) (e : Exit) : Type 0 where
   pub number : ℕ
   pub status : ℕ
-  pub to : e.to ≡ 0x23C2
+  pub to : e.to ≡ STORE
   pub within : e.count ≤ 7
   pub storing : Storing (unchanged (gone_on s)) (row_width s) place number e.left
-  pub link : e.left.r.r11 ≡ 0x24E0
+  pub link : e.left.r.r11 ≡ STATB
   pub keeps : e.left.r.r12 ≡ join status 0
   pub is : row_result op s place source ≡ Ok (with_status status (with_value (row_width s) place number (unchanged (gone_on s))))
 
@@ -149,7 +118,7 @@ module _ (v : View) (i : IsView v) (s : GplState) (place : Place) (source : Sour
   with_result r6 r9 = record v { r = record v.r { r6 = r6; r9 = r9 } }
 
   abbrev with_kept : ℕ → ℕ → Flags → View
-  with_kept r6 r9 flags = record v { r = record v.r { r6 = r6; r9 = r9; r11 = 0x24E0; r12 = kept_status flags } }
+  with_kept r6 r9 flags = record v { r = record v.r { r6 = r6; r9 = r9; r11 = STATB; r12 = kept_status flags } }
 
   storing : (r6 r9 number : ℕ) → of_register w r9 ≡ number → Storing c w place number (with_result r6 r9)
   storing r6 r9 number e =
@@ -172,12 +141,14 @@ module _ (v : View) (i : IsView v) (s : GplState) (place : Place) (source : Sour
       }
 
   -- a record for each kind of end
-  plain : (op : GplOperation) (count r6 r9 number : ℕ) → count ≤ 3 → of_register w r9 ≡ number → row_result op s place source ≡ Ok (with_value w place number c) →
-      Plain op s place source (exit count 0x24A8 (with_result r6 r9))
+  plain : (op : GplOperation) (count r6 r9 number : ℕ) → count ≤ 3 → of_register w r9 ≡ number →
+      row_result op s place source ≡ Ok (with_value w place number c) →
+      Plain op s place source (exit count STO (with_result r6 r9))
   plain op count r6 r9 number le e is = record { number = number; to = refl; within = le; storing = storing r6 r9 number e; is = is }
 
   flagged : (op : GplOperation) (count r6 r9 number status : ℕ) (flags : Flags) → count ≤ 7 → of_register w r9 ≡ number → status_byte flags ≡ status →
-      row_result op s place source ≡ Ok (with_status status (with_value w place number c)) → Flagged op s place source (exit count 0x23C2 (with_kept r6 r9 flags))
+      row_result op s place source ≡ Ok (with_status status (with_value w place number c)) →
+      Flagged op s place source (exit count STORE (with_kept r6 r9 flags))
   flagged op count r6 r9 number status flags le e f is = record {
     number = number;
     status = status;
@@ -192,24 +163,27 @@ module _ (v : View) (i : IsView v) (s : GplState) (place : Place) (source : Sour
   -- sums and differences of the destination with a number in register 6
   adds : (op : GplOperation) (count r6 n : ℕ) → count ≤ 7 → IsSingle → n < modulus w → r6 ≡ in_register w n →
       row_result op s place source ≡ Ok (with_status (status_byte (sum_flags w x n)) (with_value w place (sum_of w x n) c)) →
-      Flagged op s place source (exit count 0x23C2 (with_kept r6 (sum_of Word v.r.r9 r6) (sum_flags Word v.r.r9 r6)))
+      Flagged op s place source (exit count STORE (with_kept r6 (sum_of Word v.r.r9 r6) (sum_flags Word v.r.r9 r6)))
   adds op count r6 n le e h is =
       let f = x_fits e in
       λ result.
       flagged op count r6 (sum_of Word v.r.r9 r6) (sum_of w x n) (status_byte (sum_flags w x n)) (sum_flags Word v.r.r9 r6) le
       (ap (λ p. of_register w (sum_of Word p r6)) (destination_is e) ∙ ap (λ q. of_register w (sum_of Word (in_register w x) q)) is ∙ Numbers.sum_is w x n f h)
-      (ap (λ p. status_byte (sum_flags Word p r6)) (destination_is e) ∙ ap (λ q. status_byte (sum_flags Word (in_register w x) q)) is ∙ Numbers.sum_status w x n f h)
+      (ap (λ p. status_byte (sum_flags Word p r6)) (destination_is e) ∙ ap (λ q. status_byte (sum_flags Word (in_register w x) q)) is
+      ∙ Numbers.sum_status w x n f h)
       result
 
   subtracts : (op : GplOperation) (count r6 n : ℕ) → count ≤ 7 → IsSingle → n < modulus w → r6 ≡ in_register w n →
       row_result op s place source ≡ Ok (with_status (status_byte (difference_flags w x n)) (with_value w place (difference_of w x n) c)) →
-      Flagged op s place source (exit count 0x23C2 (with_kept r6 (difference_of Word v.r.r9 r6) (difference_flags Word v.r.r9 r6)))
+      Flagged op s place source (exit count STORE (with_kept r6 (difference_of Word v.r.r9 r6) (difference_flags Word v.r.r9 r6)))
   subtracts op count r6 n le e h is =
       let f = x_fits e in
       λ result.
       flagged op count r6 (difference_of Word v.r.r9 r6) (difference_of w x n) (status_byte (difference_flags w x n)) (difference_flags Word v.r.r9 r6) le
-      (ap (λ p. of_register w (difference_of Word p r6)) (destination_is e) ∙ ap (λ q. of_register w (difference_of Word (in_register w x) q)) is ∙ Numbers.difference_is w x n f h)
-      (ap (λ p. status_byte (difference_flags Word p r6)) (destination_is e) ∙ ap (λ q. status_byte (difference_flags Word (in_register w x) q)) is ∙ Numbers.difference_status w x n f h)
+      (ap (λ p. of_register w (difference_of Word p r6)) (destination_is e) ∙ ap (λ q. of_register w (difference_of Word (in_register w x) q)) is
+      ∙ Numbers.difference_is w x n f h)
+      (ap (λ p. status_byte (difference_flags Word p r6)) (destination_is e) ∙ ap (λ q. status_byte (difference_flags Word (in_register w x) q)) is
+      ∙ Numbers.difference_status w x n f h)
       result
 
   -- INC and DEC have 1 in register 6, and INCT and DECT double it
@@ -229,12 +203,14 @@ module _ (v : View) (i : IsView v) (s : GplState) (place : Place) (source : Sour
   pub made : (op : GplOperation) → is_alu (Some op) ≡ true → operation_in s ≡ Some op → operands_of s ≡ Ok (place, source) → Made op
   made (operation.One one.ABS) f o e =
       let b = single (operation.One one.ABS) o refl in
-      inr (flagged (operation.One one.ABS) 6 v.r.r6 (absolute_of Word v.r.r9) (absolute_of w x) (status_byte (absolute_flags w x)) (absolute_flags Word v.r.r9) (omega arith)
+      inr (flagged (operation.One one.ABS) 6 v.r.r6 (absolute_of Word v.r.r9) (absolute_of w x) (status_byte (absolute_flags w x))
+      (absolute_flags Word v.r.r9) (omega arith)
       (first (λ p. of_register w (absolute_of Word p)) b ∙ Numbers.absolute_is w x (x_fits b))
       (first (λ p. status_byte (absolute_flags Word p)) b ∙ Numbers.absolute_status w x (x_fits b)) refl)
   made (operation.One one.NEG) f o e =
       let b = single (operation.One one.NEG) o refl in
-      inr (flagged (operation.One one.NEG) 5 v.r.r6 (negation_of Word v.r.r9) (negation_of w x) (status_byte (negation_flags w x)) (negation_flags Word v.r.r9) (omega arith)
+      inr (flagged (operation.One one.NEG) 5 v.r.r6 (negation_of Word v.r.r9) (negation_of w x) (status_byte (negation_flags w x))
+      (negation_flags Word v.r.r9) (omega arith)
       (first (λ p. of_register w (negation_of Word p)) b ∙ Numbers.negation_is w x (x_fits b))
       (first (λ p. status_byte (negation_flags Word p)) b ∙ Numbers.negation_status w x (x_fits b)) refl)
   made (operation.One one.INV) f o e =
@@ -242,14 +218,20 @@ module _ (v : View) (i : IsView v) (s : GplState) (place : Place) (source : Sour
       inl (plain (operation.One one.INV) 2 v.r.r6 (complement_of Word v.r.r9) (complement_of w x) (omega arith)
       (first (λ p. of_register w (complement_of Word p)) b ∙ Numbers.complement_is w x (x_fits b)) refl)
   made (operation.One one.CLR) f o e = inl (plain (operation.One one.CLR) 2 v.r.r6 0 0 (omega arith) (Numbers.zero_is (row_width s)) refl)
-  made (operation.One one.INC) f o e = inr (adds (operation.One one.INC) 6 v.r.r6 1 (omega arith) (single (operation.One one.INC) o refl) (one_fits w 1 (omega arith)) (unit_in one.INC o e) refl)
-  made (operation.One one.DEC) f o e = inr (subtracts (operation.One one.DEC) 6 v.r.r6 1 (omega arith) (single (operation.One one.DEC) o refl) (one_fits w 1 (omega arith)) (unit_in one.DEC o e) refl)
+  made (operation.One one.INC) f o e =
+      inr (adds (operation.One one.INC) 6 v.r.r6 1 (omega arith) (single (operation.One one.INC) o refl) (one_fits w 1 (omega arith))
+      (unit_in one.INC o e) refl)
+  made (operation.One one.DEC) f o e = inr (subtracts (operation.One one.DEC) 6 v.r.r6 1 (omega arith) (single (operation.One one.DEC) o refl)
+      (one_fits w 1 (omega arith)) (unit_in one.DEC o e) refl)
   made (operation.One one.INCT) f o e =
-      inr (adds (operation.One one.INCT) 7 (sum_of Word v.r.r6 v.r.r6) 2 (omega arith) (single (operation.One one.INCT) o refl) (one_fits w 2 (omega arith)) (twice_in one.INCT o e) refl)
+      inr (adds (operation.One one.INCT) 7 (sum_of Word v.r.r6 v.r.r6) 2 (omega arith) (single (operation.One one.INCT) o refl) (one_fits w 2 (omega arith))
+      (twice_in one.INCT o e) refl)
   made (operation.One one.DECT) f o e =
-      inr (subtracts (operation.One one.DECT) 7 (sum_of Word v.r.r6 v.r.r6) 2 (omega arith) (single (operation.One one.DECT) o refl) (one_fits w 2 (omega arith)) (twice_in one.DECT o e) refl)
+      inr (subtracts (operation.One one.DECT) 7 (sum_of Word v.r.r6 v.r.r6) 2 (omega arith) (single (operation.One one.DECT) o refl)
+      (one_fits w 2 (omega arith)) (twice_in one.DECT o e) refl)
   made (operation.Two two.ADD) f o e = inr (adds (operation.Two two.ADD) 6 v.r.r6 y (omega arith) (single (operation.Two two.ADD) o refl) y_fits a.value refl)
-  made (operation.Two two.SUB) f o e = inr (subtracts (operation.Two two.SUB) 6 v.r.r6 y (omega arith) (single (operation.Two two.SUB) o refl) y_fits a.value refl)
+  made (operation.Two two.SUB) f o e =
+      inr (subtracts (operation.Two two.SUB) 6 v.r.r6 y (omega arith) (single (operation.Two two.SUB) o refl) y_fits a.value refl)
   made (operation.Two two.AND) f o e =
       let b = single (operation.Two two.AND) o refl in
       inl (plain (operation.Two two.AND) 3 (complement_of Word v.r.r6) (ones_cleared Word v.r.r9 (complement_of Word v.r.r6)) (conjunction_of x y) (omega arith)
@@ -262,7 +244,8 @@ module _ (v : View) (i : IsView v) (s : GplState) (place : Place) (source : Sour
       let b = single (operation.Two two.XOR) o refl in
       inl (plain (operation.Two two.XOR) 2 v.r.r6 (exclusive_or_of v.r.r9 v.r.r6) (exclusive_or_of x y) (omega arith)
       (both (λ p q. of_register w (exclusive_or_of p q)) b ∙ Numbers.exclusive_is w x y (x_fits b) y_fits) refl)
-  made (operation.Two two.ST) f o e = inl (plain (operation.Two two.ST) 1 v.r.r6 v.r.r6 y (omega arith) (ap (of_register w) a.value ∙ Numbers.source_is w y) refl)
+  made (operation.Two two.ST) f o e =
+      inl (plain (operation.Two two.ST) 1 v.r.r6 v.r.r6 y (omega arith) (ap (of_register w) a.value ∙ Numbers.source_is w y) refl)
   made (operation.One one.CASE) f o e = absurd (cc)
   made (operation.One one.CZ) f o e = absurd (cc)
   made (operation.One one.FETCH) f o e = absurd (cc)

@@ -1,22 +1,8 @@
 -- What word instructions make of numbers in registers, at each width.
-use Rattle.std.proofs.Common.{◌≡◌, ℕ, ◌<◌, refl, ap, arith}
-use Rattle.console_defs.specs.Flags.{
-  Width,
-  Byte,
-  Word,
-  modulus,
-  sum_of,
-  sum_flags,
-  difference_of,
-  difference_flags,
-  negation_of,
-  negation_flags,
-  absolute_of,
-  absolute_flags,
-}
-use Rattle.console_defs.specs.Logic.{complement_of, ones_set, ones_cleared, conjunction_of, exclusive_or_of}
-use Rattle.step_defs.specs.Changes.{status_byte}
-use Rattle.sim_operands.specs.Values.{in_register, of_register}
+use Rattle.std.proofs.Common.{ℕ, ◌<◌, ◌≡◌, ap, arith, refl}
+use Rattle.sim_rows.proofs.Common.{absolute_flags, absolute_of, Byte, complement_of, conjunction_of, difference_flags, difference_of, exclusive_or_of}
+use Rattle.sim_rows.proofs.Common.{in_register, modulus, negation_flags, negation_of, of_register, ones_cleared, ones_set, status_byte, sum_flags, sum_of}
+use Rattle.sim_rows.proofs.Common.{Width, Word}
 use Rattle.sim_alu.proofs.Bytes
 
 -- ---- the numbers
@@ -29,7 +15,8 @@ pub sum_is : (w : Width) (x y : ℕ) → x < modulus w → y < modulus w → of_
 sum_is Byte x y h k = omega arith
 sum_is Word x y h k = refl
 
-pub difference_is : (w : Width) (x y : ℕ) → x < modulus w → y < modulus w → of_register w (difference_of Word (in_register w x) (in_register w y)) ≡ difference_of w x y
+pub difference_is : (w : Width) (x y : ℕ) → x < modulus w → y < modulus w → of_register w (difference_of Word (in_register w x) (in_register w y)) ≡
+    difference_of w x y
 difference_is Byte x y h k = omega arith
 difference_is Word x y h k = refl
 
@@ -61,7 +48,8 @@ pub ones_are : (w : Width) (x y : ℕ) → x < modulus w → y < modulus w → o
 ones_are Byte x y h k = Bytes.ones_high x y h k
 ones_are Word x y h k = refl
 
-pub exclusive_is : (w : Width) (x y : ℕ) → x < modulus w → y < modulus w → of_register w (exclusive_or_of (in_register w x) (in_register w y)) ≡ exclusive_or_of x y
+pub exclusive_is : (w : Width) (x y : ℕ) → x < modulus w → y < modulus w → of_register w (exclusive_or_of (in_register w x) (in_register w y)) ≡
+    exclusive_or_of x y
 exclusive_is Byte x y h k = Bytes.exclusive_high x y h k
 exclusive_is Word x y h k = refl
 
@@ -72,7 +60,8 @@ twice_one Word = refl
 
 -- ---- the status
 
-pub sum_status : (w : Width) (x y : ℕ) → x < modulus w → y < modulus w → status_byte (sum_flags Word (in_register w x) (in_register w y)) ≡ status_byte (sum_flags w x y)
+pub sum_status : (w : Width) (x y : ℕ) → x < modulus w → y < modulus w → status_byte (sum_flags Word (in_register w x) (in_register w y)) ≡ status_byte
+    (sum_flags w x y)
 sum_status Byte x y h k = Bytes.sum_status x y h k
 sum_status Word x y h k = refl
 

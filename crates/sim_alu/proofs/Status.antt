@@ -1,10 +1,6 @@
 -- The word of the status register, shifted to the right and back: the five status bits in its high byte.
-use Rattle.std.proofs.Common.{◌≡◌, ℕ, ◌*◌, ◌<◌, Bool, true, false, arith}
-use Rattle.console_defs.specs.declared.flags.Flags.{Flags}
-use Rattle.console_defs.specs.declared.status.Status.{Status}
-use Rattle.console_defs.specs.Status.{IsStatus, bit_of, status_word}
-use Rattle.console_defs.specs.Shifts.{shifted}
-use Rattle.console_defs.specs.declared.instruction.ShiftOp.TheVariants.{SRL, SLA}
+use Rattle.std.proofs.Common.{ℕ, ◌*◌, ◌<◌, ◌≡◌, arith, Bool, false, true}
+use Rattle.sim_rows.proofs.Common.{bit_of, Flags, IsStatus, shifted, SLA, SRL, Status, status_word}
 use Rattle.sim_alu.specs.Pieces.{kept_status}
 
 -- a bit is the weight or nothing
@@ -12,7 +8,8 @@ bit_is : (b : Bool) (weight : ℕ) → (bit_of b weight ≡ bit_of b 1 * weight)
 bit_is true weight = (omega arith, omega arith)
 bit_is false weight = (omega arith, omega arith)
 
-pub kept_is : (flags : Flags) (status : Status) → IsStatus status → shifted SLA (shifted SRL (status_word (record status { flags = flags })) 11) 11 ≡ kept_status flags
+pub kept_is : (flags : Flags) (status : Status) → IsStatus status → shifted SLA (shifted SRL (status_word (record status { flags = flags })) 11) 11 ≡
+    kept_status flags
 kept_is flags status room =
     let lgt = bit_is flags.lgt 0x8000 in
     let agt = bit_is flags.agt 0x4000 in

@@ -1,13 +1,7 @@
 -- The operations of these rows, and the piece of each.
-use Rattle.std.specs.Prelude.{Bool, true, false, Option, Some}
-use Rattle.gpl_defs.specs.declared.instruction.OneName.TheVariants.{ABS, NEG, INV, CLR, INC, DEC, INCT, DECT}
-use Rattle.gpl_defs.specs.declared.instruction.TwoName.TheVariants.{ADD, SUB, AND, OR, XOR, ST}
-use Rattle.gpl_defs.specs.declared.instruction.GplOperation.{GplOperation}
-use Rattle.gpl_defs.specs.declared.instruction.GplOperation.TheVariants.{One, Two}
-use Rattle.native_interp.specs.Entries.{row_entry}
-use Rattle.sim_view.specs.View.{View}
-use Rattle.sim_view.specs.Exits.{Exit}
-use Rattle.sim_operands.specs.Pieces.{exit}
+use Rattle.std.specs.Prelude.{Bool, false, Option, Some, true}
+use Rattle.sim_rows.specs.Prelude.{ABS, ADD, AND, CLR, DEC, DECT, Exit, exit, GplOperation, INC, INCT, INV, NEG, One}
+use Rattle.sim_rows.specs.Prelude.{OR, row_entry, ST, SUB, Two, View, XOR}
 use Rattle.sim_alu.specs.Pieces as piece
 
 abbrev pub is_alu : Option GplOperation → Bool

@@ -1,26 +1,10 @@
 -- What the pieces of these rows come to: how many instructions they have, where they end, and what they change of the
 -- view, in the words of the processor. Registers, cells and ports that are not named stay.
 use Rattle.std.specs.Prelude.{ℕ, ◌+◌, slice_set}
-use Rattle.console_defs.specs.Words.{high, join}
-use Rattle.console_defs.specs.declared.flags.Flags.{Flags}
-use Rattle.console_defs.specs.Flags.{
-  Word,
-  sum_of,
-  sum_flags,
-  difference_of,
-  difference_flags,
-  negation_of,
-  negation_flags,
-  absolute_of,
-  absolute_flags,
-}
-use Rattle.console_defs.specs.Logic.{complement_of, ones_set, ones_cleared, exclusive_or_of}
-use Rattle.step_defs.specs.declared.cells.TheConstants.{STATUS}
-use Rattle.step_defs.specs.Changes.{status_byte}
-use Rattle.native_interp.specs.declared.addresses.TheConstants.{STO, STORE, STATB, SHOW}
-use Rattle.sim_view.specs.View.{View}
-use Rattle.sim_view.specs.Exits.{Exit}
-use Rattle.sim_operands.specs.Pieces.{exit}
+use Rattle.sim_rows.specs.Prelude.{absolute_flags, absolute_of, complement_of, difference_flags, difference_of}
+use Rattle.sim_rows.specs.Prelude.{exclusive_or_of, Exit, exit, Flags, high, join, negation_flags, negation_of}
+use Rattle.sim_rows.specs.Prelude.{ones_cleared, ones_set, SHOW, STATB, STATUS, status_byte, STO, STORE, sum_flags}
+use Rattle.sim_rows.specs.Prelude.{sum_of, View, Word}
 
 -- ST: the value of the source.
 abbrev pub take_source : View → Exit

@@ -1,14 +1,7 @@
 -- The ends of these rows.
-use Rattle.std.specs.Prelude.{◌≡◌, ℕ}
-use Rattle.console_defs.specs.Words.{join}
-use Rattle.console_defs.specs.Flags.{Width}
-use Rattle.console_defs.specs.Machine.{MachineState}
-use Rattle.step_defs.specs.Place.{Place}
-use Rattle.step_defs.specs.Changes.{Changes, with_value, with_status}
-use Rattle.native_interp.specs.declared.addresses.TheConstants.{GSTEP}
-use Rattle.sim_view.specs.View.{view}
-use Rattle.sim_view.specs.Exits.{Comes}
-use Rattle.sim_rows.specs.Results.{Storing, SeesFinished}
+use Rattle.std.specs.Prelude.{ℕ, ◌≡◌}
+use Rattle.sim_rows.specs.Prelude.{Changes, Comes, GSTEP, join, MachineState, Place, SeesFinished, Storing, view}
+use Rattle.sim_rows.specs.Prelude.{Width, with_status, with_value}
 
 -- From STORE on, where register 12 keeps a status byte: the result is stored, and then the status, and the row ends.
 abbrev pub StoresWithStatus : MachineState → MachineState → ℕ → ℕ → Type 0

@@ -2,12 +2,11 @@
 //! the negative, run on the machine.
 #![tactic(auto)]
 
-mod logic;
-mod row;
-mod sums;
+mod family;
+mod pieces;
 
-pub use logic::{clear, exclude_ones, invert, keep_common_ones, set_ones, take_source};
-pub use row::run_alu;
-pub use sums::{
-    add_source, add_twice, make_absolute, negate, store_status, subtract_source, subtract_twice,
+pub use family::run_alu;
+pub use pieces::{
+    add_source, add_twice, clear, exclude_ones, invert, keep_common_ones, make_absolute, negate,
+    set_ones, store_status, subtract_source, subtract_twice, take_source,
 };

@@ -1,4 +1,5 @@
 pub mod Numbers
 pub mod Paths
 pub mod Telling
+pub mod Dispatch
 pub mod Testing

@@ -1,14 +1,9 @@
 -- Facts about numbers that the comparisons need.
-use Rattle.std.proofs.Common.{◌≡◌, ℕ, ◌+◌, ◌*◌, ◌^◌, ◌<◌, ◌≤◌, ℤ, pos, negsuc, Bool, true, false, refl, sym, ap, ◌∙◌, arith, lit<, eqb}
-use Rattle.std.specs.Prelude.{◌||◌, ◌==◌, not, nat_lt, nat_le, int_lt, int_le, bit_and}
-use Rattle.std.proofs.lemmas.Bool.{le-ltb, lt-ltb, ltb-true, ltb-false, eq-eqb, eqb-true, ne_eqb, le-leb, lt-leb, agree_below, agree_below_at}
+use Rattle.std.proofs.Common.{ℕ, ℤ, ◌*◌, ◌+◌, ◌<◌, ◌==◌, ◌^◌, ◌||◌, ◌∙◌, ◌≡◌, ◌≤◌, ap, arith, bit_and, Bool, eqb, false, int_le, int_lt, lit<, nat_le, nat_lt}
+use Rattle.std.proofs.Common.{negsuc, not, pos, refl, sym, true}
+use Rattle.std.proofs.lemmas.Bool.{agree_below, agree_below_at, eq-eqb, eqb-true, le-leb, le-ltb, lt-leb, lt-ltb, ltb-false, ltb-true, ne_eqb}
 use Rattle.std.proofs.lemmas.Nat.{and_block, and_comm}
-use Rattle.console_defs.specs.Words.{join}
-use Rattle.console_defs.specs.Flags.{Width, Byte, Word, modulus, signed}
-use Rattle.console_defs.specs.Status.{is_set}
-use Rattle.console_defs.specs.Shifts.{last_out}
-use Rattle.console_defs.specs.declared.instruction.ShiftOp.TheVariants.{SLA}
-use Rattle.sim_operands.specs.Values.{in_register}
+use Rattle.sim_rows.proofs.Common.{Byte, in_register, is_set, join, last_out, modulus, signed, SLA, Width, Word}
 
 -- what is above is not equal
 pub above_is_not : (less more : ℕ) → nat_lt less more ≡ true → (more == less) ≡ false
@@ -16,12 +11,14 @@ above_is_not less more c = let l : less < more = ltb-true less more c in ne_eqb 
 
 -- above, or equal
 pub below_or_equal : (limit number : ℕ) (below : Bool) → nat_lt number limit ≡ below → (nat_lt limit number || number == limit) ≡ not below
-below_or_equal limit number true c = let l : number < limit = ltb-true number limit c in rw (le-ltb limit number (omega arith), ne_eqb number limit (λ e. omega arith)) refl
+below_or_equal limit number true c = let l : number < limit =
+    ltb-true number limit c in rw (le-ltb limit number (omega arith), ne_eqb number limit (λ e. omega arith)) refl
 below_or_equal limit number false c = by (nat_lt limit number) refl
   where
     by : (b : Bool) → nat_lt limit number ≡ b → (b || number == limit) ≡ true
     by true d = refl
-    by false d = let l : limit ≤ number = ltb-false number limit c in let m : number ≤ limit = ltb-false limit number d in rw (eq-eqb number limit (omega arith)) refl
+    by false d = let l : limit ≤ number = ltb-false number limit c in let m : number ≤ limit =
+        ltb-false limit number d in rw (eq-eqb number limit (omega arith)) refl
 
 -- ---- left-justified bytes are compared as bytes
 
@@ -87,7 +84,8 @@ orders_agree x = agree_below (bytes_in_order x) (λ y. int_lt (signed Byte x) (s
 
 pub order_in_register : (width : Width) (x y : ℕ) → x < modulus width → y < modulus width →
     int_lt (signed Word (in_register width x)) (signed Word (in_register width y)) ≡ int_lt (signed width x) (signed width y)
-order_in_register Byte x y h k = agree_below_at (bytes_in_order x) (λ y. int_lt (signed Byte x) (signed Byte y)) 256 y (agree_below_at orders_agree (λ _. true) 256 x refl h) k
+order_in_register Byte x y h k =
+    agree_below_at (bytes_in_order x) (λ y. int_lt (signed Byte x) (signed Byte y)) 256 y (agree_below_at orders_agree (λ _. true) 256 x refl h) k
 order_in_register Word x y h k = refl
 
 pub at_most_signed : (a b : ℤ) → not (int_lt a b) ≡ int_le b a

@@ -1,20 +1,14 @@
 -- The runs of the pieces on the view.
-use Rattle.std.proofs.Common.{ℕ, true, false, refl, List, [], ◌∷◌}
-use Rattle.std.specs.Prelude.{◌==◌, nat_lt, int_lt, bit_and, slice_index}
-use Rattle.console_defs.specs.Words.{low, join}
-use Rattle.console_defs.specs.Flags.{Word, signed}
-use Rattle.console_defs.specs.Shifts.{last_out}
-use Rattle.console_defs.specs.declared.instruction.ShiftOp.TheVariants.{SLA}
-use Rattle.sim_view.specs.View.{View}
-use Rattle.sim_view.proofs.Bridge.{Leads}
-use Rattle.sim_view.proofs.Places.{pick}
-use Rattle.sim_compare.specs.Pieces as pieces
+use Rattle.std.proofs.Common.{[], ℕ, ◌==◌, ◌∷◌, bit_and, false, int_lt, List, nat_lt, refl, slice_index, true}
+use Rattle.sim_rows.proofs.Common.{CEQV, CFALSE, CGEV, CGTV, CHEV, CHV, CLOGV, CTRUE, CZV, GOCARY, GOGT, GOH, GOOVF, join, last_out, Leads, low, pick, signed}
+use Rattle.sim_rows.proofs.Common.{SLA, View, Word}
 use Rattle.sim_compare.proofs.Numbers.{above_is_not, below_or_equal}
+use Rattle.sim_compare.specs.Pieces as pieces
 
 abbrev ends : List ℕ
-ends = 0x2618 ∷ 0x2624 ∷ []
+ends = CTRUE ∷ CFALSE ∷ []
 
-pub compare_higher : (v : View) → Leads ends v 0x25C6 (pieces.compare_higher v)
+pub compare_higher : (v : View) → Leads ends v CHV (pieces.compare_higher v)
 compare_higher v = record {
   by = λ f q.
       pick (nat_lt v.r.r6 v.r.r9)
@@ -22,7 +16,7 @@ compare_higher v = record {
       (λ c. rw c refl);
 }
 
-pub compare_higher_or_equal : (v : View) → Leads ends v 0x25CC (pieces.compare_higher_or_equal v)
+pub compare_higher_or_equal : (v : View) → Leads ends v CHEV (pieces.compare_higher_or_equal v)
 compare_higher_or_equal v = record {
   by = λ f q.
       pick (nat_lt v.r.r9 v.r.r6)
@@ -30,7 +24,7 @@ compare_higher_or_equal v = record {
       (λ c. rw (below_or_equal v.r.r6 v.r.r9 false c, c) refl);
 }
 
-pub compare_greater : (v : View) → Leads ends v 0x25D2 (pieces.compare_greater v)
+pub compare_greater : (v : View) → Leads ends v CGTV (pieces.compare_greater v)
 compare_greater v = record {
   by = λ f q.
       pick (int_lt (signed Word v.r.r6) (signed Word v.r.r9))
@@ -38,7 +32,7 @@ compare_greater v = record {
       (λ c. rw c refl);
 }
 
-pub compare_greater_or_equal : (v : View) → Leads ends v 0x25D8 (pieces.compare_greater_or_equal v)
+pub compare_greater_or_equal : (v : View) → Leads ends v CGEV (pieces.compare_greater_or_equal v)
 compare_greater_or_equal v = record {
   by = λ f q.
       pick (int_lt (signed Word v.r.r9) (signed Word v.r.r6))
@@ -46,7 +40,7 @@ compare_greater_or_equal v = record {
       (λ c. rw c refl);
 }
 
-pub compare_equal : (v : View) → Leads ends v 0x25DE (pieces.compare_equal v)
+pub compare_equal : (v : View) → Leads ends v CEQV (pieces.compare_equal v)
 compare_equal v = record {
   by = λ f q.
       pick (v.r.r9 == v.r.r6)
@@ -54,7 +48,7 @@ compare_equal v = record {
       (λ c. rw c refl);
 }
 
-pub compare_ones : (v : View) → Leads ends v 0x25E4 (pieces.compare_ones v)
+pub compare_ones : (v : View) → Leads ends v CLOGV (pieces.compare_ones v)
 compare_ones v = record {
   by = λ f q.
       pick (bit_and v.r.r6 v.r.r9 == 0)
@@ -62,7 +56,7 @@ compare_ones v = record {
       (λ c. rw c refl);
 }
 
-pub compare_with_zero : (v : View) → Leads ends v 0x25EA (pieces.compare_with_zero v)
+pub compare_with_zero : (v : View) → Leads ends v CZV (pieces.compare_with_zero v)
 compare_with_zero v = record {
   by = λ f q.
       pick (v.r.r9 == 0)
@@ -74,7 +68,7 @@ compare_with_zero v = record {
 abbrev status_word : View → ℕ
 status_word v = join (slice_index v.cells 0x7C) (low v.r.r4)
 
-pub test_higher : (v : View) → Leads ends v 0x25F0 (pieces.test_higher v)
+pub test_higher : (v : View) → Leads ends v GOH (pieces.test_higher v)
 test_higher v = record {
   by = λ f q.
       pick (last_out SLA (status_word v) 1)
@@ -82,7 +76,7 @@ test_higher v = record {
       (λ c. rw c refl);
 }
 
-pub test_greater : (v : View) → Leads ends v 0x25FA (pieces.test_greater v)
+pub test_greater : (v : View) → Leads ends v GOGT (pieces.test_greater v)
 test_greater v = record {
   by = λ f q.
       pick (last_out SLA (status_word v) 2)
@@ -90,7 +84,7 @@ test_greater v = record {
       (λ c. rw c refl);
 }
 
-pub test_carry : (v : View) → Leads ends v 0x2604 (pieces.test_carry v)
+pub test_carry : (v : View) → Leads ends v GOCARY (pieces.test_carry v)
 test_carry v = record {
   by = λ f q.
       pick (last_out SLA (status_word v) 4)
@@ -98,7 +92,7 @@ test_carry v = record {
       (λ c. rw c refl);
 }
 
-pub test_overflow : (v : View) → Leads ends v 0x260E (pieces.test_overflow v)
+pub test_overflow : (v : View) → Leads ends v GOOVF (pieces.test_overflow v)
 test_overflow v = record {
   by = λ f q.
       pick (last_out SLA (status_word v) 5)
@@ -106,8 +100,8 @@ test_overflow v = record {
       (λ c. rw c refl);
 }
 
-pub set_condition : (v : View) → Leads [] v 0x2618 (pieces.set_condition v)
+pub set_condition : (v : View) → Leads [] v CTRUE (pieces.set_condition v)
 set_condition v = record { by = λ f q. refl }
 
-pub clear_condition : (v : View) → Leads [] v 0x2624 (pieces.clear_condition v)
+pub clear_condition : (v : View) → Leads [] v CFALSE (pieces.clear_condition v)
 clear_condition v = record { by = λ f q. refl }

@@ -1,38 +1,23 @@
 -- What a comparison tells, and how it ends.
-use Rattle.std.proofs.Common.{◌≡◌, ℕ, ◌+◌, ◌<◌, ◌≤◌, Bool, true, false, refl, sym, ap, subst, ◌∙◌, arith, List, Option, Some, Ok}
-use Rattle.std.specs.Prelude.{◌==◌, not, nat_lt, int_lt, bit_and, slice_index, slice_set}
-use Rattle.console_defs.specs.Flags.{Width, Byte, Word, modulus, signed}
-use Rattle.console_defs.specs.Logic.{ones_set, ones_cleared}
-use Rattle.console_defs.specs.Machine.{MachineState}
-use Rattle.gpl_defs.specs.declared.instruction.OneName.TheVariants.{CZ}
-use Rattle.gpl_defs.specs.declared.instruction.TwoName.TheVariants.{CH, CHE, CGT, CGE, CEQ, CLOG}
-use Rattle.gpl_defs.specs.declared.instruction.GplOperation.{GplOperation}
-use Rattle.gpl_defs.specs.declared.instruction.GplOperation.TheVariants.{One, Two}
-use Rattle.step_defs.specs.State.{GplState}
-use Rattle.step_defs.specs.Place.{Place, value_at}
-use Rattle.step_defs.specs.Changes.{unchanged, with_condition}
-use Rattle.step_defs.specs.Arithmetic.{Source}
-use Rattle.interp_defs.specs.Runs.{is_end}
-use Rattle.sim_view.specs.View.{View, view, Stands}
-use Rattle.sim_view.specs.Exits.{Exits, Comes}
-use Rattle.sim_view.proofs.Bridge.{IsView}
-use Rattle.sim_view.proofs.Compose.{Goes, comes, comes_then}
-use Rattle.sim_operands.specs.Values.{width_in, in_register}
-use Rattle.sim_compare.specs.Pieces.{told, end_of}
-use Rattle.sim_compare.specs.Family.{is_comparison, compared, comparison, IsTold, ending}
-use Rattle.sim_rows.specs.States.{Sees, operation_in}
-use Rattle.sim_rows.specs.Rows.{row_width, bytes_by, next_of, gone_on, loaded_of}
-use Rattle.sim_rows.specs.Results.{row_result, SeesFinished, SeesResult, RunsRow}
-use Rattle.sim_compare.proofs.Numbers.{number_fits, below_in_register, equal_in_register, zero_in_register, at_most, ones_in_register, order_in_register}
-use Rattle.sim_compare.proofs.Numbers.{at_most_signed}
+use Rattle.std.proofs.Common.{ℕ, ◌+◌, ◌<◌, ◌==◌, ◌∙◌, ◌≡◌, ◌≤◌, ap, arith, bit_and, Bool, false, int_lt, List, nat_lt, not, Ok, Option, refl, slice_index}
+use Rattle.std.proofs.Common.{slice_set, Some, subst, sym, true}
+use Rattle.sim_rows.proofs.Common.{Byte, bytes_by, CEQ, CGE, CGT, CH, CHE, CLOG, Comes, comes, comes_then, CTRUE, CZ, Exits, Goes, gone_on, GplOperation}
+use Rattle.sim_rows.proofs.Common.{GplState, GSTEP, in_register, is_end, IsView, loaded_of, MachineState, modulus, next_of, One, ones_cleared, ones_set}
+use Rattle.sim_rows.proofs.Common.{operation_in, Place, row_result, row_width, RunsRow, Sees, SeesFinished, SeesResult, signed, Source, Stands, Two}
+use Rattle.sim_rows.proofs.Common.{unchanged, value_at, View, view, Width, width_in, with_condition, Word}
+use Rattle.sim_compare.specs.Pieces.{end_of, told}
+use Rattle.sim_compare.specs.Family.{compared, comparison, ending, is_comparison, IsTold}
+use Rattle.sim_compare.proofs.Numbers.{at_most, at_most_signed, below_in_register, equal_in_register, number_fits, ones_in_register, order_in_register}
+use Rattle.sim_compare.proofs.Numbers.{zero_in_register}
 
 -- ---- the two ends
 
-pub told_goes : (held failed most : ℕ) (b : Bool) {Q : View → Type 0} (w : View) → held ≤ most → failed ≤ most → Q w → Goes (told held failed b w) most (end_of b) Q
+pub told_goes : (held failed most : ℕ) (b : Bool) {Q : View → Type 0} (w : View) → held ≤ most → failed ≤ most → Q w →
+    Goes (told held failed b w) most (end_of b) Q
 told_goes held failed most true w h k q = record { within = h; to_is = refl; holds = q }
 told_goes held failed most false w h k q = record { within = k; to_is = refl; holds = q }
 
-at_end : (b : Bool) → (end_of b == 0x2618) ≡ b
+at_end : (b : Bool) → (end_of b == CTRUE) ≡ b
 at_end true = refl
 at_end false = refl
 
@@ -40,8 +25,8 @@ pub goes_on : (b : Bool) → is_end (end_of b) ≡ false
 goes_on true = refl
 goes_on false = refl
 
-which_end : (x : MachineState) (b : Bool) → Stands x (end_of b) → (x.cpu.pc == 0x2618) ≡ b
-which_end x b stands = ap (λ (p : ℕ). p == 0x2618) stands.pc ∙ at_end b
+which_end : (x : MachineState) (b : Bool) → Stands x (end_of b) → (x.cpu.pc == CTRUE) ≡ b
+which_end x b stands = ap (λ (p : ℕ). p == CTRUE) stands.pc ∙ at_end b
 
 pub is_told : (x : MachineState) (b : Bool) → Stands x (end_of b) → IsTold x
 is_told x b stands = subst (λ (c : Bool). Stands x (end_of c)) (sym (which_end x b stands)) stands
@@ -49,7 +34,8 @@ is_told x b stands = subst (λ (c : Bool). Stands x (end_of c)) (sym (which_end 
 abbrev status_set : (ℕ → ℕ) → List ℕ → List ℕ
 status_set f cells = slice_set cells 0x7C (f (slice_index cells 0x7C))
 
-ends_with : (s : GplState) (next : ℕ) (b : Bool) (w : View) → Sees s next w → Goes (ending b w) 3 0x228C (SeesFinished (with_condition b (unchanged (record s { pc = next }))))
+ends_with : (s : GplState) (next : ℕ) (b : Bool) (w : View) → Sees s next w → Goes (ending b w) 3 GSTEP
+    (SeesFinished (with_condition b (unchanged (record s { pc = next }))))
 ends_with s next true w h = record {
   within = omega arith;
   to_is = refl;
@@ -63,7 +49,7 @@ ends_with s next false w h = record {
 
 -- From what is told to the end of the step.
 pub tells : (most : ℕ) (s : GplState) (next : ℕ) (b : Bool) {x a y : MachineState} {t u v : ℕ} → Comes most x a t u (end_of b) (Sees s next) →
-    Exits a y u v (ending (a.cpu.pc == 0x2618) (view a)) → Comes (most + 3) x y t v 0x228C (SeesFinished (with_condition b (unchanged (record s { pc = next }))))
+    Exits a y u v (ending (a.cpu.pc == CTRUE) (view a)) → Comes (most + 3) x y t v GSTEP (SeesFinished (with_condition b (unchanged (record s { pc = next }))))
 tells most s next b {x = x} {a = a} {y = y} {t = t} {u = u} {v = v} c e =
     let Q : Bool → Type 0 = λ h. Exits a y u v (ending h (view a)) in
     comes_then most 3 c (subst Q (which_end a b c.stands) e) (ends_with s next b (view a) c.holds) (goes_on b)
@@ -91,7 +77,8 @@ compares (Two CLOG) e v = told_goes 2 3 3 (bit_and v.r.r6 v.r.r9 == 0) v (omega 
 compares _ e v = absurd (cc)
 
 -- the words of two registers are compared as the numbers in them
-flag_is : (op : GplOperation) → is_comparison (Some op) ≡ true → (v : View) (width : Width) (x y : ℕ) → v.r.r9 ≡ in_register width x → v.r.r6 ≡ in_register width y → x < modulus width → y < modulus width →
+flag_is : (op : GplOperation) → is_comparison (Some op) ≡ true → (v : View) (width : Width) (x y : ℕ) → v.r.r9 ≡ in_register width x →
+    v.r.r6 ≡ in_register width y → x < modulus width → y < modulus width →
     flag op v ≡ compared op width x y
 flag_is (One CZ) e v width x y a b h k = ap (λ (n : ℕ). n == 0) a ∙ zero_in_register width x
 flag_is (Two CH) e v width x y a b h k = rw (a, b) (below_in_register width y x)
@@ -132,14 +119,16 @@ sized (Two CLOG) e Byte = refl
 sized (Two CLOG) e Word = refl
 sized _ e width = absurd (cc)
 
-loaded_is : (op : GplOperation) → is_comparison (Some op) ≡ true → (s : GplState) (place : Place) → operation_in s ≡ Some op → loaded_of s place ≡ in_register (row_width s) (value_at s (row_width s) place)
+loaded_is : (op : GplOperation) → is_comparison (Some op) ≡ true → (s : GplState) (place : Place) → operation_in s ≡ Some op →
+    loaded_of s place ≡ in_register (row_width s) (value_at s (row_width s) place)
 loaded_is op e s place is =
     let width : Option GplOperation → Width = λ o. width_in (bytes_by o (row_width s)) in
     ap (λ (w : Width). in_register w (value_at s w place)) (ap width is ∙ sized op e (row_width s))
 
 -- A comparison of the operands in registers 9 and 6, to the end of the step.
-pub runs : (op : GplOperation) → is_comparison (Some op) ≡ true → (x a y : MachineState) (t u v : ℕ) → IsView (view x) → Exits x a t u (comparison op (view x)) →
-    Exits a y u v (ending (a.cpu.pc == 0x2618) (view a)) → RunsRow op 6 x y t v
+pub runs : (op : GplOperation) → is_comparison (Some op) ≡ true → (x a y : MachineState) (t u v : ℕ) → IsView (view x) →
+    Exits x a t u (comparison op (view x)) →
+    Exits a y u v (ending (a.cpu.pc == CTRUE) (view a)) → RunsRow op 6 x y t v
 runs op e x a y t u v bounds first second s place source is row operands =
     let width = row_width s in
     let value = value_at s width place in
@@ -148,10 +137,12 @@ runs op e x a y t u v bounds first second s place source is row operands =
     let x_fits = number_fits width value (subst (λ (n : ℕ). n < 65536) nine (bounds.r 9)) in
     let y_fits = number_fits width source.number (subst (λ (n : ℕ). n < 65536) row.value (bounds.r 6)) in
     let b = flag_is op e w width value source.number nine row.value x_fits y_fits in
-    let same : Goes (comparison op w) 3 (end_of (flag op w)) (Sees s (next_of s)) = let g = compares op e w in record { within = g.within; to_is = g.to_is; holds = subst (Sees s (next_of s)) (sym g.holds) row.holds.sees } in
-    let c : Comes 3 x a t u (end_of (compared op width value source.number)) (Sees s (next_of s)) = subst (λ (h : Bool). Comes 3 x a t u (end_of h) (Sees s (next_of s))) b (comes first same) in
+    let same : Goes (comparison op w) 3 (end_of (flag op w)) (Sees s (next_of s)) = let g = compares op e w in
+    record { within = g.within; to_is = g.to_is; holds = subst (Sees s (next_of s)) (sym g.holds) row.holds.sees } in
+    let c : Comes 3 x a t u (end_of (compared op width value source.number)) (Sees s (next_of s)) =
+    subst (λ (h : Bool). Comes 3 x a t u (end_of h) (Sees s (next_of s))) b (comes first same) in
     let done = tells 3 s (next_of s) (compared op width value source.number) c second in
-    subst (λ r. Comes 6 x y t v 0x228C (SeesResult r)) (sym (result_is op e s place source)) done
+    subst (λ r. Comes 6 x y t v GSTEP (SeesResult r)) (sym (result_is op e s place source)) done
 
 pub comparison_told : (op : GplOperation) → is_comparison (Some op) ≡ true → (x a : MachineState) (t u : ℕ) → Exits x a t u (comparison op (view x)) → IsTold a
 comparison_told op e x a t u first = is_told a (flag op (view x)) (comes first (compares op e (view x))).stands

@@ -1,17 +1,8 @@
 -- The comparisons and the tests of the status, and what each tells.
-use Rattle.std.specs.Prelude.{ℕ, ◌==◌, Bool, true, false, ◌||◌, nat_lt, nat_le, int_lt, int_le, bit_and, Option, Some}
-use Rattle.console_defs.specs.Flags.{Width, signed}
-use Rattle.step_defs.specs.declared.status_bits.TheConstants.{HIGHER_BIT, GREATER_BIT, CARRY_BIT, OVERFLOW_BIT}
-use Rattle.console_defs.specs.Machine.{MachineState}
-use Rattle.gpl_defs.specs.declared.instruction.PlainOp.TheVariants.{H, GT, CARRY, OVF}
-use Rattle.gpl_defs.specs.declared.instruction.OneName.TheVariants.{CZ}
-use Rattle.gpl_defs.specs.declared.instruction.TwoName.TheVariants.{CH, CHE, CGT, CGE, CEQ, CLOG}
-use Rattle.gpl_defs.specs.declared.instruction.GplOperation.{GplOperation}
-use Rattle.gpl_defs.specs.declared.instruction.GplOperation.TheVariants.{Plain, One, Two}
-use Rattle.native_interp.specs.declared.addresses.TheConstants.{CTRUE}
-use Rattle.sim_view.specs.View.{View, Stands}
-use Rattle.sim_view.specs.Exits.{Exit}
-use Rattle.sim_operands.specs.Pieces.{exit}
+use Rattle.std.specs.Prelude.{ℕ, ◌==◌, ◌||◌, bit_and, Bool, false, int_le, int_lt, nat_le, nat_lt, Option, Some, true}
+use Rattle.sim_rows.specs.Prelude.{CARRY, CARRY_BIT, CEQ, CGE, CGT, CH, CHE, CLOG, CTRUE, CZ, Exit, exit}
+use Rattle.sim_rows.specs.Prelude.{GplOperation, GREATER_BIT, GT, H, HIGHER_BIT, MachineState, One, OVERFLOW_BIT, OVF}
+use Rattle.sim_rows.specs.Prelude.{Plain, signed, Stands, Two, View, Width}
 use Rattle.sim_compare.specs.Pieces as piece
 
 -- the comparisons of operands

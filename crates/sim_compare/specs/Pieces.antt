@@ -1,18 +1,9 @@
 -- What the pieces of the comparisons and the tests come to: how many instructions they have, where they end, and what
 -- they change of the view, in the words of the processor. Registers, cells and ports that are not named stay.
-use Rattle.std.specs.Prelude.{ℕ, ◌==◌, Bool, true, false, not, nat_lt, int_lt, bit_and, if◌then◌else◌, slice_index}
-use Rattle.std.specs.Prelude.{slice_set}
-use Rattle.console_defs.specs.Words.{low, join}
-use Rattle.console_defs.specs.Flags.{Byte, Word, signed}
-use Rattle.console_defs.specs.Logic.{ones_set, ones_cleared}
-use Rattle.console_defs.specs.Shifts.{shifted, last_out}
-use Rattle.console_defs.specs.declared.instruction.ShiftOp.TheVariants.{SLA}
-use Rattle.step_defs.specs.declared.cells.TheConstants.{STATUS}
-use Rattle.step_defs.specs.declared.status_bits.TheConstants.{CONDITION_BIT}
-use Rattle.native_interp.specs.declared.addresses.TheConstants.{GSTEP, CTRUE, CFALSE}
-use Rattle.sim_view.specs.View.{View}
-use Rattle.sim_view.specs.Exits.{Exit}
-use Rattle.sim_operands.specs.Pieces.{exit}
+use Rattle.std.specs.Prelude.{ℕ, ◌==◌, bit_and, Bool, false, if◌then◌else◌, int_lt, nat_lt, not, slice_index}
+use Rattle.std.specs.Prelude.{slice_set, true}
+use Rattle.sim_rows.specs.Prelude.{Byte, CFALSE, CONDITION_BIT, CTRUE, Exit, exit, GSTEP, join, last_out, low}
+use Rattle.sim_rows.specs.Prelude.{ones_cleared, ones_set, shifted, signed, SLA, STATUS, View, Word}
 
 -- what holds leads to CTRUE, what does not to CFALSE; each takes so many instructions
 abbrev pub end_of : Bool → ℕ

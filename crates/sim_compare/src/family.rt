@@ -1,29 +1,21 @@
 //! The comparisons and the tests, from their dispatch to the end of the step.
 
-ghost use Rattle.native_interp.specs.declared.addresses.TheConstants as address;
-ghost use Rattle.std.specs.Prelude.{◌≡◌, true, Some};
-ghost use Rattle.native_interp.specs.Entries.{operation_entry, row_entry};
-ghost use Rattle.sim_view.specs.View.{view, Stands};
-ghost use Rattle.sim_view.specs.Exits.{Exits};
-ghost use Rattle.interp_defs.specs.Interpreter.{most_to_dispatch};
-ghost use Rattle.interp_defs.specs.Turned.{Turned};
-ghost use Rattle.sim_rows.specs.States.{Dispatched, state_at_dispatch, operation_seen};
-ghost use Rattle.sim_rows.specs.Results.{RunsRow};
-ghost use Rattle.sim_compare.specs.Family.{is_comparison, is_test, is_compare, comparison, test};
+ghost use Rattle.std.specs.Prelude.{◌≡◌, Some, true};
+ghost use Rattle.sim_rows.specs.Prelude.{AtDispatch, AtEntry, Exits, most_to_dispatch, operation_entry};
+ghost use Rattle.sim_rows.specs.Prelude.{operation_seen, Plain, row_entry, RunsRow, Stands, state_at_dispatch};
+ghost use Rattle.sim_rows.specs.Prelude.{Turned, view};
+ghost use Rattle.sim_compare.specs.Family.{comparison, is_compare, is_comparison, is_test, test};
 
-use crate::compare::{
-    compare_equal, compare_greater, compare_greater_or_equal, compare_higher,
-    compare_higher_or_equal, compare_ones, compare_with_zero,
-};
 use crate::condition::end_comparison;
-use crate::status_tests::{test_carry, test_greater, test_higher, test_overflow};
-use gpl_defs::{GplOperation, OneName, TwoName};
-use interp_defs::Turn;
-use native_interp::{GOCARY, GOGT, GOH, ROW};
-use sim_rows::start_row;
+use crate::pieces::{
+    compare_equal, compare_greater, compare_greater_or_equal, compare_higher,
+    compare_higher_or_equal, compare_ones, compare_with_zero, test_carry, test_greater,
+    test_higher, test_overflow,
+};
+use sim_rows::gpl::{GplOperation, OneName, PlainOp, TwoName};
+use sim_rows::processor::{Machine, Steps};
+use sim_rows::{Reason, Turn, operation_told, start_row};
 use std::sync::ledger::Ledger;
-use step_defs::Reason;
-use tms_step::{Machine, Steps};
 
 /// Runs the piece of a comparison.
 fn compare_operands<L: Ledger>(machine: &mut Machine, steps: &mut Steps<L>, operation: GplOperation)
@@ -45,8 +37,7 @@ fn compare_operands<L: Ledger>(machine: &mut Machine, steps: &mut Steps<L>, oper
 
 /// Runs a comparison from its row to the end of the step.
 fn run_comparison<L: Ledger>(machine: &mut Machine, steps: &mut Steps<L>, operation: GplOperation)
-    requires stands { Stands machine.old (row_entry (Some operation)) }
-    requires comparison { is_comparison (Some operation) ≡ true }
+    requires { AtEntry is_comparison operation machine.old }
     ensures { RunsRow operation 6 machine.old machine.new steps.old steps.new }
 {
     compare_operands(machine, steps, operation);
@@ -54,41 +45,35 @@ fn run_comparison<L: Ledger>(machine: &mut Machine, steps: &mut Steps<L>, operat
 }
 
 /// Runs the piece of a test.
-fn test_status<L: Ledger>(machine: &mut Machine, steps: &mut Steps<L>)
-    requires stands { Stands machine.old (operation_entry (operation_seen (view machine.old))) }
-    requires test { is_test (operation_seen (view machine.old)) ≡ true }
-    ensures { let v = view machine.old in
-        Exits machine.old machine.new steps.old steps.new (test (operation_seen v) v) }
+fn test_status<L: Ledger>(machine: &mut Machine, steps: &mut Steps<L>, name: PlainOp)
+    requires stands { Stands machine.old (operation_entry (Some (Plain name))) }
+    requires test { is_test (Some (Plain name)) ≡ true }
+    ensures { Exits machine.old machine.new steps.old steps.new (test (Some (Plain name)) (view machine.old)) }
 {
-    if machine.pc() == GOH {
-        test_higher(machine, steps);
-    } else if machine.pc() == GOGT {
-        test_greater(machine, steps);
-    } else if machine.pc() == GOCARY {
-        test_carry(machine, steps);
-    } else {
-        test_overflow(machine, steps);
+    match name {
+        PlainOp::H => test_higher(machine, steps),
+        PlainOp::GT => test_greater(machine, steps),
+        PlainOp::CARRY => test_carry(machine, steps),
+        PlainOp::OVF => test_overflow(machine, steps),
+        PlainOp::EXIT | PlainOp::RTN | PlainOp::RTNC => unreachable!(),
     }
 }
 
 /// Runs a test from its dispatch to the end of the step.
-fn run_test<L: Ledger>(machine: &mut Machine, steps: &mut Steps<L>) -> Turn
-    requires stands { Stands machine.old (operation_entry (operation_seen (view machine.old))) }
-    requires dispatched { let v = view machine.old in Dispatched (state_at_dispatch v) v }
-    requires test { is_test (operation_seen (view machine.old)) ≡ true }
+fn run_test<L: Ledger>(machine: &mut Machine, steps: &mut Steps<L>, name: PlainOp) -> Turn
+    requires at { AtDispatch is_test machine.old }
+    requires told { operation_seen (view machine.old) ≡ Some (Plain name) }
     ensures { Turned (state_at_dispatch (view machine.old)) most_to_dispatch
         machine.old machine.new steps.old steps.new result }
 {
-    test_status(machine, steps);
+    test_status(machine, steps, name);
     end_comparison(machine, steps);
     Turn::Stepped
 }
 
 /// Runs a comparison from its dispatch to the end of the step.
 fn run_compare_row<L: Ledger>(machine: &mut Machine, steps: &mut Steps<L>) -> Turn
-    requires stands { Stands machine.old (operation_entry (operation_seen (view machine.old))) }
-    requires dispatched { let v = view machine.old in Dispatched (state_at_dispatch v) v }
-    requires comparison { is_comparison (operation_seen (view machine.old)) ≡ true }
+    requires { AtDispatch is_comparison machine.old }
     ensures { Turned (state_at_dispatch (view machine.old)) most_to_dispatch
         machine.old machine.new steps.old steps.new result }
 {
@@ -101,14 +86,20 @@ fn run_compare_row<L: Ledger>(machine: &mut Machine, steps: &mut Steps<L>) -> Tu
 
 /// Runs a comparison or a test from its dispatch to the end of the step.
 pub fn run_compare<L: Ledger>(machine: &mut Machine, steps: &mut Steps<L>) -> Turn
-    requires stands { Stands machine.old (operation_entry (operation_seen (view machine.old))) }
-    requires dispatched { let v = view machine.old in Dispatched (state_at_dispatch v) v }
-    requires family { is_compare (operation_seen (view machine.old)) ≡ true }
+    requires { AtDispatch is_compare machine.old }
     ensures { Turned (state_at_dispatch (view machine.old)) most_to_dispatch
         machine.old machine.new steps.old steps.new result }
 {
-    if machine.pc() == ROW {
-        return run_compare_row(machine, steps);
+    match operation_told(machine) {
+        Some(GplOperation::Plain(name)) => run_test(machine, steps, name),
+        Some(GplOperation::One(_)) => run_compare_row(machine, steps),
+        Some(GplOperation::Two(_)) => run_compare_row(machine, steps),
+        Some(
+            GplOperation::Byte(_)
+            | GplOperation::Jump(_)
+            | GplOperation::Branch(_)
+            | GplOperation::Move(_),
+        )
+        | None => unreachable!(),
     }
-    run_test(machine, steps)
 }

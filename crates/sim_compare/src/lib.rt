@@ -2,15 +2,14 @@
 //! CARRY and OVF. Each is built of pieces: stretches of at most 16 instructions without a loop.
 #![tactic(auto)]
 
-mod compare;
 mod condition;
 mod family;
-mod status_tests;
+mod pieces;
 
-pub use compare::{
-    compare_equal, compare_greater, compare_greater_or_equal, compare_higher,
-    compare_higher_or_equal, compare_ones, compare_with_zero,
-};
-pub use condition::{clear_condition, end_comparison, set_condition};
+pub use condition::end_comparison;
 pub use family::run_compare;
-pub use status_tests::{test_carry, test_greater, test_higher, test_overflow};
+pub use pieces::{
+    clear_condition, compare_equal, compare_greater, compare_greater_or_equal, compare_higher,
+    compare_higher_or_equal, compare_ones, compare_with_zero, set_condition, test_carry,
+    test_greater, test_higher, test_overflow,
+};

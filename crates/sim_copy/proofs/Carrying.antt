@@ -1,29 +1,15 @@
 -- A byte on its way from the source to the target.
-use Rattle.std.proofs.Common.{◌≡◌, ℕ, ◌<◌, Bool, false, refl, sym, ap, subst, ◌∙◌, arith, List}
-use Rattle.std.specs.Prelude.{◌==◌, not, nat_lt, if◌then◌else◌}
-use Rattle.std.proofs.lemmas.Bool.{ltb-true, ltb-false, ne_eqb}
-use Rattle.console_defs.specs.Words.{high, join}
-use Rattle.console_defs.specs.Grom.{GromState}
-use Rattle.console_defs.specs.Machine.{MachineState}
-use Rattle.gpl_defs.specs.Reading.{value_at as value_in}
-use Rattle.gpl_defs.specs.declared.instruction.Space.{Space}
-use Rattle.gpl_defs.specs.declared.instruction.Space.TheVariants.{Cpu, Vdp}
-use Rattle.step_defs.specs.State.{GplState}
-use Rattle.step_defs.specs.Place.{Place, value_at}
-use Rattle.step_defs.specs.Changes.{Changes, unchanged, with_value, with_byte_in}
-use Rattle.step_defs.specs.Copy.{From, FromMemory, FromGrom, To, ToMemory, ToRegisters, byte_from, with_byte_to}
-use Rattle.interp_defs.specs.Match.{PortsAreIdle, IsFetched}
-use Rattle.sim_view.specs.View.{View, view, Stands}
-use Rattle.sim_view.specs.Exits.{Exit, Exits, Comes}
-use Rattle.sim_view.proofs.Places.{pick}
-use Rattle.sim_view.proofs.Compose.{comes, comes_then, comes_on, comes_as}
-use Rattle.sim_operands.specs.Pieces.{exit, return_of}
-use Rattle.sim_operands.specs.Values.{width_in, in_register, of_register, IsVisible}
-use Rattle.sim_operands.specs.Subroutines.{grom_at, state_of, next_at, place_in, marked_by, Loaded, streamed, LoadsValue, LoadsStream, Stored, StoresValue, StoresRegister}
-use Rattle.sim_operands.proofs.Ready.{idle_video, idle_grom}
-use Rattle.sim_rows.proofs.Again.{idle_again, fetched_again, idle_told}
+use Rattle.std.proofs.Common.{ℕ, ◌<◌, ◌==◌, ◌∙◌, ◌≡◌, ap, arith, Bool, false, if◌then◌else◌, List, nat_lt, not, refl, subst, sym}
+use Rattle.std.proofs.lemmas.Bool.{ltb-false, ltb-true, ne_eqb}
+use Rattle.sim_rows.proofs.Common.{byte_from, Changes, Comes, comes, comes_as, comes_on, comes_then, COPY, COPYN, COPYS, Cpu, Exit, exit, Exits}
+use Rattle.sim_rows.proofs.Common.{fetched_again, From, FromGrom, FromMemory, GplState, grom_at, GromState, high, idle_again, idle_grom, idle_told}
+use Rattle.sim_rows.proofs.Common.{idle_video, in_register, IsFetched, IsVisible, join, LOAD, Loaded, LoadsStream, LoadsValue, MachineState, marked_by}
+use Rattle.sim_rows.proofs.Common.{next_at, of_register, pick, Place, place_in, PortsAreIdle, return_of, Space, Stands, state_of, STORE, Stored}
+use Rattle.sim_rows.proofs.Common.{StoresRegister, StoresValue, streamed, To, ToMemory, ToRegisters, unchanged, value_at, Vdp, View, view, width_in}
+use Rattle.sim_rows.proofs.Common.{with_byte_in, with_byte_to, with_value}
+use Rattle.sim_rows.specs.gpl_defs.Reading.{value_at as value_in}
+use Rattle.sim_copy.specs.Bytes.{AtCopy, byte_copied, CopiesByte, Counted, grom_behind, source_in, target_in}
 use Rattle.sim_copy.specs.Pieces as pieces
-use Rattle.sim_copy.specs.Bytes.{AtCopy, source_in, target_in, grom_behind, byte_copied, Counted, CopiesByte}
 
 -- ---- LOAD
 
@@ -83,12 +69,15 @@ stores a b t u one there near far =
     let v : View = view a in
     let place : Place = place_in v.r.r8 v.r.r7 in
     let number : ℕ = high v.r.r9 in
-    let to : Bool → Type 0 = λ c. Comes 16 a b t u (return_of v) (Stored v (with_byte_to (if c then ToMemory place else ToRegisters v.r.r7) number (unchanged (state_of v)))) in
-    let by : ℕ → Type 0 = λ n. Comes 16 a b t u (return_of v) (Stored v (with_value (width_in n) place (of_register (width_in n) v.r.r9) (unchanged (state_of v)))) in
+    let to : Bool → Type 0 = λ c. Comes 16 a b t u (return_of v)
+    (Stored v (with_byte_to (if c then ToMemory place else ToRegisters v.r.r7) number (unchanged (state_of v)))) in
+    let by : ℕ → Type 0 = λ n. Comes 16 a b t u (return_of v)
+    (Stored v (with_value (width_in n) place (of_register (width_in n) v.r.r9) (unchanged (state_of v)))) in
     pick (nat_lt v.r.r8 2)
     (λ c. subst to (sym c) (subst by one (near (ltb-true v.r.r8 2 c))))
     (λ c. let above : 1 < v.r.r8 = let le = ltb-false v.r.r8 2 c in omega arith in
-    subst to (sym c) (comes_as 16 (Stored v (with_byte_to (ToRegisters v.r.r7) number (unchanged (state_of v)))) (far above (there above)) (omega arith) (λ w l. l)))
+    subst to (sym c) (comes_as 16 (Stored v (with_byte_to (ToRegisters v.r.r7) number (unchanged (state_of v)))) (far above (there above)) (omega arith)
+    (λ w l. l)))
 
 -- ---- the changes do not depend on where GROM stands
 
@@ -103,7 +92,8 @@ same_changes : (make : List ℕ → List ℕ → List ℕ → Bool → View) (to
     made_by make (with_byte_to to byte (unchanged (record s { pc = pc; image = image }))) ≡ made_by make (with_byte_to to byte (unchanged s))
 same_changes make (ToMemory place) byte s pc image = in_space place.space place.address
   where
-    in_space : (space : Space) (address : ℕ) → made_by make (with_byte_in space address byte (unchanged (record s { pc = pc; image = image }))) ≡ made_by make (with_byte_in space address byte (unchanged s))
+    in_space : (space : Space) (address : ℕ) → made_by make (with_byte_in space address byte (unchanged (record s { pc = pc; image = image }))) ≡ made_by make
+        (with_byte_in space address byte (unchanged s))
     in_space Cpu address = refl
     in_space Vdp address = refl
 same_changes make (ToRegisters number) byte s pc image = refl
@@ -112,16 +102,16 @@ same_changes make (ToRegisters number) byte s pc image = refl
 
 -- LOAD is asked where bytes are left
 abbrev asked : View → View
-asked v = record v { r = record v.r { r11 = 0x27DC } }
+asked v = record v { r = record v.r { r11 = COPYS } }
 
-asks : (v : View) → 0 < v.r.r12 → pieces.next_byte v ≡ exit 3 0x2368 (asked v)
+asks : (v : View) → 0 < v.r.r12 → pieces.next_byte v ≡ exit 3 LOAD (asked v)
 asks v some = let c : (v.r.r12 == 0) ≡ false = ne_eqb v.r.r12 0 (λ e. omega arith) in rw (c, pieces.next_byte) refl
 
-module _ (x a : MachineState) (t t1 : ℕ) (h : AtCopy x) (some : 0 < (view x).r.r12) (e : Exits x a t t1 (pieces.next_byte (view x))) where
+module _ {x a : MachineState} {t t1 : ℕ} (h : AtCopy x) (some : 0 < (view x).r.r12) (e : Exits x a t t1 (pieces.next_byte (view x))) where
   abbrev v : View
   v = view x
 
-  went : Exits x a t t1 (exit 3 0x2368 (asked v))
+  went : Exits x a t t1 (exit 3 LOAD (asked v))
   went = subst (λ (k : Exit). Exits x a t t1 k) (asks v some) e
 
   pub idle_asked : PortsAreIdle a.cpu.memory
@@ -133,11 +123,13 @@ module _ (x a : MachineState) (t t1 : ℕ) (h : AtCopy x) (some : 0 < (view x).r
   one_asked : (view a).r.r3 ≡ 1
   one_asked = ap (λ (u : View). u.r.r3) went.shows ∙ h.bytes_are
 
-  module _ (b : MachineState) (t2 : ℕ) (near : (view a).r.r5 < 2 → LoadsValue a b t1 t2) (far : 1 < (view a).r.r5 → IsFetched a.cpu.memory.grom → LoadsStream a b t1 t2) where
-    loaded : Comes 17 a b t1 t2 0x27DC (ReadFrom (view a) (source_in (view a)))
-    loaded = subst (λ (p : ℕ). Comes 17 a b t1 t2 p (ReadFrom (view a) (source_in (view a)))) (ap return_of went.shows) (loads a b t1 t2 one_asked fetched_asked near far)
+  module _ {b : MachineState} {t2 : ℕ} (near : (view a).r.r5 < 2 → LoadsValue a b t1 t2) (far : 1 < (view a).r.r5 → IsFetched a.cpu.memory.grom →
+      LoadsStream a b t1 t2) where
+    loaded : Comes 17 a b t1 t2 COPYS (ReadFrom (view a) (source_in (view a)))
+    loaded = subst (λ (p : ℕ). Comes 17 a b t1 t2 p (ReadFrom (view a) (source_in (view a)))) (ap return_of went.shows)
+        (loads a b t1 t2 one_asked fetched_asked near far)
 
-    pub stands_read : Stands b 0x27DC
+    pub stands_read : Stands b COPYS
     stands_read = loaded.stands
 
     abbrev number : ℕ
@@ -157,7 +149,7 @@ module _ (x a : MachineState) (t t1 : ℕ) (h : AtCopy x) (some : 0 < (view x).r
     seen_b : view b ≡ at_b
     seen_b = loaded.holds.is ∙ ap read_of went.shows
 
-    module _ (d : MachineState) (t3 : ℕ) (e3 : Exits b d t2 t3 (pieces.store_byte (view b))) where
+    module _ {d : MachineState} {t3 : ℕ} (e3 : Exits b d t2 t3 (pieces.store_byte (view b))) where
       abbrev at_d : View
       at_d = (pieces.store_byte at_b).left
 
@@ -180,11 +172,13 @@ module _ (x a : MachineState) (t t1 : ℕ) (h : AtCopy x) (some : 0 < (view x).r
       one_storing : (view d).r.r3 ≡ 1
       one_storing = ap (λ (u : View). u.r.r3) seen_d ∙ h.bytes_are
 
-      module _ (k : MachineState) (t4 : ℕ) (value : (view d).r.r8 < 2 → StoresValue d k t3 t4) (register : 1 < (view d).r.r8 → (view d).r.r7 < 8 → StoresRegister d k t3 t4) where
-        stored : Comes 16 d k t3 t4 0x27E2 (Stored (view d) (stored_in (view d)))
-        stored = subst (λ (p : ℕ). Comes 16 d k t3 t4 p (Stored (view d) (stored_in (view d)))) (ap return_of seen_d) (stores d k t3 t4 one_storing there value register)
+      module _ {k : MachineState} {t4 : ℕ} (value : (view d).r.r8 < 2 → StoresValue d k t3 t4) (register : 1 < (view d).r.r8 →
+          (view d).r.r7 < 8 → StoresRegister d k t3 t4) where
+        stored : Comes 16 d k t3 t4 COPYN (Stored (view d) (stored_in (view d)))
+        stored = subst (λ (p : ℕ). Comes 16 d k t3 t4 p (Stored (view d) (stored_in (view d)))) (ap return_of seen_d)
+            (stores d k t3 t4 one_storing there value register)
 
-        pub stands_stored : Stands k 0x27E2
+        pub stands_stored : Stands k COPYN
         stands_stored = stored.stands
 
         -- the view behind COPYN, by what was changed
@@ -199,7 +193,7 @@ module _ (x a : MachineState) (t t1 : ℕ) (h : AtCopy x) (some : 0 < (view x).r
         abbrev counted_of : View → View
         counted_of u = made_by (counted_by u) (stored_in u)
 
-        module _ (y : MachineState) (t5 : ℕ) (e5 : Exits k y t4 t5 (pieces.count_byte (view k))) where
+        module _ {y : MachineState} {t5 : ℕ} (e5 : Exits k y t4 t5 (pieces.count_byte (view k))) where
           seen_y : view y ≡ made_by (counted_by at_d) (byte_copied v)
           seen_y =
               e5.shows
@@ -209,15 +203,25 @@ module _ (x a : MachineState) (t t1 : ℕ) (h : AtCopy x) (some : 0 < (view x).r
               ∙ same_changes (counted_by at_d) (target_in v) number (state_of v) (state_of at_d).pc (state_of at_d).image
 
           counted : Counted v (view y)
-          counted = record { r4 = stored.holds.r4; r6 = join number 0; r9 = stored.holds.r9; r11 = 0x27E2; address = stored.holds.address; byte = stored.holds.byte; is = seen_y }
+          counted =
+              record {
+                r4 = stored.holds.r4;
+                r6 = join number 0;
+                r9 = stored.holds.r9;
+                r11 = COPYN;
+                address = stored.holds.address;
+                byte =
+                    stored.holds.byte;
+                is = seen_y;
+              }
 
           pub copies : CopiesByte x y t t5
           copies =
-              let c1 : Comes 3 x a t t1 0x2368 (λ u. u ≡ asked v) = comes went (record { within = omega arith; to_is = refl; holds = refl }) in
+              let c1 : Comes 3 x a t t1 LOAD (λ u. u ≡ asked v) = comes went (record { within = omega arith; to_is = refl; holds = refl }) in
               let c2 = comes_on 3 17 c1 loaded refl in
-              let c3 : Comes 22 x d t t3 0x23C2 (λ u. u ≡ (pieces.store_byte (view b)).left) =
+              let c3 : Comes 22 x d t t3 STORE (λ u. u ≡ (pieces.store_byte (view b)).left) =
               comes_then 20 2 c2 e3 (record { within = omega arith; to_is = refl; holds = refl }) refl in
               let c4 = comes_on 22 16 c3 stored refl in
-              let c5 : Comes 42 x y t t5 0x27D4 (λ u. u ≡ (pieces.count_byte (view k)).left) =
+              let c5 : Comes 42 x y t t5 COPY (λ u. u ≡ (pieces.count_byte (view k)).left) =
               comes_then 38 4 c4 e5 (record { within = omega arith; to_is = refl; holds = refl }) refl in
               record { count = c5.count; within = c5.within; counted = c5.counted; runs = c5.runs; holds = counted; stands = c5.stands }

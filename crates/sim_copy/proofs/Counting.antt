@@ -1,32 +1,15 @@
 -- The bytes of the copy, one after the other.
-use Rattle.std.proofs.Common.{◌≡◌, ℕ, zero, suc, ◌+◌, ◌-◌, ◌*◌, ◌%◌, ◌<◌, ◌≤◌, Bool, true, false, refl, sym, ap, subst, ◌∙◌, arith, List}
-use Rattle.std.specs.Prelude.{◌==◌, ◌||◌, slice_index, slice_set, if◌then◌else◌}
-use Rattle.std.proofs.lemmas.Bool.{lt-ltb, le-ltb}
-use Rattle.console_defs.specs.Flags.{Word, sum_of, difference_of}
-use Rattle.console_defs.specs.Grom.{GromState, next_in_grom, previous_in_grom}
-use Rattle.console_defs.proofs.GromLaws.{previous-next}
-use Rattle.console_defs.specs.Memory.{Memory}
-use Rattle.console_defs.specs.Machine.{MachineState}
-use Rattle.gpl_defs.specs.declared.instruction.Space.{Space}
-use Rattle.gpl_defs.specs.declared.instruction.Space.TheVariants.{Cpu, Vdp}
-use Rattle.step_defs.specs.State.{GplState}
-use Rattle.step_defs.specs.Place.{Place, byte_in}
-use Rattle.step_defs.specs.Changes.{Changes, unchanged, with_byte_in}
-use Rattle.step_defs.specs.Copy.{From, FromMemory, FromGrom, To, ToMemory, ToRegisters, byte_from, next_from, with_byte_to, next_to, copied}
-use Rattle.interp_defs.specs.Match.{IsFetched}
-use Rattle.sim_view.specs.View.{View, view, view_of}
-use Rattle.sim_view.specs.Exits.{Comes}
-use Rattle.sim_view.proofs.Bridge.{is_view}
-use Rattle.sim_view.proofs.Compose.{comes_on, comes_as}
-use Rattle.sim_operands.specs.Values.{number_of_space}
-use Rattle.sim_operands.specs.Subroutines.{grom_at, state_of, next_at, place_in, marked_by}
-use Rattle.sim_operands.proofs.Ready.{idle_video, idle_grom}
-use Rattle.sim_rows.specs.Rows.{LoadsFrom}
-use Rattle.sim_rows.proofs.Again.{idle_told, begins}
-use Rattle.sim_rows.proofs.Fronting.{place_is, space_small}
-use Rattle.sim_copy.specs.Copying.{InGrom, StandsFrom, StandsTo, Copying}
+use Rattle.std.proofs.Common.{ℕ, ◌%◌, ◌*◌, ◌+◌, ◌-◌, ◌<◌, ◌==◌, ◌||◌, ◌∙◌, ◌≡◌, ◌≤◌, ap, arith, Bool, false, if◌then◌else◌, List, refl, slice_index}
+use Rattle.std.proofs.Common.{slice_set, subst, suc, sym, true, zero}
+use Rattle.std.proofs.lemmas.Bool.{le-ltb, lt-ltb}
+use Rattle.sim_rows.proofs.Common.{begins, byte_from, byte_in, Changes, Comes, comes_as, comes_on, copied, COPY, Cpu, difference_of, From, FromGrom}
+use Rattle.sim_rows.proofs.Common.{FromMemory, GplState, grom_at, GromState, idle_grom, idle_told, idle_video, is_view, IsFetched, LoadsFrom, MachineState}
+use Rattle.sim_rows.proofs.Common.{marked_by, Memory, next_at, next_from, next_in_grom, next_to, number_of_space, Place, place_in, place_is, previous-next}
+use Rattle.sim_rows.proofs.Common.{previous_in_grom, Space, space_small, state_of, sum_of, To, ToMemory, ToRegisters, unchanged, Vdp, View, view, view_of}
+use Rattle.sim_rows.proofs.Common.{with_byte_in, with_byte_to, Word}
+use Rattle.sim_copy.specs.Copying.{Copying, InGrom, StandsFrom, StandsTo}
 use Rattle.sim_copy.proofs.Carrying.{behind_idle}
-use Rattle.sim_copy.specs.Bytes.{AtCopy, source_in, target_in, grom_behind, byte_copied, CopiesByte, CopiesRest}
+use Rattle.sim_copy.specs.Bytes.{AtCopy, byte_copied, CopiesByte, CopiesRest, grom_behind, source_in, target_in}
 
 -- ---- the machine behind a byte
 
@@ -48,7 +31,7 @@ one_less n some fits = omega arith
 one_more : (n left most : ℕ) → 0 < left → n + left ≤ most → most < 65536 → sum_of Word n 1 + (left - 1) ≤ most
 one_more n left most some le fits = omega arith
 
-module _ (x y : MachineState) (t u : ℕ) (h : AtCopy x) (some : 0 < (view x).r.r12) (c : CopiesByte x y t u) where
+module _ {x y : MachineState} {t u : ℕ} (h : AtCopy x) (some : 0 < (view x).r.r12) (c : CopiesByte x y t u) where
   abbrev v : View
   v = view x
 
@@ -60,7 +43,8 @@ module _ (x y : MachineState) (t u : ℕ) (h : AtCopy x) (some : 0 < (view x).r.
 
   bounded : (most before after : ℕ) → most < 65536 → before + v.r.r12 ≤ most → after ≡ sum_of Word before 1 → after + (view y).r.r12 ≤ most
   bounded most before after fits le is =
-      subst (λ (n : ℕ). n + (view y).r.r12 ≤ most) (sym is) (subst (λ (n : ℕ). sum_of Word before 1 + n ≤ most) (sym left_is) (one_more before v.r.r12 most some le fits))
+      subst (λ (n : ℕ). n + (view y).r.r12 ≤ most) (sym is) (subst (λ (n : ℕ). sum_of Word before 1 + n ≤ most) (sym left_is)
+      (one_more before v.r.r12 most some le fits))
 
   pub at_copy : AtCopy y
   at_copy =
@@ -69,11 +53,13 @@ module _ (x y : MachineState) (t u : ℕ) (h : AtCopy x) (some : 0 < (view x).r.
         stands = c.stands;
         idle = idle_told y.cpu.memory (ap (λ (w : View). w.vdp.held) is ∙ idle_video x.cpu.memory h.idle)
             (ap (λ (w : View). w.grom.half_written) is ∙ behind_idle (source_in v) v.grom (idle_grom x.cpu.memory h.idle));
-        fetched = fetched_told y.cpu.memory (grom_behind (source_in v) v.grom) (ap (λ (w : View). w.grom) is) (behind_fetched (source_in v) v.grom (fetched_seen x.cpu.memory h.fetched));
+        fetched = fetched_told y.cpu.memory (grom_behind (source_in v) v.grom) (ap (λ (w : View). w.grom) is)
+            (behind_fetched (source_in v) v.grom (fetched_seen x.cpu.memory h.fetched));
         bytes_are = ap (λ (w : View). w.r.r3) is ∙ h.bytes_are;
         source = λ z. bounded 194 v.r.r2 (view y).r.r2 (omega arith) (h.source (sym (ap (λ (w : View). w.r.r5) is) ∙ z)) (ap (λ (w : View). w.r.r2) is);
         target = λ z. bounded 194 v.r.r7 (view y).r.r7 (omega arith) (h.target (sym (ap (λ (w : View). w.r.r8) is) ∙ z)) (ap (λ (w : View). w.r.r7) is);
-        registers = λ l. let same = ap (λ (w : View). w.r.r8) is in bounded 8 v.r.r7 (view y).r.r7 (omega arith) (h.registers (omega arith)) (ap (λ (w : View). w.r.r7) is);
+        registers = λ l. let same =
+            ap (λ (w : View). w.r.r8) is in bounded 8 v.r.r7 (view y).r.r7 (omega arith) (h.registers (omega arith)) (ap (λ (w : View). w.r.r7) is);
       }
 
 -- ---- the source and the target that the registers tell
@@ -142,12 +128,24 @@ record Adds (c alone both : Changes) : Type 0 where
 
 adds_in : (space : Space) (address byte : ℕ) (s : GplState) (c : Changes) → s.cells ≡ c.state.cells → s.vdp ≡ c.state.vdp → s.registers ≡ c.state.registers →
     Adds c (with_byte_in space address byte (unchanged s)) (with_byte_in space address byte c)
-adds_in Cpu address byte s c a d r = record { cells = ap (λ (l : List ℕ). slice_set l address byte) a; vdp = d; registers = r; mark = one_mark (address == 0x7D) c.shows; image = refl; pc = refl }
-adds_in Vdp address byte s c a d r = record { cells = a; vdp = ap (λ (l : List ℕ). slice_set l (address % 16384) byte) d; registers = r; mark = refl; image = refl; pc = refl }
+adds_in Cpu address byte s c a d r =
+    record {
+      cells = ap (λ (l : List ℕ). slice_set l address byte) a;
+      vdp = d;
+      registers = r;
+      mark = one_mark (address == 0x7D) c.shows;
+      image = refl;
+      pc =
+          refl;
+    }
+adds_in Vdp address byte s c a d r =
+    record { cells = a; vdp = ap (λ (l : List ℕ). slice_set l (address % 16384) byte) d; registers = r; mark = refl; image = refl; pc = refl }
 
-adds : (to : To) (byte : ℕ) (s : GplState) (c : Changes) → s.cells ≡ c.state.cells → s.vdp ≡ c.state.vdp → s.registers ≡ c.state.registers → Adds c (with_byte_to to byte (unchanged s)) (with_byte_to to byte c)
+adds : (to : To) (byte : ℕ) (s : GplState) (c : Changes) → s.cells ≡ c.state.cells → s.vdp ≡ c.state.vdp → s.registers ≡ c.state.registers →
+    Adds c (with_byte_to to byte (unchanged s)) (with_byte_to to byte c)
 adds (ToMemory place) byte s c a d r = adds_in place.space place.address byte s c a d r
-adds (ToRegisters number) byte s c a d r = record { cells = a; vdp = d; registers = ap (λ (l : List ℕ). slice_set l number byte) r; mark = refl; image = refl; pc = refl }
+adds (ToRegisters number) byte s c a d r =
+    record { cells = a; vdp = d; registers = ap (λ (l : List ℕ). slice_set l number byte) r; mark = refl; image = refl; pc = refl }
 
 -- ---- where the copy stands then
 
@@ -178,7 +176,7 @@ one_left : (n bytes : ℕ) → n ≡ suc bytes → n - 1 ≡ bytes
 one_left n bytes e = omega arith
 
 -- a byte more of the copy
-module _ (x y : MachineState) (t u : ℕ) (h : AtCopy x) (some : 0 < (view x).r.r12) (b : CopiesByte x y t u) where
+module _ {x y : MachineState} {t u : ℕ} (h : AtCopy x) (some : 0 < (view x).r.r12) (b : CopiesByte x y t u) where
   pub copied_one : (c : Changes) (from : From) (to : To) (bytes : ℕ) → Copying c from to (suc bytes) (view x) →
       Copying (with_byte_to to (byte_from from c.state) c) (next_from from) (next_to to) bytes (view y)
   copied_one c from to bytes k =
@@ -198,11 +196,14 @@ module _ (x y : MachineState) (t u : ℕ) (h : AtCopy x) (some : 0 < (view x).r.
         vdp = ap (λ (w : View). w.vdp.memory) is ∙ ap (λ (a : Changes). a.state.vdp) same ∙ more.vdp;
         registers = ap (λ (w : View). w.vdp.registers) is ∙ ap (λ (a : Changes). a.state.registers) same ∙ more.registers;
         held = ap (λ (w : View). w.vdp.held) is ∙ k.held;
-        mark = ap (λ (w : View). w.r.r13) is ∙ ap (λ (a : Changes). marked_by a.shows v.r.r13) same ∙ ap (λ (n : ℕ). marked_by alone.shows n) k.mark ∙ more.mark;
-        stands_from = next_source c after from v (view y) k.stands_from more.image more.pc (ap (λ (w : View). w.r.r2) is) (ap (λ (w : View). w.r.r5) is) (ap (λ (w : View). w.r.r14) is)
+        mark =
+            ap (λ (w : View). w.r.r13) is ∙ ap (λ (a : Changes). marked_by a.shows v.r.r13) same ∙ ap (λ (n : ℕ). marked_by alone.shows n) k.mark ∙ more.mark;
+        stands_from = next_source c after from v (view y) k.stands_from more.image more.pc (ap (λ (w : View). w.r.r2) is) (ap (λ (w : View). w.r.r5) is)
+            (ap (λ (w : View). w.r.r14) is)
             (ap (λ (w : View). w.grom) is ∙ ap (λ (f : From). grom_behind f v.grom) source);
-        stands_to = next_target to v (view y) k.stands_to (λ above. let le = h.registers above in omega arith) (ap (λ (w : View). w.r.r7) is) (ap (λ (w : View). w.r.r8) is);
-        left = left_is x y t u h some b ∙ one_left v.r.r12 bytes k.left;
+        stands_to = next_target to v (view y) k.stands_to (λ above. let le = h.registers above in omega arith) (ap (λ (w : View). w.r.r7) is)
+            (ap (λ (w : View). w.r.r8) is);
+        left = left_is h some b ∙ one_left v.r.r12 bytes k.left;
       }
 
 -- ---- the loop
@@ -215,7 +216,7 @@ pub record Rest (whole : Changes) (made : ℕ) (x z : MachineState) (t u : ℕ) 
   pub bytes : ℕ
   pub copying : Copying changes from to bytes (view z)
   pub same : copied bytes from to changes ≡ whole
-  pub comes : Comes (42 * made) x z t u 0x27D4 (λ w. Unit {0})
+  pub comes : Comes (42 * made) x z t u COPY (λ w. Unit {0})
 
 pub record Turns (made : ℕ) (x z : MachineState) (t u : ℕ) : Type 0 where
   pub at : AtCopy z
@@ -226,10 +227,20 @@ pub none_yet : (x : MachineState) (t : ℕ) → AtCopy x → Turns 0 x x t t
 none_yet x t h = record {
   at = h;
   left = omega arith;
-  rest = λ c from to bytes k. record { changes = c; from = from; to = to; bytes = bytes; copying = k; same = refl; comes = begins x t 0x27D4 (λ w. Unit {0}) h.stands tt };
+  rest =
+      λ c from to bytes k. record {
+        changes = c;
+        from = from;
+        to = to;
+        bytes = bytes;
+        copying = k;
+        same = refl;
+        comes =
+            begins x t COPY (λ w. Unit {0}) h.stands tt;
+      };
 }
 
-module _ (made : ℕ) (x z y : MachineState) (t u w : ℕ) (h : Turns made x z t u) (less : made < (view x).r.r12) where
+module _ {made : ℕ} {x z : MachineState} (y : MachineState) {t u : ℕ} (w : ℕ) (h : Turns made x z t u) (less : made < (view x).r.r12) where
   pub some_left : 0 < (view z).r.r12
   some_left = let e = h.left in omega arith
 
@@ -245,15 +256,15 @@ module _ (made : ℕ) (x z y : MachineState) (t u w : ℕ) (h : Turns made x z t
             from = next_from r.from;
             to = next_to r.to;
             bytes = bytes;
-            copying = copied_one z y u w h.at some_left b r.changes r.from r.to bytes k;
+            copying = copied_one h.at some_left b r.changes r.from r.to bytes k;
             same = ap (λ (n : ℕ). copied n r.from r.to r.changes) (sym e) ∙ r.same;
             comes = comes_as (42 * (made + 1)) (λ v. Unit {0}) (comes_on (42 * made) 42 r.comes b refl) (omega arith) (λ v q. tt);
           }
 
   pub one_more_turn : CopiesByte z y u w → Turns (made + 1) x y t w
   one_more_turn b = record {
-    at = at_copy z y u w h.at some_left b;
-    left = let a = left_is z y u w h.at some_left b in let e = h.left in let s = some_left in omega arith;
+    at = at_copy h.at some_left b;
+    left = let a = left_is h.at some_left b in let e = h.left in let s = some_left in omega arith;
     rest = λ c from to bytes k. more (copied bytes from to c) b (h.rest c from to bytes k);
   }
 
@@ -267,7 +278,7 @@ module _ (x z : MachineState) (t u : ℕ) (h : Turns (view x).r.r12 x z t u) whe
       let none : r.bytes ≡ 0 = sym r.copying.left ∙ none_left in
       let last : Copying r.changes r.from r.to 0 (view z) = subst (λ (n : ℕ). Copying r.changes r.from r.to n (view z)) none r.copying in
       let whole : r.changes ≡ copied bytes from to c = ap (λ (n : ℕ). copied n r.from r.to r.changes) (sym none) ∙ r.same in
-      let all = subst (λ (n : ℕ). Comes (42 * n) x z t u 0x27D4 (λ w. Unit {0})) k.left r.comes in
+      let all = subst (λ (n : ℕ). Comes (42 * n) x z t u COPY (λ w. Unit {0})) k.left r.comes in
       record {
         count = all.count;
         within = all.within;

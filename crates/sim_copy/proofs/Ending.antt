@@ -1,42 +1,32 @@
 -- The beginning and the end of the copy.
-use Rattle.std.proofs.Common.{◌≡◌, ℕ, ◌+◌, ◌*◌, ◌<◌, ◌≤◌, true, refl, sym, ap, subst, ◌∙◌, arith}
-use Rattle.std.specs.Prelude.{◌==◌, if◌then◌else◌}
+use Rattle.std.proofs.Common.{ℕ, ◌*◌, ◌+◌, ◌<◌, ◌==◌, ◌∙◌, ◌≡◌, ◌≤◌, ap, arith, if◌then◌else◌, refl, subst, sym, true}
 use Rattle.std.proofs.lemmas.Bool.{eq-eqb, ne_eqb}
-use Rattle.console_defs.specs.Machine.{MachineState}
-use Rattle.step_defs.specs.Place.{Place}
-use Rattle.step_defs.specs.Changes.{Changes, with_pc}
-use Rattle.step_defs.specs.Copy.{From, FromMemory, FromGrom, To, ToMemory, ToRegisters, copied}
-use Rattle.interp_defs.specs.Match.{PortsAreIdle, IsFetched}
-use Rattle.sim_view.specs.View.{View, view}
-use Rattle.sim_view.specs.Exits.{Exit, Exits, Comes}
-use Rattle.sim_view.proofs.Compose.{comes, comes_on, comes_as}
-use Rattle.sim_operands.specs.Pieces.{exit}
-use Rattle.sim_rows.specs.Results.{Changed, SeesFinished, EndsRow}
-use Rattle.sim_rows.proofs.Again.{idle_again, fetched_again}
-use Rattle.sim_rows.proofs.Fronting.{space_small}
+use Rattle.sim_rows.proofs.Common.{Changed, Changes, Comes, comes, comes_as, comes_on, copied, COPY, EndsRow, Exit, exit, Exits, fetched_again, From}
+use Rattle.sim_rows.proofs.Common.{FromGrom, FromMemory, GSTEP, idle_again, IsFetched, MachineState, Place, PortsAreIdle, RESUME, SeesFinished, SHOW}
+use Rattle.sim_rows.proofs.Common.{space_small, To, ToMemory, ToRegisters, View, view, with_pc}
 use Rattle.sim_jumps.specs.Jumps.{ResumesRow}
-use Rattle.sim_copy.specs.Pieces as pieces
-use Rattle.sim_copy.specs.Copying.{InMemory, InGrom, StandsFrom, StandsTo, Copying, CopiesBytes}
+use Rattle.sim_copy.specs.Copying.{CopiesBytes, Copying, InGrom, InMemory, StandsFrom, StandsTo}
 use Rattle.sim_copy.specs.Bytes.{AtCopy, CopiesRest, EndsCopy}
+use Rattle.sim_copy.specs.Pieces as pieces
 
 -- ---- the end
 
 -- where it goes on, by the space of the source
 abbrev behind : ℕ → ℕ
-behind space = if space == 2 then 0x26DC else 0x247A
+behind space = if space == 2 then RESUME else SHOW
 
 ends : (v : View) → v.r.r12 ≡ 0 → pieces.next_byte v ≡ exit 5 (behind v.r.r5) v
 ends v none = let c : (v.r.r12 == 0) ≡ true = eq-eqb v.r.r12 0 none in rw (c, pieces.next_byte) refl
 
-near_end : (v : View) (place : Place) (c : Changes) → InMemory c place v → behind v.r.r5 ≡ 0x247A
+near_end : (v : View) (place : Place) (c : Changes) → InMemory c place v → behind v.r.r5 ≡ SHOW
 near_end v place c f =
     let small : v.r.r5 < 2 = space_small place.space v.r.r5 f.loads_from.space in
-    ap (λ b. if b then 0x26DC else 0x247A) (ne_eqb v.r.r5 2 (λ e. omega arith))
+    ap (λ b. if b then RESUME else SHOW) (ne_eqb v.r.r5 2 (λ e. omega arith))
 
-far_end : (v : View) (address : ℕ) (c : Changes) → InGrom c address v → behind v.r.r5 ≡ 0x26DC
+far_end : (v : View) (address : ℕ) (c : Changes) → InGrom c address v → behind v.r.r5 ≡ RESUME
 far_end v address c f = ap behind f.space
 
-module _ (x a : MachineState) (t t1 : ℕ) (h : AtCopy x) (none : (view x).r.r12 ≡ 0) (e : Exits x a t t1 (pieces.next_byte (view x))) where
+module _ {x a : MachineState} {t t1 : ℕ} (h : AtCopy x) (none : (view x).r.r12 ≡ 0) (e : Exits x a t t1 (pieces.next_byte (view x))) where
   abbrev v : View
   v = view x
 
@@ -50,32 +40,35 @@ module _ (x a : MachineState) (t t1 : ℕ) (h : AtCopy x) (none : (view x).r.r12
   led to is = comes went (record { within = omega arith; to_is = is; holds = refl })
 
   module _ (y : MachineState) (t2 : ℕ) where
-    pub ends_memory : a.cpu.pc ≡ 0x247A → EndsRow a y t1 t2 → EndsCopy x y t t2
+    pub ends_memory : a.cpu.pc ≡ SHOW → EndsRow a y t1 t2 → EndsCopy x y t t2
     ends_memory here row c k = by k.from k.copying.stands_from
       where
-        by : (from : From) → StandsFrom c from v → Comes 41 x y t t2 0x228C (SeesFinished c)
+        by : (from : From) → StandsFrom c from v → Comes 41 x y t t2 GSTEP (SeesFinished c)
         by (FromMemory place) f =
             let q = k.copying in
-            let changed : Changed c (view a) = subst (λ (u : View). Changed c u) (sym went.shows) (record { cells = q.cells; vdp = q.vdp; registers = q.registers; held = q.held; grom = f.grom; mark = q.mark }) in
-            comes_as 41 (SeesFinished c) (comes_on 5 29 (led 0x247A (near_end v place c f)) (row c changed) refl) (omega arith) (λ w q. q)
+            let changed : Changed c (view a) = subst (λ (u : View). Changed c u) (sym went.shows)
+            (record { cells = q.cells; vdp = q.vdp; registers = q.registers; held = q.held; grom = f.grom; mark = q.mark }) in
+            comes_as 41 (SeesFinished c) (comes_on 5 29 (led SHOW (near_end v place c f)) (row c changed) refl) (omega arith) (λ w q. q)
         by (FromGrom address) f = absurd (let p = went.stands.pc in let r = far_end v address c f in omega arith)
 
-    pub ends_grom : (a.cpu.pc ≡ 0x247A → ⊥) → ResumesRow a y t1 t2 → EndsCopy x y t t2
+    pub ends_grom : (a.cpu.pc ≡ SHOW → ⊥) → ResumesRow a y t1 t2 → EndsCopy x y t t2
     ends_grom elsewhere row c k = by k.from k.copying.stands_from
       where
-        by : (from : From) → StandsFrom c from v → Comes 41 x y t t2 0x228C (SeesFinished c)
+        by : (from : From) → StandsFrom c from v → Comes 41 x y t t2 GSTEP (SeesFinished c)
         by (FromMemory place) f = absurd (elsewhere (went.stands.pc ∙ near_end v place c f))
         by (FromGrom address) f =
             let q = k.copying in
             let changed : Changed (with_pc address c) (view a) =
-            subst (λ (u : View). Changed (with_pc address c) u) (sym went.shows) (record { cells = q.cells; vdp = q.vdp; registers = q.registers; held = q.held; grom = f.grom; mark = q.mark }) in
+            subst (λ (u : View). Changed (with_pc address c) u) (sym went.shows)
+            (record { cells = q.cells; vdp = q.vdp; registers = q.registers; held = q.held; grom = f.grom; mark = q.mark }) in
             let back : (view a).r.r14 ≡ c.state.pc = ap (λ (u : View). u.r.r14) went.shows ∙ f.back in
-            comes_on 5 36 (led 0x26DC (far_end v address c f)) (row c address changed back) refl
+            comes_on 5 36 (led RESUME (far_end v address c f)) (row c address changed back) refl
 
 -- ---- the beginning
 
-module _ (x a : MachineState) (t t1 : ℕ) (e : Exits x a t t1 (pieces.begin_copy (view x))) where
-  pub at_copy : PortsAreIdle x.cpu.memory → IsFetched x.cpu.memory.grom → (let r = (view x).r in r.r5 ≡ 0 → r.r2 + r.r12 ≤ 0xC2) → (let r = (view x).r in r.r8 ≡ 0 → r.r7 + r.r12 ≤ 0xC2) →
+module _ {x a : MachineState} {t t1 : ℕ} (e : Exits x a t t1 (pieces.begin_copy (view x))) where
+  pub at_copy : PortsAreIdle x.cpu.memory → IsFetched x.cpu.memory.grom → (let r = (view x).r in r.r5 ≡ 0 → r.r2 + r.r12 ≤ 0xC2) →
+      (let r = (view x).r in r.r8 ≡ 0 → r.r7 + r.r12 ≤ 0xC2) →
       (let r = (view x).r in 1 < r.r8 → r.r7 + r.r12 ≤ 8) → AtCopy a
   at_copy idle fetched source target registers = record {
     stands = e.stands;
@@ -108,6 +101,6 @@ module _ (x a : MachineState) (t t1 : ℕ) (e : Exits x a t t1 (pieces.begin_cop
         left = k.left;
       }) in
       let whole : Changes = copied bytes from to c in
-      let c1 : Comes 1 x a t t1 0x27D4 (λ u. u ≡ (pieces.begin_copy (view x)).left) = comes e (record { within = omega arith; to_is = refl; holds = refl }) in
+      let c1 : Comes 1 x a t t1 COPY (λ u. u ≡ (pieces.begin_copy (view x)).left) = comes e (record { within = omega arith; to_is = refl; holds = refl }) in
       let c2 = comes_on 1 (42 * bytes) c1 (rest c from to bytes begun) refl in
       comes_as (42 * bytes + 42) (SeesFinished whole) (comes_on (1 + 42 * bytes) 41 c2 (end whole c2.holds) refl) (omega arith) (λ w q. q)

@@ -1,17 +1,9 @@
 -- One byte of the copy of MOVE, the bytes that are left, and the end.
-use Rattle.std.specs.Prelude.{◌≡◌, ◌≤◌, ◌<◌, ℕ, ◌+◌, ◌*◌, nat_lt, if◌then◌else◌}
-use Rattle.console_defs.specs.Flags.{Word, sum_of, difference_of}
-use Rattle.console_defs.specs.Grom.{GromState, next_in_grom}
-use Rattle.console_defs.specs.Machine.{MachineState}
-use Rattle.step_defs.specs.declared.cells.TheConstants.{VISIBLE_CELLS}
-use Rattle.step_defs.specs.Changes.{Changes, unchanged}
-use Rattle.step_defs.specs.Copy.{From, FromMemory, FromGrom, To, ToMemory, ToRegisters, byte_from, with_byte_to, copied}
-use Rattle.interp_defs.specs.Match.{PortsAreIdle, IsFetched}
-use Rattle.native_interp.specs.declared.addresses.TheConstants.{GSTEP, COPY}
-use Rattle.sim_view.specs.View.{View, view, Stands}
-use Rattle.sim_view.specs.Exits.{Comes}
-use Rattle.sim_operands.specs.Subroutines.{grom_at, state_of, next_at, place_in, marked_by}
-use Rattle.sim_rows.specs.Results.{SeesFinished}
+use Rattle.std.specs.Prelude.{ℕ, ◌*◌, ◌+◌, ◌<◌, ◌≡◌, ◌≤◌, if◌then◌else◌, nat_lt}
+use Rattle.sim_rows.specs.Prelude.{byte_from, Changes, Comes, copied, COPY, difference_of, From, FromGrom, FromMemory}
+use Rattle.sim_rows.specs.Prelude.{grom_at, GromState, GSTEP, IsFetched, MachineState, marked_by, next_at}
+use Rattle.sim_rows.specs.Prelude.{next_in_grom, place_in, PortsAreIdle, SeesFinished, Stands, state_of, sum_of, To}
+use Rattle.sim_rows.specs.Prelude.{ToMemory, ToRegisters, unchanged, View, view, VISIBLE_CELLS, with_byte_to, Word}
 use Rattle.sim_copy.specs.Copying.{Copying}
 
 -- At COPY: bytes are loaded and stored, and as many as are left may be.

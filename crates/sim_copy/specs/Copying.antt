@@ -1,15 +1,8 @@
 -- The copy of MOVE, for all sources, targets and numbers of bytes that may be there.
-use Rattle.std.specs.Prelude.{◌≡◌, ℕ, ◌+◌, ◌*◌, None}
-use Rattle.console_defs.specs.Machine.{MachineState}
-use Rattle.step_defs.specs.Place.{Place}
-use Rattle.step_defs.specs.Changes.{Changes}
-use Rattle.step_defs.specs.Copy.{From, FromMemory, FromGrom, To, ToMemory, ToRegisters, copied}
-use Rattle.native_interp.specs.declared.addresses.TheConstants.{GSTEP}
-use Rattle.sim_view.specs.View.{View, view}
-use Rattle.sim_view.specs.Exits.{Comes}
-use Rattle.sim_operands.specs.Subroutines.{grom_at, marked_by}
-use Rattle.sim_rows.specs.Rows.{LoadsFrom, StoresTo}
-use Rattle.sim_rows.specs.Results.{SeesFinished}
+use Rattle.std.specs.Prelude.{ℕ, ◌*◌, ◌+◌, ◌≡◌, None}
+use Rattle.sim_rows.specs.Prelude.{Changes, Comes, copied, From, FromGrom, FromMemory, grom_at, GSTEP, LoadsFrom}
+use Rattle.sim_rows.specs.Prelude.{MachineState, marked_by, Place, SeesFinished, StoresTo, To, ToMemory, ToRegisters}
+use Rattle.sim_rows.specs.Prelude.{View, view}
 
 -- A source in memory: its place is in registers 2 and 5, and GROM gives the byte of the next instruction.
 pub record InMemory (c : Changes) (place : Place) (w : View) : Type 0 where

@@ -1,11 +1,8 @@
 -- What the pieces of MOVE's copy come to: how many instructions they have, where they end, and what they change of the
 -- view, in the words of the processor. Registers, cells and ports that are not named stay.
 use Rattle.std.specs.Prelude.{◌==◌, if◌then◌else◌}
-use Rattle.console_defs.specs.Flags.{Word, sum_of, difference_of}
-use Rattle.native_interp.specs.declared.addresses.TheConstants.{COPY, COPYS, COPYN, LOAD, STORE, SHOW, RESUME}
-use Rattle.sim_view.specs.View.{View}
-use Rattle.sim_view.specs.Exits.{Exit}
-use Rattle.sim_operands.specs.Pieces.{exit}
+use Rattle.sim_rows.specs.Prelude.{COPY, COPYN, COPYS, difference_of, Exit, exit, LOAD, RESUME, SHOW, STORE, sum_of}
+use Rattle.sim_rows.specs.Prelude.{View, Word}
 
 -- MOVEB: bytes are loaded and stored.
 abbrev pub begin_copy : View → Exit

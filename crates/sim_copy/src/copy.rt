@@ -1,21 +1,18 @@
 //! The copy, from its beginning to the end of the step.
 
-ghost use Rattle.std.specs.Prelude.{◌≡◌, ◌≤◌, ◌<◌, ◌+◌};
-ghost use Rattle.step_defs.specs.declared.cells.TheConstants.{VISIBLE_CELLS};
-ghost use Rattle.native_interp.specs.declared.addresses.TheConstants as address;
-ghost use Rattle.interp_defs.specs.Match.{PortsAreIdle, IsFetched};
-ghost use Rattle.sim_view.specs.View.{view, Stands};
-ghost use Rattle.sim_copy.specs.Copying.{CopiesBytes};
+ghost use Rattle.std.specs.Prelude.{◌+◌, ◌<◌, ◌≡◌, ◌≤◌};
+ghost use Rattle.sim_rows.specs.Prelude.{IsFetched, PortsAreIdle, Stands, view, VISIBLE_CELLS};
 ghost use Rattle.sim_copy.specs.Bytes.{AtCopy, CopiesByte, CopiesRest, EndsCopy};
+ghost use Rattle.sim_copy.specs.Copying.{CopiesBytes};
+ghost use Rattle.sim_rows.specs.native_interp.declared.addresses.TheConstants as address;
 
-use crate::piece::{begin_copy, count_byte, next_byte, store_byte};
-use native_interp::SHOW;
+use crate::pieces::{begin_copy, count_byte, next_byte, store_byte};
 use sim_jumps::resume_row;
-use sim_operands::{run_load, run_store};
-use sim_rows::end_row;
-use sim_view::register;
+use sim_rows::labels::SHOW;
+use sim_rows::processor::{Machine, Steps};
+use sim_rows::subroutines::{run_load, run_store};
+use sim_rows::{end_row, register};
 use std::sync::ledger::Ledger;
-use tms_step::{Machine, Steps};
 
 /// Copies a byte of those that are left.
 fn copy_byte<L: Ledger>(machine: &mut Machine, steps: &mut Steps<L>)

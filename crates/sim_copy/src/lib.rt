@@ -3,7 +3,7 @@
 #![tactic(auto)]
 
 mod copy;
-mod piece;
+mod pieces;
 
 pub use copy::copy_bytes;
-pub use piece::{begin_copy, count_byte, next_byte, store_byte};
+pub use pieces::{begin_copy, count_byte, next_byte, store_byte};

@@ -1,35 +1,14 @@
 -- BR and BS from their dispatch to the end of the step.
-use Rattle.std.proofs.Common.{◌≡◌, ℕ, ◌%◌, ◌<◌, ◌≤◌, Bool, true, false, refl, ap, subst, ◌∙◌, arith, List, Some, Ok}
-use Rattle.std.specs.Prelude.{if◌then◌else◌, slice_index, slice_set}
-use Rattle.console_defs.specs.Words.{low, join}
-use Rattle.console_defs.specs.Flags.{Byte}
-use Rattle.console_defs.specs.Logic.{ones_cleared}
-use Rattle.console_defs.specs.Status.{is_set}
-use Rattle.console_defs.specs.Shifts.{shifted, last_out}
-use Rattle.console_defs.specs.declared.instruction.ShiftOp.TheVariants.{SRL, SLA}
-use Rattle.console_defs.specs.Grom.{GromState, next_in_grom}
-use Rattle.console_defs.specs.Machine.{MachineState}
-use Rattle.gpl_defs.specs.declared.instruction.GplOperation.TheVariants.{Branch}
-use Rattle.step_defs.specs.State.{GplState}
-use Rattle.step_defs.specs.Changes.{Changes, unchanged, finished, condition, with_condition}
-use Rattle.step_defs.specs.Flow.{in_grom_of, is_taken, branched}
-use Rattle.step_defs.specs.Run.{bound}
-use Rattle.interp_defs.specs.declared.turn.Turn.TheVariants.{Stepped}
-use Rattle.interp_defs.specs.Runs.{is_end}
-use Rattle.interp_defs.specs.Turned.{Turned}
-use Rattle.sim_view.specs.View.{View, view, Stands}
-use Rattle.sim_view.specs.Exits.{Exits, Comes}
-use Rattle.sim_view.proofs.Bridge.{IsView, is_view}
-use Rattle.sim_view.proofs.Compose.{Goes, comes, comes_then, comes_on}
-use Rattle.sim_operands.specs.Pieces.{past}
-use Rattle.sim_rows.specs.States.{Sees, Dispatched, code_byte, operation_in, behind_code}
-use Rattle.sim_rows.specs.Results.{SeesFinished}
-use Rattle.sim_rows.proofs.Steps.{step_branch, bound_made}
-use Rattle.sim_rows.proofs.Ends.{matches, reaches, turned_by}
+use Rattle.std.proofs.Common.{ℕ, ◌%◌, ◌<◌, ◌∙◌, ◌≡◌, ◌≤◌, ap, arith, Bool, false, if◌then◌else◌, List, Ok, refl, slice_index, slice_set, Some, subst, true}
+use Rattle.sim_rows.proofs.Common.{behind_code, bound, bound_made, Branch, BRANCH, branched, BTEST, Byte, CFALSE, Changes, code_byte, Comes, comes, comes_on}
+use Rattle.sim_rows.proofs.Common.{comes_then, condition, Dispatched, Exits, finished, Goes, GplState, GromState, GSTEP, in_grom_of, is_end, is_set, is_taken}
+use Rattle.sim_rows.proofs.Common.{is_view, IsView, join, last_out, low, MachineState, matches, next_in_grom, ones_cleared, operation_in, past, reaches, Sees}
+use Rattle.sim_rows.proofs.Common.{SeesFinished, shifted, SLA, SRL, Stands, step_branch, Stepped, TAKE, Turned, turned_by, unchanged, View, view}
+use Rattle.sim_rows.proofs.Common.{with_condition}
 use Rattle.sim_jumps.specs.Jumps.{TakesBranch}
 use Rattle.sim_compare.specs.Pieces as compare
+use Rattle.sim_flow.proofs.Numbers.{condition_out, on_is, target_is}
 use Rattle.sim_flow.specs.Pieces as pieces
-use Rattle.sim_flow.proofs.Numbers.{target_is, on_is, condition_out}
 
 -- the address behind the instruction, and the target
 abbrev behind : GplState → ℕ
@@ -54,7 +33,7 @@ made_of v byte code address =
     let w : View = record v { r = record v.r { r0 = code; r1 = address }; grom = record v.grom { fetched = byte } } in
     (pieces.find_target w).left.r.r6
 
-targets : (s : GplState) (v : View) → Dispatched s v → IsView v → slice_index s.image (behind_code s) < 256 → Goes (pieces.find_target v) 10 0x2646 (Targeted s)
+targets : (s : GplState) (v : View) → Dispatched s v → IsView v → slice_index s.image (behind_code s) < 256 → Goes (pieces.find_target v) 10 BTEST (Targeted s)
 targets s v d i byte =
     let h = d.sees in
     let fetched : v.grom.fetched ≡ slice_index s.image (behind_code s) = ap (λ (g : GromState). g.fetched) h.grom in
@@ -75,14 +54,14 @@ targets s v d i byte =
 
 -- where the test leads
 abbrev pub end_of : Bool → ℕ
-end_of true = 0x265E
-end_of false = 0x2624
+end_of true = TAKE
+end_of false = CFALSE
 
-pub taken_at : (taken : Bool) (pc : ℕ) → pc ≡ end_of taken → pc ≡ 0x265E → taken ≡ true
+pub taken_at : (taken : Bool) (pc : ℕ) → pc ≡ end_of taken → pc ≡ TAKE → taken ≡ true
 taken_at true pc e f = refl
 taken_at false pc e f = absurd (omega arith)
 
-pub passed_at : (taken : Bool) (pc : ℕ) → pc ≡ end_of taken → (pc ≡ 0x265E → ⊥) → taken ≡ false
+pub passed_at : (taken : Bool) (pc : ℕ) → pc ≡ end_of taken → (pc ≡ TAKE → ⊥) → taken ≡ false
 passed_at true pc e f = absurd (f e)
 passed_at false pc e f = refl
 
@@ -127,15 +106,15 @@ changed_by s taken = with_condition false (if taken then unchanged (record s { p
 abbrev status_cleared : List ℕ → List ℕ
 status_cleared cells = slice_set cells 0x7C (ones_cleared Byte (slice_index cells 0x7C) 0x20)
 
-passes : (s : GplState) (w : View) → Sees s (behind s) w → Goes (compare.clear_condition w) 3 0x228C (SeesFinished (changed_by s false))
+passes : (s : GplState) (w : View) → Sees s (behind s) w → Goes (compare.clear_condition w) 3 GSTEP (SeesFinished (changed_by s false))
 passes s w h = record {
   within = omega arith;
   to_is = refl;
   holds = record { cells = ap status_cleared h.cells; vdp = h.vdp; registers = h.registers; held = h.held; grom = h.grom };
 }
 
-module _ (s : GplState) (x a b : MachineState) (t t1 t2 : ℕ) (on : Bool) (is : operation_in s ≡ Some (Branch on))
-    (stands : Stands x 0x2630) (d : Dispatched s (view x))
+module _ (s : GplState) {x a b : MachineState} {t t1 t2 : ℕ} (on : Bool) (is : operation_in s ≡ Some (Branch on))
+    (stands : Stands x BRANCH) (d : Dispatched s (view x))
     (e1 : Exits x a t t1 (pieces.find_target (view x))) (e2 : Exits a b t1 t2 (pieces.test_branch (view a))) where
   abbrev taken : Bool
   taken = is_taken on (condition s)
@@ -149,7 +128,7 @@ module _ (s : GplState) (x a b : MachineState) (t t1 t2 : ℕ) (on : Bool) (is :
   code_fits : code_byte s < 256
   code_fits = subst (λ (l : List ℕ). slice_index l s.pc < 256) (ap (λ (g : GromState). g.image) d.sees.grom) (bounds.grom.image.fits s.pc)
 
-  at_test : Comes 10 x a t t1 0x2646 (Targeted s)
+  at_test : Comes 10 x a t t1 BTEST (Targeted s)
   at_test = comes e1 (targets s (view x) d bounds image_fits)
 
   tested : Comes 17 x b t t2 (end_of taken) (Tested s)
@@ -159,7 +138,7 @@ module _ (s : GplState) (x a b : MachineState) (t t1 t2 : ℕ) (on : Bool) (is :
       let holds = condition_is s (view a) h.sees (is_view a at_test.stands.machine) in
       comes_then 10 7 at_test e2 (tested_by s (view a) on (condition s) h bit holds) refl
 
-  turns : (y : MachineState) (t3 most : ℕ) (c : Bool) → taken ≡ c → Comes most x y t t3 0x228C (SeesFinished (changed_by s c)) → most ≤ 26 →
+  turns : (y : MachineState) (t3 most : ℕ) (c : Bool) → taken ≡ c → Comes most x y t t3 GSTEP (SeesFinished (changed_by s c)) → most ≤ 26 →
       Turned s 29 x y t t3 Stepped
   turns y t3 most c e run le =
       let same : changed s on ≡ changed_by s c = ap (changed_by s) e in
@@ -168,7 +147,7 @@ module _ (s : GplState) (x a b : MachineState) (t t1 t2 : ℕ) (on : Bool) (is :
       turned_by x y t t3 29 Stepped s (Ok (finished (changed_by s c))) step_is
       (refl, reaches 29 (bound s) run (ap is_end stands.pc) refl (omega arith), matches (finished (changed_by s c)) y run.stands run.holds)
 
-  pub takes : (y : MachineState) (t3 : ℕ) → b.cpu.pc ≡ 0x265E → TakesBranch b y t2 t3 → Turned s 29 x y t t3 Stepped
+  pub takes : (y : MachineState) (t3 : ℕ) → b.cpu.pc ≡ TAKE → TakesBranch b y t2 t3 → Turned s 29 x y t t3 Stepped
   takes y t3 here goes =
       let is_true = taken_at taken b.cpu.pc tested.stands.pc here in
       let h = tested.holds in
@@ -176,13 +155,13 @@ module _ (s : GplState) (x a b : MachineState) (t t1 t2 : ℕ) (on : Bool) (is :
       record { cells = h.sees.cells; vdp = h.sees.vdp; registers = h.sees.registers; held = h.sees.held; grom = h.sees.grom } in
       turns y t3 26 true is_true (comes_on 17 9 tested (goes (record s { pc = target s }) (behind s) seen h.to) (goes_on taken)) (omega arith)
 
-  pub passes_on : (y : MachineState) (t3 : ℕ) → (b.cpu.pc ≡ 0x265E → ⊥) → Exits b y t2 t3 (compare.clear_condition (view b)) → Turned s 29 x y t t3 Stepped
+  pub passes_on : (y : MachineState) (t3 : ℕ) → (b.cpu.pc ≡ TAKE → ⊥) → Exits b y t2 t3 (compare.clear_condition (view b)) → Turned s 29 x y t t3 Stepped
   passes_on y t3 elsewhere e3 =
       let is_false = passed_at taken b.cpu.pc tested.stands.pc elsewhere in
       turns y t3 20 false is_false (comes_then 17 3 tested e3 (passes s (view b) tested.holds.sees) (goes_on taken)) (omega arith)
 
-  pub stands_taken : b.cpu.pc ≡ 0x265E → Stands b 0x265E
+  pub stands_taken : b.cpu.pc ≡ TAKE → Stands b TAKE
   stands_taken here = subst (λ (c : Bool). Stands b (end_of c)) (taken_at taken b.cpu.pc tested.stands.pc here) tested.stands
 
-  pub stands_passed : (b.cpu.pc ≡ 0x265E → ⊥) → Stands b 0x2624
+  pub stands_passed : (b.cpu.pc ≡ TAKE → ⊥) → Stands b CFALSE
   stands_passed elsewhere = subst (λ (c : Bool). Stands b (end_of c)) (passed_at taken b.cpu.pc tested.stands.pc elsewhere) tested.stands

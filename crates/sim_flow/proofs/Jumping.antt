@@ -1,37 +1,21 @@
 -- EXIT and B.
-use Rattle.std.proofs.Common.{◌≡◌, ℕ, refl, ap, subst, arith, Some, Ok, Err}
-use Rattle.console_defs.specs.Grom.{GromState}
-use Rattle.console_defs.specs.Machine.{MachineState}
-use Rattle.gpl_defs.specs.declared.instruction.PlainOp.TheVariants.{EXIT}
-use Rattle.gpl_defs.specs.declared.instruction.GoOp.TheVariants.{B}
-use Rattle.gpl_defs.specs.declared.instruction.GplOperation.TheVariants.{Plain, Jump}
-use Rattle.gpl_defs.specs.Reading.{word_at}
-use Rattle.step_defs.specs.declared.reason.Reason.TheVariants.{Exit}
-use Rattle.step_defs.specs.State.{GplState}
-use Rattle.step_defs.specs.Run.{bound}
-use Rattle.interp_defs.specs.declared.turn.Turn.TheVariants.{Stepped, Stopped}
-use Rattle.interp_defs.specs.Runs.{is_end}
-use Rattle.interp_defs.specs.Turned.{Turned}
-use Rattle.sim_view.specs.View.{View, view, Stands}
-use Rattle.sim_view.specs.Exits.{Exits, Exit as Ending}
-use Rattle.sim_view.proofs.Compose.{Goes, comes, comes_then, comes_on}
-use Rattle.sim_operands.specs.Pieces as operands
-use Rattle.sim_operands.specs.Pieces.{exit}
-use Rattle.sim_operands.specs.Subroutines.{grom_at}
-use Rattle.sim_rows.specs.States.{Sees, Dispatched, operation_in, behind_code, Ended}
-use Rattle.sim_rows.proofs.Beginning.{just, from, known}
-use Rattle.sim_rows.proofs.Steps.{step_plain, step_jump, bound_stop, bound_made}
-use Rattle.sim_rows.proofs.Ends.{matches, leaves, reaches, turned_by}
+use Rattle.std.proofs.Common.{ℕ, ◌≡◌, ap, arith, Err, Ok, refl, Some, subst}
+use Rattle.sim_rows.proofs.Common.{B, behind_code, bound, bound_made, bound_stop, comes, comes_on, comes_then, Dispatched, Ended, EXIT, exit, Exit as Ending}
+use Rattle.sim_rows.proofs.Common.{Exits, from, GEXIT, GOB, Goes, GOEXIT, GOTO, GplState, grom_at, GromState, is_end, Jump, just, known, leaves, MachineState}
+use Rattle.sim_rows.proofs.Common.{matches, operation_in, Plain, reaches, Sees, Stands, step_jump, step_plain, Stepped, Stopped, STREAM, Turned, turned_by}
+use Rattle.sim_rows.proofs.Common.{View, view, word_at}
+use Rattle.sim_rows.specs.step_defs.declared.reason.Reason.TheVariants.{Exit}
 use Rattle.sim_jumps.specs.Jumps.{GoesOn}
+use Rattle.sim_rows.specs.sim_operands.Pieces as operands
 use Rattle.sim_flow.specs.Pieces as pieces
 
 -- EXIT
-pub exits : (s : GplState) (x y : MachineState) (t u : ℕ) → Dispatched s (view x) → operation_in s ≡ Some (Plain EXIT) → Stands x 0x24C0 →
+pub exits : (s : GplState) (x y : MachineState) (t u : ℕ) → Dispatched s (view x) → operation_in s ≡ Some (Plain EXIT) → Stands x GOEXIT →
     Exits x y t u (pieces.leave (view x)) → Turned s 29 x y t u (Stopped Exit)
 exits s x y t u d e stands run =
     let is = step_plain s EXIT e in
     let h = d.sees in
-    let ended : Goes (pieces.leave (view x)) 1 0x22BA (Ended s) = record {
+    let ended : Goes (pieces.leave (view x)) 1 GEXIT (Ended s) = record {
       within = omega arith;
       to_is = refl;
       holds = record { cells = h.cells; vdp = h.vdp; registers = h.registers; address = d.address };
@@ -58,7 +42,7 @@ module _ (s : GplState) (v : View) (d : Dispatched s v) where
   abbrev streamed : View
   streamed = record asked { r = record asked.r { r6 = target }; grom = grom_at s.image behind }
 
-  stream_is : operands.stream asked ≡ exit 8 0x24B8 streamed
+  stream_is : operands.stream asked ≡ exit 8 GOTO streamed
   stream_is =
       let at : GromState → Ending = λ g. operands.stream (record asked { grom = g }) in
       ap at d.sees.grom
@@ -71,11 +55,11 @@ module _ (s : GplState) (v : View) (d : Dispatched s v) where
     sees : Sees next behind w
     to : w.r.r6 ≡ target
 
-  pub jumps : (x a b y : MachineState) (t t1 t2 t3 : ℕ) → view x ≡ v → operation_in s ≡ Some (Jump B) → Stands x 0x24B0 →
+  pub jumps : (x a b y : MachineState) (t t1 t2 t3 : ℕ) → view x ≡ v → operation_in s ≡ Some (Jump B) → Stands x GOB →
       Exits x a t t1 (pieces.ask_target (view x)) → Exits a b t1 t2 (operands.stream (view a)) → GoesOn b y t2 t3 → Turned s 29 x y t t3 Stepped
   jumps x a b y t t1 t2 t3 is e stands e1 e2 goes =
-      let c1 = comes e1 (from pieces.ask_target is (just (pieces.ask_target v) 2 0x23AC (omega arith) refl)) in
-      let at : Goes (exit 8 0x24B8 streamed) 8 0x24B8 AtTarget = record { within = omega arith; to_is = refl; holds = record { sees = seen; to = refl } } in
+      let c1 = comes e1 (from pieces.ask_target is (just (pieces.ask_target v) 2 STREAM (omega arith) refl)) in
+      let at : Goes (exit 8 GOTO streamed) 8 GOTO AtTarget = record { within = omega arith; to_is = refl; holds = record { sees = seen; to = refl } } in
       let c2 = comes_then 2 8 c1 e2 (from operands.stream c1.holds (known stream_is at)) refl in
       let c3 = comes_on 10 6 c2 (goes next behind c2.holds.sees c2.holds.to) refl in
       let step_is = step_jump s B e in
@@ -84,5 +68,5 @@ module _ (s : GplState) (v : View) (d : Dispatched s v) where
       (refl, reaches 29 (bound s) c3 (ap is_end stands.pc) refl (omega arith), matches next y c3.stands c3.holds)
 
 -- STREAM returns to GOTO
-pub at_goto : (x a b : MachineState) (t t1 t2 : ℕ) → Exits x a t t1 (pieces.ask_target (view x)) → Exits a b t1 t2 (operands.stream (view a)) → Stands b 0x24B8
+pub at_goto : (x a b : MachineState) (t t1 t2 : ℕ) → Exits x a t t1 (pieces.ask_target (view x)) → Exits a b t1 t2 (operands.stream (view a)) → Stands b GOTO
 at_goto x a b t t1 t2 e1 e2 = subst (λ (p : ℕ). Stands b p) (ap (λ (w : View). (operands.stream w).to) e1.shows) e2.stands

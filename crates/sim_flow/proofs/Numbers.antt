@@ -1,18 +1,8 @@
 -- Facts about numbers that the instructions which go on elsewhere need.
-use Rattle.std.proofs.Common.{◌≡◌, ℕ, ◌*◌, ◌/◌, ◌%◌, ◌<◌, Bool, true, false, refl, sym, ap, ◌∙◌, arith, eqb, Option, Some}
-use Rattle.std.specs.Prelude.{◌==◌, if◌then◌else◌}
+use Rattle.std.proofs.Common.{ℕ, ◌%◌, ◌*◌, ◌/◌, ◌<◌, ◌==◌, ◌∙◌, ◌≡◌, ap, arith, Bool, eqb, false, if◌then◌else◌, Option, refl, Some, sym, true}
 use Rattle.std.proofs.lemmas.Bool.{agree_below_at}
-use Rattle.console_defs.specs.Words.{low, join, plus}
-use Rattle.console_defs.specs.Flags.{Width, Byte, Word, size_of, sum_of}
-use Rattle.console_defs.specs.Status.{is_set}
-use Rattle.console_defs.specs.Grom.{next_in_grom}
-use Rattle.console_defs.specs.Shifts.{shifted, last_out}
-use Rattle.console_defs.specs.declared.instruction.ShiftOp.TheVariants.{SRL, SLA}
-use Rattle.gpl_defs.specs.declared.instruction.GplOperation.{GplOperation}
-use Rattle.gpl_defs.specs.declared.instruction.GplOperation.TheVariants.{Branch}
-use Rattle.gpl_defs.specs.Codes.{operation_at}
-use Rattle.step_defs.specs.Flow.{in_grom_of}
-use Rattle.sim_operands.specs.Values.{in_register}
+use Rattle.sim_rows.proofs.Common.{Branch, Byte, GplOperation, in_grom_of, in_register, is_set, join, last_out, low, next_in_grom, operation_at, plus}
+use Rattle.sim_rows.proofs.Common.{shifted, size_of, SLA, SRL, sum_of, Width, Word}
 
 -- ---- the target of BR and BS
 

@@ -1,28 +1,23 @@
 -- The runs of the pieces on the view.
-use Rattle.std.proofs.Common.{ℕ, refl, [], ◌∷◌}
-use Rattle.std.specs.Prelude.{◌==◌, slice_index}
-use Rattle.console_defs.specs.Words.{low, join}
-use Rattle.console_defs.specs.Shifts.{shifted, last_out}
-use Rattle.console_defs.specs.declared.instruction.ShiftOp.TheVariants.{SRL, SLA}
-use Rattle.sim_view.specs.View.{View}
-use Rattle.sim_view.proofs.Bridge.{Leads}
-use Rattle.sim_view.proofs.Places.{pick}
+use Rattle.std.proofs.Common.{[], ℕ, ◌==◌, ◌∷◌, refl, slice_index}
+use Rattle.sim_rows.proofs.Common.{BRANCH, BTEST, CASEN, CASET, CASEV, CFALSE, GOB, GOEXIT, join, last_out, Leads, low, pick, SEEK, shifted, SLA, SRL, STREAM}
+use Rattle.sim_rows.proofs.Common.{TAKE, View, WHERE}
 use Rattle.sim_flow.specs.Pieces as pieces
 
-pub leave : (v : View) → Leads [] v 0x24C0 (pieces.leave v)
+pub leave : (v : View) → Leads [] v GOEXIT (pieces.leave v)
 leave v = record { by = λ f q. refl }
 
-pub ask_target : (v : View) → Leads (0x23AC ∷ []) v 0x24B0 (pieces.ask_target v)
+pub ask_target : (v : View) → Leads (STREAM ∷ []) v GOB (pieces.ask_target v)
 ask_target v = record { by = λ f q. refl }
 
-pub find_target : (v : View) → Leads (0x2646 ∷ []) v 0x2630 (pieces.find_target v)
+pub find_target : (v : View) → Leads (BTEST ∷ []) v BRANCH (pieces.find_target v)
 find_target v = record { by = λ f q. refl }
 
 -- the status, above what register 4 has below it
 abbrev status_word : View → ℕ
 status_word v = join (slice_index v.cells 0x7C) (low (shifted SRL v.r.r0 6))
 
-pub test_branch : (v : View) → Leads (0x265E ∷ 0x2624 ∷ []) v 0x2646 (pieces.test_branch v)
+pub test_branch : (v : View) → Leads (TAKE ∷ CFALSE ∷ []) v BTEST (pieces.test_branch v)
 test_branch v = record {
   by = λ f q.
       pick (last_out SRL v.r.r0 6)
@@ -34,7 +29,7 @@ test_branch v = record {
       (λ d. rw (c, d) refl));
 }
 
-pub ask_table : (v : View) → Leads (0x22BC ∷ []) v 0x266A (pieces.ask_table v)
+pub ask_table : (v : View) → Leads (WHERE ∷ []) v CASEV (pieces.ask_table v)
 ask_table v = record {
   by = λ f q.
       pick (v.r.r3 == 1)
@@ -42,8 +37,8 @@ ask_table v = record {
       (λ c. rw c refl);
 }
 
-pub find_branch : (v : View) → Leads (0x22D8 ∷ []) v 0x2676 (pieces.find_branch v)
+pub find_branch : (v : View) → Leads (SEEK ∷ []) v CASEN (pieces.find_branch v)
 find_branch v = record { by = λ f q. refl }
 
-pub go_to_branch : (v : View) → Leads (0x265E ∷ []) v 0x267E (pieces.go_to_branch v)
+pub go_to_branch : (v : View) → Leads (TAKE ∷ []) v CASET (pieces.go_to_branch v)
 go_to_branch v = record { by = λ f q. refl }

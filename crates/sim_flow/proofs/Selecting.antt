@@ -1,41 +1,22 @@
 -- CASE from its row to the end of the step.
-use Rattle.std.proofs.Common.{◌≡◌, ℕ, ◌*◌, ◌<◌, refl, ap, subst, ◌∙◌, arith, Option, Some}
-use Rattle.std.specs.Prelude.{◌==◌}
-use Rattle.console_defs.specs.Words.{plus}
-use Rattle.console_defs.specs.Flags.{Width, Word, size_of, sum_of}
-use Rattle.console_defs.specs.Grom.{GromState}
-use Rattle.console_defs.specs.Machine.{MachineState}
-use Rattle.gpl_defs.specs.declared.instruction.GplOperation.{GplOperation}
-use Rattle.gpl_defs.specs.declared.instruction.GplOperation.TheVariants.{One}
-use Rattle.gpl_defs.specs.declared.instruction.OneName.TheVariants.{CASE}
-use Rattle.step_defs.specs.State.{GplState}
-use Rattle.step_defs.specs.Place.{Place, value_at}
-use Rattle.step_defs.specs.Arithmetic.{Source}
-use Rattle.sim_view.specs.View.{View, view, Stands}
-use Rattle.sim_view.specs.Exits.{Exit, Exits, Comes}
-use Rattle.sim_view.proofs.Bridge.{IsView, is_view}
-use Rattle.sim_view.proofs.Compose.{Goes, comes, comes_then, comes_on}
-use Rattle.sim_operands.specs.Pieces as operands
-use Rattle.sim_operands.specs.Pieces.{exit, return_of}
-use Rattle.sim_operands.specs.Values.{width_in, in_register}
-use Rattle.sim_operands.specs.Subroutines.{grom_at}
-use Rattle.sim_operands.proofs.Ready.{set_is}
-use Rattle.sim_rows.specs.Pieces as rows
-use Rattle.sim_rows.specs.States.{Sees, operation_in}
-use Rattle.sim_rows.specs.Rows.{row_width, next_of, bytes_by, destination_bytes, loaded_of, AtRow}
-use Rattle.sim_rows.specs.Results.{row_result, SeesResult, RunsRow}
-use Rattle.sim_rows.proofs.Beginning.{just, from, known, lost, located_at, where_found}
-use Rattle.sim_rows.proofs.Storing.{width_again}
+use Rattle.std.proofs.Common.{ℕ, ◌*◌, ◌<◌, ◌==◌, ◌∙◌, ◌≡◌, ap, arith, Option, refl, Some, subst}
+use Rattle.sim_rows.proofs.Common.{AtRow, bytes_by, CASE, CASEN, CASET, CASEV, Comes, comes, comes_on, comes_then, destination_bytes, Exit, exit, Exits, from}
+use Rattle.sim_rows.proofs.Common.{Goes, GplOperation, GplState, grom_at, GromState, GSTEP, in_register, is_view, IsView, just, known, loaded_of, located_at}
+use Rattle.sim_rows.proofs.Common.{lost, MachineState, next_of, One, operation_in, Place, plus, return_of, row_result, row_width, RunsRow, SEEK, Sees}
+use Rattle.sim_rows.proofs.Common.{SeesResult, set_is, size_of, Source, Stands, sum_of, TAKE, value_at, View, view, WHERE, where_found, Width, width_again}
+use Rattle.sim_rows.proofs.Common.{width_in, Word}
 use Rattle.sim_jumps.specs.Jumps.{TakesBranch}
+use Rattle.sim_rows.specs.sim_operands.Pieces as operands
+use Rattle.sim_rows.specs.Pieces as rows
+use Rattle.sim_flow.proofs.Numbers.{doubled_is, most_is, number_is, place_fits}
 use Rattle.sim_flow.specs.Pieces as pieces
-use Rattle.sim_flow.proofs.Numbers.{number_is, most_is, place_fits, doubled_is}
 
 -- ---- where the two routines return to
 
-pub at_target : (x a b : MachineState) (t t1 t2 : ℕ) → Exits x a t t1 (pieces.ask_table (view x)) → Exits a b t1 t2 (rows.where_next (view a)) → Stands b 0x2676
+pub at_target : (x a b : MachineState) (t t1 t2 : ℕ) → Exits x a t t1 (pieces.ask_table (view x)) → Exits a b t1 t2 (rows.where_next (view a)) → Stands b CASEN
 at_target x a b t t1 t2 e1 e2 = subst (λ (p : ℕ). Stands b p) (ap return_of e1.shows) e2.stands
 
-pub at_end : (b c d : MachineState) (t2 t3 t4 : ℕ) → Exits b c t2 t3 (pieces.find_branch (view b)) → Exits c d t3 t4 (operands.seek (view c)) → Stands d 0x267E
+pub at_end : (b c d : MachineState) (t2 t3 t4 : ℕ) → Exits b c t2 t3 (pieces.find_branch (view b)) → Exits c d t3 t4 (operands.seek (view c)) → Stands d CASET
 at_end b c d t2 t3 t4 e3 e4 = subst (λ (p : ℕ). Stands d p) (ap return_of e3.shows) e4.stands
 
 -- ---- the number
@@ -70,7 +51,7 @@ module _ (s : GplState) (place : Place) (source : Source) (v : View) (e : operat
   abbrev located : View
   located = located_at asked s.image (next_of s)
 
-  where_is : rows.where_next asked ≡ exit 12 0x2676 located
+  where_is : rows.where_next asked ≡ exit 12 CASEN located
   where_is = where_found asked s.image (next_of s) row.holds.sees.grom fits
 
   abbrev targeted : View
@@ -79,9 +60,9 @@ module _ (s : GplState) (place : Place) (source : Source) (v : View) (e : operat
   abbrev sought : View
   sought = record targeted { r = record targeted.r { r6 = (operands.seek targeted).left.r.r6 }; grom = grom_at s.image (next_of s) }
 
-  seek_is : operands.seek targeted ≡ exit 4 0x267E sought
+  seek_is : operands.seek targeted ≡ exit 4 CASET sought
   seek_is =
-      let at : GromState → Exit = λ g. exit 4 0x267E (record targeted { r = record targeted.r { r6 = (operands.seek targeted).left.r.r6 }; grom = g }) in
+      let at : GromState → Exit = λ g. exit 4 CASET (record targeted { r = record targeted.r { r6 = (operands.seek targeted).left.r.r6 }; grom = g }) in
       ap at (set_is (lost s.image (next_of s)) (next_of s) refl fits)
 
   -- what holds at TAKE
@@ -89,7 +70,7 @@ module _ (s : GplState) (place : Place) (source : Source) (v : View) (e : operat
     sees : Sees taken (next_of s) w
     to : w.r.r6 ≡ target
 
-  ends : Goes (pieces.go_to_branch sought) 2 0x265E AtTarget
+  ends : Goes (pieces.go_to_branch sought) 2 TAKE AtTarget
   ends =
       let h = row.holds.sees in
       record {
@@ -101,21 +82,21 @@ module _ (s : GplState) (place : Place) (source : Source) (v : View) (e : operat
         };
       }
 
-  asks : Goes (pieces.ask_table v) 4 0x22BC (λ w. w ≡ asked)
-  asks = just (pieces.ask_table v) 4 0x22BC (let m = most_is (v.r.r3 == 1) in omega arith) refl
+  asks : Goes (pieces.ask_table v) 4 WHERE (λ w. w ≡ asked)
+  asks = just (pieces.ask_table v) 4 WHERE (let m = most_is (v.r.r3 == 1) in omega arith) refl
 
   selects : (x a b c d f y : MachineState) (t t1 t2 t3 t4 t5 t6 : ℕ) → view x ≡ v → Exits x a t t1 (pieces.ask_table (view x)) →
       Exits a b t1 t2 (rows.where_next (view a)) → Exits b c t2 t3 (pieces.find_branch (view b)) → Exits c d t3 t4 (operands.seek (view c)) →
-      Exits d f t4 t5 (pieces.go_to_branch (view d)) → TakesBranch f y t5 t6 → Comes 34 x y t t6 0x228C (SeesResult (row_result (One CASE) s place source))
+      Exits d f t4 t5 (pieces.go_to_branch (view d)) → TakesBranch f y t5 t6 → Comes 34 x y t t6 GSTEP (SeesResult (row_result (One CASE) s place source))
   selects x a b c d f y t t1 t2 t3 t4 t5 t6 is e1 e2 e3 e4 e5 goes =
       let c1 = comes e1 (from pieces.ask_table is asks) in
-      let c2 = comes_then 4 12 c1 e2 (from rows.where_next c1.holds (known where_is (just (exit 12 0x2676 located) 12 0x2676 (omega arith) refl))) refl in
-      let c3 = comes_then 16 3 c2 e3 (from pieces.find_branch c2.holds (just (pieces.find_branch located) 3 0x22D8 (omega arith) refl)) refl in
-      let c4 = comes_then 19 4 c3 e4 (from operands.seek c3.holds (known seek_is (just (exit 4 0x267E sought) 4 0x267E (omega arith) refl))) refl in
+      let c2 = comes_then 4 12 c1 e2 (from rows.where_next c1.holds (known where_is (just (exit 12 CASEN located) 12 CASEN (omega arith) refl))) refl in
+      let c3 = comes_then 16 3 c2 e3 (from pieces.find_branch c2.holds (just (pieces.find_branch located) 3 SEEK (omega arith) refl)) refl in
+      let c4 = comes_then 19 4 c3 e4 (from operands.seek c3.holds (known seek_is (just (exit 4 CASET sought) 4 CASET (omega arith) refl))) refl in
       let c5 = comes_then 23 2 c4 e5 (from pieces.go_to_branch c4.holds ends) refl in
       comes_on 25 9 c5 (goes taken (next_of s) c5.holds.sees c5.holds.to) refl
 
-pub runs : (x a b c d f y : MachineState) (t t1 t2 t3 t4 t5 t6 : ℕ) → Stands x 0x266A → Exits x a t t1 (pieces.ask_table (view x)) →
+pub runs : (x a b c d f y : MachineState) (t t1 t2 t3 t4 t5 t6 : ℕ) → Stands x CASEV → Exits x a t t1 (pieces.ask_table (view x)) →
     Exits a b t1 t2 (rows.where_next (view a)) → Exits b c t2 t3 (pieces.find_branch (view b)) → Exits c d t3 t4 (operands.seek (view c)) →
     Exits d f t4 t5 (pieces.go_to_branch (view d)) → TakesBranch f y t5 t6 → RunsRow (One CASE) 34 x y t t6
 runs x a b c d f y t t1 t2 t3 t4 t5 t6 stands e1 e2 e3 e4 e5 goes s place source e row is =

@@ -1,16 +1,8 @@
 -- What the pieces of EXIT, B, BR, BS and CASE come to: how many instructions they have, where they end, and what they
 -- change of the view, in the words of the processor. Registers, cells and ports that are not named stay.
 use Rattle.std.specs.Prelude.{◌==◌, if◌then◌else◌, slice_index}
-use Rattle.console_defs.specs.Words.{low, join}
-use Rattle.console_defs.specs.Flags.{Word, sum_of}
-use Rattle.console_defs.specs.Shifts.{shifted, last_out}
-use Rattle.console_defs.specs.declared.instruction.ShiftOp.TheVariants.{SRL, SLA}
-use Rattle.step_defs.specs.declared.cells.TheConstants.{STATUS}
-use Rattle.native_interp.specs.declared.addresses.TheConstants.{GEXIT, WHERE, SEEK, STREAM, GOTO, CFALSE, BTEST, TAKE}
-use Rattle.native_interp.specs.declared.addresses.TheConstants.{CASEN, CASET}
-use Rattle.sim_view.specs.View.{View}
-use Rattle.sim_view.specs.Exits.{Exit}
-use Rattle.sim_operands.specs.Pieces.{exit, past}
+use Rattle.sim_rows.specs.Prelude.{BTEST, CASEN, CASET, CFALSE, Exit, exit, GEXIT, GOTO, join, last_out, low, past}
+use Rattle.sim_rows.specs.Prelude.{SEEK, shifted, SLA, SRL, STATUS, STREAM, sum_of, TAKE, View, WHERE, Word}
 
 -- GOEXIT.
 abbrev pub leave : View → Exit

@@ -2,10 +2,10 @@
 //! Each is built of pieces: stretches of at most 16 instructions without a loop.
 #![tactic(auto)]
 
-mod flow;
-mod piece;
+mod family;
+mod pieces;
 
-pub use flow::run_flow;
-pub use piece::{
+pub use family::run_flow;
+pub use pieces::{
     ask_table, ask_target, find_branch, find_target, go_to_branch, leave, test_branch,
 };

@@ -1,28 +1,11 @@
 -- Jumps, from where their address is known.
-use Rattle.std.proofs.Common.{◌≡◌, ℕ, ◌<◌, false, refl, sym, ap, subst, ◌∙◌, arith, List}
-use Rattle.std.specs.Prelude.{slice_index, slice_set}
-use Rattle.console_defs.specs.Words.{even}
-use Rattle.console_defs.specs.Flags.{Byte}
-use Rattle.console_defs.specs.Logic.{ones_cleared}
-use Rattle.console_defs.specs.Grom.{GromState}
-use Rattle.console_defs.specs.Machine.{MachineState}
-use Rattle.step_defs.specs.State.{GplState}
-use Rattle.step_defs.specs.Changes.{Changes, unchanged, with_pc, with_condition}
-use Rattle.interp_defs.specs.Match.{PortsAreIdle}
-use Rattle.sim_view.specs.View.{View, view, Stands}
-use Rattle.sim_view.specs.Exits.{Exits, Comes}
-use Rattle.sim_view.proofs.Bridge.{is_view}
-use Rattle.sim_view.proofs.Compose.{Goes, comes, comes_then, comes_on}
-use Rattle.sim_operands.specs.Pieces as operands
-use Rattle.sim_operands.specs.Pieces.{return_of, set_to}
-use Rattle.sim_operands.specs.Subroutines.{grom_at}
-use Rattle.sim_operands.proofs.Ready.{set_is, idle_grom, idle_video}
-use Rattle.sim_rows.specs.States.{Sees}
-use Rattle.sim_rows.specs.Results.{Changed, SeesFinished, EndsRow}
-use Rattle.sim_rows.proofs.Again.{idle_told}
-use Rattle.sim_rows.proofs.Beginning.{just, from}
+use Rattle.std.proofs.Common.{ℕ, ◌<◌, ◌∙◌, ◌≡◌, ap, arith, false, List, refl, slice_index, slice_set, subst}
+use Rattle.sim_rows.proofs.Common.{Byte, Changed, comes, comes_on, comes_then, EndsRow, Exits, from, Goes, GOTO, GplState, grom_at, GromState, GSTEP}
+use Rattle.sim_rows.proofs.Common.{idle_grom, idle_told, idle_video, is_view, just, MachineState, ones_cleared, PortsAreIdle, RESUME, return_of, SEEK, Sees}
+use Rattle.sim_rows.proofs.Common.{set_is, set_to, SHOW, Stands, unchanged, View, view, with_condition}
+use Rattle.sim_jumps.specs.Jumps.{GoesOn, ResumesRow, TakesBranch}
+use Rattle.sim_rows.specs.sim_operands.Pieces as operands
 use Rattle.sim_jumps.specs.Pieces as pieces
-use Rattle.sim_jumps.specs.Jumps.{GoesOn, TakesBranch, ResumesRow}
 
 -- GROMs that were set from one address to another
 pub set_from : (g : GromState) (image : List ℕ) (next word at : ℕ) → g ≡ grom_at image next → word ≡ at → word < 65536 → set_to word g ≡ grom_at image at
@@ -31,11 +14,12 @@ set_from g image next word at e to fits =
 
 -- ---- GOTO
 
-module _ (x a y : MachineState) (t t1 t2 : ℕ) (stands : Stands x 0x24B8) (e1 : Exits x a t t1 (pieces.go_on (view x))) (e2 : Exits a y t1 t2 (operands.seek (view a))) where
+module _ (x a y : MachineState) (t t1 t2 : ℕ) (stands : Stands x GOTO) (e1 : Exits x a t t1 (pieces.go_on (view x)))
+    (e2 : Exits a y t1 t2 (operands.seek (view a))) where
   pub goes : GoesOn x y t t2
   goes s next h to =
       let v : View = view x in
-      let sought : Goes (operands.seek (pieces.go_on v).left) 4 0x228C (Sees s s.pc) = record {
+      let sought : Goes (operands.seek (pieces.go_on v).left) 4 GSTEP (Sees s s.pc) = record {
         within = omega arith;
         to_is = refl;
         holds = record {
@@ -46,7 +30,7 @@ module _ (x a y : MachineState) (t t1 t2 : ℕ) (stands : Stands x 0x24B8) (e1 :
           grom = set_from v.grom s.image next v.r.r6 s.pc h.grom to ((is_view x stands.machine).r 6);
         };
       } in
-      let c1 = comes e1 (just (pieces.go_on v) 2 0x22D8 (omega arith) refl) in
+      let c1 = comes e1 (just (pieces.go_on v) 2 SEEK (omega arith) refl) in
       comes_then 2 4 c1 e2 (from operands.seek c1.holds sought) refl
 
 -- ---- TAKE
@@ -62,7 +46,7 @@ status_cleared cells = slice_set cells 0x7C (ones_cleared Byte (slice_index cell
 pub takes : (x a y : MachineState) (t t1 t2 : ℕ) → Exits x a t t1 (pieces.take_branch (view x)) → GoesOn a y t1 t2 → TakesBranch x y t t2
 takes x a y t t1 t2 e goes s next h to =
     let after : GplState = (with_condition false (unchanged s)).state in
-    let taken : Goes (pieces.take_branch (view x)) 3 0x24B8 (Taken after next) = record {
+    let taken : Goes (pieces.take_branch (view x)) 3 GOTO (Taken after next) = record {
       within = omega arith;
       to_is = refl;
       holds = record {
@@ -76,7 +60,7 @@ takes x a y t t1 t2 e goes s next h to =
 -- ---- RESUME
 
 module _ (x a b : MachineState) (t t1 t2 : ℕ) (e1 : Exits x a t t1 (pieces.resume (view x))) (e2 : Exits a b t1 t2 (operands.seek (view a))) where
-  pub stands_behind : Stands b 0x247A
+  pub stands_behind : Stands b SHOW
   stands_behind = subst (λ (p : ℕ). Stands b p) (ap return_of e1.shows) e2.stands
 
   pub idle_behind : PortsAreIdle x.cpu.memory → PortsAreIdle b.cpu.memory
@@ -87,10 +71,10 @@ module _ (x a b : MachineState) (t t1 t2 : ℕ) (e1 : Exits x a t t1 (pieces.res
       (ap (λ (u : View). u.vdp.held) e2.shows ∙ ap (λ (u : View). u.vdp.held) e1.shows ∙ idle_video x.cpu.memory i)
       (ap (λ (u : View). u.grom.half_written) e2.shows ∙ ap (λ (g : GromState). g.half_written) set)
 
-  pub resumes : (y : MachineState) (t3 : ℕ) → Stands x 0x26DC → EndsRow b y t2 t3 → ResumesRow x y t t3
+  pub resumes : (y : MachineState) (t3 : ℕ) → Stands x RESUME → EndsRow b y t2 t3 → ResumesRow x y t t3
   resumes y t3 stands ends c next h to =
       let v : View = view x in
-      let sought : Goes (operands.seek (pieces.resume v).left) 4 0x247A (Changed c) = record {
+      let sought : Goes (operands.seek (pieces.resume v).left) 4 SHOW (Changed c) = record {
         within = omega arith;
         to_is = refl;
         holds = record {
@@ -102,6 +86,6 @@ module _ (x a b : MachineState) (t t1 t2 : ℕ) (e1 : Exits x a t t1 (pieces.res
           mark = h.mark;
         };
       } in
-      let c1 = comes e1 (just (pieces.resume v) 3 0x22D8 (omega arith) refl) in
+      let c1 = comes e1 (just (pieces.resume v) 3 SEEK (omega arith) refl) in
       let c2 = comes_then 3 4 c1 e2 (from operands.seek c1.holds sought) refl in
       comes_on 7 29 c2 (ends c c2.holds) refl

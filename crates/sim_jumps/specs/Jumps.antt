@@ -1,13 +1,7 @@
 -- The ends of steps that go on elsewhere in GROM, for all states and changes that may be there.
-use Rattle.std.specs.Prelude.{◌≡◌, ℕ, false}
-use Rattle.console_defs.specs.Machine.{MachineState}
-use Rattle.step_defs.specs.State.{GplState}
-use Rattle.step_defs.specs.Changes.{Changes, unchanged, with_pc, with_condition}
-use Rattle.native_interp.specs.declared.addresses.TheConstants.{GSTEP}
-use Rattle.sim_view.specs.View.{view}
-use Rattle.sim_view.specs.Exits.{Comes}
-use Rattle.sim_rows.specs.States.{Sees}
-use Rattle.sim_rows.specs.Results.{Changed, SeesFinished}
+use Rattle.std.specs.Prelude.{ℕ, ◌≡◌, false}
+use Rattle.sim_rows.specs.Prelude.{Changed, Changes, Comes, GplState, GSTEP, MachineState, Sees, SeesFinished}
+use Rattle.sim_rows.specs.Prelude.{unchanged, view, with_condition, with_pc}
 
 -- A state is seen but for where GROM is: its pc is in register 6. The step ends with it.
 abbrev pub GoesOn : MachineState → MachineState → ℕ → ℕ → Type 0

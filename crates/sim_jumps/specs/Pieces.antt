@@ -1,14 +1,8 @@
 -- What the pieces of a jump come to: how many instructions they have, where they end, and what they change of the view,
 -- in the words of the processor. Registers, cells and ports that are not named stay.
 use Rattle.std.specs.Prelude.{slice_index, slice_set}
-use Rattle.console_defs.specs.Flags.{Byte}
-use Rattle.console_defs.specs.Logic.{ones_cleared}
-use Rattle.step_defs.specs.declared.cells.TheConstants.{STATUS}
-use Rattle.step_defs.specs.declared.status_bits.TheConstants.{CONDITION_BIT}
-use Rattle.native_interp.specs.declared.addresses.TheConstants.{GSTEP, SEEK, GOTO, SHOW}
-use Rattle.sim_view.specs.View.{View}
-use Rattle.sim_view.specs.Exits.{Exit}
-use Rattle.sim_operands.specs.Pieces.{exit}
+use Rattle.sim_rows.specs.Prelude.{Byte, CONDITION_BIT, Exit, exit, GOTO, GSTEP, ones_cleared, SEEK, SHOW, STATUS}
+use Rattle.sim_rows.specs.Prelude.{View}
 
 -- GOTO: GROM goes on at the address in register 6.
 abbrev pub go_on : View → Exit

@@ -1,15 +1,14 @@
 //! Jumps, from where their address is known to the end of the step.
 
-ghost use Rattle.native_interp.specs.declared.addresses.TheConstants as address;
-ghost use Rattle.interp_defs.specs.Match.{PortsAreIdle};
-ghost use Rattle.sim_view.specs.View.{Stands};
-ghost use Rattle.sim_jumps.specs.Jumps.{GoesOn, TakesBranch, ResumesRow};
+ghost use Rattle.sim_rows.specs.Prelude.{PortsAreIdle, Stands};
+ghost use Rattle.sim_jumps.specs.Jumps.{GoesOn, ResumesRow, TakesBranch};
+ghost use Rattle.sim_rows.specs.native_interp.declared.addresses.TheConstants as address;
 
-use crate::piece::{go_on, resume, take_branch};
-use sim_operands::seek_address;
+use crate::pieces::{go_on, resume, take_branch};
 use sim_rows::end_row;
+use sim_rows::processor::{Machine, Steps};
+use sim_rows::subroutines::seek_address;
 use std::sync::ledger::Ledger;
-use tms_step::{Machine, Steps};
 
 /// Ends a step that goes on at the address in register 6.
 pub fn jump<L: Ledger>(machine: &mut Machine, steps: &mut Steps<L>)

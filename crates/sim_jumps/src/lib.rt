@@ -4,7 +4,7 @@
 #![tactic(auto)]
 
 mod ending;
-mod piece;
+mod pieces;
 
 pub use ending::{jump, resume_row, take_jump};
-pub use piece::{go_on, resume, take_branch};
+pub use pieces::{go_on, resume, take_branch};

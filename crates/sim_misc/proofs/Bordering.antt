@@ -1,24 +1,9 @@
 -- BACK from its dispatch to the end of the step.
-use Rattle.std.proofs.Common.{◌≡◌, ℕ, refl, ap, ◌∙◌, arith, Some, None, Ok}
-use Rattle.std.specs.Prelude.{slice_index, slice_set}
-use Rattle.console_defs.specs.Grom.{GromState, next_in_grom}
-use Rattle.console_defs.specs.Machine.{MachineState}
-use Rattle.console_defs.specs.Vdp.{VdpState, vdp_address_written}
-use Rattle.gpl_defs.specs.declared.instruction.ByteOp.TheVariants.{BACK}
-use Rattle.gpl_defs.specs.declared.instruction.GplOperation.TheVariants.{Byte}
-use Rattle.step_defs.specs.State.{GplState}
-use Rattle.step_defs.specs.Changes.{unchanged, finished, with_register}
-use Rattle.step_defs.specs.Run.{bound}
-use Rattle.interp_defs.specs.declared.turn.Turn.TheVariants.{Stepped}
-use Rattle.interp_defs.specs.Runs.{is_end}
-use Rattle.interp_defs.specs.Turned.{Turned}
-use Rattle.sim_view.specs.View.{View, view, Stands}
-use Rattle.sim_view.specs.Exits.{Exits}
-use Rattle.sim_view.proofs.Compose.{Goes, comes}
-use Rattle.sim_operands.specs.Pieces.{past}
-use Rattle.sim_rows.specs.States.{Sees, Dispatched, behind_code, operation_in}
-use Rattle.sim_rows.proofs.Steps.{step_byte, bound_made}
-use Rattle.sim_rows.proofs.Ends.{matches, reaches, turned_by}
+use Rattle.std.proofs.Common.{ℕ, ◌∙◌, ◌≡◌, ap, arith, None, Ok, refl, slice_index, slice_set, Some}
+use Rattle.sim_rows.proofs.Common.{BACK, behind_code, bound, bound_made, comes, Dispatched, Exits, finished, GOBACK, Goes, GplState, GromState, GSTEP, is_end}
+use Rattle.sim_rows.proofs.Common.{MachineState, matches, next_in_grom, operation_in, past, reaches, Sees, Stands, step_byte, Stepped, Turned, turned_by}
+use Rattle.sim_rows.proofs.Common.{unchanged, vdp_address_written, VdpState, View, view, with_register}
+use Rattle.sim_rows.specs.gpl_defs.declared.instruction.GplOperation.TheVariants.{Byte}
 use Rattle.sim_misc.specs.Pieces as pieces
 
 abbrev next : GplState → GplState
@@ -29,7 +14,7 @@ register_set : (vdp : VdpState) (byte : ℕ) → vdp.held ≡ None →
     vdp_address_written (vdp_address_written vdp byte) 0x87 ≡ record vdp { registers = slice_set vdp.registers 7 byte; held = None }
 register_set vdp byte idle = rw idle refl
 
-border_goes : (s : GplState) (v : View) → Dispatched s v → Goes (pieces.set_border v) 5 0x228C (Sees (next s) (next s).pc)
+border_goes : (s : GplState) (v : View) → Dispatched s v → Goes (pieces.set_border v) 5 GSTEP (Sees (next s) (next s).pc)
 border_goes s v d =
     let h = d.sees in
     let set = register_set v.vdp v.grom.fetched h.held in
@@ -47,7 +32,7 @@ border_goes s v d =
       };
     }
 
-pub borders : (s : GplState) (x y : MachineState) (t u : ℕ) → Dispatched s (view x) → operation_in s ≡ Some (Byte BACK) → Stands x 0x286A →
+pub borders : (s : GplState) (x y : MachineState) (t u : ℕ) → Dispatched s (view x) → operation_in s ≡ Some (Byte BACK) → Stands x GOBACK →
     Exits x y t u (pieces.set_border (view x)) → Turned s 29 x y t u Stepped
 borders s x y t u d is stands set =
     let c = comes set (border_goes s (view x) d) in

@@ -1,38 +1,14 @@
 -- EX from its row to the end of the step.
-use Rattle.std.proofs.Common.{◌≡◌, ℕ, ◌/◌, ◌%◌, ◌<◌, Bool, true, false, refl, sym, ap, subst, ◌∙◌, arith, Option, Some, Result, Ok, Err}
-use Rattle.std.specs.Prelude.{◌==◌, not, if◌then◌else◌}
+use Rattle.std.proofs.Common.{ℕ, ◌%◌, ◌/◌, ◌<◌, ◌==◌, ◌∙◌, ◌≡◌, ap, arith, Bool, Err, false, if◌then◌else◌, not, Ok, Option, refl, Result, Some, subst, sym}
+use Rattle.std.proofs.Common.{true}
 use Rattle.std.proofs.lemmas.Bool.{agree_below_at}
-use Rattle.console_defs.specs.Flags.{Width, Byte, Word, size_of}
-use Rattle.console_defs.specs.Machine.{MachineState, IsMachine}
-use Rattle.source_defs.specs.Refusals.{◌>>=◌}
-use Rattle.gpl_defs.specs.declared.instruction.GplOperation.{GplOperation}
-use Rattle.gpl_defs.specs.declared.instruction.GplOperation.TheVariants.{Two}
-use Rattle.gpl_defs.specs.declared.instruction.TwoName.TheVariants.{EX}
-use Rattle.gpl_defs.specs.Codes.{operation_at}
-use Rattle.gpl_defs.specs.Reading.{operand_at, source_at}
-use Rattle.step_defs.specs.declared.reason.Reason.{Reason}
-use Rattle.step_defs.specs.State.{GplState}
-use Rattle.step_defs.specs.Place.{Place, place_of, value_at}
-use Rattle.step_defs.specs.Changes.{Changes, unchanged, with_value}
-use Rattle.step_defs.specs.Arithmetic.{Source, exchanged}
-use Rattle.step_defs.specs.Step.{source_of}
-use Rattle.interp_defs.specs.Match.{PortsAreIdle}
-use Rattle.sim_view.specs.View.{View, view, Stands}
-use Rattle.sim_view.specs.Exits.{Exits, Comes}
-use Rattle.sim_view.proofs.Bridge.{is_view}
-use Rattle.sim_view.proofs.Compose.{comes, comes_then, comes_on}
-use Rattle.sim_operands.specs.Pieces.{return_of}
-use Rattle.sim_operands.specs.Values.{width_in, in_register, of_register, IsVisible}
-use Rattle.sim_operands.specs.Subroutines.{StoresValue}
-use Rattle.sim_rows.specs.States.{code_byte, operation_in}
-use Rattle.sim_rows.specs.Rows.{row_width, gone_on, is_immediate, word_of, has_source, behind_first, second_by, operands_of, bytes_by, destination_bytes, AtRow}
-use Rattle.sim_rows.specs.Rows.{LoadsFrom, LoadsFromSource}
-use Rattle.sim_rows.specs.Results.{Storing, SeesFinished, SeesResult, row_result, StoresResult}
-use Rattle.sim_rows.proofs.Codes.{two_above}
-use Rattle.sim_rows.proofs.Again.{idle_again}
-use Rattle.sim_rows.proofs.Sources.{code_fits}
-use Rattle.sim_rows.proofs.Storing.{width_again, ChangedFrom, store_then, stored_idle, changed_again}
-use Rattle.sim_rows.proofs.Rowing.{both, row_changed}
+use Rattle.sim_rows.proofs.Common.{◌>>=◌, AtRow, behind_first, both, Byte, bytes_by, changed_again, ChangedFrom, Changes, code_byte, code_fits, Comes, comes}
+use Rattle.sim_rows.proofs.Common.{comes_on, comes_then, destination_bytes, EX, EXB, exchanged, Exits, gone_on, GplOperation, GplState, GSTEP, has_source}
+use Rattle.sim_rows.proofs.Common.{idle_again, in_register, is_immediate, is_view, IsMachine, IsVisible, LoadsFrom, LoadsFromSource, MachineState}
+use Rattle.sim_rows.proofs.Common.{of_register, operand_at, operands_of, operation_at, operation_in, Place, place_of, PortsAreIdle, Reason, return_of}
+use Rattle.sim_rows.proofs.Common.{row_changed, row_result, row_width, second_by, SeesFinished, SeesResult, size_of, Source, source_at, source_of, Stands}
+use Rattle.sim_rows.proofs.Common.{STO, STORE, store_then, stored_idle, StoresResult, StoresValue, Storing, Two, two_above, unchanged, value_at, View, view}
+use Rattle.sim_rows.proofs.Common.{Width, width_again, width_in, with_value, Word, word_of}
 use Rattle.sim_misc.specs.Pieces as pieces
 
 -- ---- the source of EX has a place
@@ -55,19 +31,22 @@ not_true false e = refl
 
 no_immediate : (s : GplState) → code_byte s < 256 → operation_in s ≡ Some (Two EX) → is_immediate s ≡ false
 no_immediate s h e =
-    not_true (is_immediate s) (if_true (is_exchange (operation_at (code_byte s))) (not (is_immediate s)) (ap is_exchange e) (agree_below_at stands_in_memory (λ _. true) 256 (code_byte s) refl h))
+    not_true (is_immediate s) (if_true (is_exchange (operation_at (code_byte s))) (not (is_immediate s)) (ap is_exchange e)
+    (agree_below_at stands_in_memory (λ _. true) 256 (code_byte s) refl h))
 
 source_in : Source → Result Source Reason → Source
 source_in other (Ok source) = source
 source_in other (Err reason) = other
 
-placed_by : (s : GplState) (w : Width) (r : Result Place Reason) (source : Source) → (r >>= λ p. Ok (record { number = value_at s w p; place = Some p })) ≡ Ok source → (p : Place) × (source.place ≡ Some p)
+placed_by : (s : GplState) (w : Width) (r : Result Place Reason) (source : Source) → (r >>= λ p. Ok (record { number = value_at s w p; place = Some p })) ≡ Ok
+    source → (p : Place) × (source.place ≡ Some p)
 unfolding source_in
 placed_by s w (Ok place) source e = (place, sym (ap (λ (o : Source). o.place) (ap (source_in source) e)))
 placed_by s w (Err reason) source e = absurd (cc)
 
 -- the source's place
-pub source_place : (s : GplState) (place : Place) (source : Source) → code_byte s < 256 → operation_in s ≡ Some (Two EX) → operands_of s ≡ Ok (place, source) → (p : Place) × (source.place ≡ Some p)
+pub source_place : (s : GplState) (place : Place) (source : Source) → code_byte s < 256 → operation_in s ≡ Some (Two EX) → operands_of s ≡ Ok (place, source)
+    → (p : Place) × (source.place ≡ Some p)
 source_place s place source h e is =
     let two : has_source s ≡ true = two_above (code_byte s) h EX e in
     let second : second_by true s ≡ Ok source = sym (ap (λ (b : Bool). second_by b s) two) ∙ (both s place source is).1 in
@@ -82,37 +61,41 @@ number_back Byte number = omega arith
 number_back Word number = refl
 
 loaded_is : (s : GplState) (place : Place) (word : ℕ) → operation_in s ≡ Some (Two EX) →
-    word ≡ in_register (width_in (destination_bytes s)) (value_at s (width_in (destination_bytes s)) place) → word ≡ in_register (row_width s) (value_at s (row_width s) place)
+    word ≡ in_register (width_in (destination_bytes s)) (value_at s (width_in (destination_bytes s)) place) →
+    word ≡ in_register (row_width s) (value_at s (row_width s) place)
 loaded_is s place word known e =
     let bytes : destination_bytes s ≡ size_of (row_width s) = ap (λ o. bytes_by o (row_width s)) known in
     let width : width_in (destination_bytes s) ≡ row_width s = ap width_in bytes ∙ width_again (row_width s) in
     e ∙ ap (λ (w : Width). in_register w (value_at s w place)) width
 
-visible_by : (space address bytes space2 address2 bytes2 : ℕ) → space2 ≡ space → address2 ≡ address → bytes2 ≡ bytes → IsVisible space address bytes → IsVisible space2 address2 bytes2
+visible_by : (space address bytes space2 address2 bytes2 : ℕ) → space2 ≡ space → address2 ≡ address → bytes2 ≡ bytes → IsVisible space address bytes →
+    IsVisible space2 address2 bytes2
 visible_by space address bytes space2 address2 bytes2 e f g h =
     let P : ℕ → Type 0 = λ n. IsVisible n address2 bytes2 in
     let Q : ℕ → Type 0 = λ n. IsVisible space n bytes2 in
     let R : ℕ → Type 0 = λ n. IsVisible space address n in
     subst P (sym e) (subst Q (sym f) (subst R (sym g) h))
 
-module _ (x y : MachineState) (t u : ℕ) (e1 : Exits x y t u (pieces.keep_destination (view x))) where
+module _ {x y : MachineState} {t u : ℕ} (e1 : Exits x y t u (pieces.keep_destination (view x))) where
   pub idle_asked : PortsAreIdle x.cpu.memory → PortsAreIdle y.cpu.memory
   idle_asked i = idle_again x.cpu.memory y.cpu.memory (ap (λ (a : View). a.vdp) e1.shows) (ap (λ (a : View). a.grom) e1.shows) i
 
   pub near : (view x).r.r8 < 2 → (view y).r.r8 < 2
   near h = let e = ap (λ (a : View). a.r.r8) e1.shows in omega arith
 
-pub stands_stored : (x y z : MachineState) (t u v : ℕ) → Exits x y t u (pieces.keep_destination (view x)) → (view x).r.r8 < 2 → ((view y).r.r8 < 2 → StoresValue y z u v) → Stands z 0x2506
-stands_stored x y z t u v e1 space stored = subst (λ (n : ℕ). Stands z n) (ap return_of e1.shows) (stored (near x y t u e1 space)).stands
+pub stands_stored : (x y z : MachineState) (t u v : ℕ) → Exits x y t u (pieces.keep_destination (view x)) → (view x).r.r8 < 2 →
+    ((view y).r.r8 < 2 → StoresValue y z u v) → Stands z EXB
+stands_stored x y z t u v e1 space stored = subst (λ (n : ℕ). Stands z n) (ap return_of e1.shows) (stored (near e1 space)).stands
 
-module _ (x y z p : MachineState) (t u v w : ℕ) (e1 : Exits x y t u (pieces.keep_destination (view x))) (space : (view x).r.r8 < 2) (may : (view y).r.r8 < 2 → StoresValue y z u v) (e2 : Exits z p v w (pieces.turn_to_source (view z))) where
+module _ {x y z p : MachineState} {t u v w : ℕ} (e1 : Exits x y t u (pieces.keep_destination (view x))) (space : (view x).r.r8 < 2) (may : (view y).r.r8 < 2 →
+    StoresValue y z u v) (e2 : Exits z p v w (pieces.turn_to_source (view z))) where
   stored : StoresValue y z u v
-  stored = may (near x y t u e1 space)
+  stored = may (near e1 space)
 
   pub idle_turned : PortsAreIdle x.cpu.memory → PortsAreIdle p.cpu.memory
   idle_turned i =
       idle_again z.cpu.memory p.cpu.memory (ap (λ (a : View). a.vdp) e2.shows) (ap (λ (a : View). a.grom) e2.shows)
-      (stored_idle y z u v (idle_asked x y t u e1 i) stored)
+      (stored_idle y z u v (idle_asked e1 i) stored)
 
   -- the registers that hold the source's place
   source_space_is : (view p).r.r8 ≡ (view x).r.r5
@@ -130,7 +113,8 @@ module _ (x y z p : MachineState) (t u v w : ℕ) (e1 : Exits x y t u (pieces.ke
   pub visible_source : IsVisible (view x).r.r5 (view x).r.r2 (view x).r.r3 → IsVisible (view p).r.r8 (view p).r.r7 (view p).r.r3
   visible_source h = visible_by (view x).r.r5 (view x).r.r2 (view x).r.r3 (view p).r.r8 (view p).r.r7 (view p).r.r3 source_space_is source_address_is bytes_is h
 
-  module _ (s : GplState) (place : Place) (source : Source) (known : operation_in s ≡ Some (Two EX)) (a : AtRow s place source (view x)) (is : operands_of s ≡ Ok (place, source)) (h : IsMachine x) where
+  module _ (s : GplState) (place : Place) (source : Source) (known : operation_in s ≡ Some (Two EX)) (a : AtRow s place source (view x))
+      (is : operands_of s ≡ Ok (place, source)) (h : IsMachine x) where
     abbrev width : Width
     width = row_width s
 
@@ -149,11 +133,13 @@ module _ (x y z p : MachineState) (t u v w : ℕ) (e1 : Exits x y t u (pieces.ke
       value = ap (of_register width) a.value ∙ number_back width source.number;
     })
 
-    first : Comes 19 x z t v 0x2506 (ChangedFrom between (view y))
+    first : Comes 19 x z t v EXB (ChangedFrom between (view y))
     first =
-        let c1 : Comes 3 x y t u 0x23C2 (λ b. b ≡ (pieces.keep_destination (view x)).left) = comes e1 (record { within = omega arith; to_is = refl; holds = refl }) in
-        let c2 : Comes 16 y z u v 0x2506 (ChangedFrom between (view y)) =
-        subst (λ (n : ℕ). Comes 16 y z u v n (ChangedFrom between (view y))) (ap return_of e1.shows) (store_then before width place source.number y z u v storing_first stored) in
+        let c1 : Comes 3 x y t u STORE (λ b. b ≡ (pieces.keep_destination (view x)).left) =
+        comes e1 (record { within = omega arith; to_is = refl; holds = refl }) in
+        let c2 : Comes 16 y z u v EXB (ChangedFrom between (view y)) =
+        subst (λ (n : ℕ). Comes 16 y z u v n (ChangedFrom between (view y))) (ap return_of e1.shows)
+        (store_then before width place source.number y z u v storing_first stored) in
         comes_on 3 16 c1 c2 refl
 
     old_is : (view z).r.r12 ≡ in_register width (value_at s width place)
@@ -172,12 +158,13 @@ module _ (x y z p : MachineState) (t u v w : ℕ) (e1 : Exits x y t u (pieces.ke
           value = ap (of_register width) old_is ∙ number_back width (value_at s width place);
         })
 
-    pub exchanges : (q : MachineState) (k : ℕ) → StoresResult p q w k → Comes 70 x q t k 0x228C (SeesResult (row_result (Two EX) s place source))
+    pub exchanges : (q : MachineState) (k : ℕ) → StoresResult p q w k → Comes 70 x q t k GSTEP (SeesResult (row_result (Two EX) s place source))
     exchanges q k f =
         let code = code_fits s _ (view x) (is_view x h) a.holds.sees in
         let at = source_place s place source code known is in
-        let c3 : Comes 23 x p t w 0x24A8 (λ b. b ≡ (pieces.turn_to_source (view z)).left) = comes_then 19 4 first e2 (record { within = omega arith; to_is = refl; holds = refl }) refl in
+        let c3 : Comes 23 x p t w STO (λ b. b ≡ (pieces.turn_to_source (view z)).left) = comes_then 19 4 first e2
+        (record { within = omega arith; to_is = refl; holds = refl }) refl in
         let d = comes_on 23 47 c3 (f between width at.0 (value_at s width place) (storing_second at.0 at.1)) refl in
         let same : exchanged width place (value_at s width place) source source.place before ≡ with_value width at.0 (value_at s width place) between =
         ap (λ (o : Option Place). exchanged width place (value_at s width place) source o before) at.1 in
-        subst (λ (c : Changes). Comes 70 x q t k 0x228C (SeesFinished c)) (sym same) d
+        subst (λ (c : Changes). Comes 70 x q t k GSTEP (SeesFinished c)) (sym same) d

@@ -1,32 +1,12 @@
 -- ALL from its dispatch to the end of the step.
-use Rattle.std.proofs.Common.{◌≡◌, ℕ, zero, suc, ◌+◌, ◌*◌, ◌<◌, Bool, true, false, refl, sym, ap, subst, ◌∙◌, arith, List, [], ◌∷◌, ◌++◌, length, drop, Some, None, Ok}
-use Rattle.std.specs.Prelude.{◌==◌, if◌then◌else◌, slice_index, slice_set, replicate}
-use Rattle.std.proofs.lemmas.Bool.{eqb-true, eqb-false, ne_eqb}
-use Rattle.console_defs.specs.Words.{high}
-use Rattle.console_defs.specs.Flags.{Word, difference_of}
-use Rattle.console_defs.specs.Grom.{GromState, next_in_grom}
-use Rattle.console_defs.specs.Machine.{MachineState}
-use Rattle.console_defs.specs.Vdp.{VdpState, vdp_data_written}
-use Rattle.gpl_defs.specs.declared.instruction.ByteOp.TheVariants.{ALL}
-use Rattle.gpl_defs.specs.declared.instruction.GplOperation.TheVariants.{Byte}
-use Rattle.step_defs.specs.State.{GplState}
-use Rattle.step_defs.specs.Changes.{unchanged, finished}
-use Rattle.step_defs.specs.Step.{with_immediate}
-use Rattle.step_defs.specs.Run.{bound}
-use Rattle.interp_defs.specs.declared.turn.Turn.TheVariants.{Stepped}
-use Rattle.interp_defs.specs.Runs.{is_end}
-use Rattle.interp_defs.specs.Turned.{Turned}
-use Rattle.sim_view.specs.View.{View, view, Stands}
-use Rattle.sim_view.specs.Exits.{Exits, Comes}
-use Rattle.sim_view.proofs.Bridge.{is_view}
-use Rattle.sim_view.proofs.Compose.{Goes, comes, comes_as, comes_then}
-use Rattle.sim_view.proofs.Lists.{high-join}
-use Rattle.sim_view.proofs.Places.{pick}
-use Rattle.sim_operands.specs.Pieces.{past, set_video_to}
-use Rattle.sim_operands.specs.Subroutines.{grom_at}
-use Rattle.sim_rows.specs.States.{Sees, Dispatched, behind_code, operation_in}
-use Rattle.sim_rows.proofs.Steps.{step_byte, bound_made}
-use Rattle.sim_rows.proofs.Ends.{matches, reaches, turned_by}
+use Rattle.std.proofs.Common.{[], ℕ, ◌*◌, ◌++◌, ◌+◌, ◌<◌, ◌==◌, ◌∙◌, ◌∷◌, ◌≡◌, ap, arith, Bool, drop, false, if◌then◌else◌, length, List, None, Ok, refl}
+use Rattle.std.proofs.Common.{replicate, slice_index, slice_set, Some, subst, suc, sym, true, zero}
+use Rattle.std.proofs.lemmas.Bool.{eqb-false, eqb-true, ne_eqb}
+use Rattle.sim_rows.proofs.Common.{ALL, behind_code, bound, bound_made, Comes, comes, comes_as, comes_then, difference_of, Dispatched, Exits, FILL, finished}
+use Rattle.sim_rows.proofs.Common.{GOALL, Goes, GplState, grom_at, GromState, GSTEP, high, high-join, is_end, is_view, MachineState, matches, next_in_grom}
+use Rattle.sim_rows.proofs.Common.{operation_in, past, pick, reaches, Sees, set_video_to, Stands, step_byte, Stepped, Turned, turned_by, unchanged}
+use Rattle.sim_rows.proofs.Common.{vdp_data_written, VdpState, View, view, with_immediate, Word}
+use Rattle.sim_rows.specs.gpl_defs.declared.instruction.GplOperation.TheVariants.{Byte}
 use Rattle.sim_misc.specs.Pieces as pieces
 
 -- the byte, and a list whose first bytes are it
@@ -54,16 +34,16 @@ pub record Filled (s : GplState) (made : ℕ) (w : View) : Type 0 where
 
 -- where the machine is then
 abbrev pub place : ℕ → ℕ
-place made = if made == 768 then 0x228C else 0x285E
+place made = if made == 768 then GSTEP else FILL
 
-more_left : (made : ℕ) → (made ≡ 768 → ⊥) → place made ≡ 0x285E
-more_left made more = ap (λ (b : Bool). if b then 0x228C else 0x285E) (ne_eqb made 768 more)
+more_left : (made : ℕ) → (made ≡ 768 → ⊥) → place made ≡ FILL
+more_left made more = ap (λ (b : Bool). if b then GSTEP else FILL) (ne_eqb made 768 more)
 
 -- the pair of bytes sets the address
 address_set : (vdp : VdpState) → vdp.held ≡ None → set_video_to 0x4000 vdp ≡ record vdp { address = 0; held = None }
 address_set vdp idle = rw idle refl
 
-begin_goes : (s : GplState) (v : View) → Dispatched s v → Goes (pieces.begin_fill v) 6 0x285E (Filled s 0)
+begin_goes : (s : GplState) (v : View) → Dispatched s v → Goes (pieces.begin_fill v) 6 FILL (Filled s 0)
 begin_goes s v d =
     let h = d.sees in
     let set = address_set v.vdp h.held in
@@ -111,14 +91,14 @@ module _ (s : GplState) (made : ℕ) (w : View) (h : Filled s made w) (some : ma
       }
 
   -- the last byte leads to the end of the step
-  ends_at : (difference_of Word w.r.r12 1 == 0) ≡ true → place (suc made) ≡ 0x228C
+  ends_at : (difference_of Word w.r.r12 1 == 0) ≡ true → place (suc made) ≡ GSTEP
   ends_at none =
       let left = h.left in
       let zero = eqb-true (difference_of Word w.r.r12 1) 0 none in
       let all : suc made ≡ 768 = omega arith in
       ap place all
 
-  goes_on_at : (difference_of Word w.r.r12 1 == 0) ≡ false → place (suc made) ≡ 0x285E
+  goes_on_at : (difference_of Word w.r.r12 1 == 0) ≡ false → place (suc made) ≡ FILL
   goes_on_at more = let left = h.left in more_left (suc made) (λ all. eqb-false (difference_of Word w.r.r12 1) 0 more (omega arith))
 
   pub fill_goes : Goes (pieces.fill_byte w) 4 (place (suc made)) (Filled s (suc made))
@@ -136,17 +116,18 @@ Filling s made x z t u = Comes (6 + 4 * made) x z t u (place made) (Filled s mad
 pub none_yet : (s : GplState) (x z : MachineState) (t u : ℕ) → Dispatched s (view x) → Exits x z t u (pieces.begin_fill (view x)) → Filling s 0 x z t u
 none_yet s x z t u d begun = comes begun (begin_goes s (view x) d)
 
-pub stands_at : (s : GplState) (made : ℕ) (x z : MachineState) (t u : ℕ) → Filling s made x z t u → made < 768 → Stands z 0x285E
+pub stands_at : (s : GplState) (made : ℕ) (x z : MachineState) (t u : ℕ) → Filling s made x z t u → made < 768 → Stands z FILL
 stands_at s made x z t u h some = subst (λ (p : ℕ). Stands z p) (more_left made (λ all. omega arith)) h.stands
 
-size_of_video : (s : GplState) (x : MachineState) → Stands x 0x2848 → Dispatched s (view x) → length s.vdp ≡ 16384
+size_of_video : (s : GplState) (x : MachineState) → Stands x GOALL → Dispatched s (view x) → length s.vdp ≡ 16384
 size_of_video s x stands d = sym (ap length d.sees.vdp) ∙ (is_view x stands.machine).vdp.memory.size
 
-pub one_byte : (s : GplState) (made : ℕ) (x z w : MachineState) (t u v : ℕ) → Stands x 0x2848 → Dispatched s (view x) → Filling s made x z t u → made < 768 →
+pub one_byte : (s : GplState) (made : ℕ) (x z w : MachineState) (t u v : ℕ) → Stands x GOALL → Dispatched s (view x) → Filling s made x z t u → made < 768 →
     Exits z w u v (pieces.fill_byte (view z)) → Filling s (made + 1) x w t v
 one_byte s made x z w t u v stands d h some stored =
     let n : suc made ≡ made + 1 = omega arith in
-    let c = comes_then (6 + 4 * made) 4 h stored (fill_goes s made (view z) h.holds some (size_of_video s x stands d)) (ap is_end (more_left made (λ all. omega arith))) in
+    let c = comes_then (6 + 4 * made) 4 h stored (fill_goes s made (view z) h.holds some (size_of_video s x stands d))
+    (ap is_end (more_left made (λ all. omega arith))) in
     subst (λ (made : ℕ). Filling s made x w t v) n (comes_as (6 + 4 * suc made) (Filled s (suc made)) c (omega arith) (λ w f. f))
 
 -- ---- the turn
@@ -163,10 +144,10 @@ all_seen s made w all h = record {
   grom = h.grom;
 }
 
-pub fills : (s : GplState) (x z : MachineState) (t u : ℕ) → Stands x 0x2848 → Dispatched s (view x) → operation_in s ≡ Some (Byte ALL) →
+pub fills : (s : GplState) (x z : MachineState) (t u : ℕ) → Stands x GOALL → Dispatched s (view x) → operation_in s ≡ Some (Byte ALL) →
     (made : ℕ) → made ≡ 768 → Filling s made x z t u → Turned s 29 x z t u Stepped
 fills s x z t u stands d is made all h =
-    let there : Stands z 0x228C = subst (λ (p : ℕ). Stands z p) (ap place all) h.stands in
+    let there : Stands z GSTEP = subst (λ (p : ℕ). Stands z p) (ap place all) h.stands in
     let c = h in
     let seen = all_seen s made (view z) all c.holds in
     let step_is = step_byte s ALL is in

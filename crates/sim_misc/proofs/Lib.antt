@@ -1,7 +1,7 @@
 pub mod Numbers
 pub mod Paths
 pub mod Exchanging
-pub mod Turning
+pub mod Dispatch
 pub mod Drawing
 pub mod Bordering
 pub mod Filling

@@ -1,13 +1,8 @@
 -- Facts about numbers that RAND needs.
-use Rattle.std.proofs.Common.{◌≡◌, ℕ, ◌+◌, ◌/◌, ◌%◌, ◌<◌, true, ap, arith, Option, Some}
-use Rattle.std.specs.Prelude.{nat_lt}
+use Rattle.std.proofs.Common.{ℕ, ◌%◌, ◌+◌, ◌/◌, ◌<◌, ◌≡◌, ap, arith, nat_lt, Option, Some, true}
 use Rattle.std.proofs.Math.Nat.{mod-lt}
 use Rattle.std.proofs.lemmas.Bool.{lt-ltb}
-use Rattle.console_defs.specs.Words.{high, low, join}
-use Rattle.console_defs.specs.Flags.{Word, sum_of}
-use Rattle.console_defs.specs.Logic.{swapped}
-use Rattle.console_defs.specs.MultiplyDivide.{product_of, double_word, division_of}
-use Rattle.step_defs.specs.Flow.{next_seed}
+use Rattle.sim_rows.proofs.Common.{division_of, double_word, high, join, low, next_seed, product_of, sum_of, swapped, Word}
 
 -- a word of two bytes, the second of them read first and moved down
 pub read_word : (first second less : ℕ) → second < 256 → less < 256 → join first (low (swapped (join second less))) ≡ join first second

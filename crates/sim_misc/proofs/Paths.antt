@@ -1,46 +1,36 @@
 -- The runs of the pieces on the view.
-use Rattle.std.proofs.Common.{refl, [], ◌∷◌}
-use Rattle.std.specs.Prelude.{◌==◌, slice_index}
-use Rattle.console_defs.specs.Words.{low}
-use Rattle.console_defs.specs.Bytes.{word_in}
-use Rattle.console_defs.specs.Flags.{Word, sum_of, difference_of}
-use Rattle.console_defs.specs.MultiplyDivide.{product_of}
-use Rattle.step_defs.specs.declared.cells.TheConstants.{SEED}
-use Rattle.sim_view.specs.View.{View}
-use Rattle.sim_view.proofs.Bridge.{Leads, IsView}
-use Rattle.sim_view.proofs.Lists.{high-join}
-use Rattle.sim_view.proofs.Places.{pick}
-use Rattle.sim_view.proofs.Parts.{Part, Rest, part_then, leads}
-use Rattle.sim_operands.proofs.Facts.{down, swapped_high}
+use Rattle.std.proofs.Common.{[], ◌==◌, ◌∷◌, refl, slice_index}
+use Rattle.sim_rows.proofs.Common.{difference_of, down, EXB, EXV, FILL, GOALL, GOBACK, GORAND, high-join, IsView, Leads, leads, low, Part, part_then, pick}
+use Rattle.sim_rows.proofs.Common.{product_of, RANDL, Rest, SEED, STO, STORE, sum_of, swapped_high, View, Word, word_in}
+use Rattle.sim_misc.proofs.Numbers.{above_is, division_is, drawn_byte, less_fits, read_word, sum_fits}
 use Rattle.sim_misc.specs.Pieces as pieces
-use Rattle.sim_misc.proofs.Numbers.{read_word, less_fits, sum_fits, above_is, division_is, drawn_byte}
 
-pub keep_destination : (v : View) → Leads (0x23C2 ∷ []) v 0x24FE (pieces.keep_destination v)
+pub keep_destination : (v : View) → Leads (STORE ∷ []) v EXV (pieces.keep_destination v)
 keep_destination v = record { by = λ f q. refl }
 
-pub turn_to_source : (v : View) → Leads (0x24A8 ∷ []) v 0x2506 (pieces.turn_to_source v)
+pub turn_to_source : (v : View) → Leads (STO ∷ []) v EXB (pieces.turn_to_source v)
 turn_to_source v = record { by = λ f q. refl }
 
 -- RAND: the seed is read, and the next one is made
 abbrev with_seed : View → View
 with_seed v = record v { r = record v.r { r6 = word_in v.cells SEED } }
 
-seed_read : (v : View) → IsView v → Part (0x2780 ∷ []) 3 v 0x2762 (with_seed v) 0x276C
+seed_read : (v : View) → IsView v → Part (RANDL ∷ []) 3 v GORAND (with_seed v) 0x276C
 seed_read v i = record {
   by = λ f. rw (read_word (slice_index v.cells 0xC0) (slice_index v.cells 0xC1) (low v.r.r6) (i.cells 0xC1) (less_fits v.r.r6)) refl;
 }
 
-seed_made : (v : View) → Rest (0x2780 ∷ []) 3 13 (with_seed v) 0x276C (pieces.draw_seed v)
+seed_made : (v : View) → Rest (RANDL ∷ []) 3 13 (with_seed v) 0x276C (pieces.draw_seed v)
 seed_made v = record {
   by = λ f.
       let product = product_of 0x6FE5 (word_in v.cells SEED) in
       rw (swapped_high (sum_of Word product.1 0x7AB9) (sum_fits product.1 0x7AB9)) refl;
 }
 
-pub draw_seed : (v : View) → IsView v → Leads (0x2780 ∷ []) v 0x2762 (pieces.draw_seed v)
-draw_seed v i = leads (0x2780 ∷ []) (part_then (0x2780 ∷ []) 3 0 13 (seed_read v i) (seed_made v))
+pub draw_seed : (v : View) → IsView v → Leads (RANDL ∷ []) v GORAND (pieces.draw_seed v)
+draw_seed v i = leads (RANDL ∷ []) (part_then (RANDL ∷ []) 3 0 13 (seed_read v i) (seed_made v))
 
-pub draw_number : (v : View) → IsView v → Leads [] v 0x2780 (pieces.draw_number v)
+pub draw_number : (v : View) → IsView v → Leads [] v RANDL (pieces.draw_number v)
 draw_number v i = record {
   by = λ f q.
       let limit = v.grom.fetched in
@@ -48,13 +38,13 @@ draw_number v i = record {
       rw (down limit (low v.r.r6) h (less_fits v.r.r6), above_is limit h, division_is v.r.r10 limit, drawn_byte v.r.r10 limit h) refl;
 }
 
-pub set_border : (v : View) → Leads [] v 0x286A (pieces.set_border v)
+pub set_border : (v : View) → Leads [] v GOBACK (pieces.set_border v)
 set_border v = record { by = λ f q. rw (high-join v.grom.fetched v.r.r4) refl }
 
-pub begin_fill : (v : View) → Leads (0x285E ∷ []) v 0x2848 (pieces.begin_fill v)
+pub begin_fill : (v : View) → Leads (FILL ∷ []) v GOALL (pieces.begin_fill v)
 begin_fill v = record { by = λ f q. refl }
 
-pub fill_byte : (v : View) → Leads (0x285E ∷ []) v 0x285E (pieces.fill_byte v)
+pub fill_byte : (v : View) → Leads (FILL ∷ []) v FILL (pieces.fill_byte v)
 fill_byte v = record {
   by = λ f q.
       pick (difference_of Word v.r.r12 1 == 0)

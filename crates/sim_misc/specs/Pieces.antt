@@ -1,17 +1,9 @@
 -- What the pieces of EX, RAND, BACK and ALL come to: how many instructions they have, where they end, and what they
 -- change of the view, in the words of the processor. Registers, cells and ports that are not named stay.
-use Rattle.std.specs.Prelude.{ℕ, ◌+◌, ◌/◌, ◌%◌, ◌==◌, if◌then◌else◌, slice_set}
-use Rattle.console_defs.specs.Words.{high, low, join}
-use Rattle.console_defs.specs.Bytes.{word_in, with_word_in}
-use Rattle.console_defs.specs.Flags.{Word, sum_of, difference_of}
-use Rattle.console_defs.specs.Logic.{swapped}
-use Rattle.console_defs.specs.MultiplyDivide.{product_of}
-use Rattle.console_defs.specs.Vdp.{vdp_address_written, vdp_data_written}
-use Rattle.step_defs.specs.declared.cells.TheConstants.{RANDOM, SEED}
-use Rattle.native_interp.specs.declared.addresses.TheConstants.{GSTEP, STO, STORE, EXB, RANDL, FILL}
-use Rattle.sim_view.specs.View.{View}
-use Rattle.sim_view.specs.Exits.{Exit}
-use Rattle.sim_operands.specs.Pieces.{exit, past, set_video_to}
+use Rattle.std.specs.Prelude.{ℕ, ◌%◌, ◌+◌, ◌/◌, ◌==◌, if◌then◌else◌, slice_set}
+use Rattle.sim_rows.specs.Prelude.{difference_of, EXB, Exit, exit, FILL, GSTEP, high, join, low, past, product_of}
+use Rattle.sim_rows.specs.Prelude.{RANDL, RANDOM, SEED, set_video_to, STO, STORE, sum_of, swapped}
+use Rattle.sim_rows.specs.Prelude.{vdp_address_written, vdp_data_written, View, with_word_in, Word, word_in}
 
 -- EXV: the destination's old value is kept, and STORE is asked for the source's value.
 abbrev pub keep_destination : View → Exit

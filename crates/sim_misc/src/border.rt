@@ -1,29 +1,14 @@
 //! BACK, from its dispatch to the end of the step.
 
 ghost use Rattle.std.specs.Prelude.{◌≡◌, Some};
-ghost use Rattle.gpl_defs.specs.declared.instruction.ByteOp.TheVariants.{BACK};
-ghost use Rattle.gpl_defs.specs.declared.instruction.GplOperation.TheVariants.{Byte};
-ghost use Rattle.native_interp.specs.declared.addresses.TheConstants as address;
-ghost use Rattle.native_interp.specs.Entries.{operation_entry};
-ghost use Rattle.interp_defs.specs.Interpreter.{most_to_dispatch};
-ghost use Rattle.interp_defs.specs.Turned.{Turned};
-ghost use Rattle.sim_view.specs.View.{view, Stands};
-ghost use Rattle.sim_view.specs.Exits.{Exits};
-ghost use Rattle.sim_rows.specs.States.{Dispatched, state_at_dispatch, operation_seen};
-ghost use Rattle.sim_misc.specs.Pieces as piece;
+ghost use Rattle.sim_rows.specs.Prelude.{BACK, Dispatched, most_to_dispatch, operation_entry, operation_seen, Stands};
+ghost use Rattle.sim_rows.specs.Prelude.{state_at_dispatch, Turned, view};
+ghost use Rattle.sim_rows.specs.gpl_defs.declared.instruction.GplOperation.TheVariants.{Byte};
 
-use interp_defs::Turn;
-use sim_view::run_piece;
+use crate::pieces::set_border;
+use sim_rows::Turn;
+use sim_rows::processor::{Machine, Steps};
 use std::sync::ledger::Ledger;
-use tms_step::{Machine, Steps};
-
-/// The piece of BACK: the byte goes to the video processor's register of the border's colour.
-pub fn set_border<L: Ledger>(machine: &mut Machine, steps: &mut Steps<L>)
-    requires { Stands machine.old address.GOBACK }
-    ensures { Exits machine.old machine.new steps.old steps.new (piece.set_border (view machine.old)) }
-{
-    run_piece(machine, steps, &[]);
-}
 
 /// Runs BACK from its dispatch to the end of the step: the border's colour is set.
 pub(crate) fn run_border<L: Ledger>(machine: &mut Machine, steps: &mut Steps<L>) -> Turn

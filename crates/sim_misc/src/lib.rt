@@ -3,13 +3,12 @@
 #![tactic(auto)]
 
 mod border;
-mod piece;
+mod family;
+mod pieces;
 mod random;
-mod row;
 mod screen;
 
-pub use border::set_border;
-pub use piece::{keep_destination, turn_to_source};
-pub use random::{draw_number, draw_seed};
-pub use row::run_misc;
-pub use screen::{begin_fill, fill_byte};
+pub use family::run_misc;
+pub use pieces::{
+    begin_fill, draw_number, draw_seed, fill_byte, keep_destination, set_border, turn_to_source,
+};

@@ -1,41 +1,17 @@
 //! ALL, from its dispatch to the end of the step.
 
 ghost use Rattle.std.specs.Prelude.{◌≡◌, Some};
-ghost use Rattle.gpl_defs.specs.declared.instruction.ByteOp.TheVariants.{ALL};
-ghost use Rattle.gpl_defs.specs.declared.instruction.GplOperation.TheVariants.{Byte};
-ghost use Rattle.native_interp.specs.declared.addresses.TheConstants as address;
-ghost use Rattle.native_interp.specs.Entries.{operation_entry};
-ghost use Rattle.interp_defs.specs.Interpreter.{most_to_dispatch};
-ghost use Rattle.interp_defs.specs.Turned.{Turned};
-ghost use Rattle.sim_view.specs.View.{view, Stands};
-ghost use Rattle.sim_view.specs.Exits.{Exits};
-ghost use Rattle.sim_rows.specs.States.{Dispatched, state_at_dispatch, operation_seen};
-ghost use Rattle.sim_misc.specs.Pieces as piece;
+ghost use Rattle.sim_rows.specs.Prelude.{ALL, Dispatched, most_to_dispatch, operation_entry, operation_seen, Stands};
+ghost use Rattle.sim_rows.specs.Prelude.{state_at_dispatch, Turned, view};
+ghost use Rattle.sim_rows.specs.gpl_defs.declared.instruction.GplOperation.TheVariants.{Byte};
 
-use interp_defs::Turn;
-use native_interp::FILL;
-use sim_view::run_piece;
+use crate::pieces::{begin_fill, fill_byte};
+use sim_rows::Turn;
+use sim_rows::processor::{Machine, Steps};
 use std::sync::ledger::Ledger;
-use tms_step::{Machine, Steps};
 
 /// How many bytes the screen has. They are the first of video memory.
 const SCREEN: u16 = 768;
-
-/// The piece of ALL that reads the byte and sets the video processor to the beginning of the screen.
-pub fn begin_fill<L: Ledger>(machine: &mut Machine, steps: &mut Steps<L>)
-    requires { Stands machine.old address.GOALL }
-    ensures { Exits machine.old machine.new steps.old steps.new (piece.begin_fill (view machine.old)) }
-{
-    run_piece(machine, steps, &[FILL]);
-}
-
-/// The piece of ALL that stores the byte once; the last one ends the step.
-pub fn fill_byte<L: Ledger>(machine: &mut Machine, steps: &mut Steps<L>)
-    requires { Stands machine.old address.FILL }
-    ensures { Exits machine.old machine.new steps.old steps.new (piece.fill_byte (view machine.old)) }
-{
-    run_piece(machine, steps, &[FILL]);
-}
 
 /// Runs ALL from its dispatch to the end of the step: the byte fills the screen.
 pub(crate) fn run_fill<L: Ledger>(machine: &mut Machine, steps: &mut Steps<L>) -> Turn

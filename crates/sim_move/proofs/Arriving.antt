@@ -1,12 +1,6 @@
 -- What was found, or why not, by where the machine arrived.
-use Rattle.std.proofs.Common.{◌≡◌, ℕ, refl, sym, ◌∙◌, Result, Ok, Err}
-use Rattle.source_defs.specs.Refusals.{◌>>=◌}
-use Rattle.console_defs.specs.Machine.{MachineState}
-use Rattle.step_defs.specs.declared.reason.Reason.{Reason}
-use Rattle.step_defs.specs.State.{GplState}
-use Rattle.sim_view.specs.View.{View}
-use Rattle.sim_view.specs.Exits.{Comes}
-use Rattle.sim_rows.specs.States.{StoppedBy}
+use Rattle.std.proofs.Common.{ℕ, ◌∙◌, ◌≡◌, Err, Ok, refl, Result, sym}
+use Rattle.sim_rows.proofs.Common.{◌>>=◌, Comes, GplState, GSTOP, MachineState, Reason, StoppedBy, View}
 use Rattle.sim_move.specs.Moves.{Arrives}
 
 pub record Found {X : Type 0} (most : ℕ) (x y : MachineState) (t u to : ℕ) (Shows : X → View → Type 0) (q : Result X Reason) : Type 0 where
@@ -17,14 +11,16 @@ pub record Found {X : Type 0} (most : ℕ) (x y : MachineState) (t u to : ℕ) (
 pub record Missing {X : Type 0} (most : ℕ) (s : GplState) (x y : MachineState) (t u : ℕ) (q : Result X Reason) : Type 0 where
   pub reason : Reason
   pub is : q ≡ Err reason
-  pub comes : Comes most x y t u 0x22B8 (StoppedBy s reason)
+  pub comes : Comes most x y t u GSTOP (StoppedBy s reason)
 
-pub found : {X : Type 0} (most : ℕ) (s : GplState) (x y : MachineState) (t u to : ℕ) (Shows : X → View → Type 0) (q : Result X Reason) → (y.cpu.pc ≡ 0x22B8 → ⊥) → Arrives most s x y t u to Shows q →
+pub found : {X : Type 0} (most : ℕ) (s : GplState) (x y : MachineState) (t u to : ℕ) (Shows : X → View → Type 0) (q : Result X Reason) →
+    (y.cpu.pc ≡ GSTOP → ⊥) → Arrives most s x y t u to Shows q →
     Found most x y t u to Shows q
 found most s x y t u to Shows (Ok it) away a = record { found = it; is = refl; comes = a }
 found most s x y t u to Shows (Err reason) away a = absurd (away a.stands.pc)
 
-pub missing : {X : Type 0} (most : ℕ) (s : GplState) (x y : MachineState) (t u to : ℕ) (Shows : X → View → Type 0) (q : Result X Reason) → (to ≡ 0x22B8 → ⊥) → y.cpu.pc ≡ 0x22B8 → Arrives most s x y t u to Shows q →
+pub missing : {X : Type 0} (most : ℕ) (s : GplState) (x y : MachineState) (t u to : ℕ) (Shows : X → View → Type 0) (q : Result X Reason) →
+    (to ≡ GSTOP → ⊥) → y.cpu.pc ≡ GSTOP → Arrives most s x y t u to Shows q →
     Missing most s x y t u q
 missing most s x y t u to Shows (Ok it) other here a = absurd (other (sym a.stands.pc ∙ here))
 missing most s x y t u to Shows (Err reason) other here a = record { reason = reason; is = refl; comes = a }

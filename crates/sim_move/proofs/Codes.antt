@@ -1,12 +1,7 @@
 -- Facts about the code bytes of MOVE, by trying all 256.
-use Rattle.std.proofs.Common.{◌≡◌, ℕ, ◌/◌, ◌%◌, ◌<◌, Bool, true, false, refl, sym, ap, ◌∙◌, Option, Some}
-use Rattle.std.specs.Prelude.{◌==◌, ◌&&◌, not, nat_lt, if◌then◌else◌}
+use Rattle.std.proofs.Common.{ℕ, ◌%◌, ◌&&◌, ◌/◌, ◌<◌, ◌==◌, ◌∙◌, ◌≡◌, ap, Bool, false, if◌then◌else◌, nat_lt, not, Option, refl, Some, sym, true}
 use Rattle.std.proofs.lemmas.Bool.{agree_below_at, and_parts}
-use Rattle.gpl_defs.specs.declared.instruction.MoveKind.{MoveKind}
-use Rattle.gpl_defs.specs.declared.instruction.MoveKind.TheVariants.{GromToMemory, GromIndexedToMemory, GromToRegisters}
-use Rattle.gpl_defs.specs.declared.instruction.GplOperation.{GplOperation}
-use Rattle.gpl_defs.specs.declared.instruction.GplOperation.TheVariants.{Move}
-use Rattle.gpl_defs.specs.Codes.{operation_at}
+use Rattle.sim_rows.proofs.Common.{GplOperation, GromIndexedToMemory, GromToMemory, GromToRegisters, Move, MoveKind, operation_at}
 
 abbrev pub to_memory : MoveKind → Bool
 to_memory GromToRegisters = false

@@ -1,38 +1,17 @@
 -- The length, the target and the source, one after the other.
-use Rattle.std.proofs.Common.{◌≡◌, ℕ, ◌%◌, ◌/◌, ◌<◌, ◌≤◌, Bool, true, refl, sym, ap, subst, ◌∙◌, arith, Option, Some, Result, Ok, Err}
-use Rattle.std.specs.Prelude.{◌==◌}
-use Rattle.console_defs.specs.Words.{even}
-use Rattle.console_defs.specs.Grom.{GromState, next_in_grom}
-use Rattle.console_defs.specs.Machine.{MachineState}
-use Rattle.source_defs.specs.Refusals.{◌>>=◌}
-use Rattle.gpl_defs.specs.declared.instruction.GplOperand.{GplOperand}
-use Rattle.gpl_defs.specs.declared.instruction.MoveKind.{MoveKind}
-use Rattle.gpl_defs.specs.declared.instruction.MoveKind.TheVariants.{GromToMemory, GromIndexedToMemory, MemoryToMemory, GromToRegisters}
-use Rattle.gpl_defs.specs.declared.instruction.GplOperation.{GplOperation}
-use Rattle.gpl_defs.specs.declared.instruction.GplOperation.TheVariants.{Move}
-use Rattle.gpl_defs.specs.Reading.{operand_at, word_at, index_by}
-use Rattle.native_interp.specs.Entries.{operation_entry}
-use Rattle.step_defs.specs.declared.reason.Reason.{Reason}
-use Rattle.step_defs.specs.State.{GplState}
-use Rattle.step_defs.specs.Place.{Place, place_of, indexed}
-use Rattle.step_defs.specs.Copy.{From, FromMemory, FromGrom, To, ToMemory, ToRegisters, length_of, within_limit, target_of, origin_of}
-use Rattle.interp_defs.specs.Match.{PortsAreIdle, IsFetched}
-use Rattle.sim_view.specs.View.{View, view, Stands}
-use Rattle.sim_view.specs.Exits.{Comes}
-use Rattle.sim_view.proofs.Bridge.{is_view}
-use Rattle.sim_view.proofs.Compose.{comes_as, comes_on}
-use Rattle.sim_operands.specs.Pieces.{return_of}
-use Rattle.sim_operands.specs.Subroutines.{grom_at, Placed, Finds, FindsOperand}
-use Rattle.sim_rows.specs.States.{StoppedBy, code_byte, operation_in}
-use Rattle.sim_rows.proofs.Ends.{idle_of, fetched_of}
-use Rattle.sim_rows.proofs.Fronting.{barred_stops, finds_of, from_placed}
-use Rattle.sim_rows.proofs.Telling.{stands_at}
+use Rattle.std.proofs.Common.{ℕ, ◌%◌, ◌/◌, ◌<◌, ◌==◌, ◌∙◌, ◌≡◌, ◌≤◌, ap, arith, Bool, Err, Ok, Option, refl, Result, Some, subst, sym, true}
+use Rattle.sim_rows.proofs.Common.{◌>>=◌, ADDR, barred_stops, code_byte, Comes, comes_as, comes_on, even, fetched_of, Finds, finds_of, FindsOperand, From}
+use Rattle.sim_rows.proofs.Common.{from_placed, FromGrom, FromMemory, GOMOVE, GplOperand, GplOperation, GplState, grom_at, GromIndexedToMemory, GromState}
+use Rattle.sim_rows.proofs.Common.{GromToMemory, GromToRegisters, GSTOP, idle_of, index_by, indexed, is_view, IsFetched, length_of, MachineState}
+use Rattle.sim_rows.proofs.Common.{MemoryToMemory, Move, MOVEB, MoveKind, MOVEL, MOVES, MOVEX, next_in_grom, operand_at, operation_entry, operation_in}
+use Rattle.sim_rows.proofs.Common.{origin_of, Place, place_of, Placed, PortsAreIdle, Reason, return_of, Stands, stands_at, StoppedBy, target_of, To, ToMemory}
+use Rattle.sim_rows.proofs.Common.{ToRegisters, View, view, within_limit, word_at}
 use Rattle.sim_copy.specs.Copying.{StandsTo}
 use Rattle.sim_move.specs.Family.{is_move}
-use Rattle.sim_move.specs.Moves.{Arrives, length_read, target_read, source_read, LengthTold, FindsLength, source_entry, TargetTold, target_in, FindsTarget}
-use Rattle.sim_move.specs.Moves.{SourceTold, IndexesSource, TurnsToSource, copy_in, AtCopy, FindsCopy}
+use Rattle.sim_move.specs.Moves.{Arrives, AtCopy, copy_in, FindsCopy, FindsLength, FindsTarget, IndexesSource, length_read, LengthTold, source_entry}
+use Rattle.sim_move.specs.Moves.{source_read, SourceTold, target_in, target_read, TargetTold, TurnsToSource}
 use Rattle.sim_move.proofs.Codes.{has_index, told}
-use Rattle.sim_move.proofs.Arriving.{Found, found, missing, both}
+use Rattle.sim_move.proofs.Arriving.{both, Found, found, missing}
 use Rattle.sim_move.proofs.Numbers.{within_is}
 
 -- a MOVE is of some kind
@@ -40,11 +19,11 @@ pub kind_of : (o : Option GplOperation) → is_move o ≡ true → (kind : MoveK
 kind_of (Some (Move kind)) e = (kind, refl)
 kind_of _ e = absurd (cc)
 
-pub entry_is : (o : Option GplOperation) → is_move o ≡ true → operation_entry o ≡ 0x2796
+pub entry_is : (o : Option GplOperation) → is_move o ≡ true → operation_entry o ≡ GOMOVE
 entry_is (Some (Move kind)) e = refl
 entry_is _ e = absurd (cc)
 
-at_entry : (kind : MoveKind) → source_entry kind ≡ 0x22B8 → ⊥
+at_entry : (kind : MoveKind) → source_entry kind ≡ GSTOP → ⊥
 at_entry GromToMemory e = absurd (omega arith)
 at_entry GromIndexedToMemory e = absurd (omega arith)
 at_entry MemoryToMemory e = absurd (omega arith)
@@ -65,17 +44,18 @@ next_fits at h = omega arith
 
 module _ (s : GplState) (x a : MachineState) (t t1 : ℕ) (fits : code_byte s < 256) (one : FindsLength s x a t t1) where
   -- there is no length
-  pub no_length : a.cpu.pc ≡ 0x22B8 → FindsCopy s x a t t1
+  pub no_length : a.cpu.pc ≡ GSTOP → FindsCopy s x a t t1
   no_length here kind known =
-      let m = missing 70 s x a t t1 0x27AE (LengthTold s (length_read s).1) (length_of s (length_read s).0) (λ e. absurd (omega arith)) here one in
-      let P : Result ℕ Reason → Type 0 = λ q. Arrives 190 s x a t t1 0x27D0 (AtCopy kind s) (q >>= λ count. (target_in s count (target_read kind s).0 >>= λ found. (origin_of s found.0 (source_read kind s).0 >>= λ from. Ok (found, from)))) in
+      let m = missing 70 s x a t t1 MOVEL (LengthTold s (length_read s).1) (length_of s (length_read s).0) (λ e. absurd (omega arith)) here one in
+      let P : Result ℕ Reason → Type 0 = λ q. Arrives 190 s x a t t1 MOVEB (AtCopy kind s)
+      (q >>= λ count. (target_in s count (target_read kind s).0 >>= λ found. (origin_of s found.0 (source_read kind s).0 >>= λ from. Ok (found, from)))) in
       subst P (sym m.is) (comes_as 190 _ m.comes (omega arith) (λ w q. q))
 
-  module _ (away : a.cpu.pc ≡ 0x22B8 → ⊥) where
-    first : Found 70 x a t t1 0x27AE (LengthTold s (length_read s).1) (length_of s (length_read s).0)
-    first = found 70 s x a t t1 0x27AE (LengthTold s (length_read s).1) (length_of s (length_read s).0) away one
+  module _ (away : a.cpu.pc ≡ GSTOP → ⊥) where
+    first : Found 70 x a t t1 MOVEL (LengthTold s (length_read s).1) (length_of s (length_read s).0)
+    first = found 70 s x a t t1 MOVEL (LengthTold s (length_read s).1) (length_of s (length_read s).0) away one
 
-    pub stands_target : Stands a 0x27AE
+    pub stands_target : Stands a MOVEL
     stands_target = first.comes.stands
 
     pub idle_target : PortsAreIdle a.cpu.memory
@@ -86,43 +66,48 @@ module _ (s : GplState) (x a : MachineState) (t t1 : ℕ) (fits : code_byte s < 
 
     -- what is found behind the length
     abbrev Behind : MoveKind → MachineState → ℕ → Result (ℕ × To) Reason → Type 0
-    Behind kind y u q = Arrives 190 s x y t u 0x27D0 (AtCopy kind s) (q >>= λ found. (origin_of s found.0 (source_read kind s).0 >>= λ from. Ok (found, from)))
+    Behind kind y u q = Arrives 190 s x y t u MOVEB (AtCopy kind s) (q >>= λ found. (origin_of s found.0 (source_read kind s).0 >>= λ from. Ok (found, from)))
 
-    behind_length : (kind : MoveKind) (y : MachineState) (u : ℕ) → Behind kind y u (target_in s first.found (target_read kind s).0) → Arrives 190 s x y t u 0x27D0 (AtCopy kind s) (copy_in kind s)
+    behind_length : (kind : MoveKind) (y : MachineState) (u : ℕ) → Behind kind y u (target_in s first.found (target_read kind s).0) →
+        Arrives 190 s x y t u MOVEB (AtCopy kind s) (copy_in kind s)
     behind_length kind y u h =
-        let P : Result ℕ Reason → Type 0 = λ q. Arrives 190 s x y t u 0x27D0 (AtCopy kind s) (q >>= λ count. (target_in s count (target_read kind s).0 >>= λ found. (origin_of s found.0 (source_read kind s).0 >>= λ from. Ok (found, from)))) in
+        let P : Result ℕ Reason → Type 0 = λ q. Arrives 190 s x y t u MOVEB (AtCopy kind s)
+        (q >>= λ count. (target_in s count (target_read kind s).0 >>= λ found. (origin_of s found.0 (source_read kind s).0 >>= λ from. Ok (found, from)))) in
         subst P (sym first.is) h
 
     module _ (b : MachineState) (t2 : ℕ) (two : FindsTarget a b t1 t2) where
-      pub no_target : b.cpu.pc ≡ 0x22B8 → FindsCopy s x b t t2
+      pub no_target : b.cpu.pc ≡ GSTOP → FindsCopy s x b t t2
       no_target here kind known =
-          let m = missing 57 s a b t1 t2 (source_entry kind) (TargetTold s kind (target_read kind s).1) (target_in s first.found (target_read kind s).0) (at_entry kind) here
+          let m = missing 57 s a b t1 t2 (source_entry kind) (TargetTold s kind (target_read kind s).1) (target_in s first.found (target_read kind s).0)
+          (at_entry kind) here
           (two s kind first.found fits known first.comes.holds) in
           behind_length kind b t2 (subst (Behind kind b t2) (sym m.is) (comes_as 190 _ (comes_on 70 57 first.comes m.comes refl) (omega arith) (λ w q. q)))
 
-      module _ (gone : b.cpu.pc ≡ 0x22B8 → ⊥) where
+      module _ (gone : b.cpu.pc ≡ GSTOP → ⊥) where
         abbrev Second : MoveKind → Type 0
         Second kind = Found 127 x b t t2 (source_entry kind) (TargetTold s kind (target_read kind s).1) (target_in s first.found (target_read kind s).0)
 
         second : (kind : MoveKind) → operation_in s ≡ Some (Move kind) → Second kind
         second kind known =
-            let f = found 57 s a b t1 t2 (source_entry kind) (TargetTold s kind (target_read kind s).1) (target_in s first.found (target_read kind s).0) gone (two s kind first.found fits known first.comes.holds) in
+            let f = found 57 s a b t1 t2 (source_entry kind) (TargetTold s kind (target_read kind s).1) (target_in s first.found (target_read kind s).0) gone
+            (two s kind first.found fits known first.comes.holds) in
             record { found = f.found; is = f.is; comes = comes_on 70 57 first.comes f.comes refl }
 
         -- what is found behind the target
-        behind_target : (kind : MoveKind) (f : Second kind) (y : MachineState) (u : ℕ) → Arrives 190 s x y t u 0x27D0 (AtCopy kind s) (origin_of s f.found.0 (source_read kind s).0 >>= λ from. Ok (f.found, from)) →
-            Arrives 190 s x y t u 0x27D0 (AtCopy kind s) (copy_in kind s)
+        behind_target : (kind : MoveKind) (f : Second kind) (y : MachineState) (u : ℕ) → Arrives 190 s x y t u MOVEB (AtCopy kind s)
+            (origin_of s f.found.0 (source_read kind s).0 >>= λ from. Ok (f.found, from)) →
+            Arrives 190 s x y t u MOVEB (AtCopy kind s) (copy_in kind s)
         behind_target kind f y u h = behind_length kind y u (subst (Behind kind y u) (sym f.is) h)
 
         -- ---- a source in memory
 
-        memory_alone : (kind : MoveKind) → (source_entry kind ≡ 0x280E → ⊥) → kind ≡ MemoryToMemory
+        memory_alone : (kind : MoveKind) → (source_entry kind ≡ MOVES → ⊥) → kind ≡ MemoryToMemory
         memory_alone GromToMemory e = absurd (e refl)
         memory_alone GromIndexedToMemory e = absurd (e refl)
         memory_alone MemoryToMemory e = refl
         memory_alone GromToRegisters e = absurd (e refl)
 
-        module _ (family : is_move (operation_in s) ≡ true) (other : b.cpu.pc ≡ 0x280E → ⊥) where
+        module _ (family : is_move (operation_in s) ≡ true) (other : b.cpu.pc ≡ MOVES → ⊥) where
           only : (kind : MoveKind) → operation_in s ≡ Some (Move kind) → kind ≡ MemoryToMemory
           only kind known = memory_alone kind (λ e. other ((second kind known).comes.stands.pc ∙ e))
 
@@ -132,7 +117,7 @@ module _ (s : GplState) (x a : MachineState) (t t1 : ℕ) (fits : code_byte s < 
           f : Second MemoryToMemory
           f = second MemoryToMemory in_memory
 
-          pub stands_source : Stands b 0x22EC
+          pub stands_source : Stands b ADDR
           stands_source = f.comes.stands
 
           pub idle_source : PortsAreIdle b.cpu.memory
@@ -182,14 +167,16 @@ module _ (s : GplState) (x a : MachineState) (t t1 : ℕ) (fits : code_byte s < 
             from_place place = Ok (f.found, FromMemory place)
 
             then_from : (r : Result Place Reason) →
-                (let pair : From → Result ((ℕ × To) × From) Reason = λ from. Ok (f.found, from) in ((r >>= λ place. Ok (FromMemory place)) >>= pair) ≡ (r >>= from_place))
+                (let pair : From → Result ((ℕ × To) × From) Reason = λ from. Ok (f.found, from) in
+                ((r >>= λ place. Ok (FromMemory place)) >>= pair) ≡ (r >>= from_place))
             then_from (Ok place) = refl
             then_from (Err reason) = refl
 
-            by_place : (r : Result Place Reason) → Finds b y t2 t3 operand.1 r → Arrives 190 s x y t t3 0x27D0 (AtCopy MemoryToMemory s) (r >>= from_place)
+            by_place : (r : Result Place Reason) → Finds b y t2 t3 operand.1 r → Arrives 190 s x y t t3 MOVEB (AtCopy MemoryToMemory s) (r >>= from_place)
             by_place (Ok place) g =
-                let to : return_of (view b) ≡ 0x27D0 = ap even f.comes.holds.link in
-                let g2 : Comes 45 b y t2 t3 0x27D0 (Placed (view b) operand.1 place) = subst (λ (p : ℕ). Comes 45 b y t2 t3 p (Placed (view b) operand.1 place)) to g in
+                let to : return_of (view b) ≡ MOVEB = ap even f.comes.holds.link in
+                let g2 : Comes 45 b y t2 t3 MOVEB (Placed (view b) operand.1 place) =
+                subst (λ (p : ℕ). Comes 45 b y t2 t3 p (Placed (view b) operand.1 place)) to g in
                 comes_as 190 (AtCopy MemoryToMemory s (f.found, FromMemory place)) (comes_on 127 45 f.comes g2 refl) (omega arith) (ready place)
             by_place (Err reason) g =
                 comes_as 190 (StoppedBy s reason) (comes_on 127 45 f.comes g refl) (omega arith)
@@ -197,18 +184,19 @@ module _ (s : GplState) (x a : MachineState) (t t1 : ℕ) (fits : code_byte s < 
 
             pub from_memory : FindsCopy s x y t t3
             from_memory kind known =
-                let Q : Result ((ℕ × To) × From) Reason → Type 0 = Arrives 190 s x y t t3 0x27D0 (AtCopy MemoryToMemory s) in
-                let P : MoveKind → Type 0 = λ k. Arrives 190 s x y t t3 0x27D0 (AtCopy k s) (copy_in k s) in
+                let Q : Result ((ℕ × To) × From) Reason → Type 0 = Arrives 190 s x y t t3 MOVEB (AtCopy MemoryToMemory s) in
+                let P : MoveKind → Type 0 = λ k. Arrives 190 s x y t t3 MOVEB (AtCopy k s) (copy_in k s) in
                 subst P (sym (only kind known))
-                (behind_target MemoryToMemory f y t3 (subst Q (sym (then_from (place_of s f.found.0 operand.0))) (by_place (place_of s f.found.0 operand.0) finds)))
+                (behind_target MemoryToMemory f y t3 (subst Q (sym (then_from (place_of s f.found.0 operand.0)))
+                (by_place (place_of s f.found.0 operand.0) finds)))
 
         -- ---- a source in GROM
 
-        pub stands_grom : is_move (operation_in s) ≡ true → b.cpu.pc ≡ 0x280E → Stands b 0x280E
-        stands_grom family here = let k = kind_of (operation_in s) family in stands_at 0x280E b here (second k.0 k.1).comes.stands
+        pub stands_grom : is_move (operation_in s) ≡ true → b.cpu.pc ≡ MOVES → Stands b MOVES
+        stands_grom family here = let k = kind_of (operation_in s) family in stands_at MOVES b here (second k.0 k.1).comes.stands
 
-        module _ (here : b.cpu.pc ≡ 0x280E) where
-          in_grom : (kind : MoveKind) → operation_in s ≡ Some (Move kind) → source_entry kind ≡ 0x280E
+        module _ (here : b.cpu.pc ≡ MOVES) where
+          in_grom : (kind : MoveKind) → operation_in s ≡ Some (Move kind) → source_entry kind ≡ MOVES
           in_grom kind known = sym (second kind known).comes.stands.pc ∙ here
 
           module _ (c : MachineState) (t3 : ℕ) (indexes : IndexesSource b c t2 t3) where
@@ -228,20 +216,21 @@ module _ (s : GplState) (x a : MachineState) (t t1 : ℕ) (fits : code_byte s < 
             abbrev from_address : (found : ℕ × To) → ℕ → Result ((ℕ × To) × From) Reason
             from_address found address = Ok (found, FromGrom address)
 
-            origin_by : (kind : MoveKind) → source_entry kind ≡ 0x280E → (found : ℕ × To) →
+            origin_by : (kind : MoveKind) → source_entry kind ≡ MOVES → (found : ℕ × To) →
                 (let pair : From → Result ((ℕ × To) × From) Reason = λ from. Ok (found, from) in
                 (origin_of s found.0 (source_read kind s).0 >>= pair) ≡ (indexed s (index_of kind (has_index kind)).0 (address kind).0 >>= from_address found))
             origin_by GromToMemory e found = refl
             origin_by GromIndexedToMemory e found = then_pair (indexed s (index_of GromIndexedToMemory true).0 (address GromIndexedToMemory).0) found
               where
                 then_pair : (r : Result ℕ Reason) (found : ℕ × To) →
-                    (let pair : From → Result ((ℕ × To) × From) Reason = λ from. Ok (found, from) in ((r >>= λ address. Ok (FromGrom address)) >>= pair) ≡ (r >>= from_address found))
+                    (let pair : From → Result ((ℕ × To) × From) Reason = λ from. Ok (found, from) in
+                    ((r >>= λ address. Ok (FromGrom address)) >>= pair) ≡ (r >>= from_address found))
                 then_pair (Ok address) found = refl
                 then_pair (Err reason) found = refl
             origin_by MemoryToMemory e found = absurd (omega arith)
             origin_by GromToRegisters e found = refl
 
-            next_by : (kind : MoveKind) → source_entry kind ≡ 0x280E → (source_read kind s).1 ≡ (index_of kind (has_index kind)).1
+            next_by : (kind : MoveKind) → source_entry kind ≡ MOVES → (source_read kind s).1 ≡ (index_of kind (has_index kind)).1
             next_by GromToMemory e = refl
             next_by GromIndexedToMemory e = refl
             next_by MemoryToMemory e = absurd (omega arith)
@@ -254,40 +243,44 @@ module _ (s : GplState) (x a : MachineState) (t t1 : ℕ) (fits : code_byte s < 
                 (let pair : From → Result ((ℕ × To) × From) Reason = λ from. Ok (found, from) in
                 (origin_of s found.0 (source_read kind s).0 >>= pair) ≡ (indexed s (index kind).0 (address kind).0 >>= from_address found))
             origin_is kind known found =
-                origin_by kind (in_grom kind known) found ∙ ap (λ (b : Bool). indexed s (index_of kind b).0 (address kind).0 >>= from_address found) (sym (bit_is kind known))
+                origin_by kind (in_grom kind known) found ∙ ap (λ (b : Bool). indexed s (index_of kind b).0 (address kind).0 >>= from_address found)
+                (sym (bit_is kind known))
 
             whole : (kind : MoveKind) (known : operation_in s ≡ Some (Move kind)) (y : MachineState) (u : ℕ) →
-                Arrives 190 s x y t u 0x27D0 (AtCopy kind s) (indexed s (index kind).0 (address kind).0 >>= from_address (second kind known).found) →
-                Arrives 190 s x y t u 0x27D0 (AtCopy kind s) (copy_in kind s)
+                Arrives 190 s x y t u MOVEB (AtCopy kind s) (indexed s (index kind).0 (address kind).0 >>= from_address (second kind known).found) →
+                Arrives 190 s x y t u MOVEB (AtCopy kind s) (copy_in kind s)
             whole kind known y u h =
                 let f = second kind known in
-                let Q : Result ((ℕ × To) × From) Reason → Type 0 = Arrives 190 s x y t u 0x27D0 (AtCopy kind s) in
+                let Q : Result ((ℕ × To) × From) Reason → Type 0 = Arrives 190 s x y t u MOVEB (AtCopy kind s) in
                 behind_target kind f y u (subst Q (sym (origin_is kind known f.found)) h)
 
             -- its address with the index, or a stop
             abbrev Indexed : MoveKind → Type 0
-            Indexed kind = Arrives 39 s b c t2 t3 0x2826 (SourceTold (view b) s.image (index kind).1) (indexed s (index kind).0 (address kind).0)
+            Indexed kind = Arrives 39 s b c t2 t3 MOVEX (SourceTold (view b) s.image (index kind).1) (indexed s (index kind).0 (address kind).0)
 
             indexed_at : (kind : MoveKind) (known : operation_in s ≡ Some (Move kind)) → Indexed kind
             indexed_at kind known = let f = second kind known in indexes s f.found.0 (target_read kind s).1 fits f.comes.holds.holds
 
-            to_source : (kind : MoveKind) (known : operation_in s ≡ Some (Move kind)) → Comes 127 x b t t2 0x280E (TargetTold s kind (target_read kind s).1 (second kind known).found)
+            to_source : (kind : MoveKind) (known : operation_in s ≡ Some (Move kind)) → Comes 127 x b t t2 MOVES
+                (TargetTold s kind (target_read kind s).1 (second kind known).found)
             to_source kind known =
                 let f = second kind known in
                 subst (λ (p : ℕ). Comes 127 x b t t2 p (TargetTold s kind (target_read kind s).1 f.found)) (in_grom kind known) f.comes
 
-            pub no_source : c.cpu.pc ≡ 0x22B8 → FindsCopy s x c t t3
+            pub no_source : c.cpu.pc ≡ GSTOP → FindsCopy s x c t t3
             no_source there kind known =
-                let m = missing 39 s b c t2 t3 0x2826 (SourceTold (view b) s.image (index kind).1) (indexed s (index kind).0 (address kind).0) (λ e. absurd (omega arith)) there (indexed_at kind known) in
-                let P : Result ℕ Reason → Type 0 = λ q. Arrives 190 s x c t t3 0x27D0 (AtCopy kind s) (q >>= from_address (second kind known).found) in
+                let m = missing 39 s b c t2 t3 MOVEX (SourceTold (view b) s.image (index kind).1) (indexed s (index kind).0 (address kind).0)
+                (λ e. absurd (omega arith)) there (indexed_at kind known) in
+                let P : Result ℕ Reason → Type 0 = λ q. Arrives 190 s x c t t3 MOVEB (AtCopy kind s) (q >>= from_address (second kind known).found) in
                 whole kind known c t3 (subst P (sym m.is) (comes_as 190 _ (comes_on 127 39 (to_source kind known) m.comes refl) (omega arith) (λ w q. q)))
 
-            module _ (on : c.cpu.pc ≡ 0x22B8 → ⊥) where
+            module _ (on : c.cpu.pc ≡ GSTOP → ⊥) where
               third : (kind : MoveKind) (known : operation_in s ≡ Some (Move kind)) →
-                  Found 39 b c t2 t3 0x2826 (SourceTold (view b) s.image (index kind).1) (indexed s (index kind).0 (address kind).0)
-              third kind known = found 39 s b c t2 t3 0x2826 (SourceTold (view b) s.image (index kind).1) (indexed s (index kind).0 (address kind).0) on (indexed_at kind known)
+                  Found 39 b c t2 t3 MOVEX (SourceTold (view b) s.image (index kind).1) (indexed s (index kind).0 (address kind).0)
+              third kind known = found 39 s b c t2 t3 MOVEX (SourceTold (view b) s.image (index kind).1) (indexed s (index kind).0 (address kind).0) on
+                  (indexed_at kind known)
 
-              pub stands_turning : is_move (operation_in s) ≡ true → Stands c 0x2826
+              pub stands_turning : is_move (operation_in s) ≡ true → Stands c MOVEX
               stands_turning family = let k = kind_of (operation_in s) family in (third k.0 k.1).comes.stands
 
               pub from_grom : (y : MachineState) (t4 : ℕ) → TurnsToSource c y t3 t4 → FindsCopy s x y t t4
@@ -301,9 +294,10 @@ module _ (s : GplState) (x a : MachineState) (t t1 : ℕ) (fits : code_byte s < 
                   next_fits (index kind).1 (subst (λ (g : GromState). g.counter < 65536) grom (is_view c g.comes.stands.machine).grom.counter) in
                   let turned = turns s.image (index kind).1 small grom in
                   let r2 : (view c).r.r2 ≡ g.found = ap (λ (u : View). u.r.r2) at in
-                  let P : Result ℕ Reason → Type 0 = λ q. Arrives 190 s x y t t4 0x27D0 (AtCopy kind s) (q >>= from_address f.found) in
+                  let P : Result ℕ Reason → Type 0 = λ q. Arrives 190 s x y t t4 MOVEB (AtCopy kind s) (q >>= from_address f.found) in
                   whole kind known y t4 (subst P (sym g.is)
-                  (comes_as 190 (AtCopy kind s (f.found, FromGrom g.found)) (comes_on 166 22 (comes_on 127 39 (to_source kind known) g.comes refl) turned refl) (omega arith)
+                  (comes_as 190 (AtCopy kind s (f.found, FromGrom g.found)) (comes_on 166 22 (comes_on 127 39 (to_source kind known) g.comes refl) turned
+                  refl) (omega arith)
                   (λ w k. let e = k.is in record {
                     cells = ap (λ (u : View). u.cells) e ∙ ap (λ (u : View). u.cells) at ∙ h.holds.sees.cells;
                     vdp = ap (λ (u : View). u.vdp.memory) e ∙ ap (λ (u : View). u.vdp.memory) at ∙ h.holds.sees.vdp;
@@ -315,6 +309,7 @@ module _ (s : GplState) (x a : MachineState) (t t1 : ℕ) (fits : code_byte s < 
                       grom = ap (λ (u : View). u.grom) e ∙ ap (grom_at s.image) r2;
                       back = ap (λ (u : View). u.r.r14) e ∙ sym (next_is kind known);
                     };
-                    stands_to = stands_again f.found.1 (view b) w h.stands_to (ap (λ (u : View). u.r.r7) e ∙ ap (λ (u : View). u.r.r7) at) (ap (λ (u : View). u.r.r8) e ∙ ap (λ (u : View). u.r.r8) at);
+                    stands_to = stands_again f.found.1 (view b) w h.stands_to (ap (λ (u : View). u.r.r7) e ∙ ap (λ (u : View). u.r.r7) at)
+                        (ap (λ (u : View). u.r.r8) e ∙ ap (λ (u : View). u.r.r8) at);
                     left = ap (λ (u : View). u.r.r12) e ∙ ap (λ (u : View). u.r.r12) at ∙ h.left;
                   })))

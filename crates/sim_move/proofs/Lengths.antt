@@ -1,63 +1,40 @@
 -- The length of MOVE.
-use Rattle.std.proofs.Common.{◌≡◌, ℕ, ◌%◌, ◌<◌, ◌≤◌, Bool, true, false, refl, sym, ap, subst, ◌∙◌, arith, Result, Ok, Err}
-use Rattle.std.specs.Prelude.{◌==◌}
-use Rattle.console_defs.specs.Words.{even}
-use Rattle.console_defs.specs.Flags.{Word}
-use Rattle.console_defs.specs.Shifts.{last_out}
-use Rattle.console_defs.specs.declared.instruction.ShiftOp.TheVariants.{SRL}
-use Rattle.console_defs.specs.Grom.{GromState}
-use Rattle.console_defs.specs.Machine.{MachineState}
-use Rattle.console_defs.proofs.GromLaws.{previous-next}
-use Rattle.source_defs.specs.Refusals.{◌>>=◌}
-use Rattle.gpl_defs.specs.declared.instruction.GplOperand.{GplOperand}
-use Rattle.gpl_defs.specs.Reading.{operand_at, length_at, word_at}
-use Rattle.step_defs.specs.declared.reason.Reason.{Reason}
-use Rattle.step_defs.specs.State.{GplState}
-use Rattle.step_defs.specs.Place.{Place, place_of, value_at}
-use Rattle.step_defs.specs.Copy.{length_of}
-use Rattle.interp_defs.specs.Match.{PortsAreIdle, IsFetched}
-use Rattle.sim_view.specs.View.{View, view, Stands}
-use Rattle.sim_view.specs.Exits.{Exits, Comes}
-use Rattle.sim_view.proofs.Compose.{comes, comes_as, comes_on}
-use Rattle.sim_operands.specs.Pieces.{return_of}
-use Rattle.sim_operands.specs.Values.{width_in, in_register, number_of_space, IsVisible}
-use Rattle.sim_operands.specs.Subroutines.{grom_at, state_of, place_in, Finds, FindsOperand, Loaded, LoadsValue, LoadsStream, streamed}
-use Rattle.sim_rows.specs.States.{Dispatched, code_byte, behind_code}
-use Rattle.sim_rows.specs.Rows.{Holds, LoadsFrom}
-use Rattle.sim_rows.proofs.Again.{idle_again}
-use Rattle.sim_rows.proofs.Ends.{idle_of, fetched_of}
-use Rattle.sim_rows.proofs.Fronting.{Asking, located, barred, finds_of, holds_again, holds_loaded, place_is, sees_again, space_small}
-use Rattle.sim_rows.proofs.Operands.{value_same, visible_of}
-use Rattle.sim_rows.proofs.Places.{place_lies, lies_at}
-use Rattle.sim_move.specs.Pieces as pieces
-use Rattle.sim_move.specs.Moves.{Arrives, LengthTold, Follows, AtPlace, LoadsPlaced, LoadsFollowing, FindsLength}
+use Rattle.std.proofs.Common.{ℕ, ◌%◌, ◌<◌, ◌==◌, ◌∙◌, ◌≡◌, ap, arith, Bool, Err, false, Ok, refl, Result, subst, sym, true}
+use Rattle.sim_rows.proofs.Common.{◌>>=◌, ADDR, Asking, barred, behind_code, code_byte, Comes, comes, comes_as, comes_on, Dispatched, even, Exits, fetched_of}
+use Rattle.sim_rows.proofs.Common.{Finds, finds_of, FindsOperand, GplOperand, GplState, grom_at, GromState, GSTOP, Holds, holds_again, holds_loaded}
+use Rattle.sim_rows.proofs.Common.{idle_again, idle_of, in_register, IsFetched, IsVisible, last_out, length_at, length_of, lies_at, LOAD, Loaded, LoadsFrom}
+use Rattle.sim_rows.proofs.Common.{LoadsStream, LoadsValue, located, MachineState, MOVEL, MOVEN, number_of_space, operand_at, Place, place_in, place_is}
+use Rattle.sim_rows.proofs.Common.{place_lies, place_of, PortsAreIdle, previous-next, Reason, return_of, sees_again, space_small, SRL, Stands, state_of}
+use Rattle.sim_rows.proofs.Common.{streamed, value_at, value_same, View, view, visible_of, width_in, Word, word_at}
+use Rattle.sim_move.specs.Moves.{Arrives, AtPlace, FindsLength, Follows, LengthTold, LoadsFollowing, LoadsPlaced}
 use Rattle.sim_move.proofs.Numbers.{odd_bit}
 use Rattle.sim_move.proofs.Ways.{first_way, second_way}
+use Rattle.sim_move.specs.Pieces as pieces
 
 -- what is found, by whether the length is in the bytes that follow
 abbrev FindsBy : GplState → MachineState → MachineState → ℕ → ℕ → Bool → Type 0
 FindsBy s x y t u b =
-    let read = length_at b s.image (behind_code s) in Arrives 70 s x y t u 0x27AE (LengthTold s read.1) (length_of s read.0)
+    let read = length_at b s.image (behind_code s) in Arrives 70 s x y t u MOVEL (LengthTold s read.1) (length_of s read.0)
 
 -- LOAD is asked for the length
 record AskedStream (s : GplState) (w : View) : Type 0 where
   pub holds : Holds s 2 (behind_code s) w
   pub space : w.r.r5 ≡ 2
-  pub link : w.r.r11 ≡ 0x27AE
+  pub link : w.r.r11 ≡ MOVEL
 
 record AskedPlace (s : GplState) (place : Place) (next : ℕ) (w : View) : Type 0 where
   pub holds : Holds s 2 next w
   pub from : LoadsFrom place w
-  pub link : w.r.r11 ≡ 0x27AE
+  pub link : w.r.r11 ≡ MOVEL
 
-module _ (y z : MachineState) (u w : ℕ) (e : Exits y z u w (pieces.load_length (view y))) where
+module _ {y z : MachineState} {u w : ℕ} (e : Exits y z u w (pieces.load_length (view y))) where
   pub idle_loading : PortsAreIdle y.cpu.memory → PortsAreIdle z.cpu.memory
   idle_loading i = idle_again y.cpu.memory z.cpu.memory (ap (λ (v : View). v.vdp) e.shows) (ap (λ (v : View). v.grom) e.shows) i
 
   pub visible_loading : IsVisible (view y).r.r5 (view y).r.r2 (view y).r.r3 → IsVisible (view z).r.r5 (view z).r.r2 (view z).r.r3
   visible_loading h = subst (λ (v : View). IsVisible v.r.r5 v.r.r2 v.r.r3) (sym e.shows) h
 
-  asks_stream : (s : GplState) → Follows s (view y) → Comes 1 y z u w 0x2368 (AskedStream s)
+  asks_stream : (s : GplState) → Follows s (view y) → Comes 1 y z u w LOAD (AskedStream s)
   asks_stream s h =
       comes e (record {
         within = omega arith;
@@ -69,7 +46,7 @@ module _ (y z : MachineState) (u w : ℕ) (e : Exits y z u w (pieces.load_length
         };
       })
 
-  asks_place : (s : GplState) (place : Place) (next : ℕ) → AtPlace s place next (view y) → Comes 1 y z u w 0x2368 (AskedPlace s place next)
+  asks_place : (s : GplState) (place : Place) (next : ℕ) → AtPlace s place next (view y) → Comes 1 y z u w LOAD (AskedPlace s place next)
   asks_place s place next h =
       comes e (record {
         within = omega arith;
@@ -92,9 +69,10 @@ module _ (y z : MachineState) (u w : ℕ) (e : Exits y z u w (pieces.load_length
         let by : GromState → ℕ → View = λ g n. streamed (record (view z) { r = record (view z).r { r3 = n }; grom = g }) in
         let made : ℕ → View = λ at. record (view z) { r = record (view z).r { r3 = 2; r6 = (read at).0 }; grom = grom_at s.image (read at).1 } in
         let is : view q ≡ made (behind_code s) =
-        l.holds ∙ ap (λ (g : GromState). by g (view z).r.r3) h.holds.sees.grom ∙ ap (by (grom_at s.image (behind_code s))) h.holds.bytes_are ∙ ap made (previous-next (behind_code s)) in
-        let to : return_of (view z) ≡ 0x27AE = ap even h.link in
-        let l2 : Comes 11 z q w k 0x27AE (λ v. v ≡ streamed (view z)) = subst (λ (p : ℕ). Comes 11 z q w k p (λ v. v ≡ streamed (view z))) to l in
+        l.holds ∙ ap (λ (g : GromState). by g (view z).r.r3) h.holds.sees.grom ∙ ap (by (grom_at s.image (behind_code s))) h.holds.bytes_are
+        ∙ ap made (previous-next (behind_code s)) in
+        let to : return_of (view z) ≡ MOVEL = ap even h.link in
+        let l2 : Comes 11 z q w k MOVEL (λ v. v ≡ streamed (view z)) = subst (λ (p : ℕ). Comes 11 z q w k p (λ v. v ≡ streamed (view z))) to l in
         let c2 = comes_on 1 11 c l2 refl in
         let n = c2.within in
         record {
@@ -129,8 +107,8 @@ module _ (y z : MachineState) (u w : ℕ) (e : Exits y z u w (pieces.load_length
         let l : LoadsValue z q w k = by_value (space_small place.space (view z).r.r5 h.from.space) in
         let v : View = view z in
         let number = value_at (state_of v) (width_in v.r.r3) (place_in v.r.r5 v.r.r2) in
-        let to : return_of v ≡ 0x27AE = ap even h.link in
-        let l2 : Comes 17 z q w k 0x27AE (Loaded v number) = subst (λ (p : ℕ). Comes 17 z q w k p (Loaded v number)) to l in
+        let to : return_of v ≡ MOVEL = ap even h.link in
+        let l2 : Comes 17 z q w k MOVEL (Loaded v number) = subst (λ (p : ℕ). Comes 17 z q w k p (Loaded v number)) to l in
         let number_is : number ≡ value_at s Word place =
         ap (λ (n : ℕ). value_at (state_of v) (width_in n) (place_in v.r.r5 v.r.r2)) h.holds.bytes_are
         ∙ ap (λ (n : ℕ). value_at (state_of v) Word (place_in n v.r.r2)) h.from.space
@@ -145,126 +123,123 @@ module _ (y z : MachineState) (u w : ℕ) (e : Exits y z u w (pieces.load_length
 
 -- ---- from the dispatch on
 
-module _ (s : GplState) (x : MachineState) (t : ℕ) (d : Dispatched s (view x)) (a : MachineState) (t1 : ℕ) (e : Exits x a t t1 (pieces.ask_length (view x))) where
-  abbrev v : View
-  v = view x
+module _ (s : GplState) {x : MachineState} {t : ℕ} (d : Dispatched s (view x)) {a : MachineState} {t1 : ℕ} (e : Exits x a t t1 (pieces.ask_length (view x)))
+  where
+    abbrev v : View
+    v = view x
 
-  abbrev operand : GplOperand × ℕ
-  operand = operand_at s.image (behind_code s)
+    abbrev operand : GplOperand × ℕ
+    operand = operand_at s.image (behind_code s)
 
-  bit_is : last_out SRL v.r.r0 1 ≡ (code_byte s % 2 == 1)
-  bit_is = ap (λ (n : ℕ). last_out SRL n 1) d.code ∙ odd_bit (code_byte s)
+    bit_is : last_out SRL v.r.r0 1 ≡ (code_byte s % 2 == 1)
+    bit_is = ap (λ (n : ℕ). last_out SRL n 1) d.code ∙ odd_bit (code_byte s)
 
-  -- the length follows
-  record Direct : Type 0 where
-    pub is_odd : (code_byte s % 2 == 1) ≡ true
-    pub comes : Comes 6 x a t t1 0x27AA (Follows s)
+    -- the length follows
+    record Direct : Type 0 where
+      pub is_odd : (code_byte s % 2 == 1) ≡ true
+      pub comes : Comes 6 x a t t1 MOVEN (Follows s)
 
-  module _ (away : a.cpu.pc ≡ 0x22EC → ⊥) where
-    direct : Direct
-    direct =
-        let w = first_way x a t t1 0x22EC (last_out SRL v.r.r0 1) _ _ e refl away in
-        record {
-          is_odd = sym bit_is ∙ w.0;
-          comes = comes w.1 (record {
-            within = omega arith;
-            to_is = refl;
-            holds = record {
-              holds = record { sees = sees_again s (behind_code s) v _ d.sees refl refl refl; code = d.code; address = d.address; bytes_are = refl; mark = refl };
-              space = refl;
-            };
-          });
+    module _ (away : a.cpu.pc ≡ ADDR → ⊥) where
+      direct : Direct
+      direct =
+          let w = first_way x a t t1 ADDR (last_out SRL v.r.r0 1) _ _ e refl away in
+          record {
+            is_odd = sym bit_is ∙ w.0;
+            comes = comes w.1 (record {
+              within = omega arith;
+              to_is = refl;
+              holds = record {
+                holds =
+                    record { sees = sees_again s (behind_code s) v _ d.sees refl refl refl; code = d.code; address = d.address; bytes_are = refl; mark = refl };
+                space = refl;
+              };
+            });
+          }
+
+      pub idle_direct : PortsAreIdle a.cpu.memory
+      idle_direct = idle_of a.cpu.memory s (behind_code s) direct.comes.holds.holds.sees
+
+      pub visible_direct : IsVisible (view a).r.r5 (view a).r.r2 (view a).r.r3
+      visible_direct = λ z. let n = direct.comes.holds.space in absurd (omega arith)
+
+      pub found_direct : (q : MachineState) (k : ℕ) → LoadsFollowing a q t1 k → FindsLength s x q t k
+      found_direct q k l =
+          subst (FindsBy s x q t k) (sym direct.is_odd) (comes_as 70 _ (comes_on 6 18 direct.comes (l s direct.comes.holds) refl) (omega arith) (λ w b. b))
+
+    -- it is at an operand
+    record Asked : Type 0 where
+      pub is_even : (code_byte s % 2 == 1) ≡ false
+      pub comes : Comes 7 x a t t1 ADDR (Asking s 2 (behind_code s) MOVEN)
+
+    module _ (here : a.cpu.pc ≡ ADDR) where
+      asked : Asked
+      asked =
+          let w = second_way x a t t1 MOVEN (last_out SRL v.r.r0 1) _ _ e refl (λ f. absurd (omega arith)) in
+          record {
+            is_even = sym bit_is ∙ w.0;
+            comes = comes w.1 (record {
+              within = omega arith;
+              to_is = refl;
+              holds = record {
+                holds =
+                    record { sees = sees_again s (behind_code s) v _ d.sees refl refl refl; code = d.code; address = d.address; bytes_are = refl; mark = refl };
+                link = refl;
+              };
+            });
+          }
+
+      pub idle_asked : PortsAreIdle a.cpu.memory
+      idle_asked = idle_of a.cpu.memory s (behind_code s) asked.comes.holds.holds.sees
+
+      pub fetched_asked : IsFetched a.cpu.memory.grom
+      fetched_asked = fetched_of a.cpu.memory s (behind_code s) asked.comes.holds.holds.sees
+
+      module _ (b : MachineState) (t2 : ℕ) (f : FindsOperand a b t1 t2) where
+        finds : Finds a b t1 t2 operand.1 (place_of s 2 operand.0)
+        finds = finds_of s s 2 (behind_code s) a b t1 t2 asked.comes.holds.holds refl f
+
+        stopped_by : b.cpu.pc ≡ GSTOP → (r : Result Place Reason) → place_of s 2 operand.0 ≡ r → Finds a b t1 t2 operand.1 r → FindsBy s x b t t2 false
+        stopped_by there (Ok place) is g =
+            let p = (located s 2 (behind_code s) operand.1 MOVEN 7 x a b t t1 t2 place refl asked.comes g).stands.pc in absurd (omega arith)
+        stopped_by there (Err reason) is g =
+            let P : Result Place Reason → Type 0 = λ q. Arrives 70 s x b t t2 MOVEL (LengthTold s operand.1) (q >>= λ p. Ok (value_at s Word p)) in
+            subst P (sym is) (comes_as 70 _ (barred s 2 (behind_code s) MOVEN 7 reason x a b t t1 t2 asked.comes g) (omega arith) (λ w k. k))
+
+        pub stopped : b.cpu.pc ≡ GSTOP → FindsLength s x b t t2
+        stopped there = subst (FindsBy s x b t t2) (sym asked.is_even) (stopped_by there (place_of s 2 operand.0) refl finds)
+
+        record Placed : Type 0 where
+          pub place : Place
+          pub is_place : place_of s 2 operand.0 ≡ Ok place
+          pub comes : Comes 52 x b t t2 MOVEN (AtPlace s place operand.1)
+
+        placed_by : (b.cpu.pc ≡ GSTOP → ⊥) → (r : Result Place Reason) → place_of s 2 operand.0 ≡ r → Finds a b t1 t2 operand.1 r → Placed
+        placed_by n (Ok place) is g = record {
+          place = place;
+          is_place = is;
+          comes = comes_as 52 _ (located s 2 (behind_code s) operand.1 MOVEN 7 x a b t t1 t2 place refl asked.comes g) (omega arith)
+              (λ w h. record { holds = h.holds; from = h.from });
         }
+        placed_by n (Err reason) is g = absurd (n g.stands.pc)
 
-    pub stands_direct : Stands a 0x27AA
-    stands_direct = direct.comes.stands
+        module _ (n : b.cpu.pc ≡ GSTOP → ⊥) where
+          placed : Placed
+          placed = placed_by n (place_of s 2 operand.0) refl finds
 
-    pub idle_direct : PortsAreIdle a.cpu.memory
-    idle_direct = idle_of a.cpu.memory s (behind_code s) direct.comes.holds.holds.sees
+          pub stands_placed : Stands b MOVEN
+          stands_placed = placed.comes.stands
 
-    pub visible_direct : IsVisible (view a).r.r5 (view a).r.r2 (view a).r.r3
-    visible_direct = λ z. let n = direct.comes.holds.space in absurd (omega arith)
+          pub idle_placed : PortsAreIdle b.cpu.memory
+          idle_placed = idle_of b.cpu.memory s operand.1 placed.comes.holds.holds.sees
 
-    pub found_direct : (q : MachineState) (k : ℕ) → LoadsFollowing a q t1 k → FindsLength s x q t k
-    found_direct q k l = subst (FindsBy s x q t k) (sym direct.is_odd) (comes_as 70 _ (comes_on 6 18 direct.comes (l s direct.comes.holds) refl) (omega arith) (λ w b. b))
+          pub visible_placed : IsVisible (view b).r.r5 (view b).r.r2 (view b).r.r3
+          visible_placed =
+              let h = placed.comes.holds in
+              visible_of placed.place 2 (view b).r.r5 (view b).r.r2 (view b).r.r3 h.from.space h.from.address h.holds.bytes_are (omega arith)
+              (lies_at 2 (place_of s 2 operand.0) placed.place (place_lies s 2 operand.0) placed.is_place)
 
-  -- it is at an operand
-  record Asked : Type 0 where
-    pub is_even : (code_byte s % 2 == 1) ≡ false
-    pub comes : Comes 7 x a t t1 0x22EC (Asking s 2 (behind_code s) 0x27AA)
-
-  module _ (here : a.cpu.pc ≡ 0x22EC) where
-    asked : Asked
-    asked =
-        let w = second_way x a t t1 0x27AA (last_out SRL v.r.r0 1) _ _ e refl (λ f. absurd (omega arith)) in
-        record {
-          is_even = sym bit_is ∙ w.0;
-          comes = comes w.1 (record {
-            within = omega arith;
-            to_is = refl;
-            holds = record {
-              holds = record { sees = sees_again s (behind_code s) v _ d.sees refl refl refl; code = d.code; address = d.address; bytes_are = refl; mark = refl };
-              link = refl;
-            };
-          });
-        }
-
-    pub idle_asked : PortsAreIdle a.cpu.memory
-    idle_asked = idle_of a.cpu.memory s (behind_code s) asked.comes.holds.holds.sees
-
-    pub fetched_asked : IsFetched a.cpu.memory.grom
-    fetched_asked = fetched_of a.cpu.memory s (behind_code s) asked.comes.holds.holds.sees
-
-    pub bytes_asked : (view a).r.r3 ≤ 16384
-    bytes_asked = let n = asked.comes.holds.holds.bytes_are in omega arith
-
-    pub stands_asked : Stands a 0x22EC
-    stands_asked = asked.comes.stands
-
-    module _ (b : MachineState) (t2 : ℕ) (f : FindsOperand a b t1 t2) where
-      finds : Finds a b t1 t2 operand.1 (place_of s 2 operand.0)
-      finds = finds_of s s 2 (behind_code s) a b t1 t2 asked.comes.holds.holds refl f
-
-      stopped_by : b.cpu.pc ≡ 0x22B8 → (r : Result Place Reason) → place_of s 2 operand.0 ≡ r → Finds a b t1 t2 operand.1 r → FindsBy s x b t t2 false
-      stopped_by there (Ok place) is g =
-          let p = (located s 2 (behind_code s) operand.1 0x27AA 7 x a b t t1 t2 place refl asked.comes g).stands.pc in absurd (omega arith)
-      stopped_by there (Err reason) is g =
-          let P : Result Place Reason → Type 0 = λ q. Arrives 70 s x b t t2 0x27AE (LengthTold s operand.1) (q >>= λ p. Ok (value_at s Word p)) in
-          subst P (sym is) (comes_as 70 _ (barred s 2 (behind_code s) 0x27AA 7 reason x a b t t1 t2 asked.comes g) (omega arith) (λ w k. k))
-
-      pub stopped : b.cpu.pc ≡ 0x22B8 → FindsLength s x b t t2
-      stopped there = subst (FindsBy s x b t t2) (sym asked.is_even) (stopped_by there (place_of s 2 operand.0) refl finds)
-
-      record Placed : Type 0 where
-        pub place : Place
-        pub is_place : place_of s 2 operand.0 ≡ Ok place
-        pub comes : Comes 52 x b t t2 0x27AA (AtPlace s place operand.1)
-
-      placed_by : (b.cpu.pc ≡ 0x22B8 → ⊥) → (r : Result Place Reason) → place_of s 2 operand.0 ≡ r → Finds a b t1 t2 operand.1 r → Placed
-      placed_by n (Ok place) is g = record {
-        place = place;
-        is_place = is;
-        comes = comes_as 52 _ (located s 2 (behind_code s) operand.1 0x27AA 7 x a b t t1 t2 place refl asked.comes g) (omega arith) (λ w h. record { holds = h.holds; from = h.from });
-      }
-      placed_by n (Err reason) is g = absurd (n g.stands.pc)
-
-      module _ (n : b.cpu.pc ≡ 0x22B8 → ⊥) where
-        placed : Placed
-        placed = placed_by n (place_of s 2 operand.0) refl finds
-
-        pub stands_placed : Stands b 0x27AA
-        stands_placed = placed.comes.stands
-
-        pub idle_placed : PortsAreIdle b.cpu.memory
-        idle_placed = idle_of b.cpu.memory s operand.1 placed.comes.holds.holds.sees
-
-        pub visible_placed : IsVisible (view b).r.r5 (view b).r.r2 (view b).r.r3
-        visible_placed =
-            let h = placed.comes.holds in
-            visible_of placed.place 2 (view b).r.r5 (view b).r.r2 (view b).r.r3 h.from.space h.from.address h.holds.bytes_are (omega arith)
-            (lies_at 2 (place_of s 2 operand.0) placed.place (place_lies s 2 operand.0) placed.is_place)
-
-        pub found_placed : (q : MachineState) (k : ℕ) → LoadsPlaced b q t2 k → FindsLength s x q t k
-        found_placed q k l =
-            let P : Result Place Reason → Type 0 = λ p. Arrives 70 s x q t k 0x27AE (LengthTold s operand.1) (p >>= λ p. Ok (value_at s Word p)) in
-            subst (FindsBy s x q t k) (sym asked.is_even) (subst P (sym placed.is_place) (comes_on 52 18 placed.comes (l s placed.place operand.1 placed.comes.holds) refl))
+          pub found_placed : (q : MachineState) (k : ℕ) → LoadsPlaced b q t2 k → FindsLength s x q t k
+          found_placed q k l =
+              let P : Result Place Reason → Type 0 = λ p. Arrives 70 s x q t k MOVEL (LengthTold s operand.1) (p >>= λ p. Ok (value_at s Word p)) in
+              subst (FindsBy s x q t k) (sym asked.is_even)
+              (subst P (sym placed.is_place) (comes_on 52 18 placed.comes (l s placed.place operand.1 placed.comes.holds) refl))

@@ -9,4 +9,4 @@ pub mod Arriving
 pub mod Copies
 pub mod Lies
 pub mod Moving
-pub mod Turning
+pub mod Dispatch

@@ -1,23 +1,11 @@
 -- What is found lies where it may be copied.
-use Rattle.std.proofs.Common.{◌≡◌, ℕ, ◌+◌, ◌<◌, ◌≤◌, Bool, true, false, refl, sym, subst, ◌∙◌, arith, Some, Result, Ok, Err}
-use Rattle.std.specs.Prelude.{nat_le, if◌then◌else◌}
+use Rattle.std.proofs.Common.{ℕ, ◌+◌, ◌<◌, ◌∙◌, ◌≡◌, ◌≤◌, arith, Bool, Err, false, if◌then◌else◌, nat_le, Ok, refl, Result, Some, subst, sym, true}
 use Rattle.std.proofs.lemmas.Bool.{leb-true}
-use Rattle.source_defs.specs.Refusals.{◌>>=◌}
-use Rattle.gpl_defs.specs.declared.instruction.MoveTarget.{MoveTarget}
-use Rattle.gpl_defs.specs.declared.instruction.MoveTarget.TheVariants as target
-use Rattle.gpl_defs.specs.declared.instruction.MoveSource.{MoveSource}
-use Rattle.gpl_defs.specs.declared.instruction.MoveSource.TheVariants as source
-use Rattle.step_defs.specs.declared.reason.Reason.{Reason}
-use Rattle.step_defs.specs.declared.reason.Reason.TheVariants.{Register}
-use Rattle.step_defs.specs.State.{GplState}
-use Rattle.step_defs.specs.Place.{Place, place_of, indexed}
-use Rattle.step_defs.specs.Copy.{From, FromMemory, FromGrom, To, ToMemory, ToRegisters, target_of, origin_of}
-use Rattle.sim_operands.specs.Values.{number_of_space}
-use Rattle.sim_rows.proofs.Fronting.{space_small}
-use Rattle.sim_rows.proofs.Places.{place_lies, lies_at}
-use Rattle.sim_view.specs.View.{View}
-use Rattle.sim_copy.specs.Copying.{StandsTo, StandsFrom}
-use Rattle.step_defs.specs.Changes.{Changes}
+use Rattle.sim_rows.proofs.Common.{◌>>=◌, Changes, From, FromGrom, FromMemory, GplState, indexed, lies_at, MoveSource, MoveTarget, number_of_space, origin_of}
+use Rattle.sim_rows.proofs.Common.{Place, place_lies, place_of, Reason, Register, space_small, target_of, To, ToMemory, ToRegisters, View}
+use Rattle.sim_copy.specs.Copying.{StandsFrom, StandsTo}
+use Rattle.sim_rows.specs.gpl_defs.declared.instruction.MoveTarget.TheVariants as target
+use Rattle.sim_rows.specs.gpl_defs.declared.instruction.MoveSource.TheVariants as source
 
 abbrev pub ToLies : ℕ → To → Type 0
 ToLies bytes (ToMemory place) = number_of_space place.space ≡ 0 → place.address + bytes ≤ 0xC2
@@ -35,7 +23,8 @@ Gives Good (Err reason) = Unit {0}
 gives_at : {X : Type 0} (Good : X → Type 0) (r : Result X Reason) (x : X) → Gives Good r → r ≡ Ok x → Good x
 gives_at Good r x h e = subst (Gives Good) e h
 
-place_gives : {X : Type 0} (Good : X → Type 0) (bytes : ℕ) (r : Result Place Reason) (f : Place → X) → ((place : Place) → r ≡ Ok place → Good (f place)) → Gives Good (r >>= λ p. Ok (f p))
+place_gives : {X : Type 0} (Good : X → Type 0) (bytes : ℕ) (r : Result Place Reason) (f : Place → X) → ((place : Place) → r ≡ Ok place → Good (f place)) →
+    Gives Good (r >>= λ p. Ok (f p))
 place_gives Good bytes (Ok place) f h = h place refl
 place_gives Good bytes (Err reason) f h = tt
 
@@ -45,7 +34,8 @@ index_gives bytes (Err reason) = tt
 
 target_gives : (s : GplState) (bytes : ℕ) (t : MoveTarget) → Gives (ToLies bytes) (target_of s bytes t)
 target_gives s bytes (target.At operand) =
-    place_gives (ToLies bytes) bytes (place_of s bytes operand) ToMemory (λ place e. lies_at bytes (place_of s bytes operand) place (place_lies s bytes operand) e)
+    place_gives (ToLies bytes) bytes (place_of s bytes operand) ToMemory (λ place e. lies_at bytes (place_of s bytes operand) place
+    (place_lies s bytes operand) e)
 target_gives s bytes (target.Register number) = by (nat_le (number + bytes) 8) refl
   where
     by : (b : Bool) → nat_le (number + bytes) 8 ≡ b → Gives (ToLies bytes) (if b then Ok (ToRegisters number) else Err Register)
@@ -54,7 +44,8 @@ target_gives s bytes (target.Register number) = by (nat_le (number + bytes) 8) r
 
 source_gives : (s : GplState) (bytes : ℕ) (t : MoveSource) → Gives (FromLies bytes) (origin_of s bytes t)
 source_gives s bytes (source.At operand) =
-    place_gives (FromLies bytes) bytes (place_of s bytes operand) FromMemory (λ place e. lies_at bytes (place_of s bytes operand) place (place_lies s bytes operand) e)
+    place_gives (FromLies bytes) bytes (place_of s bytes operand) FromMemory (λ place e. lies_at bytes (place_of s bytes operand) place
+    (place_lies s bytes operand) e)
 source_gives s bytes (source.Grom address) = tt
 source_gives s bytes (source.GromIndexed address index) = index_gives bytes (indexed s (Some index) address)
 
@@ -66,7 +57,8 @@ source_lies s bytes t from e = gives_at (FromLies bytes) (origin_of s bytes t) f
 
 -- ---- what the copy asks of the registers
 
-pub source_visible : (bytes : ℕ) (c : Changes) (from : From) (w : View) → StandsFrom c from w → w.r.r12 ≡ bytes → FromLies bytes from → w.r.r5 ≡ 0 → w.r.r2 + w.r.r12 ≤ 0xC2
+pub source_visible : (bytes : ℕ) (c : Changes) (from : From) (w : View) → StandsFrom c from w → w.r.r12 ≡ bytes → FromLies bytes from → w.r.r5 ≡ 0 →
+    w.r.r2 + w.r.r12 ≤ 0xC2
 source_visible bytes c (FromMemory place) w h n lies z =
     let le = lies (sym h.loads_from.space ∙ z) in let a = h.loads_from.address in omega arith
 source_visible bytes c (FromGrom address) w h n lies z = let two = h.space in absurd (omega arith)

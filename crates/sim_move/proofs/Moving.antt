@@ -1,30 +1,15 @@
 -- The step of MOVE is its copy, or the stop by the first check that fails.
-use Rattle.std.proofs.Common.{◌≡◌, ℕ, ◌+◌, ◌*◌, Bool, true, false, refl, ap, subst, ◌∙◌, Some, Result, Ok, Err}
-use Rattle.std.specs.Prelude.{nat_lt, nat_le, if◌then◌else◌}
-use Rattle.console_defs.specs.Flags.{Word}
-use Rattle.console_defs.specs.Words.{plus}
-use Rattle.source_defs.specs.Refusals.{◌>>=◌}
-use Rattle.gpl_defs.specs.declared.instruction.MoveKind.{MoveKind}
-use Rattle.gpl_defs.specs.declared.instruction.MoveLength.{MoveLength}
-use Rattle.gpl_defs.specs.declared.instruction.MoveLength.TheVariants as counted
-use Rattle.gpl_defs.specs.declared.instruction.MoveTarget.{MoveTarget}
-use Rattle.gpl_defs.specs.declared.instruction.MoveTarget.TheVariants as target
-use Rattle.gpl_defs.specs.declared.instruction.MoveSource.{MoveSource}
-use Rattle.gpl_defs.specs.declared.instruction.MoveSource.TheVariants as source
-use Rattle.gpl_defs.specs.declared.instruction.GplOperation.TheVariants.{Move}
-use Rattle.step_defs.specs.declared.reason.Reason.{Reason}
-use Rattle.step_defs.specs.declared.reason.Reason.TheVariants.{Exit, Cell, Length, Register}
-use Rattle.step_defs.specs.State.{GplState}
-use Rattle.step_defs.specs.Place.{Place, place_of, value_at, indexed, is_visible, word_at}
-use Rattle.step_defs.specs.Changes.{Changes, finished}
-use Rattle.step_defs.specs.Copy.{From, FromMemory, To, ToMemory, ToRegisters, length_of, within_limit, target_of, origin_of, copied, moved}
-use Rattle.step_defs.specs.Step.{step}
-use Rattle.step_defs.specs.Run.{bound, bytes_or_none}
-use Rattle.sim_rows.specs.States.{operation_in}
-use Rattle.sim_rows.proofs.Steps.{step_move, place_same, bound_made}
-use Rattle.sim_rows.proofs.Operands.{value_same}
-use Rattle.sim_rows.proofs.Places.{Lies, place_lies}
-use Rattle.sim_move.specs.Moves.{length_read, target_read, source_read, begun, target_in, copy_in}
+use Rattle.std.proofs.Common.{ℕ, ◌*◌, ◌+◌, ◌∙◌, ◌≡◌, ap, Bool, Err, false, if◌then◌else◌, nat_le, nat_lt, Ok, refl, Result, Some, subst, true}
+use Rattle.sim_rows.proofs.Common.{◌>>=◌, bound, bound_made, bytes_or_none, Cell, Changes, copied, finished, From, FromMemory, GplState, indexed, is_visible}
+use Rattle.sim_rows.proofs.Common.{Length, length_of, Lies, Move, moved, MoveKind, MoveLength, MoveSource, MoveTarget, operation_in, origin_of, Place}
+use Rattle.sim_rows.proofs.Common.{place_lies, place_of, place_same, plus, Reason, Register, step, step_move, target_of, To, ToMemory, ToRegisters, value_at}
+use Rattle.sim_rows.proofs.Common.{value_same, within_limit, Word}
+use Rattle.sim_rows.specs.step_defs.declared.reason.Reason.TheVariants.{Exit}
+use Rattle.sim_rows.specs.step_defs.Place.{word_at}
+use Rattle.sim_rows.specs.gpl_defs.declared.instruction.MoveLength.TheVariants as counted
+use Rattle.sim_rows.specs.gpl_defs.declared.instruction.MoveTarget.TheVariants as target
+use Rattle.sim_rows.specs.gpl_defs.declared.instruction.MoveSource.TheVariants as source
+use Rattle.sim_move.specs.Moves.{begun, copy_in, length_read, source_read, target_in, target_read}
 use Rattle.sim_move.proofs.Arriving.{both, same_then}
 use Rattle.sim_move.proofs.Numbers.{within_is}
 
@@ -35,7 +20,8 @@ at_pc s n = record s { pc = n }
 
 length_same : (s : GplState) (n : ℕ) (l : MoveLength) → length_of (at_pc s n) l ≡ length_of s l
 length_same s n (counted.At operand) =
-    same_then (place_of (at_pc s n) 2 operand) (place_of s 2 operand) (λ p. Ok (value_at (at_pc s n) Word p)) (λ p. Ok (value_at s Word p)) (place_same (at_pc s n) s 2 operand refl)
+    same_then (place_of (at_pc s n) 2 operand) (place_of s 2 operand) (λ p. Ok (value_at (at_pc s n) Word p)) (λ p. Ok (value_at s Word p))
+    (place_same (at_pc s n) s 2 operand refl)
     (λ p. ap Ok (value_same (at_pc s n) s Word p refl refl))
 length_same s n (counted.Immediate count) = refl
 
@@ -64,7 +50,8 @@ module _ (w : ℕ → Result ℕ Reason) (tg : ℕ → Result To Reason) (og : �
   by_source bytes to (Ok from) = refl
   by_source bytes to (Err reason) = refl
 
-  by_target : (bytes : ℕ) (r : Result To Reason) → (r >>= λ to. (og bytes >>= λ from. Ok (k bytes to from))) ≡ (((r >>= pair bytes) >>= λ found. (og found.0 >>= triple found)) >>= copy)
+  by_target : (bytes : ℕ) (r : Result To Reason) → (r >>= λ to. (og bytes >>= λ from. Ok (k bytes to from))) ≡
+      (((r >>= pair bytes) >>= λ found. (og found.0 >>= triple found)) >>= copy)
   by_target bytes (Ok to) = by_source bytes to (og bytes)
   by_target bytes (Err reason) = refl
 
@@ -152,7 +139,8 @@ module _ (s : GplState) (kind : MoveKind) where
 
   pub bound_is : operation_in s ≡ Some (Move kind) → (f : (ℕ × To) × From) → copy_in kind s ≡ Ok f → bound s ≡ 440 + 64 * f.0.0
   bound_is known f e =
-      bound_made s (finished (made f)) (Some (Move kind)) known (step_copies known f e) ∙ ap (λ (r : Result ℕ Reason). 440 + 64 * bytes_or_none r) (parts f e).length
+      bound_made s (finished (made f)) (Some (Move kind)) known (step_copies known f e) ∙ ap (λ (r : Result ℕ Reason). 440 + 64 * bytes_or_none r)
+      (parts f e).length
 
 -- ---- MOVE never leaves the program
 
@@ -207,5 +195,6 @@ no_exit s kind reason e =
     never_at (copy_in kind s) reason
     (then_never (length_of s (length_read s).0) _ (length_never s (length_read s).0)
     (λ count. then_never (target_in s count (target_read kind s).0) _
-    (then_never (within_limit count) _ (limit_never count) (λ bytes. then_never (target_of s bytes (target_read kind s).0) _ (target_never s bytes (target_read kind s).0) (λ to. tt)))
+    (then_never (within_limit count) _ (limit_never count) (λ bytes. then_never (target_of s bytes (target_read kind s).0) _
+    (target_never s bytes (target_read kind s).0) (λ to. tt)))
     (λ found. then_never (origin_of s found.0 (source_read kind s).0) _ (source_never s found.0 (source_read kind s).0) (λ from. tt)))) e

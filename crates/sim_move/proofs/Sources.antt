@@ -1,52 +1,36 @@
 -- A source in GROM.
-use Rattle.std.proofs.Common.{◌≡◌, ℕ, ◌/◌, ◌%◌, ◌<◌, Bool, true, false, refl, sym, ap, subst, ◌∙◌, arith, eqb, List, Option, Result, Ok, Err}
-use Rattle.std.specs.Prelude.{◌==◌}
+use Rattle.std.proofs.Common.{ℕ, ◌%◌, ◌/◌, ◌<◌, ◌==◌, ◌∙◌, ◌≡◌, ap, arith, Bool, eqb, Err, false, List, Ok, Option, refl, Result, subst, sym, true}
 use Rattle.std.proofs.lemmas.Bool.{eq-eqb, eqb-true}
-use Rattle.console_defs.specs.Logic.{swapped}
-use Rattle.console_defs.specs.Grom.{GromState}
-use Rattle.console_defs.specs.Machine.{MachineState}
-use Rattle.gpl_defs.specs.declared.instruction.Space.TheVariants.{Vdp}
-use Rattle.gpl_defs.specs.Reading.{word_at, index_by, space_of}
-use Rattle.step_defs.specs.declared.reason.Reason.{Reason}
-use Rattle.step_defs.specs.declared.reason.Reason.TheVariants.{Cell}
-use Rattle.step_defs.specs.State.{GplState}
-use Rattle.step_defs.specs.Place.{Place, indexed, ranged}
-use Rattle.sim_view.specs.View.{View, view, Stands}
-use Rattle.sim_view.specs.Exits.{Exit, Exits, Comes}
-use Rattle.sim_view.proofs.Bridge.{is_view}
-use Rattle.sim_view.proofs.Compose.{Goes, comes, comes_then, comes_as}
-use Rattle.sim_operands.specs.Pieces as operands
-use Rattle.sim_operands.specs.Pieces.{exit, return_of}
-use Rattle.sim_operands.specs.Subroutines.{grom_at, state_of, Addressed, Placed, Barred}
-use Rattle.sim_operands.proofs.Addressing.{Answers, IndexRead, index_read, RangeRead, range_read}
-use Rattle.sim_operands.proofs.Ready.{set_is}
-use Rattle.sim_rows.specs.Pieces as rows
-use Rattle.sim_rows.specs.States.{StoppedBy, code_byte}
-use Rattle.sim_rows.specs.Rows.{Holds}
-use Rattle.sim_rows.proofs.Beginning.{just, from, known, lost, located_at, where_found}
-use Rattle.sim_rows.proofs.Fronting.{barred_stops}
-use Rattle.sim_move.specs.Pieces as pieces
-use Rattle.sim_move.specs.Pieces.{form_of}
+use Rattle.sim_rows.proofs.Common.{Addressed, Answers, ASPACE, Barred, barred_stops, Cell, code_byte, Comes, comes, comes_as, comes_then, Exit, exit, Exits}
+use Rattle.sim_rows.proofs.Common.{from, Goes, GplState, grom_at, GromState, GSTOP, Holds, INDEX, index_by, index_read, indexed, IndexRead, is_view, just}
+use Rattle.sim_rows.proofs.Common.{known, located_at, lost, MachineState, MOVEA, MOVEK, MOVEW, MOVEX, Place, Placed, range_read, ranged, RangeRead, Reason}
+use Rattle.sim_rows.proofs.Common.{SEEK, set_is, space_of, Stands, state_of, StoppedBy, STREAM, swapped, Vdp, View, view, WHERE, where_found, word_at}
 use Rattle.sim_move.specs.Moves.{Arrives, SourceTold, TurnsToSource}
-use Rattle.sim_move.proofs.Numbers.{form_by, form_is, form_fits, form_index, form_space}
+use Rattle.sim_move.proofs.Numbers.{form_by, form_fits, form_index, form_is, form_space}
+use Rattle.sim_rows.specs.sim_operands.Pieces as operands
+use Rattle.sim_rows.specs.Pieces as rows
+use Rattle.sim_move.specs.Pieces as pieces
 
 -- ---- the address with its index
 
 not_both : (b : Bool) → b ≡ true → b ≡ false → ⊥
 not_both b e f = cc
 
-stops_with : (e : Exit) (Good : ℕ → View → Type 0) (Bad : View → Type 0) (q : Result ℕ Reason) → Answers q (λ address. Goes e 12 0x2350 (Good address)) (Goes e 8 0x22B8 Bad) →
-    eqb e.to 0x2350 ≡ false → (q ≡ Err Cell) × Goes e 8 0x22B8 Bad
-stops_with e Good Bad (Ok address) a f = absurd (not_both (eqb e.to 0x2350) (eq-eqb e.to 0x2350 a.to_is) f)
+stops_with : (e : Exit) (Good : ℕ → View → Type 0) (Bad : View → Type 0) (q : Result ℕ Reason) →
+    Answers q (λ address. Goes e 12 ASPACE (Good address)) (Goes e 8 GSTOP Bad) →
+    eqb e.to ASPACE ≡ false → (q ≡ Err Cell) × Goes e 8 GSTOP Bad
+stops_with e Good Bad (Ok address) a f = absurd (not_both (eqb e.to ASPACE) (eq-eqb e.to ASPACE a.to_is) f)
 stops_with e Good Bad (Err reason) a f = (ap Err a.0, a.1)
 
-goes_with : (e : Exit) (Good : ℕ → View → Type 0) (Bad : View → Type 0) (q : Result ℕ Reason) → Answers q (λ address. Goes e 12 0x2350 (Good address)) (Goes e 8 0x22B8 Bad) →
-    eqb e.to 0x2350 ≡ true → (address : ℕ) × (q ≡ Ok address) × Goes e 12 0x2350 (Good address)
+goes_with : (e : Exit) (Good : ℕ → View → Type 0) (Bad : View → Type 0) (q : Result ℕ Reason) →
+    Answers q (λ address. Goes e 12 ASPACE (Good address)) (Goes e 8 GSTOP Bad) →
+    eqb e.to ASPACE ≡ true → (address : ℕ) × (q ≡ Ok address) × Goes e 12 ASPACE (Good address)
 goes_with e Good Bad (Ok address) a f = (address, refl, a)
-goes_with e Good Bad (Err reason) a f = absurd (let n : e.to ≡ 0x2350 = eqb-true e.to 0x2350 f in let m = a.1.to_is in omega arith)
+goes_with e Good Bad (Err reason) a f = absurd (let n : e.to ≡ ASPACE = eqb-true e.to ASPACE f in let m = a.1.to_is in omega arith)
 
-module _ (x a b c d : MachineState) (t t1 t2 t3 t4 : ℕ) (e1 : Exits x a t t1 (pieces.ask_source (view x))) (e2 : Exits a b t1 t2 (operands.stream (view a)))
-    (e3 : Exits b c t2 t3 (pieces.ask_index (view b))) (e4 : Exits c d t3 t4 (operands.index (view c))) (s : GplState) (bytes next : ℕ) (fits : code_byte s < 256) (h : Holds s bytes next (view x)) where
+module _ {x a b c d : MachineState} {t t1 t2 t3 t4 : ℕ} (e1 : Exits x a t t1 (pieces.ask_source (view x))) (e2 : Exits a b t1 t2 (operands.stream (view a)))
+    (e3 : Exits b c t2 t3 (pieces.ask_index (view b))) (e4 : Exits c d t3 t4 (operands.index (view c))) (s : GplState) {bytes next : ℕ}
+    (fits : code_byte s < 256) (h : Holds s bytes next (view x)) where
   abbrev v : View
   v = view x
 
@@ -65,7 +49,7 @@ module _ (x a b c d : MachineState) (t t1 t2 t3 t4 : ℕ) (e1 : Exits x a t t1 (
   abbrev streamed : View
   streamed = record asked { r = record asked.r { r6 = read.0 }; grom = grom_at s.image read.1 }
 
-  stream_is : operands.stream asked ≡ exit 8 0x2816 streamed
+  stream_is : operands.stream asked ≡ exit 8 MOVEA streamed
   stream_is = let by : GromState → Exit = λ g. operands.stream (record asked { grom = g }) in ap by h.sees.grom
 
   -- INDEX is asked
@@ -73,7 +57,7 @@ module _ (x a b c d : MachineState) (t t1 t2 t3 t4 : ℕ) (e1 : Exits x a t t1 (
   form = form_by code
 
   abbrev at_form : ℕ → View
-  at_form n = record streamed { r = record streamed.r { r2 = read.0; r5 = n; r11 = 0x2826 } }
+  at_form n = record streamed { r = record streamed.r { r2 = read.0; r5 = n; r11 = MOVEX } }
 
   abbrev begun : View
   begun = at_form (form / 32)
@@ -81,10 +65,10 @@ module _ (x a b c d : MachineState) (t t1 t2 t3 t4 : ℕ) (e1 : Exits x a t t1 (
   begun_is : (pieces.ask_index streamed).left ≡ begun
   begun_is = ap at_form (form_is code small)
 
-  asks : Comes 17 x c t t3 0x2330 (λ w. w ≡ begun)
+  asks : Comes 17 x c t t3 INDEX (λ w. w ≡ begun)
   asks =
-      let c1 = comes e1 (just (pieces.ask_source v) 2 0x23AC (omega arith) refl) in
-      let c2 = comes_then 2 8 c1 e2 (from operands.stream c1.holds (known stream_is (just (exit 8 0x2816 streamed) 8 0x2816 (omega arith) refl))) refl in
+      let c1 = comes e1 (just (pieces.ask_source v) 2 STREAM (omega arith) refl) in
+      let c2 = comes_then 2 8 c1 e2 (from operands.stream c1.holds (known stream_is (just (exit 8 MOVEA streamed) 8 MOVEA (omega arith) refl))) refl in
       comes_then 10 7 c2 e3 (from pieces.ask_index c2.holds (record { within = omega arith; to_is = refl; holds = begun_is })) refl
 
   holds_begun : Holds s 2 read.1 begun
@@ -111,7 +95,7 @@ module _ (x a b c d : MachineState) (t t1 t2 t3 t4 : ℕ) (e1 : Exits x a t t1 (
 
   -- what is found, by whether the code byte has an index
   abbrev FoundBy : MachineState → ℕ → Bool → Type 0
-  FoundBy y u b = let found = index_by b s.image read.1 in Arrives 39 s x y t u 0x2826 (SourceTold v s.image found.1) (indexed s found.0 read.0)
+  FoundBy y u b = let found = index_by b s.image read.1 in Arrives 39 s x y t u MOVEX (SourceTold v s.image found.1) (indexed s found.0 read.0)
 
   bit_is : (form / 64 % 2 == 1) ≡ (code_byte s / 2 % 2 == 1)
   bit_is = form_index code ∙ ap (λ (n : ℕ). n / 2 % 2 == 1) h.code
@@ -120,50 +104,57 @@ module _ (x a b c d : MachineState) (t t1 t2 t3 t4 : ℕ) (e1 : Exits x a t t1 (
   told_by y u f = subst (FoundBy y u) bit_is f
 
   abbrev With : MachineState → ℕ → Result ℕ Reason → Type 0
-  With y u q = Arrives 39 s x y t u 0x2826 (SourceTold v s.image index.1) q
+  With y u q = Arrives 39 s x y t u MOVEX (SourceTold v s.image index.1) q
 
   at_index : {most to : ℕ} {Q : View → Type 0} → Goes (operands.index begun) most to Q → Goes (operands.index (view c)) most to Q
   at_index g = from operands.index asks.holds g
 
-  to_index : eqb (operands.index (view c)).to 0x2350 ≡ eqb (operands.index begun).to 0x2350
-  to_index = ap (λ (w : View). eqb (operands.index w).to 0x2350) asks.holds
+  to_index : eqb (operands.index (view c)).to ASPACE ≡ eqb (operands.index begun).to ASPACE
+  to_index = ap (λ (w : View). eqb (operands.index w).to ASPACE) asks.holds
 
-  pub stopped : eqb (operands.index (view c)).to 0x2350 ≡ false → FoundBy d t4 (code_byte s / 2 % 2 == 1)
+  pub stopped : eqb (operands.index (view c)).to ASPACE ≡ false → FoundBy d t4 (code_byte s / 2 % 2 == 1)
   stopped f =
-      let k = stops_with (operands.index begun) (λ address. Addressed begun address (form / 32) index.1) (Barred begun Cell) (indexed (state_of begun) index.0 read.0) index_found (sym to_index ∙ f) in
-      let c2 : Comes 39 x d t t4 0x22B8 (StoppedBy s Cell) =
+      let k = stops_with (operands.index begun) (λ address. Addressed begun address (form / 32) index.1) (Barred begun Cell)
+      (indexed (state_of begun) index.0 read.0) index_found (sym to_index ∙ f) in
+      let c2 : Comes 39 x d t t4 GSTOP (StoppedBy s Cell) =
       comes_as 39 _ (comes_then 17 8 asks e4 (at_index k.1) refl) (omega arith) (λ w q. barred_stops s 2 read.1 Cell begun w holds_begun q) in
       told_by d t4 (subst (With d t4) (sym (sym index_cells ∙ k.0)) c2)
 
-  module _ (y : MachineState) (t5 : ℕ) (e5 : Exits d y t4 t5 (operands.range (view d))) (went : eqb (operands.index (view c)).to 0x2350 ≡ true) where
-    gone_on : (address : ℕ) × (indexed (state_of begun) index.0 read.0 ≡ Ok address) × Goes (operands.index begun) 12 0x2350 (Addressed begun address (form / 32) index.1)
-    gone_on = goes_with (operands.index begun) (λ address. Addressed begun address (form / 32) index.1) (Barred begun Cell) (indexed (state_of begun) index.0 read.0) index_found (sym to_index ∙ went)
+  module _ {y : MachineState} {t5 : ℕ} (e5 : Exits d y t4 t5 (operands.range (view d))) (went : eqb (operands.index (view c)).to ASPACE ≡ true) where
+    gone_on : (address : ℕ) × (indexed (state_of begun) index.0 read.0 ≡ Ok address) × Goes (operands.index begun) 12 ASPACE
+        (Addressed begun address (form / 32) index.1)
+    gone_on = goes_with (operands.index begun) (λ address. Addressed begun address (form / 32) index.1) (Barred begun Cell)
+        (indexed (state_of begun) index.0 read.0) index_found (sym to_index ∙ went)
 
     abbrev address : ℕ
     address = gone_on.0
 
-    added : Comes 29 x d t t4 0x2350 (Addressed begun address (form / 32) index.1)
+    added : Comes 29 x d t t4 ASPACE (Addressed begun address (form / 32) index.1)
     added = comes_then 17 12 asks e4 (at_index gone_on.2) refl
 
     in_video : ranged begun.r.r3 (space_of (form / 32 % 2 == 1)) address ≡ Ok (record { space = Vdp; address = address })
     in_video = ap (λ (b : Bool). ranged 2 (space_of b) address) (form_space code)
 
-    ranges : Goes (operands.range (view d)) 10 0x2826 (Placed begun index.1 (record { space = Vdp; address = address }))
+    ranges : Goes (operands.range (view d)) 10 MOVEX (Placed begun index.1 (record { space = Vdp; address = address }))
     ranges =
-        let all : RangeRead begun (view d) address form index.1 (operands.range (view d)) = range_read begun (view d) address form index.1 (form_fits code) (omega arith) added.holds in
-        let P : Result Place Reason → Type 0 = λ q. Answers q (λ place. Goes (operands.range (view d)) 10 0x2826 (Placed begun index.1 place)) (Goes (operands.range (view d)) 10 0x22B8 (Barred begun Cell)) in
+        let all : RangeRead begun (view d) address form index.1 (operands.range (view d)) =
+        range_read begun (view d) address form index.1 (form_fits code) (omega arith) added.holds in
+        let P : Result Place Reason → Type 0 = λ q. Answers q (λ place. Goes (operands.range (view d)) 10 MOVEX (Placed begun index.1 place))
+        (Goes (operands.range (view d)) 10 GSTOP (Barred begun Cell)) in
         subst P in_video all
 
     pub found : FoundBy y t5 (code_byte s / 2 % 2 == 1)
     found =
-        let c2 : Comes 39 x y t t5 0x2826 (SourceTold v s.image index.1 address) =
+        let c2 : Comes 39 x y t t5 MOVEX (SourceTold v s.image index.1 address) =
         comes_as 39 _ (comes_then 29 10 added e5 ranges refl) (omega arith) (λ w q. record { r4 = q.r4; r6 = q.r6; is = q.is }) in
         told_by y t5 (subst (With y t5) (sym (sym index_cells ∙ gone_on.1)) c2)
 
 -- ---- GROM at the source
 
-pub turns : (x a b c d y : MachineState) (t t1 t2 t3 t4 t5 : ℕ) → Stands x 0x2826 → Exits x a t t1 (pieces.ask_next (view x)) → Exits a b t1 t2 (rows.where_next (view a)) →
-    Exits b c t2 t3 (pieces.seek_source (view b)) → Exits c d t3 t4 (operands.seek (view c)) → Exits d y t4 t5 (pieces.turn_to_grom (view d)) → TurnsToSource x y t t5
+pub turns : (x a b c d y : MachineState) (t t1 t2 t3 t4 t5 : ℕ) → Stands x MOVEX → Exits x a t t1 (pieces.ask_next (view x)) →
+    Exits a b t1 t2 (rows.where_next (view a)) →
+    Exits b c t2 t3 (pieces.seek_source (view b)) → Exits c d t3 t4 (operands.seek (view c)) → Exits d y t4 t5 (pieces.turn_to_grom (view d)) →
+    TurnsToSource x y t t5
 turns x a b c d y t t1 t2 t3 t4 t5 stands e1 e2 e3 e4 e5 image at fits grom =
     let v : View = view x in
     let asked : View = (pieces.ask_next v).left in
@@ -171,14 +162,15 @@ turns x a b c d y t t1 t2 t3 t4 t5 stands e1 e2 e3 e4 e5 image at fits grom =
     let kept : View = (pieces.seek_source located).left in
     let sought : View = record kept { r = record kept.r { r6 = swapped v.r.r2 }; grom = grom_at image v.r.r2 } in
     let r2 = (is_view x stands.machine).r 2 in
-    let seek_is : operands.seek kept ≡ exit 4 0x2832 sought =
-    ap (λ (g : GromState). exit 4 0x2832 (record kept { r = record kept.r { r6 = swapped v.r.r2 }; grom = g })) (set_is (lost image at) v.r.r2 refl r2) in
-    let c1 = comes e1 (just (pieces.ask_next v) 1 0x22BC (omega arith) refl) in
-    let c2 = comes_then 1 12 c1 e2 (from rows.where_next c1.holds (known (where_found asked image at grom fits) (just (exit 12 0x282A located) 12 0x282A (omega arith) refl))) refl in
-    let c3 = comes_then 13 3 c2 e3 (from pieces.seek_source c2.holds (just (pieces.seek_source located) 3 0x22D8 (omega arith) refl)) refl in
-    let c4 = comes_then 16 4 c3 e4 (from operands.seek c3.holds (known seek_is (just (exit 4 0x2832 sought) 4 0x2832 (omega arith) refl))) refl in
+    let seek_is : operands.seek kept ≡ exit 4 MOVEK sought =
+    ap (λ (g : GromState). exit 4 MOVEK (record kept { r = record kept.r { r6 = swapped v.r.r2 }; grom = g })) (set_is (lost image at) v.r.r2 refl r2) in
+    let c1 = comes e1 (just (pieces.ask_next v) 1 WHERE (omega arith) refl) in
+    let c2 = comes_then 1 12 c1 e2 (from rows.where_next c1.holds (known (where_found asked image at grom fits)
+    (just (exit 12 MOVEW located) 12 MOVEW (omega arith) refl))) refl in
+    let c3 = comes_then 13 3 c2 e3 (from pieces.seek_source c2.holds (just (pieces.seek_source located) 3 SEEK (omega arith) refl)) refl in
+    let c4 = comes_then 16 4 c3 e4 (from operands.seek c3.holds (known seek_is (just (exit 4 MOVEK sought) 4 MOVEK (omega arith) refl))) refl in
     comes_then 20 2 c4 e5 (from pieces.turn_to_grom c4.holds (record {
       within = omega arith;
       to_is = refl;
-      holds = record { r4 = located.r.r4; r6 = swapped v.r.r2; r11 = 0x2832; is = refl };
+      holds = record { r4 = located.r.r4; r6 = swapped v.r.r2; r11 = MOVEK; is = refl };
     })) refl

@@ -1,41 +1,18 @@
 -- The target of MOVE.
-use Rattle.std.proofs.Common.{◌≡◌, ℕ, ◌+◌, ◌<◌, ◌≤◌, Bool, true, false, refl, sym, ap, subst, ◌∙◌, arith, Some, Result, Ok, Err}
-use Rattle.std.specs.Prelude.{nat_lt, nat_le, if◌then◌else◌, slice_index}
-use Rattle.std.proofs.lemmas.Bool.{ltb-true, ltb-false, le-leb, lt-leb}
-use Rattle.console_defs.specs.Words.{even}
-use Rattle.console_defs.specs.Flags.{Word, sum_of}
-use Rattle.console_defs.specs.Grom.{GromState, next_in_grom}
-use Rattle.console_defs.specs.Memory.{Memory}
-use Rattle.console_defs.specs.Machine.{MachineState}
-use Rattle.source_defs.specs.Refusals.{◌>>=◌}
-use Rattle.gpl_defs.specs.declared.instruction.GplOperand.{GplOperand}
-use Rattle.gpl_defs.specs.declared.instruction.MoveKind.{MoveKind}
-use Rattle.gpl_defs.specs.declared.instruction.MoveKind.TheVariants.{GromToMemory, GromIndexedToMemory, MemoryToMemory, GromToRegisters}
-use Rattle.gpl_defs.specs.declared.instruction.MoveTarget.{MoveTarget}
-use Rattle.gpl_defs.specs.declared.instruction.MoveTarget.TheVariants as target
-use Rattle.gpl_defs.specs.declared.instruction.GplOperation.TheVariants.{Move}
-use Rattle.gpl_defs.specs.Reading.{operand_at}
-use Rattle.step_defs.specs.declared.reason.Reason.{Reason}
-use Rattle.step_defs.specs.declared.reason.Reason.TheVariants.{Length, Register}
-use Rattle.step_defs.specs.Reasons.{number_of}
-use Rattle.step_defs.specs.State.{GplState}
-use Rattle.step_defs.specs.Place.{Place, place_of}
-use Rattle.step_defs.specs.Copy.{To, ToMemory, ToRegisters, target_of}
-use Rattle.interp_defs.specs.Match.{PortsAreIdle, IsFetched}
-use Rattle.sim_view.specs.View.{View, view, view_of, Stands}
-use Rattle.sim_view.specs.Exits.{Exit, Exits, Comes}
-use Rattle.sim_view.proofs.Bridge.{is_view}
-use Rattle.sim_view.proofs.Compose.{comes, comes_then, comes_as, comes_on}
-use Rattle.sim_operands.specs.Pieces.{exit, past, return_of}
-use Rattle.sim_operands.specs.Subroutines.{grom_at, state_of, next_at, Placed, Finds, FindsOperand}
-use Rattle.sim_rows.specs.States.{StoppedBy, code_byte, operation_in}
-use Rattle.sim_rows.specs.Rows.{Holds, LoadsFrom}
-use Rattle.sim_rows.proofs.Again.{idle_again}
-use Rattle.sim_rows.proofs.Fronting.{Asking, barred, finds_of, from_placed, holds_addressed, holds_again}
-use Rattle.sim_move.specs.Pieces as pieces
-use Rattle.sim_move.specs.Moves.{Arrives, length_read, target_read, LengthTold, source_entry, ReturnsToCopy, TargetTold, target_in, FindsTarget}
-use Rattle.sim_move.proofs.Codes.{to_memory, is_low, told}
+use Rattle.std.proofs.Common.{ℕ, ◌+◌, ◌<◌, ◌∙◌, ◌≡◌, ◌≤◌, ap, arith, Bool, Err, false, if◌then◌else◌, nat_le, nat_lt, Ok, refl, Result, slice_index, Some}
+use Rattle.std.proofs.Common.{subst, sym, true}
+use Rattle.std.proofs.lemmas.Bool.{le-leb, lt-leb, ltb-false, ltb-true}
+use Rattle.sim_rows.proofs.Common.{◌>>=◌, ADDR, Asking, barred, code_byte, Comes, comes, comes_as, comes_on, comes_then, even, Exit, exit, Exits, Finds}
+use Rattle.sim_rows.proofs.Common.{finds_of, FindsOperand, from_placed, GplOperand, GplState, grom_at, GromIndexedToMemory, GromState, GromToMemory}
+use Rattle.sim_rows.proofs.Common.{GromToRegisters, GSTOP, Holds, holds_addressed, holds_again, idle_again, is_view, IsFetched, Length, LoadsFrom}
+use Rattle.sim_rows.proofs.Common.{MachineState, Memory, MemoryToMemory, Move, MOVEB, MOVED, MoveKind, MOVEL, MOVER, MOVES, MoveTarget, next_at, next_in_grom}
+use Rattle.sim_rows.proofs.Common.{number_of, operand_at, operation_in, past, Place, place_of, Placed, PortsAreIdle, Reason, Register, return_of, Stands}
+use Rattle.sim_rows.proofs.Common.{state_of, StoppedBy, sum_of, target_of, To, ToMemory, ToRegisters, View, view, view_of, Word}
+use Rattle.sim_rows.specs.gpl_defs.declared.instruction.MoveTarget.TheVariants as target
+use Rattle.sim_move.specs.Moves.{Arrives, FindsTarget, length_read, LengthTold, ReturnsToCopy, source_entry, target_in, target_read, TargetTold}
+use Rattle.sim_move.proofs.Codes.{is_low, to_memory, told}
 use Rattle.sim_move.proofs.Ways.{first_way, second_way}
+use Rattle.sim_move.specs.Pieces as pieces
 
 fetched_again : (m n : Memory) → (view_of n).grom ≡ (view_of m).grom → IsFetched m.grom → IsFetched n.grom
 unfolding view_of
@@ -61,7 +38,7 @@ stops_there s bytes next reason v w h c d r1 r0 = record {
 not_both : (b : Bool) → b ≡ true → b ≡ false → ⊥
 not_both b e f = cc
 
-module _ (x a : MachineState) (t t1 : ℕ) (stands : Stands x 0x27AE) (e : Exits x a t t1 (pieces.keep_length (view x))) where
+module _ {x a : MachineState} {t t1 : ℕ} (stands : Stands x MOVEL) (e : Exits x a t t1 (pieces.keep_length (view x))) where
   abbrev v : View
   v = view x
 
@@ -69,41 +46,42 @@ module _ (x a : MachineState) (t t1 : ℕ) (stands : Stands x 0x27AE) (e : Exits
   kept = record v { r = record v.r { r3 = v.r.r6; r12 = v.r.r6 } }
 
   abbrev to_place : Exit
-  to_place = exit 7 0x22EC (record kept { r = record kept.r { r11 = 0x27C2 } })
+  to_place = exit 7 ADDR (record kept { r = record kept.r { r11 = MOVED } })
 
   abbrev to_registers : Exit
-  to_registers = exit 6 0x27F8 kept
+  to_registers = exit 6 MOVER kept
 
   abbrev goes_on : Exit
   goes_on = if nat_lt v.r.r0 0x38 then to_place else to_registers
 
-  not_stop : goes_on.to ≡ 0x22B8 → ⊥
+  not_stop : goes_on.to ≡ GSTOP → ⊥
   not_stop f = by (nat_lt v.r.r0 0x38) f
     where
-      by : (b : Bool) → (if b then to_place else to_registers).to ≡ 0x22B8 → ⊥
+      by : (b : Bool) → (if b then to_place else to_registers).to ≡ GSTOP → ⊥
       by true f = absurd (omega arith)
       by false f = absurd (omega arith)
 
   -- the length is above its limit
-  at_stop : a.cpu.pc ≡ 0x22B8 → (b : Bool) → Exits x a t t1 (if b then exit 4 0x22B8 (record v { r = record v.r { r0 = 4 } }) else goes_on) →
-      (b ≡ true) × Exits x a t t1 (exit 4 0x22B8 (record v { r = record v.r { r0 = 4 } }))
+  at_stop : a.cpu.pc ≡ GSTOP → (b : Bool) → Exits x a t t1 (if b then exit 4 GSTOP (record v { r = record v.r { r0 = 4 } }) else goes_on) →
+      (b ≡ true) × Exits x a t t1 (exit 4 GSTOP (record v { r = record v.r { r0 = 4 } }))
   at_stop here true e = (refl, e)
   at_stop here false e = absurd (not_stop (sym e.stands.pc ∙ here))
 
-  pub too_long : a.cpu.pc ≡ 0x22B8 → FindsTarget x a t t1
+  pub too_long : a.cpu.pc ≡ GSTOP → FindsTarget x a t t1
   too_long here s kind count fits known h =
       let w = at_stop here (nat_lt 0x4000 v.r.r6) e in
       let above : nat_lt 0x4000 count ≡ true = ap (nat_lt 0x4000) (sym h.count_is) ∙ w.0 in
-      let P : Bool → Type 0 = λ b. Arrives 57 s x a t t1 (source_entry kind) (TargetTold s kind (target_read kind s).1) (by_limit s count (target_read kind s).0 b) in
+      let P : Bool → Type 0 = λ b. Arrives 57 s x a t t1 (source_entry kind) (TargetTold s kind (target_read kind s).1)
+      (by_limit s count (target_read kind s).0 b) in
       subst P (sym above) (comes w.1 (record {
         within = omega arith;
         to_is = refl;
         holds = stops_there s 2 (length_read s).1 Length v (record v { r = record v.r { r0 = 4 } }) h.holds refl refl refl refl;
       }))
 
-  module _ (away : a.cpu.pc ≡ 0x22B8 → ⊥) where
+  module _ (away : a.cpu.pc ≡ GSTOP → ⊥) where
     went : (nat_lt 0x4000 v.r.r6 ≡ false) × Exits x a t t1 goes_on
-    went = second_way x a t t1 0x22B8 (nat_lt 0x4000 v.r.r6) _ _ e refl away
+    went = second_way x a t t1 GSTOP (nat_lt 0x4000 v.r.r6) _ _ e refl away
 
     few : v.r.r6 ≤ 16384
     few = ltb-false 0x4000 v.r.r6 went.0
@@ -112,20 +90,21 @@ module _ (x a : MachineState) (t t1 : ℕ) (stands : Stands x 0x27AE) (e : Exits
         Arrives 57 s x y t u (source_entry kind) (TargetTold s kind (target_read kind s).1) (by_limit s count (target_read kind s).0 false) →
         Arrives 57 s x y t u (source_entry kind) (TargetTold s kind (target_read kind s).1) (target_in s count (target_read kind s).0)
     within s kind y u count is r =
-        let P : Bool → Type 0 = λ b. Arrives 57 s x y t u (source_entry kind) (TargetTold s kind (target_read kind s).1) (by_limit s count (target_read kind s).0 b) in
+        let P : Bool → Type 0 = λ b. Arrives 57 s x y t u (source_entry kind) (TargetTold s kind (target_read kind s).1)
+        (by_limit s count (target_read kind s).0 b) in
         subst P (sym (ap (nat_lt 0x4000) (sym is) ∙ went.0)) r
 
     -- registers
-    module _ (here : a.cpu.pc ≡ 0x27F8) (y : MachineState) (t2 : ℕ) (e2 : Exits a y t1 t2 (pieces.count_registers (view a))) where
+    module _ (here : a.cpu.pc ≡ MOVER) {y : MachineState} {t2 : ℕ} (e2 : Exits a y t1 t2 (pieces.count_registers (view a))) where
       to_them : (nat_lt v.r.r0 0x38 ≡ false) × Exits x a t t1 to_registers
-      to_them = second_way x a t t1 0x22EC (nat_lt v.r.r0 0x38) _ _ went.1 refl (λ f. absurd (omega arith))
+      to_them = second_way x a t t1 ADDR (nat_lt v.r.r0 0x38) _ _ went.1 refl (λ f. absurd (omega arith))
 
       abbrev counted : View → View
       counted w = record w { r = record w.r { r4 = sum_of Word w.grom.fetched w.r.r6; r7 = w.grom.fetched }; grom = past w.grom }
 
       by_sum : (s : GplState) (count : ℕ) → LengthTold s (length_read s).1 count (view x) → (b : Bool) →
           nat_lt 8 (sum_of Word kept.grom.fetched kept.r.r6) ≡ b →
-          Arrives 57 s x y t t2 0x280E (TargetTold s GromToRegisters (target_read GromToRegisters s).1)
+          Arrives 57 s x y t t2 MOVES (TargetTold s GromToRegisters (target_read GromToRegisters s).1)
           (by_limit s count (target.Register (slice_index s.image (length_read s).1)) false)
       by_sum s count h b is =
           let number = slice_index s.image (length_read s).1 in
@@ -133,35 +112,47 @@ module _ (x a : MachineState) (t t1 : ℕ) (stands : Stands x 0x27AE) (e : Exits
           let small : kept.grom.fetched < 256 = (is_view x stands.machine).grom.fetched in
           let le = few in
           let sum : sum_of Word kept.grom.fetched kept.r.r6 ≡ number + count = let c = h.count_is in omega arith in
-          let c1 : Comes 6 x a t t1 0x27F8 (λ w. w ≡ kept) = comes to_them.1 (record { within = omega arith; to_is = refl; holds = refl }) in
+          let c1 : Comes 6 x a t t1 MOVER (λ w. w ≡ kept) = comes to_them.1 (record { within = omega arith; to_is = refl; holds = refl }) in
           let e3 : Exits a y t1 t2 (pieces.count_registers kept) = subst (λ (w : View). Exits a y t1 t2 (pieces.count_registers w)) c1.holds e2 in
           let past_is : (counted kept).grom ≡ grom_at s.image (next_in_grom (length_read s).1) = ap past h.holds.sees.grom in
           by b is number sum c1 e3 byte past_is
         where
           by : (b : Bool) → nat_lt 8 (sum_of Word kept.grom.fetched kept.r.r6) ≡ b → (number : ℕ) → sum_of Word kept.grom.fetched kept.r.r6 ≡ number + count →
-              Comes 6 x a t t1 0x27F8 (λ w. w ≡ kept) → Exits a y t1 t2 (pieces.count_registers kept) → kept.grom.fetched ≡ number →
+              Comes 6 x a t t1 MOVER (λ w. w ≡ kept) → Exits a y t1 t2 (pieces.count_registers kept) → kept.grom.fetched ≡ number →
               (counted kept).grom ≡ grom_at s.image (next_in_grom (length_read s).1) →
-              Arrives 57 s x y t t2 0x280E (TargetTold s GromToRegisters (next_in_grom (length_read s).1)) (by_limit s count (target.Register number) false)
+              Arrives 57 s x y t t2 MOVES (TargetTold s GromToRegisters (next_in_grom (length_read s).1)) (by_limit s count (target.Register number) false)
           by true is number sum c1 e3 byte grom =
-              let more : 8 < number + count = let l : 8 < sum_of Word kept.grom.fetched kept.r.r6 = ltb-true 8 (sum_of Word kept.grom.fetched kept.r.r6) is in omega arith in
+              let more : 8 < number + count = let l : 8 < sum_of Word kept.grom.fetched kept.r.r6 = ltb-true 8 (sum_of Word kept.grom.fetched kept.r.r6) is in
+              omega arith in
               let none : nat_le (number + count) 8 ≡ false = lt-leb (number + count) 8 more in
               let stop : View = record (counted kept) { r = record (counted kept).r { r0 = 5 } } in
-              let e4 : Exits a y t1 t2 (exit 9 0x22B8 stop) = rw (is, pieces.count_registers) at e3 in
-              let c2 : Comes 57 x y t t2 0x22B8 (StoppedBy s Register) =
-              comes_as 57 _ (comes_then 6 9 c1 e4 (record { within = omega arith; to_is = refl; holds = stops_there s 2 (length_read s).1 Register v stop h.holds refl refl refl refl }) refl) (omega arith) (λ w q. q) in
+              let e4 : Exits a y t1 t2 (exit 9 GSTOP stop) = rw (is, pieces.count_registers) at e3 in
+              let c2 : Comes 57 x y t t2 GSTOP (StoppedBy s Register) =
+              comes_as 57 _ (comes_then 6 9 c1 e4
+              (record { within = omega arith; to_is = refl; holds = stops_there s 2 (length_read s).1 Register v stop h.holds refl refl refl refl }) refl)
+              (omega arith) (λ w q. q) in
               rw (none, by_limit) c2
           by false is number sum c1 e3 byte grom =
-              let le : number + count ≤ 8 = let l : sum_of Word kept.grom.fetched kept.r.r6 ≤ 8 = ltb-false 8 (sum_of Word kept.grom.fetched kept.r.r6) is in omega arith in
+              let le : number + count ≤ 8 = let l : sum_of Word kept.grom.fetched kept.r.r6 ≤ 8 = ltb-false 8 (sum_of Word kept.grom.fetched kept.r.r6) is in
+              omega arith in
               let some : nat_le (number + count) 8 ≡ true = le-leb (number + count) 8 le in
               let on : View = record (counted kept) { r = record (counted kept).r { r8 = 2 } } in
-              let e4 : Exits a y t1 t2 (exit 8 0x280E on) = rw (is, pieces.count_registers) at e3 in
-              let c2 : Comes 57 x y t t2 0x280E (TargetTold s GromToRegisters (next_in_grom (length_read s).1) (count, ToRegisters number)) =
+              let e4 : Exits a y t1 t2 (exit 8 MOVES on) = rw (is, pieces.count_registers) at e3 in
+              let c2 : Comes 57 x y t t2 MOVES (TargetTold s GromToRegisters (next_in_grom (length_read s).1) (count, ToRegisters number)) =
               comes_as 57 _ (comes_then 6 8 c1 e4 (record {
                 within = omega arith;
                 to_is = refl;
                 holds = record {
                   holds = record {
-                    sees = record { cells = h.holds.sees.cells; vdp = h.holds.sees.vdp; registers = h.holds.sees.registers; held = h.holds.sees.held; grom = grom };
+                    sees =
+                        record {
+                          cells = h.holds.sees.cells;
+                          vdp = h.holds.sees.vdp;
+                          registers = h.holds.sees.registers;
+                          held = h.holds.sees.held;
+                          grom =
+                              grom;
+                        };
                     code = h.holds.code;
                     address = h.holds.address;
                     bytes_are = h.count_is;
@@ -180,16 +171,17 @@ module _ (x a : MachineState) (t t1 : ℕ) (stands : Stands x 0x27AE) (e : Exits
           let none : to_memory kind ≡ false = sym k.memory ∙ ap (λ n. nat_lt n 0x38) (sym h.holds.code) ∙ to_them.0 in
           by kind none
         where
-          by : (kind : MoveKind) → to_memory kind ≡ false → Arrives 57 s x y t t2 (source_entry kind) (TargetTold s kind (target_read kind s).1) (target_in s count (target_read kind s).0)
+          by : (kind : MoveKind) → to_memory kind ≡ false → Arrives 57 s x y t t2 (source_entry kind) (TargetTold s kind (target_read kind s).1)
+              (target_in s count (target_read kind s).0)
           by GromToRegisters none = within s GromToRegisters y t2 count h.count_is (by_sum s count h (nat_lt 8 (sum_of Word kept.grom.fetched kept.r.r6)) refl)
           by _ none = absurd (cc)
 
     -- a place in memory
-    module _ (not_there : a.cpu.pc ≡ 0x27F8 → ⊥) where
+    module _ (not_there : a.cpu.pc ≡ MOVER → ⊥) where
       to_it : (nat_lt v.r.r0 0x38 ≡ true) × Exits x a t t1 to_place
-      to_it = first_way x a t t1 0x27F8 (nat_lt v.r.r0 0x38) _ _ went.1 refl not_there
+      to_it = first_way x a t t1 MOVER (nat_lt v.r.r0 0x38) _ _ went.1 refl not_there
 
-      pub stands_place : Stands a 0x22EC
+      pub stands_place : Stands a ADDR
       stands_place = to_it.1.stands
 
       pub idle_place : PortsAreIdle x.cpu.memory → PortsAreIdle a.cpu.memory
@@ -201,7 +193,8 @@ module _ (x a : MachineState) (t t1 : ℕ) (stands : Stands x 0x27AE) (e : Exits
       pub bytes_place : (view a).r.r3 ≤ 16384
       bytes_place = let n = ap (λ (w : View). w.r.r3) to_it.1.shows in let le = few in omega arith
 
-      asks : (s : GplState) (count : ℕ) → LengthTold s (length_read s).1 count v → Comes 7 x a t t1 0x22EC (λ w. Asking s count (length_read s).1 0x27C2 w × (w.r.r12 ≡ count))
+      asks : (s : GplState) (count : ℕ) → LengthTold s (length_read s).1 count v → Comes 7 x a t t1 ADDR
+          (λ w. Asking s count (length_read s).1 MOVED w × (w.r.r12 ≡ count))
       asks s count h = comes to_it.1 (record {
         within = omega arith;
         to_is = refl;
@@ -222,15 +215,18 @@ module _ (x a : MachineState) (t t1 : ℕ) (stands : Stands x 0x27AE) (e : Exits
         of_memory MemoryToMemory s e = refl
         of_memory GromToRegisters s e = absurd (cc)
 
-        kind_to_memory : (s : GplState) (kind : MoveKind) (count : ℕ) → code_byte s < 256 → operation_in s ≡ Some (Move kind) → LengthTold s (length_read s).1 count v → to_memory kind ≡ true
+        kind_to_memory : (s : GplState) (kind : MoveKind) (count : ℕ) → code_byte s < 256 → operation_in s ≡ Some (Move kind) →
+            LengthTold s (length_read s).1 count v → to_memory kind ≡ true
         kind_to_memory s kind count fits known h = sym (told (code_byte s) kind fits known).memory ∙ ap (λ n. nat_lt n 0x38) (sym h.holds.code) ∙ to_it.0
 
-        stopped_by : b.cpu.pc ≡ 0x22B8 → (s : GplState) (kind : MoveKind) (count : ℕ) (next : ℕ) → LengthTold s (length_read s).1 count v → (r : Result Place Reason) → Finds a b t1 t2 (operand s).1 r →
+        stopped_by : b.cpu.pc ≡ GSTOP → (s : GplState) (kind : MoveKind) (count : ℕ) (next : ℕ) → LengthTold s (length_read s).1 count v →
+            (r : Result Place Reason) → Finds a b t1 t2 (operand s).1 r →
             Arrives 57 s x b t t2 (source_entry kind) (TargetTold s kind next) (r >>= λ p. Ok (count, ToMemory p))
         stopped_by there s kind count next h (Ok place) g =
             let p = ap even (asks s count h).holds.0.link in let q = g.stands.pc in absurd (omega arith)
         stopped_by there s kind count next h (Err reason) g =
-            comes_as 57 _ (barred s count (length_read s).1 0x27C2 7 reason x a b t t1 t2 (comes_as 7 _ (asks s count h) (omega arith) (λ w k. k.0)) g) (omega arith) (λ w k. k)
+            comes_as 57 _ (barred s count (length_read s).1 MOVED 7 reason x a b t t1 t2 (comes_as 7 _ (asks s count h) (omega arith) (λ w k. k.0)) g)
+            (omega arith) (λ w k. k)
 
         abbrev with_place : ℕ → Place → Result (ℕ × To) Reason
         with_place count place = Ok (count, ToMemory place)
@@ -249,34 +245,37 @@ module _ (x a : MachineState) (t t1 : ℕ) (stands : Stands x 0x27AE) (e : Exits
             let Q : Result (ℕ × To) Reason → Type 0 = λ q. Arrives 57 s x y t u (source_entry kind) (TargetTold s kind (operand s).1) q in
             subst P (sym (of_memory kind s m)) (subst Q (sym (then_ok (place_of s count (operand s).0) count)) r)
 
-        pub stopped : b.cpu.pc ≡ 0x22B8 → FindsTarget x b t t2
+        pub stopped : b.cpu.pc ≡ GSTOP → FindsTarget x b t t2
         stopped there s kind count fits known h =
             within s kind b t2 count h.count_is
-            (found_as s kind count b t2 (kind_to_memory s kind count fits known h) (stopped_by there s kind count (operand s).1 h (place_of s count (operand s).0) (finds s count h)))
+            (found_as s kind count b t2 (kind_to_memory s kind count fits known h) (stopped_by there s kind count (operand s).1 h
+            (place_of s count (operand s).0) (finds s count h)))
 
-        module _ (gone : b.cpu.pc ≡ 0x22B8 → ⊥) where
+        module _ (gone : b.cpu.pc ≡ GSTOP → ⊥) where
           -- where ADDR has led to, whatever the state
           stands_by : (r : Result Place Reason) → Finds a b t1 t2 (operand_at (view a).grom.image (next_at (view a))).1 r → Stands b (return_of (view a))
           stands_by (Ok place) g = g.stands
           stands_by (Err reason) g = absurd (gone g.stands.pc)
 
-          pub stands_target : Stands b 0x27C2
+          pub stands_target : Stands b MOVED
           stands_target =
               let v : View = view a in
               subst (λ (p : ℕ). Stands b p) (ap return_of to_it.1.shows) (stands_by (place_of (state_of v) v.r.r3 (operand_at v.grom.image (next_at v)).0) f)
 
-          module _ (y : MachineState) (t3 : ℕ) (e3 : Exits b y t2 t3 (pieces.keep_target (view b))) where
+          module _ {y : MachineState} {t3 : ℕ} (e3 : Exits b y t2 t3 (pieces.keep_target (view b))) where
             -- the target was found
             record Placed_at (s : GplState) (count : ℕ) (place : Place) (w : View) : Type 0 where
               pub holds : Holds s count (operand s).1 w
               pub from : LoadsFrom place w
               pub left : w.r.r12 ≡ count
 
-            placed : (s : GplState) (count : ℕ) (place : Place) → LengthTold s (length_read s).1 count v → Finds a b t1 t2 (operand s).1 (Ok place) → Comes 52 x b t t2 0x27C2 (Placed_at s count place)
+            placed : (s : GplState) (count : ℕ) (place : Place) → LengthTold s (length_read s).1 count v → Finds a b t1 t2 (operand s).1 (Ok place) →
+                Comes 52 x b t t2 MOVED (Placed_at s count place)
             placed s count place h g =
                 let c = asks s count h in
-                let to : return_of (view a) ≡ 0x27C2 = ap even c.holds.0.link in
-                let g2 : Comes 45 a b t1 t2 0x27C2 (Placed (view a) (operand s).1 place) = subst (λ (p : ℕ). Comes 45 a b t1 t2 p (Placed (view a) (operand s).1 place)) to g in
+                let to : return_of (view a) ≡ MOVED = ap even c.holds.0.link in
+                let g2 : Comes 45 a b t1 t2 MOVED (Placed (view a) (operand s).1 place) =
+                subst (λ (p : ℕ). Comes 45 a b t1 t2 p (Placed (view a) (operand s).1 place)) to g in
                 comes_as 52 (Placed_at s count place) (comes_on 7 45 c g2 refl) (omega arith)
                 (λ w k. record {
                   holds = holds_addressed s count (length_read s).1 (operand s).1 (view a) w c.holds.0.holds k;
@@ -288,11 +287,14 @@ module _ (x a : MachineState) (t t1 : ℕ) (stands : Stands x 0x27AE) (e : Exits
             abbrev turned : View → View
             turned w = record w { r = record w.r { r7 = w.r.r2; r8 = w.r.r5 } }
 
-            low_is : (s : GplState) (kind : MoveKind) (count : ℕ) (place : Place) → code_byte s < 256 → operation_in s ≡ Some (Move kind) → Placed_at s count place (view b) → nat_lt (view b).r.r0 0x34 ≡ is_low kind
+            low_is : (s : GplState) (kind : MoveKind) (count : ℕ) (place : Place) → code_byte s < 256 → operation_in s ≡ Some (Move kind) →
+                Placed_at s count place (view b) → nat_lt (view b).r.r0 0x34 ≡ is_low kind
             low_is s kind count place fits known p = ap (λ n. nat_lt n 0x34) p.holds.code ∙ (told (code_byte s) kind fits known).low
 
-            kept_in : (s : GplState) (kind : MoveKind) (count : ℕ) (place : Place) (w : View) → Placed_at s count place (view b) → w.cells ≡ (view b).cells → w.vdp ≡ (view b).vdp → w.grom ≡ (view b).grom →
-                w.r.r0 ≡ (view b).r.r0 → w.r.r1 ≡ (view b).r.r1 → w.r.r3 ≡ (view b).r.r3 → w.r.r7 ≡ (view b).r.r2 → w.r.r8 ≡ (view b).r.r5 → w.r.r12 ≡ (view b).r.r12 → w.r.r13 ≡ (view b).r.r13 →
+            kept_in : (s : GplState) (kind : MoveKind) (count : ℕ) (place : Place) (w : View) → Placed_at s count place (view b) → w.cells ≡ (view b).cells →
+                w.vdp ≡ (view b).vdp → w.grom ≡ (view b).grom →
+                w.r.r0 ≡ (view b).r.r0 → w.r.r1 ≡ (view b).r.r1 → w.r.r3 ≡ (view b).r.r3 → w.r.r7 ≡ (view b).r.r2 → w.r.r8 ≡ (view b).r.r5 →
+                w.r.r12 ≡ (view b).r.r12 → w.r.r13 ≡ (view b).r.r13 →
                 ReturnsToCopy kind w → TargetTold s kind (operand s).1 (count, ToMemory place) w
             kept_in s kind count place w p c d g r0 r1 r3 r7 r8 r12 r13 link = record {
               holds = holds_again s count count (operand s).1 (view b) w p.holds c d g r0 r1 r13 (r3 ∙ p.holds.bytes_are);
@@ -301,8 +303,9 @@ module _ (x a : MachineState) (t t1 : ℕ) (stands : Stands x 0x27AE) (e : Exits
               link = link;
             }
 
-            low_source : (s : GplState) (kind : MoveKind) (count : ℕ) (place : Place) (c : Comes 52 x b t t2 0x27C2 (Placed_at s count place)) → nat_lt (view b).r.r0 0x34 ≡ true →
-                ((w : View) → ReturnsToCopy kind w) → Comes 57 x y t t3 0x280E (TargetTold s kind (operand s).1 (count, ToMemory place))
+            low_source : (s : GplState) (kind : MoveKind) (count : ℕ) (place : Place) (c : Comes 52 x b t t2 MOVED (Placed_at s count place)) →
+                nat_lt (view b).r.r0 0x34 ≡ true →
+                ((w : View) → ReturnsToCopy kind w) → Comes 57 x y t t3 MOVES (TargetTold s kind (operand s).1 (count, ToMemory place))
             low_source s kind count place c low link =
                 comes_as 57 _ (comes_then 52 4 c (rw (low, pieces.keep_target) at e3) (record {
                   within = omega arith;
@@ -310,23 +313,27 @@ module _ (x a : MachineState) (t t1 : ℕ) (stands : Stands x 0x27AE) (e : Exits
                   holds = kept_in s kind count place (turned (view b)) c.holds refl refl refl refl refl refl refl refl refl refl (link (turned (view b)));
                 }) refl) (omega arith) (λ w q. q)
 
-            high_source : (s : GplState) (count : ℕ) (place : Place) (c : Comes 52 x b t t2 0x27C2 (Placed_at s count place)) → nat_lt (view b).r.r0 0x34 ≡ false →
-                Comes 57 x y t t3 0x22EC (TargetTold s MemoryToMemory (operand s).1 (count, ToMemory place))
+            high_source : (s : GplState) (count : ℕ) (place : Place) (c : Comes 52 x b t t2 MOVED (Placed_at s count place)) →
+                nat_lt (view b).r.r0 0x34 ≡ false →
+                Comes 57 x y t t3 ADDR (TargetTold s MemoryToMemory (operand s).1 (count, ToMemory place))
             high_source s count place c high =
                 comes_then 52 5 c (rw (high, pieces.keep_target) at e3) (record {
                   within = omega arith;
                   to_is = refl;
-                  holds = kept_in s MemoryToMemory count place (record (turned (view b)) { r = record (turned (view b)).r { r11 = 0x27D0 } }) c.holds refl refl refl refl refl refl refl refl refl refl refl;
+                  holds = kept_in s MemoryToMemory count place (record (turned (view b)) { r = record (turned (view b)).r { r11 = MOVEB } }) c.holds refl refl
+                      refl refl refl refl refl refl refl refl refl;
                 }) refl
 
-            by_kind : (kind : MoveKind) (s : GplState) (count : ℕ) (place : Place) (c : Comes 52 x b t t2 0x27C2 (Placed_at s count place)) → to_memory kind ≡ true → nat_lt (view b).r.r0 0x34 ≡ is_low kind →
+            by_kind : (kind : MoveKind) (s : GplState) (count : ℕ) (place : Place) (c : Comes 52 x b t t2 MOVED (Placed_at s count place)) →
+                to_memory kind ≡ true → nat_lt (view b).r.r0 0x34 ≡ is_low kind →
                 Comes 57 x y t t3 (source_entry kind) (TargetTold s kind (operand s).1 (count, ToMemory place))
             by_kind GromToMemory s count place c m low = low_source s GromToMemory count place c low (λ w. tt)
             by_kind GromIndexedToMemory s count place c m low = low_source s GromIndexedToMemory count place c low (λ w. tt)
             by_kind MemoryToMemory s count place c m low = high_source s count place c low
             by_kind GromToRegisters s count place c m low = absurd (cc)
 
-            found_by : (s : GplState) (kind : MoveKind) (count : ℕ) → code_byte s < 256 → operation_in s ≡ Some (Move kind) → to_memory kind ≡ true → LengthTold s (length_read s).1 count v →
+            found_by : (s : GplState) (kind : MoveKind) (count : ℕ) → code_byte s < 256 → operation_in s ≡ Some (Move kind) → to_memory kind ≡ true →
+                LengthTold s (length_read s).1 count v →
                 (r : Result Place Reason) → Finds a b t1 t2 (operand s).1 r →
                 Arrives 57 s x y t t3 (source_entry kind) (TargetTold s kind (operand s).1) (r >>= λ p. Ok (count, ToMemory p))
             found_by s kind count fits known m h (Ok place) g =

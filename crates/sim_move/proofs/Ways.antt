@@ -1,8 +1,6 @@
 -- Which way a piece took, by where the machine is not.
-use Rattle.std.proofs.Common.{◌≡◌, ℕ, Bool, true, false, refl, ◌∙◌}
-use Rattle.std.specs.Prelude.{if◌then◌else◌}
-use Rattle.console_defs.specs.Machine.{MachineState}
-use Rattle.sim_view.specs.Exits.{Exit, Exits}
+use Rattle.std.proofs.Common.{ℕ, ◌∙◌, ◌≡◌, Bool, false, if◌then◌else◌, refl, true}
+use Rattle.sim_rows.proofs.Common.{Exit, Exits, MachineState}
 
 pub first_way : (x a : MachineState) (t u p : ℕ) (b : Bool) (first second : Exit) → Exits x a t u (if b then first else second) → second.to ≡ p →
     (a.cpu.pc ≡ p → ⊥) → (b ≡ true) × Exits x a t u first

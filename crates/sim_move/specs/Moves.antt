@@ -1,27 +1,12 @@
 -- The parts of MOVE up to its copy, for all states that may be there.
-use Rattle.std.specs.Prelude.{◌≡◌, ◌<◌, ℕ, ◌/◌, ◌%◌, ◌==◌, List, Some, Result, Ok, Err}
-use Rattle.console_defs.specs.Flags.{Word}
-use Rattle.console_defs.specs.Machine.{MachineState}
-use Rattle.source_defs.specs.Refusals.{◌>>=◌}
-use Rattle.gpl_defs.specs.declared.instruction.MoveKind.{MoveKind}
-use Rattle.gpl_defs.specs.declared.instruction.MoveKind.TheVariants.{MemoryToMemory}
-use Rattle.gpl_defs.specs.declared.instruction.MoveLength.{MoveLength}
-use Rattle.gpl_defs.specs.declared.instruction.MoveTarget.{MoveTarget}
-use Rattle.gpl_defs.specs.declared.instruction.MoveSource.{MoveSource}
-use Rattle.gpl_defs.specs.declared.instruction.GplOperation.TheVariants.{Move}
-use Rattle.gpl_defs.specs.Reading.{word_at, index_by, length_at, target_at, from_at}
-use Rattle.step_defs.specs.declared.reason.Reason.{Reason}
-use Rattle.step_defs.specs.State.{GplState}
-use Rattle.step_defs.specs.Place.{Place, value_at, indexed}
-use Rattle.step_defs.specs.Changes.{Changes, unchanged}
-use Rattle.step_defs.specs.Copy.{From, To, length_of, within_limit, target_of, origin_of}
-use Rattle.native_interp.specs.declared.addresses.TheConstants.{GSTOP, ADDR, MOVEL, MOVEB, MOVES, MOVEX}
-use Rattle.sim_view.specs.View.{View, view}
-use Rattle.sim_view.specs.Exits.{Comes}
-use Rattle.sim_operands.specs.Subroutines.{grom_at}
-use Rattle.sim_rows.specs.States.{StoppedBy, code_byte, operation_in, behind_code}
-use Rattle.sim_rows.specs.Rows.{Holds, LoadsFrom}
-use Rattle.sim_copy.specs.Copying.{StandsTo, Copying}
+use Rattle.std.specs.Prelude.{ℕ, ◌%◌, ◌/◌, ◌<◌, ◌==◌, ◌≡◌, Err, List, Ok, Result, Some}
+use Rattle.sim_rows.specs.Prelude.{◌>>=◌, ADDR, behind_code, Changes, code_byte, Comes, From, from_at, GplState}
+use Rattle.sim_rows.specs.Prelude.{grom_at, GSTOP, Holds, index_by, indexed, length_at, length_of, LoadsFrom}
+use Rattle.sim_rows.specs.Prelude.{MachineState, MemoryToMemory, Move, MOVEB, MoveKind, MOVEL, MoveLength, MOVES}
+use Rattle.sim_rows.specs.Prelude.{MoveSource, MoveTarget, MOVEX, operation_in, origin_of, Place, Reason, StoppedBy}
+use Rattle.sim_rows.specs.Prelude.{target_at, target_of, To, unchanged, value_at, View, view, within_limit, Word}
+use Rattle.sim_rows.specs.Prelude.{word_at}
+use Rattle.sim_copy.specs.Copying.{Copying, StandsTo}
 
 -- What the bytes behind the code byte say, each part with the address behind it.
 abbrev pub length_read : GplState → MoveLength × ℕ

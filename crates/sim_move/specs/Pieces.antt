@@ -1,15 +1,9 @@
 -- What the pieces of MOVE come to up to the copy: how many instructions they have, where they end, and what they change
 -- of the view, in the words of the processor. Registers, cells and ports that are not named stay.
-use Rattle.std.specs.Prelude.{ℕ, nat_lt, if◌then◌else◌}
-use Rattle.console_defs.specs.Flags.{Word, sum_of}
-use Rattle.console_defs.specs.Shifts.{shifted, last_out}
-use Rattle.console_defs.specs.declared.instruction.ShiftOp.TheVariants.{SRL, SLA}
-use Rattle.native_interp.specs.declared.addresses.TheConstants.{GSTOP, WHERE, SEEK, ADDR, INDEX, LOAD, STREAM}
-use Rattle.native_interp.specs.declared.addresses.TheConstants.{MOVEN, MOVEL, MOVED, MOVEB, MOVER, MOVES}
-use Rattle.native_interp.specs.declared.addresses.TheConstants.{MOVEA, MOVEX, MOVEW, MOVEK}
-use Rattle.sim_view.specs.View.{View}
-use Rattle.sim_view.specs.Exits.{Exit}
-use Rattle.sim_operands.specs.Pieces.{exit, past}
+use Rattle.std.specs.Prelude.{ℕ, if◌then◌else◌, nat_lt}
+use Rattle.sim_rows.specs.Prelude.{ADDR, Exit, exit, GSTOP, INDEX, last_out, LOAD, MOVEA, MOVEB, MOVED, MOVEK, MOVEL}
+use Rattle.sim_rows.specs.Prelude.{MOVEN, MOVER, MOVES, MOVEW, MOVEX, past, SEEK, shifted, SLA, SRL, STREAM, sum_of}
+use Rattle.sim_rows.specs.Prelude.{View, WHERE, Word}
 
 -- GOMOVE: where the code byte is even, ADDR is asked for the operand that holds the length.
 abbrev pub ask_length : View → Exit

@@ -1,27 +1,21 @@
 //! MOVE from its dispatch to the end of the step.
 
 ghost use Rattle.std.specs.Prelude.{◌≡◌, true};
-ghost use Rattle.native_interp.specs.declared.addresses.TheConstants as address;
-ghost use Rattle.native_interp.specs.Entries.{operation_entry};
-ghost use Rattle.step_defs.specs.Reasons.{number_of};
-ghost use Rattle.interp_defs.specs.Interpreter.{most_to_dispatch};
-ghost use Rattle.interp_defs.specs.Turned.{Turned};
-ghost use Rattle.sim_view.specs.View.{view, Stands};
-ghost use Rattle.sim_rows.specs.States.{Dispatched, state_at_dispatch, operation_seen};
+ghost use Rattle.sim_rows.specs.Prelude.{AtDispatch, Dispatched, most_to_dispatch, number_of, operation_seen, Stands};
+ghost use Rattle.sim_rows.specs.Prelude.{state_at_dispatch, Turned, view, WORKSPACE};
 ghost use Rattle.sim_move.specs.Family.{is_move};
 ghost use Rattle.sim_move.specs.Moves.{FindsCopy};
+ghost use Rattle.sim_rows.specs.native_interp.declared.addresses.TheConstants as address;
 
 use crate::length::find_length;
 use crate::source::{index_source, turn_to_source};
 use crate::target::find_target;
-use interp_defs::Turn;
-use native_interp::{GSTOP, MOVES, WORKSPACE};
 use sim_copy::copy_bytes;
-use sim_operands::run_address;
-use sim_view::register;
+use sim_rows::labels::{GSTOP, MOVES, WORKSPACE};
+use sim_rows::processor::{Machine, Steps};
+use sim_rows::subroutines::run_address;
+use sim_rows::{Reason, Turn, register};
 use std::sync::ledger::Ledger;
-use step_defs::Reason;
-use tms_step::{Machine, Steps};
 
 /// Finds the length, the target and the source of MOVE, or stops by the reason of the first that is not there.
 fn find_copy<L: Ledger>(machine: &mut Machine, steps: &mut Steps<L>)
@@ -68,9 +62,7 @@ fn reason_told(machine: &Machine) -> Reason
 /// or of the index is not visible, by reason 4 where it is longer than 16,384 bytes, and by reason 5
 /// where a register is not there.
 pub fn run_move<L: Ledger>(machine: &mut Machine, steps: &mut Steps<L>) -> Turn
-    requires stands { Stands machine.old (operation_entry (operation_seen (view machine.old))) }
-    requires dispatched { let v = view machine.old in Dispatched (state_at_dispatch v) v }
-    requires family { is_move (operation_seen (view machine.old)) ≡ true }
+    requires { AtDispatch is_move machine.old }
     ensures { let s = state_at_dispatch (view machine.old) in
         Turned s most_to_dispatch machine.old machine.new steps.old steps.new result }
 {

@@ -1,17 +1,14 @@
 //! The length of MOVE.
 
-ghost use Rattle.native_interp.specs.declared.addresses.TheConstants as address;
-ghost use Rattle.interp_defs.specs.Match.{PortsAreIdle};
-ghost use Rattle.sim_view.specs.View.{view, Stands};
-ghost use Rattle.sim_operands.specs.Values.{IsVisible};
-ghost use Rattle.sim_rows.specs.States.{Dispatched, state_at_dispatch};
-ghost use Rattle.sim_move.specs.Moves.{LoadsFollowing, LoadsPlaced, FindsLength};
+ghost use Rattle.sim_rows.specs.Prelude.{Dispatched, IsVisible, PortsAreIdle, Stands, state_at_dispatch, view};
+ghost use Rattle.sim_move.specs.Moves.{FindsLength, LoadsFollowing, LoadsPlaced};
+ghost use Rattle.sim_rows.specs.native_interp.declared.addresses.TheConstants as address;
 
-use crate::piece::{ask_length, load_length};
-use native_interp::{ADDR, GSTOP};
-use sim_operands::{run_address, run_load};
+use crate::pieces::{ask_length, load_length};
+use sim_rows::labels::{ADDR, GSTOP};
+use sim_rows::processor::{Machine, Steps};
+use sim_rows::subroutines::{run_address, run_load};
 use std::sync::ledger::Ledger;
-use tms_step::{Machine, Steps};
 
 /// Loads the length of MOVE, which follows in GROM or is at a place that was found.
 fn load_count<L: Ledger>(machine: &mut Machine, steps: &mut Steps<L>)

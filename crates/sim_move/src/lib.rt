@@ -3,12 +3,12 @@
 
 mod family;
 mod length;
-mod piece;
+mod pieces;
 mod source;
 mod target;
 
 pub use family::run_move;
-pub use piece::{
+pub use pieces::{
     ask_index, ask_length, ask_next, ask_source, count_registers, keep_length, keep_target,
     load_length, seek_source, turn_to_grom,
 };

@@ -1,14 +1,14 @@
 //! A source in GROM.
 
-ghost use Rattle.native_interp.specs.declared.addresses.TheConstants as address;
-ghost use Rattle.sim_view.specs.View.{Stands};
+ghost use Rattle.sim_rows.specs.Prelude.{Stands};
 ghost use Rattle.sim_move.specs.Moves.{IndexesSource, TurnsToSource};
+ghost use Rattle.sim_rows.specs.native_interp.declared.addresses.TheConstants as address;
 
-use crate::piece::{ask_index, ask_next, ask_source, seek_source, turn_to_grom};
-use sim_operands::{add_index, check_range, seek_address, stream_value};
+use crate::pieces::{ask_index, ask_next, ask_source, seek_source, turn_to_grom};
+use sim_rows::processor::{Machine, Steps};
+use sim_rows::subroutines::{add_index, check_range, seek_address, stream_value};
 use sim_rows::where_next;
 use std::sync::ledger::Ledger;
-use tms_step::{Machine, Steps};
 
 /// Reads the address of a source in GROM and adds its index, or stops by reason 2.
 pub(crate) fn index_source<L: Ledger>(machine: &mut Machine, steps: &mut Steps<L>)

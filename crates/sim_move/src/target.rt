@@ -1,15 +1,14 @@
 //! The target of MOVE.
 
-ghost use Rattle.native_interp.specs.declared.addresses.TheConstants as address;
-ghost use Rattle.interp_defs.specs.Match.{PortsAreIdle, IsFetched};
-ghost use Rattle.sim_view.specs.View.{Stands};
+ghost use Rattle.sim_rows.specs.Prelude.{IsFetched, PortsAreIdle, Stands};
 ghost use Rattle.sim_move.specs.Moves.{FindsTarget};
+ghost use Rattle.sim_rows.specs.native_interp.declared.addresses.TheConstants as address;
 
-use crate::piece::{count_registers, keep_length, keep_target};
-use native_interp::{GSTOP, MOVER};
-use sim_operands::run_address;
+use crate::pieces::{count_registers, keep_length, keep_target};
+use sim_rows::labels::{GSTOP, MOVER};
+use sim_rows::processor::{Machine, Steps};
+use sim_rows::subroutines::run_address;
 use std::sync::ledger::Ledger;
-use tms_step::{Machine, Steps};
 
 /// Keeps the length of MOVE and finds the target: a place in memory, or registers of the video processor. It stops by
 /// reason 4 where the length is above its limit, by reason 5 where a register is not there, and by reason

@@ -1,5 +1,6 @@
 pub mod Numbers
 pub mod Paths
-pub mod Common
+pub mod Dispatch
+pub mod Turning
 pub mod Products
 pub mod Quotients

@@ -1,25 +1,21 @@
 -- Facts about numbers that MUL and DIV need.
-use Rattle.std.proofs.Common.{◌≡◌, ℕ, zero, suc, ◌*◌, ◌/◌, ◌%◌, ◌<◌, ◌≤◌, Bool, true, false, refl, sym, ap, ◌∙◌, arith, lit<, Some}
-use Rattle.std.specs.Prelude.{◌&&◌, ◌||◌, ◌==◌, not, nat_lt}
-use Rattle.std.proofs.Math.Nat.{div-lt_iff_lt-mul, mul-div_cancel, mod-lt}
+use Rattle.std.proofs.Common.{ℕ, ◌%◌, ◌&&◌, ◌*◌, ◌/◌, ◌<◌, ◌==◌, ◌||◌, ◌∙◌, ◌≡◌, ◌≤◌, ap, arith, Bool, false, lit<, nat_lt, not, refl, Some, suc, sym, true}
+use Rattle.std.proofs.Common.{zero}
+use Rattle.std.proofs.Math.Nat.{div-lt_iff_lt-mul, mod-lt, mul-div_cancel}
 use Rattle.std.proofs.lemmas.Nat.{le-div}
-use Rattle.std.proofs.lemmas.Bool.{le-ltb, lt-ltb, ltb-true, ltb-false, eq-eqb, ne_eqb, and_parts}
-use Rattle.console_defs.specs.Words.{high, low, join}
-use Rattle.console_defs.specs.Flags.{Width, Byte, Word, modulus, sum_of}
-use Rattle.console_defs.specs.Logic.{swapped}
-use Rattle.console_defs.specs.MultiplyDivide.{double_word, division_of}
-use Rattle.console_defs.specs.Shifts.{shifted}
-use Rattle.console_defs.specs.declared.instruction.ShiftOp.TheVariants.{SRL, SLA}
-use Rattle.step_defs.specs.Arithmetic.{has_quotient}
+use Rattle.std.proofs.lemmas.Bool.{and_parts, eq-eqb, le-ltb, lt-ltb, ltb-false, ltb-true, ne_eqb}
+use Rattle.sim_rows.proofs.Common.{Byte, division_of, double_word, has_quotient, high, join, low, modulus, shifted, SLA, SRL, sum_of, swapped, Width, Word}
 
 -- above, or equal
 pub below_or_equal : (limit number : ℕ) (below : Bool) → nat_lt number limit ≡ below → (nat_lt limit number || number == limit) ≡ not below
-below_or_equal limit number true c = let l : number < limit = ltb-true number limit c in rw (le-ltb limit number (omega arith), ne_eqb number limit (λ e. omega arith)) refl
+below_or_equal limit number true c = let l : number < limit =
+    ltb-true number limit c in rw (le-ltb limit number (omega arith), ne_eqb number limit (λ e. omega arith)) refl
 below_or_equal limit number false c = by (nat_lt limit number) refl
   where
     by : (b : Bool) → nat_lt limit number ≡ b → (b || number == limit) ≡ true
     by true d = refl
-    by false d = let l : limit ≤ number = ltb-false number limit c in let m : number ≤ limit = ltb-false limit number d in rw (eq-eqb number limit (omega arith)) refl
+    by false d = let l : limit ≤ number = ltb-false number limit c in let m : number ≤ limit =
+        ltb-false limit number d in rw (eq-eqb number limit (omega arith)) refl
 
 -- a divisor is some number
 pub some_divisor : (word : ℕ) → 256 ≤ word → word < 65536 → nat_lt 0 (shifted SRL word 8) ≡ true
@@ -51,7 +47,8 @@ pub byte_divides : (dividend divisor : ℕ) → nat_lt dividend (join divisor 0)
 byte_divides dividend divisor = ap (nat_lt dividend) (omega arith) ∙ fits_below 256 dividend divisor
 
 pub word_divides : (more less divisor : ℕ) → less < 65536 → nat_lt more divisor ≡ has_quotient Word (double_word more less) divisor
-word_divides more less divisor h = same_test more divisor (double_word more less) (65536 * divisor) (λ a. omega arith) (λ a. omega arith) ∙ fits_below 65536 (double_word more less) divisor
+word_divides more less divisor h =
+    same_test more divisor (double_word more less) (65536 * divisor) (λ a. omega arith) (λ a. omega arith) ∙ fits_below 65536 (double_word more less) divisor
 
 -- where it does, the divisor is some number, the remainder is below it, and the quotient has its width
 pub quotient_fits : (width : Width) (dividend divisor : ℕ) → has_quotient width dividend divisor ≡ true → (0 < divisor) × (dividend / divisor < modulus width)

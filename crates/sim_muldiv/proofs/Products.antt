@@ -1,41 +1,22 @@
 -- MUL, from its row to the end of the step.
-use Rattle.std.proofs.Common.{◌≡◌, ℕ, ◌+◌, ◌*◌, ◌/◌, ◌%◌, ◌<◌, true, refl, sym, ap, subst, ◌∙◌, arith, Some}
-use Rattle.console_defs.specs.Words.{high, join, even}
-use Rattle.console_defs.specs.Flags.{Width, Byte, Word, size_of}
-use Rattle.console_defs.specs.Machine.{MachineState}
-use Rattle.console_defs.specs.Shifts.{shifted}
-use Rattle.console_defs.specs.declared.instruction.ShiftOp.TheVariants.{SRL, SLA}
-use Rattle.gpl_defs.specs.declared.instruction.TwoName.TheVariants.{MUL}
-use Rattle.gpl_defs.specs.declared.instruction.GplOperation.TheVariants.{Two}
-use Rattle.step_defs.specs.State.{GplState}
-use Rattle.step_defs.specs.Place.{Place, behind, byte_at, value_at}
-use Rattle.step_defs.specs.Changes.{unchanged, with_value, with_double}
-use Rattle.step_defs.specs.Arithmetic.{Source}
-use Rattle.interp_defs.specs.Match.{PortsAreIdle}
-use Rattle.sim_view.specs.View.{View, view, Stands}
-use Rattle.sim_view.specs.Exits.{Exits, Comes}
-use Rattle.sim_view.proofs.Bridge.{is_view}
-use Rattle.sim_view.proofs.Compose.{comes, comes_as, comes_on, comes_then}
-use Rattle.sim_operands.specs.Values.{width_in, in_register, IsVisible}
-use Rattle.sim_operands.specs.Pieces.{return_of}
-use Rattle.sim_operands.specs.Subroutines.{StoresValue}
-use Rattle.sim_rows.specs.States.{operation_in}
-use Rattle.sim_rows.specs.Rows.{row_width, next_of, gone_on, AtRow}
-use Rattle.sim_rows.specs.Results.{Storing, SeesFinished, StoresResult, RunsRow}
-use Rattle.sim_rows.proofs.Again.{idle_again}
-use Rattle.sim_rows.proofs.Storing.{ChangedFrom, changed_again, store_then, stored_idle}
-use Rattle.sim_rows.proofs.Rowing.{row_changed}
-use Rattle.sim_muldiv.specs.Pieces as pieces
+use Rattle.std.proofs.Common.{ℕ, ◌%◌, ◌*◌, ◌+◌, ◌/◌, ◌<◌, ◌∙◌, ◌≡◌, ap, arith, refl, Some, subst, sym, true}
+use Rattle.sim_rows.proofs.Common.{AtRow, behind, Byte, byte_at, changed_again, ChangedFrom, Comes, comes, comes_as, comes_on, comes_then, even, Exits}
+use Rattle.sim_rows.proofs.Common.{gone_on, GplState, GSTEP, high, idle_again, in_register, is_view, IsVisible, join, MachineState, MUL, MULB, MULV, next_of}
+use Rattle.sim_rows.proofs.Common.{operation_in, Place, PortsAreIdle, return_of, row_changed, row_width, RunsRow, SeesFinished, shifted, size_of, SLA, Source}
+use Rattle.sim_rows.proofs.Common.{SRL, Stands, STO, STORE, store_then, stored_idle, StoresResult, StoresValue, Storing, Two, unchanged, value_at, View, view}
+use Rattle.sim_rows.proofs.Common.{Width, width_in, with_double, with_value, Word}
 use Rattle.sim_muldiv.specs.Family.{is_muldiv, IsReady}
 use Rattle.sim_muldiv.proofs.Numbers.{byte_product, high_of}
-use Rattle.sim_muldiv.proofs.Common.{exits_by, as_byte, as_word, width_there, loaded_is, byte_fits_at, first_visible, second_visible, word_visible}
+use Rattle.sim_muldiv.proofs.Turning.{as_byte, as_word, byte_fits_at, exits_by, first_visible, loaded_is, second_visible, width_there, word_visible}
+use Rattle.sim_muldiv.specs.Pieces as pieces
 
 is_mul : (s : GplState) → operation_in s ≡ Some (Two MUL) → is_muldiv (operation_in s) ≡ true
 is_mul s e = ap is_muldiv e
 
 -- ---- bytes
 
-module _ (x a : MachineState) (t u : ℕ) (ready : IsReady x) (byte : width_in (view x).r.r3 ≡ Byte) (first : Exits x a t u (pieces.multiply (view x))) (stands : Stands x 0x2558) where
+module _ {x a : MachineState} {t u : ℕ} (ready : IsReady x) (byte : width_in (view x).r.r3 ≡ Byte) (first : Exits x a t u (pieces.multiply (view x)))
+    (stands : Stands x MULV) where
   abbrev v : View
   v = view x
 
@@ -45,7 +26,7 @@ module _ (x a : MachineState) (t u : ℕ) (ready : IsReady x) (byte : width_in (
   made : Exits x a t u (pieces.multiply_bytes v)
   made = exits_by (pieces.multiply v) (pieces.multiply_bytes v) is_piece first
 
-  pub byte_stands : Stands a 0x24A8
+  pub byte_stands : Stands a STO
   byte_stands = made.stands
 
   pub byte_idle : PortsAreIdle a.cpu.memory
@@ -63,12 +44,14 @@ module _ (x a : MachineState) (t u : ℕ) (ready : IsReady x) (byte : width_in (
       let i = is_view x stands.machine in
       let nine : v.r.r9 ≡ value_at s Word place = row.destination ∙ loaded_is s place (is_mul s is) in
       let six : v.r.r6 ≡ join source.number 0 = row.value ∙ ap (λ (w : Width). in_register w source.number) width in
-      let more : high v.r.r9 ≡ value_at s Byte place = ap high nine ∙ high_of (byte_at s place) (byte_at s (behind 1 place)) (byte_fits_at s (next_of s) v row.holds.sees i (behind 1 place)) in
+      let more : high v.r.r9 ≡ value_at s Byte place = ap high nine ∙ high_of (byte_at s place) (byte_at s (behind 1 place))
+      (byte_fits_at s (next_of s) v row.holds.sees i (behind 1 place)) in
       record {
         changed = changed_again (unchanged (gone_on s)) v (pieces.multiply_bytes v).left (row_changed s place source v row) refl refl refl refl;
         bytes_are = refl;
         to_place = record { address = row.to_place.address; space = row.to_place.space };
-        value = ap (λ (n : ℕ). shifted SLA (shifted SRL v.r.r9 8) 8 * n / 65536) six ∙ byte_product v.r.r9 source.number (i.r 9) ∙ ap (λ (n : ℕ). n * source.number) more;
+        value = ap (λ (n : ℕ). shifted SLA (shifted SRL v.r.r9 8) 8 * n / 65536) six ∙ byte_product v.r.r9 source.number (i.r 9)
+            ∙ ap (λ (n : ℕ). n * source.number) more;
       }
 
   pub byte_runs : (y : MachineState) (w : ℕ) → StoresResult a y u w → RunsRow (Two MUL) 70 x y t w
@@ -76,14 +59,16 @@ module _ (x a : MachineState) (t u : ℕ) (ready : IsReady x) (byte : width_in (
       let width : row_width s ≡ Byte = sym (width_there s place source v row) ∙ byte in
       let c = unchanged (gone_on s) in
       let number = value_at s Byte place * source.number in
-      let c1 : Comes 7 x a t u 0x24A8 (Storing c Word place number) = comes made (record { within = omega arith; to_is = refl; holds = storing s place source is row width }) in
+      let c1 : Comes 7 x a t u STO (Storing c Word place number) =
+      comes made (record { within = omega arith; to_is = refl; holds = storing s place source is row width }) in
       let done = comes_on 7 47 c1 (finish c Word place number c1.holds) refl in
       let more = comes_as 70 (SeesFinished (with_value Word place number c)) done (omega arith) (λ q h. h) in
-      subst (λ (k : Width). Comes 70 x y t w 0x228C (SeesFinished (with_double k place (value_at s k place * source.number) c))) (sym width) more
+      subst (λ (k : Width). Comes 70 x y t w GSTEP (SeesFinished (with_double k place (value_at s k place * source.number) c))) (sym width) more
 
 -- ---- words
 
-module _ (x a b d : MachineState) (t u u2 u3 : ℕ) (ready : IsReady x) (word : width_in (view x).r.r3 ≡ Word) (first : Exits x a t u (pieces.multiply (view x))) where
+module _ {x a : MachineState} {t u : ℕ} (ready : IsReady x) (word : width_in (view x).r.r3 ≡ Word)
+    (first : Exits x a t u (pieces.multiply (view x))) where
   abbrev p : View
   p = view x
 
@@ -93,7 +78,7 @@ module _ (x a b d : MachineState) (t u u2 u3 : ℕ) (ready : IsReady x) (word : 
   asked : Exits x a t u (pieces.multiply_words p)
   asked = exits_by (pieces.multiply p) (pieces.multiply_words p) piece_is first
 
-  pub store_stands : Stands a 0x23C2
+  pub store_stands : Stands a STORE
   store_stands = asked.stands
 
   pub store_idle : PortsAreIdle a.cpu.memory
@@ -105,11 +90,11 @@ module _ (x a b d : MachineState) (t u u2 u3 : ℕ) (ready : IsReady x) (word : 
   pub store_visible : IsVisible (view a).r.r8 (view a).r.r7 (view a).r.r3
   store_visible = subst (λ (w : View). IsVisible w.r.r8 w.r.r7 w.r.r3) (sym asked.shows) (first_visible p.r.r8 p.r.r7 p.r.r3 ready.visible)
 
-  module _ (stored : StoresValue a b u u2) where
-    back_is : return_of (view a) ≡ 0x2570
+  module _ {b : MachineState} {u2 : ℕ} (stored : StoresValue a b u u2) where
+    back_is : return_of (view a) ≡ MULB
     back_is = ap (λ (w : View). even w.r.r11) asked.shows
 
-    pub low_stands : Stands b 0x2570
+    pub low_stands : Stands b MULB
     low_stands = subst (λ (q : ℕ). Stands b q) back_is stored.stands
 
     kept_7 : (view b).r.r7 ≡ p.r.r7
@@ -121,12 +106,13 @@ module _ (x a b d : MachineState) (t u u2 u3 : ℕ) (ready : IsReady x) (word : 
     kept_3 : (view b).r.r3 ≡ p.r.r3
     kept_3 = ap (λ (w : View). w.r.r3) stored.holds.is ∙ ap (λ (w : View). w.r.r3) asked.shows
 
-    module _ (second : Exits b d u2 u3 (pieces.low_product (view b))) where
-      pub finish_stands : Stands d 0x24A8
+    module _ {d : MachineState} {u3 : ℕ} (second : Exits b d u2 u3 (pieces.low_product (view b))) where
+      pub finish_stands : Stands d STO
       finish_stands = second.stands
 
       pub finish_idle : PortsAreIdle d.cpu.memory
-      finish_idle = idle_again b.cpu.memory d.cpu.memory (ap (λ (w : View). w.vdp) second.shows) (ap (λ (w : View). w.grom) second.shows) (stored_idle a b u u2 store_idle stored)
+      finish_idle = idle_again b.cpu.memory d.cpu.memory (ap (λ (w : View). w.vdp) second.shows) (ap (λ (w : View). w.grom) second.shows)
+          (stored_idle a b u u2 store_idle stored)
 
       pub finish_space : (view d).r.r8 < 2
       finish_space = subst (λ (w : View). w.r.r8 < 2) (sym second.shows) (subst (λ (n : ℕ). n < 2) (sym kept_8) ready.space)
@@ -151,11 +137,12 @@ module _ (x a b d : MachineState) (t u u2 u3 : ℕ) (ready : IsReady x) (word : 
             to_place = record { address = row.to_place.address; space = row.to_place.space };
             value = ap (λ (n : ℕ). n / 65536) product;
           } in
-          let c1 : Comes 4 x a t u 0x23C2 (λ (q : View). q ≡ (pieces.multiply_words p).left) = comes asked (record { within = omega arith; to_is = refl; holds = refl }) in
+          let c1 : Comes 4 x a t u STORE (λ (q : View). q ≡ (pieces.multiply_words p).left) =
+          comes asked (record { within = omega arith; to_is = refl; holds = refl }) in
           let there = subst (λ (q : View). Storing c Word place (number / 65536) q) (sym c1.holds) at_store in
           let half = with_value Word place (number / 65536) c in
           let s1 = store_then c Word place (number / 65536) a b u u2 there stored in
-          let s2 : Comes 16 a b u u2 0x2570 (ChangedFrom half (view a)) = subst (λ (q : ℕ). Comes 16 a b u u2 q (ChangedFrom half (view a))) back_is s1 in
+          let s2 : Comes 16 a b u u2 MULB (ChangedFrom half (view a)) = subst (λ (q : ℕ). Comes 16 a b u u2 q (ChangedFrom half (view a))) back_is s1 in
           let c2 = comes_on 4 16 c1 s2 refl in
           let m = view b in
           let ten : m.r.r10 ≡ number % 65536 = c2.holds.keeps.r10 ∙ ap (λ (q : View). q.r.r10) asked.shows ∙ ap (λ (n : ℕ). n % 65536) product in
@@ -165,6 +152,7 @@ module _ (x a b d : MachineState) (t u u2 u3 : ℕ) (ready : IsReady x) (word : 
             to_place = record { address = ap (λ (n : ℕ). (n + 2) % 65536) (kept_7 ∙ row.to_place.address); space = kept_8 ∙ row.to_place.space };
             value = ten;
           } in
-          let c3 : Comes 23 x d t u3 0x24A8 (Storing half Word (behind 2 place) (number % 65536)) = comes_then 20 3 c2 second (record { within = omega arith; to_is = refl; holds = at_low }) refl in
+          let c3 : Comes 23 x d t u3 STO (Storing half Word (behind 2 place) (number % 65536)) =
+          comes_then 20 3 c2 second (record { within = omega arith; to_is = refl; holds = at_low }) refl in
           let done = comes_on 23 47 c3 (finish half Word (behind 2 place) (number % 65536) c3.holds) refl in
-          subst (λ (k : Width). Comes 70 x y t w 0x228C (SeesFinished (with_double k place (value_at s k place * source.number) c))) (sym width) done
+          subst (λ (k : Width). Comes 70 x y t w GSTEP (SeesFinished (with_double k place (value_at s k place * source.number) c))) (sym width) done

@@ -1,43 +1,19 @@
 -- DIV, from its row to the end of the step.
-use Rattle.std.proofs.Common.{◌≡◌, ℕ, ◌+◌, ◌/◌, ◌%◌, ◌<◌, ◌≤◌, Bool, true, false, refl, sym, ap, subst, ◌∙◌, arith, List, Some}
-use Rattle.std.specs.Prelude.{◌==◌, nat_lt, slice_index, slice_set, if◌then◌else◌}
+use Rattle.std.proofs.Common.{ℕ, ◌%◌, ◌+◌, ◌/◌, ◌<◌, ◌==◌, ◌∙◌, ◌≡◌, ◌≤◌, ap, arith, Bool, false, if◌then◌else◌, List, nat_lt, refl, slice_index, slice_set}
+use Rattle.std.proofs.Common.{Some, subst, sym, true}
 use Rattle.std.proofs.lemmas.Bool.{ltb-true}
-use Rattle.console_defs.specs.Words.{high, join, even}
-use Rattle.console_defs.specs.Flags.{Width, Byte, Word, size_of, sum_of}
-use Rattle.console_defs.specs.Logic.{ones_set, ones_cleared, swapped}
-use Rattle.console_defs.specs.MultiplyDivide.{double_word}
-use Rattle.console_defs.specs.Machine.{MachineState}
-use Rattle.console_defs.specs.Shifts.{shifted}
-use Rattle.console_defs.specs.declared.instruction.ShiftOp.TheVariants.{SRL}
-use Rattle.gpl_defs.specs.declared.instruction.TwoName.TheVariants.{DIV}
-use Rattle.gpl_defs.specs.declared.instruction.GplOperation.TheVariants.{Two}
-use Rattle.step_defs.specs.State.{GplState}
-use Rattle.step_defs.specs.Place.{Place, behind, value_at, double_at}
-use Rattle.step_defs.specs.Changes.{Changes, unchanged, with_byte, with_value, with_overflow}
-use Rattle.step_defs.specs.Arithmetic.{Source, has_quotient, with_quotient, divided}
-use Rattle.interp_defs.specs.Match.{PortsAreIdle}
-use Rattle.interp_defs.specs.Runs.{is_end}
-use Rattle.sim_view.specs.View.{View, view, Stands}
-use Rattle.sim_view.specs.Exits.{Exits, Comes}
-use Rattle.sim_view.proofs.Bridge.{is_view}
-use Rattle.sim_view.proofs.Compose.{Goes, comes, comes_as, comes_on, comes_then}
-use Rattle.sim_operands.specs.Values.{width_in, in_register, number_of_space, IsVisible}
-use Rattle.sim_operands.specs.Pieces.{exit, return_of}
-use Rattle.sim_operands.specs.Subroutines.{state_of, place_in, Loaded, LoadsValue, StoresValue}
-use Rattle.sim_rows.specs.States.{operation_in}
-use Rattle.sim_rows.specs.Rows.{row_width, next_of, gone_on, AtRow}
-use Rattle.sim_rows.specs.Results.{Changed, Storing, SeesFinished, EndsRow, RunsRow}
-use Rattle.sim_rows.proofs.Again.{idle_again, idle_told}
-use Rattle.sim_rows.proofs.Fronting.{place_is}
-use Rattle.sim_rows.proofs.Operands.{value_same}
-use Rattle.sim_rows.proofs.Storing.{ChangedFrom, changed_again, storing_again, store_then, stored_idle}
-use Rattle.sim_rows.proofs.Rowing.{row_changed}
+use Rattle.sim_rows.proofs.Common.{AtRow, behind, Byte, Changed, changed_again, ChangedFrom, Changes, Comes, comes, comes_as, comes_on, comes_then, DIV}
+use Rattle.sim_rows.proofs.Common.{DIVBY, DIVE, divided, DIVL, DIVQ, DIVS, DIVV, DIVW, double_at, double_word, EndsRow, even, exit, Exits, Goes, gone_on}
+use Rattle.sim_rows.proofs.Common.{GplState, GSTEP, has_quotient, high, idle_again, idle_grom, idle_told, idle_video, in_register, is_end, is_view, IsVisible}
+use Rattle.sim_rows.proofs.Common.{join, LOAD, Loaded, LoadsValue, MachineState, next_of, number_of_space, ones_cleared, ones_set, operation_in, OVER, Place}
+use Rattle.sim_rows.proofs.Common.{place_in, place_is, PortsAreIdle, return_of, row_changed, row_width, RunsRow, SeesFinished, shifted, SHOW, size_of, Source}
+use Rattle.sim_rows.proofs.Common.{SRL, Stands, state_of, STORE, store_then, stored_idle, StoresValue, Storing, storing_again, sum_of, swapped, Two}
+use Rattle.sim_rows.proofs.Common.{unchanged, value_at, value_same, View, view, Width, width_in, with_byte, with_overflow, with_quotient, with_value, Word}
+use Rattle.sim_muldiv.specs.Family.{AreVisible, Divided, dividend_in, Divides, EndsDivision, EndsQuotient, is_muldiv, IsReady, second_in}
+use Rattle.sim_muldiv.proofs.Numbers.{byte_divides, byte_fits, divisor_down, high_of, low_of, no_first_word, quotient_fits, remainder_fits, together}
+use Rattle.sim_muldiv.proofs.Numbers.{word_divides}
+use Rattle.sim_muldiv.proofs.Turning.{loaded_is, ready_again, second_visible, width_if, width_there, word_fits_at, word_visible}
 use Rattle.sim_muldiv.specs.Pieces as pieces
-use Rattle.sim_muldiv.specs.Family.{is_muldiv, IsReady, AreVisible, Divided, Divides, EndsDivision, EndsQuotient, second_in, dividend_in}
-use Rattle.sim_muldiv.proofs.Numbers.{byte_divides, word_divides, quotient_fits, remainder_fits, divisor_down, byte_fits, no_first_word, together, high_of}
-use Rattle.sim_muldiv.proofs.Numbers.{low_of}
-use Rattle.sim_operands.proofs.Ready.{idle_video, idle_grom}
-use Rattle.sim_muldiv.proofs.Common.{width_if, width_there, loaded_is, word_fits_at, second_visible, word_visible, ready_again}
 
 is_div : (s : GplState) → operation_in s ≡ Some (Two DIV) → is_muldiv (operation_in s) ≡ true
 is_div s e = ap is_muldiv e
@@ -47,23 +23,25 @@ status_set f cells = slice_set cells 0x7C (f (slice_index cells 0x7C))
 
 -- ---- the end of a division
 
-module _ (x a b d : MachineState) (t u u2 u3 : ℕ) (idle : PortsAreIdle x.cpu.memory) (space : (view x).r.r8 < 2) (first : Exits x a t u (pieces.store_last (view x))) where
+module _ {x a : MachineState} {t u : ℕ} (idle : PortsAreIdle x.cpu.memory) (space : (view x).r.r8 < 2)
+    (first : Exits x a t u (pieces.store_last (view x))) where
   pub last_idle : PortsAreIdle a.cpu.memory
   last_idle = idle_again x.cpu.memory a.cpu.memory (ap (λ (w : View). w.vdp) first.shows) (ap (λ (w : View). w.grom) first.shows) idle
 
   pub last_space : (view a).r.r8 < 2
   last_space = subst (λ (w : View). w.r.r8 < 2) (sym first.shows) space
 
-  module _ (stored : StoresValue a b u u2) where
-    last_back : return_of (view a) ≡ 0x25AE
+  module _ {b : MachineState} {u2 : ℕ} (stored : StoresValue a b u u2) where
+    last_back : return_of (view a) ≡ DIVE
     last_back = ap (λ (w : View). even w.r.r11) first.shows
 
-    pub clear_stands : Stands b 0x25AE
+    pub clear_stands : Stands b DIVE
     clear_stands = subst (λ (q : ℕ). Stands b q) last_back stored.stands
 
-    module _ (second : Exits b d u2 u3 (pieces.clear_overflow (view b))) where
+    module _ {d : MachineState} {u3 : ℕ} (second : Exits b d u2 u3 (pieces.clear_overflow (view b))) where
       pub end_idle : PortsAreIdle d.cpu.memory
-      end_idle = idle_again b.cpu.memory d.cpu.memory (ap (λ (w : View). w.vdp) second.shows) (ap (λ (w : View). w.grom) second.shows) (stored_idle a b u u2 last_idle stored)
+      end_idle = idle_again b.cpu.memory d.cpu.memory (ap (λ (w : View). w.vdp) second.shows) (ap (λ (w : View). w.grom) second.shows)
+          (stored_idle a b u u2 last_idle stored)
 
       cleared : (c : Changes) (w : View) → Changed c w → Changed (with_overflow false c) (pieces.clear_overflow w).left
       cleared c w h = record {
@@ -79,24 +57,28 @@ module _ (x a b d : MachineState) (t u u2 u3 : ℕ) (idle : PortsAreIdle x.cpu.m
       ends_division y w ends c width place number h =
           let v = view x in
           let left = (pieces.store_last v).left in
-          let c1 : Comes 1 x a t u 0x23C2 (λ (q : View). q ≡ left) = comes first (record { within = omega arith; to_is = refl; holds = refl }) in
-          let there = subst (λ (q : View). Storing c width place number q) (sym c1.holds) (storing_again c width place number v left h refl refl refl refl refl refl refl refl) in
+          let c1 : Comes 1 x a t u STORE (λ (q : View). q ≡ left) = comes first (record { within = omega arith; to_is = refl; holds = refl }) in
+          let there = subst (λ (q : View). Storing c width place number q) (sym c1.holds) (storing_again c width place number v left h refl
+          refl refl refl refl refl refl refl) in
           let done = with_value width place number c in
           let s1 = store_then c width place number a b u u2 there stored in
-          let s2 : Comes 16 a b u u2 0x25AE (ChangedFrom done (view a)) = subst (λ (q : ℕ). Comes 16 a b u u2 q (ChangedFrom done (view a))) last_back s1 in
+          let s2 : Comes 16 a b u u2 DIVE (ChangedFrom done (view a)) = subst (λ (q : ℕ). Comes 16 a b u u2 q (ChangedFrom done (view a))) last_back s1 in
           let c2 = comes_on 1 16 c1 s2 refl in
-          let c3 : Comes 20 x d t u3 0x247A (Changed (with_overflow false done)) = comes_then 17 3 c2 second (record { within = omega arith; to_is = refl; holds = cleared done (view b) c2.holds.changed }) refl in
+          let c3 : Comes 20 x d t u3 SHOW (Changed (with_overflow false done)) = comes_then 17 3 c2 second
+          (record { within = omega arith; to_is = refl; holds = cleared done (view b) c2.holds.changed }) refl in
           comes_on 20 29 c3 (ends (with_overflow false done) c3.holds) refl
 
 -- ---- bytes
 
 -- the quotient and the remainder as one word
-one_word : (place : Place) (quotient remainder : ℕ) (c : Changes) → remainder < 256 → with_value Word place (join quotient remainder) c ≡ with_quotient Byte place quotient remainder c
+one_word : (place : Place) (quotient remainder : ℕ) (c : Changes) → remainder < 256 → with_value Word place (join quotient remainder) c ≡ with_quotient Byte
+    place quotient remainder c
 one_word place quotient remainder c h =
     ap (λ (n : ℕ). with_byte (behind 1 place) n (with_byte place (high (join quotient remainder)) c)) (low_of quotient remainder h)
     ∙ ap (λ (n : ℕ). with_byte (behind 1 place) remainder (with_byte place n c)) (high_of quotient remainder h)
 
-module _ (x a : MachineState) (t u : ℕ) (ready : IsReady x) (byte : width_in (view x).r.r3 ≡ Byte) (first : Exits x a t u (pieces.divide_bytes (view x))) (stands : Stands x 0x2580) where
+module _ {x a : MachineState} {t u : ℕ} (ready : IsReady x) (byte : width_in (view x).r.r3 ≡ Byte) (first : Exits x a t u (pieces.divide_bytes (view x)))
+    (stands : Stands x DIVBY) where
   abbrev v : View
   v = view x
 
@@ -127,22 +109,27 @@ module _ (x a : MachineState) (t u : ℕ) (ready : IsReady x) (byte : width_in (
       let rest : dividend % divisor < 256 = omega arith in
       let number = join (dividend / divisor) (dividend % divisor) in
       let words : ℕ → ℕ → ℕ = λ n m. sum_of Word (swapped (n / m)) (n % m) in
-      let value = ap (λ (m : ℕ). words (double_word 0 v.r.r9) m) down ∙ ap (λ (n : ℕ). words n divisor) one ∙ together (dividend / divisor) (dividend % divisor) fits.1 rest in
+      let value = ap (λ (m : ℕ). words (double_word 0 v.r.r9) m) down ∙ ap (λ (n : ℕ). words n divisor) one
+      ∙ together (dividend / divisor) (dividend % divisor) fits.1 rest in
       let at_end : Storing c Word place number (pieces.divide_bytes v).left = record {
         changed = changed_again c v (pieces.divide_bytes v).left (row_changed s place source v row) refl refl refl refl;
         bytes_are = refl;
         to_place = record { address = row.to_place.address; space = row.to_place.space };
         value = value;
       } in
-      let c1 : Comes 8 x a t u 0x25AA (Storing c Word place number) = comes first (record { within = omega arith; to_is = refl; holds = at_end }) in
+      let c1 : Comes 8 x a t u DIVS (Storing c Word place number) = comes first (record { within = omega arith; to_is = refl; holds = at_end }) in
       let done = comes_on 8 49 c1 (ends c Word place number c1.holds) refl in
-      let named = subst (λ (k : Changes). Comes 57 x y t w 0x228C (SeesFinished (with_overflow false k))) (one_word place (dividend / divisor) (dividend % divisor) c rest) done in
-      let more = comes_as 92 (SeesFinished (with_overflow false (with_quotient Byte place (dividend / divisor) (dividend % divisor) c))) named (omega arith) (λ q h. h) in
-      subst (λ (k : Width). Comes 92 x y t w 0x228C (SeesFinished (with_overflow false (with_quotient k place (double_at s k place / divisor) (double_at s k place % divisor) c)))) (sym width) more
+      let named = subst (λ (k : Changes). Comes 57 x y t w GSTEP (SeesFinished (with_overflow false k)))
+      (one_word place (dividend / divisor) (dividend % divisor) c rest) done in
+      let more = comes_as 92 (SeesFinished (with_overflow false (with_quotient Byte place (dividend / divisor) (dividend % divisor) c))) named (omega arith)
+      (λ q h. h) in
+      subst (λ (k : Width). Comes 92 x y t w GSTEP
+      (SeesFinished (with_overflow false (with_quotient k place (double_at s k place / divisor) (double_at s k place % divisor) c)))) (sym width) more
 
 -- ---- words: loading and dividing
 
-module _ (x a b : MachineState) (t u u2 : ℕ) (ready : IsReady x) (word : width_in (view x).r.r3 ≡ Word) (first : Exits x a t u (pieces.load_low_word (view x))) where
+module _ {x a : MachineState} {t u : ℕ} (ready : IsReady x) (word : width_in (view x).r.r3 ≡ Word)
+    (first : Exits x a t u (pieces.load_low_word (view x))) where
   abbrev p : View
   p = view x
 
@@ -158,11 +145,11 @@ module _ (x a b : MachineState) (t u u2 : ℕ) (ready : IsReady x) (word : width
   pub load_space : (view a).r.r5 < 2
   load_space = subst (λ (w : View). w.r.r5 < 2) (sym first.shows) ready.space
 
-  module _ (loaded : LoadsValue a b u u2) where
-    load_back : return_of (view a) ≡ 0x259E
+  module _ {b : MachineState} {u2 : ℕ} (loaded : LoadsValue a b u u2) where
+    load_back : return_of (view a) ≡ DIVL
     load_back = ap (λ (w : View). even w.r.r11) first.shows
 
-    pub divide_stands : Stands b 0x259E
+    pub divide_stands : Stands b DIVL
     divide_stands = subst (λ (q : ℕ). Stands b q) load_back loaded.stands
 
     pub divide_fits : p.r.r9 < p.r.r6 → (view b).r.r9 < (view b).r.r12
@@ -174,28 +161,33 @@ module _ (x a b : MachineState) (t u u2 : ℕ) (ready : IsReady x) (word : width
     abbrev value_of : View → Width → ℕ
     value_of w k = value_at (state_of w) k (place_in w.r.r5 w.r.r2)
 
-    loaded_there : Comes 17 a b u u2 0x259E (Loaded asking (second_in p))
+    loaded_there : Comes 17 a b u u2 DIVL (Loaded asking (second_in p))
     loaded_there =
-        let l1 : Comes 17 a b u u2 (return_of asking) (Loaded asking (value_of asking (width_in asking.r.r3))) = subst (λ (w : View). Comes 17 a b u u2 (return_of w) (Loaded w (value_of w (width_in w.r.r3)))) first.shows loaded in
-        subst (λ (k : Width). Comes 17 a b u u2 0x259E (Loaded asking (value_of asking k))) word l1
+        let l1 : Comes 17 a b u u2 (return_of asking) (Loaded asking (value_of asking (width_in asking.r.r3))) =
+        subst (λ (w : View). Comes 17 a b u u2 (return_of w) (Loaded w (value_of w (width_in w.r.r3)))) first.shows loaded in
+        subst (λ (k : Width). Comes 17 a b u u2 DIVL (Loaded asking (value_of asking k))) word l1
 
-    pub divides_there : (y : MachineState) (u3 : ℕ) → Exits b y u2 u3 (pieces.divide_words (view b)) → Comes 25 x y t u3 0x23C2 (Divided p)
+    pub divides_there : (y : MachineState) (u3 : ℕ) → Exits b y u2 u3 (pieces.divide_words (view b)) → Comes 25 x y t u3 STORE (Divided p)
     divides_there y u3 second =
-        let c1 : Comes 5 x a t u 0x2368 (λ (q : View). q ≡ asking) = comes first (record { within = omega arith; to_is = refl; holds = refl }) in
+        let c1 : Comes 5 x a t u LOAD (λ (q : View). q ≡ asking) = comes first (record { within = omega arith; to_is = refl; holds = refl }) in
         let c2 = comes_on 5 17 c1 loaded_there refl in
         let l = c2.holds in
         let value : in_register (width_in p.r.r3) (second_in p) ≡ second_in p = ap (λ (k : Width). in_register k (second_in p)) word in
-        let found : View = record asking { r = record asking.r { r4 = l.r4; r6 = second_in p }; vdp = record asking.vdp { address = l.address; fetched = l.byte } } in
-        let at : ℕ → View = λ n. record asking { r = record asking.r { r4 = l.r4; r6 = n }; vdp = record asking.vdp { address = l.address; fetched = l.byte } } in
+        let found : View = record asking
+        { r = record asking.r { r4 = l.r4; r6 = second_in p }; vdp = record asking.vdp { address = l.address; fetched = l.byte } } in
+        let at : ℕ → View = λ n. record asking
+        { r = record asking.r { r4 = l.r4; r6 = n }; vdp = record asking.vdp { address = l.address; fetched = l.byte } } in
         let is : view b ≡ found = l.is ∙ ap at value in
         let left : Divided p (pieces.divide_words found).left = record { r4 = l.r4; address = l.address; byte = l.byte; is = refl } in
-        let goes : Goes (pieces.divide_words found) 3 0x23C2 (Divided p) = record { within = omega arith; to_is = refl; holds = left } in
-        comes_then 22 3 c2 second (subst (λ (w : View). Goes (pieces.divide_words w) 3 0x23C2 (Divided p)) (sym is) goes) refl
+        let goes : Goes (pieces.divide_words found) 3 STORE (Divided p) = record { within = omega arith; to_is = refl; holds = left } in
+        comes_then 22 3 c2 second (subst (λ (w : View). Goes (pieces.divide_words w) 3 STORE (Divided p)) (sym is) goes) refl
 
 -- ---- words: the quotient, and the remainder behind it
 
-module _ (x b d : MachineState) (t u u2 : ℕ) (idle : PortsAreIdle x.cpu.memory) (space : (view x).r.r8 < 2) (visible : AreVisible (view x).r.r8 (view x).r.r7 (view x).r.r3) (word : width_in (view x).r.r3 ≡ Word) (link : return_of (view x) ≡ 0x25A6) (stored : StoresValue x b t u) where
-  pub take_stands : Stands b 0x25A6
+module _ {x b : MachineState} {t u : ℕ} (idle : PortsAreIdle x.cpu.memory) (space : (view x).r.r8 < 2)
+    (visible : AreVisible (view x).r.r8 (view x).r.r7 (view x).r.r3) (word : width_in (view x).r.r3 ≡ Word) (link : return_of (view x) ≡ DIVQ)
+    (stored : StoresValue x b t u) where
+  pub take_stands : Stands b DIVQ
   take_stands = subst (λ (q : ℕ). Stands b q) link stored.stands
 
   abbrev o : View
@@ -210,21 +202,23 @@ module _ (x b d : MachineState) (t u u2 : ℕ) (idle : PortsAreIdle x.cpu.memory
   kept_3 : (view b).r.r3 ≡ o.r.r3
   kept_3 = ap (λ (w : View). w.r.r3) stored.holds.is
 
-  module _ (second : Exits b d u u2 (pieces.take_remainder (view b))) where
+  module _ {d : MachineState} {u2 : ℕ} (second : Exits b d u u2 (pieces.take_remainder (view b))) where
     pub rest_idle : PortsAreIdle d.cpu.memory
-    rest_idle = idle_again b.cpu.memory d.cpu.memory (ap (λ (w : View). w.vdp) second.shows) (ap (λ (w : View). w.grom) second.shows) (stored_idle x b t u idle stored)
+    rest_idle = idle_again b.cpu.memory d.cpu.memory (ap (λ (w : View). w.vdp) second.shows) (ap (λ (w : View). w.grom) second.shows)
+        (stored_idle x b t u idle stored)
 
     pub rest_space : (view d).r.r8 < 2
     rest_space = subst (λ (w : View). w.r.r8 < 2) (sym second.shows) (subst (λ (n : ℕ). n < 2) (sym kept_8) space)
 
     pub rest_visible : IsVisible (view d).r.r8 (view d).r.r7 (view d).r.r3
-    rest_visible = subst (λ (w : View). IsVisible w.r.r8 w.r.r7 w.r.r3) (sym second.shows) (rw (kept_8, kept_7, kept_3) (second_visible o.r.r8 o.r.r7 o.r.r3 word visible))
+    rest_visible = subst (λ (w : View). IsVisible w.r.r8 w.r.r7 w.r.r3) (sym second.shows)
+        (rw (kept_8, kept_7, kept_3) (second_visible o.r.r8 o.r.r7 o.r.r3 word visible))
 
     pub ends_quotient : (y : MachineState) (w : ℕ) → EndsDivision d y u2 w → EndsQuotient x y t w
     ends_quotient y w ends c place quotient h =
         let half = with_value Word place quotient c in
         let s1 = store_then c Word place quotient x b t u h stored in
-        let c1 : Comes 16 x b t u 0x25A6 (ChangedFrom half o) = subst (λ (q : ℕ). Comes 16 x b t u q (ChangedFrom half o)) link s1 in
+        let c1 : Comes 16 x b t u DIVQ (ChangedFrom half o) = subst (λ (q : ℕ). Comes 16 x b t u q (ChangedFrom half o)) link s1 in
         let m = view b in
         let k = c1.holds.keeps in
         let at_rest : Storing half Word (behind 2 place) o.r.r10 (pieces.take_remainder m).left = record {
@@ -233,17 +227,19 @@ module _ (x b d : MachineState) (t u u2 : ℕ) (idle : PortsAreIdle x.cpu.memory
           to_place = record { address = ap (λ (n : ℕ). (n + 2) % 65536) (kept_7 ∙ h.to_place.address); space = kept_8 ∙ h.to_place.space };
           value = k.r10;
         } in
-        let c2 : Comes 18 x d t u2 0x25AA (Storing half Word (behind 2 place) o.r.r10) = comes_then 16 2 c1 second (record { within = omega arith; to_is = refl; holds = at_rest }) refl in
+        let c2 : Comes 18 x d t u2 DIVS (Storing half Word (behind 2 place) o.r.r10) = comes_then 16 2 c1 second
+        (record { within = omega arith; to_is = refl; holds = at_rest }) refl in
         comes_on 18 49 c2 (ends half Word (behind 2 place) o.r.r10 c2.holds) refl
 
 -- ---- words: both
 
-module _ (x a : MachineState) (t u : ℕ) (ready : IsReady x) (word : width_in (view x).r.r3 ≡ Word) (first : Comes 25 x a t u 0x23C2 (Divided (view x))) where
+module _ {x a : MachineState} {t u : ℕ} (ready : IsReady x) (word : width_in (view x).r.r3 ≡ Word) (first : Comes 25 x a t u STORE (Divided (view x))) where
   abbrev n : View
   n = view x
 
   pub both_idle : PortsAreIdle a.cpu.memory
-  both_idle = idle_told a.cpu.memory (ap (λ (w : View). w.vdp.held) first.holds.is ∙ idle_video x.cpu.memory ready.idle) (ap (λ (w : View). w.grom.half_written) first.holds.is ∙ idle_grom x.cpu.memory ready.idle)
+  both_idle = idle_told a.cpu.memory (ap (λ (w : View). w.vdp.held) first.holds.is ∙ idle_video x.cpu.memory ready.idle)
+      (ap (λ (w : View). w.grom.half_written) first.holds.is ∙ idle_grom x.cpu.memory ready.idle)
 
   pub both_space : (view a).r.r8 < 2
   both_space = subst (λ (w : View). w.r.r8 < 2) (sym first.holds.is) ready.space
@@ -254,7 +250,7 @@ module _ (x a : MachineState) (t u : ℕ) (ready : IsReady x) (word : width_in (
   pub both_word : width_in (view a).r.r3 ≡ Word
   both_word = subst (λ (w : View). width_in w.r.r3 ≡ Word) (sym first.holds.is) word
 
-  pub both_link : return_of (view a) ≡ 0x25A6
+  pub both_link : return_of (view a) ≡ DIVQ
   both_link = ap (λ (w : View). even w.r.r11) first.holds.is
 
   pub word_divides_row : (y : MachineState) (w : ℕ) → EndsQuotient a y u w → Divides x y t w
@@ -267,9 +263,12 @@ module _ (x a : MachineState) (t u : ℕ) (ready : IsReady x) (word : width_in (
       let six : n.r.r6 ≡ divisor = row.value ∙ ap (λ (k : Width). in_register k divisor) width in
       let h = row.holds.sees in
       let at : place_in n.r.r8 (sum_of Word n.r.r7 2) ≡ behind 2 place =
-      ap (λ (k : ℕ). place_in k (sum_of Word n.r.r7 2)) row.to_place.space ∙ ap (λ (k : ℕ). place_in (number_of_space place.space) ((k + 2) % 65536)) row.to_place.address ∙ place_is (behind 2 place) in
-      let second : second_in n ≡ value_at s Word (behind 2 place) = ap (value_at (state_of n) Word) at ∙ value_same (state_of n) s Word (behind 2 place) h.cells h.vdp in
-      let is_dividend : dividend_in n ≡ dividend = ap (λ (k : ℕ). double_word k (second_in n)) nine ∙ ap (λ (k : ℕ). double_word (value_at s Word place) k) second in
+      ap (λ (k : ℕ). place_in k (sum_of Word n.r.r7 2)) row.to_place.space ∙ ap (λ (k : ℕ). place_in (number_of_space place.space) ((k + 2) % 65536))
+      row.to_place.address ∙ place_is (behind 2 place) in
+      let second : second_in n ≡ value_at s Word (behind 2 place) = ap (value_at (state_of n) Word) at
+      ∙ value_same (state_of n) s Word (behind 2 place) h.cells h.vdp in
+      let is_dividend : dividend_in n ≡ dividend = ap (λ (k : ℕ). double_word k (second_in n)) nine
+      ∙ ap (λ (k : ℕ). double_word (value_at s Word place) k) second in
       let d = first.holds in
       let q : dividend_in n / n.r.r6 ≡ dividend / divisor = rw (is_dividend, six) refl in
       let r : dividend_in n % n.r.r6 ≡ dividend % divisor = rw (is_dividend, six) refl in
@@ -288,30 +287,33 @@ module _ (x a : MachineState) (t u : ℕ) (ready : IsReady x) (word : width_in (
       } in
       let done = comes_on 25 67 first (ends c place (dividend / divisor) there) refl in
       let rest : (view a).r.r10 ≡ dividend % divisor = ap (λ (k : View). k.r.r10) d.is ∙ r in
-      let named = subst (λ (k : ℕ). Comes 92 x y t w 0x228C (SeesFinished (with_overflow false (with_quotient Word place (dividend / divisor) k c)))) rest done in
-      subst (λ (k : Width). Comes 92 x y t w 0x228C (SeesFinished (with_overflow false (with_quotient k place (double_at s k place / divisor) (double_at s k place % divisor) c)))) (sym width) named
+      let named = subst (λ (k : ℕ). Comes 92 x y t w GSTEP (SeesFinished (with_overflow false (with_quotient Word place (dividend / divisor) k c)))) rest done
+      in
+      subst (λ (k : Width). Comes 92 x y t w GSTEP
+      (SeesFinished (with_overflow false (with_quotient k place (double_at s k place / divisor) (double_at s k place % divisor) c)))) (sym width) named
 
 -- ---- which way
 
 abbrev way : Bool → Bool → View → ℕ
-way fits byte v = (if fits then (if byte then exit 4 0x2580 v else exit 4 0x2592 v) else exit 2 0x25BA v).to
+way fits byte v = (if fits then (if byte then exit 4 DIVBY v else exit 4 DIVW v) else exit 2 OVER v).to
 
-over_is : (fits byte : Bool) (v : View) → way fits byte v ≡ 0x25BA → fits ≡ false
+over_is : (fits byte : Bool) (v : View) → way fits byte v ≡ OVER → fits ≡ false
 over_is true true v e = absurd (omega arith)
 over_is true false v e = absurd (omega arith)
 over_is false byte v e = refl
 
-byte_is : (fits byte : Bool) (v : View) → way fits byte v ≡ 0x2580 → (fits ≡ true) × (byte ≡ true)
+byte_is : (fits byte : Bool) (v : View) → way fits byte v ≡ DIVBY → (fits ≡ true) × (byte ≡ true)
 byte_is true true v e = (refl, refl)
 byte_is true false v e = absurd (omega arith)
 byte_is false byte v e = absurd (omega arith)
 
-word_is : (fits byte : Bool) (v : View) → (way fits byte v ≡ 0x25BA → ⊥) → (way fits byte v ≡ 0x2580 → ⊥) → (fits ≡ true) × (byte ≡ false)
+word_is : (fits byte : Bool) (v : View) → (way fits byte v ≡ OVER → ⊥) → (way fits byte v ≡ DIVBY → ⊥) → (fits ≡ true) × (byte ≡ false)
 word_is true true v e f = absurd (f refl)
 word_is true false v e f = (refl, refl)
 word_is false byte v e f = absurd (e refl)
 
-goes_by : (fits byte : Bool) (v : View) (p : ℕ) → way fits byte v ≡ p → Goes (if fits then (if byte then exit 4 0x2580 v else exit 4 0x2592 v) else exit 2 0x25BA v) 4 p (λ u. u ≡ v)
+goes_by : (fits byte : Bool) (v : View) (p : ℕ) → way fits byte v ≡ p →
+    Goes (if fits then (if byte then exit 4 DIVBY v else exit 4 DIVW v) else exit 2 OVER v) 4 p (λ u. u ≡ v)
 goes_by true true v p e = record { within = omega arith; to_is = e; holds = refl }
 goes_by true false v p e = record { within = omega arith; to_is = e; holds = refl }
 goes_by false byte v p e = record { within = omega arith; to_is = e; holds = refl }
@@ -322,17 +324,17 @@ double_same s g Word place e f =
     ap (λ (k : ℕ). double_word k (value_at s Word (behind 2 place))) (value_same s g Word place e f)
     ∙ ap (λ (k : ℕ). double_word (value_at g Word place) k) (value_same s g Word (behind 2 place) e f)
 
-module _ (x a : MachineState) (t u : ℕ) (ready : IsReady x) (stands : Stands x 0x2576) (first : Exits x a t u (pieces.compare_divisor (view x))) where
-  abbrev z : View
+module _ {x a : MachineState} {t u : ℕ} (ready : IsReady x) (stands : Stands x DIVV) (first : Exits x a t u (pieces.compare_divisor (view x))) where
+  abbrev pub z : View
   z = view x
 
-  abbrev fits : Bool
+  abbrev pub fits : Bool
   fits = nat_lt z.r.r9 z.r.r6
 
-  abbrev byte : Bool
+  abbrev pub byte : Bool
   byte = z.r.r3 == 1
 
-  abbrev to : ℕ
+  abbrev pub to : ℕ
   to = way fits byte z
 
   pub pc_is : a.cpu.pc ≡ to
@@ -350,35 +352,38 @@ module _ (x a : MachineState) (t u : ℕ) (ready : IsReady x) (stands : Stands x
   pub ready_there : IsReady a
   ready_there = ready_again x a same ready
 
-  pub byte_there : to ≡ 0x2580 → width_in (view a).r.r3 ≡ Byte
+  pub byte_there : to ≡ DIVBY → width_in (view a).r.r3 ≡ Byte
   byte_there e = subst (λ (q : View). width_in q.r.r3 ≡ Byte) (sym same) (ap width_if (byte_is fits byte z e).1)
 
-  pub some_there : to ≡ 0x2580 → 256 ≤ (view a).r.r6
+  pub some_there : to ≡ DIVBY → 256 ≤ (view a).r.r6
   some_there e =
       let b = byte_is fits byte z e in
       let l : z.r.r9 < z.r.r6 = ltb-true z.r.r9 z.r.r6 b.0 in
       let zero_below = ready.divisor (ap width_if b.1) in
       subst (λ (q : View). 256 ≤ q.r.r6) (sym same) (omega arith)
 
-  pub word_there : (to ≡ 0x25BA → ⊥) → (to ≡ 0x2580 → ⊥) → width_in (view a).r.r3 ≡ Word
+  pub word_there : (to ≡ OVER → ⊥) → (to ≡ DIVBY → ⊥) → width_in (view a).r.r3 ≡ Word
   word_there e f = subst (λ (q : View). width_in q.r.r3 ≡ Word) (sym same) (ap width_if (word_is fits byte z e f).1)
 
-  pub less_there : (to ≡ 0x25BA → ⊥) → (to ≡ 0x2580 → ⊥) → (view a).r.r9 < (view a).r.r6
+  pub less_there : (to ≡ OVER → ⊥) → (to ≡ DIVBY → ⊥) → (view a).r.r9 < (view a).r.r6
   less_there e f = subst (λ (q : View). q.r.r9 < q.r.r6) (sym same) (ltb-true z.r.r9 z.r.r6 (word_is fits byte z e f).0)
 
-  pub words_stand : (to ≡ 0x25BA → ⊥) → (to ≡ 0x2580 → ⊥) → Stands a 0x2592
+  pub words_stand : (to ≡ OVER → ⊥) → (to ≡ DIVBY → ⊥) → Stands a DIVW
   words_stand e f =
       let b = word_is fits byte z e f in
-      at 0x2592 (ap (λ (k : Bool). way k byte z) b.0 ∙ ap (λ (k : Bool). way true k z) b.1)
+      at DIVW (ap (λ (k : Bool). way k byte z) b.0 ∙ ap (λ (k : Bool). way true k z) b.1)
 
-  fits_by : (s : GplState) (place : Place) (number : ℕ) → z.r.r9 ≡ value_at s Word place → value_at s Word (behind 2 place) < 65536 → (width : Width) → z.r.r6 ≡ in_register width number →
+  fits_by : (s : GplState) (place : Place) (number : ℕ) → z.r.r9 ≡ value_at s Word place → value_at s Word (behind 2 place) < 65536 →
+      (width : Width) → z.r.r6 ≡ in_register width number →
       fits ≡ has_quotient width (double_at s width place) number
   fits_by s place number nine less Byte six = rw (nine, six) (byte_divides (value_at s Word place) number)
   fits_by s place number nine less Word six = rw (nine, six) (word_divides (value_at s Word place) (value_at s Word (behind 2 place)) number less)
 
-  fits_is : (s : GplState) (place : Place) (source : Source) → operation_in s ≡ Some (Two DIV) → AtRow s place source z → fits ≡ has_quotient (row_width s) (double_at s (row_width s) place) source.number
+  fits_is : (s : GplState) (place : Place) (source : Source) → operation_in s ≡ Some (Two DIV) → AtRow s place source z →
+      fits ≡ has_quotient (row_width s) (double_at s (row_width s) place) source.number
   fits_is s place source is row =
-      fits_by s place source.number (row.destination ∙ loaded_is s place (is_div s is)) (word_fits_at s (next_of s) z row.holds.sees (is_view x stands.machine) (behind 2 place)) (row_width s) row.value
+      fits_by s place source.number (row.destination ∙ loaded_is s place (is_div s is)) (word_fits_at s (next_of s) z row.holds.sees
+      (is_view x stands.machine) (behind 2 place)) (row_width s) row.value
 
   abbrev by : GplState → Place → ℕ → Bool → Changes
   by s place number has =
@@ -387,26 +392,29 @@ module _ (x a : MachineState) (t u : ℕ) (ready : IsReady x) (stands : Stands x
       let dividend = double_at s width place in
       if has then with_overflow false (with_quotient width place (dividend / number) (dividend % number) c) else with_overflow true c
 
-  ends_as : (s : GplState) (place : Place) (source : Source) (y : MachineState) (w : ℕ) (has : Bool) → has_quotient (row_width s) (double_at s (row_width s) place) source.number ≡ has →
-      Comes 96 x y t w 0x228C (SeesFinished (by s place source.number has)) → Comes 96 x y t w 0x228C (SeesFinished (divided (row_width s) place (double_at (gone_on s) (row_width s) place) source.number (unchanged (gone_on s))))
+  ends_as : (s : GplState) (place : Place) (source : Source) (y : MachineState) (w : ℕ) (has : Bool) →
+      has_quotient (row_width s) (double_at s (row_width s) place) source.number ≡ has →
+      Comes 96 x y t w GSTEP (SeesFinished (by s place source.number has)) → Comes 96 x y t w GSTEP
+      (SeesFinished (divided (row_width s) place (double_at (gone_on s) (row_width s) place) source.number (unchanged (gone_on s))))
   ends_as s place source y w has e run =
       let width = row_width s in
-      let there = subst (λ (b : Bool). Comes 96 x y t w 0x228C (SeesFinished (by s place source.number b))) (sym e) run in
-      subst (λ (k : ℕ). Comes 96 x y t w 0x228C (SeesFinished (divided width place k source.number (unchanged (gone_on s))))) (double_same s (gone_on s) width place refl refl) there
+      let there = subst (λ (b : Bool). Comes 96 x y t w GSTEP (SeesFinished (by s place source.number b))) (sym e) run in
+      subst (λ (k : ℕ). Comes 96 x y t w GSTEP (SeesFinished (divided width place k source.number (unchanged (gone_on s)))))
+      (double_same s (gone_on s) width place refl refl) there
 
-  overflows : (c : Changes) (q : View) → Changed c q → c.shows ≡ false → Goes (pieces.set_overflow q) 3 0x228C (SeesFinished (with_overflow true c))
+  overflows : (c : Changes) (q : View) → Changed c q → c.shows ≡ false → Goes (pieces.set_overflow q) 3 GSTEP (SeesFinished (with_overflow true c))
   overflows c q h none = record {
     within = omega arith;
     to_is = refl;
     holds = rw none (record { cells = ap (status_set (λ k. ones_set k 0x08)) h.cells; vdp = h.vdp; registers = h.registers; held = h.held; grom = h.grom });
   }
 
-  pub over_runs : to ≡ 0x25BA → (y : MachineState) (w : ℕ) → Exits a y u w (pieces.set_overflow (view a)) → RunsRow (Two DIV) 96 x y t w
+  pub over_runs : to ≡ OVER → (y : MachineState) (w : ℕ) → Exits a y u w (pieces.set_overflow (view a)) → RunsRow (Two DIV) 96 x y t w
   over_runs e y w second s place source is row operands =
       let has = sym (fits_is s place source is row) ∙ over_is fits byte z e in
       let c = unchanged (gone_on s) in
       let there = subst (λ (q : View). Changed c q) (sym same) (row_changed s place source z row) in
-      let done = comes_then 4 3 (came 0x25BA e) second (overflows c (view a) there refl) refl in
+      let done = comes_then 4 3 (came OVER e) second (overflows c (view a) there refl) refl in
       ends_as s place source y w false has (comes_as 96 (SeesFinished (with_overflow true c)) done (omega arith) (λ q h. h))
 
   quotient_runs : fits ≡ true → (p : ℕ) → to ≡ p → is_end p ≡ false → (y : MachineState) (w : ℕ) → Divides a y u w → RunsRow (Two DIV) 96 x y t w
@@ -415,10 +423,10 @@ module _ (x a : MachineState) (t u : ℕ) (ready : IsReady x) (stands : Stands x
       let there = subst (λ (q : View). AtRow s place source q) (sym same) row in
       ends_as s place source y w true has (comes_on 4 92 (came p e) (divides s place source is there operands has) goes)
 
-  pub byte_quotient_runs : to ≡ 0x2580 → (y : MachineState) (w : ℕ) → Divides a y u w → RunsRow (Two DIV) 96 x y t w
-  byte_quotient_runs e = quotient_runs (byte_is fits byte z e).0 0x2580 e refl
+  pub byte_quotient_runs : to ≡ DIVBY → (y : MachineState) (w : ℕ) → Divides a y u w → RunsRow (Two DIV) 96 x y t w
+  byte_quotient_runs e = quotient_runs (byte_is fits byte z e).0 DIVBY e refl
 
-  pub word_quotient_runs : (to ≡ 0x25BA → ⊥) → (to ≡ 0x2580 → ⊥) → (y : MachineState) (w : ℕ) → Divides a y u w → RunsRow (Two DIV) 96 x y t w
+  pub word_quotient_runs : (to ≡ OVER → ⊥) → (to ≡ DIVBY → ⊥) → (y : MachineState) (w : ℕ) → Divides a y u w → RunsRow (Two DIV) 96 x y t w
   word_quotient_runs e f =
       let b = word_is fits byte z e f in
-      quotient_runs b.0 0x2592 (ap (λ (k : Bool). way k byte z) b.0 ∙ ap (λ (k : Bool). way true k z) b.1) refl
+      quotient_runs b.0 DIVW (ap (λ (k : Bool). way k byte z) b.0 ∙ ap (λ (k : Bool). way true k z) b.1) refl

@@ -1,26 +1,10 @@
 -- MUL and DIV, and what their parts come to.
-use Rattle.std.specs.Prelude.{◌≡◌, ◌<◌, ◌≤◌, ℕ, ◌+◌, ◌*◌, ◌/◌, ◌%◌, Bool, true, false, Option, Some, Ok}
-use Rattle.console_defs.specs.Words.{low}
-use Rattle.console_defs.specs.Flags.{Width, Byte, Word, size_of, sum_of}
-use Rattle.console_defs.specs.MultiplyDivide.{double_word}
-use Rattle.console_defs.specs.Machine.{MachineState}
-use Rattle.gpl_defs.specs.declared.instruction.TwoName.TheVariants.{MUL, DIV}
-use Rattle.gpl_defs.specs.declared.instruction.GplOperation.{GplOperation}
-use Rattle.gpl_defs.specs.declared.instruction.GplOperation.TheVariants.{Two}
-use Rattle.step_defs.specs.declared.cells.TheConstants.{VISIBLE_CELLS}
-use Rattle.step_defs.specs.State.{GplState}
-use Rattle.step_defs.specs.Place.{Place, value_at, double_at}
-use Rattle.step_defs.specs.Changes.{Changes, unchanged, with_value, with_overflow}
-use Rattle.step_defs.specs.Arithmetic.{Source, has_quotient, with_quotient}
-use Rattle.native_interp.specs.declared.addresses.TheConstants.{GSTEP, DIVQ}
-use Rattle.interp_defs.specs.Match.{PortsAreIdle}
-use Rattle.sim_view.specs.View.{View, view}
-use Rattle.sim_view.specs.Exits.{Comes}
-use Rattle.sim_operands.specs.Values.{width_in}
-use Rattle.sim_operands.specs.Subroutines.{state_of, place_in}
-use Rattle.sim_rows.specs.States.{operation_in}
-use Rattle.sim_rows.specs.Rows.{row_width, gone_on, operands_of, AtRow}
-use Rattle.sim_rows.specs.Results.{Storing, SeesFinished}
+use Rattle.std.specs.Prelude.{ℕ, ◌%◌, ◌*◌, ◌+◌, ◌/◌, ◌<◌, ◌≡◌, ◌≤◌, Bool, false, Ok, Option, Some, true}
+use Rattle.sim_rows.specs.Prelude.{AtRow, Byte, Changes, Comes, DIV, DIVQ, double_at, double_word, gone_on}
+use Rattle.sim_rows.specs.Prelude.{GplOperation, GplState, GSTEP, has_quotient, low, MachineState, MUL, operands_of}
+use Rattle.sim_rows.specs.Prelude.{operation_in, Place, place_in, PortsAreIdle, row_width, SeesFinished, size_of}
+use Rattle.sim_rows.specs.Prelude.{Source, state_of, Storing, sum_of, Two, unchanged, value_at, View, view}
+use Rattle.sim_rows.specs.Prelude.{VISIBLE_CELLS, Width, width_in, with_overflow, with_quotient, with_value, Word}
 
 abbrev pub is_muldiv : Option GplOperation → Bool
 is_muldiv (Some (Two MUL)) = true

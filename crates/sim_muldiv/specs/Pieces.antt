@@ -1,31 +1,9 @@
 -- What the pieces of MUL and DIV come to: how many instructions they have, where they end, and what they change of the
 -- view, in the words of the processor. Registers, cells and ports that are not named stay.
-use Rattle.std.specs.Prelude.{ℕ, ◌/◌, ◌%◌, ◌==◌, nat_lt, if◌then◌else◌, slice_index, slice_set}
-use Rattle.console_defs.specs.Flags.{Byte, Word, sum_of}
-use Rattle.console_defs.specs.Logic.{ones_set, ones_cleared, swapped}
-use Rattle.console_defs.specs.MultiplyDivide.{double_word, product_of}
-use Rattle.console_defs.specs.Shifts.{shifted}
-use Rattle.console_defs.specs.declared.instruction.ShiftOp.TheVariants.{SRL, SLA}
-use Rattle.step_defs.specs.declared.cells.TheConstants.{STATUS}
-use Rattle.step_defs.specs.declared.status_bits.TheConstants.{OVERFLOW_BIT}
-use Rattle.native_interp.specs.declared.addresses.TheConstants.{
-  GSTEP,
-  LOAD,
-  STORE,
-  STO,
-  SHOW,
-  MULB,
-  DIVBY,
-  DIVW,
-  DIVL,
-  DIVQ,
-  DIVS,
-  DIVE,
-  OVER,
-}
-use Rattle.sim_view.specs.View.{View}
-use Rattle.sim_view.specs.Exits.{Exit}
-use Rattle.sim_operands.specs.Pieces.{exit}
+use Rattle.std.specs.Prelude.{ℕ, ◌%◌, ◌/◌, ◌==◌, if◌then◌else◌, nat_lt, slice_index, slice_set}
+use Rattle.sim_rows.specs.Prelude.{Byte, DIVBY, DIVE, DIVL, DIVQ, DIVS, DIVW, double_word, Exit, exit, GSTEP, LOAD}
+use Rattle.sim_rows.specs.Prelude.{MULB, ones_cleared, ones_set, OVER, OVERFLOW_BIT, product_of, shifted, SHOW, SLA}
+use Rattle.sim_rows.specs.Prelude.{SRL, STATUS, STO, STORE, sum_of, swapped, View, Word}
 
 -- MUL: of a word the first byte is multiplied, and the product is one word; else STORE is asked for the high word of
 -- the product, and the low word is kept.

@@ -3,12 +3,14 @@
 #![tactic(auto)]
 
 mod family;
+mod pieces;
 mod product;
 mod quotient;
 
 pub use family::run_muldiv;
-pub use product::{low_product, multiply, run_product};
-pub use quotient::{
-    clear_overflow, compare_divisor, divide_bytes, divide_words, load_low_word, run_quotient,
-    set_overflow, store_last, take_remainder,
+pub use pieces::{
+    clear_overflow, compare_divisor, divide_bytes, divide_words, load_low_word, low_product,
+    multiply, set_overflow, store_last, take_remainder,
 };
+pub use product::run_product;
+pub use quotient::run_quotient;

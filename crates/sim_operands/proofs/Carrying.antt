@@ -1,19 +1,12 @@
 -- The pieces of LOAD and STORE, one after the other.
-use Rattle.std.proofs.Common.{◌≡◌, ℕ, ◌+◌, ◌<◌, ◌≤◌, true, false, refl, sym, ap, subst, ◌∙◌, arith, None}
-use Rattle.std.specs.Prelude.{◌==◌, nat_lt, slice_index}
-use Rattle.std.proofs.lemmas.Bool.{lt-ltb, eq-eqb}
-use Rattle.console_defs.specs.Machine.{MachineState}
-use Rattle.interp_defs.specs.Match.{PortsAreIdle, IsFetched}
-use Rattle.sim_view.specs.View.{View, view, Stands, listed}
-use Rattle.sim_view.specs.Exits.{Exit, Exits, Comes}
-use Rattle.sim_view.proofs.Bridge.{is_view}
-use Rattle.sim_view.proofs.Compose.{Goes, comes, comes_then, comes_as}
-use Rattle.sim_operands.specs.Pieces as pieces
+use Rattle.std.proofs.Common.{ℕ, ◌+◌, ◌<◌, ◌==◌, ◌∙◌, ◌≡◌, ◌≤◌, ap, arith, false, nat_lt, None, refl, slice_index, subst, sym, true}
+use Rattle.std.proofs.lemmas.Bool.{eq-eqb, lt-ltb}
+use Rattle.sim_view.proofs.Common.{Byte, Comes, comes, comes_as, comes_then, Exit, Exits, Goes, is_view, IsFetched, LDATA, listed, MachineState, PortsAreIdle}
+use Rattle.sim_view.proofs.Common.{SDATA, SREG, Stands, STREAM, unchanged, View, view, with_register}
 use Rattle.sim_operands.specs.Values.{IsVisible, of_register}
-use Rattle.console_defs.specs.Flags.{Byte}
-use Rattle.step_defs.specs.Changes.{unchanged, with_register}
-use Rattle.sim_operands.specs.Subroutines.{LoadsValue, LoadsStream, StoresValue, StoresRegister, streamed, state_of, Stored}
-use Rattle.sim_operands.proofs.Ready.{ready, idle_video}
+use Rattle.sim_operands.specs.Subroutines.{LoadsStream, LoadsValue, state_of, Stored, StoresRegister, StoresValue, streamed}
+use Rattle.sim_operands.proofs.Ready.{idle_video, ready}
+use Rattle.sim_operands.specs.Pieces as pieces
 use Rattle.sim_operands.proofs.Transfers as transfers
 
 -- an exit of which all is known
@@ -33,14 +26,15 @@ module _ (x : MachineState) (s : ℕ) (p : ℕ) (stands : Stands x p) (idle : Po
       let one : (v.r.r5 == 1) ≡ true = eq-eqb v.r.r5 1 o in
       let held = idle_video x.cpu.memory idle in
       let is = transfers.load_sets v one held (i.r 2) in
-      let first = comes e (just (pieces.load v) 9 0x2396 (let c = ap (λ (d : Exit). d.count) is in omega arith) (ap (λ (d : Exit). d.to) is)) in
+      let first = comes e (just (pieces.load v) 9 LDATA (let c = ap (λ (d : Exit). d.count) is in omega arith) (ap (λ (d : Exit). d.to) is)) in
       comes_then 9 8 first f (transfers.load_video v (view y) one held (i.r 2) first.holds) refl
 
-  pub load_stream : (y z : MachineState) (t u : ℕ) → 1 < v.r.r5 → IsFetched x.cpu.memory.grom → Exits x y s t (pieces.load v) → Exits y z t u (pieces.stream (view y)) → LoadsStream x z s u
+  pub load_stream : (y z : MachineState) (t u : ℕ) → 1 < v.r.r5 → IsFetched x.cpu.memory.grom → Exits x y s t (pieces.load v) →
+      Exits y z t u (pieces.stream (view y)) → LoadsStream x z s u
   load_stream y z t u l g e f =
       let more : nat_lt 1 v.r.r5 ≡ true = lt-ltb 1 v.r.r5 l in
       let is = transfers.goes_on v more in
-      let first = comes e (just (pieces.load v) 3 0x23AC (let c = ap (λ (d : Exit). d.count) is in omega arith) (ap (λ (d : Exit). d.to) is)) in
+      let first = comes e (just (pieces.load v) 3 STREAM (let c = ap (λ (d : Exit). d.count) is in omega arith) (ap (λ (d : Exit). d.to) is)) in
       let same : view y ≡ v = first.holds ∙ ap (λ (d : Exit). d.left) is in
       let at : View → Type 0 = λ w. Goes (pieces.stream w) 8 (pieces.return_of v) (λ q. q ≡ streamed v) in
       comes_then 3 8 first f (subst at (sym same) (transfers.streams v (ready x.cpu.memory idle g))) refl
@@ -48,20 +42,23 @@ module _ (x : MachineState) (s : ℕ) (p : ℕ) (stands : Stands x p) (idle : Po
   pub store_cells : (y : MachineState) (t : ℕ) → IsVisible v.r.r8 v.r.r7 v.r.r3 → v.r.r8 ≡ 0 → Exits x y s t (pieces.store v) → StoresValue x y s t
   store_cells y t h z e = comes e (transfers.store_cells v z h)
 
-  pub store_video : (y z : MachineState) (t u : ℕ) → v.r.r8 ≡ 1 → Exits x y s t (pieces.store v) → Exits y z t u (pieces.store_video (view y)) → StoresValue x z s u
+  pub store_video : (y z : MachineState) (t u : ℕ) → v.r.r8 ≡ 1 → Exits x y s t (pieces.store v) → Exits y z t u (pieces.store_video (view y)) →
+      StoresValue x z s u
   store_video y z t u o e f =
       let i = is_view x stands.machine in
       let one : (v.r.r8 == 1) ≡ true = eq-eqb v.r.r8 1 o in
       let held = idle_video x.cpu.memory idle in
       let is = transfers.store_sets v one held (i.r 7) in
-      let first = comes e (just (pieces.store v) 10 0x2402 (let c = ap (λ (d : Exit). d.count) is in omega arith) (ap (λ (d : Exit). d.to) is)) in
+      let first = comes e (just (pieces.store v) 10 SDATA (let c = ap (λ (d : Exit). d.count) is in omega arith) (ap (λ (d : Exit). d.to) is)) in
       comes_then 10 6 first f (transfers.store_video v (view y) one held (i.r 7) first.holds) refl
 
-  pub store_register : (y z : MachineState) (t u : ℕ) → 1 < v.r.r8 → v.r.r7 < 8 → Exits x y s t (pieces.store v) → Exits y z t u (pieces.store_register (view y)) → StoresRegister x z s u
+  pub store_register : (y z : MachineState) (t u : ℕ) → 1 < v.r.r8 → v.r.r7 < 8 → Exits x y s t (pieces.store v) →
+      Exits y z t u (pieces.store_register (view y)) → StoresRegister x z s u
   store_register y z t u l n e f =
       let more : nat_lt 1 v.r.r8 ≡ true = lt-ltb 1 v.r.r8 l in
       let is = transfers.stores_on v more in
-      let first = comes e (just (pieces.store v) 3 0x2414 (let c = ap (λ (d : Exit). d.count) is in omega arith) (ap (λ (d : Exit). d.to) is)) in
+      let first = comes e (just (pieces.store v) 3 SREG (let c = ap (λ (d : Exit). d.count) is in omega arith) (ap (λ (d : Exit). d.to) is)) in
       let same : view y ≡ v = first.holds ∙ ap (λ (d : Exit). d.left) is in
-      let at : View → Type 0 = λ w. Goes (pieces.store_register w) 6 (pieces.return_of v) (Stored v (with_register v.r.r7 (of_register Byte v.r.r9) (unchanged (state_of v)))) in
+      let at : View → Type 0 = λ w. Goes (pieces.store_register w) 6 (pieces.return_of v)
+      (Stored v (with_register v.r.r7 (of_register Byte v.r.r9) (unchanged (state_of v)))) in
       comes_then 3 6 first f (subst at (sym same) (transfers.store_register v (idle_video x.cpu.memory idle) n)) refl

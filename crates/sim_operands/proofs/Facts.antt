@@ -1,14 +1,9 @@
 -- Facts about numbers that the pieces need.
-use Rattle.std.proofs.Common.{◌≡◌, ℕ, ◌+◌, ◌-◌, ◌*◌, ◌/◌, ◌%◌, ◌<◌, ◌≤◌, Bool, true, false, refl, sym, ap, ◌∙◌, arith, eqb}
-use Rattle.std.specs.Prelude.{◌&&◌, ◌==◌, not, nat_lt, nat_le, if◌then◌else◌}
-use Rattle.std.proofs.lemmas.Bool.{le-leb, lt-leb, lt-ltb, le-ltb, eq-eqb, ltb-true, ltb-false, ne_eqb}
-use Rattle.console_defs.specs.Words.{high, low, join, even, plus}
-use Rattle.console_defs.specs.Logic.{swapped}
-use Rattle.console_defs.specs.Shifts.{shifted}
-use Rattle.console_defs.specs.declared.instruction.ShiftOp.TheVariants.{SRL}
-use Rattle.console_defs.specs.Flags.{Width, Byte, Word, size_of}
+use Rattle.std.proofs.Common.{ℕ, ◌%◌, ◌&&◌, ◌*◌, ◌+◌, ◌-◌, ◌/◌, ◌<◌, ◌==◌, ◌∙◌, ◌≡◌, ◌≤◌, ap, arith, Bool, eqb, false, if◌then◌else◌, nat_le, nat_lt, not}
+use Rattle.std.proofs.Common.{refl, sym, true}
+use Rattle.std.proofs.lemmas.Bool.{eq-eqb, le-leb, le-ltb, lt-leb, lt-ltb, ltb-false, ltb-true, ne_eqb}
+use Rattle.sim_view.proofs.Common.{Byte, Cell, even, high, join, low, plus, shifted, size_of, spot, Spot, SRL, swapped, Width, Word, WORKSPACE}
 use Rattle.sim_operands.specs.Values.{IsVisible, width_in}
-use Rattle.sim_view.proofs.Seen.{spot, Spot, Cell}
 
 -- a byte that comes down
 pub down : (byte less : ℕ) → byte < 256 → less < 256 → shifted SRL (join byte less) 8 ≡ byte
@@ -17,7 +12,15 @@ down byte less h k = omega arith
 -- a visible cell at an address
 pub spot_cell : (address offset : ℕ) → address ≡ 0x8300 + offset → offset < 194 → spot address ≡ Cell offset
 spot_cell address offset e h =
-    rw (lt-leb 0x83E0 address (omega arith), le-leb 0x2000 address (omega arith), le-ltb address 0x287E (omega arith), le-leb 0x8300 address (omega arith), lt-ltb address 0x83C2 (omega arith), spot) (ap Cell (omega arith))
+    rw (
+      lt-leb WORKSPACE address (omega arith),
+      le-leb 0x2000 address (omega arith),
+      le-ltb address 0x287E (omega arith),
+      le-leb 0x8300 address
+          (omega arith),
+      lt-ltb address 0x83C2 (omega arith),
+      spot,
+    ) (ap Cell (omega arith))
 
 -- what is above a limit is not the limit
 pub not_limit : (limit number : ℕ) → nat_lt limit number ≡ true → (number == limit) ≡ false
@@ -68,4 +71,5 @@ first_fits space offset width h z = by (width == 1) (h z)
     by false le = omega arith
 
 pub second_fits : (space offset width : ℕ) → IsVisible space offset width → space ≡ 0 → (width == 1) ≡ false → offset + 1 < 194
-second_fits space offset width h z e = let le : offset + size_of (if width == 1 then Byte else Word) ≤ 0xC2 = h z in let two : offset + 2 ≤ 0xC2 = rw e at le in omega arith
+second_fits space offset width h z e = let le : offset + size_of (if width == 1 then Byte else Word) ≤ 0xC2 = h z in let two : offset + 2 ≤ 0xC2 =
+    rw e at le in omega arith

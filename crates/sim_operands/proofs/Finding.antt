@@ -1,24 +1,14 @@
 -- The pieces of ADDR, one after the other.
-use Rattle.std.proofs.Common.{◌≡◌, ℕ, ◌+◌, ◌/◌, ◌%◌, ◌<◌, ◌≤◌, Bool, true, false, refl, sym, ap, subst, ◌∙◌, arith, eqb, Result, Ok, Err}
-use Rattle.std.specs.Prelude.{◌==◌}
+use Rattle.std.proofs.Common.{ℕ, ◌%◌, ◌+◌, ◌/◌, ◌<◌, ◌==◌, ◌∙◌, ◌≡◌, ◌≤◌, ap, arith, Bool, eqb, Err, false, Ok, refl, Result, subst, sym, true}
 use Rattle.std.proofs.lemmas.Bool.{eq-eqb}
-use Rattle.console_defs.specs.Words.{join}
-use Rattle.console_defs.specs.Machine.{MachineState}
-use Rattle.source_defs.specs.Refusals.{◌>>=◌}
-use Rattle.gpl_defs.specs.declared.instruction.GplOperand.{GplOperand}
-use Rattle.gpl_defs.specs.Reading.{operand_at, with_index, index_at, space_at}
-use Rattle.step_defs.specs.declared.reason.Reason.{Reason}
-use Rattle.step_defs.specs.declared.reason.Reason.TheVariants.{Cell}
-use Rattle.step_defs.specs.Place.{Place, place_of, pointed, indexed, ranged}
-use Rattle.interp_defs.specs.Match.{PortsAreIdle, IsFetched}
-use Rattle.sim_view.specs.View.{View, view, Stands}
-use Rattle.sim_view.specs.Exits.{Exit, Exits, Comes}
-use Rattle.sim_view.proofs.Bridge.{is_view}
-use Rattle.sim_view.proofs.Compose.{Goes, comes, comes_then, comes_as}
-use Rattle.sim_operands.specs.Pieces as pieces
-use Rattle.sim_operands.specs.Subroutines.{state_of, next_at, Addressed, Placed, Barred, Finds, FindsOperand}
+use Rattle.sim_view.proofs.Common.{◌>>=◌, ADDR, APTR, ASPACE, Comes, comes, comes_as, comes_then, Exit, Exits, Goes, GplOperand, GSTOP, INDEX, index_at}
+use Rattle.sim_view.proofs.Common.{indexed, is_view, IsFetched, join, MachineState, operand_at, Place, place_of, pointed, PortsAreIdle, ranged, Reason}
+use Rattle.sim_view.proofs.Common.{space_at, Stands, View, view, with_index}
+use Rattle.sim_view.specs.step_defs.declared.reason.Reason.TheVariants.{Cell}
+use Rattle.sim_operands.specs.Subroutines.{Addressed, Barred, Finds, FindsOperand, next_at, Placed, state_of}
 use Rattle.sim_operands.proofs.Ready.{ready}
-use Rattle.sim_operands.proofs.Addressing.{Answers, AddressRead, address_read, PointerRead, pointer_read, IndexRead, index_read, RangeRead, range_read}
+use Rattle.sim_operands.proofs.Addressing.{address_read, AddressRead, Answers, index_read, IndexRead, pointer_read, PointerRead, range_read, RangeRead}
+use Rattle.sim_operands.specs.Pieces as pieces
 
 not_both : (b : Bool) → b ≡ true → b ≡ false → ⊥
 not_both b e f = cc
@@ -38,7 +28,8 @@ elsewhere {e = e} {to = to} c g = not_both (eqb e.to to) (eq-eqb e.to to g.to_is
 there : (to : ℕ) {e : Exit} {most other : ℕ} {Q : View → Type 0} → eqb e.to to ≡ true → eqb other to ≡ false → Goes e most other Q → ⊥
 there to {e = e} c d g = not_both (eqb e.to to) c (ap (λ (n : ℕ). eqb n to) g.to_is ∙ d)
 
-module _ (x : MachineState) (s : ℕ) (stands : Stands x 0x22EC) (idle : PortsAreIdle x.cpu.memory) (is : IsFetched x.cpu.memory.grom) (bytes : (view x).r.r3 ≤ 16384) where
+module _ (x : MachineState) (s : ℕ) (stands : Stands x ADDR) (idle : PortsAreIdle x.cpu.memory) (is : IsFetched x.cpu.memory.grom)
+    (bytes : (view x).r.r3 ≤ 16384) where
   abbrev v : View
   v = view x
 
@@ -46,7 +37,8 @@ module _ (x : MachineState) (s : ℕ) (stands : Stands x 0x22EC) (idle : PortsAr
   found = address_read v (next_at v) (ready x.cpu.memory idle is) (is_view x stands.machine).grom.image
 
   -- after the address
-  pub addressed : (y : MachineState) (t : ℕ) → Exits x y s t (pieces.address v) → Comes 13 x y s t 0x2314 (Addressed v found.address (join found.form 0) found.next)
+  pub addressed : (y : MachineState) (t : ℕ) → Exits x y s t (pieces.address v) → Comes 13 x y s t APTR
+      (Addressed v found.address (join found.form 0) found.next)
   addressed y t e = comes e found.goes
 
   -- the answer of the definition, once it is split
@@ -61,31 +53,36 @@ module _ (x : MachineState) (s : ℕ) (stands : Stands x 0x22EC) (idle : PortsAr
       subst P (sym found.means) h
 
   -- a pointer that stops
-  pub pointer_stops : (y z : MachineState) (t u : ℕ) → Comes 13 x y s t 0x2314 (Addressed v found.address (join found.form 0) found.next) →
-      Exits y z t u (pieces.pointer (view y)) → eqb (pieces.pointer (view y)).to 0x2330 ≡ false → FindsOperand x z s u
+  pub pointer_stops : (y z : MachineState) (t u : ℕ) → Comes 13 x y s t APTR (Addressed v found.address (join found.form 0) found.next) →
+      Exits y z t u (pieces.pointer (view y)) → eqb (pieces.pointer (view y)).to INDEX ≡ false → FindsOperand x z s u
   pointer_stops y z t u c e f =
-      let a = stops (pointed (state_of v) (found.form / 16 % 2 == 1) found.address) (pointer_read v (view y) found.address found.form found.next found.form_fits c.holds) (λ base. elsewhere f) in
+      let a = stops (pointed (state_of v) (found.form / 16 % 2 == 1) found.address) (pointer_read v (view y) found.address found.form found.next
+      found.form_fits c.holds) (λ base. elsewhere f) in
       whole z u (subst (split z u) (sym a.0) (comes_as 45 (Barred v Cell) (comes_then 13 7 c e a.1 refl) (omega arith) (λ w b. b)))
 
   -- a pointer that goes on
   pub record Pointed (y : MachineState) (t : ℕ) : Type 0 where
     pub base : ℕ
     pub is_pointed : pointed (state_of v) (found.form / 16 % 2 == 1) found.address ≡ Ok base
-    pub comes : Comes 23 x y s t 0x2330 (Addressed v base (found.form / 32) found.next)
+    pub comes : Comes 23 x y s t INDEX (Addressed v base (found.form / 32) found.next)
 
-  pub pointer_goes : (y z : MachineState) (t u : ℕ) → Comes 13 x y s t 0x2314 (Addressed v found.address (join found.form 0) found.next) →
-      Exits y z t u (pieces.pointer (view y)) → eqb (pieces.pointer (view y)).to 0x2330 ≡ true → Pointed z u
+  pub pointer_goes : (y z : MachineState) (t u : ℕ) → Comes 13 x y s t APTR (Addressed v found.address (join found.form 0) found.next) →
+      Exits y z t u (pieces.pointer (view y)) → eqb (pieces.pointer (view y)).to INDEX ≡ true → Pointed z u
   pointer_goes y z t u c e f =
-      let a = gives (pointed (state_of v) (found.form / 16 % 2 == 1) found.address) (pointer_read v (view y) found.address found.form found.next found.form_fits c.holds) (there 0x2330 f refl) in
+      let a = gives (pointed (state_of v) (found.form / 16 % 2 == 1) found.address) (pointer_read v (view y) found.address found.form found.next
+      found.form_fits c.holds) (there INDEX f refl) in
       record { base = a.0; is_pointed = a.1; comes = comes_then 13 10 c e a.2 refl }
 
   -- an index that stops
-  pub index_stops : (y z : MachineState) (t u : ℕ) → Pointed y t → Exits y z t u (pieces.index (view y)) → eqb (pieces.index (view y)).to 0x2350 ≡ false → FindsOperand x z s u
+  pub index_stops : (y z : MachineState) (t u : ℕ) → Pointed y t → Exits y z t u (pieces.index (view y)) → eqb (pieces.index (view y)).to ASPACE ≡ false →
+      FindsOperand x z s u
   index_stops y z t u p e f =
       let index = index_at found.form v.grom.image found.next in
-      let a = stops (indexed (state_of v) index.0 p.base) (index_read v (view y) p.base found.form found.next found.form_fits p.comes.holds) (λ address. elsewhere f) in
+      let a = stops (indexed (state_of v) index.0 p.base) (index_read v (view y) p.base found.form found.next found.form_fits p.comes.holds)
+      (λ address. elsewhere f) in
       let Q : Result ℕ Reason → Type 0 = λ second. Finds x z s u index.1 (second >>= λ address. ranged v.r.r3 (space_at found.form) address) in
-      whole z u (subst (split z u) (sym p.is_pointed) (subst Q (sym a.0) (comes_as 45 (Barred v Cell) (comes_then 23 8 p.comes e a.1 refl) (omega arith) (λ w b. b))))
+      whole z u (subst (split z u) (sym p.is_pointed)
+      (subst Q (sym a.0) (comes_as 45 (Barred v Cell) (comes_then 23 8 p.comes e a.1 refl) (omega arith) (λ w b. b))))
 
   -- an index that goes on
   pub record Indexed (y : MachineState) (t : ℕ) : Type 0 where
@@ -93,17 +90,20 @@ module _ (x : MachineState) (s : ℕ) (stands : Stands x 0x22EC) (idle : PortsAr
     pub address : ℕ
     pub is_pointed : pointed (state_of v) (found.form / 16 % 2 == 1) found.address ≡ Ok base
     pub is_indexed : indexed (state_of v) (index_at found.form v.grom.image found.next).0 base ≡ Ok address
-    pub comes : Comes 35 x y s t 0x2350 (Addressed v address (found.form / 32) (index_at found.form v.grom.image found.next).1)
+    pub comes : Comes 35 x y s t ASPACE (Addressed v address (found.form / 32) (index_at found.form v.grom.image found.next).1)
 
-  pub index_goes : (y z : MachineState) (t u : ℕ) → Pointed y t → Exits y z t u (pieces.index (view y)) → eqb (pieces.index (view y)).to 0x2350 ≡ true → Indexed z u
+  pub index_goes : (y z : MachineState) (t u : ℕ) → Pointed y t → Exits y z t u (pieces.index (view y)) → eqb (pieces.index (view y)).to ASPACE ≡ true →
+      Indexed z u
   index_goes y z t u p e f =
       let index = index_at found.form v.grom.image found.next in
-      let a = gives (indexed (state_of v) index.0 p.base) (index_read v (view y) p.base found.form found.next found.form_fits p.comes.holds) (there 0x2350 f refl) in
+      let a = gives (indexed (state_of v) index.0 p.base) (index_read v (view y) p.base found.form found.next found.form_fits p.comes.holds)
+      (there ASPACE f refl) in
       record { base = p.base; address = a.0; is_pointed = p.is_pointed; is_indexed = a.1; comes = comes_then 23 12 p.comes e a.2 refl }
 
   -- the range
   ends : (y z : MachineState) (t u : ℕ) → Indexed y t → Exits y z t u (pieces.range (view y)) → (q : Result Place Reason) →
-      Answers q (λ place. Goes (pieces.range (view y)) 10 (pieces.return_of v) (Placed v (index_at found.form v.grom.image found.next).1 place)) (Goes (pieces.range (view y)) 10 0x22B8 (Barred v Cell)) →
+      Answers q (λ place. Goes (pieces.range (view y)) 10 (pieces.return_of v) (Placed v (index_at found.form v.grom.image found.next).1 place))
+      (Goes (pieces.range (view y)) 10 GSTOP (Barred v Cell)) →
       Finds x z s u (index_at found.form v.grom.image found.next).1 q
   ends y z t u p e (Ok place) g = comes_then 35 10 p.comes e g refl
   ends y z t u p e (Err reason) g =
@@ -115,4 +115,5 @@ module _ (x : MachineState) (s : ℕ) (stands : Stands x 0x22EC) (idle : PortsAr
       let index = index_at found.form v.grom.image found.next in
       let q = ranged v.r.r3 (space_at found.form) p.address in
       let Q : Result ℕ Reason → Type 0 = λ second. Finds x z s u index.1 (second >>= λ address. ranged v.r.r3 (space_at found.form) address) in
-      whole z u (subst (split z u) (sym p.is_pointed) (subst Q (sym p.is_indexed) (ends y z t u p e q (range_read v (view y) p.address found.form index.1 found.form_fits bytes p.comes.holds))))
+      whole z u (subst (split z u) (sym p.is_pointed)
+      (subst Q (sym p.is_indexed) (ends y z t u p e q (range_read v (view y) p.address found.form index.1 found.form_fits bytes p.comes.holds))))

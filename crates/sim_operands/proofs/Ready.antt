@@ -1,17 +1,10 @@
 -- The ports at the entry of a subroutine.
-use Rattle.std.proofs.Common.{◌≡◌, ℕ, ◌+◌, ◌*◌, ◌/◌, ◌%◌, ◌<◌, Bool, true, false, refl, sym, ap, ◌∙◌, arith, Option, Some, None}
-use Rattle.std.specs.Prelude.{not, is_none, slice_index}
-use Rattle.console_defs.specs.Words.{high, low, join}
-use Rattle.console_defs.specs.Vdp.{VdpState, is_vdp_idle}
-use Rattle.console_defs.specs.Grom.{GromState, is_grom_idle, next_in_grom, previous_in_grom}
-use Rattle.console_defs.proofs.GromLaws.{next-previous}
-use Rattle.console_defs.specs.Memory.{Memory}
-use Rattle.interp_defs.specs.Match.{PortsAreIdle, IsFetched}
-use Rattle.sim_view.specs.View.{View, view_of}
-use Rattle.sim_view.specs.Exits.{Exit}
-use Rattle.sim_operands.specs.Pieces as pieces
+use Rattle.std.proofs.Common.{ℕ, ◌%◌, ◌*◌, ◌+◌, ◌/◌, ◌<◌, ◌∙◌, ◌≡◌, ap, arith, Bool, false, is_none, None, not, Option, refl, slice_index, Some, sym, true}
+use Rattle.sim_view.proofs.Common.{Exit, GromState, high, is_grom_idle, is_vdp_idle, IsFetched, join, low, Memory, next-previous, next_in_grom, PortsAreIdle}
+use Rattle.sim_view.proofs.Common.{previous_in_grom, VdpState, View, view_of}
 use Rattle.sim_operands.specs.Pieces.{past, set_to}
-use Rattle.sim_operands.specs.Subroutines.{grom_at, next_at, fetched, sought}
+use Rattle.sim_operands.specs.Subroutines.{fetched, grom_at, next_at, sought}
+use Rattle.sim_operands.specs.Pieces as pieces
 
 not_true : (b : Bool) → not b ≡ true → b ≡ false
 not_true true e = absurd (cc)

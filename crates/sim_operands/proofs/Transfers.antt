@@ -1,29 +1,17 @@
 -- The pieces of LOAD and STORE carry a value.
-use Rattle.std.proofs.Common.{◌≡◌, ℕ, ◌+◌, ◌*◌, ◌/◌, ◌%◌, ◌<◌, ◌≤◌, Bool, true, false, refl, sym, ap, subst, ◌∙◌, arith, List, eqb, Option, Some, None}
-use Rattle.std.specs.Prelude.{◌==◌, not, nat_lt, slice_index, slice_set, if◌then◌else◌}
-use Rattle.std.proofs.lemmas.Bool.{eqb-true, ltb-true, eq-eqb, ne_eqb, le-ltb, lt-ltb}
-use Rattle.console_defs.specs.Words.{high, low, join, plus}
-use Rattle.console_defs.specs.Bytes.{word_in}
-use Rattle.console_defs.specs.Flags.{Width, Byte, Word, sum_of}
-use Rattle.console_defs.specs.Logic.{swapped}
-use Rattle.console_defs.specs.Shifts.{shifted}
-use Rattle.console_defs.specs.Vdp.{VdpState, next_in_vdp, pair_kind, PairKind, ReadSetup, WriteSetup, RegisterWrite, NoOperation, vdp_data_read}
-use Rattle.console_defs.specs.Vdp.{vdp_data_written, vdp_address_written}
-use Rattle.console_defs.specs.Grom.{GromState, next_in_grom}
-use Rattle.console_defs.specs.declared.instruction.ShiftOp.TheVariants.{SRL, SLA}
-use Rattle.gpl_defs.specs.Reading.{value_at as value_in}
-use Rattle.step_defs.specs.Place.{Place, value_at}
-use Rattle.step_defs.specs.Changes.{Changes, unchanged, with_value, with_register}
-use Rattle.sim_view.specs.View.{View}
-use Rattle.sim_view.specs.Exits.{Exit}
-use Rattle.sim_view.proofs.Bridge.{IsView}
-use Rattle.sim_view.proofs.Places.{pick}
-use Rattle.sim_view.proofs.Compose.{Goes}
-use Rattle.sim_operands.specs.Pieces as pieces
+use Rattle.std.proofs.Common.{ℕ, ◌%◌, ◌*◌, ◌+◌, ◌/◌, ◌<◌, ◌==◌, ◌∙◌, ◌≡◌, ◌≤◌, ap, arith, Bool, eqb, false, if◌then◌else◌, List, nat_lt, None, not, Option}
+use Rattle.std.proofs.Common.{refl, slice_index, slice_set, Some, subst, sym, true}
+use Rattle.std.proofs.lemmas.Bool.{eq-eqb, eqb-true, le-ltb, lt-ltb, ltb-true, ne_eqb}
+use Rattle.sim_view.proofs.Common.{Byte, Changes, Exit, Goes, GromState, high, IsView, join, LDATA, low, next_in_grom, next_in_vdp, NoOperation, pair_kind}
+use Rattle.sim_view.proofs.Common.{PairKind, pick, Place, plus, ReadSetup, RegisterWrite, SDATA, shifted, SLA, SREG, SRL, STREAM, sum_of, swapped, unchanged}
+use Rattle.sim_view.proofs.Common.{value_at, vdp_address_written, vdp_data_read, vdp_data_written, VdpState, View, Width, with_register, with_value, Word}
+use Rattle.sim_view.proofs.Common.{word_in, WriteSetup}
+use Rattle.sim_view.specs.gpl_defs.Reading.{value_at as value_in}
 use Rattle.sim_operands.specs.Pieces.{past, past_video, set_video_to}
-use Rattle.sim_operands.specs.Values.{width_in, in_register, of_register, IsVisible}
-use Rattle.sim_operands.specs.Subroutines.{state_of, next_at, grom_at, place_in, Loaded, streamed, Stored, marked_by}
+use Rattle.sim_operands.specs.Values.{in_register, IsVisible, of_register, width_in}
+use Rattle.sim_operands.specs.Subroutines.{grom_at, Loaded, marked_by, next_at, place_in, state_of, Stored, streamed}
 use Rattle.sim_operands.proofs.Facts.{first_fits, second_fits}
+use Rattle.sim_operands.specs.Pieces as pieces
 
 -- ---- cells
 
@@ -37,9 +25,20 @@ loaded_by v = Loaded v (value_at (state_of v) (width_in v.r.r3) (place_in v.r.r5
 pub load_cells : (v : View) → v.r.r5 ≡ 0 → IsVisible v.r.r5 v.r.r2 v.r.r3 → Goes (pieces.load v) 17 (pieces.return_of v) (loaded_by v)
 load_cells v z h =
     pick (v.r.r3 == 1)
-    (λ c. rw (z, c, pieces.load) (record { within = omega arith; to_is = refl; holds = record { r4 = v.r.r4; address = v.vdp.address; byte = v.vdp.fetched; is = rw c refl } }))
+    (λ c. rw (z, c, pieces.load) (record
+    { within = omega arith; to_is = refl; holds = record { r4 = v.r.r4; address = v.vdp.address; byte = v.vdp.fetched; is = rw c refl } }))
     (λ c. let fits = second_fits v.r.r5 v.r.r2 v.r.r3 h z c in
-    rw (z, c, pieces.load) (record { within = omega arith; to_is = refl; holds = record { r4 = v.r.r4; address = v.vdp.address; byte = v.vdp.fetched; is = rw (c, behind_is v.r.r2 fits) refl } }))
+    rw (z, c, pieces.load) (record {
+      within = omega arith;
+      to_is = refl;
+      holds = record {
+        r4 = v.r.r4;
+        address = v.vdp.address;
+        byte = v.vdp.fetched;
+        is =
+            rw (c, behind_is v.r.r2 fits) refl;
+      };
+    }))
 
 -- ---- video memory
 
@@ -78,11 +77,11 @@ set_for_writing vdp at h k = rw (h, write_kind at k, write_pair at k) refl
 
 -- LOAD's first piece and its second
 pub load_sets : (v : View) → (v.r.r5 == 1) ≡ true → v.vdp.held ≡ None → v.r.r2 < 65536 →
-    pieces.load v ≡ pieces.exit 9 0x2396 (record v { r = record v.r { r4 = v.r.r2 % 16384 }; vdp = reading_from (v.r.r2 % 16384) v.vdp })
+    pieces.load v ≡ pieces.exit 9 LDATA (record v { r = record v.r { r4 = v.r.r2 % 16384 }; vdp = reading_from (v.r.r2 % 16384) v.vdp })
 load_sets v c h k =
     let a : shifted SRL (shifted SLA v.r.r2 2) 2 ≡ v.r.r2 % 16384 = video_at v.r.r2 k in
-    let at : ℕ → Exit = λ n. pieces.exit 9 0x2396 (record v { r = record v.r { r4 = n }; vdp = set_video_to n v.vdp }) in
-    let set : VdpState → Exit = λ d. pieces.exit 9 0x2396 (record v { r = record v.r { r4 = v.r.r2 % 16384 }; vdp = d }) in
+    let at : ℕ → Exit = λ n. pieces.exit 9 LDATA (record v { r = record v.r { r4 = n }; vdp = set_video_to n v.vdp }) in
+    let set : VdpState → Exit = λ d. pieces.exit 9 LDATA (record v { r = record v.r { r4 = v.r.r2 % 16384 }; vdp = d }) in
     rw (c, pieces.load) (ap at a ∙ ap set (set_for_reading v.vdp (v.r.r2 % 16384) h (omega arith)))
 
 next_address : (address : ℕ) → address < 65536 → next_in_vdp (address % 16384) ≡ plus address 1 % 16384
@@ -98,18 +97,42 @@ set_view v = record v { r = record v.r { r4 = v.r.r2 % 16384 }; vdp = reading_fr
 load_video_by : (v : View) → v.r.r5 ≡ 1 → v.vdp.held ≡ None → v.r.r2 < 65536 → Goes (pieces.load_video (set_view v)) 8 (pieces.return_of v) (loaded_by v)
 load_video_by v o h k =
     pick (v.r.r3 == 1)
-    (λ c. rw (o, c, pieces.load_video) (record { within = omega arith; to_is = refl; holds = record { r4 = v.r.r2 % 16384; address = next_in_vdp (next_in_vdp (v.r.r2 % 16384)); byte = slice_index v.vdp.memory (next_in_vdp (v.r.r2 % 16384)); is = rw (c, h) refl } }))
-    (λ c. rw (o, c, pieces.load_video) (record { within = omega arith; to_is = refl; holds = record { r4 = v.r.r2 % 16384; address = next_in_vdp (next_in_vdp (next_in_vdp (v.r.r2 % 16384))); byte = slice_index v.vdp.memory (next_in_vdp (next_in_vdp (v.r.r2 % 16384))); is = rw (c, h, next_address v.r.r2 k) refl } }))
+    (λ c. rw (o, c, pieces.load_video)
+    (record {
+      within = omega arith;
+      to_is = refl;
+      holds = record {
+        r4 = v.r.r2 % 16384;
+        address = next_in_vdp (next_in_vdp (v.r.r2 % 16384));
+        byte =
+            slice_index v.vdp.memory (next_in_vdp (v.r.r2 % 16384));
+        is = rw (c, h) refl;
+      };
+    }))
+    (λ c. rw (o, c, pieces.load_video)
+    (record {
+      within = omega arith;
+      to_is = refl;
+      holds = record {
+        r4 = v.r.r2 % 16384;
+        address =
+            next_in_vdp (next_in_vdp (next_in_vdp (v.r.r2 % 16384)));
+        byte = slice_index v.vdp.memory (next_in_vdp (next_in_vdp (v.r.r2 % 16384)));
+        is =
+            rw (c, h, next_address v.r.r2 k) refl;
+      };
+    }))
 
 -- LOAD's second piece, after the first
-pub load_video : (v w : View) → (v.r.r5 == 1) ≡ true → v.vdp.held ≡ None → v.r.r2 < 65536 → w ≡ (pieces.load v).left → Goes (pieces.load_video w) 8 (pieces.return_of v) (loaded_by v)
+pub load_video : (v w : View) → (v.r.r5 == 1) ≡ true → v.vdp.held ≡ None → v.r.r2 < 65536 → w ≡ (pieces.load v).left →
+    Goes (pieces.load_video w) 8 (pieces.return_of v) (loaded_by v)
 load_video v w c h k e =
     let is : w ≡ set_view v = e ∙ ap (λ (x : Exit). x.left) (load_sets v c h k) in
     subst (λ (u : View). Goes (pieces.load_video u) 8 (pieces.return_of v) (loaded_by v)) (sym is) (load_video_by v (one_is v.r.r5 c) h k)
 
 -- ---- the bytes that follow
 
-pub goes_on : (v : View) → nat_lt 1 v.r.r5 ≡ true → pieces.load v ≡ pieces.exit 3 0x23AC v
+pub goes_on : (v : View) → nat_lt 1 v.r.r5 ≡ true → pieces.load v ≡ pieces.exit 3 STREAM v
 goes_on v c =
     let l : 1 < v.r.r5 = ltb-true 1 v.r.r5 c in
     let n : (v.r.r5 == 1) ≡ false = ne_eqb v.r.r5 1 (λ e. omega arith) in
@@ -144,25 +167,64 @@ next_cell n false c = ne_eqb (n + 1) 0x7D (λ e. let f : n ≡ 0x7C = omega arit
 store_byte : (v : View) → v.r.r8 ≡ 0 → (v.r.r3 == 1) ≡ true → Goes (pieces.store_byte v) 16 (pieces.return_of v) (stored_by v)
 store_byte v z c =
     pick (v.r.r7 == 0x7D)
-    (λ d. rw (z, c, d, pieces.store_byte) (record { within = omega arith; to_is = refl; holds = record { r4 = v.r.r4; r9 = v.r.r9; address = v.vdp.address; byte = v.vdp.fetched; is = refl } }))
-    (λ d. rw (z, c, d, pieces.store_byte) (record { within = omega arith; to_is = refl; holds = record { r4 = v.r.r4; r9 = v.r.r9; address = v.vdp.address; byte = v.vdp.fetched; is = refl } }))
+    (λ d. rw (z, c, d, pieces.store_byte)
+    (record { within = omega arith; to_is = refl; holds = record { r4 = v.r.r4; r9 = v.r.r9; address = v.vdp.address; byte = v.vdp.fetched; is = refl } }))
+    (λ d. rw (z, c, d, pieces.store_byte)
+    (record { within = omega arith; to_is = refl; holds = record { r4 = v.r.r4; r9 = v.r.r9; address = v.vdp.address; byte = v.vdp.fetched; is = refl } }))
 
 store_word : (v : View) → v.r.r8 ≡ 0 → (v.r.r3 == 1) ≡ false → v.r.r7 + 1 < 194 → Goes (pieces.store_word v) 16 (pieces.return_of v) (stored_by v)
 store_word v z c h =
     let b = behind_is v.r.r7 h in
     pick (v.r.r7 == 0x7D)
     (λ d. let e = apart v.r.r7 d in
-    rw (z, c, b, d, e, next_cell v.r.r7 false e, pieces.store_word) (record { within = omega arith; to_is = refl; holds = record { r4 = v.r.r4; r9 = swapped v.r.r9; address = v.vdp.address; byte = v.vdp.fetched; is = refl } }))
+    rw (z, c, b, d, e, next_cell v.r.r7 false e, pieces.store_word)
+    (record {
+      within = omega arith;
+      to_is = refl;
+      holds = record {
+        r4 = v.r.r4;
+        r9 = swapped v.r.r9;
+        address = v.vdp.address;
+        byte = v.vdp.fetched;
+        is =
+            refl;
+      };
+    }))
     (λ d. pick (v.r.r7 == 0x7C)
-    (λ e. rw (z, c, b, d, e, next_cell v.r.r7 true e, pieces.store_word) (record { within = omega arith; to_is = refl; holds = record { r4 = v.r.r4; r9 = swapped v.r.r9; address = v.vdp.address; byte = v.vdp.fetched; is = refl } }))
-    (λ e. rw (z, c, b, d, e, next_cell v.r.r7 false e, pieces.store_word) (record { within = omega arith; to_is = refl; holds = record { r4 = v.r.r4; r9 = swapped v.r.r9; address = v.vdp.address; byte = v.vdp.fetched; is = refl } })))
+    (λ e. rw (z, c, b, d, e, next_cell v.r.r7 true e, pieces.store_word)
+    (record {
+      within = omega arith;
+      to_is = refl;
+      holds = record {
+        r4 = v.r.r4;
+        r9 = swapped v.r.r9;
+        address = v.vdp.address;
+        byte = v.vdp.fetched;
+        is =
+            refl;
+      };
+    }))
+    (λ e. rw (z, c, b, d, e, next_cell v.r.r7 false e, pieces.store_word)
+    (record {
+      within = omega arith;
+      to_is = refl;
+      holds = record {
+        r4 = v.r.r4;
+        r9 = swapped v.r.r9;
+        address = v.vdp.address;
+        byte = v.vdp.fetched;
+        is =
+            refl;
+      };
+    })))
 
 pub store_cells : (v : View) → v.r.r8 ≡ 0 → IsVisible v.r.r8 v.r.r7 v.r.r3 → Goes (pieces.store v) 16 (pieces.return_of v) (stored_by v)
 store_cells v z h =
     let at : Exit → Type 0 = λ e. Goes e 16 (pieces.return_of v) (stored_by v) in
     pick (v.r.r3 == 1)
     (λ c. let is : pieces.store v ≡ pieces.store_byte v = rw (z, c, pieces.store) refl in subst at (sym is) (store_byte v z c))
-    (λ c. let is : pieces.store v ≡ pieces.store_word v = rw (z, c, pieces.store) refl in subst at (sym is) (store_word v z c (second_fits v.r.r8 v.r.r7 v.r.r3 h z c)))
+    (λ c. let is : pieces.store v ≡ pieces.store_word v = rw (z, c, pieces.store) refl in subst at (sym is)
+    (store_word v z c (second_fits v.r.r8 v.r.r7 v.r.r3 h z c)))
 
 -- ---- STORE: video memory
 
@@ -176,27 +238,53 @@ written_view v = record v { r = record v.r { r4 = v.r.r7 % 16384 + 0x4000 }; vdp
 write_at : (at : ℕ) → at < 16384 → sum_of Word at 0x4000 ≡ at + 0x4000
 write_at at h = omega arith
 
-pub store_sets : (v : View) → (v.r.r8 == 1) ≡ true → v.vdp.held ≡ None → v.r.r7 < 65536 → pieces.store v ≡ pieces.exit 10 0x2402 (written_view v)
+pub store_sets : (v : View) → (v.r.r8 == 1) ≡ true → v.vdp.held ≡ None → v.r.r7 < 65536 → pieces.store v ≡ pieces.exit 10 SDATA (written_view v)
 store_sets v c h k =
-    let a : sum_of Word (shifted SRL (shifted SLA v.r.r7 2) 2) 0x4000 ≡ v.r.r7 % 16384 + 0x4000 = ap (λ (n : ℕ). sum_of Word n 0x4000) (video_at v.r.r7 k) ∙ write_at (v.r.r7 % 16384) (omega arith) in
-    let at : ℕ → Exit = λ n. pieces.exit 10 0x2402 (record v { r = record v.r { r4 = n }; vdp = set_video_to n v.vdp }) in
-    let set : VdpState → Exit = λ d. pieces.exit 10 0x2402 (record v { r = record v.r { r4 = v.r.r7 % 16384 + 0x4000 }; vdp = d }) in
+    let a : sum_of Word (shifted SRL (shifted SLA v.r.r7 2) 2) 0x4000 ≡ v.r.r7 % 16384 + 0x4000 = ap (λ (n : ℕ). sum_of Word n 0x4000) (video_at v.r.r7 k)
+    ∙ write_at (v.r.r7 % 16384) (omega arith) in
+    let at : ℕ → Exit = λ n. pieces.exit 10 SDATA (record v { r = record v.r { r4 = n }; vdp = set_video_to n v.vdp }) in
+    let set : VdpState → Exit = λ d. pieces.exit 10 SDATA (record v { r = record v.r { r4 = v.r.r7 % 16384 + 0x4000 }; vdp = d }) in
     rw (c, pieces.store) (ap at a ∙ ap set (set_for_writing v.vdp (v.r.r7 % 16384) h (omega arith)))
 
 store_video_by : (v : View) → v.r.r8 ≡ 1 → v.vdp.held ≡ None → v.r.r7 < 65536 → Goes (pieces.store_video (written_view v)) 6 (pieces.return_of v) (stored_by v)
 store_video_by v o h k =
     pick (v.r.r3 == 1)
-    (λ c. rw (o, c, pieces.store_video) (record { within = omega arith; to_is = refl; holds = record { r4 = v.r.r7 % 16384 + 0x4000; r9 = v.r.r9; address = next_in_vdp (v.r.r7 % 16384); byte = high v.r.r9; is = rw h refl } }))
-    (λ c. rw (o, c, pieces.store_video) (record { within = omega arith; to_is = refl; holds = record { r4 = v.r.r7 % 16384 + 0x4000; r9 = swapped v.r.r9; address = next_in_vdp (next_in_vdp (v.r.r7 % 16384)); byte = low v.r.r9; is = rw (h, next_address v.r.r7 k) refl } }))
+    (λ c. rw (o, c, pieces.store_video)
+    (record {
+      within = omega arith;
+      to_is = refl;
+      holds = record {
+        r4 = v.r.r7 % 16384 + 0x4000;
+        r9 = v.r.r9;
+        address = next_in_vdp (v.r.r7 % 16384);
+        byte =
+            high v.r.r9;
+        is = rw h refl;
+      };
+    }))
+    (λ c. rw (o, c, pieces.store_video)
+    (record {
+      within = omega arith;
+      to_is = refl;
+      holds = record {
+        r4 = v.r.r7 % 16384 + 0x4000;
+        r9 = swapped v.r.r9;
+        address =
+            next_in_vdp (next_in_vdp (v.r.r7 % 16384));
+        byte = low v.r.r9;
+        is = rw (h, next_address v.r.r7 k) refl;
+      };
+    }))
 
-pub store_video : (v w : View) → (v.r.r8 == 1) ≡ true → v.vdp.held ≡ None → v.r.r7 < 65536 → w ≡ (pieces.store v).left → Goes (pieces.store_video w) 6 (pieces.return_of v) (stored_by v)
+pub store_video : (v w : View) → (v.r.r8 == 1) ≡ true → v.vdp.held ≡ None → v.r.r7 < 65536 → w ≡ (pieces.store v).left →
+    Goes (pieces.store_video w) 6 (pieces.return_of v) (stored_by v)
 store_video v w c h k e =
     let is : w ≡ written_view v = e ∙ ap (λ (x : Exit). x.left) (store_sets v c h k) in
     subst (λ (u : View). Goes (pieces.store_video u) 6 (pieces.return_of v) (stored_by v)) (sym is) (store_video_by v (one_is v.r.r8 c) h k)
 
 -- ---- STORE: a register of the video processor
 
-pub stores_on : (v : View) → nat_lt 1 v.r.r8 ≡ true → pieces.store v ≡ pieces.exit 3 0x2414 v
+pub stores_on : (v : View) → nat_lt 1 v.r.r8 ≡ true → pieces.store v ≡ pieces.exit 3 SREG v
 stores_on v c =
     let l : 1 < v.r.r8 = ltb-true 1 v.r.r8 c in
     let n : (v.r.r8 == 1) ≡ false = ne_eqb v.r.r8 1 (λ e. omega arith) in
@@ -208,9 +296,18 @@ register_kind number h = let n : high (sum_of Word (swapped number) 0x8000) / 64
 register_is : (number : ℕ) → number < 8 → high (sum_of Word (swapped number) 0x8000) % 8 ≡ number
 register_is number h = omega arith
 
-pub store_register : (v : View) → v.vdp.held ≡ None → v.r.r7 < 8 → Goes (pieces.store_register v) 6 (pieces.return_of v) (Stored v (with_register v.r.r7 (of_register Byte v.r.r9) (unchanged (state_of v))))
+pub store_register : (v : View) → v.vdp.held ≡ None → v.r.r7 < 8 → Goes (pieces.store_register v) 6 (pieces.return_of v)
+    (Stored v (with_register v.r.r7 (of_register Byte v.r.r9) (unchanged (state_of v))))
 store_register v h k = record {
   within = omega arith;
   to_is = refl;
-  holds = record { r4 = sum_of Word (swapped v.r.r7) 0x8000; r9 = v.r.r9; address = v.vdp.address; byte = v.vdp.fetched; is = rw (h, register_kind v.r.r7 k, register_is v.r.r7 k) refl };
+  holds =
+      record {
+        r4 = sum_of Word (swapped v.r.r7) 0x8000;
+        r9 = v.r.r9;
+        address = v.vdp.address;
+        byte = v.vdp.fetched;
+        is =
+            rw (h, register_kind v.r.r7 k, register_is v.r.r7 k) refl;
+      };
 }

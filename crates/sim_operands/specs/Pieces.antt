@@ -1,27 +1,11 @@
 -- What the pieces of the subroutines come to: how many instructions they have, where they end, and what they change of
 -- the view, in the words of the processor. Registers, cells and ports that are not named stay.
-use Rattle.std.specs.Prelude.{ℕ, ◌+◌, ◌==◌, Bool, true, false, not, ◌&&◌, nat_lt, if◌then◌else◌, List, slice_index}
-use Rattle.std.specs.Prelude.{slice_set}
-use Rattle.console_defs.specs.Words.{high, low, join, even}
-use Rattle.console_defs.specs.Bytes.{word_in}
-use Rattle.console_defs.specs.Flags.{Word, sum_of}
-use Rattle.console_defs.specs.Logic.{swapped}
-use Rattle.console_defs.specs.Shifts.{shifted, last_out}
-use Rattle.console_defs.specs.Vdp.{VdpState, vdp_address_written, vdp_data_read, vdp_data_written}
-use Rattle.console_defs.specs.Grom.{GromState, grom_data_read, grom_address_written}
-use Rattle.console_defs.specs.declared.instruction.ShiftOp.TheVariants.{SRL, SLA}
-use Rattle.native_interp.specs.declared.addresses.TheConstants.{
-  GSTOP,
-  APTR,
-  INDEX,
-  ASPACE,
-  LDATA,
-  STREAM,
-  SDATA,
-  SREG,
-}
-use Rattle.sim_view.specs.View.{View}
-use Rattle.sim_view.specs.Exits.{Exit}
+use Rattle.std.specs.Prelude.{ℕ, ◌&&◌, ◌+◌, ◌==◌, Bool, false, if◌then◌else◌, List, nat_lt, not, slice_index}
+use Rattle.std.specs.Prelude.{slice_set, true}
+use Rattle.sim_view.specs.Prelude.{APTR, ASPACE, even, Exit, grom_address_written, grom_data_read, GromState, GSTOP}
+use Rattle.sim_view.specs.Prelude.{high, INDEX, join, last_out, LDATA, low, SDATA, shifted, SLA, SREG, SRL, STREAM}
+use Rattle.sim_view.specs.Prelude.{sum_of, swapped, vdp_address_written, vdp_data_read, vdp_data_written, VdpState}
+use Rattle.sim_view.specs.Prelude.{View, Word, word_in}
 
 abbrev pub exit : ℕ → ℕ → View → Exit
 exit count to left = record { count = count; to = to; left = left }

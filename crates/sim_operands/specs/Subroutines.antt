@@ -1,23 +1,11 @@
 -- What the subroutines come to, in the words of GPL.
-use Rattle.std.specs.Prelude.{◌≡◌, ◌<◌, ◌≤◌, ℕ, ◌==◌, Bool, true, false, not, if◌then◌else◌, List, slice_index}
-use Rattle.std.specs.Prelude.{Result, Ok, Err}
-use Rattle.console_defs.specs.Words.{join}
-use Rattle.console_defs.specs.Flags.{Byte}
-use Rattle.console_defs.specs.Logic.{swapped}
-use Rattle.console_defs.specs.Grom.{GromState, next_in_grom, previous_in_grom}
-use Rattle.console_defs.specs.Machine.{MachineState}
-use Rattle.gpl_defs.specs.declared.instruction.Space.{Space}
-use Rattle.gpl_defs.specs.declared.instruction.Space.TheVariants.{Cpu, Vdp}
-use Rattle.gpl_defs.specs.Reading.{operand_at, value_at as value_in}
-use Rattle.step_defs.specs.declared.reason.Reason.{Reason}
-use Rattle.step_defs.specs.Reasons.{number_of}
-use Rattle.step_defs.specs.State.{GplState}
-use Rattle.step_defs.specs.Place.{Place, place_of, value_at}
-use Rattle.step_defs.specs.Changes.{Changes, unchanged, with_value, with_register}
-use Rattle.native_interp.specs.declared.addresses.TheConstants.{GSTOP}
-use Rattle.sim_view.specs.View.{View, view}
-use Rattle.sim_view.specs.Exits.{Exit, Comes}
-use Rattle.sim_operands.specs.Values.{width_in, in_register, of_register, number_of_space}
+use Rattle.std.specs.Prelude.{ℕ, ◌<◌, ◌==◌, ◌≡◌, ◌≤◌, Bool, Err, false, if◌then◌else◌, List, not, Ok, Result}
+use Rattle.std.specs.Prelude.{slice_index, true}
+use Rattle.sim_view.specs.Prelude.{Byte, Changes, Comes, Cpu, Exit, GplState, GromState, GSTOP, join, MachineState}
+use Rattle.sim_view.specs.Prelude.{next_in_grom, number_of, operand_at, Place, place_of, previous_in_grom, Reason}
+use Rattle.sim_view.specs.Prelude.{Space, swapped, unchanged, value_at, Vdp, View, view, with_register, with_value}
+use Rattle.sim_view.specs.gpl_defs.Reading.{value_at as value_in}
+use Rattle.sim_operands.specs.Values.{in_register, number_of_space, of_register, width_in}
 use Rattle.sim_operands.specs.Pieces.{exit, return_of}
 
 -- the state of GPL that a view shows

@@ -1,10 +1,6 @@
 -- How values and places stand in the registers of the interpreter.
-use Rattle.std.specs.Prelude.{◌≡◌, ◌≤◌, ℕ, ◌+◌, ◌==◌, if◌then◌else◌}
-use Rattle.console_defs.specs.Words.{high, join}
-use Rattle.console_defs.specs.Flags.{Width, Byte, Word, size_of}
-use Rattle.gpl_defs.specs.declared.instruction.Space.{Space}
-use Rattle.gpl_defs.specs.declared.instruction.Space.TheVariants.{Cpu, Vdp}
-use Rattle.step_defs.specs.declared.cells.TheConstants.{VISIBLE_CELLS}
+use Rattle.std.specs.Prelude.{ℕ, ◌+◌, ◌==◌, ◌≡◌, ◌≤◌, if◌then◌else◌}
+use Rattle.sim_view.specs.Prelude.{Byte, Cpu, high, join, size_of, Space, Vdp, VISIBLE_CELLS, Width, Word}
 
 -- the width that register 3 says: 1 is a byte, all else a word
 abbrev pub width_in : ℕ → Width

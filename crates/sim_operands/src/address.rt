@@ -1,17 +1,15 @@
 //! ADDR: the place of an operand.
 
 ghost use Rattle.std.specs.Prelude.{◌≡◌, ◌≤◌, eqb};
-ghost use Rattle.native_interp.specs.declared.addresses.TheConstants as address;
-ghost use Rattle.interp_defs.specs.Match.{PortsAreIdle, IsFetched};
-ghost use Rattle.sim_view.specs.View.{view, Stands};
-ghost use Rattle.sim_view.specs.Exits.{Exits};
-ghost use Rattle.sim_operands.specs.Pieces as piece;
+ghost use Rattle.sim_view.specs.Prelude.{Exits, IsFetched, PortsAreIdle, Stands, view};
+ghost use Rattle.sim_view.specs.native_interp.declared.addresses.TheConstants as address;
 ghost use Rattle.sim_operands.specs.Subroutines.{FindsOperand};
+ghost use Rattle.sim_operands.specs.Pieces as piece;
 
-use native_interp::{APTR, ASPACE, INDEX};
+use sim_view::labels::{APTR, ASPACE, INDEX};
+use sim_view::processor::{Machine, Steps};
 use sim_view::run_piece;
 use std::sync::ledger::Ledger;
-use tms_step::{Machine, Steps};
 
 /// The piece of ADDR that reads the first byte of an operand and its address.
 pub fn read_address<L: Ledger>(machine: &mut Machine, steps: &mut Steps<L>)

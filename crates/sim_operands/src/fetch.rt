@@ -1,15 +1,12 @@
 //! FETCH: the next GPL byte.
 
-ghost use Rattle.native_interp.specs.declared.addresses.TheConstants.{FETCH};
-ghost use Rattle.interp_defs.specs.Match.{PortsAreIdle, IsFetched};
-ghost use Rattle.sim_view.specs.View.{view, Stands};
-ghost use Rattle.sim_view.specs.Exits.{Exits};
-ghost use Rattle.sim_operands.specs.Pieces as piece;
+ghost use Rattle.sim_view.specs.Prelude.{Exits, FETCH, IsFetched, PortsAreIdle, Stands, view};
 ghost use Rattle.sim_operands.specs.Subroutines.{fetched};
+ghost use Rattle.sim_operands.specs.Pieces as piece;
 
+use sim_view::processor::{Machine, Steps};
 use sim_view::run_piece;
 use std::sync::ledger::Ledger;
-use tms_step::{Machine, Steps};
 
 /// The piece of FETCH.
 pub fn fetch_byte<L: Ledger>(machine: &mut Machine, steps: &mut Steps<L>)

@@ -1,18 +1,16 @@
 //! LOAD: a value.
 
-ghost use Rattle.std.specs.Prelude.{◌≡◌, ◌<◌};
-ghost use Rattle.native_interp.specs.declared.addresses.TheConstants as address;
-ghost use Rattle.interp_defs.specs.Match.{PortsAreIdle, IsFetched};
-ghost use Rattle.sim_view.specs.View.{view, Stands};
-ghost use Rattle.sim_view.specs.Exits.{Exits};
-ghost use Rattle.sim_operands.specs.Pieces as piece;
+ghost use Rattle.std.specs.Prelude.{◌<◌, ◌≡◌};
+ghost use Rattle.sim_view.specs.Prelude.{Exits, IsFetched, PortsAreIdle, Stands, view};
+ghost use Rattle.sim_view.specs.native_interp.declared.addresses.TheConstants as address;
 ghost use Rattle.sim_operands.specs.Values.{IsVisible};
-ghost use Rattle.sim_operands.specs.Subroutines.{LoadsValue, LoadsStream};
+ghost use Rattle.sim_operands.specs.Subroutines.{LoadsStream, LoadsValue};
+ghost use Rattle.sim_operands.specs.Pieces as piece;
 
-use native_interp::{LDATA, STREAM};
+use sim_view::labels::{LDATA, STREAM};
+use sim_view::processor::{Machine, Steps};
 use sim_view::{register, run_piece};
 use std::sync::ledger::Ledger;
-use tms_step::{Machine, Steps};
 
 /// The piece of LOAD that reads cells, or sets the video processor to the address, or goes on at STREAM.
 pub fn load_value<L: Ledger>(machine: &mut Machine, steps: &mut Steps<L>)

@@ -1,15 +1,12 @@
 //! SEEK: the address of GROM.
 
-ghost use Rattle.native_interp.specs.declared.addresses.TheConstants.{SEEK};
-ghost use Rattle.interp_defs.specs.Match.{PortsAreIdle};
-ghost use Rattle.sim_view.specs.View.{view, Stands};
-ghost use Rattle.sim_view.specs.Exits.{Exits};
-ghost use Rattle.sim_operands.specs.Pieces as piece;
+ghost use Rattle.sim_view.specs.Prelude.{Exits, PortsAreIdle, SEEK, Stands, view};
 ghost use Rattle.sim_operands.specs.Subroutines.{sought};
+ghost use Rattle.sim_operands.specs.Pieces as piece;
 
+use sim_view::processor::{Machine, Steps};
 use sim_view::run_piece;
 use std::sync::ledger::Ledger;
-use tms_step::{Machine, Steps};
 
 /// The piece of SEEK.
 pub fn seek_address<L: Ledger>(machine: &mut Machine, steps: &mut Steps<L>)

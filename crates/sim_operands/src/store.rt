@@ -1,18 +1,16 @@
 //! STORE: a value.
 
-ghost use Rattle.std.specs.Prelude.{◌≡◌, ◌<◌};
-ghost use Rattle.native_interp.specs.declared.addresses.TheConstants as address;
-ghost use Rattle.interp_defs.specs.Match.{PortsAreIdle};
-ghost use Rattle.sim_view.specs.View.{view, Stands};
-ghost use Rattle.sim_view.specs.Exits.{Exits};
-ghost use Rattle.sim_operands.specs.Pieces as piece;
+ghost use Rattle.std.specs.Prelude.{◌<◌, ◌≡◌};
+ghost use Rattle.sim_view.specs.Prelude.{Exits, PortsAreIdle, Stands, view};
+ghost use Rattle.sim_view.specs.native_interp.declared.addresses.TheConstants as address;
 ghost use Rattle.sim_operands.specs.Values.{IsVisible};
-ghost use Rattle.sim_operands.specs.Subroutines.{StoresValue, StoresRegister};
+ghost use Rattle.sim_operands.specs.Subroutines.{StoresRegister, StoresValue};
+ghost use Rattle.sim_operands.specs.Pieces as piece;
 
-use native_interp::{SDATA, SREG};
+use sim_view::labels::{SDATA, SREG};
+use sim_view::processor::{Machine, Steps};
 use sim_view::{register, run_piece};
 use std::sync::ledger::Ledger;
-use tms_step::{Machine, Steps};
 
 /// The piece of STORE that stores in cells, or sets the video processor to the address, or goes on at SREG.
 pub fn store_value<L: Ledger>(machine: &mut Machine, steps: &mut Steps<L>)

@@ -1,14 +1,6 @@
 -- What a machine keeps whose view has the same ports, and where a run begins.
-use Rattle.std.proofs.Common.{◌≡◌, ℕ, ◌<◌, false, refl, sym, ap, subst, ◌∙◌, arith, None}
-use Rattle.std.specs.Prelude.{is_none, not}
-use Rattle.console_defs.specs.Vdp.{VdpState}
-use Rattle.console_defs.specs.Grom.{GromState}
-use Rattle.console_defs.specs.Memory.{Memory}
-use Rattle.console_defs.specs.Machine.{MachineState}
-use Rattle.interp_defs.specs.Match.{PortsAreIdle, IsFetched}
-use Rattle.interp_defs.specs.Runs.{Runs}
-use Rattle.sim_view.specs.View.{View, view, view_of, Stands}
-use Rattle.sim_view.specs.Exits.{Comes}
+use Rattle.std.proofs.Common.{ℕ, ◌<◌, ◌∙◌, ◌≡◌, ap, arith, false, is_none, None, not, refl, subst, sym}
+use Rattle.sim_rows.specs.Prelude.{Comes, GromState, IsFetched, MachineState, Memory, PortsAreIdle, Runs, Stands, VdpState, View, view, view_of}
 
 pub idle_again : (m n : Memory) → (view_of n).vdp ≡ (view_of m).vdp → (view_of n).grom ≡ (view_of m).grom → PortsAreIdle m → PortsAreIdle n
 unfolding view_of

@@ -1,26 +1,13 @@
 -- From the beginning of a step to its dispatch.
-use Rattle.std.proofs.Common.{◌≡◌, ℕ, ◌+◌, ◌<◌, ◌≤◌, Bool, true, refl, sym, ap, subst, ◌∙◌, arith, List, eqb}
-use Rattle.std.specs.Prelude.{slice_index}
+use Rattle.std.proofs.Common.{ℕ, ◌+◌, ◌<◌, ◌∙◌, ◌≡◌, ◌≤◌, ap, arith, Bool, eqb, List, refl, slice_index, subst, sym, true}
 use Rattle.std.proofs.lemmas.Bool.{agree_below_at, eqb-true}
-use Rattle.console_defs.specs.Words.{join, even}
-use Rattle.console_defs.specs.Flags.{Word, sum_of, difference_of}
-use Rattle.console_defs.specs.Shifts.{shifted}
-use Rattle.console_defs.specs.declared.instruction.ShiftOp.TheVariants.{SRL, SLA}
-use Rattle.console_defs.specs.Grom.{GromState, next_in_grom}
-use Rattle.console_defs.specs.Machine.{MachineState}
-use Rattle.gpl_defs.specs.Codes.{operation_at}
-use Rattle.step_defs.specs.State.{GplState}
-use Rattle.native_interp.specs.declared.words.TheConstants.{INTERP}
-use Rattle.native_interp.specs.Entries.{operation_entry}
-use Rattle.sim_view.specs.View.{View, view}
-use Rattle.sim_view.specs.Exits.{Exit, Exits, Comes}
-use Rattle.sim_view.proofs.Compose.{Goes, comes, comes_then}
-use Rattle.sim_operands.specs.Pieces as operands
-use Rattle.sim_operands.specs.Pieces.{exit, return_of, past, set_to}
-use Rattle.sim_operands.specs.Subroutines.{grom_at}
+use Rattle.sim_view.proofs.Common.{comes, comes_then, Goes}
+use Rattle.sim_rows.specs.Prelude.{Comes, difference_of, Dispatched, even, Exit, exit, Exits, FETCH, GplState, grom_at, GromState, INTERP, join, MachineState}
+use Rattle.sim_rows.specs.Prelude.{next_in_grom, operation_at, operation_entry, past, return_of, SEEK, Sees, set_to, shifted, SLA, SRL, sum_of, View, view}
+use Rattle.sim_rows.specs.Prelude.{WHERE, Word}
 use Rattle.sim_operands.proofs.Ready.{set_is}
+use Rattle.sim_operands.specs.Pieces as operands
 use Rattle.sim_rows.specs.Pieces as pieces
-use Rattle.sim_rows.specs.States.{Sees, Dispatched}
 
 -- the first table's word for each code byte is the address of its instruction, and even
 abbrev leads : ℕ → Bool
@@ -30,7 +17,9 @@ entry_is : (code : ℕ) → code < 256 → even (slice_index INTERP (4 + code)) 
 entry_is code h = eqb-true (even (slice_index INTERP (4 + code))) (operation_entry (operation_at code)) (agree_below_at leads (λ _. true) 256 code refl h)
 
 -- the address before the counter
-back_is : (at : ℕ) → at < 65536 → (let counter = next_in_grom at in sum_of Word (shifted SLA (shifted SRL counter 13) 13) (shifted SRL (shifted SLA (difference_of Word counter 1) 3) 3)) ≡ at
+back_is : (at : ℕ) → at < 65536 →
+    (let counter = next_in_grom at in sum_of Word (shifted SLA (shifted SRL counter 13) 13) (shifted SRL (shifted SLA (difference_of Word counter 1) 3) 3)) ≡
+    at
 back_is at h = omega arith
 
 code_down : (code : ℕ) → code < 256 → shifted SRL (join code 0) 8 ≡ code
@@ -58,7 +47,8 @@ located_at v image at =
       grom = lost image at;
     }
 
-pub where_found : (v : View) (image : List ℕ) (at : ℕ) → v.grom ≡ grom_at image at → at < 65536 → pieces.where_next v ≡ exit 12 (return_of v) (located_at v image at)
+pub where_found : (v : View) (image : List ℕ) (at : ℕ) → v.grom ≡ grom_at image at → at < 65536 →
+    pieces.where_next v ≡ exit 12 (return_of v) (located_at v image at)
 where_found v image at e fits =
     let by : GromState → Exit = λ g. pieces.where_next (record v { grom = g }) in
     let to : ℕ → Exit = λ n. exit 12 (return_of v) (record (located_at v image at) { r = record (located_at v image at).r { r6 = n } }) in
@@ -73,7 +63,12 @@ module _ (s : GplState) (v : View) (sees : Sees s s.pc v) (fits : s.pc < 65536) 
   asked = (pieces.ask_address v).left
 
   abbrev located : View
-  located = record v { r = record v.r { r4 = shifted SRL (shifted SLA (difference_of Word (next_in_grom s.pc) 1) 3) 3; r6 = s.pc; r11 = 0x2290 }; grom = lost s.image s.pc }
+  located =
+      record v {
+        r = record v.r { r4 = shifted SRL (shifted SLA (difference_of Word (next_in_grom s.pc) 1) 3) 3; r6 = s.pc; r11 = 0x2290 };
+        grom =
+            lost s.image s.pc;
+      }
 
   where_is : pieces.where_next asked ≡ exit 12 0x2290 located
   where_is = where_found asked s.image s.pc sees.grom fits
@@ -114,10 +109,10 @@ module _ (s : GplState) (v : View) (sees : Sees s s.pc v) (fits : s.pc < 65536) 
       Exits c d t3 t4 (operands.seek (view c)) → Exits d e t4 t5 (pieces.ask_byte (view d)) → Exits e f t5 t6 (operands.fetch (view e)) →
       Exits f y t6 t7 (pieces.dispatch (view f)) → Comes 29 x y t t7 (operation_entry (operation_at code)) (Dispatched s)
   begins x a b c d e f y t t1 t2 t3 t4 t5 t6 t7 is e1 e2 e3 e4 e5 e6 e7 =
-      let c1 = comes e1 (from pieces.ask_address is (just (pieces.ask_address v) 1 0x22BC (omega arith) refl)) in
+      let c1 = comes e1 (from pieces.ask_address is (just (pieces.ask_address v) 1 WHERE (omega arith) refl)) in
       let c2 = comes_then 1 12 c1 e2 (from pieces.where_next c1.holds (known where_is (just (exit 12 0x2290 located) 12 0x2290 (omega arith) refl))) refl in
-      let c3 = comes_then 13 2 c2 e3 (from pieces.keep_address c2.holds (just (pieces.keep_address located) 2 0x22D8 (omega arith) refl)) refl in
+      let c3 = comes_then 13 2 c2 e3 (from pieces.keep_address c2.holds (just (pieces.keep_address located) 2 SEEK (omega arith) refl)) refl in
       let c4 = comes_then 15 4 c3 e4 (from operands.seek c3.holds (known seek_is (just (exit 4 0x2296 sought) 4 0x2296 (omega arith) refl))) refl in
-      let c5 = comes_then 19 1 c4 e5 (from pieces.ask_byte c4.holds (just (pieces.ask_byte sought) 1 0x22E4 (omega arith) refl)) refl in
+      let c5 = comes_then 19 1 c4 e5 (from pieces.ask_byte c4.holds (just (pieces.ask_byte sought) 1 FETCH (omega arith) refl)) refl in
       let c6 = comes_then 20 3 c5 e6 (from operands.fetch c5.holds (just (operands.fetch bid) 3 0x229A (omega arith) refl)) refl in
       comes_then 23 6 c6 e7 (from pieces.dispatch c6.holds begun) refl

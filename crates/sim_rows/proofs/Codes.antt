@@ -1,16 +1,9 @@
 -- Facts about the code bytes of rows, each by trying all 256.
-use Rattle.std.proofs.Common.{◌≡◌, ℕ, ◌+◌, ◌-◌, ◌/◌, ◌<◌, ◌≤◌, Bool, true, false, refl, ap, eqb, Option, Some}
-use Rattle.std.specs.Prelude.{◌&&◌, not, nat_lt, nat_le, slice_index, if◌then◌else◌}
-use Rattle.std.proofs.lemmas.Bool.{agree_below_at, eqb-true, leb-true, ltb-true, and_parts}
-use Rattle.console_defs.specs.Words.{even}
-use Rattle.gpl_defs.specs.declared.instruction.OneName.{OneName}
-use Rattle.gpl_defs.specs.declared.instruction.TwoName.{TwoName}
-use Rattle.gpl_defs.specs.declared.instruction.GplOperation.{GplOperation}
-use Rattle.gpl_defs.specs.declared.instruction.GplOperation.TheVariants as operation
-use Rattle.gpl_defs.specs.Codes.{operation_at}
-use Rattle.native_interp.specs.declared.words.TheConstants.{INTERP}
-use Rattle.native_interp.specs.Entries.{row_entry}
-use Rattle.sim_rows.specs.Rows.{is_row}
+use Rattle.std.proofs.Common.{ℕ, ◌&&◌, ◌+◌, ◌-◌, ◌/◌, ◌<◌, ◌≡◌, ◌≤◌, ap, Bool, eqb, false, if◌then◌else◌, nat_le, nat_lt, not, Option, refl, slice_index}
+use Rattle.std.proofs.Common.{Some, true}
+use Rattle.std.proofs.lemmas.Bool.{agree_below_at, and_parts, eqb-true, leb-true, ltb-true}
+use Rattle.sim_rows.specs.Prelude.{even, GplOperation, INTERP, is_row, OneName, operation_at, row_entry, TwoName}
+use Rattle.sim_view.specs.gpl_defs.declared.instruction.GplOperation.TheVariants as operation
 
 if_true : (b c : Bool) → b ≡ true → (if b then c else true) ≡ true → c ≡ true
 if_true b c e f = let g : (if true then c else true) ≡ true = rw e at f in g

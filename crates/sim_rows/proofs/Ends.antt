@@ -1,30 +1,12 @@
 -- What a view at one of the interpreter's ends says of its machine.
-use Rattle.std.proofs.Common.{◌≡◌, ℕ, zero, suc, ◌+◌, ◌<◌, ◌≤◌, Bool, true, false, refl, sym, ap, subst, ◌∙◌, arith, List, Result, Ok, Err, lit<}
-use Rattle.std.specs.Prelude.{not, is_none, slice_index}
-use Rattle.console_defs.specs.Vdp.{VdpState}
-use Rattle.console_defs.specs.Grom.{GromState, next_in_grom, previous_in_grom}
-use Rattle.console_defs.proofs.GromLaws.{previous-next}
-use Rattle.console_defs.specs.Memory.{Memory}
-use Rattle.console_defs.specs.Machine.{MachineState}
-use Rattle.step_defs.specs.declared.reason.Reason.{Reason}
-use Rattle.step_defs.specs.declared.reason.Reason.TheVariants.{Exit, Opcode, Cell, Stack, Length, Register}
-use Rattle.step_defs.specs.State.{GplState}
-use Rattle.step_defs.specs.Step.{step}
-use Rattle.step_defs.specs.Run.{bound}
-use Rattle.interp_defs.specs.declared.turn.Turn.{Turn}
-use Rattle.step_defs.specs.Reasons.{number_of}
-use Rattle.interp_defs.specs.Interpreter.{HoldsRegister}
-use Rattle.interp_defs.specs.Match.{PortsAreIdle, IsFetched, Matches, IsHalted, StandsBy, shown_by}
-use Rattle.interp_defs.specs.Runs.{Runs, is_end}
-use Rattle.interp_defs.specs.Turned.{Reaches, TurnedBy, Turned}
-use Rattle.console_defs.specs.Accesses.{Gives}
-use Rattle.sim_view.specs.View.{View, view, view_of, Stands}
-use Rattle.sim_view.specs.Exits.{Comes}
-use Rattle.sim_view.proofs.Answers.{given}
-use Rattle.sim_view.proofs.Bridge.{holds_register}
-use Rattle.sim_view.proofs.Compose.{runs_then}
-use Rattle.sim_operands.specs.Subroutines.{grom_at, state_of}
-use Rattle.sim_rows.specs.States.{Sees, Dispatched, state_at_dispatch, Ended, StoppedBy}
+use Rattle.std.proofs.Common.{ℕ, ◌+◌, ◌<◌, ◌∙◌, ◌≡◌, ◌≤◌, ap, arith, Bool, Err, false, is_none, List, lit<, not, Ok, refl, Result, slice_index, subst, suc}
+use Rattle.std.proofs.Common.{sym, true, zero}
+use Rattle.sim_view.proofs.Common.{given, holds_register, previous-next, runs_then}
+use Rattle.sim_rows.specs.Prelude.{bound, Cell, Comes, Dispatched, Ended, GEXIT, Gives, GplState, grom_at, GromState, GSTEP, GSTOP, HoldsRegister, is_end}
+use Rattle.sim_rows.specs.Prelude.{IsFetched, IsHalted, Length, MachineState, Matches, Memory, next_in_grom, number_of, Opcode, PortsAreIdle}
+use Rattle.sim_rows.specs.Prelude.{previous_in_grom, Reaches, Reason, Register, Runs, Sees, shown_by, Stack, Stands, StandsBy, state_at_dispatch, state_of}
+use Rattle.sim_rows.specs.Prelude.{step, StoppedBy, Turn, Turned, TurnedBy, VdpState, View, view, view_of}
+use Rattle.sim_view.specs.step_defs.declared.reason.Reason.TheVariants.{Exit}
 
 -- a state of parts
 abbrev pub made : List ℕ → List ℕ → List ℕ → ℕ → List ℕ → GplState
@@ -63,7 +45,7 @@ state_at w s d =
     same_state w.cells s.cells w.vdp.memory s.vdp w.vdp.registers s.registers (previous_in_grom (previous_in_grom w.grom.counter)) s.pc w.grom.image s.image
     h.cells h.vdp h.registers (counter ∙ ap previous_in_grom (previous-next (next_in_grom s.pc)) ∙ previous-next s.pc) (ap (λ (g : GromState). g.image) h.grom)
 
-pub matches : (s : GplState) (y : MachineState) → Stands y 0x228C → Sees s s.pc (view y) → Matches s y
+pub matches : (s : GplState) (y : MachineState) → Stands y GSTEP → Sees s s.pc (view y) → Matches s y
 matches s y stands h = record {
   matching = record {
     pc = stands.pc;
@@ -84,7 +66,7 @@ vdp_of : (m : Memory) → m.vdp ≡ (view_of m).vdp
 unfolding view_of
 vdp_of m = refl
 
-pub leaves : (s : GplState) (y : MachineState) → Stands y 0x22BA → Ended s (view y) → IsHalted s Exit y
+pub leaves : (s : GplState) (y : MachineState) → Stands y GEXIT → Ended s (view y) → IsHalted s Exit y
 leaves s y stands h = record {
   cells = cells_of y.cpu.memory ∙ h.cells;
   vdp = ap (λ (d : VdpState). d.memory) (vdp_of y.cpu.memory) ∙ h.vdp;
@@ -95,7 +77,8 @@ leaves s y stands h = record {
 }
 
 -- where a program stops by another reason than EXIT
-stands_by : (reason : Reason) (y : MachineState) → (reason ≡ Exit → ⊥) → (y.cpu.pc ≡ 0x22B8) × HoldsRegister y.cpu.memory 0 (number_of reason) → StandsBy reason y
+stands_by : (reason : Reason) (y : MachineState) → (reason ≡ Exit → ⊥) → (y.cpu.pc ≡ GSTOP) × HoldsRegister y.cpu.memory 0 (number_of reason) →
+    StandsBy reason y
 stands_by Exit y other h = absurd (other refl)
 stands_by Opcode y other h = h
 stands_by Cell y other h = h
@@ -103,7 +86,7 @@ stands_by Stack y other h = h
 stands_by Length y other h = h
 stands_by Register y other h = h
 
-pub stops : (s : GplState) (reason : Reason) (y : MachineState) → (reason ≡ Exit → ⊥) → Stands y 0x22B8 → StoppedBy s reason (view y) → IsHalted s reason y
+pub stops : (s : GplState) (reason : Reason) (y : MachineState) → (reason ≡ Exit → ⊥) → Stands y GSTOP → StoppedBy s reason (view y) → IsHalted s reason y
 stops s reason y other stands h = record {
   cells = cells_of y.cpu.memory ∙ h.ended.cells;
   vdp = ap (λ (d : VdpState). d.memory) (vdp_of y.cpu.memory) ∙ h.ended.vdp;
@@ -124,14 +107,26 @@ some_of zero x y r a b = absurd (not_both (is_end x.cpu.pc) (ap (λ (z : Machine
 some_of (suc count) x y r a b = omega arith
 
 -- what is come to from a dispatch
-pub reaches : {x y : MachineState} {before after most to : ℕ} {Q : View → Type 0} (led bound : ℕ) → Comes most x y before after to Q → is_end x.cpu.pc ≡ false → is_end to ≡ true → led + most ≤ bound → Reaches led bound x y before after
+pub reaches : {x y : MachineState} {before after most to : ℕ} {Q : View → Type 0} (led bound : ℕ) → Comes most x y before after to Q →
+    is_end x.cpu.pc ≡ false → is_end to ≡ true → led + most ≤ bound → Reaches led bound x y before after
 reaches {x = x} {y = y} led bound c start end fits =
     let w = c.within in
     let there = ap is_end c.stands.pc ∙ end in
-    record { count = c.count; within = omega arith; counted = c.counted; turn = record { some = some_of c.count x y c.runs start there; runs = c.runs; there = there } }
+    record {
+      count = c.count;
+      within = omega arith;
+      counted = c.counted;
+      turn = record {
+        some = some_of c.count x y c.runs start there;
+        runs = c.runs;
+        there =
+            there;
+      };
+    }
 
 -- the beginning of a step before a turn from its dispatch
-pub reaches_from : {x y z : MachineState} {before middle after to bound : ℕ} {Q : View → Type 0} → Comes 29 x y before middle to Q → Reaches 29 bound y z middle after → is_end to ≡ false → Reaches 0 bound x z before after
+pub reaches_from : {x y z : MachineState} {before middle after to bound : ℕ} {Q : View → Type 0} → Comes 29 x y before middle to Q →
+    Reaches 29 bound y z middle after → is_end to ≡ false → Reaches 0 bound x z before after
 reaches_from {x = x} {y = y} {z = z} c r start =
     let w = c.within in
     let a = c.counted in
@@ -145,12 +140,14 @@ reaches_from {x = x} {y = y} {z = z} c r start =
       turn = record { some = omega arith; runs = runs_then c.count r.count x y z c.runs r.turn.runs (ap is_end c.stands.pc ∙ start); there = r.turn.there };
     }
 
-from_by : {x y : MachineState} {before middle to : ℕ} {Q : View → Type 0} (z : MachineState) (after : ℕ) (s : GplState) (r : Result GplState Reason) (turn : Turn) → Comes 29 x y before middle to Q → is_end to ≡ false →
+from_by : {x y : MachineState} {before middle to : ℕ} {Q : View → Type 0} (z : MachineState) (after : ℕ) (s : GplState) (r : Result GplState Reason)
+    (turn : Turn) → Comes 29 x y before middle to Q → is_end to ≡ false →
     TurnedBy r s 29 y z middle after turn → TurnedBy r s 0 x z before after turn
 from_by z after s (Ok next) turn c e t = (t.0, reaches_from c t.1 e, t.2)
 from_by z after s (Err reason) turn c e t = (t.0, reaches_from c t.1 e, t.2)
 
-pub turned_from : {x y : MachineState} {before middle to : ℕ} {Q : View → Type 0} (z : MachineState) (after : ℕ) (s : GplState) (turn : Turn) → Comes 29 x y before middle to Q → is_end to ≡ false →
+pub turned_from : {x y : MachineState} {before middle to : ℕ} {Q : View → Type 0} (z : MachineState) (after : ℕ) (s : GplState) (turn : Turn) →
+    Comes 29 x y before middle to Q → is_end to ≡ false →
     Turned s 29 y z middle after turn → Turned s 0 x z before after turn
 turned_from z after s turn c e t = from_by z after s (step s) turn c e t
 

@@ -1,21 +1,24 @@
 -- Facts about numbers that the pieces need.
-use Rattle.std.proofs.Common.{◌≡◌, ℕ, ◌+◌, ◌-◌, ◌*◌, ◌/◌, ◌%◌, ◌<◌, ◌≤◌, Bool, true, false, refl, ap, arith}
-use Rattle.std.specs.Prelude.{◌&&◌, ◌==◌, not, nat_lt}
-use Rattle.std.proofs.lemmas.Bool.{le-leb, lt-leb, lt-ltb, le-ltb, eq-eqb, ltb-true, ltb-false, ne_eqb}
-use Rattle.console_defs.specs.Words.{high, low, join, even, plus}
-use Rattle.console_defs.specs.Logic.{swapped}
-use Rattle.console_defs.specs.Shifts.{shifted}
-use Rattle.console_defs.specs.declared.instruction.ShiftOp.TheVariants.{SRL}
-use Rattle.sim_view.proofs.Seen.{spot, Code}
+use Rattle.std.proofs.Common.{ℕ, ◌%◌, ◌&&◌, ◌*◌, ◌+◌, ◌-◌, ◌/◌, ◌<◌, ◌==◌, ◌≡◌, ◌≤◌, ap, arith, Bool, false, nat_lt, not, refl, true}
+use Rattle.std.proofs.lemmas.Bool.{eq-eqb, le-leb, le-ltb, lt-leb, lt-ltb, ltb-false, ltb-true, ne_eqb}
+use Rattle.sim_view.proofs.Common.{Code, spot}
+use Rattle.sim_rows.specs.Prelude.{even, high, join, low, plus, shifted, SRL, swapped, TABLE, WORKSPACE}
 
 -- a word of the interpreter at an address
 pub spot_code : (address number : ℕ) → address ≡ 0x2000 + 2 * number → number < 1087 → spot address ≡ Code number
 spot_code address number e h =
-    rw (lt-leb 0x83E0 address (omega arith), le-leb 0x2000 address (omega arith), lt-ltb address 0x287E (omega arith), eq-eqb (address % 2) 0 (omega arith), spot) (ap Code (omega arith))
+    rw (
+      lt-leb WORKSPACE address (omega arith),
+      le-leb 0x2000 address (omega arith),
+      lt-ltb address 0x287E (omega arith),
+      eq-eqb (address % 2) 0
+          (omega arith),
+      spot,
+    ) (ap Code (omega arith))
 
 -- the first table's word for a code byte
-pub spot_table : (code : ℕ) → code < 256 → spot (even (plus 0x2008 ((code + code) % 65536))) ≡ Code (4 + code)
-spot_table code h = spot_code (even (plus 0x2008 ((code + code) % 65536))) (4 + code) (omega arith) (omega arith)
+pub spot_table : (code : ℕ) → code < 256 → spot (even (plus TABLE ((code + code) % 65536))) ≡ Code (4 + code)
+spot_table code h = spot_code (even (plus TABLE ((code + code) % 65536))) (4 + code) (omega arith) (omega arith)
 
 -- the second table's word
 pub spot_rows : (code : ℕ) → 0x80 ≤ code → code < 0xEC → spot (even (plus 0x2188 code)) ≡ Code (260 + (code - 0x80) / 2)
@@ -32,9 +35,11 @@ counter_is before counter h = omega arith
 
 -- below a limit
 pub not_above : (limit number : ℕ) (below : Bool) → nat_lt number limit ≡ below → (not (nat_lt limit number) && not (number == limit)) ≡ below
-not_above limit number true c = let l : number < limit = ltb-true number limit c in rw (le-ltb limit number (omega arith), ne_eqb number limit (λ e. omega arith)) refl
+not_above limit number true c = let l : number < limit =
+    ltb-true number limit c in rw (le-ltb limit number (omega arith), ne_eqb number limit (λ e. omega arith)) refl
 not_above limit number false c = by (nat_lt limit number) refl
   where
     by : (b : Bool) → nat_lt limit number ≡ b → (not b && not (number == limit)) ≡ false
     by true d = refl
-    by false d = let l : limit ≤ number = ltb-false number limit c in let m : number ≤ limit = ltb-false limit number d in rw (eq-eqb number limit (omega arith)) refl
+    by false d = let l : limit ≤ number = ltb-false number limit c in let m : number ≤ limit =
+        ltb-false limit number d in rw (eq-eqb number limit (omega arith)) refl

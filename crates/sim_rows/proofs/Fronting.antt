@@ -1,32 +1,13 @@
 -- The operands of a row, piece by piece: the first operand is asked for and found.
-use Rattle.std.proofs.Common.{◌≡◌, ℕ, ◌+◌, ◌*◌, ◌%◌, ◌<◌, Bool, true, false, refl, sym, ap, subst, ◌∙◌, arith, List, Result}
-use Rattle.std.specs.Prelude.{◌==◌}
-use Rattle.std.proofs.lemmas.Bool.{eqb-true, eq-eqb}
-use Rattle.console_defs.specs.Words.{even}
-use Rattle.console_defs.specs.Flags.{Word, size_of, sum_of}
-use Rattle.console_defs.specs.Shifts.{shifted}
-use Rattle.console_defs.specs.declared.instruction.ShiftOp.TheVariants.{SRL, SLA}
-use Rattle.console_defs.specs.Vdp.{VdpState}
-use Rattle.console_defs.specs.Grom.{GromState, previous_in_grom}
-use Rattle.console_defs.proofs.GromLaws.{previous-next}
-use Rattle.console_defs.specs.Machine.{MachineState}
-use Rattle.gpl_defs.specs.declared.instruction.Space.{Space}
-use Rattle.gpl_defs.specs.declared.instruction.Space.TheVariants.{Cpu, Vdp}
-use Rattle.gpl_defs.specs.Reading.{operand_at}
-use Rattle.step_defs.specs.declared.reason.Reason.{Reason}
-use Rattle.step_defs.specs.State.{GplState}
-use Rattle.step_defs.specs.Place.{Place, place_of}
-use Rattle.step_defs.specs.Step.{word_or_byte}
-use Rattle.sim_view.specs.View.{View, view}
-use Rattle.sim_view.specs.Exits.{Comes}
-use Rattle.sim_view.proofs.Compose.{Goes, comes_as, comes_on}
-use Rattle.sim_operands.specs.Pieces.{return_of}
-use Rattle.sim_operands.specs.Values.{width_in, number_of_space}
-use Rattle.sim_operands.specs.Subroutines.{grom_at, state_of, next_at, Addressed, Placed, Barred, Finds, FindsOperand, place_in, Loaded}
-use Rattle.sim_rows.specs.Pieces as pieces
-use Rattle.sim_rows.specs.Rows.{row_width, destination_bytes, Holds, LoadsFrom, AtOperands}
-use Rattle.sim_rows.specs.States.{Sees, Dispatched, StoppedBy, code_byte, behind_code}
+use Rattle.std.proofs.Common.{ℕ, ◌%◌, ◌*◌, ◌+◌, ◌<◌, ◌==◌, ◌∙◌, ◌≡◌, ap, arith, Bool, false, List, refl, Result, subst, sym, true}
+use Rattle.std.proofs.lemmas.Bool.{eq-eqb, eqb-true}
+use Rattle.sim_view.proofs.Common.{comes_as, comes_on, Goes, previous-next}
+use Rattle.sim_rows.specs.Prelude.{ADDR, Addressed, AtOperands, Barred, behind_code, code_byte, Comes, Cpu, destination_bytes, Dispatched, even, Finds}
+use Rattle.sim_rows.specs.Prelude.{FindsOperand, GplState, grom_at, GromState, GSTOP, Holds, Loaded, LoadsFrom, MachineState, next_at, number_of_space}
+use Rattle.sim_rows.specs.Prelude.{operand_at, OPS, Place, place_in, place_of, Placed, previous_in_grom, Reason, return_of, row_width, Sees, shifted, size_of}
+use Rattle.sim_rows.specs.Prelude.{SLA, Space, SRL, state_of, StoppedBy, sum_of, Vdp, VdpState, View, view, width_in, Word, word_or_byte}
 use Rattle.sim_rows.proofs.Steps.{place_same}
+use Rattle.sim_rows.specs.Pieces as pieces
 
 -- ---- numbers
 
@@ -88,7 +69,8 @@ holds_again s bytes more next v w h c d g r0 r1 r13 r3 = record {
   mark = r13 ∙ h.mark;
 }
 
-pub holds_addressed : (s : GplState) (bytes at next : ℕ) (v w : View) {address form : ℕ} → Holds s bytes at v → Addressed v address form next w → Holds s bytes next w
+pub holds_addressed : (s : GplState) (bytes at next : ℕ) (v w : View) {address form : ℕ} → Holds s bytes at v → Addressed v address form next w →
+    Holds s bytes next w
 holds_addressed s bytes at next v w h a =
     let e = a.is in
     record {
@@ -141,11 +123,13 @@ barred_stops s bytes at reason v w h a =
 
 -- ---- what ADDR finds, said of the state
 
-pub finds_of : (s t : GplState) (bytes at : ℕ) (x y : MachineState) (before after : ℕ) → Holds s bytes at (view x) → t.cells ≡ s.cells → FindsOperand x y before after →
+pub finds_of : (s t : GplState) (bytes at : ℕ) (x y : MachineState) (before after : ℕ) → Holds s bytes at (view x) → t.cells ≡ s.cells →
+    FindsOperand x y before after →
     (let read = operand_at s.image at in Finds x y before after read.1 (place_of t bytes read.0))
 finds_of s t bytes at x y before after h same f =
     let v : View = view x in
-    let image : List ℕ → ℕ → ℕ → Type 0 = λ image from bytes. (let read = operand_at image from in Finds x y before after read.1 (place_of (state_of v) bytes read.0)) in
+    let image : List ℕ → ℕ → ℕ → Type 0 = λ image from bytes. (let read = operand_at image from in
+    Finds x y before after read.1 (place_of (state_of v) bytes read.0)) in
     let i : v.grom.image ≡ s.image = ap (λ (g : GromState). g.image) h.sees.grom in
     let n : next_at v ≡ at = ap (λ (g : GromState). previous_in_grom g.counter) h.sees.grom ∙ previous-next at in
     let f1 : image s.image (next_at v) v.r.r3 = subst (λ (l : List ℕ). image l (next_at v) v.r.r3) i f in
@@ -157,7 +141,8 @@ finds_of s t bytes at x y before after h same f =
 
 -- ---- the width of the first operand
 
-pub row_sets : (s : GplState) (v : View) → Dispatched s v → code_byte s < 256 → destination_bytes s ≡ size_of (row_width s) → Goes (pieces.row_width v) 4 0x242E (AtOperands s)
+pub row_sets : (s : GplState) (v : View) → Dispatched s v → code_byte s < 256 → destination_bytes s ≡ size_of (row_width s) →
+    Goes (pieces.row_width v) 4 OPS (AtOperands s)
 row_sets s v d h e = record {
   within = omega arith;
   to_is = refl;
@@ -169,7 +154,8 @@ row_sets s v d h e = record {
   };
 }
 
-pub wide_sets : (s : GplState) (v : View) → Dispatched s v → code_byte s < 256 → destination_bytes s ≡ 2 * size_of (row_width s) → Goes (pieces.wide_width v) 5 0x242E (AtOperands s)
+pub wide_sets : (s : GplState) (v : View) → Dispatched s v → code_byte s < 256 → destination_bytes s ≡ 2 * size_of (row_width s) →
+    Goes (pieces.wide_width v) 5 OPS (AtOperands s)
 wide_sets s v d h e = record {
   within = omega arith;
   to_is = refl;
@@ -177,7 +163,8 @@ wide_sets s v d h e = record {
     sees = sees_again s (behind_code s) v (pieces.wide_width v).left d.sees refl refl refl;
     code = d.code;
     address = d.address;
-    bytes_are = ap (λ n. sum_of Word (shifted SRL (shifted SLA n 15) 14) 2) d.code ∙ twice_is (code_byte s) h ∙ ap (λ n. 2 * n) (sym (size_is (code_byte s))) ∙ sym e;
+    bytes_are =
+        ap (λ n. sum_of Word (shifted SRL (shifted SLA n 15) 14) 2) d.code ∙ twice_is (code_byte s) h ∙ ap (λ n. 2 * n) (sym (size_is (code_byte s))) ∙ sym e;
   };
 }
 
@@ -188,12 +175,20 @@ pub record Asking (s : GplState) (bytes at to : ℕ) (w : View) : Type 0 where
   pub holds : Holds s bytes at w
   pub link : w.r.r11 ≡ to
 
-pub asks : (s : GplState) (v : View) → AtOperands s v → Goes (pieces.ask_first v) 2 0x22EC (Asking s (destination_bytes s) (behind_code s) 0x2434)
+pub asks : (s : GplState) (v : View) → AtOperands s v → Goes (pieces.ask_first v) 2 ADDR (Asking s (destination_bytes s) (behind_code s) 0x2434)
 asks s v d = record {
   within = omega arith;
   to_is = refl;
   holds = record {
-    holds = record { sees = sees_again s (behind_code s) v (pieces.ask_first v).left d.sees refl refl refl; code = d.code; address = d.address; bytes_are = d.bytes_are; mark = refl };
+    holds =
+        record {
+          sees = sees_again s (behind_code s) v (pieces.ask_first v).left d.sees refl refl refl;
+          code = d.code;
+          address = d.address;
+          bytes_are =
+              d.bytes_are;
+          mark = refl;
+        };
     link = refl;
   };
 }
@@ -206,7 +201,8 @@ pub record Located (s : GplState) (bytes : ℕ) (place : Place) (next : ℕ) (w 
 link_is : (s : GplState) (bytes at to : ℕ) (w : View) → even to ≡ to → Asking s bytes at to w → return_of w ≡ to
 link_is s bytes at to w e a = ap even a.link ∙ e
 
-pub located : (s : GplState) (bytes at next to most : ℕ) (x y z : MachineState) (t u w : ℕ) (place : Place) → even to ≡ to → Comes most x y t u 0x22EC (Asking s bytes at to) →
+pub located : (s : GplState) (bytes at next to most : ℕ) (x y z : MachineState) (t u w : ℕ) (place : Place) → even to ≡ to →
+    Comes most x y t u ADDR (Asking s bytes at to) →
     Comes 45 y z u w (return_of (view y)) (Placed (view y) next place) → Comes (most + 45) x z t w to (Located s bytes place next)
 located s bytes at next to most x y z t u w place even_to c d =
     let e : return_of (view y) ≡ to = link_is s bytes at to (view y) even_to c.holds in
@@ -214,7 +210,8 @@ located s bytes at next to most x y z t u w place even_to c d =
     comes_as (most + 45) (Located s bytes place next) (comes_on most 45 c d2 refl) (omega arith)
     (λ v a. record { holds = holds_addressed s bytes at next (view y) v c.holds.holds a; from = from_placed next place (view y) v a })
 
-pub barred : (s : GplState) (bytes at to most : ℕ) (reason : Reason) (x y z : MachineState) (t u w : ℕ) → Comes most x y t u 0x22EC (Asking s bytes at to) → Comes 45 y z u w 0x22B8 (Barred (view y) reason) →
-    Comes (most + 45) x z t w 0x22B8 (StoppedBy s reason)
+pub barred : (s : GplState) (bytes at to most : ℕ) (reason : Reason) (x y z : MachineState) (t u w : ℕ) → Comes most x y t u ADDR (Asking s bytes at to) →
+    Comes 45 y z u w GSTOP (Barred (view y) reason) →
+    Comes (most + 45) x z t w GSTOP (StoppedBy s reason)
 barred s bytes at to most reason x y z t u w c d =
     comes_as (most + 45) (StoppedBy s reason) (comes_on most 45 c d refl) (omega arith) (λ v a. barred_stops s bytes at reason (view y) v c.holds.holds a)

@@ -1,3 +1,5 @@
+pub use Rattle.sim_view.proofs as sim_view
+pub use Rattle.sim_operands.proofs as sim_operands
 pub mod Facts
 pub mod Paths
 pub mod Again
@@ -14,3 +16,5 @@ pub mod Loading
 pub mod Storing
 pub mod Rowing
 pub mod Telling
+pub mod Family
+pub mod Common

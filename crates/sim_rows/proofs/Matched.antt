@@ -1,18 +1,14 @@
 -- A matching machine at the beginning of a step.
-use Rattle.std.proofs.Common.{◌≡◌, ℕ, ◌<◌, refl, arith}
-use Rattle.std.specs.Prelude.{slice_index}
-use Rattle.console_defs.specs.Memory.{Memory, IsMemory}
-use Rattle.console_defs.specs.Machine.{MachineState, IsMachine}
-use Rattle.interp_defs.specs.Match.{PortsAreIdle, IsMatching, shown_by}
-use Rattle.sim_view.specs.View.{view, view_of, Stands}
-use Rattle.sim_operands.specs.Subroutines.{grom_at, next_at}
-use Rattle.sim_operands.proofs.Ready.{ready, idle_video}
-use Rattle.sim_rows.specs.States.{Sees}
+use Rattle.std.proofs.Common.{ℕ, ◌<◌, ◌≡◌, arith, refl, slice_index}
+use Rattle.sim_rows.specs.Prelude.{grom_at, GSTEP, IsMachine, IsMatching, IsMemory, MachineState, Memory, next_at, PortsAreIdle, Sees, shown_by, Stands, view}
+use Rattle.sim_rows.specs.Prelude.{view_of}
+use Rattle.sim_operands.proofs.Ready.{idle_video, ready}
 
-pub stands_at : (x : MachineState) → IsMachine x → IsMatching x → Stands x 0x228C
+pub stands_at : (x : MachineState) → IsMachine x → IsMatching x → Stands x GSTEP
 stands_at x i m = record { pc = m.pc; wp = m.wp; words = m.words; machine = i }
 
-sees_by : (m : Memory) → PortsAreIdle m → (view_of m).grom ≡ grom_at (view_of m).grom.image (next_at (view_of m)) → Sees (shown_by m) (shown_by m).pc (view_of m)
+sees_by : (m : Memory) → PortsAreIdle m → (view_of m).grom ≡ grom_at (view_of m).grom.image (next_at (view_of m)) →
+    Sees (shown_by m) (shown_by m).pc (view_of m)
 unfolding view_of
 sees_by m idle g = record { cells = refl; vdp = refl; registers = refl; held = idle_video m idle; grom = g }
 

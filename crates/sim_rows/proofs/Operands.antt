@@ -1,33 +1,16 @@
 -- The values of the operands of a row.
-use Rattle.std.proofs.Common.{◌≡◌, ℕ, ◌+◌, ◌-◌, ◌*◌, ◌/◌, ◌%◌, ◌<◌, ◌≤◌, Bool, true, false, refl, sym, ap, subst, ◌∙◌, arith, eqb, List, Option, Some, None}
-use Rattle.std.proofs.lemmas.Bool.{eqb-true, eq-eqb}
-use Rattle.std.specs.Prelude.{◌==◌, nat_lt, slice_index, if◌then◌else◌}
-use Rattle.console_defs.specs.Words.{join, even, plus}
-use Rattle.console_defs.specs.Flags.{Width, Byte, Word, size_of}
-use Rattle.console_defs.specs.Shifts.{last_out}
-use Rattle.console_defs.specs.declared.instruction.ShiftOp.TheVariants.{SRL}
-use Rattle.console_defs.specs.Machine.{MachineState}
-use Rattle.gpl_defs.specs.declared.instruction.Space.{Space}
-use Rattle.gpl_defs.specs.declared.instruction.Space.TheVariants.{Cpu, Vdp}
-use Rattle.native_interp.specs.declared.words.TheConstants.{INTERP}
-use Rattle.native_interp.specs.Entries.{row_entry}
-use Rattle.step_defs.specs.declared.reason.Reason.{Reason}
-use Rattle.step_defs.specs.State.{GplState}
-use Rattle.step_defs.specs.Place.{Place, value_at, byte_in}
-use Rattle.step_defs.specs.Arithmetic.{Source}
-use Rattle.step_defs.specs.Step.{word_or_byte}
-use Rattle.sim_view.specs.View.{View, view}
-use Rattle.sim_view.specs.Exits.{Exits, Comes}
-use Rattle.sim_view.proofs.Compose.{comes_then, comes_as, comes_on}
-use Rattle.sim_operands.specs.Pieces.{return_of}
-use Rattle.sim_operands.specs.Values.{width_in, in_register, number_of_space, IsVisible}
-use Rattle.sim_operands.specs.Subroutines.{state_of, Addressed, Placed, Barred, place_in, Loaded, LoadsValue}
-use Rattle.sim_rows.specs.Pieces as pieces
-use Rattle.sim_rows.specs.Rows.{is_row, word_of, row_width, behind_first, destination_bytes, unit, Holds, StoresTo, LoadsFrom, LoadsFromSource, Valued, Kept}
-use Rattle.sim_rows.specs.Rows.{Immediate, Found, Sourced}
-use Rattle.sim_rows.specs.States.{StoppedBy, code_byte, operation_in}
+use Rattle.std.proofs.Common.{ℕ, ◌%◌, ◌*◌, ◌+◌, ◌-◌, ◌/◌, ◌<◌, ◌==◌, ◌∙◌, ◌≡◌, ◌≤◌, ap, arith, Bool, eqb, false, if◌then◌else◌, List, nat_lt, None, Option}
+use Rattle.std.proofs.Common.{refl, slice_index, Some, subst, sym, true}
+use Rattle.std.proofs.lemmas.Bool.{eq-eqb, eqb-true}
+use Rattle.sim_view.proofs.Common.{comes_as, comes_on, comes_then}
+use Rattle.sim_rows.specs.Prelude.{ADDR, Addressed, Barred, behind_first, Byte, byte_in, code_byte, Comes, Cpu, destination_bytes, even, Exits, Found, GO}
+use Rattle.sim_rows.specs.Prelude.{GplState, GSTOP, Holds, Immediate, in_register, INTERP, is_row, IsVisible, join, Kept, last_out, LOAD, Loaded, LoadsFrom}
+use Rattle.sim_rows.specs.Prelude.{LoadsFromSource, LoadsValue, MachineState, number_of_space, operation_in, OPVAL, Place, place_in, Placed, plus, Reason}
+use Rattle.sim_rows.specs.Prelude.{return_of, row_entry, row_width, size_of, Source, Sourced, Space, SRL, state_of, StoppedBy, StoresTo, unit, value_at}
+use Rattle.sim_rows.specs.Prelude.{Valued, Vdp, View, view, Width, width_in, Word, word_of, word_or_byte}
 use Rattle.sim_rows.proofs.Codes.{row_is}
-use Rattle.sim_rows.proofs.Fronting.{width_is, size_is, place_is, Located, holds_again, holds_loaded, holds_addressed, from_placed, barred_stops}
+use Rattle.sim_rows.proofs.Fronting.{barred_stops, from_placed, holds_addressed, holds_again, holds_loaded, Located, place_is, size_is, width_is}
+use Rattle.sim_rows.specs.Pieces as pieces
 
 -- ---- a value is one of cells and video memory alone
 
@@ -90,7 +73,8 @@ pub record LoadedFrom (s : GplState) (bytes : ℕ) (place kept : Place) (next r9
   pub value : w.r.r6 ≡ in_register (width_in bytes) (value_at s (width_in bytes) place)
   pub before : w.r.r9 ≡ r9
 
-pub loads : (s : GplState) (bytes : ℕ) (place kept : Place) (next to most : ℕ) (x y z : MachineState) (t u w : ℕ) → even to ≡ to → Comes most x y t u 0x2368 (Loading s bytes place kept next to) → LoadsValue y z u w →
+pub loads : (s : GplState) (bytes : ℕ) (place kept : Place) (next to most : ℕ) (x y z : MachineState) (t u w : ℕ) → even to ≡ to →
+    Comes most x y t u LOAD (Loading s bytes place kept next to) → LoadsValue y z u w →
     Comes (most + 17) x z t w to (LoadedFrom s bytes place kept next (view y).r.r9)
 loads s bytes place kept next to most x y z t u w even_to c d =
     let v : View = view y in
@@ -101,14 +85,17 @@ loads s bytes place kept next to most x y z t u w even_to c d =
     comes_as (most + 17) _ (comes_on most 17 c d2 refl) (omega arith) (λ q a. record {
       holds = holds_loaded s bytes next number v q h a;
       from = record { address = ap (λ (u : View). u.r.r2) a.is ∙ c.holds.from.address; space = ap (λ (u : View). u.r.r5) a.is ∙ c.holds.from.space };
-      to_place = record { address = ap (λ (u : View). u.r.r7) a.is ∙ c.holds.to_place.address; space = ap (λ (u : View). u.r.r8) a.is ∙ c.holds.to_place.space };
-      value = ap (λ (u : View). u.r.r6) a.is ∙ ap (λ (n : ℕ). in_register (width_in n) number) h.bytes_are ∙ ap (in_register (width_in bytes)) (number_is s bytes place next v h c.holds.from);
+      to_place =
+          record { address = ap (λ (u : View). u.r.r7) a.is ∙ c.holds.to_place.address; space = ap (λ (u : View). u.r.r8) a.is ∙ c.holds.to_place.space };
+      value = ap (λ (u : View). u.r.r6) a.is ∙ ap (λ (n : ℕ). in_register (width_in n) number) h.bytes_are
+          ∙ ap (in_register (width_in bytes)) (number_is s bytes place next v h c.holds.from);
       before = ap (λ (u : View). u.r.r9) a.is;
     })
 
 -- the first operand's place is asked for, and kept
-pub asks_first : (s : GplState) (bytes : ℕ) (place : Place) (next most : ℕ) (x y z : MachineState) (t u w : ℕ) → Comes most x y t u 0x2434 (Located s bytes place next) → Exits y z u w (pieces.load_first (view y)) →
-    Comes (most + 3) x z t w 0x2368 (Loading s bytes place place next 0x243C)
+pub asks_first : (s : GplState) (bytes : ℕ) (place : Place) (next most : ℕ) (x y z : MachineState) (t u w : ℕ) →
+    Comes most x y t u 0x2434 (Located s bytes place next) → Exits y z u w (pieces.load_first (view y)) →
+    Comes (most + 3) x z t w LOAD (Loading s bytes place place next 0x243C)
 asks_first s bytes place next most x y z t u w c e =
     let h = c.holds.holds in
     let f = c.holds.from in
@@ -134,20 +121,24 @@ width_kept s bytes next v h d = ap pieces.width_of_code d.code ∙ width_is (cod
 
 -- register 9 has the value, register 3 the width
 told : (s : GplState) (kept : Place) (v w : View) → code_byte s < 256 → Valued s kept v → w.cells ≡ v.cells → w.vdp ≡ v.vdp → w.grom ≡ v.grom →
-    w.r.r0 ≡ v.r.r0 → w.r.r1 ≡ v.r.r1 → w.r.r13 ≡ v.r.r13 → w.r.r3 ≡ pieces.width_of_code v.r.r0 → w.r.r7 ≡ v.r.r7 → w.r.r8 ≡ v.r.r8 → w.r.r9 ≡ v.r.r6 → Kept s kept (behind_first s) w
+    w.r.r0 ≡ v.r.r0 → w.r.r1 ≡ v.r.r1 → w.r.r13 ≡ v.r.r13 → w.r.r3 ≡ pieces.width_of_code v.r.r0 → w.r.r7 ≡ v.r.r7 → w.r.r8 ≡ v.r.r8 → w.r.r9 ≡ v.r.r6 →
+    Kept s kept (behind_first s) w
 told s kept v w fits a c d g r0 r1 r13 r3 r7 r8 r9 = record {
-  holds = holds_again s (destination_bytes s) (size_of (row_width s)) (behind_first s) v w a.holds c d g r0 r1 r13 (r3 ∙ width_kept s (destination_bytes s) (behind_first s) v fits a.holds);
+  holds = holds_again s (destination_bytes s) (size_of (row_width s)) (behind_first s) v w a.holds c d g r0 r1 r13
+      (r3 ∙ width_kept s (destination_bytes s) (behind_first s) v fits a.holds);
   to_place = record { address = r7 ∙ a.to_place.address; space = r8 ∙ a.to_place.space };
   destination = r9 ∙ a.value;
 }
 
 -- with its value, the source is there
-pub sourced : {s : GplState} {place : Place} {source : Source} {next : ℕ} {w : View} → Kept s place next w → LoadsFromSource source.place w → w.r.r6 ≡ in_register (row_width s) source.number → Sourced s place source next w
+pub sourced : {s : GplState} {place : Place} {source : Source} {next : ℕ} {w : View} → Kept s place next w → LoadsFromSource source.place w →
+    w.r.r6 ≡ in_register (row_width s) source.number → Sourced s place source next w
 sourced k f v = record { holds = k.holds; to_place = k.to_place; destination = k.destination; from_source = f; value = v }
 
 -- a row of one operand
 units_by : (s : GplState) (kept : Place) (most : ℕ) (x y z : MachineState) (t u w : ℕ) → code_byte s < 256 → nat_lt (code_byte s) 0xA0 ≡ true →
-    Comes most x y t u 0x243C (Valued s kept) → Exits y z u w (pieces.second_operand (view y)) → (b : Bool) → word_of s ≡ b → Comes (most + 11) x z t w 0x2472 (Sourced s kept unit (behind_first s))
+    Comes most x y t u 0x243C (Valued s kept) → Exits y z u w (pieces.second_operand (view y)) → (b : Bool) → word_of s ≡ b →
+    Comes (most + 11) x z t w GO (Sourced s kept unit (behind_first s))
 units_by s kept most x y z t u w fits one c e b is =
     let v : View = view y in
     let a = c.holds in
@@ -156,7 +147,8 @@ units_by s kept most x y z t u w fits one c e b is =
     λ b f. width_kept s (destination_bytes s) (behind_first s) v fits a.holds ∙ ap (λ b. size_of (word_or_byte b)) f in
     by b is size
   where
-    by : (b : Bool) → word_of s ≡ b → ((b : Bool) → word_of s ≡ b → pieces.width_of_code (view y).r.r0 ≡ size_of (word_or_byte b)) → Comes (most + 11) x z t w 0x2472 (Sourced s kept unit (behind_first s))
+    by : (b : Bool) → word_of s ≡ b → ((b : Bool) → word_of s ≡ b → pieces.width_of_code (view y).r.r0 ≡ size_of (word_or_byte b)) →
+        Comes (most + 11) x z t w GO (Sourced s kept unit (behind_first s))
     by true is size =
         let v : View = view y in
         let a = c.holds in
@@ -179,12 +171,15 @@ units_by s kept most x y z t u w fits one c e b is =
         })) refl
 
 pub units : (s : GplState) (kept : Place) (most : ℕ) (x y z : MachineState) (t u w : ℕ) → code_byte s < 256 → nat_lt (code_byte s) 0xA0 ≡ true →
-    Comes most x y t u 0x243C (Valued s kept) → Exits y z u w (pieces.second_operand (view y)) → Comes (most + 11) x z t w 0x2472 (Sourced s kept unit (behind_first s))
+    Comes most x y t u 0x243C (Valued s kept) → Exits y z u w (pieces.second_operand (view y)) →
+    Comes (most + 11) x z t w GO (Sourced s kept unit (behind_first s))
 units s kept most x y z t u w fits one c e = units_by s kept most x y z t u w fits one c e (word_of s) refl
 
 -- an immediate source
-pub immediates : (s : GplState) (kept : Place) (most : ℕ) (x y z : MachineState) (t u w : ℕ) → code_byte s < 256 → nat_lt (code_byte s) 0xA0 ≡ false → (code_byte s / 2 % 2 == 1) ≡ true →
-    Comes most x y t u 0x243C (Valued s kept) → Exits y z u w (pieces.second_operand (view y)) → Comes (most + 12) x z t w 0x245C (Immediate s kept (behind_first s))
+pub immediates : (s : GplState) (kept : Place) (most : ℕ) (x y z : MachineState) (t u w : ℕ) → code_byte s < 256 → nat_lt (code_byte s) 0xA0 ≡ false →
+    (code_byte s / 2 % 2 == 1) ≡ true →
+    Comes most x y t u 0x243C (Valued s kept) → Exits y z u w (pieces.second_operand (view y)) →
+    Comes (most + 12) x z t w OPVAL (Immediate s kept (behind_first s))
 immediates s kept most x y z t u w fits two is c e =
     let v : View = view y in
     let a = c.holds in
@@ -199,10 +194,12 @@ immediates s kept most x y z t u w fits two is c e =
 -- a source at a place, which is asked for
 pub record Operand (s : GplState) (place : Place) (next : ℕ) (w : View) : Type 0 where
   pub kept : Kept s place next w
-  pub link : w.r.r11 ≡ 0x245C
+  pub link : w.r.r11 ≡ OPVAL
 
-pub operands : (s : GplState) (kept : Place) (most : ℕ) (x y z : MachineState) (t u w : ℕ) → code_byte s < 256 → nat_lt (code_byte s) 0xA0 ≡ false → (code_byte s / 2 % 2 == 1) ≡ false →
-    Comes most x y t u 0x243C (Valued s kept) → Exits y z u w (pieces.second_operand (view y)) → Comes (most + 12) x z t w 0x22EC (Operand s kept (behind_first s))
+pub operands : (s : GplState) (kept : Place) (most : ℕ) (x y z : MachineState) (t u w : ℕ) → code_byte s < 256 → nat_lt (code_byte s) 0xA0 ≡ false →
+    (code_byte s / 2 % 2 == 1) ≡ false →
+    Comes most x y t u 0x243C (Valued s kept) → Exits y z u w (pieces.second_operand (view y)) →
+    Comes (most + 12) x z t w ADDR (Operand s kept (behind_first s))
 operands s kept most x y z t u w fits two is c e =
     let v : View = view y in
     let a = c.holds in
@@ -217,29 +214,36 @@ operands s kept most x y z t u w fits two is c e =
 -- ---- the second operand's place
 
 -- what ADDR keeps of the destination
-kept_addressed : (s : GplState) (kept : Place) (at next : ℕ) (v w : View) {address form : ℕ} → Kept s kept at v → Addressed v address form next w → Kept s kept next w
+kept_addressed : (s : GplState) (kept : Place) (at next : ℕ) (v w : View) {address form : ℕ} → Kept s kept at v → Addressed v address form next w →
+    Kept s kept next w
 kept_addressed s kept at next v w q a = record {
   holds = holds_addressed s (size_of (row_width s)) at next v w q.holds a;
   to_place = record { address = ap (λ (u : View). u.r.r7) a.is ∙ q.to_place.address; space = ap (λ (u : View). u.r.r8) a.is ∙ q.to_place.space };
   destination = ap (λ (u : View). u.r.r9) a.is ∙ q.destination;
 }
 
-pub finds_second : (s : GplState) (kept place : Place) (at next most : ℕ) (x y z : MachineState) (t u w : ℕ) → Comes most x y t u 0x22EC (Operand s kept at) → Comes 45 y z u w (return_of (view y)) (Placed (view y) next place) →
-    Comes (most + 45) x z t w 0x245C (Found s kept place next)
+pub finds_second : (s : GplState) (kept place : Place) (at next most : ℕ) (x y z : MachineState) (t u w : ℕ) → Comes most x y t u ADDR (Operand s kept at) →
+    Comes 45 y z u w (return_of (view y)) (Placed (view y) next place) →
+    Comes (most + 45) x z t w OPVAL (Found s kept place next)
 finds_second s kept place at next most x y z t u w c d =
-    let e : return_of (view y) ≡ 0x245C = ap even c.holds.link in
-    let d2 : Comes 45 y z u w 0x245C (Placed (view y) next place) = subst (λ (p : ℕ). Comes 45 y z u w p (Placed (view y) next place)) e d in
-    comes_as (most + 45) (Found s kept place next) (comes_on most 45 c d2 refl) (omega arith) (λ v a. record { kept = kept_addressed s kept at next (view y) v c.holds.kept a; from = from_placed next place (view y) v a })
+    let e : return_of (view y) ≡ OPVAL = ap even c.holds.link in
+    let d2 : Comes 45 y z u w OPVAL (Placed (view y) next place) = subst (λ (p : ℕ). Comes 45 y z u w p (Placed (view y) next place)) e d in
+    comes_as (most + 45) (Found s kept place next) (comes_on most 45 c d2 refl) (omega arith)
+    (λ v a. record { kept = kept_addressed s kept at next (view y) v c.holds.kept a; from = from_placed next place (view y) v a })
 
-pub bars_second : (s : GplState) (kept : Place) (at most : ℕ) (reason : Reason) (x y z : MachineState) (t u w : ℕ) → Comes most x y t u 0x22EC (Operand s kept at) → Comes 45 y z u w 0x22B8 (Barred (view y) reason) →
-    Comes (most + 45) x z t w 0x22B8 (StoppedBy s reason)
+pub bars_second : (s : GplState) (kept : Place) (at most : ℕ) (reason : Reason) (x y z : MachineState) (t u w : ℕ) →
+    Comes most x y t u ADDR (Operand s kept at) → Comes 45 y z u w GSTOP (Barred (view y) reason) →
+    Comes (most + 45) x z t w GSTOP (StoppedBy s reason)
 bars_second s kept at most reason x y z t u w c d =
-    comes_as (most + 45) (StoppedBy s reason) (comes_on most 45 c d refl) (omega arith) (λ v a. barred_stops s (size_of (row_width s)) at reason (view y) v c.holds.kept.holds a)
+    comes_as (most + 45) (StoppedBy s reason) (comes_on most 45 c d refl) (omega arith) (λ v a. barred_stops s (size_of (row_width s)) at reason
+    (view y) v c.holds.kept.holds a)
 
 -- ---- the second dispatch
 
-pub goes_to_row : (s : GplState) (kept : Place) (source : Source) (next most : ℕ) (x y z : MachineState) (t u w : ℕ) → code_byte s < 256 → is_row (operation_in s) ≡ true →
-    Comes most x y t u 0x2472 (Sourced s kept source next) → Exits y z u w (pieces.go_to_row (view y)) → Comes (most + 3) x z t w (row_entry (operation_in s)) (Sourced s kept source next)
+pub goes_to_row : (s : GplState) (kept : Place) (source : Source) (next most : ℕ) (x y z : MachineState) (t u w : ℕ) → code_byte s < 256 →
+    is_row (operation_in s) ≡ true →
+    Comes most x y t u GO (Sourced s kept source next) → Exits y z u w (pieces.go_to_row (view y)) →
+    Comes (most + 3) x z t w (row_entry (operation_in s)) (Sourced s kept source next)
 goes_to_row s kept source next most x y z t u w fits row c e =
     let q = c.holds in
     let v : View = view y in
@@ -247,7 +251,8 @@ goes_to_row s kept source next most x y z t u w fits row c e =
       within = omega arith;
       to_is = ap (λ (n : ℕ). even (slice_index INTERP (260 + (n - 0x80) / 2))) q.holds.code ∙ row_is (code_byte s) fits row;
       holds = record {
-        holds = holds_again s (size_of (row_width s)) (size_of (row_width s)) next v (pieces.go_to_row v).left q.holds refl refl refl refl refl refl q.holds.bytes_are;
+        holds = holds_again s (size_of (row_width s)) (size_of (row_width s)) next v (pieces.go_to_row v).left q.holds refl refl refl refl refl refl
+            q.holds.bytes_are;
         to_place = record { address = q.to_place.address; space = q.to_place.space };
         destination = q.destination;
         from_source = from_again source.place v (pieces.go_to_row v).left q.from_source refl refl;

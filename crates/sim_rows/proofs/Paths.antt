@@ -1,54 +1,48 @@
 -- The runs of the pieces on the view.
-use Rattle.std.proofs.Common.{◌≡◌, ℕ, ◌<◌, ◌≤◌, true, false, refl, sym, subst, arith, List, [], ◌∷◌}
-use Rattle.std.specs.Prelude.{◌==◌, nat_lt}
-use Rattle.console_defs.specs.Shifts.{shifted, last_out}
-use Rattle.console_defs.specs.declared.instruction.ShiftOp.TheVariants.{SRL}
-use Rattle.sim_view.specs.View.{View}
-use Rattle.sim_view.specs.Exits.{Exit}
-use Rattle.sim_view.proofs.Bridge.{Leads, IsView}
-use Rattle.sim_view.proofs.Parts.{Part, Rest, part_then, leads}
-use Rattle.sim_view.proofs.Places.{pick}
-use Rattle.sim_operands.specs.Pieces.{exit}
+use Rattle.std.proofs.Common.{[], ℕ, ◌<◌, ◌==◌, ◌∷◌, ◌≡◌, ◌≤◌, arith, false, List, nat_lt, refl, subst, sym, true}
+use Rattle.sim_view.proofs.Common.{IsView, Leads, leads, Part, part_then, pick, Rest}
+use Rattle.sim_rows.specs.Prelude.{ADDR, Exit, exit, FETCH, GO, GSTEP, last_out, LOAD, OPS, OPVAL, ROW, SEEK, shifted, SHOW, SRL, STO, STORE, UNIT, View}
+use Rattle.sim_rows.specs.Prelude.{WHERE, WIDE}
+use Rattle.sim_rows.proofs.Facts.{counter_is, not_above, spot_rows, spot_table}
 use Rattle.sim_rows.specs.Pieces as pieces
-use Rattle.sim_rows.proofs.Facts.{spot_table, spot_rows, counter_is, not_above}
 
-pub ask_address : (v : View) → Leads (0x22BC ∷ []) v 0x228C (pieces.ask_address v)
+pub ask_address : (v : View) → Leads (WHERE ∷ []) v GSTEP (pieces.ask_address v)
 ask_address v = record { by = λ f q. refl }
 
-pub keep_address : (v : View) → Leads (0x22D8 ∷ []) v 0x2290 (pieces.keep_address v)
+pub keep_address : (v : View) → Leads (SEEK ∷ []) v 0x2290 (pieces.keep_address v)
 keep_address v = record { by = λ f q. refl }
 
-pub ask_byte : (v : View) → Leads (0x22E4 ∷ []) v 0x2296 (pieces.ask_byte v)
+pub ask_byte : (v : View) → Leads (FETCH ∷ []) v 0x2296 (pieces.ask_byte v)
 ask_byte v = record { by = λ f q. refl }
 
-pub row_width : (v : View) → Leads (0x242E ∷ []) v 0x2426 (pieces.row_width v)
+pub row_width : (v : View) → Leads (OPS ∷ []) v ROW (pieces.row_width v)
 row_width v = record { by = λ f q. refl }
 
-pub wide_width : (v : View) → Leads (0x242E ∷ []) v 0x254C (pieces.wide_width v)
+pub wide_width : (v : View) → Leads (OPS ∷ []) v WIDE (pieces.wide_width v)
 wide_width v = record { by = λ f q. refl }
 
-pub ask_first : (v : View) → Leads (0x22EC ∷ []) v 0x242E (pieces.ask_first v)
+pub ask_first : (v : View) → Leads (ADDR ∷ []) v OPS (pieces.ask_first v)
 ask_first v = record { by = λ f q. refl }
 
-pub load_first : (v : View) → Leads (0x2368 ∷ []) v 0x2434 (pieces.load_first v)
+pub load_first : (v : View) → Leads (LOAD ∷ []) v 0x2434 (pieces.load_first v)
 load_first v = record { by = λ f q. refl }
 
-pub load_second : (v : View) → Leads (0x2368 ∷ []) v 0x245C (pieces.load_second v)
+pub load_second : (v : View) → Leads (LOAD ∷ []) v OPVAL (pieces.load_second v)
 load_second v = record { by = λ f q. refl }
 
-pub store_result : (v : View) → Leads (0x23C2 ∷ []) v 0x24A8 (pieces.store_result v)
+pub store_result : (v : View) → Leads (STORE ∷ []) v STO (pieces.store_result v)
 store_result v = record { by = λ f q. refl }
 
-pub where_next : (v : View) → IsView v → Leads [] v 0x22BC (pieces.where_next v)
+pub where_next : (v : View) → IsView v → Leads [] v WHERE (pieces.where_next v)
 where_next v i = record { by = λ f q. rw (counter_is v.r.r6 v.grom.counter i.grom.counter) refl }
 
 pub dispatch : (v : View) → IsView v → Leads [] v 0x229A (pieces.dispatch v)
 dispatch v i = record { by = λ f q. let fits = i.r 6 in rw (spot_table (shifted SRL v.r.r6 8) (omega arith)) refl }
 
-pub go_to_row : (v : View) → 0x80 ≤ v.r.r0 → v.r.r0 < 0xEC → Leads [] v 0x2472 (pieces.go_to_row v)
+pub go_to_row : (v : View) → 0x80 ≤ v.r.r0 → v.r.r0 < 0xEC → Leads [] v GO (pieces.go_to_row v)
 go_to_row v l h = record { by = λ f q. rw (spot_rows v.r.r0 l h) refl }
 
-pub show : (v : View) → Leads (0x23C2 ∷ []) v 0x247A (pieces.show v)
+pub show : (v : View) → Leads (STORE ∷ []) v SHOW (pieces.show v)
 show v = record {
   by = λ f q.
       pick (v.r.r13 == 0)
@@ -61,27 +55,27 @@ abbrev told : View → View
 told v = record v { r = record v.r { r3 = pieces.width_of_code v.r.r0; r9 = v.r.r6 } }
 
 abbrev ends : List ℕ
-ends = 0x22EC ∷ 0x245C ∷ 0x2472 ∷ []
+ends = ADDR ∷ OPVAL ∷ GO ∷ []
 
-unit_row : (v : View) → nat_lt v.r.r0 0xA0 ≡ true → Part ends 7 v 0x243C (told v) 0x2464
+unit_row : (v : View) → nat_lt v.r.r0 0xA0 ≡ true → Part ends 7 v 0x243C (told v) UNIT
 unit_row v c = record { by = λ f. rw (not_above 0xA0 v.r.r0 true c) refl }
 
 two_rows : (v : View) → nat_lt v.r.r0 0xA0 ≡ false → Part ends 7 v 0x243C (told v) 0x244C
 two_rows v c = record { by = λ f. rw (not_above 0xA0 v.r.r0 false c) refl }
 
-unit_byte : (v : View) → (v.r.r3 == 1) ≡ true → Rest ends 7 9 v 0x2464 (exit 10 0x2472 (record v { r = record v.r { r6 = 0x0100 } }))
+unit_byte : (v : View) → (v.r.r3 == 1) ≡ true → Rest ends 7 9 v UNIT (exit 10 GO (record v { r = record v.r { r6 = 0x0100 } }))
 unit_byte v c = record { by = λ f. rw c refl }
 
-unit_word : (v : View) → (v.r.r3 == 1) ≡ false → Rest ends 7 9 v 0x2464 (exit 11 0x2472 (record v { r = record v.r { r6 = 1 } }))
+unit_word : (v : View) → (v.r.r3 == 1) ≡ false → Rest ends 7 9 v UNIT (exit 11 GO (record v { r = record v.r { r6 = 1 } }))
 unit_word v c = record { by = λ f. rw c refl }
 
 abbrev form : View → View
 form v = record v { r = record v.r { r4 = shifted SRL v.r.r0 2 } }
 
-immediate : (v : View) → last_out SRL v.r.r0 2 ≡ true → Rest ends 7 9 v 0x244C (exit 12 0x245C (record (form v) { r = record (form v).r { r5 = 2 } }))
+immediate : (v : View) → last_out SRL v.r.r0 2 ≡ true → Rest ends 7 9 v 0x244C (exit 12 OPVAL (record (form v) { r = record (form v).r { r5 = 2 } }))
 immediate v c = record { by = λ f. rw c refl }
 
-operand : (v : View) → last_out SRL v.r.r0 2 ≡ false → Rest ends 7 9 v 0x244C (exit 11 0x22EC (record (form v) { r = record (form v).r { r11 = 0x245C } }))
+operand : (v : View) → last_out SRL v.r.r0 2 ≡ false → Rest ends 7 9 v 0x244C (exit 11 ADDR (record (form v) { r = record (form v).r { r11 = OPVAL } }))
 operand v c = record { by = λ f. rw c refl }
 
 -- an exit by its cases

@@ -1,17 +1,9 @@
 -- What is true of the places that operands have.
-use Rattle.std.proofs.Common.{◌≡◌, ℕ, ◌+◌, ◌≤◌, Bool, true, false, refl, subst, arith, Option, Some, None, Result, Ok, Err}
-use Rattle.std.specs.Prelude.{◌==◌, ◌&&◌, not, if◌then◌else◌}
+use Rattle.std.proofs.Common.{ℕ, ◌&&◌, ◌+◌, ◌==◌, ◌≡◌, ◌≤◌, arith, Bool, Err, false, if◌then◌else◌, None, not, Ok, Option, refl, Result, Some, subst, true}
 use Rattle.std.proofs.lemmas.Bool.{leb-true}
-use Rattle.source_defs.specs.Refusals.{◌>>=◌}
-use Rattle.gpl_defs.specs.declared.instruction.Space.{Space}
-use Rattle.gpl_defs.specs.declared.instruction.Space.TheVariants.{Cpu, Vdp}
-use Rattle.gpl_defs.specs.declared.instruction.GplOperand.{GplOperand}
-use Rattle.step_defs.specs.declared.reason.Reason.{Reason}
-use Rattle.step_defs.specs.declared.reason.Reason.TheVariants.{Cell}
-use Rattle.step_defs.specs.State.{GplState}
-use Rattle.step_defs.specs.Place.{Place, place_of, pointed, indexed, ranged, is_visible, word_at}
-use Rattle.console_defs.specs.Words.{plus}
-use Rattle.sim_operands.specs.Values.{number_of_space}
+use Rattle.sim_rows.specs.Prelude.{◌>>=◌, Cell, Cpu, GplOperand, GplState, indexed, is_visible, number_of_space, Place, place_of, plus, pointed, ranged}
+use Rattle.sim_rows.specs.Prelude.{Reason, Space, Vdp}
+use Rattle.sim_view.specs.step_defs.Place.{word_at}
 
 -- A place is visible where it lies in the cells, and there is none for one reason alone.
 abbrev pub Lies : ℕ → Result Place Reason → Type 0
@@ -51,5 +43,6 @@ place_lies s bytes operand =
     then_lies bytes (pointed s operand.indirect operand.address) _ (pointed_alone s operand.indirect operand.address)
     (λ base. then_lies bytes (indexed s operand.index base) _ (indexed_alone s operand.index base) (λ address. ranged_lies bytes operand.space address))
 
-pub lies_at : (bytes : ℕ) (r : Result Place Reason) (place : Place) → Lies bytes r → r ≡ Ok place → number_of_space place.space ≡ 0 → place.address + bytes ≤ 0xC2
+pub lies_at : (bytes : ℕ) (r : Result Place Reason) (place : Place) → Lies bytes r → r ≡ Ok place → number_of_space place.space ≡ 0 →
+    place.address + bytes ≤ 0xC2
 lies_at bytes r place h e = let P : Result Place Reason → Type 0 = Lies bytes in subst P e h

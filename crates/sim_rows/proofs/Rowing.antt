@@ -1,36 +1,17 @@
 -- A row from its dispatch to the end of the step.
-use Rattle.std.proofs.Common.{◌≡◌, ℕ, ◌+◌, ◌<◌, ◌≤◌, Bool, true, false, refl, sym, ap, subst, ◌∙◌, arith, Option, Some, None, Result, Ok, Err}
-use Rattle.console_defs.specs.Flags.{Width, size_of}
-use Rattle.console_defs.specs.Machine.{MachineState}
-use Rattle.source_defs.specs.Refusals.{◌>>=◌}
-use Rattle.gpl_defs.specs.declared.instruction.GplSource.{GplSource}
-use Rattle.gpl_defs.specs.declared.instruction.GplSource.TheVariants as source
-use Rattle.gpl_defs.specs.declared.instruction.GplOperation.{GplOperation}
-use Rattle.gpl_defs.specs.declared.instruction.GplOperation.TheVariants as operation
-use Rattle.gpl_defs.specs.Reading.{operand_at}
-use Rattle.native_interp.specs.Entries.{row_entry}
-use Rattle.step_defs.specs.declared.reason.Reason.{Reason}
-use Rattle.step_defs.specs.declared.reason.Reason.TheVariants.{Exit, Cell}
-use Rattle.step_defs.specs.State.{GplState}
-use Rattle.step_defs.specs.Place.{Place, place_of, value_at}
-use Rattle.step_defs.specs.Changes.{Changes, unchanged, finished}
-use Rattle.step_defs.specs.Arithmetic.{Source}
-use Rattle.step_defs.specs.Step.{step, source_of}
-use Rattle.step_defs.specs.Run.{bound}
-use Rattle.interp_defs.specs.declared.turn.Turn.{Turn}
-use Rattle.interp_defs.specs.declared.turn.Turn.TheVariants.{Stepped, Stopped}
-use Rattle.interp_defs.specs.Runs.{is_end}
-use Rattle.interp_defs.specs.Turned.{Turned}
-use Rattle.sim_view.specs.View.{View}
-use Rattle.sim_view.specs.Exits.{Comes}
-use Rattle.sim_view.proofs.Compose.{comes_on}
-use Rattle.sim_operands.specs.Values.{number_of_space}
-use Rattle.sim_rows.specs.States.{StoppedBy, code_byte, operation_in, behind_code}
-use Rattle.sim_rows.specs.Rows.{is_row, row_width, gone_on, destination_bytes, has_source, source_read, first_of, second_by, second_of, operands_of, AtRow}
-use Rattle.sim_rows.specs.Results.{result_of, row_result, Changed, SeesResult, StartsRow, RunsRow, TurnsBy, TurnsRow}
+use Rattle.std.proofs.Common.{ℕ, ◌+◌, ◌<◌, ◌∙◌, ◌≡◌, ◌≤◌, ap, arith, Bool, Err, false, None, Ok, Option, refl, Result, Some, subst, sym, true}
+use Rattle.sim_view.proofs.Common.{comes_on}
+use Rattle.sim_rows.specs.Prelude.{◌>>=◌, AtRow, behind_code, bound, Cell, Changed, Changes, code_byte, Comes, destination_bytes, finished, first_of, gone_on}
+use Rattle.sim_rows.specs.Prelude.{GplOperation, GplSource, GplState, GSTEP, GSTOP, has_source, is_end, is_row, MachineState, number_of_space, operand_at}
+use Rattle.sim_rows.specs.Prelude.{operands_of, operation_in, Place, place_of, Reason, result_of, row_entry, row_result, row_width, RunsRow, second_by}
+use Rattle.sim_rows.specs.Prelude.{second_of, SeesResult, size_of, Source, source_of, source_read, StartsRow, step, Stepped, Stopped, StoppedBy, Turn, Turned}
+use Rattle.sim_rows.specs.Prelude.{TurnsBy, TurnsRow, unchanged, value_at, View, Width}
+use Rattle.sim_view.specs.step_defs.declared.reason.Reason.TheVariants.{Exit}
+use Rattle.sim_view.specs.gpl_defs.declared.instruction.GplSource.TheVariants as source
+use Rattle.sim_view.specs.gpl_defs.declared.instruction.GplOperation.TheVariants as operation
 use Rattle.sim_rows.proofs.Places.{Lies, place_lies}
-use Rattle.sim_rows.proofs.Steps.{step_row, row_after, bound_stop, bound_made}
-use Rattle.sim_rows.proofs.Ends.{matches, stops, reaches, turned_by}
+use Rattle.sim_rows.proofs.Steps.{bound_made, bound_stop, row_after, step_row}
+use Rattle.sim_rows.proofs.Ends.{matches, reaches, stops, turned_by}
 use Rattle.sim_rows.proofs.Loading.{first_visible}
 use Rattle.sim_rows.proofs.Operands.{value_same}
 
@@ -38,7 +19,16 @@ use Rattle.sim_rows.proofs.Operands.{value_same}
 
 -- nothing was changed yet
 pub row_changed : (s : GplState) (place : Place) (source : Source) (w : View) → AtRow s place source w → Changed (unchanged (gone_on s)) w
-row_changed s place source w h = record { cells = h.holds.sees.cells; vdp = h.holds.sees.vdp; registers = h.holds.sees.registers; held = h.holds.sees.held; grom = h.holds.sees.grom; mark = h.holds.mark }
+row_changed s place source w h =
+    record {
+      cells = h.holds.sees.cells;
+      vdp = h.holds.sees.vdp;
+      registers = h.holds.sees.registers;
+      held = h.holds.sees.held;
+      grom =
+          h.holds.sees.grom;
+      mark = h.holds.mark;
+    }
 
 -- ---- both operands
 
@@ -46,7 +36,8 @@ value_in : {X : Type 0} → X → Result X Reason → X
 value_in other (Ok x) = x
 value_in other (Err reason) = other
 
-both_by : (first : Result Place Reason) (second : Result Source Reason) (o : Place × Source) → (first >>= λ place. (second >>= λ source. Ok (place, source))) ≡ Ok o → (first ≡ Ok o.0) × (second ≡ Ok o.1)
+both_by : (first : Result Place Reason) (second : Result Source Reason) (o : Place × Source) →
+    (first >>= λ place. (second >>= λ source. Ok (place, source))) ≡ Ok o → (first ≡ Ok o.0) × (second ≡ Ok o.1)
 unfolding value_in
 both_by (Ok place) (Ok source) o e = (ap (λ (p : Place × Source). Ok p.0) (ap (value_in o) e), ap (λ (p : Place × Source). Ok p.1) (ap (value_in o) e))
 both_by (Ok place) (Err reason) o e = absurd (cc)
@@ -56,7 +47,8 @@ pub both : (s : GplState) (place : Place) (source : Source) → operands_of s �
 both s place source e = both_by (first_of s) (second_of s) (place, source) e
 
 -- the destination is visible
-pub destination_visible : (s : GplState) (place : Place) (source : Source) → operands_of s ≡ Ok (place, source) → number_of_space place.space ≡ 0 → place.address + destination_bytes s ≤ 0xC2
+pub destination_visible : (s : GplState) (place : Place) (source : Source) → operands_of s ≡ Ok (place, source) → number_of_space place.space ≡ 0 →
+    place.address + destination_bytes s ≤ 0xC2
 destination_visible s place source e = first_visible s place (both s place source e).0
 
 -- a source's place is visible
@@ -68,7 +60,8 @@ abbrev AllLie : ℕ → Result Source Reason → Type 0
 AllLie bytes (Ok source) = SourceLies bytes source.place
 AllLie bytes (Err reason) = reason ≡ Cell
 
-place_in_lies : (s : GplState) (w : Width) (r : Result Place Reason) → Lies (size_of w) r → AllLie (size_of w) (r >>= λ p. Ok (record { number = value_at s w p; place = Some p }))
+place_in_lies : (s : GplState) (w : Width) (r : Result Place Reason) → Lies (size_of w) r →
+    AllLie (size_of w) (r >>= λ p. Ok (record { number = value_at s w p; place = Some p }))
 place_in_lies s w (Ok place) h = h
 place_in_lies s w (Err reason) h = h
 
@@ -103,7 +96,8 @@ then_alone (Err reason) f a g = a
 
 operands_alone : (s : GplState) → Alone (operands_of s)
 operands_alone s =
-    then_alone (first_of s) _ (lies_alone (destination_bytes s) (first_of s) (place_lies (gone_on s) (destination_bytes s) (operand_at s.image (behind_code s)).0))
+    then_alone (first_of s) _ (lies_alone (destination_bytes s) (first_of s) (place_lies (gone_on s) (destination_bytes s)
+    (operand_at s.image (behind_code s)).0))
     (λ place. then_alone (second_of s) _ (source_alone (size_of (row_width s)) (second_of s) (second_lies s (has_source s))) (λ source. tt))
 
 reason_in : {X : Type 0} → Result X Reason → Reason
@@ -145,67 +139,92 @@ module _ (s : GplState) (x : MachineState) (t : ℕ) (fits : code_byte s < 256) 
     pub is_operation : operation_in s ≡ Some op
     pub comes : Comes 151 x y t u (row_entry (Some op)) (AtRow s place source)
 
-  started_by : (op : GplOperation) (y : MachineState) (u : ℕ) (told : Option GplOperation) → told ≡ Some op → (r : Result (Place × Source) Reason) → operands_of s ≡ r → StartsRow s x y t u told r → Started op y u
+  started_by : (op : GplOperation) (y : MachineState) (u : ℕ) (told : Option GplOperation) → told ≡ Some op → (r : Result (Place × Source) Reason) →
+      operands_of s ≡ r → StartsRow s x y t u told r → Started op y u
   started_by op y u told e (Ok o) is l =
       let same : operation_in s ≡ Some op = sym l.0 ∙ e in
-      record { place = o.0; source = o.1; is_both = is; is_operation = same; comes = subst (λ (p : Option GplOperation). Comes 151 x y t u (row_entry p) (AtRow s o.0 o.1)) same l.1 }
+      record {
+        place = o.0;
+        source = o.1;
+        is_both = is;
+        is_operation = same;
+        comes =
+            subst (λ (p : Option GplOperation). Comes 151 x y t u (row_entry p) (AtRow s o.0 o.1)) same l.1;
+      }
   started_by op y u told e (Err reason) is l = absurd (none_some op (sym l.0 ∙ e))
 
-  pub started : (op : GplOperation) (y : MachineState) (u : ℕ) (told : Option GplOperation) → told ≡ Some op → StartsRow s x y t u told (operands_of s) → Started op y u
+  pub started : (op : GplOperation) (y : MachineState) (u : ℕ) (told : Option GplOperation) → told ≡ Some op → StartsRow s x y t u told (operands_of s) →
+      Started op y u
   started op y u told e l = started_by op y u told e (operands_of s) refl l
 
   -- an operand that is not visible
-  stopped_by : (y : MachineState) (u : ℕ) (told : Option GplOperation) → told ≡ None → (r : Result (Place × Source) Reason) → operands_of s ≡ r → StartsRow s x y t u told r → Turned s 29 x y t u (Stopped Cell)
+  stopped_by : (y : MachineState) (u : ℕ) (told : Option GplOperation) → told ≡ None → (r : Result (Place × Source) Reason) → operands_of s ≡ r →
+      StartsRow s x y t u told r → Turned s 29 x y t u (Stopped Cell)
   stopped_by y u told none (Ok o) e l = let op = some_is (operation_in s) row in absurd (none_some op.0 (sym none ∙ l.0 ∙ op.1))
   stopped_by y u told none (Err reason) e l =
       let op = some_is (operation_in s) row in
       let cell : reason ≡ Cell = reason_is (operands_of s) reason (operands_alone s) e in
-      let run : Comes 129 x y t u 0x22B8 (StoppedBy s Cell) = subst (λ (r : Reason). Comes 129 x y t u 0x22B8 (StoppedBy s r)) cell l.1 in
-      let is : step s ≡ Err Cell = step_row s op.0 fits op.1 (subst (λ (o : Option GplOperation). is_row o ≡ true) op.1 row) ∙ ap (λ (r : Result (Place × Source) Reason). r >>= row_after s op.0) (e ∙ ap Err cell) in
+      let run : Comes 129 x y t u GSTOP (StoppedBy s Cell) = subst (λ (r : Reason). Comes 129 x y t u GSTOP (StoppedBy s r)) cell l.1 in
+      let is : step s ≡ Err Cell = step_row s op.0 fits op.1 (subst (λ (o : Option GplOperation). is_row o ≡ true) op.1 row)
+      ∙ ap (λ (r : Result (Place × Source) Reason). r >>= row_after s op.0) (e ∙ ap Err cell) in
       let b = bound_stop s Cell is in
-      turned_by x y t u 29 (Stopped Cell) s (Err Cell) is (refl, reaches 29 (bound s) run start refl (omega arith), stops s Cell y (λ e. cc) run.stands run.holds)
+      turned_by x y t u 29 (Stopped Cell) s (Err Cell) is
+      (refl, reaches 29 (bound s) run start refl (omega arith), stops s Cell y (λ e. cc) run.stands run.holds)
 
-  pub stopped_row : (y : MachineState) (u : ℕ) (told : Option GplOperation) → told ≡ None → StartsRow s x y t u told (operands_of s) → Turned s 29 x y t u (Stopped Cell)
+  pub stopped_row : (y : MachineState) (u : ℕ) (told : Option GplOperation) → told ≡ None → StartsRow s x y t u told (operands_of s) →
+      Turned s 29 x y t u (Stopped Cell)
   stopped_row y u told none l = stopped_by y u told none (operands_of s) refl l
 
   -- what was made of the operands is the step
-  made : (y : MachineState) (u most : ℕ) (place : Place) (source : Source) (op : GplOperation) → operation_in s ≡ Some op → operands_of s ≡ Ok (place, source) → most ≤ 411 →
-      (r : Result Changes Reason) → row_result op s place source ≡ r → Comes most x y t u 0x228C (SeesResult r) → Turned s 29 x y t u Stepped
+  made : (y : MachineState) (u most : ℕ) (place : Place) (source : Source) (op : GplOperation) → operation_in s ≡ Some op → operands_of s ≡ Ok (place, source)
+      → most ≤ 411 →
+      (r : Result Changes Reason) → row_result op s place source ≡ r → Comes most x y t u GSTEP (SeesResult r) → Turned s 29 x y t u Stepped
   made y u most place source op e is le (Ok c) f run =
       let same : value_at (gone_on s) (row_width s) place ≡ value_at s (row_width s) place = value_same (gone_on s) s (row_width s) place refl refl in
       let after : row_after s op (place, source) ≡ Ok (finished c) =
-      ap (λ (n : ℕ). result_of op (row_width s) place n source (unchanged (gone_on s)) >>= λ (c : Changes). Ok (finished c)) same ∙ ap (λ (r : Result Changes Reason). r >>= λ (c : Changes). Ok (finished c)) f in
+      ap (λ (n : ℕ). result_of op (row_width s) place n source (unchanged (gone_on s)) >>= λ (c : Changes). Ok (finished c)) same
+      ∙ ap (λ (r : Result Changes Reason). r >>= λ (c : Changes). Ok (finished c)) f in
       let row2 : is_row (Some op) ≡ true = subst (λ (o : Option GplOperation). is_row o ≡ true) e row in
       let step_is : step s ≡ Ok (finished c) = step_row s op fits e row2 ∙ ap (λ (r : Result (Place × Source) Reason). r >>= row_after s op) is ∙ after in
       let b = bound_row s (finished c) op e row2 step_is in
-      turned_by x y t u 29 Stepped s (Ok (finished c)) step_is (refl, reaches 29 (bound s) run start refl (omega arith), matches (finished c) y run.stands run.holds)
+      turned_by x y t u 29 Stepped s (Ok (finished c)) step_is
+      (refl, reaches 29 (bound s) run start refl (omega arith), matches (finished c) y run.stands run.holds)
   made y u most place source op e is le (Err reason) f run = absurd (run.holds)
 
   -- a row that may stop, by what was made of the operands
-  turned_as : (y : MachineState) (u most : ℕ) (place : Place) (source : Source) (op : GplOperation) (turn : Turn) → operation_in s ≡ Some op → operands_of s ≡ Ok (place, source) → most ≤ 371 →
-      (r : Result Changes Reason) → row_result op s place source ≡ r → ((reason : Reason) → r ≡ Err reason → reason ≡ Exit → ⊥) → TurnsBy most s x y t u turn r → Turned s 29 x y t u turn
+  turned_as : (y : MachineState) (u most : ℕ) (place : Place) (source : Source) (op : GplOperation) (turn : Turn) → operation_in s ≡ Some op →
+      operands_of s ≡ Ok (place, source) → most ≤ 371 →
+      (r : Result Changes Reason) → row_result op s place source ≡ r → ((reason : Reason) → r ≡ Err reason → reason ≡ Exit → ⊥) →
+      TurnsBy most s x y t u turn r → Turned s 29 x y t u turn
   turned_as y u most place source op turn e is le (Ok c) f other run =
       subst (λ (a : Turn). Turned s 29 x y t u a) (sym run.0) (made y u most place source op e is (omega arith) (Ok c) f run.1)
   turned_as y u most place source op turn e is le (Err reason) f other run =
       let same : value_at (gone_on s) (row_width s) place ≡ value_at s (row_width s) place = value_same (gone_on s) s (row_width s) place refl refl in
       let after : row_after s op (place, source) ≡ Err reason =
-      ap (λ (n : ℕ). result_of op (row_width s) place n source (unchanged (gone_on s)) >>= λ (c : Changes). Ok (finished c)) same ∙ ap (λ (r : Result Changes Reason). r >>= λ (c : Changes). Ok (finished c)) f in
+      ap (λ (n : ℕ). result_of op (row_width s) place n source (unchanged (gone_on s)) >>= λ (c : Changes). Ok (finished c)) same
+      ∙ ap (λ (r : Result Changes Reason). r >>= λ (c : Changes). Ok (finished c)) f in
       let row2 : is_row (Some op) ≡ true = subst (λ (o : Option GplOperation). is_row o ≡ true) e row in
       let step_is : step s ≡ Err reason = step_row s op fits e row2 ∙ ap (λ (r : Result (Place × Source) Reason). r >>= row_after s op) is ∙ after in
       let b = bound_stop s reason step_is in
-      turned_by x y t u 29 turn s (Err reason) step_is (run.0, reaches 29 (bound s) run.1 start refl (omega arith), stops s reason y (other reason refl) run.1.stands run.1.holds)
+      turned_by x y t u 29 turn s (Err reason) step_is
+      (run.0, reaches 29 (bound s) run.1 start refl (omega arith), stops s reason y (other reason refl) run.1.stands run.1.holds)
 
-  ends_as : (op : GplOperation) (y z : MachineState) (u v most : ℕ) (place : Place) (source : Source) (turn : Turn) → Comes 151 x y t u (row_entry (Some op)) (AtRow s place source) →
+  ends_as : (op : GplOperation) (y z : MachineState) (u v most : ℕ) (place : Place) (source : Source) (turn : Turn) →
+      Comes 151 x y t u (row_entry (Some op)) (AtRow s place source) →
       is_end (row_entry (Some op)) ≡ false → (r : Result Changes Reason) → TurnsBy most s y z u v turn r → TurnsBy (151 + most) s x z t v turn r
   ends_as op y z u v most place source turn c entry (Ok d) h = (h.0, comes_on 151 most c h.1 entry)
   ends_as op y z u v most place source turn c entry (Err reason) h = (h.0, comes_on 151 most c h.1 entry)
 
   pub turned_or_stopped : (op : GplOperation) (y z : MachineState) (u v most : ℕ) (turn : Turn) (b : Started op y u) → is_end (row_entry (Some op)) ≡ false →
-      ((reason : Reason) → row_result op s b.place b.source ≡ Err reason → reason ≡ Exit → ⊥) → TurnsRow op most y z u v turn → most ≤ 220 → Turned s 29 x z t v turn
+      ((reason : Reason) → row_result op s b.place b.source ≡ Err reason → reason ≡ Exit → ⊥) → TurnsRow op most y z u v turn → most ≤ 220 →
+      Turned s 29 x z t v turn
   turned_or_stopped op y z u v most turn b entry other r le =
       turned_as z v (151 + most) b.place b.source op turn b.is_operation b.is_both (omega arith) (row_result op s b.place b.source) refl other
-      (ends_as op y z u v most b.place b.source turn b.comes entry (row_result op s b.place b.source) (r s b.place b.source b.is_operation b.comes.holds b.is_both))
+      (ends_as op y z u v most b.place b.source turn b.comes entry (row_result op s b.place b.source)
+      (r s b.place b.source b.is_operation b.comes.holds b.is_both))
 
-  pub turned_row : (op : GplOperation) (y z : MachineState) (u v most : ℕ) (b : Started op y u) → is_end (row_entry (Some op)) ≡ false → RunsRow op most y z u v → most ≤ 260 → Turned s 29 x z t v Stepped
+  pub turned_row : (op : GplOperation) (y z : MachineState) (u v most : ℕ) (b : Started op y u) → is_end (row_entry (Some op)) ≡ false →
+      RunsRow op most y z u v → most ≤ 260 → Turned s 29 x z t v Stepped
   turned_row op y z u v most b entry r le =
-      made z v (151 + most) b.place b.source op b.is_operation b.is_both (omega arith) (row_result op s b.place b.source) refl (comes_on 151 most b.comes (r s b.place b.source b.is_operation b.comes.holds b.is_both) entry)
+      made z v (151 + most) b.place b.source op b.is_operation b.is_both (omega arith) (row_result op s b.place b.source) refl
+      (comes_on 151 most b.comes (r s b.place b.source b.is_operation b.comes.holds b.is_both) entry)

@@ -1,42 +1,15 @@
 -- The step of GPL by the operation of its code byte.
-use Rattle.std.proofs.Common.{◌≡◌, ℕ, ◌%◌, ◌<◌, Bool, true, false, refl, sym, ap, ◌∙◌, List, Option, Some, None, Result, Ok, Err}
-use Rattle.std.specs.Prelude.{◌==◌, ◌&&◌, not, nat_lt, if◌then◌else◌, slice_index}
-use Rattle.console_defs.specs.Grom.{next_in_grom}
-use Rattle.console_defs.specs.Words.{plus, join}
-use Rattle.console_defs.specs.Bytes.{word_in}
-use Rattle.gpl_defs.specs.declared.instruction.GplOperand.{GplOperand}
-use Rattle.source_defs.specs.Refusals.{◌>>=◌}
-use Rattle.gpl_defs.specs.declared.instruction.PlainOp.{PlainOp}
-use Rattle.gpl_defs.specs.declared.instruction.ByteOp.{ByteOp}
-use Rattle.gpl_defs.specs.declared.instruction.GoOp.{GoOp}
-use Rattle.gpl_defs.specs.declared.instruction.TwoName.{TwoName}
-use Rattle.gpl_defs.specs.declared.instruction.OneName.{OneName}
-use Rattle.console_defs.specs.Flags.{size_of}
-use Rattle.gpl_defs.specs.declared.instruction.GplInstr.{GplInstr}
-use Rattle.gpl_defs.specs.declared.instruction.MoveKind.{MoveKind}
-use Rattle.gpl_defs.specs.declared.instruction.MoveLength.{MoveLength}
-use Rattle.gpl_defs.specs.declared.instruction.MoveTarget.{MoveTarget}
-use Rattle.gpl_defs.specs.declared.instruction.MoveSource.{MoveSource}
-use Rattle.gpl_defs.specs.declared.instruction.GplOperation.{GplOperation}
-use Rattle.gpl_defs.specs.declared.instruction.GplOperation.TheVariants as operation
-use Rattle.gpl_defs.specs.declared.instruction.GplRead.{GplRead}
-use Rattle.gpl_defs.specs.Codes.{operation_at}
-use Rattle.gpl_defs.specs.Reading.{reading, read_by, word_at, operand_at, length_at, target_at, from_at}
-use Rattle.step_defs.specs.declared.reason.Reason.{Reason}
-use Rattle.step_defs.specs.declared.reason.Reason.TheVariants.{Opcode, Cell}
-use Rattle.step_defs.specs.State.{GplState}
-use Rattle.step_defs.specs.Place.{Place, place_of, value_at, pointed, indexed, ranged, is_visible}
-use Rattle.step_defs.specs.Changes.{Changes, unchanged, finished}
-use Rattle.step_defs.specs.Arithmetic.{Source, two}
-use Rattle.step_defs.specs.Copy.{moved}
-use Rattle.step_defs.specs.Flow.{in_grom_of, branched}
-use Rattle.step_defs.specs.Step.{step, executed, after, plain, with_immediate, jump, one, source_of, destination_size}
-use Rattle.sim_rows.specs.States.{code_byte, behind_code, operation_in}
-use Rattle.sim_rows.specs.Rows.{is_row, row_width, has_source, behind_first, source_read, next_of, gone_on, bytes_by, destination_bytes, first_of, unit}
-use Rattle.sim_rows.specs.Rows.{second_by, second_of, operands_of}
-use Rattle.sim_rows.specs.Results.{result_of}
+use Rattle.std.proofs.Common.{ℕ, ◌%◌, ◌&&◌, ◌<◌, ◌==◌, ◌∙◌, ◌≡◌, ap, Bool, Err, false, if◌then◌else◌, List, nat_lt, None, not, Ok, Option, refl, Result}
+use Rattle.std.proofs.Common.{slice_index, Some, sym, true}
+use Rattle.sim_rows.specs.Prelude.{◌>>=◌, after, behind_code, behind_first, bound, bound_at, bound_by, branched, ByteOp, bytes_by, Cell, Changes, code_byte}
+use Rattle.sim_rows.specs.Prelude.{destination_bytes, destination_size, executed, finished, first_of, from_at, gone_on, GoOp, GplInstr, GplOperand}
+use Rattle.sim_rows.specs.Prelude.{GplOperation, GplRead, GplState, has_source, in_grom_of, indexed, is_row, is_visible, join, jump, length_at, moved}
+use Rattle.sim_rows.specs.Prelude.{MoveKind, MoveLength, MoveSource, MoveTarget, next_in_grom, next_of, one, OneName, Opcode, operand_at, operands_of}
+use Rattle.sim_rows.specs.Prelude.{operation_at, operation_in, Place, place_of, plain, PlainOp, plus, pointed, ranged, read_by, reading, Reason, result_of}
+use Rattle.sim_rows.specs.Prelude.{row_width, second_by, second_of, size_of, Source, source_of, source_read, step, target_at, two, TwoName, unchanged, unit}
+use Rattle.sim_rows.specs.Prelude.{value_at, with_immediate, word_at, word_in}
+use Rattle.sim_view.specs.gpl_defs.declared.instruction.GplOperation.TheVariants as operation
 use Rattle.sim_rows.proofs.Codes.{one_below, two_above}
-use Rattle.step_defs.specs.Run.{bound, bound_by, bound_at}
 
 reading_is : (s : GplState) → reading s.image s.pc ≡ read_by (operation_at (code_byte s)) (code_byte s) s.image (behind_code s)
 unfolding reading
@@ -83,7 +56,8 @@ abbrev pub move_source : MoveKind → GplState → MoveSource × ℕ
 move_source kind s = from_at kind s.image (move_target kind s).1
 
 pub step_move : (s : GplState) (kind : MoveKind) → operation_in s ≡ Some (operation.Move kind) →
-    step s ≡ (moved (move_length s).0 (move_target kind s).0 (move_source kind s).0 (unchanged (record s { pc = (move_source kind s).1 })) >>= λ (c : Changes). Ok (finished c))
+    step s ≡ (moved (move_length s).0 (move_target kind s).0 (move_source kind s).0 (unchanged (record s { pc = (move_source kind s).1 }))
+    >>= λ (c : Changes). Ok (finished c))
 unfolding after
 step_move s kind e = step_is s (Some (operation.Move kind)) e
 
@@ -95,7 +69,8 @@ step_jump s op e = step_is s (Some (operation.Jump op)) e
 
 -- BR and BS, by the thirteen bits of their target
 pub step_branch : (s : GplState) (on : Bool) → operation_in s ≡ Some (operation.Branch on) →
-    step s ≡ Ok (finished (branched on (in_grom_of s.pc (join (code_byte s % 32) (slice_index s.image (behind_code s)))) (unchanged (record s { pc = next_in_grom (behind_code s) }))))
+    step s ≡ Ok (finished (branched on (in_grom_of s.pc (join (code_byte s % 32) (slice_index s.image (behind_code s))))
+    (unchanged (record s { pc = next_in_grom (behind_code s) }))))
 unfolding after
 step_branch s on e = step_is s (Some (operation.Branch on)) e
 
@@ -105,26 +80,31 @@ step_branch s on e = step_is s (Some (operation.Branch on)) e
 abbrev two_from : GplState → TwoName → ℕ → ℕ → Result Source Reason → Result GplState Reason
 two_from s op next bytes second =
     let t : GplState = record s { pc = next } in
-    place_of t bytes (operand_at s.image (behind_code s)).0 >>= λ place. (second >>= λ source. Ok (finished (two op (row_width s) place (value_at t (row_width s) place) source (unchanged t))))
+    place_of t bytes (operand_at s.image (behind_code s)).0 >>= λ place. (second >>= λ source. Ok
+    (finished (two op (row_width s) place (value_at t (row_width s) place) source (unchanged t))))
 
 two_after : (s : GplState) (op : TwoName) → by_operation s (Some (operation.Two op)) ≡
     two_from s op (source_read s).1 (destination_size op (row_width s)) (source_of (record s { pc = (source_read s).1 }) (row_width s) (source_read s).0)
 unfolding after
-two_after s op = let t : GplState = record s { pc = (source_read s).1 } in by t (place_of t (destination_size op (row_width s)) (operand_at s.image (behind_code s)).0) (source_of t (row_width s) (source_read s).0)
+two_after s op = let t : GplState = record s { pc = (source_read s).1 } in
+    by t (place_of t (destination_size op (row_width s)) (operand_at s.image (behind_code s)).0) (source_of t (row_width s) (source_read s).0)
   where
-    then_ok : (r : Result Source Reason) (f : Source → Changes) → ((r >>= λ source. Ok (f source)) >>= λ (c : Changes). Ok (finished c)) ≡ (r >>= λ source. Ok (finished (f source)))
+    then_ok : (r : Result Source Reason) (f : Source → Changes) → ((r >>= λ source. Ok (f source)) >>= λ (c : Changes). Ok (finished c)) ≡
+        (r >>= λ source. Ok (finished (f source)))
     then_ok (Ok source) f = refl
     then_ok (Err reason) f = refl
 
     by : (t : GplState) (first : Result Place Reason) (second : Result Source Reason) →
-        ((first >>= λ place. (second >>= λ source. Ok (two op (row_width s) place (value_at t (row_width s) place) source (unchanged t)))) >>= λ (c : Changes). Ok (finished c))
+        ((first >>= λ place. (second >>= λ source. Ok (two op (row_width s) place (value_at t (row_width s) place) source (unchanged t))))
+        >>= λ (c : Changes). Ok (finished c))
         ≡ (first >>= λ place. (second >>= λ source. Ok (finished (two op (row_width s) place (value_at t (row_width s) place) source (unchanged t)))))
     by t (Ok place) second = then_ok second (λ source. two op (row_width s) place (value_at t (row_width s) place) source (unchanged t))
     by t (Err reason) second = refl
 
 -- both operands, and then what is made of them
 pub together : {X : Type 0} (first : Result Place Reason) (second : Result Source Reason) (f : Place → Source → Result X Reason) →
-    (first >>= λ place. (second >>= λ source. f place source)) ≡ ((first >>= λ place. (second >>= λ source. Ok (place, source))) >>= λ (o : Place × Source). f o.0 o.1)
+    (first >>= λ place. (second >>= λ source. f place source)) ≡ ((first >>= λ place. (second >>= λ source. Ok (place, source))) >>= λ (o : Place × Source). f
+    o.0 o.1)
 together (Ok place) (Ok source) f = refl
 together (Ok place) (Err reason) f = refl
 together (Err reason) second f = refl
@@ -135,7 +115,8 @@ row_after s op o = result_of op (row_width s) o.0 (value_at (gone_on s) (row_wid
 abbrev next_by : GplState → Bool → ℕ
 next_by s b = if b then (source_read s).1 else behind_first s
 
-pub step_two : (s : GplState) (op : TwoName) → operation_in s ≡ Some (operation.Two op) → has_source s ≡ true → step s ≡ (operands_of s >>= row_after s (operation.Two op))
+pub step_two : (s : GplState) (op : TwoName) → operation_in s ≡ Some (operation.Two op) → has_source s ≡ true →
+    step s ≡ (operands_of s >>= row_after s (operation.Two op))
 step_two s op e has =
     let next : next_of s ≡ (source_read s).1 = ap (next_by s) has in
     let bytes : destination_bytes s ≡ destination_size op (row_width s) = ap (λ (o : Option GplOperation). bytes_by o (row_width s)) e in
@@ -143,17 +124,20 @@ step_two s op e has =
     ap (λ (b : Bool). second_by b s) has ∙ ap (λ (n : ℕ). source_of (record s { pc = n }) (row_width s) (source_read s).0) next in
     step_is s (Some (operation.Two op)) e
     ∙ two_after s op
-    ∙ ap (λ (n : ℕ). two_from s op n (destination_size op (row_width s)) (source_of (record s { pc = (source_read s).1 }) (row_width s) (source_read s).0)) (sym next)
+    ∙ ap (λ (n : ℕ). two_from s op n (destination_size op (row_width s)) (source_of (record s { pc = (source_read s).1 }) (row_width s) (source_read s).0))
+    (sym next)
     ∙ ap (λ (n : ℕ). two_from s op (next_of s) n (source_of (record s { pc = (source_read s).1 }) (row_width s) (source_read s).0)) (sym bytes)
     ∙ ap (λ (r : Result Source Reason). two_from s op (next_of s) (destination_bytes s) r) (sym second)
-    ∙ together (first_of s) (second_of s) (λ place source. Ok (finished (two op (row_width s) place (value_at (gone_on s) (row_width s) place) source (unchanged (gone_on s)))))
+    ∙ together (first_of s) (second_of s)
+    (λ place source. Ok (finished (two op (row_width s) place (value_at (gone_on s) (row_width s) place) source (unchanged (gone_on s)))))
 
 -- a step of one operand, by the address behind it
 abbrev one_from : GplState → OneName → ℕ → ℕ → Result Source Reason → Result GplState Reason
 one_from s op next bytes second =
     let t : GplState = record s { pc = next } in
     place_of t bytes (operand_at s.image (behind_code s)).0
-    >>= λ place. (second >>= λ (source : Source). (one op (row_width s) place (value_at t (row_width s) place) (unchanged t) >>= λ (c : Changes). Ok (finished c)))
+    >>= λ place. (second >>= λ (source : Source). (one op (row_width s) place (value_at t (row_width s) place) (unchanged t) >>= λ (c : Changes). Ok
+    (finished c)))
 
 one_after : (s : GplState) (op : OneName) → by_operation s (Some (operation.One op)) ≡ one_from s op (behind_first s) (size_of (row_width s)) (Ok unit)
 unfolding after
@@ -167,7 +151,8 @@ one_after s op =
     by t (Ok place) = refl
     by t (Err reason) = refl
 
-pub step_one : (s : GplState) (op : OneName) → operation_in s ≡ Some (operation.One op) → has_source s ≡ false → step s ≡ (operands_of s >>= row_after s (operation.One op))
+pub step_one : (s : GplState) (op : OneName) → operation_in s ≡ Some (operation.One op) → has_source s ≡ false →
+    step s ≡ (operands_of s >>= row_after s (operation.One op))
 step_one s op e has =
     let next : next_of s ≡ behind_first s = ap (next_by s) has in
     let bytes : destination_bytes s ≡ size_of (row_width s) = ap (λ (o : Option GplOperation). bytes_by o (row_width s)) e in
@@ -177,14 +162,16 @@ step_one s op e has =
     ∙ ap (λ (n : ℕ). one_from s op n (size_of (row_width s)) (Ok unit)) (sym next)
     ∙ ap (λ (n : ℕ). one_from s op (next_of s) n (Ok unit)) (sym bytes)
     ∙ ap (λ (r : Result Source Reason). one_from s op (next_of s) (destination_bytes s) r) (sym second)
-    ∙ together (first_of s) (second_of s) (λ place source. (one op (row_width s) place (value_at (gone_on s) (row_width s) place) (unchanged (gone_on s)) >>= λ (c : Changes). Ok (finished c)))
+    ∙ together (first_of s) (second_of s)
+    (λ place source. (one op (row_width s) place (value_at (gone_on s) (row_width s) place) (unchanged (gone_on s)) >>= λ (c : Changes). Ok (finished c)))
 
 not_is : (b : Bool) → b ≡ true → not b ≡ false
 not_is true e = refl
 not_is false e = absurd (cc)
 
 -- The step of a row: its operands are found, and then it does what its operation does with them.
-pub step_row : (s : GplState) (op : GplOperation) → code_byte s < 256 → operation_in s ≡ Some op → is_row (Some op) ≡ true → step s ≡ (operands_of s >>= row_after s op)
+pub step_row : (s : GplState) (op : GplOperation) → code_byte s < 256 → operation_in s ≡ Some op → is_row (Some op) ≡ true →
+    step s ≡ (operands_of s >>= row_after s op)
 step_row s (operation.One op) fits e row = step_one s op e (not_is (nat_lt (code_byte s) 0xA0) (one_below (code_byte s) fits op e))
 step_row s (operation.Two op) fits e row = step_two s op e (two_above (code_byte s) fits op e)
 step_row s (operation.Plain op) fits e row = absurd (cc)

@@ -1,34 +1,16 @@
 -- Results are stored, and the character goes to the screen.
-use Rattle.std.proofs.Common.{◌≡◌, ℕ, ◌+◌, ◌*◌, ◌%◌, ◌<◌, Bool, true, false, refl, sym, ap, subst, ◌∙◌, arith, List}
-use Rattle.std.specs.Prelude.{◌==◌, ◌||◌, slice_index, slice_set}
+use Rattle.std.proofs.Common.{ℕ, ◌%◌, ◌*◌, ◌+◌, ◌<◌, ◌==◌, ◌||◌, ◌∙◌, ◌≡◌, ap, arith, Bool, false, List, refl, slice_index, slice_set, subst, sym, true}
 use Rattle.std.proofs.lemmas.Bool.{ne_eqb}
-use Rattle.console_defs.specs.Words.{high, low, join, even}
-use Rattle.console_defs.specs.Flags.{Width, Byte, Word, size_of, sum_of}
-use Rattle.console_defs.specs.Shifts.{shifted}
-use Rattle.console_defs.specs.declared.instruction.ShiftOp.TheVariants.{SRL, SLA}
-use Rattle.console_defs.specs.Grom.{GromState, previous_in_grom}
-use Rattle.console_defs.proofs.GromLaws.{previous-next}
-use Rattle.console_defs.specs.Machine.{MachineState}
-use Rattle.gpl_defs.specs.declared.instruction.Space.{Space}
-use Rattle.gpl_defs.specs.declared.instruction.Space.TheVariants.{Cpu, Vdp}
-use Rattle.interp_defs.specs.Match.{PortsAreIdle}
-use Rattle.step_defs.specs.State.{GplState}
-use Rattle.step_defs.specs.Place.{Place}
-use Rattle.step_defs.specs.Changes.{Changes, unchanged, with_value, with_byte_in, finished, shown}
-use Rattle.sim_view.specs.View.{View, view, Stands}
-use Rattle.sim_view.specs.Exits.{Exit, Exits, Comes}
-use Rattle.sim_view.proofs.Bridge.{IsView}
-use Rattle.sim_view.proofs.Compose.{comes, comes_as, comes_on}
-use Rattle.sim_operands.specs.Pieces.{exit, return_of}
-use Rattle.sim_operands.specs.Values.{width_in, of_register, number_of_space}
-use Rattle.sim_operands.specs.Subroutines.{grom_at, state_of, place_in, Stored, StoresValue, marked_by}
-use Rattle.sim_operands.proofs.Ready.{idle_video, idle_grom}
-use Rattle.sim_rows.specs.Pieces as pieces
-use Rattle.sim_rows.specs.States.{Sees}
-use Rattle.sim_rows.specs.Results.{Changed, Storing, EndsRow, StoresResult}
+use Rattle.sim_view.proofs.Common.{comes, comes_as, comes_on, IsView, previous-next}
+use Rattle.sim_rows.specs.Prelude.{Byte, Changed, Changes, Comes, Cpu, EndsRow, even, Exit, exit, Exits, finished, GplState, grom_at, GromState, GSTEP, high}
+use Rattle.sim_rows.specs.Prelude.{join, low, MachineState, marked_by, number_of_space, of_register, Place, place_in, PortsAreIdle, previous_in_grom}
+use Rattle.sim_rows.specs.Prelude.{return_of, Sees, shifted, SHOW, shown, size_of, SLA, Space, SRL, Stands, state_of, STORE, Stored, StoresResult}
+use Rattle.sim_rows.specs.Prelude.{StoresValue, Storing, sum_of, unchanged, Vdp, View, view, Width, width_in, with_byte_in, with_value, Word}
+use Rattle.sim_operands.proofs.Ready.{idle_grom, idle_video}
 use Rattle.sim_rows.proofs.Again.{idle_told}
 use Rattle.sim_rows.proofs.Fronting.{place_is}
 use Rattle.sim_rows.proofs.Ends.{same_state}
+use Rattle.sim_rows.specs.Pieces as pieces
 
 -- ---- the changes that STORE makes
 
@@ -37,11 +19,13 @@ width_again Byte = refl
 width_again Word = refl
 
 -- they keep the image and the place in GROM
-byte_keeps : (space : Space) (address byte : ℕ) (c : Changes) → ((with_byte_in space address byte c).state.image ≡ c.state.image) × ((with_byte_in space address byte c).state.pc ≡ c.state.pc)
+byte_keeps : (space : Space) (address byte : ℕ) (c : Changes) → ((with_byte_in space address byte c).state.image ≡ c.state.image) ×
+    ((with_byte_in space address byte c).state.pc ≡ c.state.pc)
 byte_keeps Cpu address byte c = (refl, refl)
 byte_keeps Vdp address byte c = (refl, refl)
 
-pub value_keeps : (w : Width) (place : Place) (number : ℕ) (c : Changes) → ((with_value w place number c).state.image ≡ c.state.image) × ((with_value w place number c).state.pc ≡ c.state.pc)
+pub value_keeps : (w : Width) (place : Place) (number : ℕ) (c : Changes) → ((with_value w place number c).state.image ≡ c.state.image) ×
+    ((with_value w place number c).state.pc ≡ c.state.pc)
 value_keeps Byte place number c = byte_keeps place.space place.address number c
 value_keeps Word place number c =
     let a = byte_keeps place.space place.address (high number) c in
@@ -61,12 +45,14 @@ two_marks false false s = refl
 abbrev Splits : Changes → Changes → Changes → Type 0
 Splits c alone both = (both.state ≡ alone.state) × (marked_by both.shows 0 ≡ marked_by alone.shows (marked_by c.shows 0))
 
-byte_splits : (space : Space) (address byte : ℕ) (c : Changes) → Splits c (with_byte_in space address byte (unchanged c.state)) (with_byte_in space address byte c)
+byte_splits : (space : Space) (address byte : ℕ) (c : Changes) → Splits c (with_byte_in space address byte (unchanged c.state))
+    (with_byte_in space address byte c)
 byte_splits Cpu address byte c = (refl, one_mark (address == 0x7D) c.shows)
 byte_splits Vdp address byte c = (refl, refl)
 
 word_splits : (space : Space) (first second more less : ℕ) (c : Changes) →
-    Splits c (with_byte_in space second less (with_byte_in space first more (unchanged c.state))) (with_byte_in space second less (with_byte_in space first more c))
+    Splits c (with_byte_in space second less (with_byte_in space first more (unchanged c.state)))
+    (with_byte_in space second less (with_byte_in space first more c))
 word_splits Cpu first second more less c = (refl, two_marks (second == 0x7D) (first == 0x7D) c.shows)
 word_splits Vdp first second more less c = (refl, refl)
 
@@ -77,14 +63,17 @@ value_splits Word place number c = word_splits place.space place.address ((place
 -- the state that a view shows with the changes
 pub state_is : (c : Changes) (v : View) → Changed c v → state_of v ≡ c.state
 state_is c v h =
-    same_state v.cells c.state.cells v.vdp.memory c.state.vdp v.vdp.registers c.state.registers (previous_in_grom v.grom.counter) c.state.pc v.grom.image c.state.image
+    same_state v.cells c.state.cells v.vdp.memory c.state.vdp v.vdp.registers c.state.registers (previous_in_grom v.grom.counter) c.state.pc v.grom.image
+    c.state.image
     h.cells h.vdp h.registers (ap (λ (g : GromState). previous_in_grom g.counter) h.grom ∙ previous-next c.state.pc) (ap (λ (g : GromState). g.image) h.grom)
 
 changes_are : (c : Changes) (width : Width) (place : Place) (number : ℕ) (v : View) → Storing c width place number v →
-    with_value (width_in v.r.r3) (place_in v.r.r8 v.r.r7) (of_register (width_in v.r.r3) v.r.r9) (unchanged (state_of v)) ≡ with_value width place number (unchanged c.state)
+    with_value (width_in v.r.r3) (place_in v.r.r8 v.r.r7) (of_register (width_in v.r.r3) v.r.r9) (unchanged (state_of v)) ≡ with_value width place number
+    (unchanged c.state)
 changes_are c width place number v h =
     let w : width_in v.r.r3 ≡ width = ap width_in h.bytes_are ∙ width_again width in
-    let p : place_in v.r.r8 v.r.r7 ≡ place = ap (λ n. place_in n v.r.r7) h.to_place.space ∙ ap (λ n. place_in (number_of_space place.space) n) h.to_place.address ∙ place_is place in
+    let p : place_in v.r.r8 v.r.r7 ≡ place = ap (λ n. place_in n v.r.r7) h.to_place.space ∙ ap (λ n. place_in (number_of_space place.space) n)
+    h.to_place.address ∙ place_is place in
     ap (λ x. with_value x (place_in v.r.r8 v.r.r7) (of_register x v.r.r9) (unchanged (state_of v))) w
     ∙ ap (λ q. with_value width q (of_register width v.r.r9) (unchanged (state_of v))) p
     ∙ ap (λ m. with_value width place m (unchanged (state_of v))) h.value
@@ -108,13 +97,15 @@ pub record ChangedFrom (c : Changes) (v w : View) : Type 0 where
   pub keeps : Keeps v w
 
 -- A number is stored after some changes.
-pub store_then : (c : Changes) (width : Width) (place : Place) (number : ℕ) (x y : MachineState) (t u : ℕ) → Storing c width place number (view x) → StoresValue x y t u →
+pub store_then : (c : Changes) (width : Width) (place : Place) (number : ℕ) (x y : MachineState) (t u : ℕ) → Storing c width place number (view x) →
+    StoresValue x y t u →
     Comes 16 x y t u (return_of (view x)) (ChangedFrom (with_value width place number c) (view x))
 store_then c width place number x y t u h l =
     let v : View = view x in
     let alone : Changes = with_value width place number (unchanged c.state) in
     let both : Changes = with_value width place number c in
-    let l1 : Comes 16 x y t u (return_of v) (Stored v alone) = subst (λ (k : Changes). Comes 16 x y t u (return_of v) (Stored v k)) (changes_are c width place number v h) l in
+    let l1 : Comes 16 x y t u (return_of v) (Stored v alone) = subst (λ (k : Changes). Comes 16 x y t u (return_of v) (Stored v k))
+    (changes_are c width place number v h) l in
     let splits = value_splits width place number c in
     let keeps = value_keeps width place number c in
     comes_as 16 (ChangedFrom both v) l1 (omega arith) (λ w a. record {
@@ -123,7 +114,8 @@ store_then c width place number x y t u h l =
         vdp = ap (λ (u : View). u.vdp.memory) a.is ∙ ap (λ (s : GplState). s.vdp) (sym splits.0);
         registers = ap (λ (u : View). u.vdp.registers) a.is ∙ ap (λ (s : GplState). s.registers) (sym splits.0);
         held = ap (λ (u : View). u.vdp.held) a.is ∙ h.changed.held;
-        grom = ap (λ (u : View). u.grom) a.is ∙ h.changed.grom ∙ ap (λ (l : List ℕ). grom_at l c.state.pc) (sym keeps.0) ∙ ap (λ (n : ℕ). grom_at both.state.image n) (sym keeps.1);
+        grom = ap (λ (u : View). u.grom) a.is ∙ h.changed.grom ∙ ap (λ (l : List ℕ). grom_at l c.state.pc) (sym keeps.0)
+            ∙ ap (λ (n : ℕ). grom_at both.state.image n) (sym keeps.1);
         mark = ap (λ (u : View). u.r.r13) a.is ∙ ap (λ n. marked_by alone.shows n) h.changed.mark ∙ sym splits.1;
       };
       keeps = record {
@@ -158,7 +150,8 @@ changed_again c v w h a d g m = record {
   mark = m ∙ h.mark;
 }
 
-pub storing_again : (c : Changes) (width : Width) (place : Place) (number : ℕ) (v w : View) → Storing c width place number v → w.cells ≡ v.cells → w.vdp ≡ v.vdp → w.grom ≡ v.grom →
+pub storing_again : (c : Changes) (width : Width) (place : Place) (number : ℕ) (v w : View) → Storing c width place number v → w.cells ≡ v.cells →
+    w.vdp ≡ v.vdp → w.grom ≡ v.grom →
     w.r.r13 ≡ v.r.r13 → w.r.r3 ≡ v.r.r3 → w.r.r7 ≡ v.r.r7 → w.r.r8 ≡ v.r.r8 → w.r.r9 ≡ v.r.r9 → Storing c width place number w
 storing_again c width place number v w h a d g m r3 r7 r8 r9 = record {
   changed = changed_again c v w h.changed a d g m;
@@ -186,17 +179,18 @@ drawn v = record v {
   r = record v.r {
     r3 = 1;
     r4 = shifted SRL (join (slice_index v.cells 0x7F) (low v.r.r4)) 8;
-    r7 = sum_of Word (shifted SLA (shifted SRL (join (slice_index v.cells 0x7E) (low v.r.r7)) 8) 5) (shifted SRL (join (slice_index v.cells 0x7F) (low v.r.r4)) 8);
+    r7 = sum_of Word (shifted SLA (shifted SRL (join (slice_index v.cells 0x7E) (low v.r.r7)) 8) 5)
+        (shifted SRL (join (slice_index v.cells 0x7F) (low v.r.r4)) 8);
     r8 = 1;
     r9 = join (slice_index v.cells 0x7D) (low v.r.r9);
-    r11 = 0x228C;
+    r11 = GSTEP;
   };
 }
 
-ends_by : (v : View) → v.r.r13 ≡ 0 → pieces.show v ≡ exit 3 0x228C v
+ends_by : (v : View) → v.r.r13 ≡ 0 → pieces.show v ≡ exit 3 GSTEP v
 ends_by v e = let c : (v.r.r13 == 0) ≡ true = ap (λ n. n == 0) e in rw (c, pieces.show) refl
 
-draws_by : (v : View) → (v.r.r13 ≡ 0 → ⊥) → pieces.show v ≡ exit 13 0x23C2 (drawn v)
+draws_by : (v : View) → (v.r.r13 ≡ 0 → ⊥) → pieces.show v ≡ exit 13 STORE (drawn v)
 draws_by v n = let c : (v.r.r13 == 0) ≡ false = not_zero v.r.r13 n in rw (c, pieces.show) refl
 
 exits_by : {x y : MachineState} {t u : ℕ} (d e : Exit) → d ≡ e → Exits x y t u d → Exits x y t u e
@@ -208,16 +202,16 @@ ends_plain x y t u none_marked e c h =
     let v : View = view x in
     let none = mark_none c.shows v.r.r13 h.mark none_marked in
     let same : finished c ≡ c.state = ap (λ b. shown b c.state) none in
-    let e2 = exits_by (pieces.show v) (exit 3 0x228C v) (ends_by v none_marked) e in
-    let run : Comes 3 x y t u 0x228C (Sees c.state c.state.pc) = comes e2 (record {
+    let e2 = exits_by (pieces.show v) (exit 3 GSTEP v) (ends_by v none_marked) e in
+    let run : Comes 3 x y t u GSTEP (Sees c.state c.state.pc) = comes e2 (record {
       within = omega arith;
       to_is = refl;
       holds = record { cells = h.cells; vdp = h.vdp; registers = h.registers; held = h.held; grom = h.grom };
     }) in
-    subst (λ (g : GplState). Comes 29 x y t u 0x228C (Sees g g.pc)) (sym same) (comes_as 29 (Sees c.state c.state.pc) run (omega arith) (λ w a. a))
+    subst (λ (g : GplState). Comes 29 x y t u GSTEP (Sees g g.pc)) (sym same) (comes_as 29 (Sees c.state c.state.pc) run (omega arith) (λ w a. a))
 
-pub drawing : (x y : MachineState) (t u : ℕ) → ((view x).r.r13 ≡ 0 → ⊥) → Exits x y t u (pieces.show (view x)) → Stands y 0x23C2 × (view y ≡ drawn (view x))
-drawing x y t u some e = let e2 = exits_by (pieces.show (view x)) (exit 13 0x23C2 (drawn (view x))) (draws_by (view x) some) e in (e2.stands, e2.shows)
+pub drawing : (x y : MachineState) (t u : ℕ) → ((view x).r.r13 ≡ 0 → ⊥) → Exits x y t u (pieces.show (view x)) → Stands y STORE × (view y ≡ drawn (view x))
+drawing x y t u some e = let e2 = exits_by (pieces.show (view x)) (exit 13 STORE (drawn (view x))) (draws_by (view x) some) e in (e2.stands, e2.shows)
 
 screen_at : (row column r7 r4 : ℕ) → row < 256 → column < 256 → r7 < 65536 → r4 < 65536 →
     sum_of Word (shifted SLA (shifted SRL (join row (low r7)) 8) 5) (shifted SRL (join column (low r4)) 8) ≡ 32 * row + column
@@ -230,11 +224,12 @@ in_video : (address : ℕ) → address < 16384 → address % 16384 ≡ address
 in_video address h = omega arith
 
 -- the character goes to the screen
-pub ends_drawn : (x y z : MachineState) (t u w : ℕ) → IsView (view x) → ((view x).r.r13 ≡ 0 → ⊥) → Exits x y t u (pieces.show (view x)) → ((view y).r.r8 < 2 → StoresValue y z u w) → EndsRow x z t w
+pub ends_drawn : (x y z : MachineState) (t u w : ℕ) → IsView (view x) → ((view x).r.r13 ≡ 0 → ⊥) → Exits x y t u (pieces.show (view x)) →
+    ((view y).r.r8 < 2 → StoresValue y z u w) → EndsRow x z t w
 ends_drawn x y z t u w i some e store c h =
     let v : View = view x in
     let one = mark_one c.shows v.r.r13 h.mark some in
-    let e2 = exits_by (pieces.show v) (exit 13 0x23C2 (drawn v)) (draws_by v some) e in
+    let e2 = exits_by (pieces.show v) (exit 13 STORE (drawn v)) (draws_by v some) e in
     let at : ℕ = 32 * slice_index c.state.cells 0x7E + slice_index c.state.cells 0x7F in
     let cell : (k : ℕ) → slice_index v.cells k ≡ slice_index c.state.cells k = λ k. ap (λ (l : List ℕ). slice_index l k) h.cells in
     let p : slice_index c.state.cells 0x7E < 256 = subst (λ n. n < 256) (cell 0x7E) (i.cells 0x7E) in
@@ -245,11 +240,12 @@ ends_drawn x y z t u w i some e store c h =
     ∙ ap (λ n. 32 * n + slice_index v.cells 0x7F) (cell 0x7E)
     ∙ ap (λ n. 32 * slice_index c.state.cells 0x7E + n) (cell 0x7F) in
     let byte : high (drawn v).r.r9 ≡ slice_index c.state.cells 0x7D = high_of (slice_index v.cells 0x7D) v.r.r9 ∙ cell 0x7D in
-    let c1 : Comes 13 x y t u 0x23C2 (λ q. q ≡ drawn v) = comes e2 (record { within = omega arith; to_is = refl; holds = refl }) in
+    let c1 : Comes 13 x y t u STORE (λ q. q ≡ drawn v) = comes e2 (record { within = omega arith; to_is = refl; holds = refl }) in
     let r8 : (view y).r.r8 ≡ 1 = ap (λ (q : View). q.r.r8) c1.holds in
     let s1 = store (omega arith) in
-    let s2 : Comes 16 y z u w 0x228C (Stored (drawn v) (with_byte_in Vdp (drawn v).r.r7 (high (drawn v).r.r9) (unchanged (state_of (drawn v))))) =
-    subst (λ (q : View). Comes 16 y z u w (return_of q) (Stored q (with_value (width_in q.r.r3) (place_in q.r.r8 q.r.r7) (of_register (width_in q.r.r3) q.r.r9) (unchanged (state_of q))))) c1.holds s1 in
+    let s2 : Comes 16 y z u w GSTEP (Stored (drawn v) (with_byte_in Vdp (drawn v).r.r7 (high (drawn v).r.r9) (unchanged (state_of (drawn v))))) =
+    subst (λ (q : View). Comes 16 y z u w (return_of q)
+    (Stored q (with_value (width_in q.r.r3) (place_in q.r.r8 q.r.r7) (of_register (width_in q.r.r3) q.r.r9) (unchanged (state_of q))))) c1.holds s1 in
     let memory : slice_set v.vdp.memory ((drawn v).r.r7 % 16384) (high (drawn v).r.r9) ≡ slice_set c.state.vdp at (slice_index c.state.cells 0x7D) =
     ap (λ n. slice_set v.vdp.memory (n % 16384) (high (drawn v).r.r9)) address
     ∙ ap (λ n. slice_set v.vdp.memory n (high (drawn v).r.r9)) (in_video at small)
@@ -257,7 +253,7 @@ ends_drawn x y z t u w i some e store c h =
     ∙ ap (λ (l : List ℕ). slice_set l at (slice_index c.state.cells 0x7D)) h.vdp in
     let final : GplState = shown true c.state in
     let same : finished c ≡ final = ap (λ b. shown b c.state) one in
-    subst (λ (g : GplState). Comes 29 x z t w 0x228C (Sees g g.pc)) (sym same)
+    subst (λ (g : GplState). Comes 29 x z t w GSTEP (Sees g g.pc)) (sym same)
     (comes_as 29 (Sees final final.pc) (comes_on 13 16 c1 s2 refl) (omega arith) (λ q b. record {
       cells = ap (λ (u : View). u.cells) b.is ∙ h.cells;
       vdp = ap (λ (u : View). u.vdp.memory) b.is ∙ memory;
@@ -271,14 +267,17 @@ ends_drawn x y z t u w i some e store c h =
 pub asks_store : (x y : MachineState) (t u : ℕ) → Exits x y t u (pieces.store_result (view x)) → (view y ≡ (pieces.store_result (view x)).left)
 asks_store x y t u e = e.shows
 
-pub finishes : (x a b y : MachineState) (t t1 t2 t3 : ℕ) → Exits x a t t1 (pieces.store_result (view x)) → StoresValue a b t1 t2 → EndsRow b y t2 t3 → StoresResult x y t t3
+pub finishes : (x a b y : MachineState) (t t1 t2 t3 : ℕ) → Exits x a t t1 (pieces.store_result (view x)) → StoresValue a b t1 t2 → EndsRow b y t2 t3 →
+    StoresResult x y t t3
 finishes x a b y t t1 t2 t3 e l r c width place number h =
     let v : View = view x in
     let u : View = (pieces.store_result v).left in
-    let c1 : Comes 2 x a t t1 0x23C2 (λ w. w ≡ u) = comes e (record { within = omega arith; to_is = refl; holds = refl }) in
-    let there : Storing c width place number (view a) = subst (λ (w : View). Storing c width place number w) (sym c1.holds) (storing_again c width place number v u h refl refl refl refl refl refl refl refl) in
+    let c1 : Comes 2 x a t t1 STORE (λ w. w ≡ u) = comes e (record { within = omega arith; to_is = refl; holds = refl }) in
+    let there : Storing c width place number (view a) = subst (λ (w : View). Storing c width place number w) (sym c1.holds)
+    (storing_again c width place number v u h refl refl refl refl refl refl refl refl) in
     let s1 = store_then c width place number a b t1 t2 there l in
-    let to : return_of (view a) ≡ 0x247A = ap (λ (w : View). even w.r.r11) c1.holds in
-    let s2 : Comes 16 a b t1 t2 0x247A (ChangedFrom (with_value width place number c) (view a)) = subst (λ (p : ℕ). Comes 16 a b t1 t2 p (ChangedFrom (with_value width place number c) (view a))) to s1 in
+    let to : return_of (view a) ≡ SHOW = ap (λ (w : View). even w.r.r11) c1.holds in
+    let s2 : Comes 16 a b t1 t2 SHOW (ChangedFrom (with_value width place number c) (view a)) =
+    subst (λ (p : ℕ). Comes 16 a b t1 t2 p (ChangedFrom (with_value width place number c) (view a))) to s1 in
     let c2 = comes_on 2 16 c1 s2 refl in
     comes_on 18 29 c2 (r (with_value width place number c) c2.holds.changed) refl

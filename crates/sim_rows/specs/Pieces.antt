@@ -1,32 +1,11 @@
 -- What the pieces of a step up to its dispatch, of the operands of a row and of the end of a row come to: how many
 -- instructions they have, where they end, and what they change of the view, in the words of the processor. Registers,
 -- cells and ports that are not named stay.
-use Rattle.std.specs.Prelude.{ℕ, ◌+◌, ◌-◌, ◌/◌, ◌==◌, nat_lt, if◌then◌else◌, slice_index}
-use Rattle.console_defs.specs.Words.{low, join, even}
-use Rattle.console_defs.specs.Flags.{Word, sum_of, difference_of}
-use Rattle.console_defs.specs.Shifts.{shifted, last_out}
-use Rattle.console_defs.specs.Grom.{GromState, grom_address_read}
-use Rattle.console_defs.specs.declared.instruction.ShiftOp.TheVariants.{SRL, SLA}
-use Rattle.native_interp.specs.declared.addresses.TheConstants.{
-  TABLE,
-  OPTAB,
-  GSTEP,
-  WHERE,
-  SEEK,
-  FETCH,
-  ADDR,
-  LOAD,
-  STORE,
-  OPS,
-  OPVAL,
-  GO,
-  SHOW,
-}
-use Rattle.native_interp.specs.declared.words.TheConstants.{INTERP}
-use Rattle.native_interp.specs.Words.{origin}
-use Rattle.step_defs.specs.declared.cells.TheConstants.{CHARACTER, ROW, COLUMN}
-use Rattle.sim_view.specs.View.{View}
-use Rattle.sim_view.specs.Exits.{Exit}
+use Rattle.std.specs.Prelude.{ℕ, ◌+◌, ◌-◌, ◌/◌, ◌==◌, if◌then◌else◌, nat_lt, slice_index}
+use Rattle.sim_view.specs.Prelude.{ADDR, CHARACTER, COLUMN, difference_of, even, Exit, FETCH, GO, grom_address_read}
+use Rattle.sim_view.specs.Prelude.{GromState, GSTEP, INTERP, join, last_out, LOAD, low, OPS, OPTAB, OPVAL, origin}
+use Rattle.sim_view.specs.Prelude.{SEEK, shifted, SHOW, SLA, SRL, STORE, sum_of, TABLE, View, WHERE, Word}
+use Rattle.sim_view.specs.step_defs.declared.cells.TheConstants.{ROW}
 use Rattle.sim_operands.specs.Pieces.{exit, return_of}
 
 -- the numbers of the first words of both tables, among the words of the interpreter

@@ -1,25 +1,12 @@
 -- What a row makes of its operands, and views of the machine from the row's entry to the end of the step.
-use Rattle.std.specs.Prelude.{◌≡◌, ℕ, Option, Some, None, Result, Ok, Err}
-use Rattle.console_defs.specs.Flags.{Width, size_of}
-use Rattle.console_defs.specs.Machine.{MachineState}
-use Rattle.gpl_defs.specs.declared.instruction.GplOperation.{GplOperation}
-use Rattle.gpl_defs.specs.declared.instruction.GplOperation.TheVariants.{One, Two}
-use Rattle.step_defs.specs.declared.reason.Reason.{Reason}
-use Rattle.step_defs.specs.State.{GplState}
-use Rattle.step_defs.specs.Place.{Place, value_at}
-use Rattle.step_defs.specs.Changes.{Changes, unchanged, with_value, finished}
-use Rattle.step_defs.specs.Arithmetic.{Source, two}
-use Rattle.step_defs.specs.Step.{one}
-use Rattle.interp_defs.specs.declared.turn.Turn.{Turn}
-use Rattle.interp_defs.specs.declared.turn.Turn.TheVariants.{Stepped, Stopped}
-use Rattle.native_interp.specs.declared.addresses.TheConstants.{GSTEP, GSTOP}
-use Rattle.native_interp.specs.Entries.{row_entry}
-use Rattle.sim_view.specs.View.{View, view}
-use Rattle.sim_view.specs.Exits.{Comes}
+use Rattle.std.specs.Prelude.{ℕ, ◌≡◌, Err, None, Ok, Option, Result, Some}
+use Rattle.sim_view.specs.Prelude.{Changes, Comes, finished, GplOperation, GplState, GSTEP, GSTOP, MachineState, One}
+use Rattle.sim_view.specs.Prelude.{one, Place, Reason, row_entry, size_of, Source, Stepped, Stopped, Turn, Two, two}
+use Rattle.sim_view.specs.Prelude.{unchanged, value_at, View, view, Width, with_value}
 use Rattle.sim_operands.specs.Values.{of_register}
 use Rattle.sim_operands.specs.Subroutines.{grom_at, marked_by}
-use Rattle.sim_rows.specs.States.{Sees, StoppedBy, operation_in}
-use Rattle.sim_rows.specs.Rows.{row_width, gone_on, operands_of, StoresTo, AtRow}
+use Rattle.sim_rows.specs.States.{operation_in, Sees, StoppedBy}
+use Rattle.sim_rows.specs.Rows.{AtRow, gone_on, operands_of, row_width, StoresTo}
 
 -- What an operation changes, by the place of its destination, its value and its source.
 abbrev pub result_of : GplOperation → Width → Place → ℕ → Source → Changes → Result Changes Reason
@@ -74,6 +61,9 @@ StartsRow s x y before after told (Ok operands) =
     (told ≡ operation_in s) × Comes 151 x y before after (row_entry (operation_in s)) (AtRow s operands.0 operands.1)
 StartsRow s x y before after told (Err reason) =
     (told ≡ None) × Comes 129 x y before after GSTOP (StoppedBy s reason)
+
+pub record HasStarted (s : GplState) (x y : MachineState) (before after : ℕ) (told : Option GplOperation) : Type 0 where
+  pub starts : StartsRow s x y before after told (operands_of s)
 
 -- A row from its entry to the end of the step, for all operands that may be there: at most so many instructions.
 abbrev pub RunsRow : GplOperation → ℕ → MachineState → MachineState → ℕ → ℕ → Type 0

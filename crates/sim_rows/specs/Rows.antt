@@ -1,24 +1,13 @@
 -- The operands of a row, and views of the machine up to the row's entry.
-use Rattle.std.specs.Prelude.{◌≡◌, ℕ, ◌+◌, ◌/◌, ◌%◌, ◌==◌, Bool, true, false, not, nat_lt, if◌then◌else◌}
-use Rattle.std.specs.Prelude.{Option, Some, None, Result, Ok, Err}
-use Rattle.console_defs.specs.Flags.{Width, size_of}
-use Rattle.console_defs.specs.Machine.{MachineState}
-use Rattle.source_defs.specs.Refusals.{◌>>=◌}
-use Rattle.gpl_defs.specs.declared.instruction.GplOperation.{GplOperation}
-use Rattle.gpl_defs.specs.declared.instruction.GplOperation.TheVariants.{One, Two}
-use Rattle.gpl_defs.specs.declared.instruction.GplSource.{GplSource}
-use Rattle.gpl_defs.specs.Reading.{operand_at, source_at, value_at as value_in}
-use Rattle.step_defs.specs.declared.reason.Reason.{Reason}
-use Rattle.step_defs.specs.State.{GplState}
-use Rattle.step_defs.specs.Place.{Place, place_of, value_at}
-use Rattle.step_defs.specs.Arithmetic.{Source}
-use Rattle.step_defs.specs.Step.{source_of, word_or_byte, destination_size}
-use Rattle.native_interp.specs.declared.addresses.TheConstants.{GSTOP, OPS}
-use Rattle.native_interp.specs.Entries.{row_entry}
-use Rattle.sim_view.specs.View.{View, view}
-use Rattle.sim_view.specs.Exits.{Comes}
-use Rattle.sim_operands.specs.Values.{width_in, in_register, number_of_space}
-use Rattle.sim_rows.specs.States.{Sees, StoppedBy, code_byte, operation_in, behind_code}
+use Rattle.std.specs.Prelude.{ℕ, ◌%◌, ◌+◌, ◌/◌, ◌==◌, ◌≡◌, Bool, Err, false, if◌then◌else◌, nat_lt, ◌<◌, None, not, Ok}
+use Rattle.std.specs.Prelude.{Option, Result, Some, true}
+use Rattle.sim_view.specs.Prelude.{◌>>=◌, Comes, destination_size, GplOperation, GplSource, GplState, GSTOP}
+use Rattle.sim_view.specs.Prelude.{IsFetched, MachineState, One, operand_at, OPS, Place, place_of, PortsAreIdle}
+use Rattle.sim_view.specs.Prelude.{Reason, row_entry, size_of, Source, source_at, source_of, Stands, Two, value_at}
+use Rattle.sim_view.specs.Prelude.{View, view, Width, word_or_byte}
+use Rattle.sim_view.specs.gpl_defs.Reading.{value_at as value_in}
+use Rattle.sim_operands.specs.Values.{in_register, IsVisible, number_of_space, width_in}
+use Rattle.sim_rows.specs.States.{behind_code, code_byte, operation_in, Sees, StoppedBy}
 
 -- The operations whose operands are loaded in one way, before a second table leads on to the row of each.
 abbrev pub is_row : Option GplOperation → Bool
@@ -178,3 +167,13 @@ LoadsImmediate x y before after =
     → let read = value_in (word_of s) s.image next in
     Comes 16 x y before after (row_entry (operation_in s))
     (Sourced s place (record { number = read.0; place = None }) read.1)
+
+-- A machine at the entry of the row of an operation, which is one of a family: the operands are loaded, the ports are
+-- idle, and a value may be stored at the destination.
+pub record AtEntry (belongs : Option GplOperation → Bool) (operation : GplOperation) (x : MachineState) : Type 0 where
+  pub stands : Stands x (row_entry (Some operation))
+  pub family : belongs (Some operation) ≡ true
+  pub idle : PortsAreIdle x.cpu.memory
+  pub fetched : IsFetched x.cpu.memory.grom
+  pub space : (view x).r.r8 < 2
+  pub visible : IsVisible (view x).r.r8 (view x).r.r7 (view x).r.r3

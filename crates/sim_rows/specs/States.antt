@@ -1,13 +1,8 @@
 -- Views of the interpreter's machine at the beginning of a step, at its dispatch, and at the ends of a program.
-use Rattle.std.specs.Prelude.{◌≡◌, ℕ, Option, None, slice_index}
-use Rattle.console_defs.specs.Grom.{next_in_grom, previous_in_grom}
-use Rattle.gpl_defs.specs.declared.instruction.GplOperation.{GplOperation}
-use Rattle.gpl_defs.specs.Codes.{operation_at}
-use Rattle.step_defs.specs.declared.reason.Reason.{Reason}
-use Rattle.step_defs.specs.Reasons.{number_of}
-use Rattle.step_defs.specs.State.{GplState}
-use Rattle.interp_defs.specs.Interpreter.{code_register, address_register}
-use Rattle.sim_view.specs.View.{View, listed}
+use Rattle.std.specs.Prelude.{ℕ, ◌≡◌, Bool, None, Option, slice_index, true}
+use Rattle.sim_view.specs.Prelude.{address_register, code_register, GplOperation, GplState, listed, MachineState}
+use Rattle.sim_view.specs.Prelude.{next_in_grom, number_of, operation_at, operation_entry, previous_in_grom, Reason}
+use Rattle.sim_view.specs.Prelude.{Stands, View, view}
 use Rattle.sim_operands.specs.Subroutines.{grom_at, state_of}
 
 -- A view shows a state; GROM gives the byte at an address next, and both ports are idle.
@@ -41,6 +36,12 @@ behind_code s = next_in_grom s.pc
 -- the operation of the code byte that is shown at dispatch
 abbrev pub operation_seen : View → Option GplOperation
 operation_seen w = operation_in (state_at_dispatch w)
+
+-- A machine at the dispatch of a step, at the entry of its operation, which is one of a family.
+pub record AtDispatch (belongs : Option GplOperation → Bool) (x : MachineState) : Type 0 where
+  pub stands : Stands x (operation_entry (operation_seen (view x)))
+  pub dispatched : Dispatched (state_at_dispatch (view x)) (view x)
+  pub family : belongs (operation_seen (view x)) ≡ true
 
 -- What is seen where a program ends.
 pub record Ended (s : GplState) (w : View) : Type 0 where

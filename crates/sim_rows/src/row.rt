@@ -1,25 +1,19 @@
 //! The operands of a row.
 
-ghost use Rattle.native_interp.specs.declared.addresses.TheConstants as address;
-ghost use Rattle.sim_view.specs.View.{view, Stands};
-ghost use Rattle.sim_view.specs.Exits.{Exits};
+ghost use Rattle.std.specs.Prelude.{◌+◌, ◌<◌, ◌≡◌, ◌≤◌, true};
+ghost use Rattle.sim_rows.specs.Prelude.{AtDispatch, AtOperands, Comes, Exits, first_of, is_row, IsFetched};
+ghost use Rattle.sim_rows.specs.Prelude.{IsVisible, LoadsDestination, LoadsImmediate, LoadsOperands, LoadsPlaced};
+ghost use Rattle.sim_rows.specs.Prelude.{operands_of, operation_seen, PortsAreIdle, Stands};
+ghost use Rattle.sim_rows.specs.Prelude.{HasStarted, state_at_dispatch, view};
+ghost use Rattle.sim_view.specs.native_interp.declared.addresses.TheConstants as address;
 ghost use Rattle.sim_rows.specs.Pieces as piece;
-ghost use Rattle.std.specs.Prelude.{◌≡◌, ◌+◌, ◌<◌, ◌≤◌, true};
-ghost use Rattle.interp_defs.specs.Match.{PortsAreIdle, IsFetched};
-ghost use Rattle.native_interp.specs.Entries.{operation_entry};
-ghost use Rattle.sim_operands.specs.Values.{IsVisible};
-ghost use Rattle.sim_view.specs.Exits.{Comes};
-ghost use Rattle.sim_rows.specs.States.{Dispatched, state_at_dispatch, operation_seen};
-ghost use Rattle.sim_rows.specs.Rows.{is_row, first_of, operands_of, AtOperands};
-ghost use Rattle.sim_rows.specs.Rows.{LoadsDestination, LoadsOperands, LoadsPlaced, LoadsImmediate};
-ghost use Rattle.sim_rows.specs.Results.{StartsRow};
 
 use gpl_forms::{GplOperation, operation_at};
-use native_interp::{ADDR, GO, GSTOP, LOAD, OPS, OPVAL, WIDE};
 use sim_operands::{run_address, run_load};
+use sim_view::labels::{ADDR, GO, GSTOP, LOAD, OPS, OPVAL, WIDE};
+use sim_view::processor::{Machine, Steps};
 use sim_view::{register, run_piece};
 use std::sync::ledger::Ledger;
-use tms_step::{Machine, Steps};
 
 /// The piece of a row that tells the width of its operands.
 pub fn row_width<L: Ledger>(machine: &mut Machine, steps: &mut Steps<L>)
@@ -145,9 +139,7 @@ pub fn load_operands<L: Ledger>(machine: &mut Machine, steps: &mut Steps<L>) -> 
 
 /// Tells the number of bytes of a row's destination.
 fn tell_width<L: Ledger>(machine: &mut Machine, steps: &mut Steps<L>)
-    requires stands { Stands machine.old (operation_entry (operation_seen (view machine.old))) }
-    requires dispatched { let v = view machine.old in Dispatched (state_at_dispatch v) v }
-    requires row { is_row (operation_seen (view machine.old)) ≡ true }
+    requires { AtDispatch is_row machine.old }
     ensures { Comes 5 machine.old machine.new steps.old steps.new address.OPS
         (AtOperands (state_at_dispatch (view machine.old))) }
 {
@@ -161,11 +153,8 @@ fn tell_width<L: Ledger>(machine: &mut Machine, steps: &mut Steps<L>)
 /// Begins a row at its dispatch: both operands are loaded, and the machine is at the entry of the row. The answer is
 /// the operation, and None where an operand is not visible: the machine then stops by reason 2.
 pub fn start_row<L: Ledger>(machine: &mut Machine, steps: &mut Steps<L>) -> Option<GplOperation>
-    requires stands { Stands machine.old (operation_entry (operation_seen (view machine.old))) }
-    requires dispatched { let v = view machine.old in Dispatched (state_at_dispatch v) v }
-    requires row { is_row (operation_seen (view machine.old)) ≡ true }
-    ensures { let s = state_at_dispatch (view machine.old) in
-        StartsRow s machine.old machine.new steps.old steps.new result (operands_of s) }
+    requires { AtDispatch is_row machine.old }
+    ensures { HasStarted (state_at_dispatch (view machine.old)) machine.old machine.new steps.old steps.new result }
 {
     let code = register(machine, 0) as u8;
     tell_width(machine, steps);

@@ -1,22 +1,17 @@
 //! A step up to its dispatch.
 
-ghost use Rattle.native_interp.specs.declared.addresses.TheConstants as address;
-ghost use Rattle.sim_view.specs.View.{view, Stands};
-ghost use Rattle.sim_view.specs.Exits.{Exits};
+ghost use Rattle.std.specs.Prelude.{◌+◌, ◌≡◌, slice_index};
+ghost use Rattle.sim_rows.specs.Prelude.{Comes, Dispatched, Exits, IsMatching, most_to_dispatch, operation_at};
+ghost use Rattle.sim_rows.specs.Prelude.{operation_entry, operation_seen, shown_by, Stands, state_at_dispatch, view};
+ghost use Rattle.sim_view.specs.native_interp.declared.addresses.TheConstants as address;
 ghost use Rattle.sim_rows.specs.Pieces as piece;
-ghost use Rattle.std.specs.Prelude.{◌+◌, slice_index};
-ghost use Rattle.gpl_defs.specs.Codes.{operation_at};
-ghost use Rattle.native_interp.specs.Entries.{operation_entry};
-ghost use Rattle.interp_defs.specs.Interpreter.{most_to_dispatch};
-ghost use Rattle.interp_defs.specs.Match.{IsMatching, shown_by};
-ghost use Rattle.sim_view.specs.Exits.{Comes};
-ghost use Rattle.sim_rows.specs.States.{Dispatched};
 
-use native_interp::{FETCH, SEEK, WHERE};
+use gpl_forms::{GplOperation, operation_at};
 use sim_operands::{fetch_byte, seek_address};
-use sim_view::run_piece;
+use sim_view::labels::{FETCH, SEEK, WHERE};
+use sim_view::processor::{Machine, Steps};
+use sim_view::{register, run_piece};
 use std::sync::ledger::Ledger;
-use tms_step::{Machine, Steps};
 
 /// The piece of a step that asks WHERE for the address of the code byte.
 pub fn ask_address<L: Ledger>(machine: &mut Machine, steps: &mut Steps<L>)
@@ -74,4 +69,14 @@ pub fn begin_step<L: Ledger>(machine: &mut Machine, steps: &mut Steps<L>)
     ask_byte(machine, steps);
     fetch_byte(machine, steps);
     dispatch(machine, steps);
+}
+
+/// The operation of the step that is dispatched, by the code byte in register 0.
+pub fn operation_told(machine: &Machine) -> Option<GplOperation>
+    requires wp { machine.now.cpu.wp ≡ address.WORKSPACE }
+    requires dispatched { let v = view machine.now in Dispatched (state_at_dispatch v) v }
+    ensures { result ≡ operation_seen (view machine.now) }
+{
+    machine.holds_bounds();
+    operation_at(register(machine, 0) as u8)
 }

@@ -1,19 +1,15 @@
 //! The end of a row.
 
-ghost use Rattle.native_interp.specs.declared.addresses.TheConstants as address;
-ghost use Rattle.sim_view.specs.View.{view, Stands};
-ghost use Rattle.sim_view.specs.Exits.{Exits};
 ghost use Rattle.std.specs.Prelude.{◌<◌};
-ghost use Rattle.interp_defs.specs.Match.{PortsAreIdle};
-ghost use Rattle.sim_operands.specs.Values.{IsVisible};
+ghost use Rattle.sim_rows.specs.Prelude.{EndsRow, Exits, IsVisible, PortsAreIdle, Stands, StoresResult, view};
+ghost use Rattle.sim_view.specs.native_interp.declared.addresses.TheConstants as address;
 ghost use Rattle.sim_rows.specs.Pieces as piece;
-ghost use Rattle.sim_rows.specs.Results.{EndsRow, StoresResult};
 
-use native_interp::STORE;
 use sim_operands::run_store;
+use sim_view::labels::STORE;
+use sim_view::processor::{Machine, Steps};
 use sim_view::{register, run_piece};
 use std::sync::ledger::Ledger;
-use tms_step::{Machine, Steps};
 
 /// The piece that asks STORE for the result of a row.
 pub fn store_result<L: Ledger>(machine: &mut Machine, steps: &mut Steps<L>)

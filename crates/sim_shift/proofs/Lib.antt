@@ -2,4 +2,4 @@ pub mod Paths
 pub mod Numbers
 pub mod Shifting
 pub mod Rowing
-pub mod Turning
+pub mod Dispatch

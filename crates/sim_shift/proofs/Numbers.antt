@@ -1,13 +1,8 @@
 -- A shift of a word is the shift of the byte in its high half.
-use Rattle.std.proofs.Common.{◌≡◌, ℕ, ◌<◌, Bool, true, refl, arith, eqb}
+use Rattle.std.proofs.Common.{ℕ, ◌<◌, ◌≡◌, arith, Bool, eqb, refl, true}
 use Rattle.std.proofs.lemmas.Bool.{agree_below, agree_below_at, eqb-true}
-use Rattle.console_defs.specs.Words.{high, join}
-use Rattle.console_defs.specs.Flags.{Width, Byte, Word, modulus}
-use Rattle.console_defs.specs.Logic.{swapped, ones_set}
-use Rattle.console_defs.specs.Shifts.{shifted}
-use Rattle.console_defs.specs.declared.instruction.ShiftOp.TheVariants.{SRA, SRL, SLA, SRC}
-use Rattle.step_defs.specs.Arithmetic.{shifted_right, shifted_left, repeated_sign, repeated, count_of}
-use Rattle.sim_operands.specs.Values.{in_register, of_register}
+use Rattle.sim_rows.proofs.Common.{Byte, count_of, high, in_register, join, modulus, of_register, ones_set, repeated, repeated_sign, shifted, shifted_left}
+use Rattle.sim_rows.proofs.Common.{shifted_right, SLA, SRA, SRC, SRL, swapped, Width, Word}
 use Rattle.sim_shift.specs.Pieces.{low_four}
 
 -- two numbers that agree for all counts and bytes
@@ -19,9 +14,11 @@ same_count f g count = agree_below (same_byte f g count) (λ _. true) 256
 
 agree : (f g : ℕ → ℕ → ℕ) → agree_below (same_count f g) (λ _. true) 16 ≡ true → (count byte : ℕ) → count < 16 → byte < 256 → f count byte ≡ g count byte
 agree f g e count byte h k =
-    eqb-true (f count byte) (g count byte) (agree_below_at (same_byte f g count) (λ _. true) 256 byte (agree_below_at (same_count f g) (λ _. true) 16 count e h) k)
+    eqb-true (f count byte) (g count byte) (agree_below_at (same_byte f g count) (λ _. true) 256 byte
+    (agree_below_at (same_count f g) (λ _. true) 16 count e h) k)
 
-pub arithmetic : (w : Width) (x count : ℕ) → x < modulus w → count < 16 → of_register w (shifted SRA (in_register w x) count) ≡ shifted_right w (repeated_sign w x) x count
+pub arithmetic : (w : Width) (x count : ℕ) → x < modulus w → count < 16 → of_register w (shifted SRA (in_register w x) count) ≡ shifted_right w
+    (repeated_sign w x) x count
 arithmetic Byte x count h k = agree (λ n b. high (shifted SRA (join b 0) n)) (λ n b. shifted_right Byte (repeated_sign Byte b) b n) refl count x k h
 arithmetic Word x count h k = refl
 
@@ -38,8 +35,10 @@ abbrev pub doubled : Width → ℕ → ℕ
 doubled Byte word = ones_set word (swapped word)
 doubled Word word = word
 
-pub turned : (w : Width) (x count : ℕ) → x < modulus w → count < 16 → of_register w (shifted SRC (doubled w (in_register w x)) count) ≡ shifted_right w (repeated w x) x count
-turned Byte x count h k = agree (λ n b. high (shifted SRC (ones_set (join b 0) (swapped (join b 0))) n)) (λ n b. shifted_right Byte (repeated Byte b) b n) refl count x k h
+pub turned : (w : Width) (x count : ℕ) → x < modulus w → count < 16 → of_register w (shifted SRC (doubled w (in_register w x)) count) ≡ shifted_right w
+    (repeated w x) x count
+turned Byte x count h k =
+    agree (λ n b. high (shifted SRC (ones_set (join b 0) (swapped (join b 0))) n)) (λ n b. shifted_right Byte (repeated Byte b) b n) refl count x k h
 turned Word x count h k = refl
 
 -- A count of 0 keeps the number.

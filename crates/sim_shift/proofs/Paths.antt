@@ -1,28 +1,23 @@
 -- The runs of the pieces on the view.
-use Rattle.std.proofs.Common.{◌≡◌, ℕ, ◌%◌, ◌<◌, refl, arith, [], ◌∷◌}
-use Rattle.std.specs.Prelude.{◌==◌}
+use Rattle.std.proofs.Common.{[], ℕ, ◌%◌, ◌<◌, ◌==◌, ◌∷◌, ◌≡◌, arith, refl}
 use Rattle.std.proofs.lemmas.Bool.{ne_eqb}
-use Rattle.console_defs.specs.forms.Shift.{count_in}
-use Rattle.sim_view.specs.View.{View}
-use Rattle.sim_view.proofs.Bridge.{Leads}
-use Rattle.sim_view.proofs.Places.{pick}
-use Rattle.console_defs.specs.Logic.{swapped}
-use Rattle.sim_shift.specs.Pieces as pieces
+use Rattle.sim_rows.proofs.Common.{COUNT, count_in, Leads, pick, SLLB, SLLV, SRAB, SRAV, SRCB, SRCV, SRLB, SRLV, STO, swapped, View}
 use Rattle.sim_shift.specs.Pieces.{low_four}
+use Rattle.sim_shift.specs.Pieces as pieces
 
-pub ask_arithmetic_count : (v : View) → Leads (0x250E ∷ []) v 0x2520 (pieces.ask_arithmetic_count v)
+pub ask_arithmetic_count : (v : View) → Leads (COUNT ∷ []) v SRAV (pieces.ask_arithmetic_count v)
 ask_arithmetic_count v = record { by = λ f q. refl }
 
-pub ask_left_count : (v : View) → Leads (0x250E ∷ []) v 0x2528 (pieces.ask_left_count v)
+pub ask_left_count : (v : View) → Leads (COUNT ∷ []) v SLLV (pieces.ask_left_count v)
 ask_left_count v = record { by = λ f q. refl }
 
-pub ask_right_count : (v : View) → Leads (0x250E ∷ []) v 0x2530 (pieces.ask_right_count v)
+pub ask_right_count : (v : View) → Leads (COUNT ∷ []) v SRLV (pieces.ask_right_count v)
 ask_right_count v = record { by = λ f q. refl }
 
-pub ask_turn_count : (v : View) → Leads (0x250E ∷ []) v 0x2538 (pieces.ask_turn_count v)
+pub ask_turn_count : (v : View) → Leads (COUNT ∷ []) v SRCV (pieces.ask_turn_count v)
 ask_turn_count v = record { by = λ f q. refl }
 
-pub take_count : (v : View) → Leads (0x24A8 ∷ []) v 0x250E (pieces.take_count v)
+pub take_count : (v : View) → Leads (STO ∷ []) v COUNT (pieces.take_count v)
 take_count v = record {
   by = λ f q.
       pick (v.r.r3 == 1)
@@ -38,16 +33,16 @@ take_count v = record {
 count_is : (word : ℕ) → 0 < word → word < 16 → count_in word ≡ word
 count_is word some few = let low : word % 16 ≡ word = omega arith in rw (ne_eqb (word % 16) 0 (λ e. omega arith), count_in) low
 
-pub shift_arithmetic : (v : View) → 0 < v.r.r0 → v.r.r0 < 16 → Leads (0x24A8 ∷ []) v 0x2524 (pieces.shift_arithmetic v)
+pub shift_arithmetic : (v : View) → 0 < v.r.r0 → v.r.r0 < 16 → Leads (STO ∷ []) v SRAB (pieces.shift_arithmetic v)
 shift_arithmetic v some few = record { by = λ f q. rw (count_is v.r.r0 some few) refl }
 
-pub shift_left : (v : View) → 0 < v.r.r0 → v.r.r0 < 16 → Leads (0x24A8 ∷ []) v 0x252C (pieces.shift_left v)
+pub shift_left : (v : View) → 0 < v.r.r0 → v.r.r0 < 16 → Leads (STO ∷ []) v SLLB (pieces.shift_left v)
 shift_left v some few = record { by = λ f q. rw (count_is v.r.r0 some few) refl }
 
-pub shift_right : (v : View) → 0 < v.r.r0 → v.r.r0 < 16 → Leads (0x24A8 ∷ []) v 0x2534 (pieces.shift_right v)
+pub shift_right : (v : View) → 0 < v.r.r0 → v.r.r0 < 16 → Leads (STO ∷ []) v SRLB (pieces.shift_right v)
 shift_right v some few = record { by = λ f q. rw (count_is v.r.r0 some few) refl }
 
-pub turn_right : (v : View) → 0 < v.r.r0 → v.r.r0 < 16 → Leads (0x24A8 ∷ []) v 0x253C (pieces.turn_right v)
+pub turn_right : (v : View) → 0 < v.r.r0 → v.r.r0 < 16 → Leads (STO ∷ []) v SRCB (pieces.turn_right v)
 turn_right v some few = record {
   by = λ f q.
       pick (v.r.r3 == 1)

@@ -1,30 +1,14 @@
 -- The pieces of a shift, one after the other, to the end of the step.
-use Rattle.std.proofs.Common.{◌≡◌, ℕ, ◌<◌, ◌≤◌, Bool, true, false, refl, sym, ap, subst, ◌∙◌, arith, eqb, Some}
-use Rattle.std.specs.Prelude.{not}
+use Rattle.std.proofs.Common.{ℕ, ◌<◌, ◌∙◌, ◌≡◌, ◌≤◌, ap, arith, Bool, eqb, false, not, refl, Some, subst, sym, true}
 use Rattle.std.proofs.lemmas.Bool.{eqb-true}
-use Rattle.console_defs.specs.Words.{even}
-use Rattle.console_defs.specs.Machine.{MachineState, IsMachine}
-use Rattle.console_defs.specs.declared.instruction.ShiftOp.{ShiftOp}
-use Rattle.console_defs.specs.declared.instruction.ShiftOp.TheVariants.{SRA, SRL, SLA, SRC}
-use Rattle.gpl_defs.specs.declared.instruction.GplOperation.TheVariants.{Two}
-use Rattle.step_defs.specs.State.{GplState}
-use Rattle.step_defs.specs.Place.{Place, value_at}
-use Rattle.step_defs.specs.Changes.{Changes, unchanged}
-use Rattle.step_defs.specs.Arithmetic.{Source, count_of}
-use Rattle.interp_defs.specs.Runs.{is_end}
-use Rattle.sim_view.specs.View.{View, view, Stands}
-use Rattle.sim_view.specs.Exits.{Exits, Comes}
-use Rattle.sim_view.proofs.Bridge.{is_view}
-use Rattle.sim_view.proofs.Compose.{comes, comes_then, comes_on, comes_as}
-use Rattle.sim_operands.specs.Pieces.{return_of}
-use Rattle.sim_rows.specs.States.{operation_in}
-use Rattle.sim_rows.specs.Rows.{row_width, gone_on, AtRow}
-use Rattle.sim_rows.specs.Results.{Storing, SeesFinished, SeesResult, row_result, StoresResult}
-use Rattle.sim_shift.specs.Pieces as pieces
+use Rattle.sim_rows.proofs.Common.{AtRow, Changes, Comes, comes, comes_as, comes_on, comes_then, COUNT, count_of, even, Exits, gone_on, GplState, GSTEP}
+use Rattle.sim_rows.proofs.Common.{is_end, is_view, IsMachine, MachineState, operation_in, Place, return_of, row_result, row_width, SeesFinished, SeesResult}
+use Rattle.sim_rows.proofs.Common.{ShiftOp, SLA, Source, SRA, SRC, SRL, Stands, STO, StoresResult, Storing, Two, unchanged, value_at, View, view}
 use Rattle.sim_shift.specs.Pieces.{low_four}
 use Rattle.sim_shift.specs.Family.{name_of, shift_entry}
-use Rattle.sim_shift.proofs.Shifting.{Keeps, keeps_then, shown_keeps, asking_keeps, count_keeps, counts_few, counted_word, told_is, none, some, shifts}
-use Rattle.sim_shift.proofs.Shifting.{number_by, two_is, entry_even, Told, told_at, stores_none, stores_some}
+use Rattle.sim_shift.proofs.Shifting.{asking_keeps, count_keeps, counted_word, counts_few, entry_even, Keeps, keeps_then, none, number_by, shifts}
+use Rattle.sim_shift.proofs.Shifting.{shown_keeps, some, stores_none, stores_some, Told, told_at, told_is, two_is}
+use Rattle.sim_shift.specs.Pieces as pieces
 
 not_false : (b : Bool) → not b ≡ false → b ≡ true
 not_false true e = refl
@@ -47,7 +31,8 @@ number_of_row op s place source = number_by op (row_width s) (value_at s (row_wi
 abbrev pub StoringRow : ShiftOp → GplState → Place → Source → View → Type 0
 StoringRow op s place source w = Storing (unchanged (gone_on s)) (row_width s) place (number_of_row op s place source) w
 
-module _ (op : ShiftOp) (x y z : MachineState) (t u w : ℕ) (e1 : Exits x y t u (pieces.asking (shift_entry op) (view x))) (e2 : Exits y z u w (pieces.take_count (view y))) where
+module _ (op : ShiftOp) {x y z : MachineState} {t u w : ℕ} (e1 : Exits x y t u (pieces.asking (shift_entry op) (view x)))
+    (e2 : Exits y z u w (pieces.take_count (view y))) where
   pub keeps : Keeps (view x) (view z)
   keeps = keeps_then (shown_keeps e1.shows (asking_keeps (shift_entry op) (view x))) (shown_keeps e2.shows (count_keeps (view y)))
 
@@ -58,25 +43,25 @@ module _ (op : ShiftOp) (x y z : MachineState) (t u w : ℕ) (e1 : Exits x y t u
   count_is = ap (λ (v : View). v.r.r0) (e2.shows ∙ told_is (view y))
 
   -- no count
-  ends_at : not (eqb (pieces.take_count (view y)).to 0x24A8) ≡ false → (pieces.take_count (view y)).to ≡ 0x24A8
-  ends_at e = eqb-true (pieces.take_count (view y)).to 0x24A8 (not_false (eqb (pieces.take_count (view y)).to 0x24A8) e)
+  ends_at : not (eqb (pieces.take_count (view y)).to STO) ≡ false → (pieces.take_count (view y)).to ≡ STO
+  ends_at e = eqb-true (pieces.take_count (view y)).to STO (not_false (eqb (pieces.take_count (view y)).to STO) e)
 
-  pub stands_none : not (eqb (pieces.take_count (view y)).to 0x24A8) ≡ false → Stands z 0x24A8
+  pub stands_none : not (eqb (pieces.take_count (view y)).to STO) ≡ false → Stands z STO
   stands_none e = subst (λ (n : ℕ). Stands z n) (ends_at e) e2.stands
 
-  no_count : not (eqb (pieces.take_count (view y)).to 0x24A8) ≡ false → low_four (counted_word (view y)) ≡ 0
-  no_count e = none (view y) (ends_at e) (ap (λ (n : ℕ). eqb n 0x24A8) returns_to ∙ (entry_even op).1)
+  no_count : not (eqb (pieces.take_count (view y)).to STO) ≡ false → low_four (counted_word (view y)) ≡ 0
+  no_count e = none (view y) (ends_at e) (ap (λ (n : ℕ). eqb n STO) returns_to ∙ (entry_even op).1)
 
   -- a count
-  goes_to : not (eqb (pieces.take_count (view y)).to 0x24A8) ≡ true → (pieces.take_count (view y)).to ≡ shift_entry op
-  goes_to e = (some (view y) (not_true (eqb (pieces.take_count (view y)).to 0x24A8) e)).0 ∙ returns_to ∙ (entry_even op).0
+  goes_to : not (eqb (pieces.take_count (view y)).to STO) ≡ true → (pieces.take_count (view y)).to ≡ shift_entry op
+  goes_to e = (some (view y) (not_true (eqb (pieces.take_count (view y)).to STO) e)).0 ∙ returns_to ∙ (entry_even op).0
 
-  pub stands_some : not (eqb (pieces.take_count (view y)).to 0x24A8) ≡ true → Stands z (shift_entry op)
+  pub stands_some : not (eqb (pieces.take_count (view y)).to STO) ≡ true → Stands z (shift_entry op)
   stands_some e = subst (λ (n : ℕ). Stands z n) (goes_to e) e2.stands
 
-  pub count_some : not (eqb (pieces.take_count (view y)).to 0x24A8) ≡ true → 0 < (view z).r.r0
+  pub count_some : not (eqb (pieces.take_count (view y)).to STO) ≡ true → 0 < (view z).r.r0
   count_some e =
-      let never = (some (view y) (not_true (eqb (pieces.take_count (view y)).to 0x24A8) e)).1 in
+      let never = (some (view y) (not_true (eqb (pieces.take_count (view y)).to STO) e)).1 in
       let is = count_is in
       above (view z).r.r0 (λ zero. never (sym is ∙ zero))
     where
@@ -89,33 +74,39 @@ module _ (op : ShiftOp) (x y z : MachineState) (t u w : ℕ) (e1 : Exits x y t u
       fits : (word n : ℕ) → n ≡ low_four word → n < 16
       fits word n is = omega arith
 
-  module _ (s : GplState) (place : Place) (source : Source) (known : operation_in s ≡ Some (Two (name_of op))) (a : AtRow s place source (view x)) (h : IsMachine x) where
+  module _ (s : GplState) (place : Place) (source : Source) (known : operation_in s ≡ Some (Two (name_of op))) (a : AtRow s place source (view x))
+      (h : IsMachine x) where
     tells : Told s place source (pieces.take_count (view y)).left
     tells = told_at op s place source (view x) (view y) known a (is_view x h) e1.shows
 
-    asks : Comes 1 x y t u 0x250E (λ v. v ≡ (pieces.asking (shift_entry op) (view x)).left)
+    asks : Comes 1 x y t u COUNT (λ v. v ≡ (pieces.asking (shift_entry op) (view x)).left)
     asks = comes e1 (record { within = omega arith; to_is = refl; holds = refl })
 
-    finished_row : (q : MachineState) (k : ℕ) (most : ℕ) (p : MachineState) (j : ℕ) → most ≤ 16 → Comes most x p t j 0x24A8 (StoringRow op s place source) → StoresResult p q j k →
-        Comes 63 x q t k 0x228C (SeesResult (row_result (Two (name_of op)) s place source))
+    finished_row : (q : MachineState) (k : ℕ) (most : ℕ) (p : MachineState) (j : ℕ) → most ≤ 16 → Comes most x p t j STO (StoringRow op s place source) →
+        StoresResult p q j k →
+        Comes 63 x q t k GSTEP (SeesResult (row_result (Two (name_of op)) s place source))
     finished_row q k most p j le c f =
         let width = row_width s in
         let d = comes_on most 47 c (f (unchanged (gone_on s)) width place (number_of_row op s place source) c.holds) refl in
-        subst (λ (c : Changes). Comes 63 x q t k 0x228C (SeesFinished c)) (sym (two_is op width place (value_at s width place) source (unchanged (gone_on s))))
+        subst (λ (c : Changes). Comes 63 x q t k GSTEP (SeesFinished c)) (sym (two_is op width place (value_at s width place) source (unchanged (gone_on s))))
         (comes_as 63 _ d (omega arith) (λ v b. b))
 
-    pub runs_none : (q : MachineState) (k : ℕ) → not (eqb (pieces.take_count (view y)).to 0x24A8) ≡ false → StoresResult z q w k →
-        Comes 63 x q t k 0x228C (SeesResult (row_result (Two (name_of op)) s place source))
+    pub runs_none : (q : MachineState) (k : ℕ) → not (eqb (pieces.take_count (view y)).to STO) ≡ false → StoresResult z q w k →
+        Comes 63 x q t k GSTEP (SeesResult (row_result (Two (name_of op)) s place source))
     runs_none q k e f =
         let zero : count_of source.number ≡ 0 = sym tells.count ∙ ap (λ (v : View). v.r.r0) (told_is (view y)) ∙ no_count e in
-        let c = comes_then 1 8 asks e2 (record { within = counts_few (view y); to_is = ends_at e; holds = stores_none op s place source (pieces.take_count (view y)).left tells zero }) refl in
+        let c = comes_then 1 8 asks e2 (record
+        { within = counts_few (view y); to_is = ends_at e; holds = stores_none op s place source (pieces.take_count (view y)).left tells zero }) refl in
         finished_row q k 9 z w (omega arith) c f
 
-    pub runs_some : (p q : MachineState) (j k : ℕ) → not (eqb (pieces.take_count (view y)).to 0x24A8) ≡ true → Exits z p w j (pieces.shifts op (view z)) → StoresResult p q j k →
-        Comes 63 x q t k 0x228C (SeesResult (row_result (Two (name_of op)) s place source))
+    pub runs_some : (p q : MachineState) (j k : ℕ) → not (eqb (pieces.take_count (view y)).to STO) ≡ true → Exits z p w j (pieces.shifts op (view z)) →
+        StoresResult p q j k →
+        Comes 63 x q t k GSTEP (SeesResult (row_result (Two (name_of op)) s place source))
     runs_some p q j k e e3 f =
-        let c : Comes 9 x z t w (shift_entry op) (λ v. v ≡ (pieces.take_count (view y)).left) = comes_then 1 8 asks e2 (record { within = counts_few (view y); to_is = goes_to e; holds = refl }) refl in
+        let c : Comes 9 x z t w (shift_entry op) (λ v. v ≡ (pieces.take_count (view y)).left) =
+        comes_then 1 8 asks e2 (record { within = counts_few (view y); to_is = goes_to e; holds = refl }) refl in
         let d = shifts op (view z) in
         let at : Told s place source (view z) = subst (λ (v : View). Told s place source v) (sym e2.shows) tells in
-        let b : Comes 16 x p t j 0x24A8 (StoringRow op s place source) = comes_then 9 7 c e3 (record { within = d.few; to_is = d.to_is; holds = stores_some op s place source (view z) at }) (entry_goes_on op) in
+        let b : Comes 16 x p t j STO (StoringRow op s place source) =
+        comes_then 9 7 c e3 (record { within = d.few; to_is = d.to_is; holds = stores_some op s place source (view z) at }) (entry_goes_on op) in
         finished_row q k 16 p j (omega arith) b f

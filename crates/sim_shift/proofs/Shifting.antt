@@ -1,35 +1,15 @@
 -- A shift from its row to STO.
-use Rattle.std.proofs.Common.{◌≡◌, ℕ, ◌+◌, ◌<◌, ◌≤◌, true, false, refl, sym, ap, subst, ◌∙◌, arith, eqb, Some}
-use Rattle.std.specs.Prelude.{◌==◌, if◌then◌else◌}
-use Rattle.std.proofs.lemmas.Bool.{eqb-true, eqb-false}
-use Rattle.console_defs.specs.Words.{even}
-use Rattle.console_defs.specs.Flags.{Width, Byte, Word, modulus, size_of}
-use Rattle.console_defs.specs.Logic.{swapped, ones_set}
-use Rattle.console_defs.specs.Shifts.{shifted}
-use Rattle.console_defs.specs.Vdp.{VdpState, is_vdp_idle}
-use Rattle.console_defs.specs.Grom.{is_grom_idle}
-use Rattle.console_defs.specs.Memory.{Memory}
-use Rattle.console_defs.specs.declared.instruction.ShiftOp.{ShiftOp}
-use Rattle.console_defs.specs.declared.instruction.ShiftOp.TheVariants.{SRA, SRL, SLA, SRC}
-use Rattle.gpl_defs.specs.declared.instruction.GplOperation.TheVariants.{Two}
-use Rattle.step_defs.specs.State.{GplState}
-use Rattle.step_defs.specs.Place.{Place, value_at}
-use Rattle.step_defs.specs.Changes.{Changes, unchanged, with_value}
-use Rattle.step_defs.specs.Arithmetic.{Source, two, shifted_right, shifted_left, repeated_sign, repeated, count_of}
-use Rattle.interp_defs.specs.Match.{PortsAreIdle}
-use Rattle.sim_view.specs.View.{View, view_of}
-use Rattle.sim_view.specs.Exits.{Exit}
-use Rattle.sim_view.proofs.Bridge.{IsView}
-use Rattle.sim_view.proofs.Places.{pick}
-use Rattle.sim_operands.specs.Pieces.{exit, return_of}
-use Rattle.sim_operands.specs.Values.{width_in, in_register, of_register, IsVisible}
-use Rattle.sim_rows.specs.States.{operation_in}
-use Rattle.sim_rows.specs.Rows.{row_width, gone_on, bytes_by, destination_bytes, AtRow, StoresTo}
-use Rattle.sim_rows.specs.Results.{Changed, Storing}
-use Rattle.sim_shift.specs.Pieces as pieces
-use Rattle.sim_shift.specs.Pieces.{low_four, counted}
+use Rattle.std.proofs.Common.{ℕ, ◌+◌, ◌<◌, ◌==◌, ◌∙◌, ◌≡◌, ◌≤◌, ap, arith, eqb, false, if◌then◌else◌, refl, Some, subst, sym, true}
+use Rattle.std.proofs.lemmas.Bool.{eqb-false, eqb-true}
+use Rattle.sim_rows.proofs.Common.{AtRow, Byte, bytes_by, Changed, Changes, count_of, destination_bytes, even, Exit, exit, gone_on, GplState, in_register}
+use Rattle.sim_rows.proofs.Common.{is_grom_idle, is_vdp_idle, IsView, IsVisible, Memory, modulus, of_register, ones_set, operation_in, pick, Place}
+use Rattle.sim_rows.proofs.Common.{PortsAreIdle, repeated, repeated_sign, return_of, row_width, shifted, shifted_left, shifted_right, ShiftOp, size_of, SLA}
+use Rattle.sim_rows.proofs.Common.{Source, SRA, SRC, SRL, STO, StoresTo, Storing, swapped, Two, two, unchanged, value_at, VdpState, View, view_of, Width}
+use Rattle.sim_rows.proofs.Common.{width_in, with_value, Word}
+use Rattle.sim_shift.specs.Pieces.{counted, low_four}
 use Rattle.sim_shift.specs.Family.{name_of, shift_entry}
-use Rattle.sim_shift.proofs.Numbers.{arithmetic, left, right, turned, kept_right, kept_left, count_of_word, count_of_byte}
+use Rattle.sim_shift.proofs.Numbers.{arithmetic, count_of_byte, count_of_word, kept_left, kept_right, left, right, turned}
+use Rattle.sim_shift.specs.Pieces as pieces
 
 -- What stays on the way to the result.
 pub record Keeps (v w : View) : Type 0 where
@@ -113,52 +93,122 @@ counts_few v =
 pub count_keeps : (v : View) → Keeps v (pieces.take_count v).left
 count_keeps v = shown_keeps (told_is v) (record { cells = refl; vdp = refl; grom = refl; bytes = refl; address = refl; space = refl; mark = refl })
 
-none_by : (most word : ℕ) (v : View) → (counted most word v).to ≡ 0x24A8 → eqb (return_of v) 0x24A8 ≡ false → low_four word ≡ 0
+none_by : (most word : ℕ) (v : View) → (counted most word v).to ≡ STO → eqb (return_of v) STO ≡ false → low_four word ≡ 0
 none_by most word v to other =
     pick (low_four word == 0)
     (λ c. eqb-true (low_four word) 0 c)
-    (λ c. let is : return_of v ≡ 0x24A8 = rw (c, counted) at to in absurd (eqb-false (return_of v) 0x24A8 other is))
+    (λ c. let is : return_of v ≡ STO = rw (c, counted) at to in absurd (eqb-false (return_of v) STO other is))
 
-some_by : (most word : ℕ) (v : View) → eqb (counted most word v).to 0x24A8 ≡ false → ((counted most word v).to ≡ return_of v) × (low_four word ≡ 0 → ⊥)
+some_by : (most word : ℕ) (v : View) → eqb (counted most word v).to STO ≡ false → ((counted most word v).to ≡ return_of v) × (low_four word ≡ 0 → ⊥)
 some_by most word v other =
     pick (low_four word == 0)
     (λ c. absurd (cc (rw (c, counted) at other)))
     (λ c. (rw (c, counted) refl, λ e. eqb-false (low_four word) 0 c e))
 
-pub none : (v : View) → (pieces.take_count v).to ≡ 0x24A8 → eqb (return_of v) 0x24A8 ≡ false → low_four (counted_word v) ≡ 0
+pub none : (v : View) → (pieces.take_count v).to ≡ STO → eqb (return_of v) STO ≡ false → low_four (counted_word v) ≡ 0
 none v to other = let c = counting v in none_by c.most (counted_word v) v (sym (ap (λ (e : Exit). e.to) c.is) ∙ to) other
 
-pub some : (v : View) → eqb (pieces.take_count v).to 0x24A8 ≡ false → ((pieces.take_count v).to ≡ return_of v) × (low_four (counted_word v) ≡ 0 → ⊥)
+pub some : (v : View) → eqb (pieces.take_count v).to STO ≡ false → ((pieces.take_count v).to ≡ return_of v) × (low_four (counted_word v) ≡ 0 → ⊥)
 some v other =
     let c = counting v in
     let to = ap (λ (e : Exit). e.to) c.is in
-    let s = some_by c.most (counted_word v) v (sym (ap (λ (n : ℕ). eqb n 0x24A8) to) ∙ other) in
+    let s = some_by c.most (counted_word v) v (sym (ap (λ (n : ℕ). eqb n STO) to) ∙ other) in
     (to ∙ s.0, s.1)
 
 pub turn_byte : (v : View) → (v.r.r3 == 1) ≡ true →
-    pieces.turn_right v ≡ exit 7 0x24A8 (record v { r = record v.r { r4 = swapped v.r.r9; r9 = shifted SRC (ones_set v.r.r9 (swapped v.r.r9)) v.r.r0 } })
+    pieces.turn_right v ≡ exit 7 STO (record v { r = record v.r { r4 = swapped v.r.r9; r9 = shifted SRC (ones_set v.r.r9 (swapped v.r.r9)) v.r.r0 } })
 turn_byte v c = rw (c, pieces.turn_right) refl
 
-pub turn_word : (v : View) → (v.r.r3 == 1) ≡ false → pieces.turn_right v ≡ exit 4 0x24A8 (record v { r = record v.r { r9 = shifted SRC v.r.r9 v.r.r0 } })
+pub turn_word : (v : View) → (v.r.r3 == 1) ≡ false → pieces.turn_right v ≡ exit 4 STO (record v { r = record v.r { r9 = shifted SRC v.r.r9 v.r.r0 } })
 turn_word v c = rw (c, pieces.turn_right) refl
 
 -- what a shift's last piece comes to
 pub record Shifted (v : View) (e : Exit) : Type 0 where
   pub few : e.count ≤ 7
-  pub to_is : e.to ≡ 0x24A8
+  pub to_is : e.to ≡ STO
   pub keeps : Keeps v e.left
 
 shifted_by : {v : View} {d e : Exit} → d ≡ e → Shifted v e → Shifted v d
 shifted_by {v = v} is h = subst (λ (e : Exit). Shifted v e) (sym is) h
 
 pub shifts : (op : ShiftOp) (v : View) → Shifted v (pieces.shifts op v)
-shifts SRA v = record { few = omega arith; to_is = refl; keeps = record { cells = refl; vdp = refl; grom = refl; bytes = refl; address = refl; space = refl; mark = refl } }
-shifts SRL v = record { few = omega arith; to_is = refl; keeps = record { cells = refl; vdp = refl; grom = refl; bytes = refl; address = refl; space = refl; mark = refl } }
-shifts SLA v = record { few = omega arith; to_is = refl; keeps = record { cells = refl; vdp = refl; grom = refl; bytes = refl; address = refl; space = refl; mark = refl } }
+shifts SRA v =
+    record {
+      few = omega arith;
+      to_is = refl;
+      keeps = record {
+        cells = refl;
+        vdp = refl;
+        grom = refl;
+        bytes = refl;
+        address = refl;
+        space = refl;
+        mark =
+            refl;
+      };
+    }
+shifts SRL v =
+    record {
+      few = omega arith;
+      to_is = refl;
+      keeps = record {
+        cells = refl;
+        vdp = refl;
+        grom = refl;
+        bytes = refl;
+        address = refl;
+        space = refl;
+        mark =
+            refl;
+      };
+    }
+shifts SLA v =
+    record {
+      few = omega arith;
+      to_is = refl;
+      keeps = record {
+        cells = refl;
+        vdp = refl;
+        grom = refl;
+        bytes = refl;
+        address = refl;
+        space = refl;
+        mark =
+            refl;
+      };
+    }
 shifts SRC v =
     pick (v.r.r3 == 1)
-    (λ c. shifted_by (turn_byte v c) (record { few = omega arith; to_is = refl; keeps = record { cells = refl; vdp = refl; grom = refl; bytes = refl; address = refl; space = refl; mark = refl } }))
-    (λ c. shifted_by (turn_word v c) (record { few = omega arith; to_is = refl; keeps = record { cells = refl; vdp = refl; grom = refl; bytes = refl; address = refl; space = refl; mark = refl } }))
+    (λ c. shifted_by (turn_byte v c)
+    (record {
+      few = omega arith;
+      to_is = refl;
+      keeps = record {
+        cells = refl;
+        vdp = refl;
+        grom = refl;
+        bytes = refl;
+        address = refl;
+        space = refl;
+        mark =
+            refl;
+      };
+    }))
+    (λ c. shifted_by (turn_word v c)
+    (record {
+      few = omega arith;
+      to_is = refl;
+      keeps = record {
+        cells = refl;
+        vdp = refl;
+        grom = refl;
+        bytes = refl;
+        address = refl;
+        space = refl;
+        mark =
+            refl;
+      };
+    }))
 
 -- ---- the numbers
 
@@ -209,14 +259,16 @@ count_is Word bytes word number e f h =
 
 -- the value of the last piece, whose register held a number
 number_in : (op : ShiftOp) (width : Width) (x count : ℕ) (v : View) → x < modulus width → count < 16 →
-    of_register width (pieces.shifts op (record v { r = record v.r { r0 = count; r3 = size_of width; r9 = in_register width x } })).left.r.r9 ≡ number_by op width x count
+    of_register width (pieces.shifts op (record v { r = record v.r { r0 = count; r3 = size_of width; r9 = in_register width x } })).left.r.r9 ≡ number_by op
+    width x count
 number_in SRA width x count v h k = arithmetic width x count h k
 number_in SRL width x count v h k = right width x count h k
 number_in SLA width x count v h k = left width x count h k
 number_in SRC Byte x count v h k = turned Byte x count h k
 number_in SRC Word x count v h k = turned Word x count h k
 
-pub number_is : (op : ShiftOp) (width : Width) (x count : ℕ) (v : View) → v.r.r3 ≡ size_of width → v.r.r9 ≡ in_register width x → v.r.r0 ≡ count → x < modulus width → count < 16 →
+pub number_is : (op : ShiftOp) (width : Width) (x count : ℕ) (v : View) → v.r.r3 ≡ size_of width → v.r.r9 ≡ in_register width x → v.r.r0 ≡ count →
+    x < modulus width → count < 16 →
     of_register width (pieces.shifts op v).left.r.r9 ≡ number_by op width x count
 number_is op width x count v e f g h k =
     ap (λ (n : ℕ). of_register width (pieces.shifts op (record v { r = record v.r { r3 = n } })).left.r.r9) e
@@ -226,7 +278,7 @@ number_is op width x count v e f g h k =
 
 -- ---- from the row to STO
 
-pub entry_even : (op : ShiftOp) → (even (shift_entry op) ≡ shift_entry op) × (eqb (even (shift_entry op)) 0x24A8 ≡ false)
+pub entry_even : (op : ShiftOp) → (even (shift_entry op) ≡ shift_entry op) × (eqb (even (shift_entry op)) STO ≡ false)
 entry_even SRA = (refl, refl)
 entry_even SRL = (refl, refl)
 entry_even SLA = (refl, refl)
@@ -254,19 +306,22 @@ changed_by s place source v w a k =
     }
 
 loaded_is : (op : ShiftOp) (s : GplState) (place : Place) (word : ℕ) → operation_in s ≡ Some (Two (name_of op)) →
-    word ≡ in_register (width_in (destination_bytes s)) (value_at s (width_in (destination_bytes s)) place) → word ≡ in_register (row_width s) (value_at s (row_width s) place)
+    word ≡ in_register (width_in (destination_bytes s)) (value_at s (width_in (destination_bytes s)) place) →
+    word ≡ in_register (row_width s) (value_at s (row_width s) place)
 loaded_is op s place word known e =
     let bytes : destination_bytes s ≡ size_of (row_width s) = ap (λ o. bytes_by o (row_width s)) known ∙ size_is op (row_width s) in
     let width : width_in (destination_bytes s) ≡ row_width s = ap width_in bytes ∙ width_back (row_width s) in
     e ∙ ap (λ (w : Width). in_register w (value_at s w place)) width
 
-pub told_at : (op : ShiftOp) (s : GplState) (place : Place) (source : Source) (v u : View) → operation_in s ≡ Some (Two (name_of op)) → AtRow s place source v → IsView v →
+pub told_at : (op : ShiftOp) (s : GplState) (place : Place) (source : Source) (v u : View) → operation_in s ≡ Some (Two (name_of op)) →
+    AtRow s place source v → IsView v →
     u ≡ (pieces.asking (shift_entry op) v).left → Told s place source (pieces.take_count u).left
 told_at op s place source v u known a i is =
     let at : Told s place source (told (pieces.asking (shift_entry op) v).left (low_four (counted_word v))) =
     (let loaded = loaded_is op s place v.r.r9 known a.destination in
     record {
-      changed = changed_by s place source v (told (pieces.asking (shift_entry op) v).left (low_four (counted_word v))) a (record { cells = refl; vdp = refl; grom = refl; bytes = refl; address = refl; space = refl; mark = refl });
+      changed = changed_by s place source v (told (pieces.asking (shift_entry op) v).left (low_four (counted_word v))) a
+          (record { cells = refl; vdp = refl; grom = refl; bytes = refl; address = refl; space = refl; mark = refl });
       bytes_are = a.holds.bytes_are;
       to_place = record { address = a.to_place.address; space = a.to_place.space };
       value = loaded;
@@ -293,7 +348,8 @@ stores_none op s place source w h zero =
     }
 
 pub stores_some : (op : ShiftOp) (s : GplState) (place : Place) (source : Source) (w : View) → Told s place source w →
-    Storing (unchanged (gone_on s)) (row_width s) place (number_by op (row_width s) (value_at s (row_width s) place) (count_of source.number)) (pieces.shifts op w).left
+    Storing (unchanged (gone_on s)) (row_width s) place (number_by op (row_width s) (value_at s (row_width s) place) (count_of source.number))
+    (pieces.shifts op w).left
 stores_some op s place source w h =
     let width = row_width s in
     let x = value_at s width place in

@@ -1,12 +1,9 @@
 -- The shifts among the operations.
-use Rattle.std.specs.Prelude.{ℕ, Bool, true, false, Option, Some}
-use Rattle.console_defs.specs.declared.instruction.ShiftOp.{ShiftOp}
-use Rattle.console_defs.specs.declared.instruction.ShiftOp.TheVariants as shift
-use Rattle.gpl_defs.specs.declared.instruction.TwoName.{TwoName}
-use Rattle.gpl_defs.specs.declared.instruction.TwoName.TheVariants.{SRA, SLL, SRL, SRC}
-use Rattle.gpl_defs.specs.declared.instruction.GplOperation.{GplOperation}
-use Rattle.gpl_defs.specs.declared.instruction.GplOperation.TheVariants.{Two}
-use Rattle.native_interp.specs.declared.addresses.TheConstants.{SRAV, SRAB, SLLV, SLLB, SRLV, SRLB, SRCV, SRCB}
+use Rattle.std.specs.Prelude.{ℕ, Bool, false, Option, Some, true}
+use Rattle.sim_rows.specs.Prelude.{GplOperation, ShiftOp, SLL, SLLB, SLLV, SRAB, SRAV, SRCB, SRCV, SRLB, SRLV, Two}
+use Rattle.sim_rows.specs.Prelude.{TwoName}
+use Rattle.sim_rows.specs.gpl_defs.declared.instruction.TwoName.TheVariants.{SRA, SRC, SRL}
+use Rattle.sim_rows.specs.console_defs.declared.instruction.ShiftOp.TheVariants as shift
 
 abbrev pub is_shift : Option GplOperation → Bool
 is_shift (Some (Two SRA)) = true

@@ -1,14 +1,8 @@
 -- What the pieces of the shifts come to: how many instructions they have, where they end, and what they change of the
 -- view, in the words of the processor. Registers, cells and ports that are not named stay.
 use Rattle.std.specs.Prelude.{ℕ, ◌+◌, ◌==◌, if◌then◌else◌}
-use Rattle.console_defs.specs.Logic.{swapped, ones_set}
-use Rattle.console_defs.specs.Shifts.{shifted}
-use Rattle.console_defs.specs.declared.instruction.ShiftOp.{ShiftOp}
-use Rattle.console_defs.specs.declared.instruction.ShiftOp.TheVariants.{SRA, SRL, SLA, SRC}
-use Rattle.native_interp.specs.declared.addresses.TheConstants.{STO, COUNT, SRAB, SLLB, SRLB, SRCB}
-use Rattle.sim_view.specs.View.{View}
-use Rattle.sim_view.specs.Exits.{Exit}
-use Rattle.sim_operands.specs.Pieces.{exit, return_of}
+use Rattle.sim_rows.specs.Prelude.{COUNT, Exit, exit, ones_set, return_of, shifted, ShiftOp, SLA, SLLB, SRA, SRAB}
+use Rattle.sim_rows.specs.Prelude.{SRC, SRCB, SRL, SRLB, STO, swapped, View}
 
 -- the count is asked for, and it goes on at an address
 abbrev pub asking : ℕ → View → Exit

@@ -1,49 +1,19 @@
 -- CALL, from its dispatch to the end of the step.
-use Rattle.std.proofs.Common.{◌≡◌, ℕ, ◌<◌, true, false, refl, sym, ap, subst, ◌∙◌, arith, List, Option, Some, Result, Ok, Err}
-use Rattle.std.specs.Prelude.{nat_lt, slice_index, slice_set}
-use Rattle.source_defs.specs.Refusals.{◌>>=◌}
-use Rattle.console_defs.specs.Words.{high}
-use Rattle.console_defs.specs.Flags.{Word, sum_of}
-use Rattle.console_defs.specs.Grom.{GromState}
-use Rattle.console_defs.specs.Machine.{MachineState}
-use Rattle.gpl_defs.specs.declared.instruction.GoOp.TheVariants.{CALL}
-use Rattle.gpl_defs.specs.declared.instruction.GplOperation.{GplOperation}
-use Rattle.gpl_defs.specs.declared.instruction.GplOperation.TheVariants.{Jump}
-use Rattle.gpl_defs.specs.Reading.{word_at as word_in_grom}
-use Rattle.step_defs.specs.declared.reason.Reason.{Reason}
-use Rattle.step_defs.specs.declared.reason.Reason.TheVariants.{Stack}
-use Rattle.step_defs.specs.State.{GplState}
-use Rattle.step_defs.specs.Changes.{Changes, unchanged, finished, with_cell, with_value}
-use Rattle.step_defs.specs.Flow.{on_stack, grown_by, cells_at}
-use Rattle.step_defs.specs.Step.{step}
-use Rattle.step_defs.specs.Run.{bound}
-use Rattle.interp_defs.specs.declared.turn.Turn.TheVariants.{Stepped, Stopped}
-use Rattle.interp_defs.specs.Match.{PortsAreIdle}
-use Rattle.interp_defs.specs.Runs.{is_end}
-use Rattle.interp_defs.specs.Turned.{Turned}
-use Rattle.sim_view.specs.View.{View, view, Stands}
-use Rattle.sim_view.specs.Exits.{Exit, Exits, Comes}
-use Rattle.sim_view.proofs.Bridge.{is_view}
-use Rattle.sim_view.proofs.Compose.{Goes, comes, comes_then, comes_on}
-use Rattle.sim_operands.specs.Pieces as operands
-use Rattle.sim_operands.specs.Pieces.{exit, return_of}
-use Rattle.sim_operands.specs.Values.{IsVisible}
-use Rattle.sim_operands.specs.Subroutines.{grom_at, StoresValue}
-use Rattle.sim_operands.proofs.Facts.{at_most}
-use Rattle.sim_rows.specs.States.{Dispatched, StoppedBy, behind_code, operation_in}
-use Rattle.sim_rows.specs.Results.{Storing}
-use Rattle.sim_rows.proofs.Again.{idle_again, idle_told}
-use Rattle.sim_rows.proofs.Beginning.{just, from, known}
-use Rattle.sim_rows.proofs.Ends.{matches, reaches, turned_by}
-use Rattle.sim_rows.proofs.Steps.{step_jump, bound_made}
-use Rattle.sim_rows.proofs.Storing.{ChangedFrom, store_then, stored_idle}
+use Rattle.std.proofs.Common.{ℕ, ◌<◌, ◌∙◌, ◌≡◌, ap, arith, Err, false, List, nat_lt, Ok, Option, refl, Result, slice_index, slice_set, Some, subst, sym, true}
+use Rattle.sim_rows.proofs.Common.{◌>>=◌, at_most, behind_code, bound, bound_made, CALL, CALLN, CALLS, CALLT, cells_at, ChangedFrom, Changes, Comes, comes}
+use Rattle.sim_rows.proofs.Common.{comes_on, comes_then, Dispatched, Exit, exit, Exits, finished, from, GOCALL, Goes, GplOperation, GplState, grom_at}
+use Rattle.sim_rows.proofs.Common.{GromState, grown_by, GSTOP, high, idle_again, idle_told, is_end, is_view, IsVisible, Jump, just, known, MachineState}
+use Rattle.sim_rows.proofs.Common.{matches, on_stack, operation_in, PortsAreIdle, reaches, Reason, RESUME, return_of, Stack, Stands, step, step_jump, Stepped}
+use Rattle.sim_rows.proofs.Common.{Stopped, StoppedBy, STORE, store_then, stored_idle, StoresValue, Storing, STREAM, sum_of, Turned, turned_by, unchanged}
+use Rattle.sim_rows.proofs.Common.{View, view, WHERE, with_cell, with_value, Word, word_at as word_in_grom}
 use Rattle.sim_jumps.specs.Jumps.{ResumesRow}
-use Rattle.sim_stack.specs.Pieces as pieces
-use Rattle.sim_stack.specs.Pieces.{pointer_at, offset_of}
+use Rattle.sim_rows.specs.sim_operands.Pieces as operands
+use Rattle.sim_stack.specs.Pieces.{offset_of, pointer_at}
 use Rattle.sim_stack.specs.Family.{is_call}
-use Rattle.sim_stack.specs.Stacks.{Called, ReadsTarget, Located, Locates, Stacking, gone_to, EndsCall}
-use Rattle.sim_stack.proofs.Room.{two_more, two_stored, no_room, with_room, goes_full, goes_on, stop_turned}
+use Rattle.sim_stack.specs.Stacks.{Called, EndsCall, gone_to, Located, Locates, ReadsTarget, Stacking}
+use Rattle.sim_stack.proofs.Room.{goes_full, goes_on, no_room, stop_turned, two_more, two_stored, with_room}
 use Rattle.sim_stack.proofs.Locating.{next_fits}
+use Rattle.sim_stack.specs.Pieces as pieces
 
 -- ---- the address that follows
 
@@ -55,8 +25,8 @@ reads x a y t t1 t2 e1 e2 s d =
     let read = word_in_grom s.image (behind_code s) in
     let streamed : View = record asked { r = record asked.r { r6 = read.0 }; grom = grom_at s.image read.1 } in
     let stream_by : GromState → Exit = λ g. operands.stream (record asked { grom = g }) in
-    let stream_is : operands.stream asked ≡ exit 8 0x26AE streamed = ap stream_by d.sees.grom in
-    let read_well : Goes (exit 8 0x26AE streamed) 8 0x26AE (Called s) = record {
+    let stream_is : operands.stream asked ≡ exit 8 CALLT streamed = ap stream_by d.sees.grom in
+    let read_well : Goes (exit 8 CALLT streamed) 8 CALLT (Called s) = record {
       within = omega arith;
       to_is = refl;
       holds = record {
@@ -67,26 +37,23 @@ reads x a y t t1 t2 e1 e2 s d =
         mark = refl;
       };
     } in
-    let c1 = comes e1 (just (pieces.ask_target v) 3 0x23AC (omega arith) refl) in
+    let c1 = comes e1 (just (pieces.ask_target v) 3 STREAM (omega arith) refl) in
     comes_then 3 8 c1 e2 (from operands.stream c1.holds (known stream_is read_well)) refl
 
 -- ---- from CALLS on
 
-module _ (x a : MachineState) (t t1 : ℕ) (e1 : Exits x a t t1 (pieces.store_next (view x))) where
+module _ {x a : MachineState} {t t1 : ℕ} (e1 : Exits x a t t1 (pieces.store_next (view x))) where
   pub idle_asked : PortsAreIdle x.cpu.memory → PortsAreIdle a.cpu.memory
   idle_asked i = idle_again x.cpu.memory a.cpu.memory (ap (λ (v : View). v.vdp) e1.shows) (ap (λ (v : View). v.grom) e1.shows) i
-
-  pub visible_asked : IsVisible 0 (view x).r.r7 (view x).r.r3 → IsVisible (view a).r.r8 (view a).r.r7 (view a).r.r3
-  visible_asked h = subst (λ (v : View). IsVisible v.r.r8 v.r.r7 v.r.r3) (sym e1.shows) h
 
   space_asked : (view a).r.r8 < 2
   space_asked = let z = ap (λ (v : View). v.r.r8) e1.shows in omega arith
 
-  module _ (b : MachineState) (t2 : ℕ) (may : (view a).r.r8 < 2 → StoresValue a b t1 t2) where
+  module _ {b : MachineState} {t2 : ℕ} (may : (view a).r.r8 < 2 → StoresValue a b t1 t2) where
     stored : StoresValue a b t1 t2
     stored = may space_asked
 
-    pub stands_stored : Stands b 0x26DC
+    pub stands_stored : Stands b RESUME
     stands_stored = subst (λ (p : ℕ). Stands b p) (ap return_of e1.shows) stored.stands
 
     pub idle_stored : PortsAreIdle x.cpu.memory → PortsAreIdle b.cpu.memory
@@ -110,13 +77,13 @@ module _ (x a : MachineState) (t t1 : ℕ) (e1 : Exits x a t t1 (pieces.store_ne
           to_place = record { address = h.top_is; space = refl };
           value = h.next_is;
         }) in
-        let c1 : Comes 4 x a t t1 0x23C2 (λ v. v ≡ (pieces.store_next (view x)).left) =
+        let c1 : Comes 4 x a t t1 STORE (λ v. v ≡ (pieces.store_next (view x)).left) =
         comes e1 (record { within = omega arith; to_is = refl; holds = refl }) in
-        let c2 : Comes 16 a b t1 t2 0x26DC (ChangedFrom after (view a)) =
+        let c2 : Comes 16 a b t1 t2 RESUME (ChangedFrom after (view a)) =
         subst (λ (n : ℕ). Comes 16 a b t1 t2 n (ChangedFrom after (view a))) (ap return_of e1.shows)
         (store_then before Word (cells_at top) s.pc a b t1 t2 storing stored) in
         let back : (view b).r.r14 ≡ target = ap (λ (v : View). v.r.r14) stored.holds.is ∙ ap (λ (v : View). v.r.r14) e1.shows ∙ h.target_is in
-        let c3 : Comes 20 x b t t2 0x26DC (ChangedFrom after (view a)) = comes_on 4 16 c1 c2 refl in
+        let c3 : Comes 20 x b t t2 RESUME (ChangedFrom after (view a)) = comes_on 4 16 c1 c2 refl in
         comes_on 20 36 c3 (resumes (gone_to s top target) s.pc c3.holds.changed back) refl
 
 -- ---- the step
@@ -145,9 +112,9 @@ bound_call s next family is = bound_made s next (Some (Jump CALL)) (call_is (ope
 
 -- ---- from the dispatch on
 
-module _ (s : GplState) (x a b : MachineState) (t t1 t2 : ℕ) (stands : Stands x 0x26A4) (d : Dispatched s (view x)) (family : is_call (operation_in s) ≡ true)
+module _ (s : GplState) {x a b : MachineState} {t t1 t2 : ℕ} (stands : Stands x GOCALL) (d : Dispatched s (view x)) (family : is_call (operation_in s) ≡ true)
     (read : ReadsTarget x a t t1) (e : Exits a b t1 t2 (pieces.keep_target (view a))) where
-  called : Comes 11 x a t t1 0x26AE (Called s)
+  called : Comes 11 x a t t1 CALLT (Called s)
   called = read s d
 
   abbrev pointer : ℕ
@@ -160,7 +127,7 @@ module _ (s : GplState) (x a b : MachineState) (t t1 t2 : ℕ) (stands : Stands 
   told = record (view a) { r = record (view a).r { r7 = offset; r12 = pointer; r14 = (view a).r.r6 } }
 
   abbrev placed : View
-  placed = record told { r = record told.r { r11 = 0x26C8 } }
+  placed = record told { r = record told.r { r11 = CALLN } }
 
   small : slice_index (view a).cells 0x73 < 256
   small = (is_view a called.stands.machine).cells 0x73
@@ -174,39 +141,39 @@ module _ (s : GplState) (x a b : MachineState) (t t1 t2 : ℕ) (stands : Stands 
   start : is_end x.cpu.pc ≡ false
   start = ap is_end stands.pc
 
-  pub stopped : b.cpu.pc ≡ 0x22B8 → Turned s 29 x b t t2 (Stopped Stack)
+  pub stopped : b.cpu.pc ≡ GSTOP → Turned s 29 x b t t2 (Stopped Stack)
   stopped here =
-      let k = goes_full a b t1 t2 (nat_lt 0xC0 offset) (pieces.full 11 told) (exit 9 0x22BC placed) e (λ q. absurd (omega arith)) here in
+      let k = goes_full a b t1 t2 (nat_lt 0xC0 offset) (pieces.full 11 told) (exit 9 WHERE placed) e (λ q. absurd (omega arith)) here in
       let full : on_stack 2 (top_in s) ≡ Err Stack = no_room 0xC0 2 (top_in s) refl (ap (nat_lt 0xC0) (sym offset_top) ∙ k.0) in
       let h = called.holds in
-      let ended : Goes (pieces.full 11 told) 11 0x22B8 (StoppedBy s Stack) = record {
+      let ended : Goes (pieces.full 11 told) 11 GSTOP (StoppedBy s Stack) = record {
         within = omega arith;
         to_is = refl;
         holds = record { ended = record { cells = h.sees.cells; vdp = h.sees.vdp; registers = h.sees.registers; address = h.address }; reason_is = refl };
       } in
       stop_turned s x b t t2 22 start (step_by s (Err Stack) family full) (comes_then 11 11 called k.1 ended refl) (omega arith)
 
-  module _ (elsewhere : b.cpu.pc ≡ 0x22B8 → ⊥) where
-    went : (nat_lt 0xC0 offset ≡ false) × Exits a b t1 t2 (exit 9 0x22BC placed)
-    went = goes_on a b t1 t2 (nat_lt 0xC0 offset) (pieces.full 11 told) (exit 9 0x22BC placed) e refl elsewhere
+  module _ (elsewhere : b.cpu.pc ≡ GSTOP → ⊥) where
+    went : (nat_lt 0xC0 offset ≡ false) × Exits a b t1 t2 (exit 9 WHERE placed)
+    went = goes_on a b t1 t2 (nat_lt 0xC0 offset) (pieces.full 11 told) (exit 9 WHERE placed) e refl elsewhere
 
-    pub stands_where : Stands b 0x22BC
+    pub stands_where : Stands b WHERE
     stands_where = went.1.stands
 
-    pub link_where : (view b).r.r11 ≡ 0x26C8
+    pub link_where : (view b).r.r11 ≡ CALLN
     link_where = ap (λ (v : View). v.r.r11) went.1.shows
 
-    module _ (c : MachineState) (t3 : ℕ) (locates : Locates 0x26CE b c t2 t3) where
+    module _ {c : MachineState} {t3 : ℕ} (locates : Locates CALLS b c t2 t3) where
       grom_is : (view b).grom ≡ grom_at s.image (read_in s).1
       grom_is = ap (λ (v : View). v.grom) went.1.shows ∙ called.holds.sees.grom
 
       fits : (read_in s).1 < 65536
       fits = next_fits (read_in s).1 (subst (λ (g : GromState). g.counter < 65536) grom_is (is_view b went.1.stands.machine).grom.counter)
 
-      located : Comes 18 b c t2 t3 0x26CE (Located (view b) s.image (read_in s).1 0x26CE)
+      located : Comes 18 b c t2 t3 CALLS (Located (view b) s.image (read_in s).1 CALLS)
       located = locates s.image (read_in s).1 fits grom_is
 
-      pub stands_storing : Stands c 0x26CE
+      pub stands_storing : Stands c CALLS
       stands_storing = located.stands
 
       pub idle_storing : PortsAreIdle c.cpu.memory
@@ -253,7 +220,7 @@ module _ (s : GplState) (x a b : MachineState) (t t1 t2 : ℕ) (stands : Stands 
           let room : on_stack 2 (top_in s) ≡ Ok (top_in s) = with_room 0xC0 2 (top_in s) refl (ap (nat_lt 0xC0) (sym offset_top) ∙ went.0) in
           let is = step_by s (Ok (top_in s)) family room in
           let next = finished (gone_to (beyond s) (top_in s) (read_in s).0) in
-          let c2 : Comes 20 x b t t2 0x22BC (λ v. v ≡ placed) =
+          let c2 : Comes 20 x b t t2 WHERE (λ v. v ≡ placed) =
           comes_then 11 9 called went.1 (record { within = omega arith; to_is = refl; holds = refl }) refl in
           let c3 = comes_on 20 18 c2 located refl in
           let c4 = comes_on 38 56 c3 (ends_call (beyond s) (top_in s) (read_in s).0 stacking) refl in

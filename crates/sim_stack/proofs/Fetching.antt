@@ -1,38 +1,20 @@
 -- The parts of FETCH.
-use Rattle.std.proofs.Common.{◌≡◌, ℕ, ◌+◌, ◌<◌, ◌≤◌, refl, sym, ap, subst, ◌∙◌, arith}
-use Rattle.console_defs.specs.Words.{high}
-use Rattle.console_defs.specs.Bytes.{word_in}
-use Rattle.console_defs.specs.Flags.{Byte, Word}
-use Rattle.console_defs.specs.Logic.{swapped}
-use Rattle.console_defs.specs.Grom.{GromState}
-use Rattle.console_defs.specs.Machine.{MachineState}
-use Rattle.gpl_defs.specs.declared.instruction.Space.{Space}
-use Rattle.gpl_defs.specs.declared.instruction.Space.TheVariants.{Cpu, Vdp}
-use Rattle.step_defs.specs.Place.{value_at}
-use Rattle.step_defs.specs.Changes.{Changes, unchanged, with_pc, with_byte, with_byte_in, with_value}
-use Rattle.step_defs.specs.Flow.{with_word, cells_at}
-use Rattle.interp_defs.specs.Match.{PortsAreIdle}
-use Rattle.sim_view.specs.View.{View, view, Stands}
-use Rattle.sim_view.specs.Exits.{Exit, Exits, Comes}
-use Rattle.sim_view.proofs.Bridge.{is_view}
-use Rattle.sim_view.proofs.Compose.{comes, comes_then, comes_on}
-use Rattle.sim_operands.specs.Pieces as operands
-use Rattle.sim_operands.specs.Pieces.{exit, return_of}
-use Rattle.sim_operands.specs.Values.{width_in, IsVisible}
-use Rattle.sim_operands.specs.Subroutines.{grom_at, state_of, place_in, Loaded, LoadsValue, StoresValue}
-use Rattle.sim_rows.specs.Results.{Changed, Storing}
-use Rattle.sim_rows.proofs.Again.{idle_again}
-use Rattle.sim_rows.proofs.Beginning.{just, from, known}
-use Rattle.sim_rows.proofs.Storing.{ChangedFrom, store_then, stored_idle, changed_again, value_keeps}
+use Rattle.std.proofs.Common.{ℕ, ◌+◌, ◌<◌, ◌∙◌, ◌≡◌, ◌≤◌, ap, arith, refl, subst, sym}
+use Rattle.sim_rows.proofs.Common.{Byte, cells_at, Changed, changed_again, ChangedFrom, Changes, Comes, comes, comes_on, comes_then, Cpu, Exit, exit, Exits}
+use Rattle.sim_rows.proofs.Common.{FETCH, FETCHA, FETCHD, FETCHK, FETCHR, from, grom_at, GromState, high, idle_again, is_view, IsVisible, just, known, LOAD}
+use Rattle.sim_rows.proofs.Common.{Loaded, LoadsValue, MachineState, place_in, PortsAreIdle, RESUME, return_of, SEEK, Space, Stands, state_of, STORE}
+use Rattle.sim_rows.proofs.Common.{store_then, stored_idle, StoresValue, Storing, swapped, unchanged, value_at, value_keeps, Vdp, View, view, WHERE, width_in}
+use Rattle.sim_rows.proofs.Common.{with_byte, with_byte_in, with_pc, with_value, with_word, Word, word_in}
 use Rattle.sim_jumps.specs.Jumps.{ResumesRow}
 use Rattle.sim_jumps.proofs.Going.{set_from}
-use Rattle.sim_stack.specs.Pieces as pieces
-use Rattle.sim_stack.specs.Stacks.{LoadsStacked, FetchesStacked, EndsFetch}
+use Rattle.sim_rows.specs.sim_operands.Pieces as operands
+use Rattle.sim_stack.specs.Stacks.{EndsFetch, FetchesStacked, LoadsStacked}
 use Rattle.sim_stack.proofs.Room.{byte_back, stacked_is}
+use Rattle.sim_stack.specs.Pieces as pieces
 
 -- ---- the word on the stack
 
-module _ (x a : MachineState) (t t1 : ℕ) (e : Exits x a t t1 (pieces.ask_stacked (view x))) where
+module _ {x a : MachineState} {t t1 : ℕ} (e : Exits x a t t1 (pieces.ask_stacked (view x))) where
   pub idle_loading : PortsAreIdle x.cpu.memory → PortsAreIdle a.cpu.memory
   idle_loading i = idle_again x.cpu.memory a.cpu.memory (ap (λ (v : View). v.vdp) e.shows) (ap (λ (v : View). v.grom) e.shows) i
 
@@ -44,15 +26,15 @@ module _ (x a : MachineState) (t t1 : ℕ) (e : Exits x a t t1 (pieces.ask_stack
       let v : View = view x in
       let asked : View = (pieces.ask_stacked v).left in
       let by : View → Type 0 = λ w. Comes 17 a y t1 t2 (return_of w) (Loaded w (value_at (state_of w) (width_in w.r.r3) (place_in w.r.r5 w.r.r2))) in
-      let l : Comes 17 a y t1 t2 0x2736 (Loaded asked (value_at (state_of asked) Word (place_in 0 v.r.r2))) = subst by e.shows (may near_loading) in
+      let l : Comes 17 a y t1 t2 FETCHA (Loaded asked (value_at (state_of asked) Word (place_in 0 v.r.r2))) = subst by e.shows (may near_loading) in
       let near : v.r.r2 + 2 ≤ 0xC2 = visible refl in
       let number : value_at (state_of asked) Word (place_in 0 v.r.r2) ≡ word_in v.cells v.r.r2 = stacked_is (state_of asked) v.r.r2 v.r.r2 refl (omega arith) in
-      let c : Comes 4 x a t t1 0x2368 (λ w. w ≡ asked) = comes e (record { within = omega arith; to_is = refl; holds = refl }) in
-      subst (λ (n : ℕ). Comes 21 x y t t2 0x2736 (Loaded asked n)) number (comes_on 4 17 c l refl)
+      let c : Comes 4 x a t t1 LOAD (λ w. w ≡ asked) = comes e (record { within = omega arith; to_is = refl; holds = refl }) in
+      subst (λ (n : ℕ). Comes 21 x y t t2 FETCHA (Loaded asked n)) number (comes_on 4 17 c l refl)
 
 -- ---- the byte there
 
-pub fetches : (x a b c d y : MachineState) (t t1 t2 t3 t4 t5 : ℕ) → Stands x 0x2736 → Exits x a t t1 (pieces.seek_stacked (view x)) →
+pub fetches : (x a b c d y : MachineState) (t t1 t2 t3 t4 t5 : ℕ) → Stands x FETCHA → Exits x a t t1 (pieces.seek_stacked (view x)) →
     Exits a b t1 t2 (operands.seek (view a)) →
     Exits b c t2 t3 (pieces.ask_byte (view b)) → Exits c d t3 t4 (operands.fetch (view c)) → Exits d y t4 t5 (pieces.keep_byte (view d)) → FetchesStacked x y
     t t5
@@ -62,15 +44,15 @@ fetches x a b c d y t t1 t2 t3 t4 t5 stands e1 e2 e3 e4 e5 image next grom =
     let asked : View = (pieces.seek_stacked v).left in
     let sought_by : GromState → View = λ g. record asked { r = record asked.r { r6 = swapped at }; grom = g } in
     let sought : View = sought_by (grom_at image at) in
-    let seek_by : GromState → Exit = λ g. exit 4 0x273A (sought_by g) in
-    let seek_is : operands.seek asked ≡ exit 4 0x273A sought = ap seek_by (set_from v.grom image next at at grom refl ((is_view x stands.machine).r 6)) in
+    let seek_by : GromState → Exit = λ g. exit 4 FETCHR (sought_by g) in
+    let seek_is : operands.seek asked ≡ exit 4 FETCHR sought = ap seek_by (set_from v.grom image next at at grom refl ((is_view x stands.machine).r 6)) in
     let bid : View = (pieces.ask_byte sought).left in
     let read : View = (operands.fetch bid).left in
-    let c1 = comes e1 (just (pieces.seek_stacked v) 1 0x22D8 (omega arith) refl) in
-    let c2 = comes_then 1 4 c1 e2 (from operands.seek c1.holds (known seek_is (just (exit 4 0x273A sought) 4 0x273A (omega arith) refl))) refl in
-    let c3 = comes_then 5 1 c2 e3 (from pieces.ask_byte c2.holds (just (pieces.ask_byte sought) 1 0x22E4 (omega arith) refl)) refl in
-    let c4 = comes_then 6 3 c3 e4 (from operands.fetch c3.holds (just (operands.fetch bid) 3 0x273E (omega arith) refl)) refl in
-    comes_then 9 2 c4 e5 (from pieces.keep_byte c4.holds (just (pieces.keep_byte read) 2 0x22BC (omega arith) refl)) refl
+    let c1 = comes e1 (just (pieces.seek_stacked v) 1 SEEK (omega arith) refl) in
+    let c2 = comes_then 1 4 c1 e2 (from operands.seek c1.holds (known seek_is (just (exit 4 FETCHR sought) 4 FETCHR (omega arith) refl))) refl in
+    let c3 = comes_then 5 1 c2 e3 (from pieces.ask_byte c2.holds (just (pieces.ask_byte sought) 1 FETCH (omega arith) refl)) refl in
+    let c4 = comes_then 6 3 c3 e4 (from operands.fetch c3.holds (just (operands.fetch bid) 3 FETCHK (omega arith) refl)) refl in
+    comes_then 9 2 c4 e5 (from pieces.keep_byte c4.holds (just (pieces.keep_byte read) 2 WHERE (omega arith) refl)) refl
 
 -- ---- from FETCHS on
 
@@ -80,14 +62,14 @@ pc_aside : (space : Space) (address byte next : ℕ) (c : Changes) →
 pc_aside Cpu address byte next c = refl
 pc_aside Vdp address byte next c = refl
 
-module _ (x a : MachineState) (t t1 : ℕ) (e1 : Exits x a t t1 (pieces.store_stacked (view x))) where
+module _ {x a : MachineState} {t t1 : ℕ} (e1 : Exits x a t t1 (pieces.store_stacked (view x))) where
   pub idle_first : PortsAreIdle x.cpu.memory → PortsAreIdle a.cpu.memory
   idle_first i = idle_again x.cpu.memory a.cpu.memory (ap (λ (v : View). v.vdp) e1.shows) (ap (λ (v : View). v.grom) e1.shows) i
 
   near_first : (view a).r.r8 < 2
   near_first = let z = ap (λ (v : View). v.r.r8) e1.shows in omega arith
 
-  module _ (b c : MachineState) (t2 t3 : ℕ) (may1 : (view a).r.r8 < 2 → StoresValue a b t1 t2) (e2 : Exits b c t2 t3 (pieces.store_byte (view b))) where
+  module _ {b c : MachineState} {t2 t3 : ℕ} (may1 : (view a).r.r8 < 2 → StoresValue a b t1 t2) (e2 : Exits b c t2 t3 (pieces.store_byte (view b))) where
     stored1 : StoresValue a b t1 t2
     stored1 = may1 near_first
 
@@ -102,7 +84,7 @@ module _ (x a : MachineState) (t t1 : ℕ) (e1 : Exits x a t t1 (pieces.store_st
     near_second : (view x).r.r15 < 2 → (view c).r.r8 < 2
     near_second h = let z = space_second in omega arith
 
-    module _ (d : MachineState) (t4 : ℕ) (space : (view x).r.r15 < 2) (may2 : (view c).r.r8 < 2 → StoresValue c d t3 t4) where
+    module _ {d : MachineState} {t4 : ℕ} (space : (view x).r.r15 < 2) (may2 : (view c).r.r8 < 2 → StoresValue c d t3 t4) where
       stored2 : StoresValue c d t3 t4
       stored2 = may2 (near_second space)
 
@@ -122,9 +104,9 @@ module _ (x a : MachineState) (t t1 : ℕ) (e1 : Exits x a t t1 (pieces.store_st
             to_place = record { address = h.top_is; space = refl };
             value = h.number_is;
           }) in
-          let c1 : Comes 2 x a t t1 0x23C2 (λ v. v ≡ (pieces.store_stacked (view x)).left) =
+          let c1 : Comes 2 x a t t1 STORE (λ v. v ≡ (pieces.store_stacked (view x)).left) =
           comes e1 (record { within = omega arith; to_is = refl; holds = refl }) in
-          let c2 : Comes 16 a b t1 t2 0x2750 (ChangedFrom between (view a)) =
+          let c2 : Comes 16 a b t1 t2 FETCHD (ChangedFrom between (view a)) =
           subst (λ (n : ℕ). Comes 16 a b t1 t2 n (ChangedFrom between (view a))) (ap return_of e1.shows)
           (store_then base Word (cells_at top) number a b t1 t2 storing1 stored1) in
           let k = c2.holds.keeps in
@@ -137,9 +119,9 @@ module _ (x a : MachineState) (t t1 : ℕ) (e1 : Exits x a t t1 (pieces.store_st
             };
             value = ap high (k.r12 ∙ ap (λ (v : View). v.r.r12) e1.shows ∙ h.byte_is) ∙ byte_back byte;
           }) in
-          let c3 : Comes 24 x c t t3 0x23C2 (λ v. v ≡ (pieces.store_byte (view b)).left) =
+          let c3 : Comes 24 x c t t3 STORE (λ v. v ≡ (pieces.store_byte (view b)).left) =
           comes_then 18 6 (comes_on 2 16 c1 c2 refl) e2 (record { within = omega arith; to_is = refl; holds = refl }) refl in
-          let c4 : Comes 16 c d t3 t4 0x26DC (ChangedFrom (with_value Byte place byte between) (view c)) =
+          let c4 : Comes 16 c d t3 t4 RESUME (ChangedFrom (with_value Byte place byte between) (view c)) =
           subst (λ (n : ℕ). Comes 16 c d t3 t4 n (ChangedFrom (with_value Byte place byte between) (view c))) (ap return_of e2.shows)
           (store_then between Byte place byte c d t3 t4 storing2 stored2) in
           let changed : Changed (with_pc next after) (view d) =

@@ -6,4 +6,5 @@ pub mod Calling
 pub mod Pushing
 pub mod Fetching
 pub mod Reading
+pub mod Dispatch
 pub mod Turning

@@ -1,21 +1,11 @@
 -- The address of the next byte is found, and GROM is set to it again.
-use Rattle.std.proofs.Common.{◌≡◌, ℕ, ◌<◌, false, refl, ap, subst, ◌∙◌, arith, List}
-use Rattle.console_defs.specs.Words.{even}
-use Rattle.console_defs.specs.Logic.{swapped}
-use Rattle.console_defs.specs.Grom.{GromState, next_in_grom}
-use Rattle.console_defs.specs.Machine.{MachineState}
-use Rattle.interp_defs.specs.Runs.{is_end}
-use Rattle.sim_view.specs.View.{View, view, Stands}
-use Rattle.sim_view.specs.Exits.{Exits, Comes}
-use Rattle.sim_view.proofs.Compose.{Goes, comes, comes_then}
-use Rattle.sim_operands.specs.Pieces as operands
-use Rattle.sim_operands.specs.Pieces.{return_of}
-use Rattle.sim_operands.specs.Subroutines.{grom_at}
-use Rattle.sim_operands.proofs.Ready.{set_is}
+use Rattle.std.proofs.Common.{ℕ, ◌<◌, ◌∙◌, ◌≡◌, ap, arith, false, List, refl, subst}
+use Rattle.sim_rows.proofs.Common.{Comes, comes, comes_then, even, Exits, FETCHP, from, Goes, grom_at, GromState, is_end, just, known, located_at, lost}
+use Rattle.sim_rows.proofs.Common.{MachineState, next_in_grom, SEEK, set_is, Stands, swapped, View, view, where_found}
+use Rattle.sim_stack.specs.Stacks.{Located, Locates, SetAside, SetsAside}
+use Rattle.sim_rows.specs.sim_operands.Pieces as operands
 use Rattle.sim_rows.specs.Pieces as rows
-use Rattle.sim_rows.proofs.Beginning.{just, from, known, lost, located_at, where_found}
 use Rattle.sim_stack.specs.Pieces as pieces
-use Rattle.sim_stack.specs.Stacks.{Located, SetAside, Locates, SetsAside}
 
 -- an address is within GROM where the counter behind it is
 pub next_fits : (at : ℕ) → next_in_grom at < 65536 → at < 65536
@@ -34,7 +24,7 @@ found : (x a : MachineState) (t u link : ℕ) (image : List ℕ) (at : ℕ) → 
 found x a t u link image at is e h fits grom =
     comes h (known (where_found (view x) image at grom fits) (record { within = omega arith; to_is = ap even e ∙ is; holds = refl }))
 
-module _ (x a b y : MachineState) (t t1 t2 t3 link : ℕ) (is : even link ≡ link) (goes : is_end link ≡ false)
+module _ {x a : MachineState} (b y : MachineState) {t t1 : ℕ} (t2 t3 link : ℕ) (is : even link ≡ link) (goes : is_end link ≡ false)
     (e : (view x).r.r11 ≡ link) (e1 : Exits x a t t1 (rows.where_next (view x))) where
   pub locates : (to : ℕ) → even to ≡ to → Exits a b t1 t2 (pieces.keep_next to (view a)) → Exits b y t2 t3 (operands.seek (view b)) → Locates to x y t t3
   locates to even_to e2 e3 image at fits grom =
@@ -42,8 +32,8 @@ module _ (x a b y : MachineState) (t t1 t2 t3 link : ℕ) (is : even link ≡ li
       let c1 = found x a t t1 link image at is e e1 fits grom in
       let kept : View = (pieces.keep_next to (located_at v image at)).left in
       let made : GromState → View = λ g. record v { r = record v.r { r4 = kept.r.r4; r6 = swapped at; r9 = at; r11 = to }; grom = g } in
-      let c2 : Comes 14 x b t t2 0x22D8 (λ w. w ≡ kept) =
-      comes_then 12 2 c1 e2 (from (pieces.keep_next to) c1.holds (just (pieces.keep_next to (located_at v image at)) 2 0x22D8 (omega arith) refl)) goes in
+      let c2 : Comes 14 x b t t2 SEEK (λ w. w ≡ kept) =
+      comes_then 12 2 c1 e2 (from (pieces.keep_next to) c1.holds (just (pieces.keep_next to (located_at v image at)) 2 SEEK (omega arith) refl)) goes in
       let sought : Goes (operands.seek kept) 4 to (Located v image at to) = record {
         within = omega arith;
         to_is = even_to;
@@ -56,10 +46,10 @@ module _ (x a b y : MachineState) (t t1 t2 t3 link : ℕ) (is : even link ≡ li
       let v : View = view x in
       let c1 = found x a t t1 link image at is e e1 fits grom in
       let kept : View = (pieces.keep_back (located_at v image at)).left in
-      let made : GromState → View = λ g. record v { r = record v.r { r4 = kept.r.r4; r6 = swapped at; r11 = 0x272A; r14 = at }; grom = g } in
-      let c2 : Comes 14 x b t t2 0x22D8 (λ w. w ≡ kept) =
-      comes_then 12 2 c1 e2 (from pieces.keep_back c1.holds (just (pieces.keep_back (located_at v image at)) 2 0x22D8 (omega arith) refl)) goes in
-      let sought : Goes (operands.seek kept) 4 0x272A (SetAside v image at 0x272A) = record {
+      let made : GromState → View = λ g. record v { r = record v.r { r4 = kept.r.r4; r6 = swapped at; r11 = FETCHP; r14 = at }; grom = g } in
+      let c2 : Comes 14 x b t t2 SEEK (λ w. w ≡ kept) =
+      comes_then 12 2 c1 e2 (from pieces.keep_back c1.holds (just (pieces.keep_back (located_at v image at)) 2 SEEK (omega arith) refl)) goes in
+      let sought : Goes (operands.seek kept) 4 FETCHP (SetAside v image at FETCHP) = record {
         within = omega arith;
         to_is = refl;
         holds = record { r4 = kept.r.r4; r6 = swapped at; is = ap made (set_is (lost image at) at refl fits) };

@@ -1,34 +1,13 @@
 -- PUSH, from its row to the end of the step.
-use Rattle.std.proofs.Common.{◌≡◌, ℕ, ◌<◌, false, refl, sym, ap, subst, ◌∙◌, arith, List, Option, Some, Result, Ok, Err}
-use Rattle.std.specs.Prelude.{nat_lt, slice_index, slice_set}
-use Rattle.source_defs.specs.Refusals.{◌>>=◌}
-use Rattle.console_defs.specs.Words.{high}
-use Rattle.console_defs.specs.Flags.{Width, Byte, Word, size_of, sum_of}
-use Rattle.console_defs.specs.Machine.{MachineState}
-use Rattle.gpl_defs.specs.declared.instruction.OneName.TheVariants.{PUSH}
-use Rattle.gpl_defs.specs.declared.instruction.GplOperation.{GplOperation}
-use Rattle.gpl_defs.specs.declared.instruction.GplOperation.TheVariants.{One}
-use Rattle.step_defs.specs.declared.reason.Reason.{Reason}
-use Rattle.step_defs.specs.declared.reason.Reason.TheVariants.{Stack}
-use Rattle.step_defs.specs.State.{GplState}
-use Rattle.step_defs.specs.Place.{value_at}
-use Rattle.step_defs.specs.Changes.{Changes, unchanged, with_cell}
-use Rattle.step_defs.specs.Flow.{on_stack, grown_by, cells_at}
-use Rattle.interp_defs.specs.declared.turn.Turn.TheVariants.{Stepped, Stopped}
-use Rattle.interp_defs.specs.Match.{PortsAreIdle}
-use Rattle.sim_view.specs.View.{View, view, Stands}
-use Rattle.sim_view.specs.Exits.{Exits, Comes}
-use Rattle.sim_view.proofs.Bridge.{is_view}
-use Rattle.sim_view.proofs.Compose.{comes, comes_as, comes_on}
-use Rattle.sim_operands.specs.Pieces.{exit}
-use Rattle.sim_operands.specs.Values.{width_in, in_register}
-use Rattle.sim_rows.specs.States.{StoppedBy, operation_in}
-use Rattle.sim_rows.specs.Rows.{row_width, gone_on, bytes_by, destination_bytes}
-use Rattle.sim_rows.specs.Results.{Storing, SeesFinished, StoresResult, TurnsBy, TurnsRow, row_result}
-use Rattle.sim_rows.proofs.Again.{idle_again}
+use Rattle.std.proofs.Common.{ℕ, ◌<◌, ◌∙◌, ◌≡◌, ap, arith, Err, false, List, nat_lt, Ok, Option, refl, Result, slice_index, slice_set, Some, subst, sym}
+use Rattle.sim_rows.proofs.Common.{◌>>=◌, Byte, bytes_by, cells_at, Changes, Comes, comes, comes_as, comes_on, destination_bytes, exit, Exits, gone_on}
+use Rattle.sim_rows.proofs.Common.{GplOperation, GplState, grown_by, GSTEP, GSTOP, high, idle_again, in_register, is_view, MachineState, on_stack, One}
+use Rattle.sim_rows.proofs.Common.{operation_in, PortsAreIdle, PUSH, PUSHV, Reason, row_result, row_width, SeesFinished, size_of, Stack, Stands, Stepped, STO}
+use Rattle.sim_rows.proofs.Common.{Stopped, StoppedBy, StoresResult, Storing, sum_of, TurnsBy, TurnsRow, unchanged, value_at, View, view, Width, width_in}
+use Rattle.sim_rows.proofs.Common.{with_cell, Word}
+use Rattle.sim_stack.specs.Pieces.{offset_of, pointer_at}
+use Rattle.sim_stack.proofs.Room.{byte_back, goes_full, goes_on, no_room, one_more, one_stored, with_room}
 use Rattle.sim_stack.specs.Pieces as pieces
-use Rattle.sim_stack.specs.Pieces.{pointer_at, offset_of}
-use Rattle.sim_stack.proofs.Room.{one_more, one_stored, byte_back, no_room, with_room, goes_full, goes_on}
 
 -- ---- the byte
 
@@ -52,7 +31,7 @@ top_in s = grown_by 1 (slice_index s.cells 0x72)
 abbrev by_push : GplState → ℕ → Result ℕ Reason → Result Changes Reason
 by_push s byte r = r >>= λ top. Ok (with_cell top byte (with_cell 0x72 top (unchanged (gone_on s))))
 
-module _ (x a : MachineState) (t u : ℕ) (stands : Stands x 0x2682) (e : Exits x a t u (pieces.push_pointer (view x))) where
+module _ {x a : MachineState} {t u : ℕ} (stands : Stands x PUSHV) (e : Exits x a t u (pieces.push_pointer (view x))) where
   abbrev pointer : ℕ
   pointer = sum_of Word (pointer_at 0x72 (view x)) 0x0100
 
@@ -74,22 +53,22 @@ module _ (x a : MachineState) (t u : ℕ) (stands : Stands x 0x2682) (e : Exits 
   pointer_top : (s : GplState) → (view x).cells ≡ s.cells → high pointer ≡ top_in s
   pointer_top s c = one_stored (slice_index (view x).cells 0x72) small ∙ ap (λ (l : List ℕ). grown_by 1 (slice_index l 0x72)) c
 
-  pub stopped : a.cpu.pc ≡ 0x22B8 → TurnsRow (One PUSH) 160 x a t u (Stopped Stack)
+  pub stopped : a.cpu.pc ≡ GSTOP → TurnsRow (One PUSH) 160 x a t u (Stopped Stack)
   stopped here s place source known at is =
-      let k = goes_full x a t u (nat_lt 0xC1 offset) (pieces.full 10 told) (exit 10 0x24A8 placed) e (λ q. absurd (omega arith)) here in
+      let k = goes_full x a t u (nat_lt 0xC1 offset) (pieces.full 10 told) (exit 10 STO placed) e (λ q. absurd (omega arith)) here in
       let h = at.holds in
       let full : on_stack 1 (top_in s) ≡ Err Stack = no_room 0xC1 1 (top_in s) refl (ap (nat_lt 0xC1) (sym (offset_top s h.sees.cells)) ∙ k.0) in
       let result : row_result (One PUSH) s place source ≡ Err Stack = ap (by_push s (value_at s (row_width s) place)) full in
-      let c : Comes 160 x a t u 0x22B8 (StoppedBy s Stack) = comes k.1 (record {
+      let c : Comes 160 x a t u GSTOP (StoppedBy s Stack) = comes k.1 (record {
         within = omega arith;
         to_is = refl;
         holds = record { ended = record { cells = h.sees.cells; vdp = h.sees.vdp; registers = h.sees.registers; address = h.address }; reason_is = refl };
       }) in
       subst (λ (r : Result Changes Reason). TurnsBy 160 s x a t u (Stopped Stack) r) (sym result) (refl, c)
 
-  module _ (elsewhere : a.cpu.pc ≡ 0x22B8 → ⊥) where
-    went : (nat_lt 0xC1 offset ≡ false) × Exits x a t u (exit 10 0x24A8 placed)
-    went = goes_on x a t u (nat_lt 0xC1 offset) (pieces.full 10 told) (exit 10 0x24A8 placed) e refl elsewhere
+  module _ (elsewhere : a.cpu.pc ≡ GSTOP → ⊥) where
+    went : (nat_lt 0xC1 offset ≡ false) × Exits x a t u (exit 10 STO placed)
+    went = goes_on x a t u (nat_lt 0xC1 offset) (pieces.full 10 told) (exit 10 STO placed) e refl elsewhere
 
     pub idle_pushed : PortsAreIdle x.cpu.memory → PortsAreIdle a.cpu.memory
     idle_pushed i = idle_again x.cpu.memory a.cpu.memory (ap (λ (v : View). v.vdp) went.1.shows) (ap (λ (v : View). v.grom) went.1.shows) i
@@ -123,8 +102,8 @@ module _ (x a : MachineState) (t u : ℕ) (stands : Stands x 0x2682) (e : Exits 
           to_place = record { address = offset_top s h.sees.cells; space = refl };
           value = value;
         }) in
-        let c1 : Comes 10 x a t u 0x24A8 (λ v. v ≡ placed) = comes went.1 (record { within = omega arith; to_is = refl; holds = refl }) in
-        let c2 : Comes 57 x y t w 0x228C (SeesFinished (with_cell top byte before)) = comes_on 10 47 c1 (stores before Byte (cells_at top) byte storing) refl in
-        let c3 : Comes 160 x y t w 0x228C (SeesFinished (with_cell top byte before)) =
+        let c1 : Comes 10 x a t u STO (λ v. v ≡ placed) = comes went.1 (record { within = omega arith; to_is = refl; holds = refl }) in
+        let c2 : Comes 57 x y t w GSTEP (SeesFinished (with_cell top byte before)) = comes_on 10 47 c1 (stores before Byte (cells_at top) byte storing) refl in
+        let c3 : Comes 160 x y t w GSTEP (SeesFinished (with_cell top byte before)) =
         comes_as 160 (SeesFinished (with_cell top byte before)) c2 (omega arith) (λ v q. q) in
         subst (λ (r : Result Changes Reason). TurnsBy 160 s x y t w Stepped r) (sym result) (refl, c3)

@@ -1,39 +1,16 @@
 -- FETCH, from its row to the end of the step.
-use Rattle.std.proofs.Common.{◌≡◌, ℕ, ◌<◌, ◌≤◌, false, refl, sym, ap, subst, ◌∙◌, arith, List, Result, Ok, Err}
-use Rattle.std.specs.Prelude.{nat_lt, slice_index}
-use Rattle.source_defs.specs.Refusals.{◌>>=◌}
-use Rattle.console_defs.specs.Words.{low, join}
-use Rattle.console_defs.specs.Bytes.{word_in}
-use Rattle.console_defs.specs.Grom.{GromState, next_in_grom}
-use Rattle.console_defs.specs.Machine.{MachineState}
-use Rattle.gpl_defs.specs.declared.instruction.OneName.TheVariants.{FETCH}
-use Rattle.gpl_defs.specs.declared.instruction.GplOperation.TheVariants.{One}
-use Rattle.step_defs.specs.declared.reason.Reason.{Reason}
-use Rattle.step_defs.specs.declared.reason.Reason.TheVariants.{Stack}
-use Rattle.step_defs.specs.State.{GplState}
-use Rattle.step_defs.specs.Place.{Place, word_at}
-use Rattle.step_defs.specs.Changes.{Changes, unchanged}
-use Rattle.step_defs.specs.Flow.{on_stack, with_byte_from}
-use Rattle.interp_defs.specs.declared.turn.Turn.TheVariants.{Stepped, Stopped}
-use Rattle.interp_defs.specs.Match.{PortsAreIdle}
-use Rattle.sim_view.specs.View.{View, view, Stands}
-use Rattle.sim_view.specs.Exits.{Exits, Comes}
-use Rattle.sim_view.proofs.Bridge.{is_view}
-use Rattle.sim_view.proofs.Compose.{comes, comes_as, comes_on}
-use Rattle.sim_operands.specs.Pieces.{exit}
-use Rattle.sim_operands.specs.Values.{IsVisible}
-use Rattle.sim_operands.specs.Subroutines.{grom_at}
-use Rattle.sim_operands.proofs.Facts.{at_most}
-use Rattle.sim_operands.proofs.Ready.{idle_video}
-use Rattle.sim_rows.specs.States.{StoppedBy}
-use Rattle.sim_rows.specs.Rows.{gone_on, next_of}
-use Rattle.sim_rows.specs.Results.{SeesFinished, TurnsBy, TurnsRow, row_result}
-use Rattle.sim_rows.proofs.Again.{idle_told}
-use Rattle.sim_stack.specs.Pieces as pieces
+use Rattle.std.proofs.Common.{ℕ, ◌<◌, ◌∙◌, ◌≡◌, ◌≤◌, ap, arith, Err, false, List, nat_lt, Ok, refl, Result, slice_index, subst, sym}
+use Rattle.sim_rows.proofs.Common.{◌>>=◌, at_most, Changes, Comes, comes, comes_as, comes_on, exit, Exits, FETCHB, FETCHN, FETCHP, FETCHS, FETCHV, gone_on}
+use Rattle.sim_rows.proofs.Common.{GplState, grom_at, GromState, GSTEP, GSTOP, idle_told, idle_video, is_view, IsVisible, join, low, MachineState}
+use Rattle.sim_rows.proofs.Common.{next_in_grom, next_of, on_stack, One, Place, PortsAreIdle, Reason, row_result, SeesFinished, Stack, Stands, Stepped}
+use Rattle.sim_rows.proofs.Common.{Stopped, StoppedBy, TurnsBy, TurnsRow, unchanged, View, view, WHERE, with_byte_from, word_in}
+use Rattle.sim_rows.specs.gpl_defs.declared.instruction.OneName.TheVariants.{FETCH}
+use Rattle.sim_rows.specs.step_defs.Place.{word_at}
 use Rattle.sim_stack.specs.Pieces.{offset_of}
-use Rattle.sim_stack.specs.Stacks.{Located, SetAside, Locates, SetsAside, LoadsStacked, fetched_at, FetchesStacked, Fetching, EndsFetch}
-use Rattle.sim_stack.proofs.Room.{offset_above, no_room, with_room, goes_full, goes_on}
-use Rattle.sim_stack.proofs.Locating.{next_fits, later_fits}
+use Rattle.sim_stack.specs.Stacks.{EndsFetch, fetched_at, FetchesStacked, Fetching, LoadsStacked, Located, Locates, SetAside, SetsAside}
+use Rattle.sim_stack.proofs.Room.{goes_full, goes_on, no_room, offset_above, with_room}
+use Rattle.sim_stack.proofs.Locating.{later_fits, next_fits}
+use Rattle.sim_stack.specs.Pieces as pieces
 
 low_fits : (n : ℕ) → low n < 256
 low_fits n = omega arith
@@ -44,7 +21,7 @@ top_in s = slice_index s.cells 0x73
 abbrev by_fetch : GplState → Place → Result ℕ Reason → Result Changes Reason
 by_fetch s place r = r >>= λ top. Ok (with_byte_from (word_at s top) top place (unchanged (gone_on s)))
 
-module _ (x a : MachineState) (t t1 : ℕ) (stands : Stands x 0x2710) (e : Exits x a t t1 (pieces.keep_place (view x))) where
+module _ {x a : MachineState} {t t1 : ℕ} (stands : Stands x FETCHV) (e : Exits x a t t1 (pieces.keep_place (view x))) where
   abbrev offset : ℕ
   offset = offset_of (join (slice_index (view x).cells 0x73) (low (view x).r.r2))
 
@@ -52,49 +29,49 @@ module _ (x a : MachineState) (t t1 : ℕ) (stands : Stands x 0x2710) (e : Exits
   told = record (view x) { r = record (view x).r { r2 = offset } }
 
   abbrev placed : View
-  placed = record told { r = record told.r { r10 = (view x).r.r7; r11 = 0x2724; r15 = (view x).r.r8 } }
+  placed = record told { r = record told.r { r10 = (view x).r.r7; r11 = FETCHN; r15 = (view x).r.r8 } }
 
   offset_top : (s : GplState) → (view x).cells ≡ s.cells → offset ≡ top_in s
   offset_top s c =
       offset_above (slice_index (view x).cells 0x73) (low (view x).r.r2) ((is_view x stands.machine).cells 0x73) (low_fits (view x).r.r2)
       ∙ ap (λ (l : List ℕ). slice_index l 0x73) c
 
-  pub stopped : a.cpu.pc ≡ 0x22B8 → TurnsRow (One FETCH) 160 x a t t1 (Stopped Stack)
+  pub stopped : a.cpu.pc ≡ GSTOP → TurnsRow (One FETCH) 160 x a t t1 (Stopped Stack)
   stopped here s place source known at is =
-      let k = goes_full x a t t1 (nat_lt 0xC0 offset) (pieces.full 7 told) (exit 7 0x22BC placed) e (λ q. absurd (omega arith)) here in
+      let k = goes_full x a t t1 (nat_lt 0xC0 offset) (pieces.full 7 told) (exit 7 WHERE placed) e (λ q. absurd (omega arith)) here in
       let h = at.holds in
       let full : on_stack 2 (top_in s) ≡ Err Stack = no_room 0xC0 2 (top_in s) refl (ap (nat_lt 0xC0) (sym (offset_top s h.sees.cells)) ∙ k.0) in
       let result : row_result (One FETCH) s place source ≡ Err Stack = ap (by_fetch s place) full in
-      let c : Comes 160 x a t t1 0x22B8 (StoppedBy s Stack) = comes k.1 (record {
+      let c : Comes 160 x a t t1 GSTOP (StoppedBy s Stack) = comes k.1 (record {
         within = omega arith;
         to_is = refl;
         holds = record { ended = record { cells = h.sees.cells; vdp = h.sees.vdp; registers = h.sees.registers; address = h.address }; reason_is = refl };
       }) in
       subst (λ (r : Result Changes Reason). TurnsBy 160 s x a t t1 (Stopped Stack) r) (sym result) (refl, c)
 
-  module _ (elsewhere : a.cpu.pc ≡ 0x22B8 → ⊥) where
-    went : (nat_lt 0xC0 offset ≡ false) × Exits x a t t1 (exit 7 0x22BC placed)
-    went = goes_on x a t t1 (nat_lt 0xC0 offset) (pieces.full 7 told) (exit 7 0x22BC placed) e refl elsewhere
+  module _ (elsewhere : a.cpu.pc ≡ GSTOP → ⊥) where
+    went : (nat_lt 0xC0 offset ≡ false) × Exits x a t t1 (exit 7 WHERE placed)
+    went = goes_on x a t t1 (nat_lt 0xC0 offset) (pieces.full 7 told) (exit 7 WHERE placed) e refl elsewhere
 
-    pub stands_where : Stands a 0x22BC
+    pub stands_where : Stands a WHERE
     stands_where = went.1.stands
 
-    pub link_where : (view a).r.r11 ≡ 0x2724
+    pub link_where : (view a).r.r11 ≡ FETCHN
     link_where = ap (λ (v : View). v.r.r11) went.1.shows
 
     offset_near : offset ≤ 0xC0
     offset_near = at_most 0xC0 offset went.0
 
     -- what is seen behind each part, where GROM is at an address
-    module _ (image : List ℕ) (at : ℕ) (grom : (view x).grom ≡ grom_at image at) (b : MachineState) (t2 : ℕ) (sets : SetsAside a b t1 t2) where
+    module _ (image : List ℕ) (at : ℕ) (grom : (view x).grom ≡ grom_at image at) {b : MachineState} {t2 : ℕ} (sets : SetsAside a b t1 t2) where
       fits : at < 65536
       fits = next_fits at (subst (λ (g : GromState). g.counter < 65536) grom (is_view x stands.machine).grom.counter)
 
-      set : Comes 18 a b t1 t2 0x272A (SetAside (view a) image at 0x272A)
+      set : Comes 18 a b t1 t2 FETCHP (SetAside (view a) image at FETCHP)
       set = sets image at fits (ap (λ (v : View). v.grom) went.1.shows ∙ grom)
 
       abbrev set_of : View → View
-      set_of v = record v { r = record v.r { r4 = set.holds.r4; r6 = set.holds.r6; r11 = 0x272A; r14 = at }; grom = grom_at image at }
+      set_of v = record v { r = record v.r { r4 = set.holds.r4; r6 = set.holds.r6; r11 = FETCHP; r14 = at }; grom = grom_at image at }
 
       seen_b : view b ≡ set_of placed
       seen_b = set.holds.is ∙ ap set_of went.1.shows
@@ -102,7 +79,7 @@ module _ (x a : MachineState) (t t1 : ℕ) (stands : Stands x 0x2710) (e : Exits
       pub idle_loading : PortsAreIdle x.cpu.memory → PortsAreIdle b.cpu.memory
       idle_loading i = idle_told b.cpu.memory (ap (λ (v : View). v.vdp.held) seen_b ∙ idle_video x.cpu.memory i) (ap (λ (v : View). v.grom.half_written) seen_b)
 
-      pub stands_loading : Stands b 0x272A
+      pub stands_loading : Stands b FETCHP
       stands_loading = set.stands
 
       pub visible_loading : IsVisible 0 (view b).r.r2 2
@@ -111,7 +88,7 @@ module _ (x a : MachineState) (t t1 : ℕ) (stands : Stands x 0x2710) (e : Exits
           let near : IsVisible 0 offset 2 = λ z. omega arith in
           subst (λ (k : ℕ). IsVisible 0 k 2) (sym (ap (λ (v : View). v.r.r2) seen_b)) near
 
-      module _ (c : MachineState) (t3 : ℕ) (loads : LoadsStacked b c t2 t3) where
+      module _ {c : MachineState} {t3 : ℕ} (loads : LoadsStacked b c t2 t3) where
         abbrev loaded_of : View → View
         loaded_of v =
             let w : View = (pieces.ask_stacked v).left in
@@ -126,11 +103,8 @@ module _ (x a : MachineState) (t t1 : ℕ) (stands : Stands x 0x2710) (e : Exits
         seen_c : view c ≡ at_c
         seen_c = loads.holds.is ∙ ap loaded_of seen_b
 
-        pub stands_fetching : Stands c 0x2736
-        stands_fetching = loads.stands
-
-        module _ (d : MachineState) (t4 : ℕ) (fetches : FetchesStacked c d t3 t4) where
-          fetched : Comes 11 c d t3 t4 0x22BC (λ w. w ≡ fetched_at (view c) image (view c).r.r6)
+        module _ {d : MachineState} {t4 : ℕ} (fetches : FetchesStacked c d t3 t4) where
+          fetched : Comes 11 c d t3 t4 WHERE (λ w. w ≡ fetched_at (view c) image (view c).r.r6)
           fetched = fetches image at (ap (λ (v : View). v.grom) seen_c)
 
           abbrev fetched_of : View → View
@@ -142,27 +116,27 @@ module _ (x a : MachineState) (t t1 : ℕ) (stands : Stands x 0x2710) (e : Exits
           seen_d : view d ≡ at_d
           seen_d = fetched.holds ∙ ap fetched_of seen_c
 
-          pub stands_locating : Stands d 0x22BC
+          pub stands_locating : Stands d WHERE
           stands_locating = fetched.stands
 
-          pub link_locating : (view d).r.r11 ≡ 0x2744
+          pub link_locating : (view d).r.r11 ≡ FETCHB
           link_locating = ap (λ (v : View). v.r.r11) seen_d
 
-          module _ (f : MachineState) (t5 : ℕ) (locates : Locates 0x274A d f t4 t5) where
+          module _ {f : MachineState} {t5 : ℕ} (locates : Locates FETCHS d f t4 t5) where
             -- the address behind the byte
             abbrev next : ℕ
             next = next_in_grom (view c).r.r6
 
-            located : Comes 18 d f t4 t5 0x274A (Located (view d) image next 0x274A)
+            located : Comes 18 d f t4 t5 FETCHS (Located (view d) image next FETCHS)
             located = locates image next (later_fits (view c).r.r6 ((is_view c loads.stands.machine).r 6)) (ap (λ (v : View). v.grom) fetched.holds)
 
             abbrev located_of : View → View
-            located_of v = record v { r = record v.r { r4 = located.holds.r4; r6 = located.holds.r6; r9 = next; r11 = 0x274A }; grom = grom_at image next }
+            located_of v = record v { r = record v.r { r4 = located.holds.r4; r6 = located.holds.r6; r9 = next; r11 = FETCHS }; grom = grom_at image next }
 
             seen_f : view f ≡ located_of at_d
             seen_f = located.holds.is ∙ ap located_of seen_d
 
-            pub stands_storing : Stands f 0x274A
+            pub stands_storing : Stands f FETCHS
             stands_storing = located.stands
 
             pub idle_storing : PortsAreIdle x.cpu.memory → PortsAreIdle f.cpu.memory
@@ -196,9 +170,9 @@ module _ (x a : MachineState) (t t1 : ℕ) (stands : Stands x 0x2710) (e : Exits
                   ap (λ (v : View). v.r.r12) seen_f
                   ∙ ap (λ (n : ℕ). join (slice_index image n) 0) (sym (ap (λ (v : View). v.r.r6) seen_c) ∙ word_is)
 
-              comes_storing : Comes 75 x f t t5 0x274A (Located (view d) image next 0x274A)
+              comes_storing : Comes 75 x f t t5 FETCHS (Located (view d) image next FETCHS)
               comes_storing =
-                  let c1 : Comes 7 x a t t1 0x22BC (λ v. v ≡ placed) = comes went.1 (record { within = omega arith; to_is = refl; holds = refl }) in
+                  let c1 : Comes 7 x a t t1 WHERE (λ v. v ≡ placed) = comes went.1 (record { within = omega arith; to_is = refl; holds = refl }) in
                   let c2 = comes_on 7 18 c1 set refl in
                   let c3 = comes_on 25 21 c2 loads refl in
                   let c4 = comes_on 46 11 c3 fetched refl in
@@ -206,7 +180,7 @@ module _ (x a : MachineState) (t t1 : ℕ) (stands : Stands x 0x2710) (e : Exits
 
     -- the row ends with what FETCH changes
     pub reads : (b c d f y : MachineState) (t2 t3 t4 t5 t6 : ℕ) → SetsAside a b t1 t2 → LoadsStacked b c t2 t3 → FetchesStacked c d t3 t4 →
-        Locates 0x274A d f t4 t5 → EndsFetch f y t5 t6 → TurnsRow (One FETCH) 160 x y t t6 Stepped
+        Locates FETCHS d f t4 t5 → EndsFetch f y t5 t6 → TurnsRow (One FETCH) 160 x y t t6 Stepped
     reads b c d f y t2 t3 t4 t5 t6 sets loads fetches locates ends s place source known at is =
         let h = at.holds in
         let image : List ℕ = s.image in
@@ -214,8 +188,8 @@ module _ (x a : MachineState) (t t1 : ℕ) (stands : Stands x 0x2710) (e : Exits
         let cells = h.sees.cells in
         let top : ℕ = top_in s in
         let word : ℕ = word_at s top in
-        let seen = seen_f image (next_of s) grom b t2 sets c t3 loads d t4 fetches f t5 locates in
-        let word_here = word_is image (next_of s) grom b t2 sets c t3 loads d t4 fetches f t5 locates s cells in
+        let seen = seen_f image (next_of s) grom sets loads fetches locates in
+        let word_here = word_is image (next_of s) grom sets loads fetches locates s cells in
         let fetching : Fetching (gone_on s) place top (next_in_grom word) (slice_index image word) (next_in_grom word) (view f) = record {
           changed = record {
             cells = ap (λ (v : View). v.cells) seen ∙ cells;
@@ -230,14 +204,14 @@ module _ (x a : MachineState) (t t1 : ℕ) (stands : Stands x 0x2710) (e : Exits
           number_is = ap (λ (v : View). v.r.r9) seen ∙ ap next_in_grom word_here;
           address = ap (λ (v : View). v.r.r10) seen ∙ at.to_place.address;
           space = ap (λ (v : View). v.r.r15) seen ∙ at.to_place.space;
-          byte_is = byte_is image (next_of s) grom b t2 sets c t3 loads d t4 fetches f t5 locates s cells;
+          byte_is = byte_is image (next_of s) grom sets loads fetches locates s cells;
           back = ap (λ (v : View). v.r.r14) seen;
         } in
         let room : on_stack 2 top ≡ Ok top = with_room 0xC0 2 top refl (ap (nat_lt 0xC0) (sym (offset_top s cells)) ∙ went.0) in
         let after : Changes = with_byte_from word top place (unchanged (gone_on s)) in
         let result : row_result (One FETCH) s place source ≡ Ok after = ap (by_fetch s place) room in
-        let c1 = comes_storing image (next_of s) grom b t2 sets c t3 loads d t4 fetches f t5 locates s cells in
-        let c2 : Comes 151 x y t t6 0x228C (SeesFinished after) =
+        let c1 = comes_storing image (next_of s) grom sets loads fetches locates s cells in
+        let c2 : Comes 151 x y t t6 GSTEP (SeesFinished after) =
         comes_on 75 76 c1 (ends (gone_on s) place top (next_in_grom word) (slice_index image word) (next_in_grom word) fetching) refl in
-        let c3 : Comes 160 x y t t6 0x228C (SeesFinished after) = comes_as 160 (SeesFinished after) c2 (omega arith) (λ v q. q) in
+        let c3 : Comes 160 x y t t6 GSTEP (SeesFinished after) = comes_as 160 (SeesFinished after) c2 (omega arith) (λ v q. q) in
         subst (λ (r : Result Changes Reason). TurnsBy 160 s x y t t6 Stepped r) (sym result) (refl, c3)

@@ -1,47 +1,19 @@
 -- RTN and RTNC, from their dispatch to the end of the step.
-use Rattle.std.proofs.Common.{◌≡◌, ℕ, ◌+◌, ◌<◌, Bool, true, false, refl, sym, ap, subst, ◌∙◌, arith, List, Option, Some, Result, Ok, Err, eqb}
-use Rattle.std.specs.Prelude.{◌==◌, nat_lt, if◌then◌else◌, slice_index, slice_set}
+use Rattle.std.proofs.Common.{ℕ, ◌+◌, ◌<◌, ◌==◌, ◌∙◌, ◌≡◌, ap, arith, Bool, eqb, Err, false, if◌then◌else◌, List, nat_lt, Ok, Option, refl, Result}
+use Rattle.std.proofs.Common.{slice_index, slice_set, Some, subst, sym, true}
 use Rattle.std.proofs.lemmas.Bool.{agree_below_at, eqb-true}
-use Rattle.source_defs.specs.Refusals.{◌>>=◌}
-use Rattle.console_defs.specs.Words.{high, join}
-use Rattle.console_defs.specs.Flags.{Word, sum_of}
-use Rattle.console_defs.specs.Machine.{MachineState}
-use Rattle.gpl_defs.specs.declared.instruction.PlainOp.TheVariants.{RTN, RTNC}
-use Rattle.gpl_defs.specs.declared.instruction.GplOperation.{GplOperation}
-use Rattle.gpl_defs.specs.declared.instruction.GplOperation.TheVariants.{Plain}
-use Rattle.gpl_defs.specs.Codes.{operation_at}
-use Rattle.step_defs.specs.declared.reason.Reason.{Reason}
-use Rattle.step_defs.specs.declared.reason.Reason.TheVariants.{Stack}
-use Rattle.step_defs.specs.State.{GplState}
-use Rattle.step_defs.specs.Place.{value_at, word_at}
-use Rattle.step_defs.specs.Changes.{Changes, finished, with_condition}
-use Rattle.step_defs.specs.Flow.{on_stack, grown_by}
-use Rattle.step_defs.specs.Step.{step}
-use Rattle.step_defs.specs.Run.{bound}
-use Rattle.interp_defs.specs.declared.turn.Turn.TheVariants.{Stepped, Stopped}
-use Rattle.interp_defs.specs.Match.{PortsAreIdle}
-use Rattle.interp_defs.specs.Runs.{is_end}
-use Rattle.interp_defs.specs.Turned.{Turned}
-use Rattle.sim_view.specs.View.{View, view, Stands}
-use Rattle.sim_view.specs.Exits.{Exits, Comes}
-use Rattle.sim_view.proofs.Bridge.{is_view}
-use Rattle.sim_view.proofs.Compose.{comes, comes_as, comes_on}
-use Rattle.sim_operands.specs.Pieces.{exit, return_of}
-use Rattle.sim_operands.specs.Values.{width_in, IsVisible}
-use Rattle.sim_operands.specs.Subroutines.{state_of, place_in, Loaded, LoadsValue}
-use Rattle.sim_operands.proofs.Facts.{at_most}
-use Rattle.sim_rows.specs.States.{Sees, Dispatched, StoppedBy, code_byte, behind_code, operation_in}
-use Rattle.sim_rows.specs.Results.{SeesFinished}
-use Rattle.sim_rows.proofs.Again.{idle_again}
-use Rattle.sim_rows.proofs.Sources.{code_fits}
-use Rattle.sim_rows.proofs.Ends.{idle_of, matches, reaches, turned_by}
-use Rattle.sim_rows.proofs.Steps.{step_plain, bound_made}
+use Rattle.sim_rows.proofs.Common.{◌>>=◌, behind_code, bound, bound_made, Changes, code_byte, code_fits, Comes, comes, comes_as, comes_on, Dispatched, exit}
+use Rattle.sim_rows.proofs.Common.{Exits, finished, GORTN, GOTO, GplOperation, GplState, grown_by, GSTEP, GSTOP, high, idle_again, idle_of, is_end, is_view}
+use Rattle.sim_rows.proofs.Common.{join, LOAD, Loaded, LoadsValue, MachineState, matches, on_stack, operation_at, operation_in, place_in, Plain, PortsAreIdle}
+use Rattle.sim_rows.proofs.Common.{reaches, Reason, return_of, RTN, RTNC, RTNP, Sees, SeesFinished, Stack, Stands, state_of, step, step_plain, Stepped}
+use Rattle.sim_rows.proofs.Common.{Stopped, StoppedBy, sum_of, TAKE, Turned, turned_by, value_at, View, view, width_in, with_condition, Word}
+use Rattle.sim_rows.specs.step_defs.Place.{word_at}
 use Rattle.sim_jumps.specs.Jumps.{GoesOn, TakesBranch}
-use Rattle.sim_stack.specs.Pieces as pieces
-use Rattle.sim_stack.specs.Pieces.{pointer_at, offset_of}
+use Rattle.sim_stack.specs.Pieces.{offset_of, pointer_at}
 use Rattle.sim_stack.specs.Family.{is_return}
-use Rattle.sim_stack.specs.Stacks.{Returning, gone_back, returned_by, EndsReturn}
-use Rattle.sim_stack.proofs.Room.{offset_is, two_less, stacked_is, no_room, with_room, goes_full, goes_on, stop_turned, sees_loaded}
+use Rattle.sim_stack.specs.Stacks.{EndsReturn, gone_back, returned_by, Returning}
+use Rattle.sim_stack.proofs.Room.{goes_full, goes_on, no_room, offset_is, sees_loaded, stacked_is, stop_turned, two_less, with_room}
+use Rattle.sim_stack.specs.Pieces as pieces
 
 -- ---- the code bytes
 
@@ -116,21 +88,21 @@ taken v =
     }
 
 -- which way it goes
-pub takes : (x a : MachineState) (t u : ℕ) → Exits x a t u (pieces.take_return (view x)) → a.cpu.pc ≡ 0x265E →
-    ((view x).r.r0 == 0 ≡ true) × Exits x a t u (exit 4 0x265E (taken (view x)))
+pub takes : (x a : MachineState) (t u : ℕ) → Exits x a t u (pieces.take_return (view x)) → a.cpu.pc ≡ TAKE →
+    ((view x).r.r0 == 0 ≡ true) × Exits x a t u (exit 4 TAKE (taken (view x)))
 takes x a t u e here = by ((view x).r.r0 == 0) e
   where
-    by : (b : Bool) → Exits x a t u (if b then exit 4 0x265E (taken (view x)) else exit 5 0x24B8 (taken (view x))) →
-        (b ≡ true) × Exits x a t u (exit 4 0x265E (taken (view x)))
+    by : (b : Bool) → Exits x a t u (if b then exit 4 TAKE (taken (view x)) else exit 5 GOTO (taken (view x))) →
+        (b ≡ true) × Exits x a t u (exit 4 TAKE (taken (view x)))
     by true d = (refl, d)
     by false d = let p = d.stands.pc in absurd (omega arith)
 
-pub keeps : (x a : MachineState) (t u : ℕ) → Exits x a t u (pieces.take_return (view x)) → (a.cpu.pc ≡ 0x265E → ⊥) →
-    ((view x).r.r0 == 0 ≡ false) × Exits x a t u (exit 5 0x24B8 (taken (view x)))
+pub keeps : (x a : MachineState) (t u : ℕ) → Exits x a t u (pieces.take_return (view x)) → (a.cpu.pc ≡ TAKE → ⊥) →
+    ((view x).r.r0 == 0 ≡ false) × Exits x a t u (exit 5 GOTO (taken (view x)))
 keeps x a t u e elsewhere = by ((view x).r.r0 == 0) e
   where
-    by : (b : Bool) → Exits x a t u (if b then exit 4 0x265E (taken (view x)) else exit 5 0x24B8 (taken (view x))) →
-        (b ≡ false) × Exits x a t u (exit 5 0x24B8 (taken (view x)))
+    by : (b : Bool) → Exits x a t u (if b then exit 4 TAKE (taken (view x)) else exit 5 GOTO (taken (view x))) →
+        (b ≡ false) × Exits x a t u (exit 5 GOTO (taken (view x)))
     by true d = absurd (elsewhere d.stands.pc)
     by false d = (refl, d)
 
@@ -157,31 +129,31 @@ returned_as : (code : ℕ) (b : Bool) → (code == 0) ≡ b → (s : GplState) (
     P (if b then with_condition false (gone_back s top) else gone_back s top) → P (returned_by code s top)
 returned_as code b e s top P h = subst (λ (b : Bool). P (if b then with_condition false (gone_back s top) else gone_back s top)) (sym e) h
 
-module _ (x a y : MachineState) (t u v : ℕ) (e : Exits x a t u (pieces.take_return (view x))) where
-  pub ends_rtn : a.cpu.pc ≡ 0x265E → TakesBranch a y u v → EndsReturn x y t v
+module _ {x a : MachineState} (y : MachineState) {t u : ℕ} (v : ℕ) (e : Exits x a t u (pieces.take_return (view x))) where
+  pub ends_rtn : a.cpu.pc ≡ TAKE → TakesBranch a y u v → EndsReturn x y t v
   ends_rtn here l s code top next fits h =
       let k = takes x a t u e here in
       let after = (gone_back s top).state in
-      let c1 : Comes 4 x a t u 0x265E (Taken after next) =
+      let c1 : Comes 4 x a t u TAKE (Taken after next) =
       comes k.1 (record { within = omega arith; to_is = refl; holds = taken_sees s code top next (view x) fits h }) in
-      let c2 : Comes 13 x y t v 0x228C (SeesFinished (with_condition false (gone_back s top))) =
+      let c2 : Comes 13 x y t v GSTEP (SeesFinished (with_condition false (gone_back s top))) =
       comes_on 4 9 c1 (l after next c1.holds.sees c1.holds.to) refl in
-      returned_as code true (zero_eq (view x).r.r0 code true h.code_is k.0) s top (λ (c : Changes). Comes 14 x y t v 0x228C (SeesFinished c))
+      returned_as code true (zero_eq (view x).r.r0 code true h.code_is k.0) s top (λ (c : Changes). Comes 14 x y t v GSTEP (SeesFinished c))
       (comes_as 14 (SeesFinished (with_condition false (gone_back s top))) c2 (omega arith) (λ w q. q))
 
-  pub ends_rtnc : (a.cpu.pc ≡ 0x265E → ⊥) → GoesOn a y u v → EndsReturn x y t v
+  pub ends_rtnc : (a.cpu.pc ≡ TAKE → ⊥) → GoesOn a y u v → EndsReturn x y t v
   ends_rtnc elsewhere l s code top next fits h =
       let k = keeps x a t u e elsewhere in
       let after = (gone_back s top).state in
-      let c1 : Comes 5 x a t u 0x24B8 (Taken after next) =
+      let c1 : Comes 5 x a t u GOTO (Taken after next) =
       comes k.1 (record { within = omega arith; to_is = refl; holds = taken_sees s code top next (view x) fits h }) in
-      let c2 : Comes 11 x y t v 0x228C (SeesFinished (gone_back s top)) = comes_on 5 6 c1 (l after next c1.holds.sees c1.holds.to) refl in
-      returned_as code false (zero_eq (view x).r.r0 code false h.code_is k.0) s top (λ (c : Changes). Comes 14 x y t v 0x228C (SeesFinished c))
+      let c2 : Comes 11 x y t v GSTEP (SeesFinished (gone_back s top)) = comes_on 5 6 c1 (l after next c1.holds.sees c1.holds.to) refl in
+      returned_as code false (zero_eq (view x).r.r0 code false h.code_is k.0) s top (λ (c : Changes). Comes 14 x y t v GSTEP (SeesFinished c))
       (comes_as 14 (SeesFinished (gone_back s top)) c2 (omega arith) (λ w q. q))
 
 -- ---- from the dispatch on
 
-module _ (s : GplState) (x a : MachineState) (t u : ℕ) (stands : Stands x 0x26E6)
+module _ (s : GplState) {x a : MachineState} {t u : ℕ} (stands : Stands x GORTN)
     (d : Dispatched s (view x))
     (family : is_return (operation_in s) ≡ true) (e : Exits x a t u (pieces.ask_return (view x))) where
   abbrev offset : ℕ
@@ -191,7 +163,7 @@ module _ (s : GplState) (x a : MachineState) (t u : ℕ) (stands : Stands x 0x26
   told = record (view x) { r = record (view x).r { r2 = offset; r12 = pointer_at 0x73 (view x) } }
 
   abbrev asked : View
-  asked = record told { r = record told.r { r3 = 2; r5 = 0; r11 = 0x2700 } }
+  asked = record told { r = record told.r { r3 = 2; r5 = 0; r11 = RTNP } }
 
   top_small : top_in s < 256
   top_small = subst (λ (l : List ℕ). slice_index l 0x73 < 256) d.sees.cells ((is_view x stands.machine).cells 0x73)
@@ -202,46 +174,37 @@ module _ (s : GplState) (x a : MachineState) (t u : ℕ) (stands : Stands x 0x26
   start : is_end x.cpu.pc ≡ false
   start = ap is_end stands.pc
 
-  pub stopped : a.cpu.pc ≡ 0x22B8 → Turned s 29 x a t u (Stopped Stack)
+  pub stopped : a.cpu.pc ≡ GSTOP → Turned s 29 x a t u (Stopped Stack)
   stopped here =
-      let k = goes_full x a t u (nat_lt 0xC0 offset) (pieces.full 9 told) (exit 9 0x2368 asked) e (λ q. absurd (omega arith)) here in
+      let k = goes_full x a t u (nat_lt 0xC0 offset) (pieces.full 9 told) (exit 9 LOAD asked) e (λ q. absurd (omega arith)) here in
       let full : on_stack 2 (top_in s) ≡ Err Stack = no_room 0xC0 2 (top_in s) refl (ap (nat_lt 0xC0) (sym offset_top) ∙ k.0) in
-      let c : Comes 9 x a t u 0x22B8 (StoppedBy s Stack) = comes k.1 (record {
+      let c : Comes 9 x a t u GSTOP (StoppedBy s Stack) = comes k.1 (record {
         within = omega arith;
         to_is = refl;
         holds = record { ended = record { cells = d.sees.cells; vdp = d.sees.vdp; registers = d.sees.registers; address = d.address }; reason_is = refl };
       }) in
       stop_turned s x a t u 9 start (step_full s (operation_in s) family refl full) c (omega arith)
 
-  module _ (elsewhere : a.cpu.pc ≡ 0x22B8 → ⊥) where
-    went : (nat_lt 0xC0 offset ≡ false) × Exits x a t u (exit 9 0x2368 asked)
-    went = goes_on x a t u (nat_lt 0xC0 offset) (pieces.full 9 told) (exit 9 0x2368 asked) e refl elsewhere
-
-    pub stands_load : Stands a 0x2368
-    stands_load = went.1.stands
+  module _ (elsewhere : a.cpu.pc ≡ GSTOP → ⊥) where
+    went : (nat_lt 0xC0 offset ≡ false) × Exits x a t u (exit 9 LOAD asked)
+    went = goes_on x a t u (nat_lt 0xC0 offset) (pieces.full 9 told) (exit 9 LOAD asked) e refl elsewhere
 
     pub idle_load : PortsAreIdle a.cpu.memory
     idle_load =
         idle_again x.cpu.memory a.cpu.memory (ap (λ (v : View). v.vdp) went.1.shows) (ap (λ (v : View). v.grom) went.1.shows)
         (idle_of x.cpu.memory s (behind_code s) d.sees)
 
-    pub visible_load : IsVisible (view a).r.r5 (view a).r.r2 (view a).r.r3
-    visible_load =
-        let near = at_most 0xC0 offset went.0 in
-        let fits : IsVisible 0 offset 2 = λ z. omega arith in
-        subst (λ (v : View). IsVisible v.r.r5 v.r.r2 v.r.r3) (sym went.1.shows) fits
-
     space_load : (view a).r.r5 < 2
     space_load = let z = ap (λ (v : View). v.r.r5) went.1.shows in omega arith
 
-    module _ (b : MachineState) (w : ℕ) (may : (view a).r.r5 < 2 → LoadsValue a b u w) where
+    module _ {b : MachineState} {w : ℕ} (may : (view a).r.r5 < 2 → LoadsValue a b u w) where
       abbrev Loads : View → Type 0
       Loads v = Comes 17 a b u w (return_of v) (Loaded v (value_at (state_of v) (width_in v.r.r3) (place_in v.r.r5 v.r.r2)))
 
-      loads : Comes 17 a b u w 0x2700 (Loaded asked (value_at (state_of asked) Word (place_in 0 offset)))
+      loads : Comes 17 a b u w RTNP (Loaded asked (value_at (state_of asked) Word (place_in 0 offset)))
       loads = subst Loads went.1.shows (may space_load)
 
-      pub stands_taking : Stands b 0x2700
+      pub stands_taking : Stands b RTNP
       stands_taking = loads.stands
 
       word_is : value_at (state_of asked) Word (place_in 0 offset) ≡ word_at s (top_in s)
@@ -252,9 +215,9 @@ module _ (s : GplState) (x a : MachineState) (t u : ℕ) (stands : Stands x 0x26
       sees_asked : Sees (before s) (behind_code s) asked
       sees_asked = record { cells = d.sees.cells; vdp = d.sees.vdp; registers = d.sees.registers; held = d.sees.held; grom = d.sees.grom }
 
-      returning : Comes 26 x b t w 0x2700 (Returning (before s) (code_byte s) (top_in s) (behind_code s))
+      returning : Comes 26 x b t w RTNP (Returning (before s) (code_byte s) (top_in s) (behind_code s))
       returning =
-          let c1 : Comes 9 x a t u 0x2368 (λ v. v ≡ asked) = comes went.1 (record { within = omega arith; to_is = refl; holds = refl }) in
+          let c1 : Comes 9 x a t u LOAD (λ v. v ≡ asked) = comes went.1 (record { within = omega arith; to_is = refl; holds = refl }) in
           let number = value_at (state_of asked) Word (place_in 0 offset) in
           comes_as 26 (Returning (before s) (code_byte s) (top_in s) (behind_code s)) (comes_on 9 17 c1 loads refl) (omega arith) (λ v q. record {
             sees = sees_loaded (before s) (behind_code s) number asked v sees_asked q;

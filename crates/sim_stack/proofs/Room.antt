@@ -1,26 +1,11 @@
 -- Room on a stack: what the checks of the pieces say, and the stop by reason 3.
-use Rattle.std.proofs.Common.{◌≡◌, ℕ, ◌+◌, ◌<◌, ◌≤◌, Bool, true, false, refl, sym, ap, ◌∙◌, arith, Result, Ok, Err}
-use Rattle.std.specs.Prelude.{nat_lt, nat_le, if◌then◌else◌, slice_index}
-use Rattle.std.proofs.lemmas.Bool.{le-leb, lt-leb, ltb-true, ltb-false}
-use Rattle.console_defs.specs.Words.{high, join, plus}
-use Rattle.console_defs.specs.Flags.{Word, sum_of}
-use Rattle.console_defs.specs.Machine.{MachineState}
-use Rattle.step_defs.specs.declared.reason.Reason.{Reason}
-use Rattle.step_defs.specs.declared.reason.Reason.TheVariants.{Stack}
-use Rattle.step_defs.specs.State.{GplState}
-use Rattle.step_defs.specs.Place.{value_at, word_at}
-use Rattle.step_defs.specs.Flow.{on_stack, grown_by}
-use Rattle.step_defs.specs.Step.{step}
-use Rattle.step_defs.specs.Run.{bound}
-use Rattle.interp_defs.specs.declared.turn.Turn.TheVariants.{Stopped}
-use Rattle.interp_defs.specs.Runs.{is_end}
-use Rattle.interp_defs.specs.Turned.{Turned}
-use Rattle.sim_view.specs.View.{View}
-use Rattle.sim_view.specs.Exits.{Exit, Exits, Comes}
-use Rattle.sim_operands.specs.Subroutines.{place_in, Loaded}
-use Rattle.sim_rows.specs.States.{Sees, StoppedBy}
-use Rattle.sim_rows.proofs.Ends.{stops, reaches, turned_by}
-use Rattle.sim_rows.proofs.Steps.{bound_stop}
+use Rattle.std.proofs.Common.{ℕ, ◌+◌, ◌<◌, ◌∙◌, ◌≡◌, ◌≤◌, ap, arith, Bool, Err, false, if◌then◌else◌, nat_le, nat_lt, Ok, refl, Result, slice_index, sym}
+use Rattle.std.proofs.Common.{true}
+use Rattle.std.proofs.lemmas.Bool.{le-leb, lt-leb, ltb-false, ltb-true}
+use Rattle.sim_rows.proofs.Common.{bound, bound_stop, Comes, Exit, Exits, GplState, grown_by, GSTOP, high, is_end, join, Loaded, MachineState, on_stack}
+use Rattle.sim_rows.proofs.Common.{place_in, plus, reaches, Reason, Sees, Stack, step, Stopped, StoppedBy, stops, sum_of, Turned, turned_by, value_at, View}
+use Rattle.sim_rows.proofs.Common.{Word}
+use Rattle.sim_rows.specs.step_defs.Place.{word_at}
 use Rattle.sim_stack.specs.Pieces.{offset_of}
 
 -- ---- numbers
@@ -88,12 +73,12 @@ stack_alone bytes top = by (nat_le (top + bytes) 0xC2)
 
 -- ---- the piece's check
 
-pub goes_full : (x a : MachineState) (t u : ℕ) (b : Bool) (stop go : Exit) → Exits x a t u (if b then stop else go) → (go.to ≡ 0x22B8 → ⊥) → a.cpu.pc ≡ 0x22B8 →
+pub goes_full : (x a : MachineState) (t u : ℕ) (b : Bool) (stop go : Exit) → Exits x a t u (if b then stop else go) → (go.to ≡ GSTOP → ⊥) → a.cpu.pc ≡ GSTOP →
     (b ≡ true) × Exits x a t u stop
 goes_full x a t u true stop go e other here = (refl, e)
 goes_full x a t u false stop go e other here = absurd (other (sym e.stands.pc ∙ here))
 
-pub goes_on : (x a : MachineState) (t u : ℕ) (b : Bool) (stop go : Exit) → Exits x a t u (if b then stop else go) → stop.to ≡ 0x22B8 → (a.cpu.pc ≡ 0x22B8 → ⊥) →
+pub goes_on : (x a : MachineState) (t u : ℕ) (b : Bool) (stop go : Exit) → Exits x a t u (if b then stop else go) → stop.to ≡ GSTOP → (a.cpu.pc ≡ GSTOP → ⊥) →
     (b ≡ false) × Exits x a t u go
 goes_on x a t u true stop go e is elsewhere = absurd (elsewhere (e.stands.pc ∙ is))
 goes_on x a t u false stop go e is elsewhere = (refl, e)
@@ -101,7 +86,7 @@ goes_on x a t u false stop go e is elsewhere = (refl, e)
 -- ---- the stop
 
 pub stop_turned : (s : GplState) (x a : MachineState) (t u most : ℕ) → is_end x.cpu.pc ≡ false → step s ≡ Err Stack →
-    Comes most x a t u 0x22B8 (StoppedBy s Stack) → most ≤ 371 →
+    Comes most x a t u GSTOP (StoppedBy s Stack) → most ≤ 371 →
     Turned s 29 x a t u (Stopped Stack)
 stop_turned s x a t u most start is c le =
     let b = bound_stop s Stack is in

@@ -1,10 +1,7 @@
 -- The operations of this family: CALL, RTN and RTNC, and the rows FETCH and PUSH.
-use Rattle.std.specs.Prelude.{Bool, true, false, Option, Some}
-use Rattle.gpl_defs.specs.declared.instruction.PlainOp.TheVariants.{RTN, RTNC}
-use Rattle.gpl_defs.specs.declared.instruction.GoOp.TheVariants.{CALL}
-use Rattle.gpl_defs.specs.declared.instruction.OneName.TheVariants.{FETCH, PUSH}
-use Rattle.gpl_defs.specs.declared.instruction.GplOperation.{GplOperation}
-use Rattle.gpl_defs.specs.declared.instruction.GplOperation.TheVariants.{Plain, Jump, One}
+use Rattle.std.specs.Prelude.{Bool, false, Option, Some, true}
+use Rattle.sim_rows.specs.Prelude.{CALL, GplOperation, Jump, One, Plain, PUSH, RTN, RTNC}
+use Rattle.sim_rows.specs.gpl_defs.declared.instruction.OneName.TheVariants.{FETCH}
 
 abbrev pub is_return : Option GplOperation → Bool
 is_return (Some (Plain RTN)) = true

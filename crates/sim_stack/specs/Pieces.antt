@@ -1,39 +1,10 @@
 -- What the pieces of CALL, RTN, PUSH and FETCH come to: how many instructions they have, where they end, and what they
 -- change of the view, in the words of the processor. Registers, cells and ports that are not named stay.
-use Rattle.std.specs.Prelude.{ℕ, ◌==◌, nat_lt, if◌then◌else◌, slice_index, slice_set}
-use Rattle.console_defs.specs.Words.{high, low, join}
-use Rattle.console_defs.specs.Flags.{Word, sum_of}
-use Rattle.console_defs.specs.Shifts.{shifted}
-use Rattle.console_defs.specs.declared.instruction.ShiftOp.TheVariants.{SRL}
-use Rattle.step_defs.specs.declared.cells.TheConstants.{VALUE_STACK, RETURN_STACK}
-use Rattle.native_interp.specs.declared.addresses.TheConstants.{
-  GSTOP,
-  WHERE,
-  SEEK,
-  FETCH,
-  LOAD,
-  STREAM,
-  STORE,
-  STO,
-  GOTO,
-  TAKE,
-  CALLT,
-  CALLN,
-  CALLS,
-  RESUME,
-  RTNP,
-  FETCHN,
-  FETCHP,
-  FETCHA,
-  FETCHR,
-  FETCHK,
-  FETCHB,
-  FETCHS,
-  FETCHD,
-}
-use Rattle.sim_view.specs.View.{View}
-use Rattle.sim_view.specs.Exits.{Exit}
-use Rattle.sim_operands.specs.Pieces.{exit}
+use Rattle.std.specs.Prelude.{ℕ, ◌==◌, if◌then◌else◌, nat_lt, slice_index, slice_set}
+use Rattle.sim_rows.specs.Prelude.{CALLN, CALLS, CALLT, Exit, exit, FETCH, FETCHA, FETCHB, FETCHD, FETCHK, FETCHN}
+use Rattle.sim_rows.specs.Prelude.{FETCHP, FETCHR, FETCHS, GOTO, GSTOP, high, join, LOAD, low, RESUME, RETURN_STACK}
+use Rattle.sim_rows.specs.Prelude.{RTNP, SEEK, shifted, SRL, STO, STORE, STREAM, sum_of, TAKE, VALUE_STACK, View}
+use Rattle.sim_rows.specs.Prelude.{WHERE, Word}
 
 -- A pointer of a stack in the high half of a register, with nothing below it, and the offset that it says.
 abbrev pub pointer_at : ℕ → View → ℕ

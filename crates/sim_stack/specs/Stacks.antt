@@ -1,22 +1,11 @@
 -- Parts of CALL, RTN, PUSH and FETCH, for all states that may be there.
-use Rattle.std.specs.Prelude.{◌≡◌, ◌<◌, ℕ, ◌==◌, false, if◌then◌else◌, List, slice_index}
-use Rattle.console_defs.specs.Words.{high, join}
-use Rattle.console_defs.specs.Bytes.{word_in}
-use Rattle.console_defs.specs.Grom.{next_in_grom}
-use Rattle.console_defs.specs.Machine.{MachineState}
-use Rattle.gpl_defs.specs.Reading.{word_at as word_in_grom}
-use Rattle.step_defs.specs.declared.cells.TheConstants.{RETURN_STACK}
-use Rattle.step_defs.specs.State.{GplState}
-use Rattle.step_defs.specs.Place.{Place, word_at}
-use Rattle.step_defs.specs.Changes.{Changes, unchanged, with_pc, with_cell, with_byte, with_condition}
-use Rattle.step_defs.specs.Flow.{with_word, grown_by}
-use Rattle.native_interp.specs.declared.addresses.TheConstants.{GSTEP, WHERE, CALLT, FETCHP, FETCHA, FETCHB}
-use Rattle.sim_view.specs.View.{View, view}
-use Rattle.sim_view.specs.Exits.{Comes}
-use Rattle.sim_operands.specs.Values.{number_of_space}
-use Rattle.sim_operands.specs.Subroutines.{grom_at, Loaded}
-use Rattle.sim_rows.specs.States.{Sees, Dispatched, behind_code}
-use Rattle.sim_rows.specs.Results.{Changed, SeesFinished}
+use Rattle.std.specs.Prelude.{ℕ, ◌<◌, ◌==◌, ◌≡◌, false, if◌then◌else◌, List, slice_index}
+use Rattle.sim_rows.specs.Prelude.{behind_code, CALLT, Changed, Changes, Comes, Dispatched, FETCHA, FETCHB, FETCHP}
+use Rattle.sim_rows.specs.Prelude.{GplState, grom_at, grown_by, GSTEP, high, join, Loaded, MachineState, next_in_grom}
+use Rattle.sim_rows.specs.Prelude.{number_of_space, Place, RETURN_STACK, Sees, SeesFinished, unchanged, View, view}
+use Rattle.sim_rows.specs.Prelude.{WHERE, with_byte, with_cell, with_condition, with_pc, with_word}
+use Rattle.sim_rows.specs.Prelude.{word_at as word_in_grom, word_in}
+use Rattle.sim_rows.specs.step_defs.Place.{word_at}
 use Rattle.sim_stack.specs.Pieces.{ask_stacked}
 
 -- RTN and RTNC

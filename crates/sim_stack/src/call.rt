@@ -1,59 +1,19 @@
 //! CALL.
 
 ghost use Rattle.std.specs.Prelude.{◌≡◌, true};
-ghost use Rattle.native_interp.specs.declared.addresses.TheConstants as address;
-ghost use Rattle.interp_defs.specs.Interpreter.{most_to_dispatch};
-ghost use Rattle.interp_defs.specs.Match.{PortsAreIdle};
-ghost use Rattle.interp_defs.specs.Turned.{Turned};
-ghost use Rattle.sim_view.specs.View.{view, Stands};
-ghost use Rattle.sim_view.specs.Exits.{Exits};
-ghost use Rattle.sim_operands.specs.Values.{IsVisible};
-ghost use Rattle.sim_rows.specs.States.{Dispatched, state_at_dispatch, operation_seen};
-ghost use Rattle.sim_stack.specs.Pieces as piece;
+ghost use Rattle.sim_rows.specs.Prelude.{Dispatched, IsVisible, most_to_dispatch, operation_seen, PortsAreIdle};
+ghost use Rattle.sim_rows.specs.Prelude.{Stands, state_at_dispatch, Turned, view};
 ghost use Rattle.sim_stack.specs.Family.{is_call};
-ghost use Rattle.sim_stack.specs.Stacks.{ReadsTarget, Locates, EndsCall};
+ghost use Rattle.sim_stack.specs.Stacks.{EndsCall, Locates, ReadsTarget};
+ghost use Rattle.sim_rows.specs.native_interp.declared.addresses.TheConstants as address;
 
-use interp_defs::Turn;
-use native_interp::{GSTOP, SEEK, STORE, STREAM, WHERE};
+use crate::pieces::{ask_target, keep_call_next, keep_target, store_next};
 use sim_jumps::resume_row;
-use sim_operands::{run_store, seek_address, stream_value};
-use sim_rows::where_next;
-use sim_view::run_piece;
+use sim_rows::labels::{GSTOP, WHERE};
+use sim_rows::processor::{Machine, Steps};
+use sim_rows::subroutines::{run_store, seek_address, stream_value};
+use sim_rows::{Reason, Turn, where_next};
 use std::sync::ledger::Ledger;
-use step_defs::Reason;
-use tms_step::{Machine, Steps};
-
-/// The piece of CALL that asks STREAM for the address that follows.
-pub fn ask_target<L: Ledger>(machine: &mut Machine, steps: &mut Steps<L>)
-    requires { Stands machine.old address.GOCALL }
-    ensures { Exits machine.old machine.new steps.old steps.new (piece.ask_target (view machine.old)) }
-{
-    run_piece(machine, steps, &[STREAM]);
-}
-
-/// The piece of CALL that keeps it and asks WHERE for the next address, or stops by reason 3.
-pub fn keep_target<L: Ledger>(machine: &mut Machine, steps: &mut Steps<L>)
-    requires { Stands machine.old address.CALLT }
-    ensures { Exits machine.old machine.new steps.old steps.new (piece.keep_target (view machine.old)) }
-{
-    run_piece(machine, steps, &[WHERE]);
-}
-
-/// The piece of CALL that keeps the next address and asks SEEK for it.
-pub fn keep_call_next<L: Ledger>(machine: &mut Machine, steps: &mut Steps<L>)
-    requires { Stands machine.old address.CALLN }
-    ensures { Exits machine.old machine.new steps.old steps.new (piece.keep_call_next (view machine.old)) }
-{
-    run_piece(machine, steps, &[SEEK]);
-}
-
-/// The piece of CALL that stores the pointer and asks STORE for the next address.
-pub fn store_next<L: Ledger>(machine: &mut Machine, steps: &mut Steps<L>)
-    requires { Stands machine.old address.CALLS }
-    ensures { Exits machine.old machine.new steps.old steps.new (piece.store_next (view machine.old)) }
-{
-    run_piece(machine, steps, &[STORE]);
-}
 
 /// Reads the address that is called.
 fn read_target<L: Ledger>(machine: &mut Machine, steps: &mut Steps<L>)

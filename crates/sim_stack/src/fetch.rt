@@ -1,98 +1,21 @@
 //! FETCH.
 
-ghost use Rattle.std.specs.Prelude.{◌≡◌, ◌<◌};
-ghost use Rattle.gpl_defs.specs.declared.instruction.GplOperation.TheVariants.{One};
-ghost use Rattle.gpl_defs.specs.declared.instruction.OneName.TheVariants as name;
-ghost use Rattle.native_interp.specs.declared.addresses.TheConstants as address;
-ghost use Rattle.interp_defs.specs.Match.{PortsAreIdle, IsFetched};
-ghost use Rattle.sim_view.specs.View.{view, Stands};
-ghost use Rattle.sim_view.specs.Exits.{Exits};
-ghost use Rattle.sim_operands.specs.Values.{IsVisible};
-ghost use Rattle.sim_rows.specs.Results.{TurnsRow};
-ghost use Rattle.sim_stack.specs.Pieces as piece;
-ghost use Rattle.sim_stack.specs.Stacks.{SetsAside, LoadsStacked, FetchesStacked, Locates, EndsFetch};
+ghost use Rattle.std.specs.Prelude.{◌<◌, ◌≡◌};
+ghost use Rattle.sim_rows.specs.Prelude.{IsFetched, IsVisible, One, PortsAreIdle, Stands, TurnsRow, view};
+ghost use Rattle.sim_stack.specs.Stacks.{EndsFetch, FetchesStacked, LoadsStacked, Locates, SetsAside};
+ghost use Rattle.sim_rows.specs.gpl_defs.declared.instruction.OneName.TheVariants as name;
+ghost use Rattle.sim_rows.specs.native_interp.declared.addresses.TheConstants as address;
 
-use interp_defs::Turn;
-use native_interp::{FETCH, GSTOP, LOAD, SEEK, STORE, WHERE};
+use crate::pieces::{
+    ask_byte, ask_stacked, keep_back, keep_byte, keep_place, keep_stacked_next, seek_stacked,
+    store_byte, store_stacked,
+};
 use sim_jumps::resume_row;
-use sim_operands::{fetch_byte, run_load, run_store, seek_address};
-use sim_rows::where_next;
-use sim_view::run_piece;
+use sim_rows::labels::{FETCH, GSTOP, WHERE};
+use sim_rows::processor::{Machine, Steps};
+use sim_rows::subroutines::{fetch_byte, run_load, run_store, seek_address};
+use sim_rows::{Reason, Turn, where_next};
 use std::sync::ledger::Ledger;
-use step_defs::Reason;
-use tms_step::{Machine, Steps};
-
-/// The piece of FETCH that keeps the operand's place and asks WHERE for the next address, or stops by reason 3.
-pub fn keep_place<L: Ledger>(machine: &mut Machine, steps: &mut Steps<L>)
-    requires { Stands machine.old address.FETCHV }
-    ensures { Exits machine.old machine.new steps.old steps.new (piece.keep_place (view machine.old)) }
-{
-    run_piece(machine, steps, &[WHERE]);
-}
-
-/// The piece of FETCH that keeps the next address and asks SEEK for it.
-pub fn keep_back<L: Ledger>(machine: &mut Machine, steps: &mut Steps<L>)
-    requires { Stands machine.old address.FETCHN }
-    ensures { Exits machine.old machine.new steps.old steps.new (piece.keep_back (view machine.old)) }
-{
-    run_piece(machine, steps, &[SEEK]);
-}
-
-/// The piece of FETCH that asks LOAD for the word on the stack.
-pub fn ask_stacked<L: Ledger>(machine: &mut Machine, steps: &mut Steps<L>)
-    requires { Stands machine.old address.FETCHP }
-    ensures { Exits machine.old machine.new steps.old steps.new (piece.ask_stacked (view machine.old)) }
-{
-    run_piece(machine, steps, &[LOAD]);
-}
-
-/// The piece of FETCH that asks SEEK for the address on the stack.
-pub fn seek_stacked<L: Ledger>(machine: &mut Machine, steps: &mut Steps<L>)
-    requires { Stands machine.old address.FETCHA }
-    ensures { Exits machine.old machine.new steps.old steps.new (piece.seek_stacked (view machine.old)) }
-{
-    run_piece(machine, steps, &[SEEK]);
-}
-
-/// The piece of FETCH that asks for the byte there.
-pub fn ask_byte<L: Ledger>(machine: &mut Machine, steps: &mut Steps<L>)
-    requires { Stands machine.old address.FETCHR }
-    ensures { Exits machine.old machine.new steps.old steps.new (piece.ask_byte (view machine.old)) }
-{
-    run_piece(machine, steps, &[FETCH]);
-}
-
-/// The piece of FETCH that keeps the byte and asks WHERE for the address behind it.
-pub fn keep_byte<L: Ledger>(machine: &mut Machine, steps: &mut Steps<L>)
-    requires { Stands machine.old address.FETCHK }
-    ensures { Exits machine.old machine.new steps.old steps.new (piece.keep_byte (view machine.old)) }
-{
-    run_piece(machine, steps, &[WHERE]);
-}
-
-/// The piece of FETCH that keeps that address and asks SEEK for it.
-pub fn keep_stacked_next<L: Ledger>(machine: &mut Machine, steps: &mut Steps<L>)
-    requires { Stands machine.old address.FETCHB }
-    ensures { Exits machine.old machine.new steps.old steps.new (piece.keep_stacked_next (view machine.old)) }
-{
-    run_piece(machine, steps, &[SEEK]);
-}
-
-/// The piece of FETCH that asks STORE for that address.
-pub fn store_stacked<L: Ledger>(machine: &mut Machine, steps: &mut Steps<L>)
-    requires { Stands machine.old address.FETCHS }
-    ensures { Exits machine.old machine.new steps.old steps.new (piece.store_stacked (view machine.old)) }
-{
-    run_piece(machine, steps, &[STORE]);
-}
-
-/// The piece of FETCH that asks STORE for the byte.
-pub fn store_byte<L: Ledger>(machine: &mut Machine, steps: &mut Steps<L>)
-    requires { Stands machine.old address.FETCHD }
-    ensures { Exits machine.old machine.new steps.old steps.new (piece.store_byte (view machine.old)) }
-{
-    run_piece(machine, steps, &[STORE]);
-}
 
 /// Keeps the next address, where GROM goes on.
 fn set_aside<L: Ledger>(machine: &mut Machine, steps: &mut Steps<L>)

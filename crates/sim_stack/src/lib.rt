@@ -5,14 +5,13 @@
 mod call;
 mod family;
 mod fetch;
+mod pieces;
 mod push;
 mod returns;
 
-pub use call::{ask_target, keep_call_next, keep_target, store_next};
 pub use family::run_stack;
-pub use fetch::{
-    ask_byte, ask_stacked, keep_back, keep_byte, keep_place, keep_stacked_next, seek_stacked,
-    store_byte, store_stacked,
+pub use pieces::{
+    ask_byte, ask_return, ask_stacked, ask_target, keep_back, keep_byte, keep_call_next,
+    keep_place, keep_stacked_next, keep_target, push_pointer, seek_stacked, store_byte, store_next,
+    store_stacked, take_return,
 };
-pub use push::push_pointer;
-pub use returns::{ask_return, take_return};

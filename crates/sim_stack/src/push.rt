@@ -1,30 +1,14 @@
 //! PUSH.
 
 ghost use Rattle.std.specs.Prelude.{◌≡◌};
-ghost use Rattle.gpl_defs.specs.declared.instruction.GplOperation.TheVariants.{One};
-ghost use Rattle.gpl_defs.specs.declared.instruction.OneName.TheVariants.{PUSH};
-ghost use Rattle.native_interp.specs.declared.addresses.TheConstants as address;
-ghost use Rattle.interp_defs.specs.Match.{PortsAreIdle};
-ghost use Rattle.sim_view.specs.View.{view, Stands};
-ghost use Rattle.sim_view.specs.Exits.{Exits};
-ghost use Rattle.sim_rows.specs.Results.{TurnsRow};
-ghost use Rattle.sim_stack.specs.Pieces as piece;
+ghost use Rattle.sim_rows.specs.Prelude.{One, PortsAreIdle, PUSH, Stands, TurnsRow, view};
+ghost use Rattle.sim_rows.specs.native_interp.declared.addresses.TheConstants as address;
 
-use interp_defs::Turn;
-use native_interp::{GSTOP, STO};
-use sim_rows::finish_row;
-use sim_view::run_piece;
+use crate::pieces::push_pointer;
+use sim_rows::labels::GSTOP;
+use sim_rows::processor::{Machine, Steps};
+use sim_rows::{Reason, Turn, finish_row};
 use std::sync::ledger::Ledger;
-use step_defs::Reason;
-use tms_step::{Machine, Steps};
-
-/// The piece of PUSH that stores the pointer and turns to the top of the stack, or stops by reason 3.
-pub fn push_pointer<L: Ledger>(machine: &mut Machine, steps: &mut Steps<L>)
-    requires { Stands machine.old address.PUSHV }
-    ensures { Exits machine.old machine.new steps.old steps.new (piece.push_pointer (view machine.old)) }
-{
-    run_piece(machine, steps, &[STO]);
-}
 
 /// Runs PUSH from its row to the end of the step.
 pub fn run_push<L: Ledger>(machine: &mut Machine, steps: &mut Steps<L>) -> Turn

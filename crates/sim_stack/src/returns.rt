@@ -1,40 +1,19 @@
 //! RTN and RTNC.
 
 ghost use Rattle.std.specs.Prelude.{◌≡◌, true};
-ghost use Rattle.native_interp.specs.declared.addresses.TheConstants as address;
-ghost use Rattle.interp_defs.specs.Interpreter.{most_to_dispatch};
-ghost use Rattle.interp_defs.specs.Turned.{Turned};
-ghost use Rattle.sim_view.specs.View.{view, Stands};
-ghost use Rattle.sim_view.specs.Exits.{Exits};
-ghost use Rattle.sim_rows.specs.States.{Dispatched, state_at_dispatch, operation_seen};
-ghost use Rattle.sim_stack.specs.Pieces as piece;
+ghost use Rattle.sim_rows.specs.Prelude.{Dispatched, most_to_dispatch, operation_seen, Stands, state_at_dispatch};
+ghost use Rattle.sim_rows.specs.Prelude.{Turned, view};
 ghost use Rattle.sim_stack.specs.Family.{is_return};
 ghost use Rattle.sim_stack.specs.Stacks.{EndsReturn};
+ghost use Rattle.sim_rows.specs.native_interp.declared.addresses.TheConstants as address;
 
-use interp_defs::Turn;
-use native_interp::{GOTO, GSTOP, LOAD, TAKE};
+use crate::pieces::{ask_return, take_return};
 use sim_jumps::{jump, take_jump};
-use sim_operands::run_load;
-use sim_view::run_piece;
+use sim_rows::labels::{GSTOP, TAKE};
+use sim_rows::processor::{Machine, Steps};
+use sim_rows::subroutines::run_load;
+use sim_rows::{Reason, Turn};
 use std::sync::ledger::Ledger;
-use step_defs::Reason;
-use tms_step::{Machine, Steps};
-
-/// The piece of RTN that asks LOAD for the word on the stack, or stops by reason 3.
-pub fn ask_return<L: Ledger>(machine: &mut Machine, steps: &mut Steps<L>)
-    requires { Stands machine.old address.GORTN }
-    ensures { Exits machine.old machine.new steps.old steps.new (piece.ask_return (view machine.old)) }
-{
-    run_piece(machine, steps, &[LOAD]);
-}
-
-/// The piece of RTN that takes the word off the stack. RTN goes on at TAKE, and RTNC at GOTO.
-pub fn take_return<L: Ledger>(machine: &mut Machine, steps: &mut Steps<L>)
-    requires { Stands machine.old address.RTNP }
-    ensures { Exits machine.old machine.new steps.old steps.new (piece.take_return (view machine.old)) }
-{
-    run_piece(machine, steps, &[TAKE, GOTO]);
-}
 
 /// Takes the word off the stack and goes on at it; RTN clears the condition.
 fn end_return<L: Ledger>(machine: &mut Machine, steps: &mut Steps<L>)

@@ -1,18 +1,8 @@
 -- Runs of turns.
-use Rattle.std.proofs.Common.{◌≡◌, ℕ, zero, suc, ◌+◌, ◌<◌, ◌≤◌, refl, sym, ap, subst, ◌∙◌, arith, Option, Some, None, Result, Ok, Err}
-use Rattle.source_defs.specs.Refusals.{◌>>=◌}
-use Rattle.console_defs.specs.Machine.{MachineState}
-use Rattle.step_defs.specs.declared.reason.Reason.{Reason}
-use Rattle.step_defs.specs.declared.reason.Reason.TheVariants.{Cell}
-use Rattle.step_defs.specs.State.{GplState}
-use Rattle.step_defs.specs.Step.{step}
-use Rattle.step_defs.specs.Run.{GplRun, steps, run, one_more, with_stop, bound}
-use Rattle.interp_defs.specs.declared.turn.Turn.{Turn}
-use Rattle.interp_defs.specs.declared.turn.Turn.TheVariants.{Stepped, Stopped}
-use Rattle.interp_defs.specs.Match.{IsMatching, Matches, shown_by}
-use Rattle.interp_defs.specs.Turned.{TurnedBy, Turned}
-use Rattle.interp_defs.specs.Turns.{IsTurn}
-use Rattle.interp_defs.specs.Programs.{AreTurns, EndsAs}
+use Rattle.std.proofs.Common.{ℕ, ◌+◌, ◌<◌, ◌∙◌, ◌≡◌, ◌≤◌, ap, arith, Err, None, Ok, Option, refl, Result, Some, subst, suc, sym, zero}
+use Rattle.sim_rows.proofs.Common.{◌>>=◌, AreTurns, bound, Cell, EndsAs, GplRun, GplState, IsMatching, IsTurn, MachineState, Matches, one_more, Reason, run}
+use Rattle.sim_rows.proofs.Common.{shown_by, step, Stepped, Stopped, Turn, Turned, TurnedBy, with_stop}
+use Rattle.sim_rows.specs.step_defs.Run.{steps}
 use Rattle.sim_steps.specs.Running.{RunsTurns}
 
 state_in : GplState → Result GplState Reason → GplState
@@ -35,7 +25,8 @@ next_is : (n : ℕ) → n + 1 ≡ suc n
 next_is n = omega arith
 
 -- what a step and what follows it give, each by itself
-parts : (r : Result GplState Reason) (f : GplState → Result GplState Reason) (now : GplState) → (r >>= f) ≡ Ok now → (next : GplState) × (r ≡ Ok next) × (f next ≡ Ok now)
+parts : (r : Result GplState Reason) (f : GplState → Result GplState Reason) (now : GplState) → (r >>= f) ≡ Ok now →
+    (next : GplState) × (r ≡ Ok next) × (f next ≡ Ok now)
 parts (Ok next) f now e = (next, refl, e)
 parts (Err reason) f now e = absurd (cc)
 
@@ -59,14 +50,16 @@ run_is limit s r e = ap (by_step limit s) e
 abbrev ended : ℕ → GplState → Option Reason → GplRun
 ended done last stop = record { done = done; last = last; stop = stop }
 
-run_stopped : (made limit : ℕ) (s now : GplState) (reason : Reason) → steps made s ≡ Ok now → step now ≡ Err reason → made < limit → run limit s ≡ ended made now (Some reason)
+run_stopped : (made limit : ℕ) (s now : GplState) (reason : Reason) → steps made s ≡ Ok now → step now ≡ Err reason → made < limit →
+    run limit s ≡ ended made now (Some reason)
 run_stopped made zero s now reason e f less = absurd (omega arith)
 run_stopped zero (suc limit) s now reason e f less =
     let same = state_is s now e in
     run_is limit s (Err reason) (ap step same ∙ f) ∙ ap (λ (l : GplState). ended 0 l (Some reason)) same
 run_stopped (suc made) (suc limit) s now reason e f less =
     let p = parts (step s) (λ s. steps made s) now e in
-    run_is limit s (Ok p.0) p.1 ∙ ap one_more (run_stopped made limit p.0 now reason p.2 f (omega arith)) ∙ ap (λ (d : ℕ). ended d now (Some reason)) (next_is made)
+    run_is limit s (Ok p.0) p.1 ∙ ap one_more (run_stopped made limit p.0 now reason p.2 f (omega arith))
+    ∙ ap (λ (d : ℕ). ended d now (Some reason)) (next_is made)
 
 run_whole : (limit : ℕ) (s now : GplState) → steps limit s ≡ Ok now → run limit s ≡ ended limit now None
 run_whole zero s now e = ap (λ (l : GplState). ended 0 l None) (state_is s now e)
@@ -94,7 +87,16 @@ pub record Stepping (made : ℕ) (s : GplState) (x z : MachineState) (t u : ℕ)
   pub turns_are : AreTurns s made count x z
 
 pub none_yet : (x : MachineState) (t : ℕ) → IsMatching x → Stepping 0 (shown_by x.cpu.memory) x x t t
-none_yet x t m = record { now = shown_by x.cpu.memory; steps_are = refl; matches = record { matching = m; shows = refl }; count = 0; counted = omega arith; turns_are = (refl, refl) }
+none_yet x t m =
+    record {
+      now = shown_by x.cpu.memory;
+      steps_are = refl;
+      matches = record { matching = m; shows = refl };
+      count = 0;
+      counted = omega arith;
+      turns_are =
+          (refl, refl);
+    }
 
 module _ (made : ℕ) (s : GplState) (x z w : MachineState) (t u v : ℕ) (h : Stepping made s x z t u) where
   -- the state after the steps that were made is the last of their run
@@ -127,7 +129,8 @@ module _ (made : ℕ) (s : GplState) (x z w : MachineState) (t u v : ℕ) (h : S
   pub stepped : Turned (shown_by z.cpu.memory) 0 z w u v Stepped → Stepping (made + 1) s x w t v
   stepped e = subst (λ (m : ℕ). Stepping m s x w t v) (sym (next_is made)) (stepped_by (step h.now) refl (of_now Stepped e))
 
-  stopped_as : (limit : ℕ) (reason : Reason) → made < limit → (r : Result GplState Reason) → step h.now ≡ r → TurnedBy r h.now 0 z w u v (Stopped reason) → RunsTurns s limit x w t v made (Some reason)
+  stopped_as : (limit : ℕ) (reason : Reason) → made < limit → (r : Result GplState Reason) → step h.now ≡ r → TurnedBy r h.now 0 z w u v (Stopped reason) →
+      RunsTurns s limit x w t v made (Some reason)
   stopped_as limit reason less (Ok next) e r = absurd (let a = r.0 in cc)
   stopped_as limit reason less (Err other) e r =
       let a = h.counted in
@@ -146,7 +149,8 @@ module _ (made : ℕ) (s : GplState) (x z w : MachineState) (t u v : ℕ) (h : S
         };
       }
 
-  pub stopped : (limit : ℕ) (reason : Reason) → made < limit → Turned (shown_by z.cpu.memory) 0 z w u v (Stopped reason) → RunsTurns s limit x w t v made (Some reason)
+  pub stopped : (limit : ℕ) (reason : Reason) → made < limit → Turned (shown_by z.cpu.memory) 0 z w u v (Stopped reason) →
+      RunsTurns s limit x w t v made (Some reason)
   stopped limit reason less e = stopped_as limit reason less (step h.now) refl (of_now (Stopped reason) e)
 
 pub whole : (limit : ℕ) (s : GplState) (x z : MachineState) (t u : ℕ) → Stepping limit s x z t u → RunsTurns s limit x z t u limit None

@@ -1,15 +1,8 @@
 -- The machine on which the interpreter begins.
-use Rattle.std.proofs.Common.{◌≡◌, ℕ, zero, suc, ◌<◌, ◌≤◌, refl, ap, ◌∙◌, arith, List, [], ◌∷◌, length, lit<}
-use Rattle.std.specs.Prelude.{not, is_none, slice_index, slice_set, take, replicate}
-use Rattle.console_defs.specs.Vdp.{IsNewVdp}
-use Rattle.console_defs.specs.Grom.{GromState, new_grom}
-use Rattle.console_defs.specs.Memory.{Memory, IsMemory}
-use Rattle.step_defs.specs.State.{zeros}
-use Rattle.interp_defs.specs.Boot.{HoldsEntry}
-use Rattle.sim_view.specs.View.{view, view_of}
-use Rattle.sim_view.proofs.Bridge.{reg_word}
+use Rattle.std.proofs.Common.{[], ℕ, ◌<◌, ◌∙◌, ◌∷◌, ◌≡◌, ◌≤◌, ap, arith, is_none, length, List, lit<, not, refl, replicate, slice_index, slice_set, suc, take}
+use Rattle.std.proofs.Common.{zero}
+use Rattle.sim_rows.proofs.Common.{GromState, HoldsEntry, IsMemory, IsNewVdp, Memory, new_grom, reg_word, same_state, view, view_of, zeros}
 use Rattle.sim_steps.specs.Starting.{MachinesStart}
-use Rattle.sim_rows.proofs.Ends.{same_state}
 
 take_zeros : (count : ℕ) (xs : List ℕ) → count ≤ length xs → ((at : ℕ) → at < count → slice_index xs at ≡ 0) → take count xs ≡ replicate count 0
 take_zeros zero xs h z = refl

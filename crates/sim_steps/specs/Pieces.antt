@@ -2,11 +2,7 @@
 -- end, and what they change of the view, in the words of the processor. Registers, cells and
 -- ports that are not named stay.
 use Rattle.std.specs.Prelude.{slice_set}
-use Rattle.step_defs.specs.declared.cells.TheConstants.{VALUE_STACK, RETURN_STACK}
-use Rattle.native_interp.specs.declared.addresses.TheConstants.{GSTEP, GSTOP, SEEK}
-use Rattle.sim_view.specs.View.{View}
-use Rattle.sim_view.specs.Exits.{Exit}
-use Rattle.sim_operands.specs.Pieces.{exit}
+use Rattle.sim_rows.specs.Prelude.{Exit, exit, GSTEP, GSTOP, RETURN_STACK, SEEK, VALUE_STACK, View}
 
 -- GBOOT: the stacks' pointers are stored, and SEEK is asked for the entry in register 0.
 abbrev pub boot : View → Exit

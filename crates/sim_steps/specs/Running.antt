@@ -1,10 +1,6 @@
 -- Runs of turns.
-use Rattle.std.specs.Prelude.{◌≡◌, ℕ, ◌+◌, Option}
-use Rattle.console_defs.specs.Machine.{MachineState}
-use Rattle.step_defs.specs.declared.reason.Reason.{Reason}
-use Rattle.step_defs.specs.State.{GplState}
-use Rattle.step_defs.specs.Run.{run}
-use Rattle.interp_defs.specs.Programs.{RunsSteps}
+use Rattle.std.specs.Prelude.{ℕ, ◌+◌, ◌≡◌, Option}
+use Rattle.sim_rows.specs.Prelude.{GplState, MachineState, Reason, run, RunsSteps}
 
 -- The turns from x to y are the run of up to so many steps from a state, with what the run's answers are, and a
 -- counter shows their instructions.

@@ -1,14 +1,7 @@
 -- From boot to the first step, and the machine on which the interpreter begins.
-use Rattle.std.specs.Prelude.{◌≡◌, ◌≤◌, ℕ, ◌+◌, List, slice_set}
-use Rattle.console_defs.specs.Machine.{MachineState, IsMachine}
-use Rattle.native_interp.specs.declared.addresses.TheConstants.{GBOOT}
-use Rattle.step_defs.specs.declared.cells.TheConstants.{VALUE_STACK, RETURN_STACK}
-use Rattle.step_defs.specs.State.{GplState, start}
-use Rattle.interp_defs.specs.Match.{PortsAreIdle, Matches}
-use Rattle.interp_defs.specs.Boot.{IsBoot}
-use Rattle.interp_defs.specs.Turns.{Boots}
-use Rattle.sim_view.specs.View.{View, view, Stands}
-use Rattle.sim_operands.specs.Subroutines.{state_of}
+use Rattle.std.specs.Prelude.{ℕ, ◌+◌, ◌≡◌, ◌≤◌, List, slice_set}
+use Rattle.sim_rows.specs.Prelude.{Boots, GBOOT, GplState, IsBoot, IsMachine, MachineState, Matches, PortsAreIdle}
+use Rattle.sim_rows.specs.Prelude.{RETURN_STACK, Stands, start, state_of, VALUE_STACK, View, view}
 
 -- The state at the first step of a program with its entry in register 0: its stacks are
 -- empty, and all else is as it was.

@@ -1,10 +1,10 @@
 //! The families of the instructions, each of which a function runs.
 
-ghost use Rattle.std.specs.Prelude.{◌≡◌, Some};
-ghost use Rattle.gpl_defs.specs.declared.instruction.GplOperation.TheVariants.{One, Two};
+ghost use Rattle.std.specs.Prelude.{◌≡◌, Some, true};
+ghost use Rattle.sim_rows.specs.Prelude.{One, Two};
 ghost use Rattle.sim_steps.specs.Families as spec;
 
-use gpl_forms::{ByteOp, GoOp, GplOperation, OneName, PlainOp, TwoName};
+use sim_rows::gpl::{ByteOp, GoOp, GplOperation, OneName, PlainOp, TwoName};
 
 /// A family of instructions.
 #[derive(Clone, Copy, Debug, PartialEq, Eq)]
@@ -31,7 +31,8 @@ pub enum Family {
 
 /// The family of an operation.
 pub fn family_of(operation: Option<GplOperation>) -> Family
-    ensures { result ≡ spec.family_of operation }
+    ensures family { result ≡ spec.family_of operation }
+    ensures belongs { spec.belongs result operation ≡ true }
 {
     match operation {
         Some(GplOperation::One(op)) => family_of_one(op),

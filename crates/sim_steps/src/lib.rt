@@ -9,7 +9,6 @@ mod start;
 mod turn;
 
 pub use family::{Family, family_of};
-pub use interp_defs::Turn;
 pub use laws::machines_start;
 pub use program::run_turns;
 pub use sim_alu::run_alu;
@@ -18,8 +17,8 @@ pub use sim_flow::run_flow;
 pub use sim_misc::run_misc;
 pub use sim_move::run_move;
 pub use sim_muldiv::run_muldiv;
+pub use sim_rows::{Reason, Turn};
 pub use sim_shift::run_shift;
 pub use sim_stack::run_stack;
 pub use start::{boot, start_program, stop_code};
-pub use step_defs::Reason;
 pub use turn::gpl_turn;

@@ -1,13 +1,12 @@
 //! Runs of turns.
 
-ghost use Rattle.interp_defs.specs.Match.{IsMatching, shown_by};
+ghost use Rattle.sim_rows.specs.Prelude.{IsMatching, shown_by};
 ghost use Rattle.sim_steps.specs.Running.{RunsTurns};
 
 use crate::turn::gpl_turn;
-use interp_defs::Turn;
+use sim_rows::processor::{Machine, Steps};
+use sim_rows::{Reason, Turn};
 use std::sync::ledger::Ledger;
-use step_defs::Reason;
-use tms_step::{Machine, Steps};
 
 /// Makes steps of GPL up to the first that stops, and no more than so many: how many were made, and why there was no
 /// further one, if a step stopped.

@@ -1,17 +1,15 @@
 //! Boot, and the stop by a code byte.
 
-ghost use Rattle.native_interp.specs.declared.addresses.TheConstants as address;
-ghost use Rattle.sim_view.specs.View.{view, Stands};
-ghost use Rattle.sim_view.specs.Exits.{Exits};
-ghost use Rattle.interp_defs.specs.Match.{PortsAreIdle};
-ghost use Rattle.sim_steps.specs.Pieces as piece;
+ghost use Rattle.sim_rows.specs.Prelude.{Exits, PortsAreIdle, Stands, view};
+ghost use Rattle.sim_rows.specs.native_interp.declared.addresses.TheConstants as address;
 ghost use Rattle.sim_steps.specs.Starting.{Begins, booted};
+ghost use Rattle.sim_steps.specs.Pieces as piece;
 
-use native_interp::SEEK;
-use sim_operands::seek_address;
-use sim_view::run_piece;
+use sim_rows::labels::SEEK;
+use sim_rows::processor::{Machine, Steps};
+use sim_rows::run_piece;
+use sim_rows::subroutines::seek_address;
 use std::sync::ledger::Ledger;
-use tms_step::{Machine, Steps};
 
 /// The piece of boot: the stacks are made empty, and SEEK is asked for the entry.
 pub fn boot<L: Ledger>(machine: &mut Machine, steps: &mut Steps<L>)

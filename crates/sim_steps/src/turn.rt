@@ -1,25 +1,22 @@
 //! A turn.
 
-ghost use Rattle.interp_defs.specs.Match.{IsMatching, shown_by};
-ghost use Rattle.interp_defs.specs.Turned.{Turned};
+ghost use Rattle.sim_rows.specs.Prelude.{AtDispatch, IsMatching, most_to_dispatch, shown_by, state_at_dispatch};
+ghost use Rattle.sim_rows.specs.Prelude.{Turned, view};
+ghost use Rattle.sim_steps.specs.Families as spec;
 
 use crate::family::{Family, family_of};
 use crate::start::stop_code;
-use gpl_forms::operation_at;
-use interp_defs::Turn;
 use sim_alu::run_alu;
 use sim_compare::run_compare;
 use sim_flow::run_flow;
 use sim_misc::run_misc;
 use sim_move::run_move;
 use sim_muldiv::run_muldiv;
-use sim_rows::begin_step;
+use sim_rows::processor::{Machine, Steps};
+use sim_rows::{Reason, Turn, begin_step, operation_told};
 use sim_shift::run_shift;
 use sim_stack::run_stack;
-use sim_view::register;
 use std::sync::ledger::Ledger;
-use step_defs::Reason;
-use tms_step::{Machine, Steps};
 
 /// Runs the interpreter from the beginning of a step of GPL to its end, on a machine that matches a state of GPL.
 ///
@@ -31,8 +28,16 @@ pub fn gpl_turn<L: Ledger>(machine: &mut Machine, steps: &mut Steps<L>) -> Turn
     ensures { Turned (shown_by machine.old.cpu.memory) 0 machine.old machine.new steps.old steps.new result }
 {
     begin_step(machine, steps);
-    let code = register(machine, 0) as u8;
-    match family_of(operation_at(code)) {
+    run_family(machine, steps, family_of(operation_told(machine)))
+}
+
+/// Runs the instructions of a family, from the dispatch of a step to its end.
+fn run_family<L: Ledger>(machine: &mut Machine, steps: &mut Steps<L>, family: Family) -> Turn
+    requires { AtDispatch (spec.belongs family) machine.old }
+    ensures { Turned (state_at_dispatch (view machine.old)) most_to_dispatch
+        machine.old machine.new steps.old steps.new result }
+{
+    match family {
         Family::Alu => run_alu(machine, steps),
         Family::Shift => run_shift(machine, steps),
         Family::MulDiv => run_muldiv(machine, steps),

@@ -18,9 +18,10 @@ use Rattle.console_defs.specs.Machine.{MachineState, IsMachine}
 use Rattle.console_defs.specs.declared.status.Status.{Status}
 use Rattle.interp_defs.specs.Interpreter.{HoldsInterpreter}
 use Rattle.interp_defs.specs.Runs.{Runs}
+use Rattle.native_interp.specs.declared.addresses.TheConstants.{WORKSPACE}
 use Rattle.sim_view.specs.View.{View, Registers, listed, relisted, words_of, view_of, view, Stands}
 use Rattle.sim_view.specs.Exits.{Exit, Exits}
-use Rattle.sim_view.specs.Running.{Ran, ran}
+use Rattle.sim_view.specs.Running.{Ran, RunsPiece, ran}
 use Rattle.sim_view.proofs.Answers.{given, given_by}
 use Rattle.sim_view.proofs.Lists.{double_suc, listed-relisted, spell-words, length-words, words-spell}
 use Rattle.sim_view.proofs.Seen.{spell, seen_run}
@@ -29,7 +30,7 @@ use Rattle.sim_view.proofs.Following.{machine, Followed, followed}
 
 -- The state in which a piece begins.
 abbrev pub at : View → Status → ℕ → Cpu View
-at v f p = record { memory = v; pc = p; wp = 0x83E0; status = f }
+at v f p = record { memory = v; pc = p; wp = WORKSPACE; status = f }
 
 -- how a run of the view ends, without the status bits
 abbrev pub but_status : Answer (ℕ × Cpu View) → Answer (ℕ × View × ℕ × ℕ)
@@ -37,7 +38,7 @@ but_status a = a >>= λ r. Gives (r.0, r.1.memory, r.1.pc, r.1.wp)
 
 -- The run of the view from an address ends so, whatever the status bits are.
 pub record Leads (ends : List ℕ) (v : View) (p : ℕ) (e : Exit) : Type 0 where
-  pub by : (f : Status) → IsStatus f → but_status (seen_run ends 0 16 (at v f p)) ≡ Gives (e.count, e.left, e.to, 0x83E0)
+  pub by : (f : Status) → IsStatus f → but_status (seen_run ends 0 16 (at v f p)) ≡ Gives (e.count, e.left, e.to, WORKSPACE)
 
 pub shows_view : (m : Memory) → IsMemory m → HoldsInterpreter m.low_expansion → Shows m (view_of m)
 unfolding view_of
@@ -49,7 +50,9 @@ shows_view m h code =
     let s = spell-words 31 bytes n (λ i. rw (get_or-drop 194 m.scratchpad i 0) (h.scratchpad.fits (194 + i))) in
     let d : length (drop 15 (words_of bytes)) ≡ 16 = omega (arith, length-drop 15 (words_of bytes)) in
     record {
-      pad = sym (take-append-drop 194 m.scratchpad) ∙ ap (λ (b : List ℕ). take 194 m.scratchpad ++ b) (sym s ∙ ap spell (sym (take-append-drop 15 (words_of bytes)) ∙ ap (λ (b : List ℕ). take 15 (words_of bytes) ++ b) (sym (listed-relisted (drop 15 (words_of bytes)) d))));
+      pad = sym (take-append-drop 194 m.scratchpad) ∙ ap (λ (b : List ℕ). take 194 m.scratchpad ++ b)
+          (sym s ∙ ap spell (sym (take-append-drop 15 (words_of bytes)) ∙ ap (λ (b : List ℕ). take 15 (words_of bytes) ++ b)
+          (sym (listed-relisted (drop 15 (words_of bytes)) d))));
       cells = omega (arith, length-take 194 m.scratchpad);
       spare = omega (arith, length-take 15 (words_of bytes));
       low_part = refl;
@@ -73,7 +76,8 @@ view_shows m v h =
     let g : words_of (drop 194 m.scratchpad) ≡ ws = ap words_of e ∙ words-spell ws in
     let j : take 15 (words_of (drop 194 m.scratchpad)) ≡ v.spare = rw g (take_at v.spare (listed v.r) 15 h.spare) in
     let k : drop 15 (words_of (drop 194 m.scratchpad)) ≡ listed v.r = rw g (drop_at v.spare (listed v.r) 15 h.spare) in
-    let b : view_of m ≡ made_of (take 194 m.scratchpad) (take 15 (words_of (drop 194 m.scratchpad))) (drop 15 (words_of (drop 194 m.scratchpad))) m.low_expansion m.high_expansion m.rom m.vdp m.grom = refl in
+    let b : view_of m ≡ made_of (take 194 m.scratchpad) (take 15 (words_of (drop 194 m.scratchpad))) (drop 15 (words_of (drop 194 m.scratchpad)))
+    m.low_expansion m.high_expansion m.rom m.vdp m.grom = refl in
     b ∙ rw (f, j, k, h.low_part, h.high_part, h.rom, h.vdp, h.grom) refl
 
 -- A run of the view is that of a machine that shows it.
@@ -81,9 +85,10 @@ pub exits : (ends : List ℕ) (p : ℕ) (x y : MachineState) (before after : ℕ
     y ≡ (ran ends 16 x).left → after ≡ before + (ran ends 16 x).count → IsMachine y → Exits x y before after e
 exits ends p x y before after e h l left count bounds =
     let start : x ≡ machine x.cpu.memory (at (view x) x.cpu.status p) x.count = rw (h.pc, h.wp) refl in
-    let a = given_by (seen_run ends 0 16 (at (view x) x.cpu.status p)) (λ r. Gives (r.0, r.1.memory, r.1.pc, r.1.wp)) (e.count, e.left, e.to, 0x83E0) (l.by x.cpu.status h.machine.status) in
+    let a = given_by (seen_run ends 0 16 (at (view x) x.cpu.status p)) (λ r. Gives (r.0, r.1.memory, r.1.pc, r.1.wp)) (e.count, e.left, e.to, WORKSPACE)
+    (l.by x.cpu.status h.machine.status) in
     let f = followed ends 0 16 x.cpu.memory (at (view x) x.cpu.status p) x.count a.0 (shows_view x.cpu.memory h.machine.memory h.words) a.1 in
-    let t = given (a.0.0, a.0.1.memory, a.0.1.pc, a.0.1.wp) (e.count, e.left, e.to, 0x83E0) a.2 in
+    let t = given (a.0.0, a.0.1.memory, a.0.1.pc, a.0.1.wp) (e.count, e.left, e.to, WORKSPACE) a.2 in
     let c : f.count ≡ e.count = let m = f.made in let n = ap (λ (u : ℕ × View × ℕ × ℕ). u.0) t in omega arith in
     let z : MachineState = machine f.memory a.0.1 f.raised_to in
     let r : ran ends 16 x ≡ record { count = f.count; left = z } = ap (ran ends 16) start ∙ f.ran in
@@ -104,12 +109,19 @@ exits ends p x y before after e h l left count bounds =
       };
     }
 
+-- What a piece comes to: it stands at its entry, its run on the view leads to an exit, and it was run.
+pub piece : {ends : List ℕ} {p : ℕ} {x y : MachineState} {before after : ℕ} {e : Exit} →
+    Stands x p → Leads ends (view x) p e → RunsPiece ends x y before after → Exits x y before after e
+piece {ends = ends} {p = p} {x = x} {y = y} {before = before} {after = after} {e = e} stands leads run =
+    exits ends p x y before after e stands leads run.left run.count run.bounds
+
 -- ---- what the bounds of a machine say of its view
 
 pub cells_of : (m : Memory) → IsMemory m → (i : ℕ) → slice_index (view_of m).cells i < 256
 unfolding view_of
 cells_of m h i =
-    ⊎_elim (λ (l : i < 194). rw (get_or-take 194 m.scratchpad i 0 l) (h.scratchpad.fits i)) (λ (g : 194 ≤ i). let n : length (take 194 m.scratchpad) ≤ i = omega (arith, length-take 194 m.scratchpad) in rw (get_or_past (take 194 m.scratchpad) i 0 n) (lit< tt)) (cases_lt i 194)
+    ⊎_elim (λ (l : i < 194). rw (get_or-take 194 m.scratchpad i 0 l) (h.scratchpad.fits i)) (λ (g : 194 ≤ i). let n : length (take 194 m.scratchpad) ≤ i =
+    omega (arith, length-take 194 m.scratchpad) in rw (get_or_past (take 194 m.scratchpad) i 0 n) (lit< tt)) (cases_lt i 194)
 
 words_fit : (bs : List ℕ) (k : ℕ) → ((i : ℕ) → get_or bs i 0 < 256) → get_or (words_of bs) k 0 < 65536
 words_fit [] k h = lit< tt
@@ -118,7 +130,8 @@ words_fit (b ∷ d ∷ bs) zero h = let p : b < 256 = h 0 in let q : d < 256 = h
 words_fit (b ∷ d ∷ bs) (suc k) h = words_fit bs k (λ i. h (suc (suc i)))
 
 word_fits : (m : Memory) (k : ℕ) → IsMemory m → get_or (drop 15 (words_of (drop 194 m.scratchpad))) k 0 < 65536
-word_fits m k h = rw (get_or-drop 15 (words_of (drop 194 m.scratchpad)) k 0) (words_fit (drop 194 m.scratchpad) (15 + k) (λ i. rw (get_or-drop 194 m.scratchpad i 0) (h.scratchpad.fits (194 + i))))
+word_fits m k h = rw (get_or-drop 15 (words_of (drop 194 m.scratchpad)) k 0) (words_fit (drop 194 m.scratchpad) (15 + k)
+    (λ i. rw (get_or-drop 194 m.scratchpad i 0) (h.scratchpad.fits (194 + i))))
 
 -- each is a word
 abbrev pub AreWords : List ℕ → Type 0
@@ -148,7 +161,14 @@ pub record IsView (v : View) : Type 0 where
   pub grom : IsGrom v.grom
 
 pub is_view : (x : MachineState) → IsMachine x → IsView (view x)
-is_view x h = record { r = regs_of x.cpu.memory h.memory; cells = cells_of x.cpu.memory h.memory; vdp = vdp_of x.cpu.memory h.memory; grom = grom_of x.cpu.memory h.memory }
+is_view x h =
+    record {
+      r = regs_of x.cpu.memory h.memory;
+      cells = cells_of x.cpu.memory h.memory;
+      vdp = vdp_of x.cpu.memory h.memory;
+      grom =
+          grom_of x.cpu.memory h.memory;
+    }
 
 -- ---- registers that the code reads
 
@@ -168,19 +188,24 @@ reg_word m k h b =
     let d : length (drop 15 (words_of bytes)) ≡ 16 = omega (arith, length-drop 15 (words_of bytes)) in
     let e : 194 + 2 * (15 + k) ≡ 224 + 2 * k = omega arith in
     let f : 194 + suc (2 * (15 + k)) ≡ 224 + 2 * k + 1 = omega arith in
-    ap (λ (l : List ℕ). get_or l k 0) (listed-relisted (drop 15 (words_of bytes)) d) ∙ get_or-drop 15 (words_of bytes) k 0 ∙ words_at 31 bytes (15 + k) n (omega arith) ∙ rw (get_or-drop 194 m.scratchpad (2 * (15 + k)) 0, get_or-drop 194 m.scratchpad (suc (2 * (15 + k))) 0, e, f) refl
+    ap (λ (l : List ℕ). get_or l k 0) (listed-relisted (drop 15 (words_of bytes)) d) ∙ get_or-drop 15 (words_of bytes) k 0
+    ∙ words_at 31 bytes (15 + k) n (omega arith)
+    ∙ rw (get_or-drop 194 m.scratchpad (2 * (15 + k)) 0, get_or-drop 194 m.scratchpad (suc (2 * (15 + k))) 0, e, f) refl
 
-pub register_is : (m : Memory) (wp k w : ℕ) → IsMemory m → wp ≡ 0x83E0 → k < 16 → Gives w ≡ word_read m (register_in wp k) → w ≡ get_or (listed (view_of m).r) k 0
+pub register_is : (m : Memory) (wp k w : ℕ) → IsMemory m → wp ≡ WORKSPACE → k < 16 → Gives w ≡ word_read m (register_in wp k) →
+    w ≡ get_or (listed (view_of m).r) k 0
 register_is m wp k w h p b e =
-    let a : even (register_in 0x83E0 k) ≡ 0x83E0 + 2 * k = omega arith in
-    let g : region (0x83E0 + 2 * k) ≡ Scratchpad (224 + 2 * k) = region_scratchpad (0x83E0 + 2 * k) (omega arith) (omega arith) ∙ ap Scratchpad (omega arith) in
-    let f : word_read m (register_in 0x83E0 k) ≡ Gives (word_in m.scratchpad (224 + 2 * k)) = rw (a, g) refl in
+    let a : even (register_in WORKSPACE k) ≡ WORKSPACE + 2 * k = omega arith in
+    let g : region (WORKSPACE + 2 * k) ≡ Scratchpad (224 + 2 * k) = region_scratchpad (WORKSPACE + 2 * k) (omega arith) (omega arith)
+    ∙ ap Scratchpad (omega arith) in
+    let f : word_read m (register_in WORKSPACE k) ≡ Gives (word_in m.scratchpad (224 + 2 * k)) = rw (a, g) refl in
     given w _ (e ∙ ap (λ (n : ℕ). word_read m (register_in n k)) p ∙ f) ∙ sym (reg_word m k h b)
 
 -- A register of the view is the word of the machine's register.
-pub holds_register : (m : Memory) (k : ℕ) → IsMemory m → k < 16 → word_read m (register_in 0x83E0 k) ≡ Gives (get_or (listed (view_of m).r) k 0)
+pub holds_register : (m : Memory) (k : ℕ) → IsMemory m → k < 16 → word_read m (register_in WORKSPACE k) ≡ Gives (get_or (listed (view_of m).r) k 0)
 holds_register m k h b =
-    let a : even (register_in 0x83E0 k) ≡ 0x83E0 + 2 * k = omega arith in
-    let g : region (0x83E0 + 2 * k) ≡ Scratchpad (224 + 2 * k) = region_scratchpad (0x83E0 + 2 * k) (omega arith) (omega arith) ∙ ap Scratchpad (omega arith) in
-    let f : word_read m (register_in 0x83E0 k) ≡ Gives (word_in m.scratchpad (224 + 2 * k)) = rw (a, g) refl in
+    let a : even (register_in WORKSPACE k) ≡ WORKSPACE + 2 * k = omega arith in
+    let g : region (WORKSPACE + 2 * k) ≡ Scratchpad (224 + 2 * k) = region_scratchpad (WORKSPACE + 2 * k) (omega arith) (omega arith)
+    ∙ ap Scratchpad (omega arith) in
+    let f : word_read m (register_in WORKSPACE k) ≡ Gives (word_in m.scratchpad (224 + 2 * k)) = rw (a, g) refl in
     f ∙ ap Gives (sym (reg_word m k h b))

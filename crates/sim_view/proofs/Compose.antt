@@ -25,10 +25,12 @@ runs_then a b x y z r s e =
     clear_at : (j : ℕ) → 0 < j → j < a + b → (w : MachineState) → steps j x ≡ Gives w → is_end w.cpu.pc ≡ false
     clear_at j p l w f =
         ⊎_elim
-        (λ (h : j ≡ a). let g : Gives y ≡ Gives w = sym r.leads ∙ subst (λ (i : ℕ). steps i x ≡ Gives w) h f in subst (λ (u : MachineState). is_end u.cpu.pc ≡ false) (given y w g) e)
+        (λ (h : j ≡ a). let g : Gives y ≡ Gives w = sym r.leads ∙ subst (λ (i : ℕ). steps i x ≡ Gives w) h f in
+        subst (λ (u : MachineState). is_end u.cpu.pc ≡ false) (given y w g) e)
         (λ h. ⊎_elim
         (λ (lt : j < a). r.clear j p lt w f)
-        (λ (gt : a < j). let i = j - a in let d : j ≡ a + i = omega arith in s.clear i (omega arith) (omega arith) w (at_step a i x y w r.leads (subst (λ (i : ℕ). steps i x ≡ Gives w) d f))) h)
+        (λ (gt : a < j). let i = j - a in let d : j ≡ a + i = omega arith in s.clear i (omega arith) (omega arith) w
+        (at_step a i x y w r.leads (subst (λ (i : ℕ). steps i x ≡ Gives w) d f))) h)
         (cases_order j a)
 
 -- How a stretch ends, in bounds: within so many instructions, at an address, with a view of which something holds.
@@ -37,10 +39,12 @@ pub record Goes (e : Exit) (most to : ℕ) (Holds : View → Type 0) : Type 0 wh
   pub to_is : e.to ≡ to
   pub holds : Holds e.left
 
-pub goes_as : {e : Exit} {most to : ℕ} {Q : View → Type 0} (more : ℕ) (R : View → Type 0) → Goes e most to Q → most ≤ more → ((v : View) → Q v → R v) → Goes e more to R
+pub goes_as : {e : Exit} {most to : ℕ} {Q : View → Type 0} (more : ℕ) (R : View → Type 0) → Goes e most to Q → most ≤ more → ((v : View) → Q v → R v) →
+    Goes e more to R
 goes_as {e = e} more R g le f = let w = g.within in record { within = omega arith; to_is = g.to_is; holds = f e.left g.holds }
 
-pub comes : {x y : MachineState} {before after most to : ℕ} {e : Exit} {Q : View → Type 0} → Exits x y before after e → Goes e most to Q → Comes most x y before after to Q
+pub comes : {x y : MachineState} {before after most to : ℕ} {e : Exit} {Q : View → Type 0} → Exits x y before after e → Goes e most to Q →
+    Comes most x y before after to Q
 comes {y = y} {e = e} {Q = Q} x g = record {
   count = e.count;
   within = g.within;

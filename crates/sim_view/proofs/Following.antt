@@ -101,8 +101,10 @@ more ends made most m y n z done s c f =
       raised_to = f.raised_to;
       made = omega arith;
       some = omega arith;
-      ran = ran_again ends most done.0 (machine m y n) (machine s.memory done.1 (raised n 1)) (record { count = f.count; left = machine f.memory z.1 f.raised_to }) s.step c f.ran;
-      runs = later f.count (machine m y n) (machine s.memory done.1 (raised n 1)) (machine f.memory z.1 f.raised_to) done.0 f.some s.step (not_end _ (is_end done.1.pc) _ c) f.runs;
+      ran = ran_again ends most done.0 (machine m y n) (machine s.memory done.1 (raised n 1))
+          (record { count = f.count; left = machine f.memory z.1 f.raised_to }) s.step c f.ran;
+      runs = later f.count (machine m y n) (machine s.memory done.1 (raised n 1)) (machine f.memory z.1 f.raised_to) done.0 f.some s.step
+          (not_end _ (is_end done.1.pc) _ c) f.runs;
       shows = f.shows;
     }
 

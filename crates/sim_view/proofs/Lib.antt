@@ -8,3 +8,4 @@ pub mod Following
 pub mod Bridge
 pub mod Parts
 pub mod Compose
+pub mod Common

@@ -5,6 +5,7 @@ use Rattle.console_defs.specs.Accesses.{Answer, Gives, NoInstruction, ◌>>=◌}
 use Rattle.console_defs.specs.Operand.{Cpu}
 use Rattle.console_defs.specs.Step.{execution}
 use Rattle.console_defs.specs.declared.status.Status.{Status}
+use Rattle.native_interp.specs.declared.addresses.TheConstants.{WORKSPACE}
 use Rattle.sim_view.specs.View.{View}
 use Rattle.sim_view.specs.Exits.{Exit}
 use Rattle.sim_view.specs.Running.{ends_piece}
@@ -24,11 +25,11 @@ seen_place a = a >>= λ x. Gives (x.memory, x.pc, x.wp)
 
 -- So many steps lead from one view and address to others, whatever the status bits are.
 pub record Part (ends : List ℕ) (count : ℕ) (v : View) (p : ℕ) (w : View) (q : ℕ) : Type 0 where
-  pub by : (f : Status) → seen_place (seen_part ends count (at v f p)) ≡ Gives (w, q, 0x83E0)
+  pub by : (f : Status) → seen_place (seen_part ends count (at v f p)) ≡ Gives (w, q, WORKSPACE)
 
 -- The rest of a run, where some instructions were made and there is room for so many.
 pub record Rest (ends : List ℕ) (made most : ℕ) (v : View) (p : ℕ) (e : Exit) : Type 0 where
-  pub by : (f : Status) → but_status (seen_run ends made most (at v f p)) ≡ Gives (e.count, e.left, e.to, 0x83E0)
+  pub by : (f : Status) → but_status (seen_run ends made most (at v f p)) ≡ Gives (e.count, e.left, e.to, WORKSPACE)
 
 guarded : (b : Bool) (a : Answer (Cpu View)) (z : Cpu View) → elim b [ true ↦ NoInstruction | false ↦ a ] ≡ Gives z → (b ≡ false) × (a ≡ Gives z)
 guarded true a z e = absurd (cc)
@@ -47,12 +48,14 @@ after_part ends zero made most x y e =
 after_part ends (suc count) made most x y e =
     let n : suc count + most ≡ suc (count + most) = omega arith in
     let m : made + suc count ≡ suc made + count = omega arith in
-    let g = given_by (execution View shown x) (λ done. elim (ends_piece ends done.0 done.1.pc) [ true ↦ NoInstruction | false ↦ seen_part ends count done.1 ]) y e in
+    let g = given_by (execution View shown x) (λ done. elim (ends_piece ends done.0 done.1.pc) [ true ↦ NoInstruction | false ↦ seen_part ends count done.1 ])
+    y e in
     let h = guarded (ends_piece ends g.0.0 g.0.1.pc) (seen_part ends count g.0.1) y g.2 in
     let F : Answer (ℕ × Cpu View) → Answer (ℕ × Cpu View) = λ a. a >>= goes_on ends made (count + most) in
-    ap (λ (k : ℕ). seen_run ends made k x) n ∙ ap F g.1 ∙ rw (h.0, goes_on) (after_part ends count (suc made) most g.0.1 y h.1) ∙ ap (λ (k : ℕ). seen_run ends k most y) (sym m)
+    ap (λ (k : ℕ). seen_run ends made k x) n ∙ ap F g.1 ∙ rw (h.0, goes_on) (after_part ends count (suc made) most g.0.1 y h.1)
+    ∙ ap (λ (k : ℕ). seen_run ends k most y) (sym m)
 
-rebuilt : (y : Cpu View) (w : View) (q : ℕ) → y.memory ≡ w → y.pc ≡ q → y.wp ≡ 0x83E0 → y ≡ at w y.status q
+rebuilt : (y : Cpu View) (w : View) (q : ℕ) → y.memory ≡ w → y.pc ≡ q → y.wp ≡ WORKSPACE → y ≡ at w y.status q
 rebuilt y w q a b c = rw (← a, ← b, ← c) refl
 
 -- A part, and then the rest.
@@ -60,9 +63,10 @@ pub part_then : (ends : List ℕ) (count made most : ℕ) {v w : View} {p q : �
     Rest ends (made + count) most w q e → Rest ends made (count + most) v p e
 part_then ends count made most {v = v} {w = w} {p = p} {q = q} {e = e} part rest = record {
   by = λ f.
-      let g = given_by (seen_part ends count (at v f p)) (λ x. Gives (x.memory, x.pc, x.wp)) (w, q, 0x83E0) (part.by f) in
-      let t = given (g.0.memory, g.0.pc, g.0.wp) (w, q, 0x83E0) g.2 in
-      let is : g.0 ≡ at w g.0.status q = rebuilt g.0 w q (ap (λ (u : View × ℕ × ℕ). u.0) t) (ap (λ (u : View × ℕ × ℕ). u.1) t) (ap (λ (u : View × ℕ × ℕ). u.2) t) in
+      let g = given_by (seen_part ends count (at v f p)) (λ x. Gives (x.memory, x.pc, x.wp)) (w, q, WORKSPACE) (part.by f) in
+      let t = given (g.0.memory, g.0.pc, g.0.wp) (w, q, WORKSPACE) g.2 in
+      let is : g.0 ≡ at w g.0.status q = rebuilt g.0 w q (ap (λ (u : View × ℕ × ℕ). u.0) t) (ap (λ (u : View × ℕ × ℕ). u.1) t)
+      (ap (λ (u : View × ℕ × ℕ). u.2) t) in
       ap but_status (after_part ends count made most (at v f p) g.0 g.1 ∙ ap (λ (u : Cpu View). seen_run ends (made + count) most u) is) ∙ rest.by g.0.status;
 }
 

@@ -4,6 +4,7 @@ use Rattle.std.specs.Prelude.{◌&&◌, nat_lt, nat_le}
 use Rattle.std.proofs.lemmas.Bool.{leb-true, ltb-true, eqb-true, and_parts}
 use Rattle.console_defs.specs.Memory.{Port, Region, Rom, LowExpansion, HighExpansion, Scratchpad, PortOf, Unmapped, region, port_at, port_region}
 use Rattle.console_defs.proofs.MemoryLaws.{region_low, region_scratchpad, region_ports}
+use Rattle.native_interp.specs.declared.addresses.TheConstants.{WORKSPACE}
 use Rattle.sim_view.proofs.Seen.{Spot, spot, Reg, Code, Cell, Spare, AtThePort, Unknown, port_spot}
 
 abbrev pub Agrees : Spot → Region → Type 0
@@ -28,14 +29,22 @@ pick false t f = f refl
 
 pub agrees : (a : ℕ) → Agrees (spot a) (region a)
 agrees a =
-    pick (nat_le 0x83E0 a && nat_lt a 0x8400) (λ e. let h = and_parts _ _ e in let from : 0x83E0 ≤ a = leb-true 0x83E0 a h.0 in let below : a < 0x8400 = ltb-true a 0x8400 h.1 in
-    pick (eqb (a % 2) 0) (λ p. let q : a % 2 ≡ 0 = eqb-true (a % 2) 0 p in rw (e, p, region_scratchpad a (omega arith) below, spot) (omega arith, ap Scratchpad (omega arith))) (λ p. rw (e, p, spot) tt))
-    (λ n1. pick (nat_le 0x2000 a && nat_lt a 0x287E) (λ e. let h = and_parts _ _ e in let from : 0x2000 ≤ a = leb-true 0x2000 a h.0 in let below : a < 0x287E = ltb-true a 0x287E h.1 in
-    pick (eqb (a % 2) 0) (λ p. let q : a % 2 ≡ 0 = eqb-true (a % 2) 0 p in rw (n1, e, p, region_low a from (omega arith), spot) (omega arith, ap LowExpansion (omega arith))) (λ p. rw (n1, e, p, spot) tt))
-    (λ n2. pick (nat_le 0x8300 a && nat_lt a 0x83C2) (λ e. let h = and_parts _ _ e in let from : 0x8300 ≤ a = leb-true 0x8300 a h.0 in let below : a < 0x83C2 = ltb-true a 0x83C2 h.1 in
+    pick (nat_le WORKSPACE a && nat_lt a 0x8400) (λ e. let h = and_parts _ _ e in let from : WORKSPACE ≤ a = leb-true WORKSPACE a h.0 in
+    let below : a < 0x8400 = ltb-true a 0x8400 h.1 in
+    pick (eqb (a % 2) 0) (λ p. let q : a % 2 ≡ 0 = eqb-true (a % 2) 0 p in rw (e, p, region_scratchpad a (omega arith) below, spot)
+    (omega arith, ap Scratchpad (omega arith))) (λ p. rw (e, p, spot) tt))
+    (λ n1. pick (nat_le 0x2000 a && nat_lt a 0x287E) (λ e. let h = and_parts _ _ e in let from : 0x2000 ≤ a = leb-true 0x2000 a h.0 in
+    let below : a < 0x287E = ltb-true a 0x287E h.1 in
+    pick (eqb (a % 2) 0) (λ p. let q : a % 2 ≡ 0 = eqb-true (a % 2) 0 p in rw (n1, e, p, region_low a from (omega arith), spot)
+    (omega arith, ap LowExpansion (omega arith))) (λ p. rw (n1, e, p, spot) tt))
+    (λ n2. pick (nat_le 0x8300 a && nat_lt a 0x83C2) (λ e. let h = and_parts _ _ e in let from : 0x8300 ≤ a = leb-true 0x8300 a h.0 in
+    let below : a < 0x83C2 = ltb-true a 0x83C2 h.1 in
     rw (n1, n2, e, region_scratchpad a (omega arith) (omega arith), spot) (omega arith, ap Scratchpad (omega arith)))
-    (λ n3. pick (nat_le 0x83C2 a && nat_lt a 0x83E0) (λ e. let h = and_parts _ _ e in let from : 0x83C2 ≤ a = leb-true 0x83C2 a h.0 in let below : a < 0x83E0 = ltb-true a 0x83E0 h.1 in
-    pick (eqb (a % 2) 0) (λ p. let q : a % 2 ≡ 0 = eqb-true (a % 2) 0 p in rw (n1, n2, n3, e, p, region_scratchpad a (omega arith) (omega arith), spot) (omega arith, ap Scratchpad (omega arith))) (λ p. rw (n1, n2, n3, e, p, spot) tt))
-    (λ n4. pick (nat_le 0x8400 a && nat_lt a 0xA000) (λ e. let h = and_parts _ _ e in let from : 0x8400 ≤ a = leb-true 0x8400 a h.0 in let below : a < 0xA000 = ltb-true a 0xA000 h.1 in
+    (λ n3. pick (nat_le 0x83C2 a && nat_lt a WORKSPACE) (λ e. let h = and_parts _ _ e in let from : 0x83C2 ≤ a = leb-true 0x83C2 a h.0 in
+    let below : a < WORKSPACE = ltb-true a WORKSPACE h.1 in
+    pick (eqb (a % 2) 0) (λ p. let q : a % 2 ≡ 0 = eqb-true (a % 2) 0 p in rw (n1, n2, n3, e, p, region_scratchpad a (omega arith) (omega arith), spot)
+    (omega arith, ap Scratchpad (omega arith))) (λ p. rw (n1, n2, n3, e, p, spot) tt))
+    (λ n4. pick (nat_le 0x8400 a && nat_lt a 0xA000) (λ e. let h = and_parts _ _ e in let from : 0x8400 ≤ a = leb-true 0x8400 a h.0 in
+    let below : a < 0xA000 = ltb-true a 0xA000 h.1 in
     rw (n1, n2, n3, n4, e, region_ports a from below, spot) (ports_agree (port_region (port_at a))))
     (λ n5. rw (n1, n2, n3, n4, n5, spot) tt)))))

@@ -9,6 +9,7 @@ use Rattle.console_defs.specs.Operand.{Cpu}
 use Rattle.console_defs.specs.Step.{execution}
 use Rattle.console_defs.specs.Memory.{Port, VdpDataRead, VdpStatusRead, VdpDataWrite, VdpAddressWrite, GromDataRead, GromAddressRead, GromDataWrite}
 use Rattle.console_defs.specs.Memory.{GromAddressWrite, Region, Rom, LowExpansion, HighExpansion, Scratchpad, PortOf, Unmapped, port_at, port_region}
+use Rattle.native_interp.specs.declared.addresses.TheConstants.{WORKSPACE}
 use Rattle.sim_view.specs.View.{View, Registers, listed, relisted}
 use Rattle.sim_view.specs.Running.{ends_piece}
 use Rattle.native_interp.specs.declared.words.TheConstants.{INTERP}
@@ -37,8 +38,8 @@ port_spot Unmapped = Unknown
 
 abbrev pub spot : ℕ → Spot
 spot a =
-    elim (nat_le 0x83E0 a && nat_lt a 0x8400) [
-      | true ↦ elim (eqb (a % 2) 0) [ true ↦ Reg ((a - 0x83E0) / 2) | false ↦ Unknown ]
+    elim (nat_le WORKSPACE a && nat_lt a 0x8400) [
+      | true ↦ elim (eqb (a % 2) 0) [ true ↦ Reg ((a - WORKSPACE) / 2) | false ↦ Unknown ]
       | false ↦
           elim (nat_le 0x2000 a && nat_lt a 0x287E) [
             | true ↦ elim (eqb (a % 2) 0) [ true ↦ Code ((a - 0x2000) / 2) | false ↦ Unknown ]
@@ -46,7 +47,7 @@ spot a =
                 elim (nat_le 0x8300 a && nat_lt a 0x83C2) [
                   | true ↦ Cell (a - 0x8300)
                   | false ↦
-                      elim (nat_le 0x83C2 a && nat_lt a 0x83E0) [
+                      elim (nat_le 0x83C2 a && nat_lt a WORKSPACE) [
                         | true ↦ elim (eqb (a % 2) 0) [ true ↦ Spare ((a - 0x83C2) / 2) | false ↦ Unknown ]
                         | false ↦ elim (nat_le 0x8400 a && nat_lt a 0xA000) [ true ↦ port_spot (port_region (port_at a)) | false ↦ Unknown ]
                       ]
@@ -109,7 +110,13 @@ with_byte_on Unknown v b = NoInstruction
 
 abbrev pub shown : Accesses View
 shown =
-    record { word = λ v a. word_on (spot (even a)) v; with_word = λ v a w. with_word_on (spot (even a)) v w; byte = λ v a. byte_on (spot a) v; with_byte = λ v a b. with_byte_on (spot a) v b }
+    record {
+      word = λ v a. word_on (spot (even a)) v;
+      with_word = λ v a w. with_word_on (spot (even a)) v w;
+      byte = λ v a. byte_on (spot a) v;
+      with_byte =
+          λ v a b. with_byte_on (spot a) v b;
+    }
 
 -- The run of a piece on the view: how many instructions it has, beside those made before, and what is left.
 abbrev pub seen_run : List ℕ → ℕ → ℕ → Cpu View → Answer (ℕ × Cpu View)

@@ -83,9 +83,14 @@ pub record SimNum {A : Type 0} (ox oy : Answer A) : Type 0 where
   pub by : (n : A) → oy ≡ Gives n → ox ≡ Gives n
 
 sim_gives : {X Y : Type 0} {lift : Memory → Y → X} {see : Y → View} (m : Memory) (y : Y) → Shows m (see y) → Sim lift see (Gives (lift m y)) (Gives y)
-sim_gives {lift = lift} {see = see} m y h = record { by = λ z e. let P : _ → Type 0 = λ z. (m' : Memory) × (Gives (lift m y) ≡ Gives (lift m' z)) × Shows m' (see z) in subst P (given y z e) (m, refl, h) }
+sim_gives {lift = lift} {see = see} m y h =
+    record {
+      by = λ z e. let P : _ → Type 0 = λ z. (m' : Memory) × (Gives (lift m y) ≡ Gives (lift m' z)) × Shows m' (see z) in
+          subst P (given y z e) (m, refl, h);
+    }
 
-sim_then : {X Y X' Y' : Type 0} {lift : Memory → Y → X} {see : Y → View} {lift' : Memory → Y' → X'} {see' : Y' → View} (ox : Answer X) (oy : Answer Y) (f : X → Answer X') (g : Y → Answer Y') →
+sim_then : {X Y X' Y' : Type 0} {lift : Memory → Y → X} {see : Y → View} {lift' : Memory → Y' → X'} {see' : Y' → View} (ox : Answer X) (oy : Answer Y)
+    (f : X → Answer X') (g : Y → Answer Y') →
     Sim lift see ox oy → ((y : Y) (m : Memory) → Shows m (see y) → Sim lift' see' (f (lift m y)) (g y)) → Sim lift' see' (ox >>= f) (oy >>= g)
 sim_then ox (Gives y) f g h k = let a = h.by y refl in rw a.1 (k y a.0 a.2)
 sim_then ox (AtPort p) f g h k = record { by = λ z e. absurd (cc) }
@@ -116,15 +121,18 @@ module _ (m : Memory) (v : View) (h : Shows m v) where
   high_at : (k : ℕ) → k < 31 → get_or m.scratchpad (194 + 2 * k) 0 ≡ high (get_or held k 0)
   high_at k b =
       let e : 194 + 2 * k - 194 ≡ 2 * k = omega arith in
-      rw (h.pad, get_or-append_right v.cells (spell held) 194 (194 + 2 * k) 0 h.cells (omega arith), e) (get-spell_high held k (let n = held_length in omega arith))
+      rw (h.pad, get_or-append_right v.cells (spell held) 194 (194 + 2 * k) 0 h.cells (omega arith), e)
+      (get-spell_high held k (let n = held_length in omega arith))
 
   low_at : (k : ℕ) → k < 31 → get_or m.scratchpad (194 + 2 * k + 1) 0 ≡ low (get_or held k 0)
   low_at k b =
       let e : 194 + 2 * k + 1 - 194 ≡ suc (2 * k) = omega arith in
-      rw (h.pad, get_or-append_right v.cells (spell held) 194 (194 + 2 * k + 1) 0 h.cells (omega arith), e) (get-spell_low held k (let n = held_length in omega arith))
+      rw (h.pad, get_or-append_right v.cells (spell held) 194 (194 + 2 * k + 1) 0 h.cells (omega arith), e)
+      (get-spell_low held k (let n = held_length in omega arith))
 
   reg_held : (k : ℕ) → get_or held (15 + k) 0 ≡ get_or (listed v.r) k 0
-  reg_held k = let e : 15 + k - 15 ≡ k = omega arith in get_or-append_right v.spare (listed v.r) 15 (15 + k) 0 h.spare (omega arith) ∙ ap (λ (i : ℕ). get_or (listed v.r) i 0) e
+  reg_held k = let e : 15 + k - 15 ≡ k =
+      omega arith in get_or-append_right v.spare (listed v.r) 15 (15 + k) 0 h.spare (omega arith) ∙ ap (λ (i : ℕ). get_or (listed v.r) i 0) e
 
   spare_held : (k : ℕ) → k < 15 → get_or held k 0 ≡ get_or v.spare k 0
   spare_held k b = let d = h.spare in get_or_append_left v.spare (listed v.r) 0 k (omega arith)
@@ -168,7 +176,8 @@ module _ (m : Memory) (v : View) (h : Shows m v) where
 
   reg_set : (k w : ℕ) → set held (15 + k) w ≡ v.spare ++ set (listed v.r) k w
   reg_set k w =
-      let e : 15 + k - 15 ≡ k = omega arith in set-append_right v.spare (listed v.r) 15 (15 + k) w h.spare (omega arith) ∙ ap (λ (i : ℕ). v.spare ++ set (listed v.r) i w) e
+      let e : 15 + k - 15 ≡ k = omega arith in set-append_right v.spare (listed v.r) 15 (15 + k) w h.spare (omega arith)
+      ∙ ap (λ (i : ℕ). v.spare ++ set (listed v.r) i w) e
 
   spare_set : (k w : ℕ) → k < 15 → set held k w ≡ set v.spare k w ++ listed v.r
   spare_set k w b = let d = h.spare in set-append_left v.spare (listed v.r) k w (omega arith)
@@ -176,36 +185,104 @@ module _ (m : Memory) (v : View) (h : Shows m v) where
   word_to_reg : (k w : ℕ) → with_word_in m.scratchpad (224 + 2 * k) w ≡ v.cells ++ spell (v.spare ++ set (listed v.r) k w)
   word_to_reg k w = let e : 224 + 2 * k ≡ 194 + 2 * (15 + k) = omega arith in rw e (set_held (15 + k) w ∙ ap (λ (l : List ℕ). v.cells ++ spell l) (reg_set k w))
 
-  byte_to_reg : (k b : ℕ) → k < 16 → set m.scratchpad (224 + 2 * k) b ≡ v.cells ++ spell (v.spare ++ set (listed v.r) k (join b (low (get_or (listed v.r) k 0))))
+  byte_to_reg : (k b : ℕ) → k < 16 →
+      set m.scratchpad (224 + 2 * k) b ≡ v.cells ++ spell (v.spare ++ set (listed v.r) k (join b (low (get_or (listed v.r) k 0))))
   byte_to_reg k b l =
       let e : 224 + 2 * k ≡ 194 + 2 * (15 + k) = omega arith in
-      rw e (byte_held (15 + k) b ∙ ap (λ (l : List ℕ). v.cells ++ spell l) (reg_set k _) ∙ ap (λ (n : ℕ). v.cells ++ spell (v.spare ++ set (listed v.r) k (join b (low n)))) (reg_held k))
+      rw e (byte_held (15 + k) b ∙ ap (λ (l : List ℕ). v.cells ++ spell l) (reg_set k _) ∙ ap
+      (λ (n : ℕ). v.cells ++ spell (v.spare ++ set (listed v.r) k (join b (low n)))) (reg_held k))
 
   -- a register is set
   reg_shows : (l : List ℕ) → length l ≡ 16 → Shows (record m { scratchpad = v.cells ++ spell (v.spare ++ l) }) (record v { r = relisted l })
   reg_shows l n =
-      record { pad = ap (λ (k : List ℕ). v.cells ++ spell (v.spare ++ k)) (sym (listed-relisted l n)); cells = h.cells; spare = h.spare; low_part = h.low_part; high_part = h.high_part; rom = h.rom; code = h.code; vdp = h.vdp; grom = h.grom }
+      record {
+        pad = ap (λ (k : List ℕ). v.cells ++ spell (v.spare ++ k)) (sym (listed-relisted l n));
+        cells = h.cells;
+        spare = h.spare;
+        low_part =
+            h.low_part;
+        high_part = h.high_part;
+        rom = h.rom;
+        code = h.code;
+        vdp = h.vdp;
+        grom = h.grom;
+      }
 
   spare_shows : (l : List ℕ) → length l ≡ 15 → Shows (record m { scratchpad = v.cells ++ spell (l ++ listed v.r) }) (record v { spare = l })
-  spare_shows l n = record { pad = refl; cells = h.cells; spare = n; low_part = h.low_part; high_part = h.high_part; rom = h.rom; code = h.code; vdp = h.vdp; grom = h.grom }
+  spare_shows l n =
+      record { pad = refl; cells = h.cells; spare = n; low_part = h.low_part; high_part = h.high_part; rom = h.rom; code = h.code; vdp = h.vdp; grom = h.grom }
 
   with_word_sim : (s : Spot) (r : Region) (a w : ℕ) → Agrees s r → Sim (λ m v. m) (λ (v : View). v) (word_written_in r m a w) (with_word_on s v w)
   with_word_sim (Reg k) r a w g =
-      rw (g.1, word_to_reg k w) (sim_gives _ (record v { r = relisted (set (listed v.r) k w) }) (reg_shows (set (listed v.r) k w) (length-set (listed v.r) k _)))
+      rw (g.1, word_to_reg k w) (sim_gives _ (record v { r = relisted (set (listed v.r) k w) })
+      (reg_shows (set (listed v.r) k w) (length-set (listed v.r) k _)))
   with_word_sim (Code k) r a w g = record { by = λ n e. absurd (cc) }
   with_word_sim (Cell i) r a w g = record { by = λ n e. absurd (cc) }
   with_word_sim (Spare k) r a w g =
-      rw (g.1, set_held k w, spare_set k w g.0) (sim_gives _ (record v { spare = set v.spare k w }) (spare_shows (set v.spare k w) (length-set v.spare k w ∙ h.spare)))
+      rw (g.1, set_held k w, spare_set k w g.0) (sim_gives _ (record v { spare = set v.spare k w })
+      (spare_shows (set v.spare k w) (length-set v.spare k w ∙ h.spare)))
   with_word_sim (AtThePort p) r a w g = record { by = λ n e. absurd (cc) }
   with_word_sim Unknown r a w g = record { by = λ n e. absurd (cc) }
 
   port_sim : (p : Port) → Sim (λ m p. (p.0, m)) (λ (p : ℕ × View). p.1) (Gives (port_read p m)) (Gives (port_seen p v))
-  port_sim VdpDataRead = rw h.vdp (sim_gives _ (port_seen VdpDataRead v) (record { pad = h.pad; cells = h.cells; spare = h.spare; low_part = h.low_part; high_part = h.high_part; rom = h.rom; code = h.code; vdp = refl; grom = h.grom }))
-  port_sim VdpStatusRead = rw h.vdp (sim_gives _ (port_seen VdpStatusRead v) (record { pad = h.pad; cells = h.cells; spare = h.spare; low_part = h.low_part; high_part = h.high_part; rom = h.rom; code = h.code; vdp = refl; grom = h.grom }))
+  port_sim VdpDataRead =
+      rw h.vdp (sim_gives _ (port_seen VdpDataRead v)
+      (record {
+        pad = h.pad;
+        cells = h.cells;
+        spare = h.spare;
+        low_part = h.low_part;
+        high_part = h.high_part;
+        rom = h.rom;
+        code = h.code;
+        vdp = refl;
+        grom =
+            h.grom;
+      }))
+  port_sim VdpStatusRead =
+      rw h.vdp (sim_gives _ (port_seen VdpStatusRead v)
+      (record {
+        pad = h.pad;
+        cells = h.cells;
+        spare = h.spare;
+        low_part = h.low_part;
+        high_part = h.high_part;
+        rom = h.rom;
+        code = h.code;
+        vdp = refl;
+        grom =
+            h.grom;
+      }))
   port_sim VdpDataWrite = sim_gives m (0, v) h
   port_sim VdpAddressWrite = sim_gives m (0, v) h
-  port_sim GromDataRead = rw h.grom (sim_gives _ (port_seen GromDataRead v) (record { pad = h.pad; cells = h.cells; spare = h.spare; low_part = h.low_part; high_part = h.high_part; rom = h.rom; code = h.code; vdp = h.vdp; grom = refl }))
-  port_sim GromAddressRead = rw h.grom (sim_gives _ (port_seen GromAddressRead v) (record { pad = h.pad; cells = h.cells; spare = h.spare; low_part = h.low_part; high_part = h.high_part; rom = h.rom; code = h.code; vdp = h.vdp; grom = refl }))
+  port_sim GromDataRead =
+      rw h.grom (sim_gives _ (port_seen GromDataRead v)
+      (record {
+        pad = h.pad;
+        cells = h.cells;
+        spare = h.spare;
+        low_part = h.low_part;
+        high_part = h.high_part;
+        rom = h.rom;
+        code = h.code;
+        vdp = h.vdp;
+        grom =
+            refl;
+      }))
+  port_sim GromAddressRead =
+      rw h.grom (sim_gives _ (port_seen GromAddressRead v)
+      (record {
+        pad = h.pad;
+        cells = h.cells;
+        spare = h.spare;
+        low_part = h.low_part;
+        high_part = h.high_part;
+        rom = h.rom;
+        code = h.code;
+        vdp = h.vdp;
+        grom =
+            refl;
+      }))
   port_sim GromDataWrite = sim_gives m (0, v) h
   port_sim GromAddressWrite = sim_gives m (0, v) h
 
@@ -220,24 +297,78 @@ module _ (m : Memory) (v : View) (h : Shows m v) where
   put_sim : (p : Port) (b : ℕ) → Sim (λ m v. m) (λ (v : View). v) (Gives (port_written p m b)) (Gives (port_put p v b))
   put_sim VdpDataRead b = sim_gives m v h
   put_sim VdpStatusRead b = sim_gives m v h
-  put_sim VdpDataWrite b = rw h.vdp (sim_gives _ (port_put VdpDataWrite v b) (record { pad = h.pad; cells = h.cells; spare = h.spare; low_part = h.low_part; high_part = h.high_part; rom = h.rom; code = h.code; vdp = refl; grom = h.grom }))
-  put_sim VdpAddressWrite b = rw h.vdp (sim_gives _ (port_put VdpAddressWrite v b) (record { pad = h.pad; cells = h.cells; spare = h.spare; low_part = h.low_part; high_part = h.high_part; rom = h.rom; code = h.code; vdp = refl; grom = h.grom }))
+  put_sim VdpDataWrite b =
+      rw h.vdp (sim_gives _ (port_put VdpDataWrite v b)
+      (record {
+        pad = h.pad;
+        cells = h.cells;
+        spare = h.spare;
+        low_part = h.low_part;
+        high_part = h.high_part;
+        rom = h.rom;
+        code = h.code;
+        vdp = refl;
+        grom =
+            h.grom;
+      }))
+  put_sim VdpAddressWrite b =
+      rw h.vdp (sim_gives _ (port_put VdpAddressWrite v b)
+      (record {
+        pad = h.pad;
+        cells = h.cells;
+        spare = h.spare;
+        low_part = h.low_part;
+        high_part = h.high_part;
+        rom = h.rom;
+        code = h.code;
+        vdp = refl;
+        grom =
+            h.grom;
+      }))
   put_sim GromDataRead b = sim_gives m v h
   put_sim GromAddressRead b = sim_gives m v h
   put_sim GromDataWrite b = sim_gives m v h
-  put_sim GromAddressWrite b = rw h.grom (sim_gives _ (port_put GromAddressWrite v b) (record { pad = h.pad; cells = h.cells; spare = h.spare; low_part = h.low_part; high_part = h.high_part; rom = h.rom; code = h.code; vdp = h.vdp; grom = refl }))
+  put_sim GromAddressWrite b =
+      rw h.grom (sim_gives _ (port_put GromAddressWrite v b)
+      (record {
+        pad = h.pad;
+        cells = h.cells;
+        spare = h.spare;
+        low_part = h.low_part;
+        high_part = h.high_part;
+        rom = h.rom;
+        code = h.code;
+        vdp = h.vdp;
+        grom =
+            refl;
+      }))
 
   with_byte_sim : (s : Spot) (r : Region) (b : ℕ) → Agrees s r → Sim (λ m v. m) (λ (v : View). v) (Gives (byte_written_in r m b)) (with_byte_on s v b)
   with_byte_sim (Reg k) r b g =
       let w = join b (low (get_or (listed v.r) k 0)) in
-      rw (g.1, byte_to_reg k b g.0) (sim_gives _ (record v { r = relisted (set (listed v.r) k w) }) (reg_shows (set (listed v.r) k w) (length-set (listed v.r) k _)))
+      rw (g.1, byte_to_reg k b g.0) (sim_gives _ (record v { r = relisted (set (listed v.r) k w) })
+      (reg_shows (set (listed v.r) k w) (length-set (listed v.r) k _)))
   with_byte_sim (Code k) r b g = record { by = λ n e. absurd (cc) }
   with_byte_sim (Cell i) r b g =
       let c = h.cells in
-      rw (g.1, h.pad, set-append_left v.cells (spell held) i b (omega arith)) (sim_gives (record m { scratchpad = set v.cells i b ++ spell held }) (record v { cells = set v.cells i b }) (record { pad = refl; cells = length-set v.cells i b ∙ h.cells; spare = h.spare; low_part = h.low_part; high_part = h.high_part; rom = h.rom; code = h.code; vdp = h.vdp; grom = h.grom }))
+      rw (g.1, h.pad, set-append_left v.cells (spell held) i b (omega arith)) (sim_gives (record m { scratchpad = set v.cells i b ++ spell held })
+      (record v { cells = set v.cells i b })
+      (record {
+        pad = refl;
+        cells = length-set v.cells i b ∙ h.cells;
+        spare = h.spare;
+        low_part = h.low_part;
+        high_part = h.high_part;
+        rom = h.rom;
+        code =
+            h.code;
+        vdp = h.vdp;
+        grom = h.grom;
+      }))
   with_byte_sim (Spare k) r b g =
       let w = join b (low (get_or v.spare k 0)) in
-      rw (g.1, byte_held k b, spare_held k g.0, spare_set k w g.0) (sim_gives _ (record v { spare = set v.spare k w }) (spare_shows (set v.spare k w) (length-set v.spare k w ∙ h.spare)))
+      rw (g.1, byte_held k b, spare_held k g.0, spare_set k w g.0) (sim_gives _ (record v { spare = set v.spare k w })
+      (spare_shows (set v.spare k w) (length-set v.spare k w ∙ h.spare)))
   with_byte_sim (AtThePort p) r b g = rw g (put_sim p b)
   with_byte_sim Unknown r b g = record { by = λ n e. absurd (cc) }
 
@@ -263,7 +394,8 @@ module _ (y : Cpu View) (m : Memory) (h : Shows m y.memory) where
 
   to_word : (a w : ℕ) → SimCpu (with_word Memory console (carry m y) a w) (with_word View shown y a w)
   to_word a w =
-      sim_then _ _ _ _ (with_word_sim m y.memory h (spot (even a)) (region (even a)) (even a) w (agrees (even a))) (λ v n k. sim_gives n (record y { memory = v }) k)
+      sim_then _ _ _ _ (with_word_sim m y.memory h (spot (even a)) (region (even a)) (even a) w (agrees (even a)))
+      (λ v n k. sim_gives n (record y { memory = v }) k)
 
   at_pc : SimPair (next_word Memory console (carry m y)) (next_word View shown y)
   at_pc = sim_num _ _ _ _ (at_word y.pc) (λ w. sim_gives m (w, record y { pc = plus y.pc 2 }) h)
@@ -278,23 +410,27 @@ module _ (y : Cpu View) (m : Memory) (h : Shows m y.memory) where
   at_operand Symbolic w n =
       sim_then _ _ _ _ (at_pc y m h) (λ b n1 k. sim_num _ _ _ _ (at_index b.1 n1 k n) (λ i. sim_gives n1 (plus b.0 i, b.1) k))
   at_operand Increment w n =
-      sim_num _ _ _ _ (at_word y m h (register_address View shown y n)) (λ a. sim_then _ _ (λ x. Gives (a, x)) _ (to_word y m h (register_address View shown y n) (plus a (size_of w))) (λ z n k. sim_gives n (a, z) k))
+      sim_num _ _ _ _ (at_word y m h (register_address View shown y n)) (λ a. sim_then _ _ (λ x. Gives (a, x)) _
+      (to_word y m h (register_address View shown y n) (plus a (size_of w))) (λ z n k. sim_gives n (a, z) k))
 
   at_value : (b : Width) (a : ℕ) → SimPair (value_at Memory console b a (carry m y)) (value_at View shown b a y)
   at_value Byte a =
-      sim_then _ _ (λ r. Gives (r.0, record (carry m y) { memory = r.1 })) _ (byte_sim m y.memory h (spot a) (region a) (agrees a)) (λ r n k. sim_gives n (r.0, record y { memory = r.1 }) k)
+      sim_then _ _ (λ r. Gives (r.0, record (carry m y) { memory = r.1 })) _ (byte_sim m y.memory h (spot a) (region a) (agrees a))
+      (λ r n k. sim_gives n (r.0, record y { memory = r.1 }) k)
   at_value Word a = sim_num _ _ _ _ (at_word y m h a) (λ v. sim_gives m (v, y) h)
 
   to_value : (b : Width) (a v : ℕ) → SimCpu (with_value Memory console b a v (carry m y)) (with_value View shown b a v y)
   to_value Byte a v =
-      sim_then _ _ (λ n. Gives (record (carry m y) { memory = n })) _ (with_byte_sim m y.memory h (spot a) (region a) v (agrees a)) (λ r n k. sim_gives n (record y { memory = r }) k)
+      sim_then _ _ (λ n. Gives (record (carry m y) { memory = n })) _ (with_byte_sim m y.memory h (spot a) (region a) v (agrees a))
+      (λ r n k. sim_gives n (record y { memory = r }) k)
   to_value Word a v = to_word y m h a v
 
   to_stored : (b : Width) (a r : ℕ) (f : Flags) → SimCpu (stored Memory console b a r f (carry m y)) (stored View shown b a r f y)
   to_stored b a r f =
       sim_then _ _ _ _ (to_value b a r) (λ z n k. sim_gives n (record z { status = with_result b r f z.status }) k)
 
-to_words : (y : Cpu View) (m : Memory) → Shows m y.memory → (writes : List (ℕ × ℕ)) → SimCpu (with_words Memory console (carry m y) writes) (with_words View shown y writes)
+to_words : (y : Cpu View) (m : Memory) → Shows m y.memory → (writes : List (ℕ × ℕ)) → SimCpu (with_words Memory console (carry m y) writes)
+    (with_words View shown y writes)
 to_words y m h [] = sim_gives m y h
 to_words y m h (write ∷ rest) = sim_then _ _ _ _ (to_word y m h write.0 write.1) (λ z n k. to_words z n k rest)
 
@@ -313,7 +449,8 @@ module _ (y : Cpu View) (m : Memory) (h : Shows m y.memory) where
 
   do_kept : SimNum (kept_of Memory console (carry m y)) (kept_of View shown y)
   do_kept =
-      num_then _ _ _ _ (at_word y m h (register_address View shown y 13)) (λ w. num_then _ _ _ _ (at_word y m h (register_address View shown y 14)) (λ p. num_then _ _ _ _ (at_word y m h (register_address View shown y 15)) (λ s. num_gives (w, p, s))))
+      num_then _ _ _ _ (at_word y m h (register_address View shown y 13)) (λ w. num_then _ _ _ _ (at_word y m h (register_address View shown y 14))
+      (λ p. num_then _ _ _ _ (at_word y m h (register_address View shown y 15)) (λ s. num_gives (w, p, s))))
 
   do_values : (a b : ℕ) → SimNum (values_at Memory console a b (carry m y)) (values_at View shown a b y)
   do_values a b = num_then _ _ _ _ (at_word y m h a) (λ w. num_then _ _ _ _ (at_word y m h b) (λ p. num_gives (w, p)))
@@ -323,7 +460,8 @@ module _ (y : Cpu View) (m : Memory) (h : Shows m y.memory) where
   do_division None a = sim_gives m y h
 
   do_one : (o : OneOp) (a : ℕ) → SimCpu (one Memory console o a (carry m y)) (one View shown o a y)
-  do_one BLWP a = sim_num _ _ _ _ (do_vector a) (λ v. sim_then _ _ _ _ (to_words y m h (kept_in View v.0 y)) (λ z n k. sim_gives n (record z { wp = v.0; pc = v.1 }) k))
+  do_one BLWP a =
+      sim_num _ _ _ _ (do_vector a) (λ v. sim_then _ _ _ _ (to_words y m h (kept_in View v.0 y)) (λ z n k. sim_gives n (record z { wp = v.0; pc = v.1 }) k))
   do_one B a = sim_gives m (record y { pc = even a }) h
   do_one X a = record { by = λ z e. absurd (cc) }
   do_one CLR a = to_word y m h a 0
@@ -343,19 +481,26 @@ module _ (y : Cpu View) (m : Memory) (h : Shows m y.memory) where
   do_reg CZC n s = sim_num _ _ _ _ (do_values s (register_address View shown y n)) (λ v. sim_gives m (with_flags View y (by_zeros v.1 v.0 y.status.flags)) h)
   do_reg XOR n s = sim_num _ _ _ _ (do_values s (register_address View shown y n)) (λ v. to_stored y m h Word (register_address View shown y n) _ _)
   do_reg XOP n s =
-      sim_num _ _ _ _ (do_vector (0x0040 + 4 * n)) (λ v. sim_then _ _ _ _ (to_words y m h (kept_in View v.0 y ++ ((register_in v.0 11, s) ∷ []))) (λ z n1 k. sim_gives n1 (record z { wp = v.0; pc = v.1; status = with_extension z.status }) k))
-  do_reg MPY n s = sim_num _ _ _ _ (do_values s (register_address View shown y n)) (λ v. to_words y m h (in_row (register_address View shown y n) (product_of v.1 v.0)))
+      sim_num _ _ _ _ (do_vector (0x0040 + 4 * n)) (λ v. sim_then _ _ _ _ (to_words y m h (kept_in View v.0 y ++ ((register_in v.0 11, s) ∷ [])))
+      (λ z n1 k. sim_gives n1 (record z { wp = v.0; pc = v.1; status = with_extension z.status }) k))
+  do_reg MPY n s =
+      sim_num _ _ _ _ (do_values s (register_address View shown y n)) (λ v. to_words y m h (in_row (register_address View shown y n) (product_of v.1 v.0)))
   do_reg DIV n s =
-      sim_num _ _ _ _ (do_values s (register_address View shown y n)) (λ v. sim_num _ _ _ _ (at_word y m h (plus (register_address View shown y n) 2)) (λ l. sim_then _ _ _ _ (do_division (division_of v.1 l v.0) (register_address View shown y n)) (λ z n1 k. sim_gives n1 (with_flags View z (by_division v.1 l v.0 z.status.flags)) k)))
+      sim_num _ _ _ _ (do_values s (register_address View shown y n)) (λ v. sim_num _ _ _ _ (at_word y m h (plus (register_address View shown y n) 2))
+      (λ l. sim_then _ _ _ _ (do_division (division_of v.1 l v.0) (register_address View shown y n))
+      (λ z n1 k. sim_gives n1 (with_flags View z (by_division v.1 l v.0 z.status.flags)) k)))
   do_reg LDCR n s = record { by = λ z e. absurd (cc) }
   do_reg STCR n s = record { by = λ z e. absurd (cc) }
 
   do_count : (c : ℕ) → SimNum (count_of Memory console c (carry m y)) (count_of View shown c y)
   do_count c =
-      pick (eqb c 0) (λ e. rw (e, count_of) (num_then _ _ _ _ (at_word y m h (register_address View shown y 0)) (λ w. num_gives (count_in w)))) (λ e. rw (e, count_of) (num_gives c))
+      pick (eqb c 0) (λ e. rw (e, count_of) (num_then _ _ _ _ (at_word y m h (register_address View shown y 0)) (λ w. num_gives (count_in w))))
+      (λ e. rw (e, count_of) (num_gives c))
 
   do_shift : (o : ShiftOp) (c n : ℕ) → SimCpu (shift Memory console o c n (carry m y)) (shift View shown o c n y)
-  do_shift o c n = sim_num _ _ _ _ (at_word y m h (register_address View shown y n)) (λ v. sim_num _ _ _ _ (do_count c) (λ p. to_stored y m h Word (register_address View shown y n) _ _))
+  do_shift o c n =
+      sim_num _ _ _ _ (at_word y m h (register_address View shown y n)) (λ v. sim_num _ _ _ _ (do_count c)
+      (λ p. to_stored y m h Word (register_address View shown y n) _ _))
 
   do_jump : (o : Option Bool) (d : ℤ) → SimCpu (jump_where Memory o d (carry m y)) (jump_where View o d y)
   do_jump (Some true) d = sim_gives m (record y { pc = jump_target y.pc d }) h
@@ -363,7 +508,8 @@ module _ (y : Cpu View) (m : Memory) (h : Shows m y.memory) where
   do_jump None d = record { by = λ z e. absurd (cc) }
 
   do_immediate : (n : ℕ) → SimTriple (immediate Memory console n (carry m y)) (immediate View shown n y)
-  do_immediate n = sim_then _ _ _ _ (at_pc y m h) (λ w n1 k. sim_num _ _ _ _ (at_word w.1 n1 k (register_address View shown w.1 n)) (λ f. sim_gives n1 (w.0, f, w.1) k))
+  do_immediate n =
+      sim_then _ _ _ _ (at_pc y m h) (λ w n1 k. sim_num _ _ _ _ (at_word w.1 n1 k (register_address View shown w.1 n)) (λ f. sim_gives n1 (w.0, f, w.1) k))
 
   do_imm : (o : ImmOp) (n : ℕ) → SimCpu (imm Memory console o n (carry m y)) (imm View shown o n y)
   do_imm LI n = sim_then _ _ _ _ (at_pc y m h) (λ w n1 k. to_stored w.1 n1 k Word (register_address View shown w.1 n) _ _)

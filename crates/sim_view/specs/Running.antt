@@ -1,11 +1,12 @@
 -- Steps up to the end of a piece.
-use Rattle.std.specs.Prelude.{ℕ, zero, suc, ◌/◌, Bool, true, false, ◌||◌, eqb, List, if◌then◌else◌}
+use Rattle.std.specs.Prelude.{◌≡◌, ◌+◌, ℕ, zero, suc, ◌/◌, Bool, true, false, ◌||◌, eqb, List, if◌then◌else◌}
 use Rattle.std.specs.List.{list_any}
-use Rattle.console_defs.specs.Machine.{MachineState, machine_step}
+use Rattle.console_defs.specs.Machine.{MachineState, IsMachine, machine_step}
 use Rattle.console_defs.specs.declared.ends.StepEnd.{StepEnd}
 use Rattle.console_defs.specs.declared.ends.StepEnd.TheVariants.{Done, Refused, Port}
 use Rattle.tms_step.specs.Turns.{executed_by}
 use Rattle.interp_defs.specs.Runs.{is_end}
+use Rattle.sim_view.specs.declared.run.TheConstants.{PIECE}
 
 -- B at the address in a register, which has this code. TMS9900 data manual, "Branch".
 abbrev pub is_branch_by_register : ℕ → Bool
@@ -37,3 +38,9 @@ ran ends (suc most) x =
     if is_last ends stepped.0 stepped.1.cpu.pc
     then record { count = executed_by stepped.0; left = stepped.1 }
     else one_more (ran ends most stepped.1)
+
+-- A piece with these ends was run from x to y, and the counter shows its instructions.
+pub record RunsPiece (ends : List ℕ) (x y : MachineState) (before after : ℕ) : Type 0 where
+  pub left : y ≡ (ran ends PIECE x).left
+  pub count : after ≡ before + (ran ends PIECE x).count
+  pub bounds : IsMachine y

@@ -9,3 +9,10 @@ mod run;
 pub use ready::is_ready;
 pub use registers::register;
 pub use run::{PIECE, run_piece};
+
+// what a piece speaks of
+pub use console_defs as console;
+pub use interp_defs::Turn;
+pub use native_interp as labels;
+pub use step_defs::Reason;
+pub use tms_step as processor;

@@ -2,7 +2,7 @@
 
 ghost use Rattle.std.specs.Prelude.{◌≡◌, ◌+◌, eqb};
 ghost use Rattle.std.specs.List.{list_any};
-ghost use Rattle.console_defs.specs.Machine.{IsMachine, machine_step};
+ghost use Rattle.console_defs.specs.Machine.{machine_step};
 ghost use Rattle.interp_defs.specs.Runs as runs;
 ghost use Rattle.tms_step.specs.Turns.{executed_by};
 ghost use Rattle.sim_view.specs.Running as spec;
@@ -21,9 +21,7 @@ const BRANCH_BY_REGISTER: u16 = 0x045;
 /// where the machine comes to GSTEP, GSTOP, GEXIT or to one of the ends of the piece. A step that
 /// executes no instruction ends it too.
 pub fn run_piece<L: Ledger>(machine: &mut Machine, steps: &mut Steps<L>, ends: &[u16])
-    ensures left { machine.new ≡ (spec.ran ends.now PIECE machine.old).left }
-    ensures count { steps.new ≡ steps.old + (spec.ran ends.now PIECE machine.old).count }
-    ensures bounds { IsMachine machine.new }
+    ensures { spec.RunsPiece ends.now machine.old machine.new steps.old steps.new }
 {
     run_at_most(machine, steps, ends, PIECE);
     machine.holds_bounds();

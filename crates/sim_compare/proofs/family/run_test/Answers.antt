@@ -1,17 +1,20 @@
-use Rattle.std.proofs.Common.{refl}
-use Rattle.sim_view.specs.View.{view}
-use Rattle.sim_rows.specs.States.{state_at_dispatch, operation_seen}
+use Rattle.std.proofs.Common.{◌≡◌, ℕ, ap, Option, subst, true}
+use Rattle.sim_rows.proofs.Common.{GplOperation, operation_entry, Stands}
+use Rattle.sim_compare.specs.Family.{is_test}
 use Rattle.sim_compare.proofs.Testing
 use Rattle.sim_compare.proofs.family.run_test.Goals as goal
 
+pub test_status-requires-clause-stands : goal.test_status-requires-clause-stands
+test_status-requires-clause-stands g c =
+    subst (λ (n : ℕ). Stands c.args.machine.now n) (ap operation_entry c.requires.told) c.requires.at.stands
+
+pub test_status-requires-clause-test : goal.test_status-requires-clause-test
+test_status-requires-clause-test g c = subst (λ (o : Option GplOperation). is_test o ≡ true) c.requires.told c.requires.at.family
+
 pub end_comparison-requires : goal.end_comparison-requires
 end_comparison-requires g c =
-    let x = c.args.machine.now in
-    let q = c.requires in
-    Testing.test_told (state_at_dispatch (view x)) x c.test_status.new.machine c.args.steps.now c.test_status.new.steps (operation_seen (view x)) refl q.test q.stands q.dispatched c.test_status.ensures
+    Testing.test_told _ _ _ _ c.args.name c.requires.told c.requires.at c.test_status.ensures
 
 pub returns : goal.returns
 returns g c =
-    let x = c.args.machine.now in
-    let q = c.requires in
-    Testing.test_turns (state_at_dispatch (view x)) x c.test_status.new.machine c.args.steps.now c.test_status.new.steps (operation_seen (view x)) refl q.test q.stands q.dispatched c.test_status.ensures c.end_comparison.new.machine c.end_comparison.new.steps c.end_comparison.ensures
+    Testing.test_turns _ _ _ _ c.args.name c.requires.told c.requires.at c.test_status.ensures _ _ c.end_comparison.ensures

@@ -1,15 +1,13 @@
-use Rattle.std.proofs.Common.{◌≡◌, ℕ, ◌<◌, subst, arith}
-use Rattle.sim_view.specs.View.{view}
-use Rattle.sim_copy.proofs.Counting
+use Rattle.std.proofs.Common.{ℕ, ◌<◌, ◌≡◌, arith, subst}
+use Rattle.sim_rows.proofs.Common.{view}
 use Rattle.sim_copy.proofs.Counting.{Turns}
+use Rattle.sim_copy.proofs.Counting
 use Rattle.sim_copy.proofs.copy.copy_rest.Goals as goal
 
 pub loop-preserved : goal.loop-preserved
 loop-preserved g c =
-    let x = c.args.machine.now in
-    let less : c.loop.counter < (view x).r.r12 = subst (λ (n : ℕ). c.loop.counter < n) c.register-bytes.ensures c.loop-test.true in
-    Counting.one_more_turn c.loop.counter x c.loop.machine c.copy_byte.new.machine c.args.steps.now c.loop.steps c.copy_byte.new.steps
-    c.loop.invariant less c.copy_byte.ensures
+    let less : c.loop.counter < (view c.args.machine.now).r.r12 = subst (λ (n : ℕ). c.loop.counter < n) c.register-bytes.ensures c.loop-test.true in
+    Counting.one_more_turn c.copy_byte.new.machine c.copy_byte.new.steps c.loop.invariant less c.copy_byte.ensures
 
 pub returns-clause-copies : goal.returns-clause-copies
 returns-clause-copies g c =

@@ -1,25 +1,22 @@
 use Rattle.std.proofs.Common.{◌≡◌, arith}
+use Rattle.sim_rows.proofs.Common.{SHOW}
 use Rattle.sim_copy.proofs.Ending
 use Rattle.sim_copy.proofs.copy.end_copy.Goals as goal
 
 pub end_row-requires-clause-idle : goal.end_row-requires-clause-idle
 end_row-requires-clause-idle g c =
-    Ending.idle_ended c.args.machine.now c.next_byte.new.machine c.args.steps.now c.next_byte.new.steps c.requires.at c.requires.none_left c.next_byte.ensures
+    Ending.idle_ended c.requires.at c.requires.none_left c.next_byte.ensures
 
 pub resume_row-requires-clause-idle : goal.resume_row-requires-clause-idle
 resume_row-requires-clause-idle g c =
-    Ending.idle_ended c.args.machine.now c.next_byte.new.machine c.args.steps.now c.next_byte.new.steps c.requires.at c.requires.none_left c.next_byte.ensures
+    Ending.idle_ended c.requires.at c.requires.none_left c.next_byte.ensures
 
 pub returns-then-pc-eq-SHOW : goal.returns-then-pc-eq-SHOW
 returns-then-pc-eq-SHOW g c =
-    let a = c.next_byte.new.machine in
-    let here : a.cpu.pc ≡ 0x247A = let p = c.pc.ensures.value in let r = c.if-pc-eq-SHOW.true in omega arith in
-    Ending.ends_memory c.args.machine.now a c.args.steps.now c.next_byte.new.steps c.requires.at c.requires.none_left c.next_byte.ensures
-    c.end_row.new.machine c.end_row.new.steps here c.end_row.ensures
+    let here : c.next_byte.new.machine.cpu.pc ≡ SHOW = let p = c.pc.ensures.value in let r = c.if-pc-eq-SHOW.true in omega arith in
+    Ending.ends_memory c.requires.at c.requires.none_left c.next_byte.ensures c.end_row.new.machine c.end_row.new.steps here c.end_row.ensures
 
 pub returns-else-pc-eq-SHOW : goal.returns-else-pc-eq-SHOW
 returns-else-pc-eq-SHOW g c =
-    let a = c.next_byte.new.machine in
-    let elsewhere : a.cpu.pc ≡ 0x247A → ⊥ = λ here. let p = c.pc.ensures.value in let r = c.if-pc-eq-SHOW.false in absurd (omega arith) in
-    Ending.ends_grom c.args.machine.now a c.args.steps.now c.next_byte.new.steps c.requires.at c.requires.none_left c.next_byte.ensures
-    c.resume_row.new.machine c.resume_row.new.steps elsewhere c.resume_row.ensures
+    let elsewhere : c.next_byte.new.machine.cpu.pc ≡ SHOW → ⊥ = λ here. let p = c.pc.ensures.value in let r = c.if-pc-eq-SHOW.false in absurd (omega arith) in
+    Ending.ends_grom c.requires.at c.requires.none_left c.next_byte.ensures c.resume_row.new.machine c.resume_row.new.steps elsewhere c.resume_row.ensures

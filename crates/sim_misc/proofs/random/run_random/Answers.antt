@@ -1,15 +1,12 @@
 use Rattle.std.proofs.Common.{ℕ, ap, subst}
-use Rattle.native_interp.specs.Entries.{operation_entry}
-use Rattle.sim_view.specs.View.{view, Stands}
-use Rattle.sim_rows.specs.States.{state_at_dispatch}
+use Rattle.sim_rows.proofs.Common.{operation_entry, Stands, state_at_dispatch, view}
 use Rattle.sim_misc.proofs.Drawing
 use Rattle.sim_misc.proofs.random.run_random.Goals as goal
 
 pub draw_seed-requires : goal.draw_seed-requires
 draw_seed-requires g c =
-    let x = c.args.machine.now in
     let q = c.requires in
-    subst (λ (p : ℕ). Stands x p) (ap operation_entry q.random) q.stands
+    subst (λ (p : ℕ). Stands c.args.machine.now p) (ap operation_entry q.random) q.stands
 
 pub draw_number-requires : goal.draw_number-requires
 draw_number-requires g c = c.draw_seed.ensures.stands

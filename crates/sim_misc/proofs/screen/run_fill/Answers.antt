@@ -1,15 +1,12 @@
-use Rattle.std.proofs.Common.{◌≡◌, ℕ, ap, subst, arith}
-use Rattle.native_interp.specs.Entries.{operation_entry}
-use Rattle.sim_view.specs.View.{view, Stands}
-use Rattle.sim_rows.specs.States.{state_at_dispatch}
+use Rattle.std.proofs.Common.{ℕ, ◌≡◌, ap, arith, subst}
+use Rattle.sim_rows.proofs.Common.{operation_entry, Stands, state_at_dispatch, view}
 use Rattle.sim_misc.proofs.Filling
 use Rattle.sim_misc.proofs.screen.run_fill.Goals as goal
 
 pub begin_fill-requires : goal.begin_fill-requires
 begin_fill-requires g c =
-    let x = c.args.machine.now in
     let q = c.requires in
-    subst (λ (p : ℕ). Stands x p) (ap operation_entry q.fill) q.stands
+    subst (λ (p : ℕ). Stands c.args.machine.now p) (ap operation_entry q.fill) q.stands
 
 pub loop-init : goal.loop-init
 loop-init g c =

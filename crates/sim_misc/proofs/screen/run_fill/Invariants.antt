@@ -1,5 +1,4 @@
-use Rattle.sim_view.specs.View.{view}
-use Rattle.sim_rows.specs.States.{state_at_dispatch}
+use Rattle.sim_rows.proofs.Common.{state_at_dispatch, view}
 use Rattle.sim_misc.proofs.Filling.{Filling}
 use Rattle.sim_misc.proofs.screen.run_fill.Given as goal
 

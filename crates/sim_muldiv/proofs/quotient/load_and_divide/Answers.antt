@@ -2,16 +2,23 @@ use Rattle.sim_muldiv.proofs.Quotients
 use Rattle.sim_muldiv.proofs.quotient.load_and_divide.Goals as goal
 
 pub run_load-requires-clause-idle : goal.run_load-requires-clause-idle
-run_load-requires-clause-idle g c = Quotients.load_idle c.args.machine.now c.load_low_word.new.machine c.load_low_word.new.machine c.args.steps.now c.load_low_word.new.steps c.load_low_word.new.steps c.requires.ready c.requires.word c.load_low_word.ensures
+run_load-requires-clause-idle g c = Quotients.load_idle c.requires.ready c.requires.word c.load_low_word.ensures
 
 pub run_load-requires-clause-visible : goal.run_load-requires-clause-visible
-run_load-requires-clause-visible g c = Quotients.load_visible c.args.machine.now c.load_low_word.new.machine c.load_low_word.new.machine c.args.steps.now c.load_low_word.new.steps c.load_low_word.new.steps c.requires.ready c.requires.word c.load_low_word.ensures
+run_load-requires-clause-visible g c = Quotients.load_visible c.requires.ready c.requires.word c.load_low_word.ensures
 
 pub divide_words-requires-clause-stands : goal.divide_words-requires-clause-stands
-divide_words-requires-clause-stands g c = Quotients.divide_stands c.args.machine.now c.load_low_word.new.machine c.run_load.new.machine c.args.steps.now c.load_low_word.new.steps c.run_load.new.steps c.requires.ready c.requires.word c.load_low_word.ensures (c.run_load.ensures.value (Quotients.load_space c.args.machine.now c.load_low_word.new.machine c.run_load.new.machine c.args.steps.now c.load_low_word.new.steps c.run_load.new.steps c.requires.ready c.requires.word c.load_low_word.ensures))
+divide_words-requires-clause-stands g c =
+    Quotients.divide_stands c.requires.ready c.requires.word c.load_low_word.ensures (c.run_load.ensures.value
+    (Quotients.load_space c.requires.ready c.requires.word c.load_low_word.ensures))
 
 pub divide_words-requires-clause-fits : goal.divide_words-requires-clause-fits
-divide_words-requires-clause-fits g c = Quotients.divide_fits c.args.machine.now c.load_low_word.new.machine c.run_load.new.machine c.args.steps.now c.load_low_word.new.steps c.run_load.new.steps c.requires.ready c.requires.word c.load_low_word.ensures (c.run_load.ensures.value (Quotients.load_space c.args.machine.now c.load_low_word.new.machine c.run_load.new.machine c.args.steps.now c.load_low_word.new.steps c.run_load.new.steps c.requires.ready c.requires.word c.load_low_word.ensures)) c.requires.fits
+divide_words-requires-clause-fits g c =
+    Quotients.divide_fits c.requires.ready c.requires.word c.load_low_word.ensures (c.run_load.ensures.value
+    (Quotients.load_space c.requires.ready c.requires.word c.load_low_word.ensures)) c.requires.fits
 
 pub returns : goal.returns
-returns g c = Quotients.divides_there c.args.machine.now c.load_low_word.new.machine c.run_load.new.machine c.args.steps.now c.load_low_word.new.steps c.run_load.new.steps c.requires.ready c.requires.word c.load_low_word.ensures (c.run_load.ensures.value (Quotients.load_space c.args.machine.now c.load_low_word.new.machine c.run_load.new.machine c.args.steps.now c.load_low_word.new.steps c.run_load.new.steps c.requires.ready c.requires.word c.load_low_word.ensures)) c.divide_words.new.machine c.divide_words.new.steps c.divide_words.ensures
+returns g c =
+    Quotients.divides_there c.requires.ready c.requires.word c.load_low_word.ensures (c.run_load.ensures.value
+    (Quotients.load_space c.requires.ready c.requires.word c.load_low_word.ensures)) c.divide_words.new.machine c.divide_words.new.steps
+    c.divide_words.ensures

@@ -1,13 +1,6 @@
-use Rattle.std.proofs.Common.{[], ◌∷◌}
-use Rattle.sim_view.specs.View.{view}
-use Rattle.sim_view.proofs.Bridge.{exits, is_view}
-use Rattle.sim_operands.specs.Pieces as piece
+use Rattle.sim_view.proofs.Common.{is_view, piece}
 use Rattle.sim_operands.proofs.Paths
 use Rattle.sim_operands.proofs.address.read_address.Goals as goal
 
 pub returns : goal.returns
-returns g c =
-    let x = c.args.machine.now in
-    let v = view x in
-    let i = is_view x c.requires.machine in
-    exits (0x2314 ∷ []) 0x22EC x c.run_piece.new.machine c.args.steps.now c.run_piece.new.steps (piece.address v) c.requires (Paths.address v i) c.run_piece.ensures.left c.run_piece.ensures.count c.run_piece.ensures.bounds
+returns g c = piece c.requires (Paths.address _ (is_view _ c.requires.machine)) c.run_piece.ensures

@@ -1,7 +1,6 @@
 use Rattle.std.proofs.Common.{subst}
-use Rattle.sim_view.specs.View.{view}
-use Rattle.sim_view.specs.Exits.{Exit, Exits}
-use Rattle.sim_operands.proofs.Ready.{ready, fetches}
+use Rattle.sim_view.proofs.Common.{Exit, Exits, view}
+use Rattle.sim_operands.proofs.Ready.{fetches, ready}
 use Rattle.sim_operands.proofs.fetch.run_fetch.Goals as goal
 
 pub returns : goal.returns

@@ -1,7 +1,5 @@
 use Rattle.std.proofs.Common.{subst}
-use Rattle.sim_view.specs.View.{view}
-use Rattle.sim_view.specs.Exits.{Exit, Exits}
-use Rattle.sim_view.proofs.Bridge.{is_view}
+use Rattle.sim_view.proofs.Common.{Exit, Exits, is_view, view}
 use Rattle.sim_operands.proofs.Ready.{idle_grom, seeks}
 use Rattle.sim_operands.proofs.seek.run_seek.Goals as goal
 

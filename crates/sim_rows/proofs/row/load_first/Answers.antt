@@ -1,12 +1,6 @@
-use Rattle.std.proofs.Common.{[], ◌∷◌}
-use Rattle.sim_view.specs.View.{view}
-use Rattle.sim_view.proofs.Bridge.{exits}
-use Rattle.sim_rows.specs.Pieces as piece
+use Rattle.sim_view.proofs.Common.{piece}
 use Rattle.sim_rows.proofs.Paths
 use Rattle.sim_rows.proofs.row.load_first.Goals as goal
 
 pub returns : goal.returns
-returns g c =
-    let x = c.args.machine.now in
-    let v = view x in
-    exits (0x2368 ∷ []) 0x2434 x c.run_piece.new.machine c.args.steps.now c.run_piece.new.steps (piece.load_first v) c.requires (Paths.load_first v) c.run_piece.ensures.left c.run_piece.ensures.count c.run_piece.ensures.bounds
+returns g c = piece c.requires (Paths.load_first _) c.run_piece.ensures

@@ -1,7 +1,6 @@
 use Rattle.std.proofs.Common.{refl}
-use Rattle.interp_defs.specs.Match.{shown_by}
-use Rattle.sim_view.specs.View.{view}
-use Rattle.sim_rows.proofs.Matched.{sees_at, pc_fits, bytes_fit}
+use Rattle.sim_rows.specs.Prelude.{shown_by, view}
+use Rattle.sim_rows.proofs.Matched.{bytes_fit, pc_fits, sees_at}
 use Rattle.sim_rows.proofs.Beginning.{begins}
 use Rattle.sim_rows.proofs.step.begin_step.Goals as goal
 

@@ -1,6 +1,6 @@
 use Rattle.std.proofs.Common.{◌≡◌, ap, arith}
-use Rattle.sim_view.specs.View.{View, view}
-use Rattle.sim_view.proofs.Bridge.{is_view}
+use Rattle.sim_view.proofs.Common.{is_view}
+use Rattle.sim_rows.specs.Prelude.{View, view}
 use Rattle.sim_rows.proofs.Again.{idle_again}
 use Rattle.sim_rows.proofs.Storing
 use Rattle.sim_rows.proofs.tail.end_row.Goals as goal
@@ -30,4 +30,5 @@ run_store-requires-clause-visible g c =
 pub returns : goal.returns
 returns g c =
     let some : (view c.args.machine.now).r.r13 ≡ 0 → ⊥ = λ zero. let a = c.register.ensures in let b = c.if-register-eq0.false in absurd (omega arith) in
-    Storing.ends_drawn c.args.machine.now c.show-2.new.machine c.run_store.new.machine c.args.steps.now c.show-2.new.steps c.run_store.new.steps (is_view c.args.machine.now c.requires.stands.machine) some c.show-2.ensures c.run_store.ensures.value
+    Storing.ends_drawn c.args.machine.now c.show-2.new.machine c.run_store.new.machine c.args.steps.now c.show-2.new.steps c.run_store.new.steps
+    (is_view c.args.machine.now c.requires.stands.machine) some c.show-2.ensures c.run_store.ensures.value

@@ -1,8 +1,5 @@
-use Rattle.std.proofs.Common.{◌≡◌, ◌<◌, ap, subst, sym}
-use Rattle.console_defs.specs.Words.{even}
-use Rattle.sim_view.specs.View.{View, view, Stands}
-use Rattle.sim_operands.specs.Pieces.{return_of}
-use Rattle.sim_operands.specs.Values.{IsVisible}
+use Rattle.std.proofs.Common.{◌<◌, ◌≡◌, ap, subst, sym}
+use Rattle.sim_rows.specs.Prelude.{even, IsVisible, return_of, SHOW, Stands, View, view}
 use Rattle.sim_rows.proofs.Again.{idle_again}
 use Rattle.sim_rows.proofs.Storing
 use Rattle.sim_rows.proofs.tail.finish_row.Goals as goal
@@ -10,7 +7,8 @@ use Rattle.sim_rows.proofs.tail.finish_row.Goals as goal
 pub run_store-requires-clause-idle : goal.run_store-requires-clause-idle
 run_store-requires-clause-idle g c =
     let e = c.store_result.ensures in
-    idle_again c.args.machine.now.cpu.memory c.store_result.new.machine.cpu.memory (ap (λ (v : View). v.vdp) e.shows) (ap (λ (v : View). v.grom) e.shows) c.requires.idle
+    idle_again c.args.machine.now.cpu.memory c.store_result.new.machine.cpu.memory (ap (λ (v : View). v.vdp) e.shows) (ap (λ (v : View). v.grom) e.shows)
+    c.requires.idle
 
 pub run_store-requires-clause-visible : goal.run_store-requires-clause-visible
 run_store-requires-clause-visible g c =
@@ -20,18 +18,20 @@ pub end_row-requires-clause-stands : goal.end_row-requires-clause-stands
 end_row-requires-clause-stands g c =
     let e = c.store_result.ensures in
     let small : (view c.store_result.new.machine).r.r8 < 2 = subst (λ (v : View). v.r.r8 < 2) (sym e.shows) c.requires.space in
-    let to : return_of (view c.store_result.new.machine) ≡ 0x247A = ap (λ (v : View). even v.r.r11) e.shows in
+    let to : return_of (view c.store_result.new.machine) ≡ SHOW = ap (λ (v : View). even v.r.r11) e.shows in
     subst (λ p. Stands c.run_store.new.machine p) to (c.run_store.ensures.value small).stands
 
 pub end_row-requires-clause-idle : goal.end_row-requires-clause-idle
 end_row-requires-clause-idle g c =
     let e = c.store_result.ensures in
     let small : (view c.store_result.new.machine).r.r8 < 2 = subst (λ (v : View). v.r.r8 < 2) (sym e.shows) c.requires.space in
-    let idle = idle_again c.args.machine.now.cpu.memory c.store_result.new.machine.cpu.memory (ap (λ (v : View). v.vdp) e.shows) (ap (λ (v : View). v.grom) e.shows) c.requires.idle in
+    let idle = idle_again c.args.machine.now.cpu.memory c.store_result.new.machine.cpu.memory (ap (λ (v : View). v.vdp) e.shows)
+    (ap (λ (v : View). v.grom) e.shows) c.requires.idle in
     Storing.stored_idle c.store_result.new.machine c.run_store.new.machine c.store_result.new.steps c.run_store.new.steps idle (c.run_store.ensures.value small)
 
 pub returns : goal.returns
 returns g c =
     let e = c.store_result.ensures in
     let small : (view c.store_result.new.machine).r.r8 < 2 = subst (λ (v : View). v.r.r8 < 2) (sym e.shows) c.requires.space in
-    Storing.finishes c.args.machine.now c.store_result.new.machine c.run_store.new.machine c.end_row.new.machine c.args.steps.now c.store_result.new.steps c.run_store.new.steps c.end_row.new.steps e (c.run_store.ensures.value small) c.end_row.ensures
+    Storing.finishes c.args.machine.now c.store_result.new.machine c.run_store.new.machine c.end_row.new.machine c.args.steps.now c.store_result.new.steps
+    c.run_store.new.steps c.end_row.new.steps e (c.run_store.ensures.value small) c.end_row.ensures

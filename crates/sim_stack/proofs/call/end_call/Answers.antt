@@ -2,16 +2,12 @@ use Rattle.sim_stack.proofs.Calling
 use Rattle.sim_stack.proofs.call.end_call.Goals as goal
 
 pub run_store-requires-clause-idle : goal.run_store-requires-clause-idle
-run_store-requires-clause-idle g c = Calling.idle_asked c.args.machine.now c.store_next.new.machine c.args.steps.now c.store_next.new.steps
-    c.store_next.ensures c.requires.idle
+run_store-requires-clause-idle g c = Calling.idle_asked c.store_next.ensures c.requires.idle
 
 pub resume_row-requires-clause-idle : goal.resume_row-requires-clause-idle
 resume_row-requires-clause-idle g c =
-    Calling.idle_stored c.args.machine.now c.store_next.new.machine c.args.steps.now c.store_next.new.steps c.store_next.ensures c.run_store.new.machine
-    c.run_store.new.steps c.run_store.ensures.value c.requires.idle
+    Calling.idle_stored c.store_next.ensures c.run_store.ensures.value c.requires.idle
 
 pub returns : goal.returns
 returns g c =
-    Calling.ends c.args.machine.now c.store_next.new.machine c.args.steps.now c.store_next.new.steps c.store_next.ensures c.run_store.new.machine
-    c.run_store.new.steps c.run_store.ensures.value
-    c.resume_row.new.machine c.resume_row.new.steps c.resume_row.ensures
+    Calling.ends c.store_next.ensures c.run_store.ensures.value c.resume_row.new.machine c.resume_row.new.steps c.resume_row.ensures

@@ -2,23 +2,17 @@ use Rattle.sim_stack.proofs.Fetching
 use Rattle.sim_stack.proofs.fetch.end_fetch.Goals as goal
 
 pub run_store-requires-clause-idle : goal.run_store-requires-clause-idle
-run_store-requires-clause-idle g c = Fetching.idle_first c.args.machine.now c.store_stacked.new.machine c.args.steps.now c.store_stacked.new.steps
-    c.store_stacked.ensures c.requires.idle
+run_store-requires-clause-idle g c = Fetching.idle_first c.store_stacked.ensures c.requires.idle
 
 pub run_store-requires-2-clause-idle : goal.run_store-requires-2-clause-idle
 run_store-requires-2-clause-idle g c =
-    Fetching.idle_second c.args.machine.now c.store_stacked.new.machine c.args.steps.now c.store_stacked.new.steps c.store_stacked.ensures
-    c.run_store.new.machine c.store_byte.new.machine c.run_store.new.steps c.store_byte.new.steps c.run_store.ensures.value c.store_byte.ensures c.requires.idle
+    Fetching.idle_second c.store_stacked.ensures c.run_store.ensures.value c.store_byte.ensures c.requires.idle
 
 pub resume_row-requires-clause-idle : goal.resume_row-requires-clause-idle
 resume_row-requires-clause-idle g c =
-    Fetching.idle_last c.args.machine.now c.store_stacked.new.machine c.args.steps.now c.store_stacked.new.steps c.store_stacked.ensures
-    c.run_store.new.machine c.store_byte.new.machine c.run_store.new.steps c.store_byte.new.steps c.run_store.ensures.value c.store_byte.ensures
-    c.run_store-2.new.machine c.run_store-2.new.steps c.requires.space c.run_store-2.ensures.value c.requires.idle
+    Fetching.idle_last c.store_stacked.ensures c.run_store.ensures.value c.store_byte.ensures c.requires.space c.run_store-2.ensures.value c.requires.idle
 
 pub returns : goal.returns
 returns g c =
-    Fetching.ends c.args.machine.now c.store_stacked.new.machine c.args.steps.now c.store_stacked.new.steps c.store_stacked.ensures
-    c.run_store.new.machine c.store_byte.new.machine c.run_store.new.steps c.store_byte.new.steps c.run_store.ensures.value c.store_byte.ensures
-    c.run_store-2.new.machine c.run_store-2.new.steps c.requires.space c.run_store-2.ensures.value
+    Fetching.ends c.store_stacked.ensures c.run_store.ensures.value c.store_byte.ensures c.requires.space c.run_store-2.ensures.value
     c.resume_row.new.machine c.resume_row.new.steps c.resume_row.ensures

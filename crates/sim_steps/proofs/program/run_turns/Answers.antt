@@ -1,8 +1,6 @@
-use Rattle.std.proofs.Common.{◌≡◌, ℕ, subst, arith}
-use Rattle.interp_defs.specs.declared.turn.Turn.{Turn}
-use Rattle.interp_defs.specs.Match.{shown_by}
-use Rattle.interp_defs.specs.Turned.{Turned}
-use Rattle.sim_steps.proofs.Running.{Stepping, none_yet, stepped, stopped, whole}
+use Rattle.std.proofs.Common.{ℕ, ◌≡◌, arith, subst}
+use Rattle.sim_rows.proofs.Common.{shown_by, Turn, Turned}
+use Rattle.sim_steps.proofs.Running.{none_yet, stepped, Stepping, stopped, whole}
 use Rattle.sim_steps.proofs.program.run_turns.Goals as goal
 
 pub loop-made-init : goal.loop-made-init
@@ -19,7 +17,8 @@ returns-in-Stopped g c =
     let u = c.loop-made.steps in
     let v = c.gpl_turn.new.steps in
     let turned = subst (λ (turn : Turn). Turned (shown_by z.cpu.memory) 0 z w u v turn) c.in-Stopped.is c.gpl_turn.ensures in
-    stopped c.loop-made.made (shown_by x.cpu.memory) x z w c.args.steps.now u v c.loop-made.invariant c.args.limit c.in-Stopped.reason c.loop-made-test.true turned
+    stopped c.loop-made.made (shown_by x.cpu.memory) x z w c.args.steps.now u v c.loop-made.invariant c.args.limit c.in-Stopped.reason c.loop-made-test.true
+    turned
 
 pub loop-made-preserved : goal.loop-made-preserved
 loop-made-preserved g c =

@@ -1,4 +1,4 @@
-use Rattle.interp_defs.specs.Match.{shown_by}
+use Rattle.sim_rows.proofs.Common.{shown_by}
 use Rattle.sim_steps.proofs.Running.{Stepping}
 use Rattle.sim_steps.proofs.program.run_turns.Given as goal
 

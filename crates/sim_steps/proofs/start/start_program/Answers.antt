@@ -1,5 +1,4 @@
-use Rattle.sim_view.proofs.Bridge.{is_view}
-use Rattle.sim_operands.proofs.Ready.{idle_grom, idle_video}
+use Rattle.sim_rows.proofs.Common.{idle_grom, idle_video, is_view}
 use Rattle.sim_steps.proofs.Booting.{begins}
 use Rattle.sim_steps.proofs.start.start_program.Goals as goal
 

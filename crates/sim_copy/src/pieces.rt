@@ -1,0 +1,42 @@
+//! The pieces of MOVE's copy.
+
+ghost use Rattle.sim_rows.specs.Prelude.{Exits, Stands, view};
+ghost use Rattle.sim_rows.specs.native_interp.declared.addresses.TheConstants as address;
+ghost use Rattle.sim_copy.specs.Pieces as piece;
+
+use sim_rows::labels::{COPY, LOAD, RESUME, SHOW, STORE};
+use sim_rows::processor::{Machine, Steps};
+use sim_rows::run_piece;
+use std::sync::ledger::Ledger;
+
+/// The piece of MOVE that begins the copy.
+pub fn begin_copy<L: Ledger>(machine: &mut Machine, steps: &mut Steps<L>)
+    requires { Stands machine.old address.MOVEB }
+    ensures { Exits machine.old machine.new steps.old steps.new (piece.begin_copy (view machine.old)) }
+{
+    run_piece(machine, steps, &[COPY]);
+}
+
+/// The piece of the copy that asks LOAD for the next byte, or ends the copy.
+pub fn next_byte<L: Ledger>(machine: &mut Machine, steps: &mut Steps<L>)
+    requires { Stands machine.old address.COPY }
+    ensures { Exits machine.old machine.new steps.old steps.new (piece.next_byte (view machine.old)) }
+{
+    run_piece(machine, steps, &[LOAD, SHOW, RESUME]);
+}
+
+/// The piece of the copy that asks STORE for the byte.
+pub fn store_byte<L: Ledger>(machine: &mut Machine, steps: &mut Steps<L>)
+    requires { Stands machine.old address.COPYS }
+    ensures { Exits machine.old machine.new steps.old steps.new (piece.store_byte (view machine.old)) }
+{
+    run_piece(machine, steps, &[STORE]);
+}
+
+/// The piece of the copy that goes on to the next byte.
+pub fn count_byte<L: Ledger>(machine: &mut Machine, steps: &mut Steps<L>)
+    requires { Stands machine.old address.COPYN }
+    ensures { Exits machine.old machine.new steps.old steps.new (piece.count_byte (view machine.old)) }
+{
+    run_piece(machine, steps, &[COPY]);
+}

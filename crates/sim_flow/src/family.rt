@@ -1,0 +1,100 @@
+//! EXIT, B, BR, BS and CASE, from their dispatch to the end of the step.
+
+ghost use Rattle.std.specs.Prelude.{◌≡◌, Some};
+ghost use Rattle.sim_rows.specs.Prelude.{AtDispatch, B, Branch, CASE, Dispatched, Jump, most_to_dispatch, One};
+ghost use Rattle.sim_rows.specs.Prelude.{operation_seen, RunsRow, Stands, state_at_dispatch, Stepped, Turned, view};
+ghost use Rattle.sim_flow.specs.Family.{is_case, is_flow};
+ghost use Rattle.sim_rows.specs.native_interp.declared.addresses.TheConstants as address;
+
+use crate::pieces::{
+    ask_table, ask_target, find_branch, find_target, go_to_branch, leave, test_branch,
+};
+use sim_compare::clear_condition;
+use sim_jumps::{jump, take_jump};
+use sim_rows::gpl::GplOperation;
+use sim_rows::labels::TAKE;
+use sim_rows::processor::{Machine, Steps};
+use sim_rows::subroutines::{seek_address, stream_value};
+use sim_rows::{Reason, Turn, operation_told, start_row, where_next};
+use std::sync::ledger::Ledger;
+
+/// Runs B from its dispatch to the end of the step.
+fn run_jump<L: Ledger>(machine: &mut Machine, steps: &mut Steps<L>)
+    requires stands { Stands machine.old address.GOB }
+    requires dispatched { let v = view machine.old in Dispatched (state_at_dispatch v) v }
+    requires is { operation_seen (view machine.old) ≡ Some (Jump B) }
+    ensures { let s = state_at_dispatch (view machine.old) in
+        Turned s most_to_dispatch machine.old machine.new steps.old steps.new Stepped }
+{
+    ask_target(machine, steps);
+    stream_value(machine, steps);
+    jump(machine, steps);
+}
+
+/// Runs BR and BS from their dispatch to the end of the step.
+fn run_branch<L: Ledger>(machine: &mut Machine, steps: &mut Steps<L>, _on: bool)
+    requires stands { Stands machine.old address.BRANCH }
+    requires dispatched { let v = view machine.old in Dispatched (state_at_dispatch v) v }
+    requires is { operation_seen (view machine.old) ≡ Some (Branch _on) }
+    ensures { let s = state_at_dispatch (view machine.old) in
+        Turned s most_to_dispatch machine.old machine.new steps.old steps.new Stepped }
+{
+    find_target(machine, steps);
+    test_branch(machine, steps);
+    if machine.pc() == TAKE {
+        take_jump(machine, steps);
+    } else {
+        clear_condition(machine, steps);
+    }
+}
+
+/// Runs CASE from its row to the end of the step.
+fn run_case<L: Ledger>(machine: &mut Machine, steps: &mut Steps<L>)
+    requires { Stands machine.old address.CASEV }
+    ensures { RunsRow (One CASE) 34 machine.old machine.new steps.old steps.new }
+{
+    ask_table(machine, steps);
+    where_next(machine, steps);
+    find_branch(machine, steps);
+    seek_address(machine, steps);
+    go_to_branch(machine, steps);
+    take_jump(machine, steps);
+}
+
+/// Runs CASE from its dispatch to the end of the step.
+fn run_case_row<L: Ledger>(machine: &mut Machine, steps: &mut Steps<L>) -> Turn
+    requires { AtDispatch is_case machine.old }
+    ensures { let s = state_at_dispatch (view machine.old) in
+        Turned s most_to_dispatch machine.old machine.new steps.old steps.new result }
+{
+    let Some(_) = start_row(machine, steps) else {
+        return Turn::Stopped(Reason::Cell);
+    };
+    run_case(machine, steps);
+    Turn::Stepped
+}
+
+/// Runs EXIT, B, BR, BS and CASE from their dispatch to the end of the step.
+pub fn run_flow<L: Ledger>(machine: &mut Machine, steps: &mut Steps<L>) -> Turn
+    requires { AtDispatch is_flow machine.old }
+    ensures { let s = state_at_dispatch (view machine.old) in
+        Turned s most_to_dispatch machine.old machine.new steps.old steps.new result }
+{
+    match operation_told(machine) {
+        Some(GplOperation::Plain(_)) => {
+            leave(machine, steps);
+            Turn::Stopped(Reason::Exit)
+        }
+        Some(GplOperation::Jump(_)) => {
+            run_jump(machine, steps);
+            Turn::Stepped
+        }
+        Some(GplOperation::Branch(on)) => {
+            run_branch(machine, steps, on);
+            Turn::Stepped
+        }
+        Some(GplOperation::One(_)) => run_case_row(machine, steps),
+        Some(GplOperation::Byte(_) | GplOperation::Two(_) | GplOperation::Move(_)) | None =>
+            unreachable!(),
+    }
+}

@@ -1,0 +1,6 @@
+use Rattle.sim_rows.proofs.Common.{is_view, piece}
+use Rattle.sim_misc.proofs.Paths
+use Rattle.sim_misc.proofs.pieces.draw_number.Goals as goal
+
+pub returns : goal.returns
+returns g c = piece c.requires (Paths.draw_number _ (is_view _ c.requires.machine)) c.run_piece.ensures

@@ -1,0 +1,6 @@
+use Rattle.sim_rows.proofs.Common.{piece}
+use Rattle.sim_muldiv.proofs.Paths
+use Rattle.sim_muldiv.proofs.pieces.divide_words.Goals as goal
+
+pub returns : goal.returns
+returns g c = piece c.requires.stands (Paths.divide_words _ c.requires.fits) c.run_piece.ensures

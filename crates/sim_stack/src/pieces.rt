@@ -1,0 +1,138 @@
+//! The pieces of CALL, RTN, RTNC, PUSH and FETCH.
+
+ghost use Rattle.sim_rows.specs.Prelude.{Exits, Stands, view};
+ghost use Rattle.sim_rows.specs.native_interp.declared.addresses.TheConstants as address;
+ghost use Rattle.sim_stack.specs.Pieces as piece;
+
+use sim_rows::labels::{FETCH, GOTO, LOAD, SEEK, STO, STORE, STREAM, TAKE, WHERE};
+use sim_rows::processor::{Machine, Steps};
+use sim_rows::run_piece;
+use std::sync::ledger::Ledger;
+
+/// The piece of CALL that asks STREAM for the address that follows.
+pub fn ask_target<L: Ledger>(machine: &mut Machine, steps: &mut Steps<L>)
+    requires { Stands machine.old address.GOCALL }
+    ensures { Exits machine.old machine.new steps.old steps.new (piece.ask_target (view machine.old)) }
+{
+    run_piece(machine, steps, &[STREAM]);
+}
+
+/// The piece of CALL that keeps it and asks WHERE for the next address, or stops by reason 3.
+pub fn keep_target<L: Ledger>(machine: &mut Machine, steps: &mut Steps<L>)
+    requires { Stands machine.old address.CALLT }
+    ensures { Exits machine.old machine.new steps.old steps.new (piece.keep_target (view machine.old)) }
+{
+    run_piece(machine, steps, &[WHERE]);
+}
+
+/// The piece of CALL that keeps the next address and asks SEEK for it.
+pub fn keep_call_next<L: Ledger>(machine: &mut Machine, steps: &mut Steps<L>)
+    requires { Stands machine.old address.CALLN }
+    ensures { Exits machine.old machine.new steps.old steps.new (piece.keep_call_next (view machine.old)) }
+{
+    run_piece(machine, steps, &[SEEK]);
+}
+
+/// The piece of CALL that stores the pointer and asks STORE for the next address.
+pub fn store_next<L: Ledger>(machine: &mut Machine, steps: &mut Steps<L>)
+    requires { Stands machine.old address.CALLS }
+    ensures { Exits machine.old machine.new steps.old steps.new (piece.store_next (view machine.old)) }
+{
+    run_piece(machine, steps, &[STORE]);
+}
+
+/// The piece of FETCH that keeps the operand's place and asks WHERE for the next address, or stops by reason 3.
+pub fn keep_place<L: Ledger>(machine: &mut Machine, steps: &mut Steps<L>)
+    requires { Stands machine.old address.FETCHV }
+    ensures { Exits machine.old machine.new steps.old steps.new (piece.keep_place (view machine.old)) }
+{
+    run_piece(machine, steps, &[WHERE]);
+}
+
+/// The piece of FETCH that keeps the next address and asks SEEK for it.
+pub fn keep_back<L: Ledger>(machine: &mut Machine, steps: &mut Steps<L>)
+    requires { Stands machine.old address.FETCHN }
+    ensures { Exits machine.old machine.new steps.old steps.new (piece.keep_back (view machine.old)) }
+{
+    run_piece(machine, steps, &[SEEK]);
+}
+
+/// The piece of FETCH that asks LOAD for the word on the stack.
+pub fn ask_stacked<L: Ledger>(machine: &mut Machine, steps: &mut Steps<L>)
+    requires { Stands machine.old address.FETCHP }
+    ensures { Exits machine.old machine.new steps.old steps.new (piece.ask_stacked (view machine.old)) }
+{
+    run_piece(machine, steps, &[LOAD]);
+}
+
+/// The piece of FETCH that asks SEEK for the address on the stack.
+pub fn seek_stacked<L: Ledger>(machine: &mut Machine, steps: &mut Steps<L>)
+    requires { Stands machine.old address.FETCHA }
+    ensures { Exits machine.old machine.new steps.old steps.new (piece.seek_stacked (view machine.old)) }
+{
+    run_piece(machine, steps, &[SEEK]);
+}
+
+/// The piece of FETCH that asks for the byte there.
+pub fn ask_byte<L: Ledger>(machine: &mut Machine, steps: &mut Steps<L>)
+    requires { Stands machine.old address.FETCHR }
+    ensures { Exits machine.old machine.new steps.old steps.new (piece.ask_byte (view machine.old)) }
+{
+    run_piece(machine, steps, &[FETCH]);
+}
+
+/// The piece of FETCH that keeps the byte and asks WHERE for the address behind it.
+pub fn keep_byte<L: Ledger>(machine: &mut Machine, steps: &mut Steps<L>)
+    requires { Stands machine.old address.FETCHK }
+    ensures { Exits machine.old machine.new steps.old steps.new (piece.keep_byte (view machine.old)) }
+{
+    run_piece(machine, steps, &[WHERE]);
+}
+
+/// The piece of FETCH that keeps that address and asks SEEK for it.
+pub fn keep_stacked_next<L: Ledger>(machine: &mut Machine, steps: &mut Steps<L>)
+    requires { Stands machine.old address.FETCHB }
+    ensures { Exits machine.old machine.new steps.old steps.new (piece.keep_stacked_next (view machine.old)) }
+{
+    run_piece(machine, steps, &[SEEK]);
+}
+
+/// The piece of FETCH that asks STORE for that address.
+pub fn store_stacked<L: Ledger>(machine: &mut Machine, steps: &mut Steps<L>)
+    requires { Stands machine.old address.FETCHS }
+    ensures { Exits machine.old machine.new steps.old steps.new (piece.store_stacked (view machine.old)) }
+{
+    run_piece(machine, steps, &[STORE]);
+}
+
+/// The piece of FETCH that asks STORE for the byte.
+pub fn store_byte<L: Ledger>(machine: &mut Machine, steps: &mut Steps<L>)
+    requires { Stands machine.old address.FETCHD }
+    ensures { Exits machine.old machine.new steps.old steps.new (piece.store_byte (view machine.old)) }
+{
+    run_piece(machine, steps, &[STORE]);
+}
+
+/// The piece of PUSH that stores the pointer and turns to the top of the stack, or stops by reason 3.
+pub fn push_pointer<L: Ledger>(machine: &mut Machine, steps: &mut Steps<L>)
+    requires { Stands machine.old address.PUSHV }
+    ensures { Exits machine.old machine.new steps.old steps.new (piece.push_pointer (view machine.old)) }
+{
+    run_piece(machine, steps, &[STO]);
+}
+
+/// The piece of RTN that asks LOAD for the word on the stack, or stops by reason 3.
+pub fn ask_return<L: Ledger>(machine: &mut Machine, steps: &mut Steps<L>)
+    requires { Stands machine.old address.GORTN }
+    ensures { Exits machine.old machine.new steps.old steps.new (piece.ask_return (view machine.old)) }
+{
+    run_piece(machine, steps, &[LOAD]);
+}
+
+/// The piece of RTN that takes the word off the stack. RTN goes on at TAKE, and RTNC at GOTO.
+pub fn take_return<L: Ledger>(machine: &mut Machine, steps: &mut Steps<L>)
+    requires { Stands machine.old address.RTNP }
+    ensures { Exits machine.old machine.new steps.old steps.new (piece.take_return (view machine.old)) }
+{
+    run_piece(machine, steps, &[TAKE, GOTO]);
+}
