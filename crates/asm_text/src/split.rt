@@ -1,6 +1,6 @@
 //! A line as fields.
 
-ghost use Rattle.std.specs.Prelude.{◌≡◌, ◌≤◌, ◌<◌, ◌-◌, ◌++◌, ◌↔◌, Some, None, length, take, map, replicate};
+ghost use Rattle.std.specs.Prelude.{◌≡◌, ◌≤◌, ◌<◌, ◌-◌, ◌++◌, ◌↔◌, Some, None, length, take, map, replicate, slice_range};
 ghost use Rattle.std.specs.Prelude.{IfOk, IfSome, if◌then◌else◌};
 ghost use Rattle.source_defs.specs.Fields as spec;
 ghost use Rattle.source_defs.specs.Characters.{upper_case};
@@ -49,6 +49,17 @@ pub fn fields(line: &[u8]) -> Result<Fields, TextError>
         Some(name) => Ok(fields_after(line, Some(name), end)),
         None => Err(TextError::BadLabel),
     }
+}
+
+/// What stands in a line behind its label field and the blanks behind that, up to a blank: the operation, where the
+/// line is no comment and has one.
+#[tactic(auto, using(source_defs::proofs::LeastLaws::least_bounds))]
+pub fn operation_text(line: &[u8]) -> &[u8]
+    ensures { result.now ≡ slice_range line.now (spec.word_start line.now (spec.word_end line.now 0))
+        (spec.word_end line.now (spec.word_start line.now (spec.word_end line.now 0))) }
+{
+    let start = word_start(line, word_end(line, 0));
+    &line[start..word_end(line, start)]
 }
 
 /// Whether a line is blank or has an asterisk in column 1.
