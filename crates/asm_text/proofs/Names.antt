@@ -1,6 +1,6 @@
 -- What the names that are kept stand for.
-use Rattle.std.proofs.Common.{◌≡◌, ℕ, Bool, true, false, cond, List, [], ◌∷◌, ◌++◌, Some, None, Ok, Err, refl, sym, ap, subst, ◌∙◌}
-use Rattle.std.specs.Prelude.{Option, Result, map, is_some, IsSome, OnOk, OnErr}
+use Rattle.std.proofs.Common.{◌≡◌, ℕ, Bool, true, false, cond, List, [], ◌∷◌, ◌++◌, Some, None, Ok, Err, refl, sym, ap, subst, ◌∙◌, arith}
+use Rattle.std.specs.Prelude.{Option, Result, ◌==◌, map, is_some, IsSome, OnOk, OnErr}
 use Rattle.std.specs.Option.{option_map}
 use Rattle.std.specs.Ordering.{nat_cmp, eq_by_cmp, is_eq}
 use Rattle.std.specs.declared.cmp.Ordering.{Ordering}
@@ -17,7 +17,8 @@ use Rattle.source_defs.specs.Symbols.{registers}
 use Rattle.source_defs.proofs.SymbolLaws.{found}
 use Rattle.asm_text.specs.declared.values.Value.{Value}
 use Rattle.asm_text.specs.GivenValues.{defined_value}
-use Rattle.asm_text.specs.Kept.{defined_entry, names_of}
+use Rattle.std.proofs.lemmas.Bool.Decides.{nat_tests}
+use Rattle.asm_text.specs.Kept.{begins_as_register, defined_entry, names_of}
 
 equal_of : (r : Ordering) → is_eq r ≡ true → r ≡ Equal
 equal_of Less e = cc
@@ -165,3 +166,17 @@ on_ok (Err error) p q f = tt
 pub on_err : {A E P Q : Type 0} (result : Result A E) → OnErr result P → (P → Q) → OnErr result Q
 on_err (Ok value) p f = tt
 on_err (Err error) p f = f p
+
+-- a name that begins otherwise is no register
+pub no_register : (name : List ℕ) → begins_as_register name ≡ false → found name registers ≡ None
+unfolding registers
+no_register [] other = refl
+no_register (first ∷ name) other = by (nat_cmp first 0x52) refl
+  where
+    by : (r : Ordering) → nat_cmp first 0x52 ≡ r → found (first ∷ name) registers ≡ None
+    by Less e = rw e refl
+    by Equal e =
+        let same : first ≡ 0x52 = nat_cmp-IsAntisymmetric first 0x52 e in
+        let is : (first == 0x52) ≡ true = grind (arith, nat_tests) in
+        cc (is, other)
+    by Greater e = rw e refl

@@ -10,6 +10,7 @@ ghost use Rattle.std.specs.Option.{option_map};
 ghost use Rattle.source_defs.specs.Symbols as spec;
 ghost use Rattle.source_defs.specs.Expression.{Absolute};
 ghost use Rattle.asm_text.specs.GivenValues.{defined_value};
+ghost use Rattle.asm_text.specs.Kept.{begins_as_register};
 
 use crate::name::Name;
 use crate::values::Value;
@@ -129,12 +130,25 @@ fn put_back(kept: &mut BTreeMap<Name, Value>, name: Name, value: Value)
 fn register_number(name: &[u8]) -> Option<u16>
     ensures { option_map Absolute result ≡ find (slice_cmp nat_cmp) name.now spec.registers }
 {
+    if !begins_as_register(name) {
+        return None;
+    }
     for number in 0..16 {
         if is_register(name, number) {
             return Some(number);
         }
     }
     None
+}
+
+/// Whether a name begins with the letter of the registers.
+fn begins_as_register(name: &[u8]) -> bool
+    ensures { result ≡ begins_as_register name.now }
+{
+    match name {
+        [first, ..] => *first == b'R',
+        [] => false,
+    }
 }
 
 /// Whether a name is R with a number.
