@@ -1,2 +1,5 @@
 pub mod Names
 pub mod Inside
+pub mod Keys
+pub mod WordKeys
+pub mod OneToken

@@ -1,5 +1,5 @@
 -- The names that `Symbols` keeps.
-use Rattle.std.specs.Prelude.{ℕ, List, ◌++◌, map}
+use Rattle.std.specs.Prelude.{ℕ, Bool, false, ◌==◌, List, [], ◌∷◌, ◌++◌, map}
 use Rattle.std.specs.FinMap.{from_entries}
 use Rattle.source_defs.specs.Symbols.{Names, registers}
 use Rattle.asm_text.specs.declared.values.Value.{Value}
@@ -12,3 +12,8 @@ defined_entry entry = (entry.0, defined_value entry.1)
 -- the registers and the entries
 abbrev pub names_of : List (List ℕ × Value) → Names
 names_of entries = from_entries (registers ++ map defined_entry entries)
+
+-- a name begins with the letter of the registers
+abbrev pub begins_as_register : List ℕ → Bool
+begins_as_register [] = false
+begins_as_register (first ∷ name) = first == 0x52

@@ -19,3 +19,4 @@ pub mod GivenValues
 pub mod Yielded
 pub mod Kept
 pub mod Padding
+pub mod WordKeys

@@ -6,7 +6,7 @@ ghost use Rattle.asm_text.specs.GivenValues.{defined_value, IsNotExternal};
 ghost use Rattle.asm_text.specs.Yielded.{Yields};
 
 use crate::fold::value;
-use crate::scan::tokens;
+use crate::scan::{token_at, tokens};
 use crate::symbols::Symbols;
 use crate::values::Value;
 use source_defs::ExprError;
@@ -25,6 +25,15 @@ pub fn expression_value(
     requires { IsNotExternal here }
     ensures { Yields defined_value result (expression (look_up symbols.now) (defined_value here) text.now) }
 {
+    if !text.is_empty() {
+        let first = match token_at(text, 0) {
+            Ok(first) => first,
+            Err(error) => return Err(error),
+        };
+        if first.span.end == text.len() {
+            return value(&[first], text, symbols, here);
+        }
+    }
     let found = tokens(alloc, text)?;
     value(found.as_slice(), text, symbols, here)
 }

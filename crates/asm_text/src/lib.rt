@@ -43,10 +43,10 @@ pub use crate::quoted_texts::{
     between_quotes, character_count, is_quoted, quoted, quoted_characters,
 };
 pub use crate::scan::tokens;
-pub use crate::split::{fields, upper_case_name};
+pub use crate::split::{fields, operation_text, upper_case_name};
 pub use crate::symbols::{DefineError, Symbols};
 pub use crate::text::{lines, part};
 pub use crate::token::{Token, TokenKind};
 pub use crate::values::Value;
-pub use crate::words::{is_name, is_word};
+pub use crate::words::{is_name, is_word, word_key};
 pub use source_defs::{ExprError, Line, OperandError, Span, TextError};

@@ -1,12 +1,13 @@
 //! Names of places and values.
 
-ghost use Rattle.std.specs.Prelude.{◌≡◌, ◌≤◌, ◌-◌, ◌++◌, Some, None, true, if◌then◌else◌, length, replicate};
+ghost use Rattle.std.specs.Prelude.{◌≡◌, ◌≤◌, ◌-◌, ◌++◌, Some, None, true, if◌then◌else◌, length, take, replicate};
 ghost use Rattle.std.specs.Prelude.{refl, nat_eq};
 ghost use Rattle.std.specs.Ordering.{nat_cmp};
 ghost use Rattle.std.specs.Cmp.{partial_equiv_from_equiv};
 ghost use Rattle.std.specs.Cmp.Lexicographic.{pointwise, slice_cmp, nat_list_eq_equiv, nat_list_cmp_total, texts_ties};
 ghost use Rattle.std.specs.Cmp.Lexicographic.{texts_po};
 ghost use Rattle.source_defs.specs.Names.{is_kept_name, all_printed};
+ghost use Rattle.asm_text.specs.Padding.{key_of};
 
 use crate::characters::is_printed;
 use std::cmp::Ordering;
@@ -20,22 +21,24 @@ pub(crate) const LONGEST_NAME: usize = 6;
 pub struct Name {
     bytes: [u8; LONGEST_NAME],
     // The bytes after these are 0.
-    len: usize,
+    len: u8,
+    // The six bytes as one number, the first highest. Names compare as their keys do.
+    key: u64,
 }
 
 impl Model for Name {
     ghost use Rattle.std.specs.Prelude.{ℕ, List, ◌++◌, ◌-◌, length, take, replicate};
-    ghost use Rattle.asm_text.specs.Padding.{IsPadded, padded_again};
+    ghost use Rattle.asm_text.specs.Padding.{IsPadded, key_of, padded_again};
 
     ghost Value = { List ℕ };
 
     ghost view = { λ name. take name.len name.bytes };
 
-    ghost invariant = { λ name. IsPadded name.bytes name.len };
+    ghost invariant = { λ name. IsPadded name.bytes name.len name.key };
 
-    ghost inverse = { λ name. record { bytes = name ++ replicate (6 - length name) 0; len = length name } };
+    ghost inverse = { λ name. record { bytes = name ++ replicate (6 - length name) 0; len = length name; key = key_of name } };
 
-    ghost inverse_ok = { λ a h. padded_again (λ bytes len. record { bytes = bytes; len = len }) a.bytes a.len h };
+    ghost inverse_ok = { λ a h. padded_again (λ bytes len key. record { bytes = bytes; len = len; key = key }) a.bytes a.len a.key h };
 }
 
 impl Name {
@@ -47,10 +50,21 @@ impl Name {
         if !is_kept_name(bytes) {
             return None;
         }
-        Some(Name {
-            bytes: padded(bytes),
-            len: bytes.len(),
-        })
+        Some(Name::of_padded(padded(bytes), bytes.len()))
+    }
+
+    /// The name of so many bytes, which stand before zeros.
+    pub(crate) fn of_padded(bytes: [u8; LONGEST_NAME], len: usize) -> Name
+        requires within { len ≤ 6 }
+        requires padded { bytes ≡ take len bytes ++ replicate (6 - len) 0 }
+        requires kept { is_kept_name (take len bytes) ≡ true }
+        ensures { result ≡ take len bytes }
+    {
+        Name {
+            bytes,
+            len: len as u8,
+            key: key_of(&bytes),
+        }
     }
 
     /// The bytes of the name.
@@ -58,7 +72,7 @@ impl Name {
         ensures value { result.now ≡ self.now }
         ensures kept { is_kept_name self.now ≡ true }
     {
-        &self.bytes[..self.len]
+        &self.bytes[..usize::from(self.len)]
     }
 }
 
@@ -67,8 +81,9 @@ impl PartialEq for Name {
 
     ghost laws = { partial_equiv_from_equiv nat_list_eq_equiv };
 
+    #[tactic(auto, using(crate::proofs::Keys::keys_tell))]
     fn eq(&self, other: &Name) -> bool {
-        self.as_bytes() == other.as_bytes()
+        self.key == other.key
     }
 }
 
@@ -95,9 +110,28 @@ impl Ord for Name {
 
     ghost matches_eq = { texts_ties };
 
+    #[tactic(auto, using(crate::proofs::Keys::keys_compare))]
     fn cmp(&self, other: &Name) -> Ordering {
-        self.as_bytes().cmp(other.as_bytes())
+        if self.key > other.key {
+            Ordering::Greater
+        } else if self.key == other.key {
+            Ordering::Equal
+        } else {
+            Ordering::Less
+        }
     }
+}
+
+/// Six bytes as one number, the first highest.
+#[tactic(auto, using(crate::proofs::Keys::key_of_six))]
+fn key_of(bytes: &[u8; LONGEST_NAME]) -> u64
+    ensures { result ≡ key_of bytes.now }
+{
+    let two = 256 * u64::from(bytes[0]) + u64::from(bytes[1]);
+    let three = 256 * two + u64::from(bytes[2]);
+    let four = 256 * three + u64::from(bytes[3]);
+    let five = 256 * four + u64::from(bytes[4]);
+    256 * five + u64::from(bytes[5])
 }
 
 /// Whether the bytes are one to six printed characters other than the space.

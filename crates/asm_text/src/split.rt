@@ -1,6 +1,7 @@
 //! A line as fields.
 
-ghost use Rattle.std.specs.Prelude.{◌≡◌, ◌≤◌, ◌<◌, ◌↔◌, Some, None, length, take, map, IfOk, IfSome, if◌then◌else◌};
+ghost use Rattle.std.specs.Prelude.{◌≡◌, ◌≤◌, ◌<◌, ◌-◌, ◌++◌, ◌↔◌, Some, None, length, take, map, replicate, slice_range};
+ghost use Rattle.std.specs.Prelude.{IfOk, IfSome, if◌then◌else◌};
 ghost use Rattle.source_defs.specs.Fields as spec;
 ghost use Rattle.source_defs.specs.Characters.{upper_case};
 ghost use Rattle.source_defs.specs.Names.{is_name, IsUpperCaseName};
@@ -50,6 +51,17 @@ pub fn fields(line: &[u8]) -> Result<Fields, TextError>
     }
 }
 
+/// What stands in a line behind its label field and the blanks behind that, up to a blank: the operation, where the
+/// line is no comment and has one.
+#[tactic(auto, using(source_defs::proofs::LeastLaws::least_bounds))]
+pub fn operation_text(line: &[u8]) -> &[u8]
+    ensures { result.now ≡ slice_range line.now (spec.word_start line.now (spec.word_end line.now 0))
+        (spec.word_end line.now (spec.word_start line.now (spec.word_end line.now 0))) }
+{
+    let start = word_start(line, word_end(line, 0));
+    &line[start..word_end(line, start)]
+}
+
 /// Whether a line is blank or has an asterisk in column 1.
 fn is_comment(line: &[u8]) -> bool
     ensures { result ≡ spec.is_comment line.now }
@@ -90,14 +102,14 @@ pub fn upper_case_name(field: &[u8]) -> Option<Name>
     if !is_name(field) {
         return None;
     }
-    let letters = in_upper_case(field);
-    Name::read(&letters[..field.len()])
+    Some(Name::of_padded(in_upper_case(field), field.len()))
 }
 
-/// The letters of a label field in upper case, followed by other bytes.
+/// The letters of a label field in upper case, followed by zeros.
 fn in_upper_case(field: &[u8]) -> [u8; LONGEST_NAME]
     requires { length field.now ≤ 6 }
-    ensures { take (length field.now) result ≡ map upper_case field.now }
+    ensures upper { take (length field.now) result ≡ map upper_case field.now }
+    ensures padded { result ≡ take (length field.now) result ++ replicate (6 - length field.now) 0 }
 {
     let mut letters = [0; LONGEST_NAME];
     for (at, &byte) in field.iter().enumerate() {

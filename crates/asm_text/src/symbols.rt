@@ -1,7 +1,8 @@
 //! The names of a source and their values.
 
 ghost use Rattle.std.specs.Prelude.{◌≡◌, ◌↔◌, ◌<◌, ◌≤◌, None, IsSome, OnOk, OnErr, IfSome};
-ghost use Rattle.std.specs.Prelude.{nat_eq, Err};
+ghost use Rattle.std.specs.Prelude.{nat_eq, Err, Some, List, ℕ};
+ghost use Rattle.std.specs.BTreeMap as tree;
 ghost use Rattle.std.specs.Ordering.{nat_cmp};
 ghost use Rattle.std.specs.Cmp.Lexicographic.{pointwise, slice_cmp};
 ghost use Rattle.std.specs.FinMap.{insert, get, find, remove};
@@ -9,6 +10,7 @@ ghost use Rattle.std.specs.Option.{option_map};
 ghost use Rattle.source_defs.specs.Symbols as spec;
 ghost use Rattle.source_defs.specs.Expression.{Absolute};
 ghost use Rattle.asm_text.specs.GivenValues.{defined_value};
+ghost use Rattle.asm_text.specs.Kept.{begins_as_register};
 
 use crate::name::Name;
 use crate::values::Value;
@@ -68,13 +70,11 @@ impl Symbols {
         ensures duplicate { (result ≡ Err DefineError.Duplicate) ↔ IsSome (get self.old name) }
         ensures unchanged { OnErr result (self.new ≡ self.old) }
     {
-        if self.get(&name).is_some() {
+        let kept = &mut self.defined;
+        if register_number(name.as_bytes()).is_some() {
             return Err(DefineError::Duplicate);
         }
-        match self.defined.insert(name, value) {
-            Ok(_) => Ok(()),
-            Err(_) => Err(DefineError::Memory),
-        }
+        insert_new(kept, name, value)
     }
 
     /// Takes a name out, which is no register, and answers what it stood for. All other names stay. It takes no memory.
@@ -97,16 +97,58 @@ impl Symbols {
     }
 }
 
+/// Keeps a value for a name for which none is kept yet. After an error all is as before.
+fn insert_new(kept: &mut BTreeMap<Name, Value>, name: Name, value: Value) -> Result<(), DefineError>
+    ensures kept { OnOk result (tree.Updates (slice_cmp nat_cmp) kept.old kept.new name (Some value)) }
+    ensures fresh { OnOk result (tree.get (slice_cmp nat_cmp) kept.old name ≡ None) }
+    ensures duplicate { (result ≡ Err DefineError.Duplicate) ↔ IsSome (tree.get (slice_cmp nat_cmp) kept.old name) }
+    ensures unchanged { OnErr result ((asked : List ℕ) →
+        tree.get (slice_cmp nat_cmp) kept.new asked ≡ tree.get (slice_cmp nat_cmp) kept.old asked) }
+{
+    match kept.insert(name, value) {
+        Ok(None) => Ok(()),
+        Ok(Some(before)) => {
+            put_back(kept, name, before);
+            Err(DefineError::Duplicate)
+        }
+        Err(_) => Err(DefineError::Memory),
+    }
+}
+
+/// Keeps another value for a name for which one is kept. It takes no memory.
+fn put_back(kept: &mut BTreeMap<Name, Value>, name: Name, value: Value)
+    requires { IsSome (tree.get (slice_cmp nat_cmp) kept.old name) }
+    ensures { tree.Updates (slice_cmp nat_cmp) kept.old kept.new name (Some value) }
+{
+    match kept.insert(name, value) {
+        Ok(_) => {}
+        Err(_) => unreachable!(),
+    }
+}
+
 /// The number of the register that a name is.
 fn register_number(name: &[u8]) -> Option<u16>
     ensures { option_map Absolute result ≡ find (slice_cmp nat_cmp) name.now spec.registers }
 {
+    if !begins_as_register(name) {
+        return None;
+    }
     for number in 0..16 {
         if is_register(name, number) {
             return Some(number);
         }
     }
     None
+}
+
+/// Whether a name begins with the letter of the registers.
+fn begins_as_register(name: &[u8]) -> bool
+    ensures { result ≡ begins_as_register name.now }
+{
+    match name {
+        [first, ..] => *first == b'R',
+        [] => false,
+    }
 }
 
 /// Whether a name is R with a number.

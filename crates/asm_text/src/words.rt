@@ -1,7 +1,9 @@
 //! Words of a text: names, and words that are compared with no heed of case.
 
-ghost use Rattle.std.specs.Prelude.{◌≡◌};
+ghost use Rattle.std.specs.Prelude.{◌≡◌, ◌+◌, ◌*◌, ◌^◌, ◌<◌};
+ghost use Rattle.source_defs.specs.Characters.{upper_case};
 ghost use Rattle.source_defs.specs.Names as spec;
+ghost use Rattle.asm_text.specs.WordKeys as keys;
 
 use crate::characters::{is_letter, is_letter_or_digit, upper_case};
 use crate::name::LONGEST_NAME;
@@ -19,6 +21,31 @@ fn same_letters(text: &[u8], word: &[u8]) -> bool
     text.iter()
         .zip(word)
         .all(|(&byte, &letter)| upper_case(byte) == letter)
+}
+
+/// A text of up to five characters as a number, with its letters in upper case, or `None` where it is longer. Words
+/// are compared by it as one number each.
+pub fn word_key(text: &[u8]) -> Option<u64>
+    ensures { result ≡ keys.word_key text.now }
+{
+    match text {
+        [] => Some(1),
+        [a] => Some(behind(*a, 1)),
+        [a, b] => Some(behind(*a, behind(*b, 1))),
+        [a, b, c] => Some(behind(*a, behind(*b, behind(*c, 1)))),
+        [a, b, c, d] => Some(behind(*a, behind(*b, behind(*c, behind(*d, 1))))),
+        [a, b, c, d, e] => Some(behind(*a, behind(*b, behind(*c, behind(*d, behind(*e, 1)))))),
+        _ => None,
+    }
+}
+
+/// The number of a word by its first letter and the number of the others.
+fn behind(letter: u8, others: u64) -> u64
+    requires { others < 2 ^ 48 }
+    ensures key { result ≡ upper_case letter + 256 * others }
+    ensures bound { result < 256 * (others + 1) }
+{
+    u64::from(upper_case(letter)) + 256 * others
 }
 
 /// Whether a text is a letter and up to five letters or digits (Editor/Assembler manual, "Symbols").

@@ -12,3 +12,4 @@ pub mod CountLaws
 pub mod SinceLaws
 pub mod RunLaws
 pub mod FolderLaws
+pub mod CopyWords

@@ -1,8 +1,10 @@
 -- Places that are kept by runs.
-use Rattle.std.proofs.Common.{◌≡◌, ℕ, zero, suc, ◌+◌, ◌-◌, ◌<◌, ◌≤◌, List, [], ◌∷◌, ◌++◌, Some, length, drop, get_or, refl, sym, ap, ◌∙◌, arith, append_assoc, append-nil}
+use Rattle.std.proofs.Common.{◌≡◌, ℕ, zero, suc, ◌+◌, ◌-◌, ◌<◌, ◌≤◌, List, [], ◌∷◌, ◌++◌, Some, length, take, drop, set, get_or, refl, sym, ap, ◌∙◌, arith, append_assoc, append-nil}
 use Rattle.std.specs.Prelude.{Option, slice_get}
 use Rattle.std.specs.Option.{unwrap_or}
-use Rattle.std.proofs.lemmas.List.{drop_more}
+use Rattle.std.proofs.Math.Seq.{split_at}
+use Rattle.std.proofs.Math.ListN.{drop_of_length-le}
+use Rattle.std.proofs.lemmas.List.{drop_more, set_split}
 use Rattle.shelf_defs.specs.Copied as spec
 use Rattle.bench_shelf.specs.declared.place.Place.{Place}
 use Rattle.bench_shelf.specs.declared.run.Run.{Run}
@@ -49,6 +51,19 @@ places_next old mid new last longer place was next same first count is =
     ∙ (ap (λ places. places_of mid ++ places) run_is
     ∙ (sym (append_assoc (places_of mid) (run_places last) (defined_place place ∷ []))
     ∙ ap (λ places. places ++ defined_place place ∷ []) (sym (of_last mid last) ∙ sym (ap places_of was)))))
+
+-- the last run is one place longer
+pub places_grown : (runs : List Run) (at : ℕ) (last longer : Run) (place : Place) → at + 1 ≡ length runs → last ≡ get_or runs at last
+    → ComesNext last place → longer.file ≡ last.file → longer.line ≡ last.line → longer.count ≡ last.count + 1
+    → places_of (set runs at longer) ≡ places_of runs ++ defined_place place ∷ []
+places_grown runs at last longer place size is next same first count =
+    let within : at < length runs = omega arith in
+    let rest : drop (suc at) runs ≡ [] = drop_of_length-le runs {i = suc at} (omega arith) in
+    let old : runs ≡ take at runs ++ last ∷ [] =
+    split_at runs at last within ∙ (ap (λ (found : Run). take at runs ++ found ∷ drop (suc at) runs) (sym is) ∙ ap (λ behind. take at runs ++ last ∷ behind) rest) in
+    let new : set runs at longer ≡ take at runs ++ longer ∷ [] =
+    set_split runs at longer within ∙ ap (λ behind. take at runs ++ longer ∷ behind) rest in
+    places_next runs (take at runs) (set runs at longer) last longer place old next same first count new
 
 -- a place of a run, and one behind it
 get_in : (file : Option (List ℕ)) (line count left : ℕ) (others : List spec.Place) → left < count

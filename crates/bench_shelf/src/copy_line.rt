@@ -5,7 +5,7 @@ ghost use Rattle.shelf_defs.specs.CopyLines as spec;
 ghost use Rattle.bench_shelf.specs.Asking.{defined_asked};
 
 use crate::file_name::FileName;
-use asm_text::{Name, between_quotes, fields, is_quote, is_word, part};
+use asm_text::{Name, between_quotes, fields, is_quote, is_word, operation_text, part};
 
 /// What a line of a source asks for.
 pub(crate) enum Asked {
@@ -19,10 +19,13 @@ pub(crate) enum Asked {
 
 /// What a line of a source asks for. A line with the operation COPY asks for a file. It has no label, and its operand
 /// is the name of the file in quotes.
-#[tactic(auto, unfolding(shelf_defs::specs::CopyLines::asked))]
+#[tactic(auto, using(crate::proofs::CopyWords::no_copy), unfolding(shelf_defs::specs::CopyLines::asked))]
 pub(crate) fn asked_by(line: &[u8]) -> Asked
     ensures { defined_asked result ≡ spec.asked line.now }
 {
+    if !is_word(operation_text(line), b"COPY") {
+        return Asked::Itself;
+    }
     let Ok(found) = fields(line) else {
         return Asked::Itself;
     };

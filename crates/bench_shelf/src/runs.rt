@@ -36,23 +36,11 @@ fn is_same(one: &Option<FileName>, other: &Option<FileName>) -> bool
 pub(crate) fn note_place(runs: &mut Vec<Run>, place: Place) -> Result<(), AllocError>
     ensures { OnOk result (places_of runs.new.items ≡ places_of runs.old.items ++ defined_place place ∷ []) }
 {
-    let Some(last) = runs.pop() else {
-        runs.push(Run {
-            file: place.file,
-            line: place.line,
-            count: 1,
-        })?;
-        return Ok(());
-    };
-    if last.is_next(&place) {
-        runs.push(Run {
-            file: last.file,
-            line: last.line,
-            count: last.count + 1,
-        })?;
+    let count = runs.len();
+    if count > 0 && runs[count - 1].is_next(&place) {
+        runs[count - 1].count += 1;
         return Ok(());
     }
-    runs.push(last)?;
     runs.push(Run {
         file: place.file,
         line: place.line,

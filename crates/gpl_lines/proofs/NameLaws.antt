@@ -1,18 +1,19 @@
--- A name with a letter before it.
-use Rattle.std.proofs.Common.{◌≡◌, ℕ, Bool, true, false, List, ◌∷◌, length, eqb, refl, sym, ap, ◌∙◌}
-use Rattle.std.specs.Prelude.{◌&&◌, ◌==◌}
-use Rattle.std.proofs.Math.Dec.{eqb-suc-suc}
-use Rattle.source_defs.specs.Characters.{upper_case}
-use Rattle.source_defs.specs.Names.{is_word, same_letters}
+-- What an operation field names, by the number of its text.
+use Rattle.std.proofs.Common.{◌≡◌, ℕ, List, refl, sym, ap, ◌∙◌}
+use Rattle.std.specs.Prelude.{map, Option}
+use Rattle.program_defs.specs.declared.mnemonic.Mnemonic.{Mnemonic}
+use Rattle.program_defs.specs.Mnemonics.{mnemonic, mnemonics, name_of}
+use Rattle.asm_text.specs.WordKeys.{key_of, word_key, with_key}
+use Rattle.asm_text.proofs.WordKeys.{AreBytes, words_found}
 
-exchanged : (a b c : Bool) → (a && (b && c)) ≡ (b && (a && c))
-exchanged true true c = refl
-exchanged true false c = refl
-exchanged false true c = refl
-exchanged false false c = refl
+-- the instructions, each behind the number of its name
+abbrev pub named : List (ℕ × Mnemonic)
+named = map (λ thing. (key_of (name_of thing), thing)) mnemonics
 
-pub word_behind_letter : (letter : ℕ) (rest : List ℕ) (first : ℕ) (name : List ℕ)
-    → ((upper_case letter == first) && is_word rest name) ≡ is_word (letter ∷ rest) (first ∷ name)
-word_behind_letter letter rest first name =
-    exchanged (upper_case letter == first) (length rest == length name) (same_letters rest name)
-    ∙ ap (λ same. same && ((upper_case letter == first) && same_letters rest name)) (sym (eqb-suc-suc (length rest) (length name)))
+pub by_key : (text : List ℕ) → AreBytes text → mnemonic text ≡ with_key (word_key text) named
+unfolding mnemonic
+by_key text bytes = words_found name_of text mnemonics bytes refl
+
+-- by the number that the text has, or by none
+pub by_number : (text : List ℕ) (key : Option ℕ) → AreBytes text → key ≡ word_key text → with_key key named ≡ mnemonic text
+by_number text key bytes is = ap (λ (key : Option ℕ). with_key key named) is ∙ sym (by_key text bytes)

@@ -1,140 +1,108 @@
 //! The instructions by their names.
 
-ghost use Rattle.std.specs.Prelude.{◌≡◌, find};
-ghost use Rattle.source_defs.specs.Names.{is_word};
+ghost use Rattle.std.specs.Prelude.{◌≡◌, Some};
 ghost use Rattle.program_defs.specs.Mnemonics as spec;
-ghost use Rattle.gpl_defs.specs.Codes.{row_of};
+ghost use Rattle.asm_text.specs.WordKeys.{with_key};
 
-use asm_text::{is_word, upper_case};
-use gpl_defs::{ByteOp, GoOp, GplOperation, OneName, PlainOp, TwoName};
-use gpl_forms::name_of;
+use asm_text::word_key;
+use gpl_defs::{ByteOp, GoOp, OneName, PlainOp, TwoName};
 use program_defs::Mnemonic;
 
-/// The instructions that have a name.
-const MNEMONICS: [Mnemonic; 75] = [
-    Mnemonic::Two(TwoName::ADD, false),
-    Mnemonic::Two(TwoName::SUB, false),
-    Mnemonic::Two(TwoName::MUL, false),
-    Mnemonic::Two(TwoName::DIV, false),
-    Mnemonic::Two(TwoName::AND, false),
-    Mnemonic::Two(TwoName::OR, false),
-    Mnemonic::Two(TwoName::XOR, false),
-    Mnemonic::Two(TwoName::ST, false),
-    Mnemonic::Two(TwoName::EX, false),
-    Mnemonic::Two(TwoName::CH, false),
-    Mnemonic::Two(TwoName::CHE, false),
-    Mnemonic::Two(TwoName::CGT, false),
-    Mnemonic::Two(TwoName::CGE, false),
-    Mnemonic::Two(TwoName::CEQ, false),
-    Mnemonic::Two(TwoName::CLOG, false),
-    Mnemonic::Two(TwoName::SRA, false),
-    Mnemonic::Two(TwoName::SLL, false),
-    Mnemonic::Two(TwoName::SRL, false),
-    Mnemonic::Two(TwoName::SRC, false),
-    Mnemonic::Two(TwoName::ADD, true),
-    Mnemonic::Two(TwoName::SUB, true),
-    Mnemonic::Two(TwoName::MUL, true),
-    Mnemonic::Two(TwoName::DIV, true),
-    Mnemonic::Two(TwoName::AND, true),
-    Mnemonic::Two(TwoName::OR, true),
-    Mnemonic::Two(TwoName::XOR, true),
-    Mnemonic::Two(TwoName::ST, true),
-    Mnemonic::Two(TwoName::EX, true),
-    Mnemonic::Two(TwoName::CH, true),
-    Mnemonic::Two(TwoName::CHE, true),
-    Mnemonic::Two(TwoName::CGT, true),
-    Mnemonic::Two(TwoName::CGE, true),
-    Mnemonic::Two(TwoName::CEQ, true),
-    Mnemonic::Two(TwoName::CLOG, true),
-    Mnemonic::Two(TwoName::SRA, true),
-    Mnemonic::Two(TwoName::SLL, true),
-    Mnemonic::Two(TwoName::SRL, true),
-    Mnemonic::Two(TwoName::SRC, true),
-    Mnemonic::Move,
-    Mnemonic::Branch(false),
-    Mnemonic::Branch(true),
-    Mnemonic::Jump(GoOp::B),
-    Mnemonic::Jump(GoOp::CALL),
-    Mnemonic::One(OneName::ABS, false),
-    Mnemonic::One(OneName::NEG, false),
-    Mnemonic::One(OneName::INV, false),
-    Mnemonic::One(OneName::CLR, false),
-    Mnemonic::One(OneName::FETCH, false),
-    Mnemonic::One(OneName::CASE, false),
-    Mnemonic::One(OneName::PUSH, false),
-    Mnemonic::One(OneName::CZ, false),
-    Mnemonic::One(OneName::INC, false),
-    Mnemonic::One(OneName::DEC, false),
-    Mnemonic::One(OneName::INCT, false),
-    Mnemonic::One(OneName::DECT, false),
-    Mnemonic::One(OneName::ABS, true),
-    Mnemonic::One(OneName::NEG, true),
-    Mnemonic::One(OneName::INV, true),
-    Mnemonic::One(OneName::CLR, true),
-    Mnemonic::One(OneName::CASE, true),
-    Mnemonic::One(OneName::CZ, true),
-    Mnemonic::One(OneName::INC, true),
-    Mnemonic::One(OneName::DEC, true),
-    Mnemonic::One(OneName::INCT, true),
-    Mnemonic::One(OneName::DECT, true),
-    Mnemonic::Plain(PlainOp::RTN),
-    Mnemonic::Plain(PlainOp::RTNC),
-    Mnemonic::Plain(PlainOp::H),
-    Mnemonic::Plain(PlainOp::GT),
-    Mnemonic::Plain(PlainOp::EXIT),
-    Mnemonic::Plain(PlainOp::CARRY),
-    Mnemonic::Plain(PlainOp::OVF),
-    Mnemonic::Byte(ByteOp::RAND),
-    Mnemonic::Byte(ByteOp::BACK),
-    Mnemonic::Byte(ByteOp::ALL),
+/// The instructions that have a name, each behind the number of its name.
+const NAMED: [(u64, Mnemonic); 75] = [
+    (0x0144_4441, Mnemonic::Two(TwoName::ADD, false)), // ADD
+    (0x0142_5553, Mnemonic::Two(TwoName::SUB, false)), // SUB
+    (0x014C_554D, Mnemonic::Two(TwoName::MUL, false)), // MUL
+    (0x0156_4944, Mnemonic::Two(TwoName::DIV, false)), // DIV
+    (0x0144_4E41, Mnemonic::Two(TwoName::AND, false)), // AND
+    (0x01_524F, Mnemonic::Two(TwoName::OR, false)), // OR
+    (0x0152_4F58, Mnemonic::Two(TwoName::XOR, false)), // XOR
+    (0x01_5453, Mnemonic::Two(TwoName::ST, false)), // ST
+    (0x01_5845, Mnemonic::Two(TwoName::EX, false)), // EX
+    (0x01_4843, Mnemonic::Two(TwoName::CH, false)), // CH
+    (0x0145_4843, Mnemonic::Two(TwoName::CHE, false)), // CHE
+    (0x0154_4743, Mnemonic::Two(TwoName::CGT, false)), // CGT
+    (0x0145_4743, Mnemonic::Two(TwoName::CGE, false)), // CGE
+    (0x0151_4543, Mnemonic::Two(TwoName::CEQ, false)), // CEQ
+    (0x01_474F_4C43, Mnemonic::Two(TwoName::CLOG, false)), // CLOG
+    (0x0141_5253, Mnemonic::Two(TwoName::SRA, false)), // SRA
+    (0x014C_4C53, Mnemonic::Two(TwoName::SLL, false)), // SLL
+    (0x014C_5253, Mnemonic::Two(TwoName::SRL, false)), // SRL
+    (0x0143_5253, Mnemonic::Two(TwoName::SRC, false)), // SRC
+    (0x01_4444_4144, Mnemonic::Two(TwoName::ADD, true)), // DADD
+    (0x01_4255_5344, Mnemonic::Two(TwoName::SUB, true)), // DSUB
+    (0x01_4C55_4D44, Mnemonic::Two(TwoName::MUL, true)), // DMUL
+    (0x01_5649_4444, Mnemonic::Two(TwoName::DIV, true)), // DDIV
+    (0x01_444E_4144, Mnemonic::Two(TwoName::AND, true)), // DAND
+    (0x0152_4F44, Mnemonic::Two(TwoName::OR, true)), // DOR
+    (0x01_524F_5844, Mnemonic::Two(TwoName::XOR, true)), // DXOR
+    (0x0154_5344, Mnemonic::Two(TwoName::ST, true)), // DST
+    (0x0158_4544, Mnemonic::Two(TwoName::EX, true)), // DEX
+    (0x0148_4344, Mnemonic::Two(TwoName::CH, true)), // DCH
+    (0x01_4548_4344, Mnemonic::Two(TwoName::CHE, true)), // DCHE
+    (0x01_5447_4344, Mnemonic::Two(TwoName::CGT, true)), // DCGT
+    (0x01_4547_4344, Mnemonic::Two(TwoName::CGE, true)), // DCGE
+    (0x01_5145_4344, Mnemonic::Two(TwoName::CEQ, true)), // DCEQ
+    (0x0147_4F4C_4344, Mnemonic::Two(TwoName::CLOG, true)), // DCLOG
+    (0x01_4152_5344, Mnemonic::Two(TwoName::SRA, true)), // DSRA
+    (0x01_4C4C_5344, Mnemonic::Two(TwoName::SLL, true)), // DSLL
+    (0x01_4C52_5344, Mnemonic::Two(TwoName::SRL, true)), // DSRL
+    (0x01_4352_5344, Mnemonic::Two(TwoName::SRC, true)), // DSRC
+    (0x01_4556_4F4D, Mnemonic::Move), // MOVE
+    (0x01_5242, Mnemonic::Branch(false)), // BR
+    (0x01_5342, Mnemonic::Branch(true)), // BS
+    (0x0142, Mnemonic::Jump(GoOp::B)), // B
+    (0x01_4C4C_4143, Mnemonic::Jump(GoOp::CALL)), // CALL
+    (0x0153_4241, Mnemonic::One(OneName::ABS, false)), // ABS
+    (0x0147_454E, Mnemonic::One(OneName::NEG, false)), // NEG
+    (0x0156_4E49, Mnemonic::One(OneName::INV, false)), // INV
+    (0x0152_4C43, Mnemonic::One(OneName::CLR, false)), // CLR
+    (0x0148_4354_4546, Mnemonic::One(OneName::FETCH, false)), // FETCH
+    (0x01_4553_4143, Mnemonic::One(OneName::CASE, false)), // CASE
+    (0x01_4853_5550, Mnemonic::One(OneName::PUSH, false)), // PUSH
+    (0x01_5A43, Mnemonic::One(OneName::CZ, false)), // CZ
+    (0x0143_4E49, Mnemonic::One(OneName::INC, false)), // INC
+    (0x0143_4544, Mnemonic::One(OneName::DEC, false)), // DEC
+    (0x01_5443_4E49, Mnemonic::One(OneName::INCT, false)), // INCT
+    (0x01_5443_4544, Mnemonic::One(OneName::DECT, false)), // DECT
+    (0x01_5342_4144, Mnemonic::One(OneName::ABS, true)), // DABS
+    (0x01_4745_4E44, Mnemonic::One(OneName::NEG, true)), // DNEG
+    (0x01_564E_4944, Mnemonic::One(OneName::INV, true)), // DINV
+    (0x01_524C_4344, Mnemonic::One(OneName::CLR, true)), // DCLR
+    (0x0145_5341_4344, Mnemonic::One(OneName::CASE, true)), // DCASE
+    (0x015A_4344, Mnemonic::One(OneName::CZ, true)), // DCZ
+    (0x01_434E_4944, Mnemonic::One(OneName::INC, true)), // DINC
+    (0x01_4345_4444, Mnemonic::One(OneName::DEC, true)), // DDEC
+    (0x0154_434E_4944, Mnemonic::One(OneName::INCT, true)), // DINCT
+    (0x0154_4345_4444, Mnemonic::One(OneName::DECT, true)), // DDECT
+    (0x014E_5452, Mnemonic::Plain(PlainOp::RTN)), // RTN
+    (0x01_434E_5452, Mnemonic::Plain(PlainOp::RTNC)), // RTNC
+    (0x0148, Mnemonic::Plain(PlainOp::H)), // H
+    (0x01_5447, Mnemonic::Plain(PlainOp::GT)), // GT
+    (0x01_5449_5845, Mnemonic::Plain(PlainOp::EXIT)), // EXIT
+    (0x0159_5252_4143, Mnemonic::Plain(PlainOp::CARRY)), // CARRY
+    (0x0146_564F, Mnemonic::Plain(PlainOp::OVF)), // OVF
+    (0x01_444E_4152, Mnemonic::Byte(ByteOp::RAND)), // RAND
+    (0x01_4B43_4142, Mnemonic::Byte(ByteOp::BACK)), // BACK
+    (0x014C_4C41, Mnemonic::Byte(ByteOp::ALL)), // ALL
 ];
 
 /// The instruction that an operation field names, in upper or lower case (GPL Programmer's Guide, the statements).
-#[tactic(auto, unfolding(program_defs::specs::Mnemonics::mnemonic))]
 pub(crate) fn mnemonic(text: &[u8]) -> Option<Mnemonic>
     ensures { result ≡ spec.mnemonic text.now }
 {
-    named_in(&MNEMONICS, text)
+    named_in(&NAMED, word_key(text)?)
 }
 
-/// The first of some instructions that a text names.
-fn named_in(table: &[Mnemonic], text: &[u8]) -> Option<Mnemonic>
-    ensures { result ≡ find (λ named. is_word text.now (spec.name_of named)) table.now }
+/// The first of some instructions behind a number.
+fn named_in(table: &[(u64, Mnemonic)], key: u64) -> Option<Mnemonic>
+    ensures { result ≡ with_key (Some key) table.now }
 {
-    table.iter().copied().find(|&named| is_named(text, named))
-}
-
-/// Whether a text is the name of an instruction.
-fn is_named(text: &[u8], named: Mnemonic) -> bool
-    ensures { result ≡ is_word text.now (spec.name_of named) }
-{
-    match named {
-        Mnemonic::Plain(op) => is_name_of(text, GplOperation::Plain(op)),
-        Mnemonic::Byte(op) => is_name_of(text, GplOperation::Byte(op)),
-        Mnemonic::Jump(op) => is_name_of(text, GplOperation::Jump(op)),
-        Mnemonic::Branch(on) => is_name_of(text, GplOperation::Branch(on)),
-        Mnemonic::One(op, false) => is_name_of(text, GplOperation::One(op)),
-        Mnemonic::One(op, true) => is_name_of_words(text, GplOperation::One(op)),
-        Mnemonic::Two(op, false) => is_name_of(text, GplOperation::Two(op)),
-        Mnemonic::Two(op, true) => is_name_of_words(text, GplOperation::Two(op)),
-        Mnemonic::Move => is_word(text, b"MOVE"),
+    for row in table {
+        let (known, named) = *row;
+        if key == known {
+            return Some(named);
+        }
     }
-}
-
-/// Whether a text is the name of an operation.
-fn is_name_of(text: &[u8], operation: GplOperation) -> bool
-    ensures { result ≡ is_word text.now (row_of operation).name }
-{
-    is_word(text, name_of(operation).as_bytes())
-}
-
-/// Whether a text is the name of an operation's form of words: D stands before its name.
-#[tactic(auto, using(crate::proofs::NameLaws::word_behind_letter))]
-fn is_name_of_words(text: &[u8], operation: GplOperation) -> bool
-    ensures { result ≡ is_word text.now (spec.name_of_words (row_of operation)) }
-{
-    match text {
-        [letter, rest @ ..] => upper_case(*letter) == b'D' && is_name_of(rest, operation),
-        [] => false,
-    }
+    None
 }

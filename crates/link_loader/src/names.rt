@@ -21,10 +21,9 @@ pub(crate) fn define(alloc: Global, defs: &[(Name, u16)]) -> Result<BTreeMap<Nam
 {
     let mut names = BTreeMap::new(alloc);
     for def in defs {
-        if is_defined(&names, &def.0) {
+        if names.insert(def.0, def.1)?.is_some() {
             return Err(LinkError::DuplicateDef(def.0));
         }
-        names.insert(def.0, def.1)?;
     }
     Ok(names)
 }

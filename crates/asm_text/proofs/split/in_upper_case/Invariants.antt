@@ -1,4 +1,4 @@
-use Rattle.std.proofs.Common.{◌≡◌, length, take}
+use Rattle.std.proofs.Common.{◌≡◌, ◌-◌, length, take, drop, replicate}
 use Rattle.std.specs.Prelude.{map}
 use Rattle.source_defs.specs.Characters.{upper_case}
 use Rattle.asm_text.proofs.split.in_upper_case.Given as goal
@@ -6,5 +6,6 @@ use Rattle.asm_text.proofs.split.in_upper_case.Given as goal
 abbrev pub invariant-loop-at : goal.invariant-loop-at
 invariant-loop-at l = record {
   six : length l.letters ≡ 6;
+  zeros : drop l.at l.letters ≡ replicate (6 - l.at) 0;
   upper : take l.at l.letters ≡ map upper_case (take l.at l.field);
 }

@@ -1,5 +1,6 @@
 use Rattle.std.proofs.Common.{◌≡◌, ◌<◌, sym, ap, ◌∙◌, arith}
 use Rattle.source_defs.proofs.SymbolLaws.{found, registers_all, register_here, register_later}
+use Rattle.asm_text.proofs.Names.{no_register}
 use Rattle.asm_text.proofs.symbols.register_number.Goals as goal
 
 pub loop-number-init : goal.loop-number-init
@@ -21,3 +22,7 @@ pub returns : goal.returns
 returns c =
     let last : c.loop-number.number ≡ 16 = omega arith in
     rw last at c.loop-number.invariant
+
+pub returns-then-not-begins_as_register : goal.returns-then-not-begins_as_register
+returns-then-not-begins_as_register c =
+    sym (no_register c.args.name.now (sym c.begins_as_register.ensures ∙ c.if-not-begins_as_register.true))

@@ -1,8 +1,18 @@
-use Rattle.std.proofs.Common.{refl}
-use Rattle.bench_shelf.proofs.RunLaws.{places_next}
+use Rattle.std.proofs.Common.{◌≡◌, ◌+◌, ◌-◌, ◌<◌, length, refl, sym, subst, ◌∙◌, arith}
+use Rattle.std.proofs.lemmas.List.{get_or_read}
+use Rattle.bench_shelf.specs.Runs.{ComesNext}
+use Rattle.bench_shelf.specs.declared.run.Run.{Run}
+use Rattle.bench_shelf.proofs.RunLaws.{places_grown}
 use Rattle.bench_shelf.proofs.runs.note_place.Goals as goal
 
 pub returns-then-is_next : goal.returns-then-is_next
 returns-then-is_next c =
-    places_next _ _ _ c.in-Some.last _ c.args.place c.in-Some.ensures.items (c.is_next.ensures c.if-is_next.true) refl refl refl
-    c.in_ok-push-2.ensures.items
+    let runs = c.args.runs.now.items in
+    let last = c.index_mut.result.now in
+    let within : c.len-count.result - 1 < length runs = omega arith in
+    let size : c.len-count.result - 1 + 1 ≡ length runs = omega arith in
+    let same : c.index.result.now ≡ last =
+    get_or_read runs _ _ within c.index.ensures last ∙ sym c.index_mut.ensures.value in
+    let next : ComesNext last c.args.place =
+    subst (λ (run : Run). ComesNext run c.args.place) same (c.is_next.ensures c.if-is_next.true) in
+    places_grown runs (c.len-count.result - 1) last _ c.args.place size c.index_mut.ensures.value next refl refl refl

@@ -15,7 +15,7 @@ loop-def-preserved c =
     let definition = c.def-item.result in
     let is = c.def-item.is in
     let none : value_in (take i defs) definition.0 ≡ None =
-    none_found _ (ap is_some (sym (kept.kept definition.0)) ∙ (sym c.is_defined.ensures ∙ c.if-is_defined.false)) in
+    none_found _ (ap is_some (sym (kept.kept definition.0)) ∙ (ap is_some (sym c.in_ok-insert.ensures.old) ∙ (sym c.is_some.ensures ∙ c.if-is_some.false))) in
     record {
       apart = kept.apart ∙ passes is_defined_again defs i definition lt (ap (λ name. is_some (value_in (take i defs) name)) (sym (ap (λ x. x.0) is)) ∙ ap is_some none);
       kept = name_kept c.loop-def.names c.insert.new.self defs i definition definition lt is kept.kept none c.in_ok-insert.ensures.updates;

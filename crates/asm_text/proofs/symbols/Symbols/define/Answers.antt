@@ -1,36 +1,45 @@
-use Rattle.std.proofs.Common.{rules}
-use Rattle.std.proofs.Common.{◌≡◌, None, sym, ap, ◌∙◌}
+use Rattle.std.proofs.Common.{◌≡◌, None, refl, sym, ap, subst, ◌∙◌, rules}
+use Rattle.std.specs.Prelude.{IsSome}
 use Rattle.std.specs.FinMap.{get, insert}
+use Rattle.std.specs.Option.{option_map}
+use Rattle.source_defs.specs.Symbols.{Names, registers}
+use Rattle.source_defs.proofs.SymbolLaws.{found}
+use Rattle.asm_text.specs.Kept.{names_of}
 use Rattle.asm_text.specs.GivenValues.{defined_value}
-use Rattle.asm_text.proofs.Names.{define_kept, none_of, none_both, get_kept}
+use Rattle.asm_text.proofs.Names.{define_kept, kept_same, get_free, register_some, register_none, some_seen, seen_some, on_ok, on_err}
 use Rattle.asm_text.proofs.symbols.Symbols.define.Goals as goal
-use Rattle.asm_text.proofs.symbols.Symbols.define.Goals.{in-Ok, in-Err}
+
+pub returns-then-is_some-clause-duplicate : goal.returns-then-is_some-clause-duplicate
+returns-then-is_some-clause-duplicate c =
+    let name = c.args.name in
+    let stands =
+    register_some c.register_number.result c.self.inside.defined.entries name (rw c.as_bytes.ensures.value at c.register_number.ensures)
+    (sym c.is_some.ensures ∙ c.if-is_some.true) in
+    (λ _. subst IsSome (ap (λ (names : Names). get names name) c.self.view_is) stands, λ _. refl)
 
 pub returns-clause-defined : goal.returns-clause-defined
 returns-clause-defined c =
-    elim c.match-insert.branch [
-      | in-Ok w ↦
-          let none : get c.args.self.now c.args.name ≡ None =
-          sym c.get.ensures ∙ none_of c.get.result (sym c.is_some.ensures ∙ c.if-is_some.false) in
-          rw w.result-is
-          (define_kept c.self.inside.defined c.insert.new.self c.args.name c.args.value w.in-Ok.ensures.updates
-          (ap (λ names. get names c.args.name) c.self.view_is ∙ none)
-          ∙ ap (λ names. insert names c.args.name (defined_value c.args.value)) c.self.view_is)
-      | in-Err w ↦ rw w.result-is tt
-    ]
-
-pub returns-clause-no_register : goal.returns-clause-no_register
-returns-clause-no_register c =
-    elim c.match-insert.branch [
-      | in-Ok w ↦
-          let none : get c.args.self.now c.args.name ≡ None =
-          sym c.get.ensures ∙ none_of c.get.result (sym c.is_some.ensures ∙ c.if-is_some.false) in
-          let free =
-          none_both _ _
-          (sym (get_kept c.self.inside.defined.entries c.args.name) ∙ (ap (λ names. get names c.args.name) c.self.view_is ∙ none)) in
-          rw w.result-is free
-      | in-Err w ↦ rw w.result-is tt
-    ]
+    let kept = c.self.inside.defined in
+    let name = c.args.name in
+    let none =
+    register_none c.register_number.result name (rw c.as_bytes.ensures.value at c.register_number.ensures) (sym c.is_some.ensures ∙ c.if-is_some.false) in
+    on_ok c.insert_new.result c.insert_new.ensures.kept c.insert_new.ensures.fresh
+    (λ updates fresh.
+    define_kept kept c.insert_new.new.kept name c.args.value updates (get_free kept name none ∙ ap (option_map defined_value) fresh)
+    ∙ ap (λ (names : Names). insert names name (defined_value c.args.value)) c.self.view_is)
 
 pub returns-clause-duplicate : goal.returns-clause-duplicate
-returns-clause-duplicate c = search rules
+returns-clause-duplicate c =
+    let kept = c.self.inside.defined in
+    let name = c.args.name in
+    let none =
+    register_none c.register_number.result name (rw c.as_bytes.ensures.value at c.register_number.ensures) (sym c.is_some.ensures ∙ c.if-is_some.false) in
+    let same = sym (ap (λ (names : Names). get names name) c.self.view_is) ∙ get_free kept name none in (
+      λ e. subst IsSome (sym same) (some_seen _ (c.insert_new.ensures.duplicate.0 e)),
+      λ some. c.insert_new.ensures.duplicate.1 (seen_some _ (subst IsSome same some)),
+    )
+
+pub returns-clause-unchanged : goal.returns-clause-unchanged
+returns-clause-unchanged c =
+    on_err c.insert_new.result c.insert_new.ensures.unchanged
+    (λ same. kept_same c.self.inside.defined c.insert_new.new.kept same ∙ c.self.view_is)

@@ -1,0 +1,27 @@
+use Rattle.std.proofs.Common.{◌≡◌, sym, ap, ◌∙◌, Some, None, rules}
+use Rattle.std.specs.Option.{option_map}
+use Rattle.asm_defs.specs.declared.mnemonic.Mnemonic.TheVariants.{Of}
+use Rattle.asm_text.specs.WordKeys.{with_key}
+use Rattle.asm_forms.proofs.MnemonicKeys.{named, named_by, by_number, is_nop, is_rt, is_named}
+use Rattle.asm_forms.proofs.mnemonics.mnemonic.Goals as goal
+
+pub returns-in_err-key : goal.returns-in_err-key
+returns-in_err-key c = c.from_residual.ensures ∙ by_number c.args.text.now None c.type_inv.text c.in_err-key.ensures
+
+pub returns-then-key-eq-NOP_KEY : goal.returns-then-key-eq-NOP_KEY
+returns-then-key-eq-NOP_KEY c =
+    is_nop c.in_ok-key.key c.if-key-eq-NOP_KEY.true
+    ∙ by_number c.args.text.now (Some c.in_ok-key.key) c.type_inv.text c.in_ok-key.ensures
+
+pub returns-then-key-eq-RT_KEY : goal.returns-then-key-eq-RT_KEY
+returns-then-key-eq-RT_KEY c =
+    is_rt c.in_ok-key.key c.if-key-eq-RT_KEY.true
+    ∙ by_number c.args.text.now (Some c.in_ok-key.key) c.type_inv.text c.in_ok-key.ensures
+
+pub returns : goal.returns
+returns c =
+    let key = c.in_ok-key.key in
+    let told = is_named key c.if-key-eq-NOP_KEY.false c.if-key-eq-RT_KEY.false
+    ∙ by_number c.args.text.now (Some key) c.type_inv.text c.in_ok-key.ensures in
+    let mapped : c.map.result ≡ option_map Of c.named_in.result = search rules in
+    mapped ∙ (ap (option_map Of) c.named_in.ensures ∙ told)

@@ -1,0 +1,62 @@
+-- A text of one token, and one whose first is none.
+use Rattle.std.proofs.Common.{◌≡◌, ℕ, zero, suc, ◌+◌, ◌-◌, ◌<◌, Bool, true, false, cond, List, [], ◌∷◌, length, Ok, Err, refl, sym, ap, ◌∙◌, arith}
+use Rattle.std.specs.Prelude.{nat_lt, Result, Option}
+use Rattle.std.proofs.lemmas.Bool.Decides.{nat_tests}
+use Rattle.source_defs.specs.declared.causes.ExprError.{ExprError}
+use Rattle.source_defs.specs.declared.causes.ExprError.TheVariants.{BadToken, UnknownName, BadRelocation, DivideByZero, TooLarge, Memory}
+use Rattle.source_defs.specs.Refusals.{◌>>=◌}
+use Rattle.source_defs.specs.Expression as defined
+use Rattle.asm_text.specs.declared.values.Value.{Value}
+use Rattle.asm_text.specs.GivenValues.{defined_value, defined_value_answer}
+use Rattle.asm_text.specs.Yielded.{Yields}
+use Rattle.source_defs.specs.Tokens.{Token, token_at, tokens_from, tokens}
+
+-- nothing is left at the end
+none_left : (left : ℕ) (text : List ℕ) (at : ℕ) → at ≡ length text → tokens_from left text at ≡ Ok []
+unfolding tokens_from
+none_left zero text at end = refl
+none_left (suc left) text at end =
+    let past : nat_lt at (length text) ≡ false = grind (arith, nat_tests) in
+    rw past refl
+
+-- the first token, then the others
+first_of : List ℕ → Result Token ExprError → Result (List Token) ExprError
+first_of text first = first >>= λ token. tokens_from (length text - 1) text token.span.end >>= λ others. Ok (token ∷ others)
+
+begins : (text : List ℕ) → 0 < length text → tokens text ≡ first_of text (token_at text 0)
+unfolding tokens_from token_at first_of
+begins [] some = absurd (omega (arith, some))
+begins (byte ∷ rest) some =
+    let more : nat_lt 0 (length (byte ∷ rest)) ≡ true = grind (arith, nat_tests) in
+    let left : length (byte ∷ rest) - 1 ≡ length rest = omega arith in
+    rw (more, left) refl
+
+pub one_token : (text : List ℕ) (token : Token) → 0 < length text → Ok token ≡ token_at text 0 → token.span.end ≡ length text → tokens text ≡ Ok (token ∷ [])
+unfolding first_of
+one_token text token some is end =
+    begins text some
+    ∙ (ap (first_of text) (sym is)
+    ∙ ap (λ (others : Result (List Token) ExprError). others >>= λ others. Ok (token ∷ others)) (none_left (length text - 1) text token.span.end end))
+
+no_token : (text : List ℕ) (cause : ExprError) → 0 < length text → Err cause ≡ token_at text 0 → tokens text ≡ Err cause
+unfolding first_of
+no_token text cause some is = begins text some ∙ ap (first_of text) (sym is)
+
+-- the value of one token is the text's, and so is its refusal
+module _ (look : List ℕ → Option defined.Value) (here : defined.Value) (text : List ℕ) (some : 0 < length text) where
+  pub value_is : (token : Token) → Ok token ≡ token_at text 0 → token.span.end ≡ length text
+      → defined.value look here text (token ∷ []) ≡ defined.expression look here text
+  value_is token is end = sym (ap (λ (found : Result (List Token) ExprError). found >>= λ found. defined.value look here text found) (one_token text token some is end))
+
+  pub refusal_is : (cause : ExprError) → Err cause ≡ token_at text 0 → Err cause ≡ defined.expression look here text
+  refusal_is cause is = sym (ap (λ (found : Result (List Token) ExprError). found >>= λ found. defined.value look here text found) (no_token text cause some is))
+
+-- what a call answers that wants no memory
+pub yielded : (result : Result Value ExprError) (answer : Result defined.Value ExprError) → defined_value_answer result ≡ answer → Yields defined_value result answer
+yielded (Ok value) answer is = sym is
+yielded (Err BadToken) answer is = sym is
+yielded (Err UnknownName) answer is = sym is
+yielded (Err BadRelocation) answer is = sym is
+yielded (Err DivideByZero) answer is = sym is
+yielded (Err TooLarge) answer is = sym is
+yielded (Err Memory) answer is = tt

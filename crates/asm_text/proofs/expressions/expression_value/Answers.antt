@@ -1,0 +1,33 @@
+use Rattle.std.proofs.Common.{◌≡◌, ◌<◌, length, Err, sym, subst, ◌∙◌, rules}
+use Rattle.std.specs.Prelude.{Result}
+use Rattle.source_defs.specs.declared.causes.ExprError.{ExprError}
+use Rattle.source_defs.specs.Expression.{expression}
+use Rattle.source_defs.specs.Symbols.{look_up}
+use Rattle.asm_text.specs.declared.values.Value.{Value}
+use Rattle.asm_text.specs.GivenTokens.{defined_token}
+use Rattle.asm_text.specs.GivenValues.{defined_value}
+use Rattle.asm_text.specs.Yielded.{Yields}
+use Rattle.asm_text.proofs.OneToken.{one_token, value_is, refusal_is, yielded}
+use Rattle.asm_text.proofs.expressions.expression_value.Goals as goal
+
+pub returns-in-Err : goal.returns-in-Err
+returns-in-Err c =
+    let text = c.args.text.now in
+    let some : 0 < length text = search rules in
+    yielded (Err c.in-Err.error) _
+    (refusal_is (look_up c.args.symbols.now) (defined_value c.args.here) text some c.in-Err.error c.in-Err.ensures)
+
+pub value-requires-clause-read : goal.value-requires-clause-read
+value-requires-clause-read c =
+    let text = c.args.text.now in
+    let some : 0 < length text = search rules in
+    one_token text (defined_token c.in-Ok.first) some c.in-Ok.ensures c.if-first-text.true
+
+pub returns-then-first-text : goal.returns-then-first-text
+returns-then-first-text c =
+    let text = c.args.text.now in
+    let some : 0 < length text = search rules in
+    yielded c.value.result _
+    (c.value.ensures
+    ∙ value_is (look_up c.args.symbols.now) (defined_value c.args.here) text some (defined_token c.in-Ok.first) c.in-Ok.ensures
+    c.if-first-text.true)
