@@ -39,7 +39,9 @@ fn sums_up(
         ended.status == Status::Done
             && ended.err.bytes().is_empty()
             && ended.input.faults() == 0
-            && out.strip_prefix(front).is_some_and(|rest| is_count(rest, count)),
+            && out
+                .strip_prefix(front)
+                .is_some_and(|rest| is_count(rest, count)),
     )
 }
 

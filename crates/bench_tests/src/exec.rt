@@ -228,7 +228,14 @@ fn two_lines_then_a_fault(alloc: Global) -> Result<bool, AllocError> {
 fn an_object_text_is_executed_and_shown(rt: HostRuntime) -> Result<(), Fail> {
     for &(limit, program, status, report) in PROGRAMS {
         assert!(rt;
-            answers(rt.alloc(), &[b"exec", limit], program, status, report.as_bytes(), b"")?,
+            answers(
+                rt.alloc(),
+                &[b"exec", limit],
+                program,
+                status,
+                report.as_bytes(),
+                b""
+            )?,
             "{program:?}"
         );
     }

@@ -97,7 +97,8 @@ fn gives(alloc: Global, source: &[u8], words: &[Piece]) -> bool {
 fn tells_the_last_use(alloc: Global) -> bool {
     match assemble(alloc, b" REF FOO\n DATA FOO,1,FOO\n") {
         Ok(module) => match module.refs.as_slice() {
-            [used] => used.name.as_bytes() == b"FOO".as_slice() && used.last == Spot::Relocatable(4),
+            [used] => used.name.as_bytes() == b"FOO".as_slice()
+                && used.last == Spot::Relocatable(4),
             _ => false,
         },
         Err(_) => false,
