@@ -1,12 +1,7 @@
-use Rattle.std.proofs.Common.{◌≡◌, ◌<◌, length, Err, sym, subst, ◌∙◌, rules}
-use Rattle.std.specs.Prelude.{Result}
-use Rattle.source_defs.specs.declared.causes.ExprError.{ExprError}
-use Rattle.source_defs.specs.Expression.{expression}
+use Rattle.std.proofs.Common.{◌<◌, length, Err, ◌∙◌, rules}
 use Rattle.source_defs.specs.Symbols.{look_up}
-use Rattle.asm_text.specs.declared.values.Value.{Value}
 use Rattle.asm_text.specs.GivenTokens.{defined_token}
 use Rattle.asm_text.specs.GivenValues.{defined_value}
-use Rattle.asm_text.specs.Yielded.{Yields}
 use Rattle.asm_text.proofs.OneToken.{one_token, value_is, refusal_is, yielded}
 use Rattle.asm_text.proofs.expressions.expression_value.Goals as goal
 

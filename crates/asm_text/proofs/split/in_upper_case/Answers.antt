@@ -1,4 +1,4 @@
-use Rattle.std.proofs.Common.{arith, rules}
+use Rattle.std.proofs.Common.{arith}
 use Rattle.std.proofs.lemmas.Grind.{common_steps}
 use Rattle.asm_text.proofs.Keys.{zeros_stay}
 use Rattle.asm_text.proofs.split.in_upper_case.Goals as goal

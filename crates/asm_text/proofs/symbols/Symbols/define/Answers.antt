@@ -1,10 +1,8 @@
-use Rattle.std.proofs.Common.{◌≡◌, None, refl, sym, ap, subst, ◌∙◌, rules}
+use Rattle.std.proofs.Common.{refl, sym, ap, subst, ◌∙◌}
 use Rattle.std.specs.Prelude.{IsSome}
 use Rattle.std.specs.FinMap.{get, insert}
 use Rattle.std.specs.Option.{option_map}
-use Rattle.source_defs.specs.Symbols.{Names, registers}
-use Rattle.source_defs.proofs.SymbolLaws.{found}
-use Rattle.asm_text.specs.Kept.{names_of}
+use Rattle.source_defs.specs.Symbols.{Names}
 use Rattle.asm_text.specs.GivenValues.{defined_value}
 use Rattle.asm_text.proofs.Names.{define_kept, kept_same, get_free, register_some, register_none, some_seen, seen_some, on_ok, on_err}
 use Rattle.asm_text.proofs.symbols.Symbols.define.Goals as goal
