@@ -3,11 +3,11 @@ use Rattle.std.proofs.Common.{◌≡◌, Err}
 use Rattle.std.specs.Prelude.{Result}
 use Rattle.source_defs.specs.declared.causes.ExprError.{ExprError}
 use Rattle.source_defs.specs.declared.causes.ExprError.TheVariants as expr
-use Rattle.asm_defs.specs.declared.causes.FormError.{FormError}
-use Rattle.asm_defs.specs.declared.causes.FormError.TheVariants as form
-use Rattle.module_defs.specs.declared.causes.AsmCause.{AsmCause}
-use Rattle.module_defs.specs.declared.causes.AsmCause.TheVariants.{Expr, Form}
-use Rattle.module_defs.specs.declared.causes.AsmCause.TheVariants as cause
+use Rattle.instruction_defs.specs.declared.causes.FormError.{FormError}
+use Rattle.instruction_defs.specs.declared.causes.FormError.TheVariants as form
+use Rattle.asm_defs.specs.declared.causes.AsmCause.{AsmCause}
+use Rattle.asm_defs.specs.declared.causes.AsmCause.TheVariants.{Expr, Form}
+use Rattle.asm_defs.specs.declared.causes.AsmCause.TheVariants as cause
 use Rattle.asm_checks.specs.Answers.{Causes, Fails, expr_failure, form_failure}
 
 pub expr_fails : {B : Type 0} (error : ExprError) (defined : Result B AsmCause) → defined ≡ Err (Expr error) → Fails (expr_failure error) defined

@@ -4,9 +4,9 @@ use Rattle.std.specs.Prelude.{Option, Result}
 use Rattle.source_defs.specs.Expression.{Value}
 use Rattle.asm_text.specs.declared.line_fields.Fields.{Fields}
 use Rattle.asm_forms.specs.Lines.{operation_in, operands_in}
-use Rattle.module_defs.specs.declared.location.Location.{Location}
-use Rattle.module_defs.specs.Statements as said
-use Rattle.module_defs.specs.SecondChecks as spec
+use Rattle.asm_defs.specs.declared.location.Location.{Location}
+use Rattle.asm_defs.specs.Statements as said
+use Rattle.asm_defs.specs.SecondChecks as spec
 use Rattle.asm_checks.specs.Answers.{Gives}
 use Rattle.asm_checks.specs.Defined.{HasSize}
 use Rattle.asm_checks.specs.Outcomes.{defined_outcome}

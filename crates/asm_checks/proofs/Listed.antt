@@ -5,9 +5,9 @@ use Rattle.source_defs.specs.declared.causes.ExprError.{ExprError}
 use Rattle.source_defs.specs.declared.causes.ExprError.TheVariants as expr
 use Rattle.source_defs.specs.Refusals.{after, ◌>>=◌}
 use Rattle.source_defs.specs.Expression.{Value}
-use Rattle.module_defs.specs.declared.location.Location.{Location}
-use Rattle.module_defs.specs.Locations.{behind}
-use Rattle.module_defs.specs.SecondChecks.{word_in, data_values, absolute_in, byte_values}
+use Rattle.asm_defs.specs.declared.location.Location.{Location}
+use Rattle.asm_defs.specs.Locations.{behind}
+use Rattle.asm_defs.specs.SecondChecks.{word_in, data_values, absolute_in, byte_values}
 use Rattle.asm_text.specs.Yielded.{Yields}
 
 pub after_more : {A E : Type 0} (front : List A) (item : A) (others : Result (List A) E)

@@ -1,12 +1,12 @@
 -- What the first checks of the code find, as the definitions have it.
 use Rattle.std.specs.Prelude.{◌≡◌, ◌≤◌, ℕ, true, List, [], Ok}
-use Rattle.module_defs.specs.Locations.{is_in_part}
-use Rattle.module_defs.specs.FirstChecks as spec
+use Rattle.asm_defs.specs.Locations.{is_in_part}
+use Rattle.asm_defs.specs.FirstChecks as spec
 use Rattle.source_defs.specs.Fields.{fields}
 use Rattle.asm_text.specs.GivenFields.{defined_fields}
 use Rattle.asm_checks.specs.Defined.{defined_statement, IsInstructionOf, NamesOnly}
 use Rattle.asm_checks.specs.Moves.{defined_move, MovesLittle}
-use Rattle.module_defs.specs.Statements.{upper_names}
+use Rattle.asm_defs.specs.Statements.{upper_names}
 use Rattle.source_defs.specs.Operands.{operand_texts}
 use Rattle.asm_checks.specs.declared.statement.Statement.{Statement}
 use Rattle.asm_checks.specs.declared.statement.Statement.TheVariants.{Def, Ref}

@@ -2,10 +2,10 @@
 use Rattle.std.specs.Prelude.{ℕ, List, Ok, IsSome, true, ⊤, ◌≡◌}
 use Rattle.std.specs.Option.{option_map}
 use Rattle.source_defs.specs.Operands.{operand_texts}
-use Rattle.asm_defs.specs.FirstChecks.{line_size}
+use Rattle.instruction_defs.specs.FirstChecks.{line_size}
 use Rattle.asm_forms.specs.Lines.{operation_in, operands_in}
 use Rattle.asm_text.specs.declared.line_fields.Fields.{Fields}
-use Rattle.module_defs.specs.Statements as spec
+use Rattle.asm_defs.specs.Statements as spec
 use Rattle.asm_checks.specs.declared.statement.Statement.{Statement}
 use Rattle.asm_checks.specs.declared.statement.Statement.TheVariants.{
   Nothing,

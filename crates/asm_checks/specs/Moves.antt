@@ -1,7 +1,7 @@
 -- What a line of the code does to the location, as the definitions have it.
 use Rattle.std.specs.Prelude.{◌+◌, ◌≤◌, ⊤, length, IfSome}
 use Rattle.asm_text.specs.GivenValues.{defined_value}
-use Rattle.module_defs.specs.FirstChecks as spec
+use Rattle.asm_defs.specs.FirstChecks as spec
 use Rattle.asm_checks.specs.declared.statement.Statement.{Statement}
 use Rattle.asm_checks.specs.declared.statement.Statement.TheVariants.{Data, Byte, Text}
 use Rattle.asm_checks.specs.declared.moves.Move.{Move}

@@ -2,17 +2,17 @@
 use Rattle.std.specs.Prelude.{ℕ, Option, Some, None, Result, Ok, Err}
 use Rattle.source_defs.specs.Refusals.{◌>>=◌}
 use Rattle.source_defs.specs.Expression.{Value, known_value}
-use Rattle.asm_defs.specs.declared.causes.FormError.TheVariants.{BadOperand}
+use Rattle.instruction_defs.specs.declared.causes.FormError.TheVariants.{BadOperand}
 use Rattle.std.specs.Option.{option_map}
 use Rattle.object_defs.specs.declared.spot.Spot.{Spot}
 use Rattle.asm_text.specs.declared.values.Value.{Value as CodeValue}
 use Rattle.asm_text.specs.GivenValues.{defined_value}
-use Rattle.module_defs.specs.Modules.{spot_of}
+use Rattle.asm_defs.specs.Modules.{spot_of}
 use Rattle.asm_forms.specs.Placed.{defined_words}
-use Rattle.module_defs.specs.declared.causes.AsmCause.{AsmCause}
-use Rattle.module_defs.specs.declared.causes.AsmCause.TheVariants.{Form}
-use Rattle.module_defs.specs.FirstChecks.{as_expr}
-use Rattle.module_defs.specs.SecondChecks as spec
+use Rattle.asm_defs.specs.declared.causes.AsmCause.{AsmCause}
+use Rattle.asm_defs.specs.declared.causes.AsmCause.TheVariants.{Form}
+use Rattle.asm_defs.specs.FirstChecks.{as_expr}
+use Rattle.asm_defs.specs.SecondChecks as spec
 use Rattle.asm_checks.specs.declared.second_checks.Outcome.{Outcome}
 use Rattle.asm_checks.specs.declared.second_checks.Outcome.TheVariants.{Nothing, Words, Bytes, Entry}
 

@@ -1,14 +1,14 @@
 //! The directives by their names.
 
 ghost use Rattle.std.specs.Prelude.{◌≡◌};
-ghost use Rattle.module_defs.specs.Directives as spec;
+ghost use Rattle.asm_defs.specs.Directives as spec;
 
+use asm_defs::Directive;
 use asm_text::is_word;
-use module_defs::Directive;
 
 /// The directive that an operation field names, in upper or lower case (Editor/Assembler manual, "Assembler
 /// Directives").
-#[tactic(auto, unfolding(module_defs::specs::Directives::directive))]
+#[tactic(auto, unfolding(asm_defs::specs::Directives::directive))]
 pub(crate) fn directive(text: &[u8]) -> Option<Directive>
     ensures { result ≡ spec.directive text.now }
 {

@@ -1,12 +1,12 @@
 //! Why a line is not taken, before its number is told.
 
 ghost use Rattle.std.specs.Prelude.{◌≡◌};
-ghost use Rattle.module_defs.specs.Growing as growing;
+ghost use Rattle.asm_defs.specs.Growing as growing;
 ghost use Rattle.asm_checks.specs.Answers.{expr_failure, form_failure, operand_failure};
 ghost use Rattle.asm_checks.specs.declared.failure.Failure.TheVariants.{Memory};
 
-use asm_defs::FormError;
-use module_defs::AsmCause;
+use asm_defs::AsmCause;
+use instruction_defs::FormError;
 use source_defs::{ExprError, OperandError};
 use std::alloc::AllocError;
 

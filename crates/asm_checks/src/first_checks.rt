@@ -2,8 +2,8 @@
 
 ghost use Rattle.std.specs.Prelude.{◌≡◌, ◌≤◌, ◌+◌, length, true, IfOk};
 ghost use Rattle.source_defs.specs.Fields as lines;
-ghost use Rattle.module_defs.specs.Locations as places;
-ghost use Rattle.module_defs.specs.FirstChecks as spec;
+ghost use Rattle.asm_defs.specs.Locations as places;
+ghost use Rattle.asm_defs.specs.FirstChecks as spec;
 ghost use Rattle.asm_checks.specs.Answers.{Gives};
 ghost use Rattle.asm_checks.specs.Defined.{defined_statement, NamesOnly};
 ghost use Rattle.asm_checks.specs.Moves.{defined_move, MovesLittle};
@@ -17,8 +17,8 @@ use crate::names::{any_known, is_taken, label_in, names_in, repeats};
 use crate::statement::{Statement, statement_in};
 use crate::titles::title_in;
 use crate::values::Scope;
+use asm_defs::{AsmCause, Location, Part};
 use asm_text::{Fields, Name, Symbols, fields, is_quoted};
-use module_defs::{AsmCause, Location, Part};
 use object_tags::MOST_NAMES;
 use std::alloc::{AllocError, Global};
 
@@ -73,7 +73,7 @@ impl Before<'_> {
     }
 
     /// What a line says, whose names are new.
-    #[tactic(auto, unfolding(module_defs::specs::FirstChecks::said))]
+    #[tactic(auto, unfolding(asm_defs::specs::FirstChecks::said))]
     fn said<'b>(&self, text: &'b [u8]) -> Result<Said<'b>, Failure>
         ensures said { Gives defined_said result (spec.said (defined_before self.now) text.now) }
         ensures line { IfOk result (IsSaidOf text.now) }
@@ -117,7 +117,7 @@ impl Before<'_> {
     }
 
     /// Where a line leads.
-    #[tactic(auto, using(crate::proofs::Failures::expr_fails), unfolding(module_defs::specs::FirstChecks::moved))]
+    #[tactic(auto, using(crate::proofs::Failures::expr_fails), unfolding(asm_defs::specs::FirstChecks::moved))]
     fn moved<'b>(&self, said: Said<'b>) -> Result<Checked<'b>, Failure>
         requires places { KnowsPlaces self.now }
         requires listed { ListsNames said }

@@ -1,9 +1,9 @@
 //! What a line does to the location.
 
 ghost use Rattle.std.specs.Prelude.{◌≡◌, ◌≤◌, ◌<◌, ◌+◌, ◌^◌, length, OnOk, IfOk};
-ghost use Rattle.module_defs.specs.Locations as places;
-ghost use Rattle.module_defs.specs.FirstChecks as spec;
-ghost use Rattle.module_defs.specs.Growing.{size_said};
+ghost use Rattle.asm_defs.specs.Locations as places;
+ghost use Rattle.asm_defs.specs.FirstChecks as spec;
+ghost use Rattle.asm_defs.specs.Growing.{size_said};
 ghost use Rattle.asm_text.specs.GivenValues.{defined_value};
 ghost use Rattle.source_defs.specs.Refusals.{seen};
 ghost use Rattle.asm_text.specs.Yielded.{Yields};
@@ -12,8 +12,8 @@ ghost use Rattle.asm_checks.specs.Moves.{defined_move, MovesLittle, MovesWithin}
 
 use crate::statement::Statement;
 use crate::values::{Scope, value_at};
+use asm_defs::{Location, Part};
 use asm_text::{ExprError, Value, character_count, operand_count};
-use module_defs::{Location, Part};
 
 /// What a line does to the location.
 #[derive(Clone, Copy)]

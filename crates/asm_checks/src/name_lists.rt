@@ -3,7 +3,7 @@
 ghost use Rattle.std.specs.Prelude.{◌≡◌, true, IfOk};
 ghost use Rattle.source_defs.specs.Refusals.{seen};
 ghost use Rattle.source_defs.specs.Operands.{operand_texts};
-ghost use Rattle.module_defs.specs.Statements as spec;
+ghost use Rattle.asm_defs.specs.Statements as spec;
 
 use asm_text::{OperandError, is_name, operands};
 

@@ -2,8 +2,8 @@
 
 ghost use Rattle.std.specs.Prelude.{◌≡◌, true, IfOk};
 ghost use Rattle.source_defs.specs.Operands.{operand_texts};
-ghost use Rattle.module_defs.specs.Statements.{all_names, upper_names};
-ghost use Rattle.module_defs.specs.FirstChecks as spec;
+ghost use Rattle.asm_defs.specs.Statements.{all_names, upper_names};
+ghost use Rattle.asm_defs.specs.FirstChecks as spec;
 
 use asm_text::{Name, Symbols, operands, upper_case_name};
 use std::alloc::{AllocError, Global};

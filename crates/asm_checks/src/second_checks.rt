@@ -6,14 +6,14 @@ ghost use Rattle.source_defs.specs.Symbols.{look_up};
 ghost use Rattle.asm_text.specs.GivenFields.{defined_fields, FieldsLieInside};
 ghost use Rattle.asm_text.specs.GivenValues.{defined_value};
 ghost use Rattle.source_defs.specs.Operands.{operand_texts};
-ghost use Rattle.asm_defs.specs.FirstChecks.{line_size};
+ghost use Rattle.instruction_defs.specs.FirstChecks.{line_size};
 ghost use Rattle.asm_forms.specs.Lines.{operation_in, operands_in, line_words};
 ghost use Rattle.asm_forms.specs.Placed.{defined_word, defined_words};
-ghost use Rattle.module_defs.specs.Locations as places;
-ghost use Rattle.module_defs.specs.Statements as said;
-ghost use Rattle.module_defs.specs.FirstChecks as first;
-ghost use Rattle.module_defs.specs.SecondChecks as spec;
-ghost use Rattle.module_defs.specs.Growing as growing;
+ghost use Rattle.asm_defs.specs.Locations as places;
+ghost use Rattle.asm_defs.specs.Statements as said;
+ghost use Rattle.asm_defs.specs.FirstChecks as first;
+ghost use Rattle.asm_defs.specs.SecondChecks as spec;
+ghost use Rattle.asm_defs.specs.Growing as growing;
 ghost use Rattle.std.specs.List.{list_all};
 ghost use Rattle.source_defs.specs.Refusals.{seen};
 ghost use Rattle.asm_text.specs.Yielded.{Yields};
@@ -27,10 +27,10 @@ use crate::moves::behind;
 use crate::names::names_in;
 use crate::statement::Statement;
 use crate::values::{Scope, value_at};
-use asm_defs::FormError;
+use asm_defs::{AsmCause, Location, Part};
 use asm_forms::{Word, parse_instr};
 use asm_text::{ExprError, Fields, Name, Symbols, Value, operands, quoted_characters};
-use module_defs::{AsmCause, Location, Part};
+use instruction_defs::FormError;
 use object_defs::Spot;
 
 /// What a line comes to.
@@ -61,7 +61,7 @@ impl Outcome {
 
 impl Scope<'_> {
     /// What a line with its fields comes to, of which the first checks found what it says.
-    #[tactic(auto, using(crate::proofs::Failures::expr_fails), unfolding(module_defs::specs::SecondChecks::outcome))]
+    #[tactic(auto, using(crate::proofs::Failures::expr_fails), unfolding(asm_defs::specs::SecondChecks::outcome))]
     pub fn outcome(
         &self,
         line: &[u8],

@@ -4,7 +4,7 @@ ghost use Rattle.std.specs.Prelude.{◌≤◌, length, IfOk, ◌≡◌, Ok, Some
 ghost use Rattle.source_defs.specs.Fields as lines;
 ghost use Rattle.asm_text.specs.GivenFields.{defined_fields, FieldsLieInside};
 ghost use Rattle.source_defs.specs.Operands.{operand_texts};
-ghost use Rattle.module_defs.specs.Statements as spec;
+ghost use Rattle.asm_defs.specs.Statements as spec;
 ghost use Rattle.source_defs.specs.Refusals.{seen};
 ghost use Rattle.asm_checks.specs.Answers.{Gives};
 ghost use Rattle.asm_checks.specs.Defined.{defined_statement, IsDirective, IsInstructionOf, NamesOnly};
@@ -13,9 +13,9 @@ ghost use Rattle.asm_checks.specs.Moves.{MovesLittle};
 use crate::directives::directive;
 use crate::failure::Failure;
 use crate::name_lists::names_of;
+use asm_defs::Directive;
 use asm_forms::size_of;
 use asm_text::{Fields, OperandError, at_most_one_of, one_of, part, quoted, some_of};
-use module_defs::Directive;
 use std::alloc::Global;
 
 /// What a line says: an instruction, or a directive with its operands. A field stands for the operands in it.
@@ -58,7 +58,7 @@ pub enum Statement<'a> {
 }
 
 /// What a line with its fields says.
-#[tactic(auto, using(crate::proofs::Failures::form_fails), unfolding(module_defs::specs::Statements::statement_in))]
+#[tactic(auto, using(crate::proofs::Failures::form_fails), unfolding(asm_defs::specs::Statements::statement_in))]
 pub fn statement_in<'a>(
     alloc: Global,
     line: &'a [u8],

@@ -3,7 +3,7 @@
 ghost use Rattle.std.specs.Prelude.{◌≡◌, ◌<◌, Some, None, if◌then◌else◌, length, IfSome};
 ghost use Rattle.source_defs.specs.Expression as spec;
 ghost use Rattle.std.specs.Option.{IfNone};
-ghost use Rattle.module_defs.specs.FirstChecks.{is_title, title_in};
+ghost use Rattle.asm_defs.specs.FirstChecks.{is_title, title_in};
 
 use arrayvec::ArrayVec;
 use asm_text::{between_quotes, is_quote};

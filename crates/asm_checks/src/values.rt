@@ -2,12 +2,12 @@
 
 ghost use Rattle.std.specs.Prelude.{◌≡◌};
 ghost use Rattle.asm_text.specs.GivenValues.{defined_value, IsNotExternal};
-ghost use Rattle.module_defs.specs.FirstChecks.{value, absolute_in};
-ghost use Rattle.module_defs.specs.Locations as spec;
+ghost use Rattle.asm_defs.specs.FirstChecks.{value, absolute_in};
+ghost use Rattle.asm_defs.specs.Locations as spec;
 ghost use Rattle.asm_text.specs.Yielded.{Yields};
 
+use asm_defs::{Location, Part};
 use asm_text::{ExprError, Symbols, Value, expression_value};
-use module_defs::{Location, Part};
 use std::alloc::Global;
 
 /// The names that a line sees, and its place.

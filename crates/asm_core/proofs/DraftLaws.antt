@@ -3,16 +3,16 @@ use Rattle.std.proofs.Common.{◌≡◌, ◌+◌, ◌≤◌, Bool, true, false, 
 use Rattle.std.specs.Prelude.{Option, Result, map, OnOk, OnErr, if◌then◌else◌}
 use Rattle.object_defs.specs.Modules.{Reference}
 use Rattle.object_tags.specs.Seen.{defined_ref}
-use Rattle.module_defs.specs.declared.content.Content.{Content}
-use Rattle.module_defs.specs.declared.location.Part.TheVariants as part
-use Rattle.module_defs.specs.declared.location.Location.{Location}
-use Rattle.module_defs.specs.SecondChecks.{Outcome, Nothing, Words, Bytes, Entry}
-use Rattle.module_defs.specs.Memory.{Settled, bytes_in, same_part, is_placed_in, contents_by, references_of, behind_by, behind_words, content_at}
-use Rattle.asm_image.specs.Images.{IsEmpty, IsImage, IsLaid}
-use Rattle.asm_image.specs.Standing.{AllStand, FillsPlace}
-use Rattle.asm_image.specs.declared.image.Image.{Image}
-use Rattle.asm_image.proofs.HoldingLaws.{contents_length}
-use Rattle.asm_image.proofs.SwapLaws.{image_filled}
+use Rattle.asm_defs.specs.declared.content.Content.{Content}
+use Rattle.asm_defs.specs.declared.location.Part.TheVariants as part
+use Rattle.asm_defs.specs.declared.location.Location.{Location}
+use Rattle.asm_defs.specs.SecondChecks.{Outcome, Nothing, Words, Bytes, Entry}
+use Rattle.asm_defs.specs.Memory.{Settled, bytes_in, same_part, is_placed_in, contents_by, references_of, behind_by, behind_words, content_at}
+use Rattle.module_image.specs.Images.{IsEmpty, IsImage, IsLaid}
+use Rattle.module_image.specs.Standing.{AllStand, FillsPlace}
+use Rattle.module_image.specs.declared.image.Image.{Image}
+use Rattle.module_image.proofs.HoldingLaws.{contents_length}
+use Rattle.module_image.proofs.SwapLaws.{image_filled}
 use Rattle.asm_core.specs.Building.{ImageOf}
 use Rattle.asm_core.specs.Drafts.{HoldsBytes, FillsBytes}
 use Rattle.asm_core.specs.declared.draft.Draft.{Draft}

@@ -6,12 +6,12 @@ use Rattle.source_defs.specs.Orders.{onto}
 use Rattle.source_defs.specs.Symbols.{Names}
 use Rattle.source_defs.specs.Layout.{settled}
 use Rattle.object_defs.specs.Modules.{Module, Reference}
-use Rattle.module_defs.specs.Locations.{Line}
-use Rattle.module_defs.specs.FirstChecks.{names, refs}
-use Rattle.module_defs.specs.Memory.{Settled}
-use Rattle.module_defs.specs.Modules.{settle, unused, module_by, module_behind}
-use Rattle.asm_image.specs.Standing.{AllStand}
-use Rattle.asm_image.specs.declared.image.Image.{Image}
+use Rattle.asm_defs.specs.Locations.{Line}
+use Rattle.asm_defs.specs.FirstChecks.{names, refs}
+use Rattle.asm_defs.specs.Memory.{Settled}
+use Rattle.asm_defs.specs.Modules.{settle, unused, module_by, module_behind}
+use Rattle.module_image.specs.Standing.{AllStand}
+use Rattle.module_image.specs.declared.image.Image.{Image}
 use Rattle.asm_core.specs.declared.draft.Draft.{Draft}
 use Rattle.asm_core.specs.declared.error.AsmError.{AsmError}
 use Rattle.asm_core.specs.declared.lines.AsmLines.{AsmLines}

@@ -2,10 +2,10 @@
 use Rattle.std.proofs.Common.{◌≡◌, ℕ, ◌+◌, true, List, Ok, ap, ◌∙◌, arith}
 use Rattle.std.specs.Prelude.{nat_le}
 use Rattle.std.proofs.lemmas.Bool.Decides.{nat_tests}
-use Rattle.module_defs.specs.Locations.{behind, is_in_part}
-use Rattle.module_defs.specs.FirstChecks.{Before, Checked, checked}
-use Rattle.module_defs.specs.Growing.{size_said}
-use Rattle.module_defs.proofs.CheckLaws.{checked_said, checked_room}
+use Rattle.asm_defs.specs.Locations.{behind, is_in_part}
+use Rattle.asm_defs.specs.FirstChecks.{Before, Checked, checked}
+use Rattle.asm_defs.specs.Growing.{size_said}
+use Rattle.asm_defs.proofs.CheckLaws.{checked_said, checked_room}
 use Rattle.asm_core.specs.Held as held
 
 pub has_room : (before : Before) (text : List ℕ) (found : Checked) → is_in_part before.location ≡ true → checked before text ≡ Ok found

@@ -4,13 +4,13 @@ use Rattle.std.specs.Prelude.{Option, nat_le}
 use Rattle.std.proofs.lemmas.Bool.Decides.{nat_tests}
 use Rattle.source_defs.specs.Expression.{Value}
 use Rattle.asm_text.specs.declared.line_fields.Fields.{Fields}
-use Rattle.module_defs.specs.declared.location.Location.{Location}
-use Rattle.module_defs.specs.Statements as said
-use Rattle.module_defs.specs.SecondChecks.{Outcome, outcome}
-use Rattle.module_defs.specs.declared.content.Content.{Content}
-use Rattle.module_defs.specs.Memory.{bytes_in, contents_by}
-use Rattle.module_defs.specs.Growing.{size_said}
-use Rattle.module_defs.proofs.OutcomeSizes.{IsSized, outcome_size}
+use Rattle.asm_defs.specs.declared.location.Location.{Location}
+use Rattle.asm_defs.specs.Statements as said
+use Rattle.asm_defs.specs.SecondChecks.{Outcome, outcome}
+use Rattle.asm_defs.specs.declared.content.Content.{Content}
+use Rattle.asm_defs.specs.Memory.{bytes_in, contents_by}
+use Rattle.asm_defs.specs.Growing.{size_said}
+use Rattle.asm_defs.proofs.OutcomeSizes.{IsSized, outcome_size}
 use Rattle.asm_checks.specs.Defined.{defined_statement, IsInstructionOf}
 use Rattle.asm_checks.specs.declared.statement.Statement.{Statement}
 use Rattle.asm_checks.specs.declared.statement.Statement.TheVariants.{
@@ -32,8 +32,8 @@ use Rattle.asm_checks.specs.declared.statement.Statement.TheVariants.{
   Titl,
   End,
 }
-use Rattle.asm_defs.specs.FirstChecks.{line_size}
-use Rattle.asm_image.proofs.HoldingLaws.{contents_length}
+use Rattle.instruction_defs.specs.FirstChecks.{line_size}
+use Rattle.module_image.proofs.HoldingLaws.{contents_length}
 use Rattle.asm_core.specs.Held.{has_room, has_room_by}
 use Rattle.asm_core.specs.Judging.{GivesBytes}
 

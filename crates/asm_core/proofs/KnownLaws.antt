@@ -8,17 +8,17 @@ use Rattle.source_defs.specs.Growing.{Grows, is_closed}
 use Rattle.source_defs.specs.Layout.{settled}
 use Rattle.object_defs.specs.declared.spot.Spot.{Spot}
 use Rattle.object_defs.specs.Modules.{Reference}
-use Rattle.module_defs.specs.declared.causes.AsmCause.{AsmCause}
-use Rattle.module_defs.specs.declared.location.Location.{Location}
-use Rattle.module_defs.specs.Locations.{Line, place}
-use Rattle.module_defs.specs.SecondChecks.{Outcome, outcome}
-use Rattle.module_defs.specs.Memory.{Settled, references_of}
-use Rattle.module_defs.specs.Modules.{settle, with_room, entry}
-use Rattle.module_defs.specs.Growing.{is_open, stands}
-use Rattle.module_defs.proofs.GrowingLaws.{outcome_stays}
+use Rattle.asm_defs.specs.declared.causes.AsmCause.{AsmCause}
+use Rattle.asm_defs.specs.declared.location.Location.{Location}
+use Rattle.asm_defs.specs.Locations.{Line, place}
+use Rattle.asm_defs.specs.SecondChecks.{Outcome, outcome}
+use Rattle.asm_defs.specs.Memory.{Settled, references_of}
+use Rattle.asm_defs.specs.Modules.{settle, with_room, entry}
+use Rattle.asm_defs.specs.Growing.{is_open, stands}
+use Rattle.asm_defs.proofs.GrowingLaws.{outcome_stays}
 use Rattle.asm_checks.specs.Answers.{Causes}
-use Rattle.asm_image.specs.Standing.{StandsBehind, AllStand}
-use Rattle.asm_image.proofs.SwapLaws.{uses_none, enters_none}
+use Rattle.module_image.specs.Standing.{StandsBehind, AllStand}
+use Rattle.module_image.proofs.SwapLaws.{uses_none, enters_none}
 use Rattle.asm_core.specs.declared.pending.Pending.{Pending}
 use Rattle.asm_core.specs.Building.{IsOf, IsKnown, IsWaiting, AreKnown, Refuses}
 

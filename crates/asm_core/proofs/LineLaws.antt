@@ -5,9 +5,9 @@ use Rattle.std.specs.FinMap.{insert}
 use Rattle.source_defs.specs.Expression.{Value}
 use Rattle.source_defs.specs.Symbols.{Names}
 use Rattle.source_defs.specs.Layout.{with_names, set_or, none_or, origin, since}
-use Rattle.module_defs.specs.declared.location.Location.{Location}
-use Rattle.module_defs.specs.Locations.{Line, start, behind, location}
-use Rattle.module_defs.specs.FirstChecks.{Checked, names, known_of, line_of, location_behind, label_entry, external_entries, refs_in}
+use Rattle.asm_defs.specs.declared.location.Location.{Location}
+use Rattle.asm_defs.specs.Locations.{Line, start, behind, location}
+use Rattle.asm_defs.specs.FirstChecks.{Checked, names, known_of, line_of, location_behind, label_entry, external_entries, refs_in}
 use Rattle.asm_core.specs.declared.lines.AsmLines.{AsmLines}
 use Rattle.asm_core.specs.Keeping.{known_in}
 use Rattle.asm_core.specs.Building.{IsBehind}

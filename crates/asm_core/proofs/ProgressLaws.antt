@@ -8,16 +8,16 @@ use Rattle.source_defs.specs.Symbols.{Names}
 use Rattle.source_defs.specs.Layout.{settled}
 use Rattle.object_defs.specs.Modules.{Reference}
 use Rattle.object_tags.specs.Seen.{defined_ref}
-use Rattle.module_defs.specs.declared.causes.AsmCause.{AsmCause}
-use Rattle.module_defs.specs.Locations.{Line, place}
-use Rattle.module_defs.specs.Memory.{Settled, is_placed, references_of}
-use Rattle.module_defs.specs.Modules.{settle, entry}
-use Rattle.module_defs.specs.Growing.{held_place}
+use Rattle.asm_defs.specs.declared.causes.AsmCause.{AsmCause}
+use Rattle.asm_defs.specs.Locations.{Line, place}
+use Rattle.asm_defs.specs.Memory.{Settled, is_placed, references_of}
+use Rattle.asm_defs.specs.Modules.{settle, entry}
+use Rattle.asm_defs.specs.Growing.{held_place}
 use Rattle.asm_checks.specs.Answers.{Fails}
 use Rattle.asm_checks.specs.declared.failure.Failure.{Failure}
-use Rattle.asm_image.specs.Images.{IsImage}
-use Rattle.asm_image.specs.Standing.{AllStand, FillsPlace, SamePlaces}
-use Rattle.asm_image.proofs.SwapLaws.{places_same, onto_same, stand_same}
+use Rattle.module_image.specs.Images.{IsImage}
+use Rattle.module_image.specs.Standing.{AllStand, FillsPlace, SamePlaces}
+use Rattle.module_image.proofs.SwapLaws.{places_same, onto_same, stand_same}
 use Rattle.asm_core.specs.declared.draft.Draft.{Draft}
 use Rattle.asm_core.specs.declared.pending.Pending.{Pending}
 use Rattle.asm_core.specs.Building.{IsOf, AreKnown, refusal_at}

@@ -4,8 +4,8 @@ use Rattle.std.specs.Prelude.{map}
 use Rattle.object_defs.specs.declared.spot.Spot.{Spot}
 use Rattle.object_tags.specs.declared.parts.Ref.{Ref}
 use Rattle.object_tags.specs.Seen.{defined_ref}
-use Rattle.module_defs.specs.FirstChecks.{same_name}
-use Rattle.module_defs.specs.Memory.{with_use}
+use Rattle.asm_defs.specs.FirstChecks.{same_name}
+use Rattle.asm_defs.specs.Memory.{with_use}
 
 pub used_at : (references : List Ref) (index : ℕ) (name : List ℕ) (at : Spot) (seen found : Ref) → index < length references
     → seen ≡ get_or references index seen → found ≡ get_or references index found → same_name seen.name name ≡ true

@@ -8,21 +8,21 @@ use Rattle.source_defs.specs.Orders.{onto}
 use Rattle.source_defs.specs.Symbols.{Names, look_up}
 use Rattle.source_defs.specs.Layout.{settled}
 use Rattle.object_defs.specs.Modules.{Reference}
-use Rattle.asm_defs.specs.declared.causes.FormError.TheVariants as form
-use Rattle.module_defs.specs.declared.causes.AsmCause.{AsmCause}
-use Rattle.module_defs.specs.declared.causes.AsmCause.TheVariants as cause
-use Rattle.module_defs.specs.declared.location.Location.{Location}
-use Rattle.module_defs.specs.Locations.{Line, place}
-use Rattle.module_defs.specs.Statements.{Statement}
-use Rattle.module_defs.specs.SecondChecks.{Outcome, outcome}
-use Rattle.module_defs.specs.Memory.{Settled}
-use Rattle.module_defs.specs.Modules.{settle, with_room}
-use Rattle.module_defs.specs.Growing.{size_said, held_place}
+use Rattle.instruction_defs.specs.declared.causes.FormError.TheVariants as form
+use Rattle.asm_defs.specs.declared.causes.AsmCause.{AsmCause}
+use Rattle.asm_defs.specs.declared.causes.AsmCause.TheVariants as cause
+use Rattle.asm_defs.specs.declared.location.Location.{Location}
+use Rattle.asm_defs.specs.Locations.{Line, place}
+use Rattle.asm_defs.specs.Statements.{Statement}
+use Rattle.asm_defs.specs.SecondChecks.{Outcome, outcome}
+use Rattle.asm_defs.specs.Memory.{Settled}
+use Rattle.asm_defs.specs.Modules.{settle, with_room}
+use Rattle.asm_defs.specs.Growing.{size_said, held_place}
 use Rattle.asm_checks.specs.Answers.{Fails}
 use Rattle.asm_checks.specs.declared.failure.Failure.{Failure}
 use Rattle.asm_checks.specs.declared.failure.Failure.TheVariants.{Refused, Memory}
-use Rattle.asm_image.specs.Standing.{AllStand, FillsPlace, SamePlaces}
-use Rattle.asm_image.proofs.SwapLaws.{room_same, room_filled}
+use Rattle.module_image.specs.Standing.{AllStand, FillsPlace, SamePlaces}
+use Rattle.module_image.proofs.SwapLaws.{room_same, room_filled}
 use Rattle.asm_core.specs.Building.{IsOf, refusal_at}
 use Rattle.asm_core.specs.Drafts.{IsDraft, IsSettled, answer_to}
 use Rattle.asm_core.specs.Finishing.{RefusesAt}

@@ -6,9 +6,9 @@ use Rattle.source_defs.specs.declared.text.Span.{Span}
 use Rattle.source_defs.specs.Lines.{part, lines, lines_from, numbered_from}
 use Rattle.source_defs.specs.Refusals.{Refusal}
 use Rattle.source_defs.specs.Layout.{laid_behind}
-use Rattle.module_defs.specs.declared.causes.AsmCause.{AsmCause}
-use Rattle.module_defs.specs.Locations.{Line}
-use Rattle.module_defs.specs.FirstChecks.{check}
+use Rattle.asm_defs.specs.declared.causes.AsmCause.{AsmCause}
+use Rattle.asm_defs.specs.Locations.{Line}
+use Rattle.asm_defs.specs.FirstChecks.{check}
 use Rattle.asm_core.specs.Building.{Takes}
 use Rattle.asm_core.specs.Finishing.{RefusesAt}
 use Rattle.asm_core.specs.declared.error.AsmError.{AsmError}

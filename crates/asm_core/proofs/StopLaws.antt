@@ -6,17 +6,17 @@ use Rattle.source_defs.specs.Orders.{onto}
 use Rattle.source_defs.specs.Symbols.{Names}
 use Rattle.source_defs.specs.Layout.{settled}
 use Rattle.object_defs.specs.Modules.{Reference}
-use Rattle.module_defs.specs.declared.causes.AsmCause.{AsmCause}
-use Rattle.module_defs.specs.Locations.{Line, place}
-use Rattle.module_defs.specs.Memory.{Settled}
-use Rattle.module_defs.specs.Modules.{settle, with_room}
-use Rattle.module_defs.specs.Growing.{held_place}
+use Rattle.asm_defs.specs.declared.causes.AsmCause.{AsmCause}
+use Rattle.asm_defs.specs.Locations.{Line, place}
+use Rattle.asm_defs.specs.Memory.{Settled}
+use Rattle.asm_defs.specs.Modules.{settle, with_room}
+use Rattle.asm_defs.specs.Growing.{held_place}
 use Rattle.asm_checks.specs.Answers.{Fails, Causes}
 use Rattle.asm_checks.specs.declared.failure.Failure.{Failure}
 use Rattle.asm_checks.specs.declared.failure.Failure.TheVariants as failure
 use Rattle.asm_checks.proofs.Failures.{causes_on}
-use Rattle.asm_image.specs.Standing.{SamePlaces}
-use Rattle.asm_image.proofs.SwapLaws.{room_same}
+use Rattle.module_image.specs.Standing.{SamePlaces}
+use Rattle.module_image.proofs.SwapLaws.{room_same}
 use Rattle.asm_core.specs.declared.draft.Draft.{Draft}
 use Rattle.asm_core.specs.declared.pending.Pending.{Pending}
 use Rattle.asm_core.specs.declared.pending.Refused.{Refused}

@@ -4,9 +4,9 @@ use Rattle.std.specs.Prelude.{Result, if◌then◌else◌}
 use Rattle.source_defs.specs.Lines.{lines}
 use Rattle.source_defs.specs.Refusals.{Refusal, ◌>>=◌, at_line}
 use Rattle.source_defs.specs.Layout.{laid, laid_behind, numbered}
-use Rattle.module_defs.specs.declared.causes.AsmCause.{AsmCause}
-use Rattle.module_defs.specs.Locations.{Line}
-use Rattle.module_defs.specs.FirstChecks.{check}
+use Rattle.asm_defs.specs.declared.causes.AsmCause.{AsmCause}
+use Rattle.asm_defs.specs.Locations.{Line}
+use Rattle.asm_defs.specs.FirstChecks.{check}
 use Rattle.source_defs.specs.Layout.{has_ended}
 use Rattle.asm_core.specs.Building.{Takes, HasTaken}
 use Rattle.asm_core.specs.Finishing.{TakesText}

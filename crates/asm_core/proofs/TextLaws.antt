@@ -12,25 +12,25 @@ use Rattle.source_defs.specs.Layout.{laid, laid_behind, settled}
 use Rattle.object_defs.specs.declared.spot.Spot.{Spot}
 use Rattle.object_defs.specs.declared.spot.Piece.{Piece}
 use Rattle.object_defs.specs.Modules.{Module, Definition, Reference, HasText, StandsEven, number_of}
-use Rattle.module_defs.specs.declared.causes.AsmCause.{AsmCause}
-use Rattle.module_defs.specs.declared.causes.AsmCause.TheVariants.{Overflow, Overlap}
-use Rattle.module_defs.specs.declared.content.Content.{Content}
-use Rattle.module_defs.specs.declared.content.Content.TheVariants.{Byte, First, Second}
-use Rattle.module_defs.specs.declared.location.Part.{Part}
-use Rattle.module_defs.specs.declared.location.Part.TheVariants as part
-use Rattle.module_defs.specs.declared.location.Location.{Location}
-use Rattle.module_defs.specs.Statements.{Statement, Nothing, Instruction, Aorg, Rorg, Dorg, Bss, Bes, Even, Equ, Data, Byte as ByteLine, Text, Def, Ref, Idt}
-use Rattle.module_defs.specs.Statements.{Titl, End}
-use Rattle.module_defs.specs.Locations.{Line, place}
-use Rattle.module_defs.specs.FirstChecks.{check, names, same_name, checked, known_of, line_of, lists_too_many, has_too_many, defs, refs, defs_in, refs_in}
-use Rattle.module_defs.specs.SecondChecks.{Outcome, Words, Bytes, Entry, outcome}
-use Rattle.module_defs.specs.SecondChecks as second
-use Rattle.module_defs.specs.Memory.{Settled, spot_by, joined, pieces_at, pieces_from, pieces_in, content_at, is_word, words_in, word_count, count_from, one_if}
-use Rattle.module_defs.specs.Memory.{part_words, with_use, behind_word, behind_words, behind_by, references_of, is_placed_in, is_placed, overlaps}
-use Rattle.module_defs.specs.Modules.{settle, module_by, module_of, definition_in, unused}
-use Rattle.module_defs.proofs.CheckLaws.{bound, checked_few}
-use Rattle.asm_image.proofs.TableLaws.{count_same, count_none}
-use Rattle.asm_image.proofs.HoldingLaws.{content_some}
+use Rattle.asm_defs.specs.declared.causes.AsmCause.{AsmCause}
+use Rattle.asm_defs.specs.declared.causes.AsmCause.TheVariants.{Overflow, Overlap}
+use Rattle.asm_defs.specs.declared.content.Content.{Content}
+use Rattle.asm_defs.specs.declared.content.Content.TheVariants.{Byte, First, Second}
+use Rattle.asm_defs.specs.declared.location.Part.{Part}
+use Rattle.asm_defs.specs.declared.location.Part.TheVariants as part
+use Rattle.asm_defs.specs.declared.location.Location.{Location}
+use Rattle.asm_defs.specs.Statements.{Statement, Nothing, Instruction, Aorg, Rorg, Dorg, Bss, Bes, Even, Equ, Data, Byte as ByteLine, Text, Def, Ref, Idt}
+use Rattle.asm_defs.specs.Statements.{Titl, End}
+use Rattle.asm_defs.specs.Locations.{Line, place}
+use Rattle.asm_defs.specs.FirstChecks.{check, names, same_name, checked, known_of, line_of, lists_too_many, has_too_many, defs, refs, defs_in, refs_in}
+use Rattle.asm_defs.specs.SecondChecks.{Outcome, Words, Bytes, Entry, outcome}
+use Rattle.asm_defs.specs.SecondChecks as second
+use Rattle.asm_defs.specs.Memory.{Settled, spot_by, joined, pieces_at, pieces_from, pieces_in, content_at, is_word, words_in, word_count, count_from, one_if}
+use Rattle.asm_defs.specs.Memory.{part_words, with_use, behind_word, behind_words, behind_by, references_of, is_placed_in, is_placed, overlaps}
+use Rattle.asm_defs.specs.Modules.{settle, module_by, module_of, definition_in, unused}
+use Rattle.asm_defs.proofs.CheckLaws.{bound, checked_few}
+use Rattle.module_image.proofs.TableLaws.{count_same, count_none}
+use Rattle.module_image.proofs.HoldingLaws.{content_some}
 
 -- words stand at even places
 all_append : {A : Type 0} (P : A → Type 0) (first second : List A) → AllByRecursion P first → AllByRecursion P second → AllByRecursion P (first ++ second)

@@ -2,13 +2,13 @@
 use Rattle.std.proofs.Common.{◌≡◌, ◌+◌, ◌++◌, ◌∷◌, List, ℕ, Ok, Err, true, false, Some, None, Bool, refl, sym, ap, subst, ◌∙◌, append-nil}
 use Rattle.std.specs.Prelude.{Result, Option, OnOk, IsErrAnd, is_some, option_to_list}
 use Rattle.std.proofs.Common.{Vec, Global}
-use Rattle.module_defs.specs.FirstChecks.{defs_in, refs_in}
+use Rattle.asm_defs.specs.FirstChecks.{defs_in, refs_in}
 use Rattle.source_defs.specs.Symbols.{Names}
 use Rattle.source_defs.specs.Growing.{Grows}
-use Rattle.module_defs.specs.declared.location.Location.{Location}
-use Rattle.module_defs.specs.Locations.{Line, behind, place}
-use Rattle.module_defs.specs.Memory.{Settled}
-use Rattle.asm_image.specs.declared.image.Image.{Image}
+use Rattle.asm_defs.specs.declared.location.Location.{Location}
+use Rattle.asm_defs.specs.Locations.{Line, behind, place}
+use Rattle.asm_defs.specs.Memory.{Settled}
+use Rattle.module_image.specs.declared.image.Image.{Image}
 use Rattle.asm_checks.specs.Defined.{defined_statement}
 use Rattle.asm_checks.specs.declared.first_checks.Checked.{Checked}
 use Rattle.asm_core.specs.declared.judge.Claim.{Claim}

@@ -6,21 +6,21 @@ use Rattle.source_defs.specs.Orders.{onto}
 use Rattle.source_defs.specs.Symbols.{Names, look_up}
 use Rattle.source_defs.specs.Growing.{Grows, is_closed}
 use Rattle.object_defs.specs.Modules.{Reference}
-use Rattle.module_defs.specs.declared.causes.AsmCause.{AsmCause}
-use Rattle.module_defs.specs.declared.causes.AsmCause.TheVariants.{Overflow, Overlap}
-use Rattle.module_defs.specs.declared.content.Content.{Content}
-use Rattle.module_defs.specs.declared.location.Location.{Location}
-use Rattle.module_defs.specs.Locations.{Line, place}
-use Rattle.module_defs.specs.Statements.{Statement, said_of}
-use Rattle.module_defs.specs.SecondChecks.{Outcome, outcome}
-use Rattle.module_defs.specs.Memory.{Settled, contents_by, references_of, is_placed_in}
-use Rattle.module_defs.specs.Modules.{settle, with_room}
-use Rattle.module_defs.specs.Growing.{is_open, stands, held_place}
+use Rattle.asm_defs.specs.declared.causes.AsmCause.{AsmCause}
+use Rattle.asm_defs.specs.declared.causes.AsmCause.TheVariants.{Overflow, Overlap}
+use Rattle.asm_defs.specs.declared.content.Content.{Content}
+use Rattle.asm_defs.specs.declared.location.Location.{Location}
+use Rattle.asm_defs.specs.Locations.{Line, place}
+use Rattle.asm_defs.specs.Statements.{Statement, said_of}
+use Rattle.asm_defs.specs.SecondChecks.{Outcome, outcome}
+use Rattle.asm_defs.specs.Memory.{Settled, contents_by, references_of, is_placed_in}
+use Rattle.asm_defs.specs.Modules.{settle, with_room}
+use Rattle.asm_defs.specs.Growing.{is_open, stands, held_place}
 use Rattle.asm_checks.specs.Answers.{Causes}
 use Rattle.asm_checks.proofs.Failures.{caused, causes_on}
-use Rattle.asm_image.specs.Standing.{StandsBehind, AllStand}
-use Rattle.asm_image.specs.declared.image.Image.{Image}
-use Rattle.asm_image.proofs.SwapLaws.{stands_alone, no_room, has_own_room, are_causes}
+use Rattle.module_image.specs.Standing.{StandsBehind, AllStand}
+use Rattle.module_image.specs.declared.image.Image.{Image}
+use Rattle.module_image.proofs.SwapLaws.{stands_alone, no_room, has_own_room, are_causes}
 use Rattle.asm_core.specs.declared.pending.Pending.{Pending}
 use Rattle.asm_core.specs.declared.pending.Refused.{Refused}
 use Rattle.asm_core.specs.declared.lines.AsmLines.{AsmLines}

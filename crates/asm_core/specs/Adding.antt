@@ -1,9 +1,9 @@
 -- What a builder adds of a line.
 use Rattle.std.specs.Prelude.{◌≡◌, ℕ, ◌+◌, ◌++◌, List, ◌∷◌, Ok}
 use Rattle.source_defs.specs.Growing.{Grows}
-use Rattle.module_defs.specs.Locations.{Line, place, behind}
-use Rattle.module_defs.specs.Statements.{said_of}
-use Rattle.module_defs.specs.FirstChecks.{defs_in, refs_in}
+use Rattle.asm_defs.specs.Locations.{Line, place, behind}
+use Rattle.asm_defs.specs.Statements.{said_of}
+use Rattle.asm_defs.specs.FirstChecks.{defs_in, refs_in}
 use Rattle.asm_checks.specs.Defined.{defined_statement}
 use Rattle.asm_checks.specs.declared.first_checks.Checked.{Checked}
 use Rattle.asm_core.specs.declared.lines.AsmLines.{AsmLines}

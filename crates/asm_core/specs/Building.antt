@@ -6,20 +6,20 @@ use Rattle.source_defs.specs.Symbols.{Names, look_up}
 use Rattle.source_defs.specs.Growing.{is_closed}
 use Rattle.source_defs.specs.Layout.{laid, numbered, has_ended}
 use Rattle.object_defs.specs.Modules.{Reference}
-use Rattle.module_defs.specs.declared.causes.AsmCause.{AsmCause}
-use Rattle.module_defs.specs.Statements.{said_of}
-use Rattle.module_defs.specs.Locations.{Line, location, place, reached}
-use Rattle.module_defs.specs.FirstChecks.{names, defs, refs, check}
-use Rattle.module_defs.specs.SecondChecks.{outcome}
-use Rattle.module_defs.specs.Memory.{Settled}
-use Rattle.module_defs.specs.Modules.{title, settle, with_room}
-use Rattle.module_defs.specs.Growing.{is_open, held_place}
+use Rattle.asm_defs.specs.declared.causes.AsmCause.{AsmCause}
+use Rattle.asm_defs.specs.Statements.{said_of}
+use Rattle.asm_defs.specs.Locations.{Line, location, place, reached}
+use Rattle.asm_defs.specs.FirstChecks.{names, defs, refs, check}
+use Rattle.asm_defs.specs.SecondChecks.{outcome}
+use Rattle.asm_defs.specs.Memory.{Settled}
+use Rattle.asm_defs.specs.Modules.{title, settle, with_room}
+use Rattle.asm_defs.specs.Growing.{is_open, held_place}
 use Rattle.asm_checks.specs.Answers.{Causes}
 use Rattle.asm_checks.specs.declared.failure.Failure.{Failure}
 use Rattle.asm_checks.specs.declared.failure.Failure.TheVariants as failure
-use Rattle.asm_image.specs.Images.{IsImage}
-use Rattle.asm_image.specs.Standing.{AllStand}
-use Rattle.asm_image.specs.declared.image.Image.{Image}
+use Rattle.module_image.specs.Images.{IsImage}
+use Rattle.module_image.specs.Standing.{AllStand}
+use Rattle.module_image.specs.declared.image.Image.{Image}
 use Rattle.asm_core.specs.declared.lines.AsmLines.{AsmLines}
 use Rattle.asm_core.specs.declared.error.AsmError.{AsmError}
 use Rattle.asm_core.specs.declared.error.AsmError.TheVariants as error

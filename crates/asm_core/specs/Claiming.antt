@@ -2,12 +2,12 @@
 use Rattle.std.specs.Prelude.{◌≡◌, ◌+◌, Bool, true, false, List, [], ◌∷◌, ◌++◌, Option, Some, None, Result, Ok, Err}
 use Rattle.source_defs.specs.Refusals.{seen}
 use Rattle.object_defs.specs.Modules.{Reference}
-use Rattle.module_defs.specs.declared.causes.AsmCause.{AsmCause}
-use Rattle.module_defs.specs.declared.content.Content.{Content}
-use Rattle.module_defs.specs.declared.location.Location.{Location}
-use Rattle.module_defs.specs.Memory.{Settled, contents, is_placed_in}
-use Rattle.module_defs.specs.Modules.{with_room}
-use Rattle.asm_image.specs.declared.image.Image.{Image}
+use Rattle.asm_defs.specs.declared.causes.AsmCause.{AsmCause}
+use Rattle.asm_defs.specs.declared.content.Content.{Content}
+use Rattle.asm_defs.specs.declared.location.Location.{Location}
+use Rattle.asm_defs.specs.Memory.{Settled, contents, is_placed_in}
+use Rattle.asm_defs.specs.Modules.{with_room}
+use Rattle.module_image.specs.declared.image.Image.{Image}
 use Rattle.asm_core.specs.Keeping.{SameNames, StandsStill}
 use Rattle.asm_core.specs.Building.{ImageOf}
 use Rattle.asm_core.specs.declared.lines.AsmLines.{AsmLines}

@@ -5,17 +5,17 @@ use Rattle.source_defs.specs.Refusals.{◌>>=◌}
 use Rattle.source_defs.specs.Symbols.{Names, look_up}
 use Rattle.object_defs.specs.Modules.{Reference}
 use Rattle.object_tags.specs.Seen.{defined_ref}
-use Rattle.module_defs.specs.declared.causes.AsmCause.{AsmCause}
-use Rattle.module_defs.specs.declared.location.Location.{Location}
-use Rattle.module_defs.specs.Statements.{Statement, said_of}
-use Rattle.module_defs.specs.SecondChecks.{Outcome, outcome}
-use Rattle.module_defs.specs.Memory.{Settled, bytes_in, references_of}
-use Rattle.module_defs.specs.Modules.{entry}
-use Rattle.module_defs.specs.Growing.{size_said, held_place}
+use Rattle.asm_defs.specs.declared.causes.AsmCause.{AsmCause}
+use Rattle.asm_defs.specs.declared.location.Location.{Location}
+use Rattle.asm_defs.specs.Statements.{Statement, said_of}
+use Rattle.asm_defs.specs.SecondChecks.{Outcome, outcome}
+use Rattle.asm_defs.specs.Memory.{Settled, bytes_in, references_of}
+use Rattle.asm_defs.specs.Modules.{entry}
+use Rattle.asm_defs.specs.Growing.{size_said, held_place}
 use Rattle.asm_checks.specs.Answers.{Fails}
 use Rattle.asm_checks.specs.declared.failure.Failure.{Failure}
-use Rattle.asm_image.specs.Images.{IsImage}
-use Rattle.asm_image.specs.Standing.{AllStand, FillsPlace}
+use Rattle.module_image.specs.Images.{IsImage}
+use Rattle.module_image.specs.Standing.{AllStand, FillsPlace}
 use Rattle.asm_core.specs.declared.draft.Draft.{Draft}
 use Rattle.asm_core.specs.declared.pending.Pending.{Pending}
 

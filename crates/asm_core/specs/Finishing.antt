@@ -5,18 +5,18 @@ use Rattle.source_defs.specs.Orders.{onto}
 use Rattle.source_defs.specs.Symbols.{Names}
 use Rattle.source_defs.specs.Layout.{settled, laid, numbered}
 use Rattle.source_defs.specs.declared.causes.ExprError.TheVariants as expr
-use Rattle.asm_defs.specs.declared.causes.FormError.TheVariants as form
+use Rattle.instruction_defs.specs.declared.causes.FormError.TheVariants as form
 use Rattle.object_defs.specs.Modules as object
 use Rattle.object_defs.specs.Modules.{Reference}
 use Rattle.object_tags.specs.Seen.{defined_module}
 use Rattle.object_tags.specs.declared.parts.Module.{Module}
-use Rattle.module_defs.specs.declared.causes.AsmCause.{AsmCause}
-use Rattle.module_defs.specs.declared.causes.AsmCause.TheVariants as cause
-use Rattle.module_defs.specs.Locations.{Line, reached}
-use Rattle.module_defs.specs.Memory.{Settled}
-use Rattle.module_defs.specs.Modules.{settle, title}
-use Rattle.module_defs.specs.FirstChecks.{check, names, defs}
-use Rattle.asm_image.specs.Standing.{SamePlaces}
+use Rattle.asm_defs.specs.declared.causes.AsmCause.{AsmCause}
+use Rattle.asm_defs.specs.declared.causes.AsmCause.TheVariants as cause
+use Rattle.asm_defs.specs.Locations.{Line, reached}
+use Rattle.asm_defs.specs.Memory.{Settled}
+use Rattle.asm_defs.specs.Modules.{settle, title}
+use Rattle.asm_defs.specs.FirstChecks.{check, names, defs}
+use Rattle.module_image.specs.Standing.{SamePlaces}
 use Rattle.asm_core.specs.Building.{HasTaken}
 use Rattle.asm_core.specs.declared.lines.AsmLines.{AsmLines}
 use Rattle.asm_core.specs.declared.error.AsmError.{AsmError}

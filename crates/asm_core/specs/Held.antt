@@ -1,9 +1,9 @@
 -- What a line that waits says has room in its part.
 use Rattle.std.specs.Prelude.{◌+◌, ℕ, Bool, false, nat_le, List, Result, Ok, Err}
-use Rattle.module_defs.specs.declared.causes.AsmCause.{AsmCause}
-use Rattle.module_defs.specs.declared.location.Location.{Location}
-use Rattle.module_defs.specs.Statements.{Statement, said_of}
-use Rattle.module_defs.specs.Growing.{size_said}
+use Rattle.asm_defs.specs.declared.causes.AsmCause.{AsmCause}
+use Rattle.asm_defs.specs.declared.location.Location.{Location}
+use Rattle.asm_defs.specs.Statements.{Statement, said_of}
+use Rattle.asm_defs.specs.Growing.{size_said}
 
 abbrev pub has_room_by : Location → Result Statement AsmCause → Bool
 has_room_by at (Ok statement) = nat_le (at.number + size_said statement) 65536

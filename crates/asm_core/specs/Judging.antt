@@ -1,13 +1,13 @@
 -- What is known of a line while names are still to come.
 use Rattle.std.specs.Prelude.{◌≡◌, ⊤, ℕ, ◌+◌, ◌≤◌, true, false, List, [], length, Option, Some, None, Ok}
 use Rattle.source_defs.specs.Symbols.{Names, look_up}
-use Rattle.module_defs.specs.declared.causes.AsmCause.{AsmCause}
-use Rattle.module_defs.specs.declared.content.Content.{Content}
-use Rattle.module_defs.specs.declared.location.Location.{Location}
-use Rattle.module_defs.specs.Statements.{Statement}
-use Rattle.module_defs.specs.SecondChecks.{Outcome, outcome}
-use Rattle.module_defs.specs.Memory.{contents_by, is_placed_in}
-use Rattle.module_defs.specs.Growing.{is_open, stands, size_said, held_place}
+use Rattle.asm_defs.specs.declared.causes.AsmCause.{AsmCause}
+use Rattle.asm_defs.specs.declared.content.Content.{Content}
+use Rattle.asm_defs.specs.declared.location.Location.{Location}
+use Rattle.asm_defs.specs.Statements.{Statement}
+use Rattle.asm_defs.specs.SecondChecks.{Outcome, outcome}
+use Rattle.asm_defs.specs.Memory.{contents_by, is_placed_in}
+use Rattle.asm_defs.specs.Growing.{is_open, stands, size_said, held_place}
 use Rattle.asm_checks.specs.Answers.{Causes}
 use Rattle.asm_core.specs.Held.{has_room}
 use Rattle.asm_core.specs.declared.pending.Pending.{Pending}

@@ -4,7 +4,7 @@ use Rattle.source_defs.specs.Growing.{Grows}
 use Rattle.source_defs.specs.Symbols.{Names}
 use Rattle.source_defs.specs.Layout.{with_names}
 use Rattle.asm_text.specs.GivenValues.{defined_value}
-use Rattle.module_defs.specs.FirstChecks.{Before, label_entry, external_entries, defs_in, refs_in}
+use Rattle.asm_defs.specs.FirstChecks.{Before, label_entry, external_entries, defs_in, refs_in}
 use Rattle.asm_checks.specs.Defined.{defined_statement}
 use Rattle.asm_checks.specs.declared.first_checks.Checked.{Checked}
 use Rattle.asm_core.specs.declared.lines.AsmLines.{AsmLines}

@@ -3,15 +3,15 @@
 ghost use Rattle.std.specs.Prelude.{◌≡◌, ◌↔◌, ◌<◌, ◌-◌, ◌^◌, ℕ, false, List, [], length};
 ghost use Rattle.std.specs.List.{AllByRecursion};
 ghost use Rattle.source_defs.specs.Layout.{has_ended};
-ghost use Rattle.module_defs.specs.Modules.{module_of_lines, module_of_source, title};
+ghost use Rattle.asm_defs.specs.Modules.{module_of_lines, module_of_source, title};
 ghost use Rattle.asm_core.specs.Building.{HasTaken, IsOpen, CanCount};
 ghost use Rattle.asm_core.specs.Finishing.{TakesText, GivesModule};
 ghost use Rattle.ended_lines.specs.Texts.{IsOneLine, text_of};
 
 use crate::error::AsmError;
 use crate::lines::AsmLines;
+use asm_defs::{Location, Part};
 use asm_text::Symbols;
-use module_defs::{Location, Part};
 use object_tags::{Module, ModuleName};
 use std::alloc::Global;
 

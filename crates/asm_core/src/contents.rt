@@ -3,15 +3,15 @@
 ghost use Rattle.std.specs.Prelude.{◌≡◌, ◌≤◌, ◌+◌, ◌*◌, map, true, length, IfOk, OnOk};
 ghost use Rattle.object_tags.specs.Seen.{defined_ref};
 ghost use Rattle.asm_forms.specs.Placed.{defined_word, defined_words};
-ghost use Rattle.module_defs.specs.Memory as spec;
-ghost use Rattle.module_defs.specs.declared.content.Content.TheVariants.{Byte};
+ghost use Rattle.asm_defs.specs.Memory as spec;
+ghost use Rattle.asm_defs.specs.declared.content.Content.TheVariants.{Byte};
 ghost use Rattle.asm_checks.specs.Outcomes.{defined_outcome};
 
 use crate::references::use_name;
 use asm_checks::Outcome;
+use asm_defs::{Content, Location};
 use asm_forms::Word;
-use asm_image::spot_at;
-use module_defs::{Content, Location};
+use module_image::spot_at;
 use object_defs::Spot;
 use object_tags::Ref;
 use std::alloc::{AllocError, Global};

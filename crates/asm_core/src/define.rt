@@ -8,7 +8,7 @@ ghost use Rattle.source_defs.specs.Symbols.{registers};
 ghost use Rattle.source_defs.specs.Growing.{Grows};
 ghost use Rattle.source_defs.specs.Layout.{with_names};
 ghost use Rattle.asm_text.specs.GivenValues.{defined_value};
-ghost use Rattle.module_defs.specs.FirstChecks.{label_entry, external_entries};
+ghost use Rattle.asm_defs.specs.FirstChecks.{label_entry, external_entries};
 
 use asm_text::{DefineError, Name, Symbols, Value};
 use std::alloc::AllocError;

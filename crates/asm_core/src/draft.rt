@@ -3,8 +3,8 @@
 ghost use Rattle.std.specs.Prelude.{◌≡◌, ◌≤◌, ◌+◌, List, OnOk, IfOk, map};
 ghost use Rattle.object_defs.specs.Modules.{Reference};
 ghost use Rattle.object_tags.specs.Seen.{defined_ref};
-ghost use Rattle.module_defs.specs.Memory as memory;
-ghost use Rattle.module_defs.specs.Modules.{unused, entry_by};
+ghost use Rattle.asm_defs.specs.Memory as memory;
+ghost use Rattle.asm_defs.specs.Modules.{unused, entry_by};
 ghost use Rattle.asm_checks.specs.Outcomes.{defined_outcome};
 ghost use Rattle.asm_core.specs.Drafts.{Fills, FillsBytes, Settles};
 
@@ -12,9 +12,9 @@ use crate::contents::contents;
 use crate::judge::is_dummy;
 use crate::pending::Pending;
 use asm_checks::{Failure, Outcome, Scope, statement_in};
-use asm_image::Image;
+use asm_defs::{AsmCause, Location};
 use asm_text::{Name, Symbols, fields};
-use module_defs::{AsmCause, Location};
+use module_image::Image;
 use object_defs::Spot;
 use object_tags::Ref;
 use std::alloc::{AllocError, Global};

@@ -3,7 +3,7 @@
 ghost use Rattle.std.specs.Prelude.{◌≡◌};
 ghost use Rattle.asm_core.specs.declared.error.AsmError.TheVariants.{Memory};
 
-use module_defs::AsmCause;
+use asm_defs::AsmCause;
 use std::alloc::AllocError;
 
 /// Why an assembler source is not assembled.

@@ -1,8 +1,8 @@
 //! What is known of a line while names are still to come.
 
 ghost use Rattle.std.specs.Prelude.{◌≡◌, ◌≤◌, ◌+◌, IfOk, true, not};
-ghost use Rattle.module_defs.specs.Memory as memory;
-ghost use Rattle.module_defs.specs.Growing.{size_said, held_place};
+ghost use Rattle.asm_defs.specs.Memory as memory;
+ghost use Rattle.asm_defs.specs.Growing.{size_said, held_place};
 ghost use Rattle.asm_checks.specs.Defined.{defined_statement};
 ghost use Rattle.asm_checks.specs.Moves.{MovesLittle};
 ghost use Rattle.asm_checks.specs.Outcomes.{defined_outcome};
@@ -13,8 +13,8 @@ ghost use Rattle.asm_core.specs.Judging.{Judges, HasRoom, GivesBytes, IsPending}
 use crate::contents::contents;
 use crate::pending::Pending;
 use asm_checks::{Failure, Outcome, Said, Scope, is_open, size_said};
+use asm_defs::{AsmCause, Content, Location, Part};
 use asm_text::Symbols;
-use module_defs::{AsmCause, Content, Location, Part};
 use std::alloc::{AllocError, Global};
 
 /// What a line claims of the places that it takes.

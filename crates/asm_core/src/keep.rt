@@ -2,7 +2,7 @@
 
 ghost use Rattle.std.specs.Prelude.{◌≡◌, ◌++◌, OnOk, OnErr, option_to_list};
 ghost use Rattle.source_defs.specs.Growing.{Grows};
-ghost use Rattle.module_defs.specs.FirstChecks.{defs_in, refs_in};
+ghost use Rattle.asm_defs.specs.FirstChecks.{defs_in, refs_in};
 ghost use Rattle.asm_checks.specs.Defined.{defined_statement};
 ghost use Rattle.asm_checks.specs.Checks.{defined_before, KnowsPlaces, ListsNames};
 ghost use Rattle.asm_core.specs.Keeping.{known_in, names_with, Keeps, IsUnchanged, StartsAs, SameLists, SameNames};

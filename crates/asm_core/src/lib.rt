@@ -21,4 +21,4 @@ pub use crate::error::AsmError;
 pub use crate::laws::modules_have_texts;
 pub use crate::lines::AsmLines;
 pub use crate::source::assemble;
-pub use module_defs::AsmCause;
+pub use asm_defs::AsmCause;

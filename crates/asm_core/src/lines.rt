@@ -1,12 +1,12 @@
 //! The assembler as a builder that takes its lines one at a time.
 
 ghost use Rattle.std.specs.Prelude.{◌≡◌, ◌≤◌, true};
-ghost use Rattle.module_defs.specs.Locations as places;
+ghost use Rattle.asm_defs.specs.Locations as places;
 
 use crate::pending::{Pending, Refused};
-use asm_image::Image;
+use asm_defs::Location;
 use asm_text::{Name, Symbols};
-use module_defs::Location;
+use module_image::Image;
 use object_tags::ModuleName;
 use std::alloc::Global;
 

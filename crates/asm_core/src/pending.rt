@@ -3,7 +3,7 @@
 ghost use Rattle.std.specs.Prelude.{◌≡◌, true};
 ghost use Rattle.asm_core.specs.Held.{has_room};
 
-use module_defs::{AsmCause, Location};
+use asm_defs::{AsmCause, Location};
 
 /// A line of which a value is still open: a name that is unknown so far, or a use of one that others define.
 #[derive(Drop)]

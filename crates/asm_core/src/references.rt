@@ -2,7 +2,7 @@
 
 ghost use Rattle.std.specs.Prelude.{◌≡◌, map};
 ghost use Rattle.object_tags.specs.Seen.{defined_ref};
-ghost use Rattle.module_defs.specs.Memory as spec;
+ghost use Rattle.asm_defs.specs.Memory as spec;
 
 use asm_text::Name;
 use object_defs::Spot;

@@ -1,8 +1,8 @@
 //! What a builder does with what is known of a line.
 
 ghost use Rattle.std.specs.Prelude.{◌≡◌, ◌<◌, ◌≤◌, ◌+◌, ◌-◌, ◌^◌, List, length, IsSome, IfOk, OnOk, true};
-ghost use Rattle.module_defs.specs.Locations as places;
-ghost use Rattle.module_defs.specs.Memory.{Settled};
+ghost use Rattle.asm_defs.specs.Locations as places;
+ghost use Rattle.asm_defs.specs.Memory.{Settled};
 ghost use Rattle.asm_checks.specs.Defined.{defined_statement};
 ghost use Rattle.asm_checks.specs.Moves.{MovesWithin};
 ghost use Rattle.asm_checks.specs.Checks.{IsSaidOf};
@@ -14,8 +14,8 @@ use crate::judge::{Claim, Judge, Judged};
 use crate::lines::AsmLines;
 use crate::pending::Refused;
 use asm_checks::{Checked, behind};
-use asm_image::Image;
-use module_defs::{AsmCause, Content, Location};
+use asm_defs::{AsmCause, Content, Location};
+use module_image::Image;
 use std::alloc::AllocError;
 
 impl AsmLines {

@@ -1,7 +1,7 @@
 //! A source as a module.
 
 ghost use Rattle.std.specs.Prelude.{◌≡◌, ◌<◌, ◌^◌, length};
-ghost use Rattle.module_defs.specs.Modules.{module_of_source};
+ghost use Rattle.asm_defs.specs.Modules.{module_of_source};
 ghost use Rattle.asm_core.specs.Finishing.{GivesModule};
 
 use crate::error::AsmError;

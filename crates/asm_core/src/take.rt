@@ -1,10 +1,10 @@
 //! A line that a builder takes.
 
 ghost use Rattle.std.specs.Prelude.{◌≡◌, ◌<◌, ◌≤◌, ◌+◌, ◌-◌, ◌^◌, ◌||◌, true, max, List, OnOk, OnErr};
-ghost use Rattle.module_defs.specs.Locations as places;
-ghost use Rattle.module_defs.specs.Modules.{title_by};
-ghost use Rattle.module_defs.specs.FirstChecks as spec;
-ghost use Rattle.module_defs.proofs.CheckLaws.{IsTitled};
+ghost use Rattle.asm_defs.specs.Locations as places;
+ghost use Rattle.asm_defs.specs.Modules.{title_by};
+ghost use Rattle.asm_defs.specs.FirstChecks as spec;
+ghost use Rattle.asm_defs.proofs.CheckLaws.{IsTitled};
 ghost use Rattle.asm_checks.specs.Defined.{defined_statement};
 ghost use Rattle.asm_checks.specs.Moves.{defined_move, MovesWithin};
 ghost use Rattle.asm_checks.specs.Checks.{IsSaidOf, ListsNames};
@@ -17,7 +17,7 @@ use crate::error::AsmError;
 use crate::judge::Judged;
 use crate::lines::AsmLines;
 use asm_checks::{Checked, Failure, Statement, behind, location_behind, title_in};
-use module_defs::{Location, Part};
+use asm_defs::{Location, Part};
 use object_tags::ModuleName;
 use std::alloc::AllocError;
 

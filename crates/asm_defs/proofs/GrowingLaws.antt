@@ -1,64 +1,108 @@
--- An instruction whose names are known has the words that it has when more are known.
-use Rattle.std.proofs.Common.{◌≡◌, ℕ, List, [], ◌∷◌, Some, Ok, Err, ap}
+-- A line whose names are known comes to what it comes to when more are known.
+use Rattle.std.proofs.Common.{◌≡◌, ℕ, List, [], ◌∷◌, Some, None, Ok, Err, ap}
 use Rattle.std.specs.Prelude.{Option, Result}
 use Rattle.source_defs.specs.declared.causes.ExprError.{ExprError}
-use Rattle.source_defs.specs.Expression.{Value, expression}
+use Rattle.source_defs.specs.Refusals.{◌>>=◌}
+use Rattle.source_defs.specs.Expression.{Value, expression, known_value}
 use Rattle.source_defs.specs.Growing as expressions
-use Rattle.source_defs.proofs.GrowingLaws.{Stays, stays_same, stays_then, expression_stays}
-use Rattle.asm_defs.specs.declared.slot.Slot.{Slot}
-use Rattle.asm_defs.specs.declared.slot.Slot.TheVariants.{General, Register, Count, Immediate, Target, Displacement}
-use Rattle.asm_defs.specs.Operands.{slots_of}
-use Rattle.asm_defs.specs.Forms.{Form, Plain, Indirect, Increment, Symbolic, Indexed}
-use Rattle.asm_defs.specs.FirstChecks.{Skeleton, Word, Instruction}
-use Rattle.asm_defs.specs.SecondChecks.{as_form, absolute, target_in, text_in, value_of, number_of, placed, valued, all_valued, all_ranged, second_checks}
+use Rattle.source_defs.proofs.GrowingLaws.{Stays, stays_same, stays_then, known_stays, expression_stays}
+use Rattle.instruction_defs.specs.declared.causes.FormError.{FormError}
+use Rattle.instruction_defs.specs.FirstChecks.{Skeleton, first_checks}
+use Rattle.instruction_defs.specs.SecondChecks.{absolute, second_checks}
+use Rattle.instruction_defs.specs.Growing as instructions
+use Rattle.instruction_defs.proofs.GrowingLaws.{words_stay}
+use Rattle.asm_defs.specs.declared.location.Location.{Location}
+use Rattle.asm_defs.specs.Locations.{behind, value_of}
+use Rattle.asm_defs.specs.Statements as said
+use Rattle.asm_defs.specs.Statements.{Statement, Instruction, Aorg, Rorg, Dorg, Bss, Bes, Even, Equ, Data, Byte, Text, Def, Ref, Idt, Titl, End, as_form}
+use Rattle.asm_defs.specs.FirstChecks.{as_expr}
+use Rattle.asm_defs.specs.SecondChecks.{Outcome, Nothing, used_at, entry_at, value, word_in, data_values, absolute_in, byte_values, bytes_of, defined_here}
+use Rattle.asm_defs.specs.SecondChecks.{defs_known, entry_in, instruction_outcome, outcome}
 use Rattle.asm_defs.specs.Growing.{is_open}
 
-form_stays : {A : Type 0} (first second : Result A ExprError) → Stays expressions.is_open first second → Stays is_open (as_form first) (as_form second)
+expr_stays : {A : Type 0} (first second : Result A ExprError) → Stays expressions.is_open first second → Stays is_open (as_expr first) (as_expr second)
+expr_stays (Ok value) second same closed = ap as_expr (same closed)
+expr_stays (Err cause) second same closed = ap as_expr (same closed)
+
+form_stays : {A : Type 0} (first second : Result A FormError) → Stays instructions.is_open first second → Stays is_open (as_form first) (as_form second)
 form_stays (Ok value) second same closed = ap as_form (same closed)
 form_stays (Err cause) second same closed = ap as_form (same closed)
 
-module _ (look more : List ℕ → Option Value) (grows : (name : List ℕ) (value : Value) → look name ≡ Some value → more name ≡ Some value) (here : Value) where
-  value_stays : (text : List ℕ) → Stays is_open (value_of look here text) (value_of more here text)
-  value_stays text = form_stays (expression look here text) (expression more here text) (expression_stays look more grows here text)
+module _ (look more : List ℕ → Option Value) (grows : (name : List ℕ) (value : Value) → look name ≡ Some value → more name ≡ Some value) (at : Location) where
+  value_stays : (text : List ℕ) → Stays expressions.is_open (value look at text) (value more at text)
+  value_stays text = expression_stays look more grows (value_of at) text
 
-  number_stays : (text : List ℕ) → Stays is_open (number_of look here text) (number_of more here text)
-  number_stays text =
-      stays_then is_open (value_of look here text) (value_of more here text) _ _ (value_stays text) (λ value. stays_same is_open (as_form (absolute value)))
+  word_stays : (place : Location) (text : List ℕ) → Stays expressions.is_open (word_in look at place text) (word_in more at place text)
+  word_stays place text =
+      stays_then expressions.is_open (value look at text) (value more at text) _ _ (value_stays text) (λ value. stays_same expressions.is_open (used_at place value))
 
-  placed_stays : (form : Form) → Stays is_open (placed look here form) (placed more here form)
-  placed_stays (Plain text) = stays_then is_open (number_of look here text) (number_of more here text) _ _ (number_stays text) (λ number. stays_same is_open _)
-  placed_stays (Indirect text) = stays_then is_open (number_of look here text) (number_of more here text) _ _ (number_stays text) (λ number. stays_same is_open _)
-  placed_stays (Increment text) = stays_then is_open (number_of look here text) (number_of more here text) _ _ (number_stays text) (λ number. stays_same is_open _)
-  placed_stays (Symbolic text) = stays_then is_open (value_of look here text) (value_of more here text) _ _ (value_stays text) (λ value. stays_same is_open _)
-  placed_stays (Indexed text index) =
-      stays_then is_open (value_of look here text) (value_of more here text) _ _ (value_stays text)
-      (λ value. stays_then is_open (number_of look here index) (number_of more here index) _ _ (number_stays index) (λ number. stays_same is_open _))
+  data_stays : (place : Location) (texts : List (List ℕ)) → Stays expressions.is_open (data_values look at place texts) (data_values more at place texts)
+  data_stays place [] = stays_same expressions.is_open _
+  data_stays place (text ∷ texts) =
+      stays_then expressions.is_open (word_in look at place text) (word_in more at place text) _ _ (word_stays place text)
+      (λ first.
+      stays_then expressions.is_open (data_values look at (behind place 2) texts) (data_values more at (behind place 2) texts) _ _
+      (data_stays (behind place 2) texts) (λ others. stays_same expressions.is_open _))
 
-  valued_stays : (slot : Slot) (form : Form) → Stays is_open (valued look here slot form) (valued more here slot form)
-  valued_stays General form = placed_stays form
-  valued_stays Register form =
-      stays_then is_open (number_of look here (text_in form)) (number_of more here (text_in form)) _ _ (number_stays (text_in form)) (λ number. stays_same is_open _)
-  valued_stays Count form =
-      stays_then is_open (number_of look here (text_in form)) (number_of more here (text_in form)) _ _ (number_stays (text_in form)) (λ number. stays_same is_open _)
-  valued_stays Displacement form =
-      stays_then is_open (number_of look here (text_in form)) (number_of more here (text_in form)) _ _ (number_stays (text_in form)) (λ number. stays_same is_open _)
-  valued_stays Immediate form =
-      stays_then is_open (value_of look here (text_in form)) (value_of more here (text_in form)) _ _ (value_stays (text_in form)) (λ value. stays_same is_open _)
-  valued_stays Target form =
-      stays_then is_open (value_of look here (text_in form)) (value_of more here (text_in form)) _ _ (value_stays (text_in form)) (λ value. stays_same is_open _)
+  absolute_stays : (text : List ℕ) → Stays expressions.is_open (absolute_in look at text) (absolute_in more at text)
+  absolute_stays text =
+      stays_then expressions.is_open (value look at text) (value more at text) _ _ (value_stays text) (λ value. stays_same expressions.is_open (absolute value))
 
-  all_valued_stay : (slots : List Slot) (forms : List Form) → Stays is_open (all_valued look here slots forms) (all_valued more here slots forms)
-  all_valued_stay [] forms = stays_same is_open _
-  all_valued_stay (slot ∷ slots) [] = stays_same is_open _
-  all_valued_stay (slot ∷ slots) (form ∷ forms) =
-      stays_then is_open (valued look here slot form) (valued more here slot form) _ _ (valued_stays slot form)
-      (λ operand.
-      stays_then is_open (all_valued look here slots forms) (all_valued more here slots forms) _ _ (all_valued_stay slots forms)
-      (λ operands. stays_same is_open _))
+  bytes_stay : (texts : List (List ℕ)) → Stays expressions.is_open (byte_values look at texts) (byte_values more at texts)
+  bytes_stay [] = stays_same expressions.is_open _
+  bytes_stay (text ∷ texts) =
+      stays_then expressions.is_open (absolute_in look at text) (absolute_in more at text) _ _ (absolute_stays text)
+      (λ first.
+      stays_then expressions.is_open (byte_values look at texts) (byte_values more at texts) _ _ (bytes_stay texts)
+      (λ others. stays_same expressions.is_open _))
 
-  pub words_stay : (skeleton : Skeleton) → Stays is_open (second_checks look here skeleton) (second_checks more here skeleton)
-  unfolding second_checks
-  words_stay (Word word) = stays_same is_open _
-  words_stay (Instruction operation forms) =
-      stays_then is_open (all_valued look here (slots_of operation) forms) (all_valued more here (slots_of operation) forms) _ _
-      (all_valued_stay (slots_of operation) forms) (λ operands. stays_same is_open _)
+  defs_stay : (names : List (List ℕ)) → Stays is_open (defs_known look at names) (defs_known more at names)
+  defs_stay [] = stays_same is_open _
+  defs_stay (name ∷ names) =
+      stays_then is_open (as_expr (known_value (look name))) (as_expr (known_value (more name))) _ _
+      (expr_stays (known_value (look name)) (known_value (more name)) (known_stays (look name) (more name) (grows name)))
+      (λ value. stays_then is_open (defined_here value) (defined_here value) _ _ (stays_same is_open (defined_here value)) (λ kept. defs_stay names))
+
+  entry_stays : (text : List ℕ) → Stays expressions.is_open (entry_in look at text) (entry_in more at text)
+  entry_stays text =
+      stays_then expressions.is_open (value look at text) (value more at text) _ _ (value_stays text) (λ value. stays_same expressions.is_open (entry_at value))
+
+  skeleton_stays : (skeleton : Result Skeleton FormError)
+      → Stays instructions.is_open (skeleton >>= λ skeleton. second_checks look (value_of at) skeleton) (skeleton >>= λ skeleton. second_checks more (value_of at) skeleton)
+  skeleton_stays skeleton =
+      stays_then instructions.is_open skeleton skeleton _ _ (stays_same instructions.is_open skeleton) (λ skeleton. words_stay look more grows (value_of at) skeleton)
+
+  instruction_stays : (operation field : List ℕ) → Stays is_open (instruction_outcome look at operation field) (instruction_outcome more at operation field)
+  instruction_stays operation field =
+      stays_then is_open (as_form (first_checks operation field >>= λ skeleton. second_checks look (value_of at) skeleton))
+      (as_form (first_checks operation field >>= λ skeleton. second_checks more (value_of at) skeleton)) _ _
+      (form_stays (first_checks operation field >>= λ skeleton. second_checks look (value_of at) skeleton)
+      (first_checks operation field >>= λ skeleton. second_checks more (value_of at) skeleton) (skeleton_stays (first_checks operation field)))
+      (λ words. stays_same is_open _)
+
+  pub outcome_stays : (statement : Statement) → Stays is_open (outcome look at statement) (outcome more at statement)
+  unfolding outcome
+  outcome_stays (Instruction size operation field) = instruction_stays operation field
+  outcome_stays (Data texts) =
+      stays_then is_open (as_expr (data_values look at at texts)) (as_expr (data_values more at at texts)) _ _
+      (expr_stays (data_values look at at texts) (data_values more at at texts) (data_stays at texts)) (λ words. stays_same is_open _)
+  outcome_stays (Byte texts) =
+      stays_then is_open (as_expr (byte_values look at texts)) (as_expr (byte_values more at texts)) _ _
+      (expr_stays (byte_values look at texts) (byte_values more at texts) (bytes_stay texts)) (λ numbers. stays_same is_open _)
+  outcome_stays (Def names) = defs_stay names
+  outcome_stays (End (Some text)) =
+      stays_then is_open (as_expr (entry_in look at text)) (as_expr (entry_in more at text)) _ _
+      (expr_stays (entry_in look at text) (entry_in more at text) (entry_stays text)) (λ entry. stays_same is_open _)
+  outcome_stays (End None) = stays_same is_open _
+  outcome_stays (Text quoted) = stays_same is_open _
+  outcome_stays said.Nothing = stays_same is_open _
+  outcome_stays (Aorg text) = stays_same is_open _
+  outcome_stays (Rorg text) = stays_same is_open _
+  outcome_stays (Dorg text) = stays_same is_open _
+  outcome_stays (Bss text) = stays_same is_open _
+  outcome_stays (Bes text) = stays_same is_open _
+  outcome_stays Even = stays_same is_open _
+  outcome_stays (Equ text) = stays_same is_open _
+  outcome_stays (Ref names) = stays_same is_open _
+  outcome_stays (Idt text) = stays_same is_open _
+  outcome_stays (Titl text) = stays_same is_open _

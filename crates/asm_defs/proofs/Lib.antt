@@ -1,3 +1,4 @@
-pub mod LineRows
-pub mod Windows
+pub mod Sizes
+pub mod OutcomeSizes
+pub mod CheckLaws
 pub mod GrowingLaws

@@ -1,104 +1,272 @@
--- The first checks of an instruction line. Profile: the operation is asked first, then the number of its operands, then
--- their forms.
-use Rattle.std.specs.Prelude.{ℕ, ◌+◌, ◌*◌, ◌==◌, Bool, ◌||◌, if◌then◌else◌, List, [], ◌∷◌, length, slice_index, Option}
-use Rattle.std.specs.Prelude.{Some, None, Result, Ok, Err}
+-- The first checks of a line, by the lines before it.
+--
+-- Profile: they stand in this order. The line's length and its label; a label that stands for something already; the
+-- operation, the number of its operands and their forms; a name of REF that stands for something already; the values
+-- that move locations; a location past the end of its part, and too many names; a bad directive.
+use Rattle.std.specs.Prelude.{ℕ, ◌+◌, ◌*◌, Bool, true, false, not, ◌&&◌, ◌||◌, nat_le, nat_eq, List, [], ◌∷◌, ◌++◌}
+use Rattle.std.specs.Prelude.{length, map, is_some, Option, Some, None, Result, Ok, Err}
+use Rattle.std.specs.List.{list_any}
+use Rattle.std.specs.Cmp.Lexicographic.{pointwise}
+use Rattle.std.specs.FinMap.{get}
 use Rattle.source_defs.specs.Refusals.{◌>>=◌}
-use Rattle.source_defs.specs.Operands.{operand_texts}
-use Rattle.console_defs.specs.declared.instruction.Operation.{Operation}
-use Rattle.asm_defs.specs.declared.causes.FormError.{FormError}
-use Rattle.asm_defs.specs.declared.causes.FormError.TheVariants.{UnknownOperation, OperandCount, BadOperand}
-use Rattle.asm_defs.specs.declared.mnemonic.Mnemonic.{Mnemonic}
-use Rattle.asm_defs.specs.declared.mnemonic.Mnemonic.TheVariants.{Of, Fixed}
-use Rattle.asm_defs.specs.declared.slot.Slot.{Slot}
-use Rattle.asm_defs.specs.declared.slot.Slot.TheVariants.{General, Register, Count, Immediate, Target, Displacement}
-use Rattle.asm_defs.specs.Operations.{mnemonic}
-use Rattle.asm_defs.specs.Operands.{slots_of}
-use Rattle.asm_defs.specs.Forms.{Form, Plain, Indirect, Increment, Symbolic, Indexed, form_of, is_star, is_at}
+use Rattle.source_defs.specs.QuotedTexts.{is_quoted}
+use Rattle.source_defs.specs.declared.causes.ExprError.{ExprError}
+use Rattle.source_defs.specs.declared.causes.ExprError.TheVariants.{BadRelocation}
+use Rattle.source_defs.specs.Expression.{Value, Absolute, Relocatable, External, expression, characters}
+use Rattle.source_defs.specs.Fields.{fields}
+use Rattle.source_defs.specs.Symbols.{Names, look_up, predefined}
+use Rattle.source_defs.specs.Layout.{names_of, set_or}
+use Rattle.object_defs.specs.Modules.{most_names, is_module_name}
+use Rattle.object_defs.specs.Digits.{padded}
+use Rattle.instruction_defs.specs.SecondChecks.{absolute}
+use Rattle.asm_defs.specs.declared.causes.AsmCause.{AsmCause}
+use Rattle.asm_defs.specs.declared.causes.AsmCause.TheVariants.{Expr, DuplicateLabel, BadDirective, Overflow}
+use Rattle.asm_defs.specs.declared.location.Location.{Location}
+use Rattle.asm_defs.specs.declared.location.Part.TheVariants as part
+use Rattle.asm_defs.specs.Statements.{Statement, Nothing, Instruction, Aorg, Rorg, Dorg, Bss, Bes, Even, Equ, Data}
+use Rattle.asm_defs.specs.Statements.{Byte, Text, Def, Ref, Idt, Titl, End, statement_in, as_text}
+use Rattle.asm_defs.specs.Locations.{Line, location, reached, behind, to_even, value_of, is_in_part}
 
--- What the first checks leave of a line: a word that has a name of its own, or an operation with the forms of its
--- operands.
-pub data Skeleton : Type 0 where
-  Word : ℕ → Skeleton
-  Instruction : Operation → List Form → Skeleton
+-- a value, unless something speaks against it
+abbrev pub unless : {A : Type 0} → Bool → AsmCause → A → Result A AsmCause
+unless true cause value = Err cause
+unless false cause value = Ok value
 
--- An expression alone begins with neither * nor @. Profile: an operand that does is refused for its form.
-abbrev pub is_mode_sign : ℕ → Bool
-is_mode_sign byte = is_star byte || is_at byte
+-- an expression's refusal is one of the line
+abbrev pub as_expr : {A : Type 0} → Result A ExprError → Result A AsmCause
+as_expr (Ok value) = Ok value
+as_expr (Err error) = Err (Expr error)
 
-abbrev pub alone : List ℕ → Result Form FormError
-alone text = if is_mode_sign (slice_index text 0) then Err BadOperand else Ok (Plain text)
+-- the names of the lines before
+abbrev pub names : List Line → Names
+names before = names_of predefined before
 
-abbrev pub form_by : Slot → List ℕ → Result Form FormError
-form_by General text = Ok (form_of text)
-form_by Register text = alone text
-form_by Count text = alone text
-form_by Immediate text = alone text
-form_by Target text = alone text
-form_by Displacement text = alone text
+abbrev pub is_known : Names → List ℕ → Bool
+is_known known name = is_some (get known name)
 
--- Profile: an empty operand is refused for its form.
-abbrev pub form_in : Slot → List ℕ → Result Form FormError
-form_in slot [] = Err BadOperand
-form_in slot (byte ∷ bytes) = form_by slot (byte ∷ bytes)
+abbrev pub any_known : Names → List (List ℕ) → Bool
+any_known known names = list_any (is_known known) names
 
--- the forms of as many operands as there are slots, from the left
-abbrev pub forms_in : List Slot → List (List ℕ) → Result (List Form) FormError
-forms_in [] [] = Ok []
-forms_in [] (text ∷ texts) = Err OperandCount
-forms_in (slot ∷ slots) [] = Err OperandCount
-forms_in (slot ∷ slots) (text ∷ texts) = do
-  form ← form_in slot text
-  forms ← forms_in slots texts
-  Ok (form ∷ forms)
+abbrev pub same_name : List ℕ → List ℕ → Bool
+same_name a b = pointwise nat_eq a b
 
-abbrev pub operand_forms : List Slot → List (List ℕ) → Result (List Form) FormError
-operand_forms slots texts = if length texts == length slots then forms_in slots texts else Err OperandCount
+abbrev pub is_among : List ℕ → List (List ℕ) → Bool
+is_among name others = list_any (λ other. same_name other name) others
 
--- the forms of the operands of a field
--- Profile: an operation without operands ignores the rest of its line.
-abbrev pub forms_of : List Slot → List ℕ → Result (List Form) FormError
-forms_of [] field = Ok []
-forms_of (slot ∷ slots) field = operand_forms (slot ∷ slots) (operand_texts field)
+-- one of some names stands among earlier ones, or twice among them
+abbrev pub repeats : List (List ℕ) → List (List ℕ) → Bool
+repeats earlier [] = false
+repeats earlier (name ∷ names) = is_among name earlier || is_among name names || repeats earlier names
 
-abbrev pub skeleton_of : Option Mnemonic → List ℕ → Result Skeleton FormError
-skeleton_of None field = Err UnknownOperation
-skeleton_of (Some (Fixed word)) field = Ok (Word word)
-skeleton_of (Some (Of operation)) field = do
-  forms ← forms_of (slots_of operation) field
-  Ok (Instruction operation forms)
+-- the label, where the line has one
+abbrev pub label_in : Option (List ℕ) → List (List ℕ)
+label_in None = []
+label_in (Some name) = name ∷ []
 
--- The first checks, of an operation field and an operand field.
-unfoldable pub first_checks : List ℕ → List ℕ → Result Skeleton FormError
-first_checks operation field = skeleton_of (mnemonic operation) field
+-- the names that a line says others define, and those that it defines for others
+abbrev pub refs_in : Statement → List (List ℕ)
+refs_in (Ref names) = names
+refs_in _ = []
 
--- how many words follow for an operand
-abbrev pub form_words : Form → ℕ
-form_words (Plain text) = 0
-form_words (Indirect text) = 0
-form_words (Increment text) = 0
-form_words (Symbolic text) = 1
-form_words (Indexed text index) = 1
+abbrev pub defs_in : Statement → List (List ℕ)
+defs_in (Def names) = names
+defs_in _ = []
 
-abbrev pub following : Slot → Form → ℕ
-following General form = form_words form
-following Register form = 0
-following Count form = 0
-following Immediate form = 1
-following Target form = 0
-following Displacement form = 0
+-- those of the lines, in their order
+abbrev pub refs : List Line → List (List ℕ)
+refs [] = []
+refs (line ∷ before) = refs before ++ refs_in line.statement
 
-abbrev pub all_following : List Slot → List Form → ℕ
-all_following [] forms = 0
-all_following (slot ∷ slots) [] = 0
-all_following (slot ∷ slots) (form ∷ forms) = following slot form + all_following slots forms
+abbrev pub defs : List Line → List (List ℕ)
+defs [] = []
+defs (line ∷ before) = defs before ++ defs_in line.statement
 
--- how many bytes the words of a line take
-abbrev pub size_of : Skeleton → ℕ
-size_of (Word word) = 2
-size_of (Instruction operation forms) = 2 * (1 + all_following (slots_of operation) forms)
+-- Profile: a name of REF stands for something already where a line before defines it, or its line does, or REF names it
+-- twice.
+abbrev pub is_taken : Names → Option (List ℕ) → List (List ℕ) → Bool
+is_taken known label names = any_known known names || repeats (label_in label) names
 
--- the size of an instruction line, or why the first checks refuse it
-abbrev pub line_size : List ℕ → List ℕ → Result ℕ FormError
-line_size operation field = do
-  skeleton ← first_checks operation field
-  Ok (size_of skeleton)
+-- what a line does to the location: the location that it sets, the bytes that it leaves free, its size, and what its
+-- label stands for
+pub record Move : Type 0 where
+  pub origin : Option Location
+  pub gap : ℕ
+  pub size : ℕ
+  pub label : Value
+
+abbrev pub stays_at : Location → ℕ → Move
+stays_at here size = record { origin = None; gap = 0; size = size; label = value_of here }
+
+-- Editor/Assembler manual, "Word Boundary": an instruction and DATA stand at an even place, and so does their label.
+abbrev pub stays_even : Location → ℕ → Move
+stays_even here size =
+    record { origin = None; gap = to_even here; size = size; label = value_of (behind here (to_even here)) }
+
+-- Editor/Assembler manual, "Absolute Origin", "Relocatable Origin", "Dummy Origin": the label is the new location.
+abbrev pub set_to : Location → Move
+set_to location = record { origin = Some location; gap = 0; size = 0; label = value_of location }
+
+-- Editor/Assembler manual, "Block Ending with Symbol": the label is the location behind the block.
+abbrev pub ends_block : Location → ℕ → Move
+ends_block here size = record { origin = None; gap = 0; size = size; label = value_of (behind here size) }
+
+abbrev pub equals : Value → Move
+equals value = record { origin = None; gap = 0; size = 0; label = value }
+
+-- Profile: RORG takes the number of an absolute or a relocatable value.
+abbrev pub number_in : Value → Result ℕ ExprError
+number_in (Absolute number) = Ok number
+number_in (Relocatable number) = Ok number
+number_in (External name) = Err BadRelocation
+
+-- Profile: EQU takes no external value.
+abbrev pub known_here : Value → Result Value ExprError
+known_here (Absolute number) = Ok (Absolute number)
+known_here (Relocatable number) = Ok (Relocatable number)
+known_here (External name) = Err BadRelocation
+
+-- by the names of the lines before and the line's location
+module _ (known : Names) (here : Location) where
+  abbrev pub value : List ℕ → Result Value ExprError
+  value text = expression (look_up known) (value_of here) text
+
+  abbrev pub absolute_in : List ℕ → Result ℕ ExprError
+  absolute_in text = value text >>= absolute
+
+  -- What a line does to the location, by the highest relocatable location reached so far. Editor/Assembler manual,
+  -- "Assembler Directives".
+  abbrev pub move : ℕ → Statement → Result Move ExprError
+  move reached Nothing = Ok (stays_at here 0)
+  move reached (Instruction size operation field) = Ok (stays_even here size)
+  move reached (Aorg text) = absolute_in text >>= λ number. Ok (set_to (record { part = part.Absolute; number = number }))
+  move reached (Rorg None) = Ok (set_to (record { part = part.Relocatable; number = reached }))
+  move reached (Rorg (Some text)) =
+      value text >>= number_in >>= λ number. Ok (set_to (record { part = part.Relocatable; number = number }))
+  move reached (Dorg text) = absolute_in text >>= λ number. Ok (set_to (record { part = part.Dummy; number = number }))
+  move reached (Bss text) = absolute_in text >>= λ size. Ok (stays_at here size)
+  move reached (Bes text) = absolute_in text >>= λ size. Ok (ends_block here size)
+  move reached Even = Ok (stays_even here 0)
+  move reached (Equ text) = value text >>= known_here >>= λ value. Ok (equals value)
+  move reached (Data texts) = Ok (stays_even here (2 * length texts))
+  move reached (Byte texts) = Ok (stays_at here (length texts))
+  move reached (Text quoted) = Ok (stays_at here (length (characters quoted)))
+  move reached (Def names) = Ok (stays_at here 0)
+  move reached (Ref names) = Ok (stays_at here 0)
+  move reached (Idt text) = Ok (stays_at here 0)
+  move reached (Titl text) = Ok (stays_at here 0)
+  move reached (End text) = Ok (stays_at here 0)
+
+abbrev pub is_end : Statement → Bool
+is_end (End text) = true
+is_end _ = false
+
+-- the names that a line defines: its label, and the names of REF
+abbrev pub label_entry : Option (List ℕ) → Value → List (List ℕ × Value)
+label_entry None value = []
+label_entry (Some name) value = (name, value) ∷ []
+
+abbrev pub external_entries : List (List ℕ) → List (List ℕ × Value)
+external_entries names = map (λ name. (name, External name)) names
+
+-- what is known of the lines before a line
+pub record Before : Type 0 where
+  pub names : Names
+  pub location : Location
+  pub reached : ℕ
+  pub defs : List (List ℕ)
+  pub refs : List (List ℕ)
+
+abbrev pub known_of : List Line → Before
+known_of before =
+    record {
+      names = names before;
+      location = location before;
+      reached = reached before;
+      defs = defs before;
+      refs = refs before;
+    }
+
+-- the location behind a line
+abbrev pub location_behind : Location → Move → Location
+location_behind here move = behind (set_or move.origin here) (move.gap + move.size)
+
+abbrev pub has_too_many : List (List ℕ) → List (List ℕ) → Bool
+has_too_many before names = not (nat_le (length before + length names) most_names)
+
+-- Profile: the 257th name of DEF, or the 257th name of REF, is too much.
+abbrev pub lists_too_many : Before → Statement → Bool
+lists_too_many before (Def names) = has_too_many before.defs names
+lists_too_many before (Ref names) = has_too_many before.refs names
+lists_too_many before _ = false
+
+-- Profile: a location past the end of its part is refused.
+abbrev pub is_too_far : Before → Statement → Move → Bool
+is_too_far before statement move =
+    not (is_in_part (location_behind before.location move)) || lists_too_many before statement
+
+-- the module's name that a quoted text gives, filled up with blanks
+abbrev pub title_in : List ℕ → List ℕ
+title_in text = padded 8 (characters text)
+
+-- Profile: a module's name is at most eight characters from >20 to >7E.
+abbrev pub is_title : List ℕ → Bool
+is_title text = is_module_name (title_in text)
+
+-- a directive that cannot stand as it is
+abbrev pub is_bad : Before → Option (List ℕ) → Statement → Bool
+is_bad before None (Equ text) = true
+is_bad before label (Idt text) = not (is_quoted text && is_title text)
+is_bad before label (Titl text) = not (is_quoted text)
+is_bad before label (Def names) = repeats before.defs names
+is_bad before label _ = false
+
+-- a label with what its line says
+pub record Said : Type 0 where
+  pub label : Option (List ℕ)
+  pub statement : Statement
+
+-- what the first checks leave of a line
+pub record Checked : Type 0 where
+  pub label : Option (List ℕ)
+  pub statement : Statement
+  pub move : Move
+
+-- by what is known of the lines before
+module _ (before : Before) where
+  -- what a line says, whose names are new
+  unfoldable pub said : List ℕ → Result Said AsmCause
+  said text = do
+    found ← as_text (fields text)
+    label ← unless (any_known before.names (label_in found.label)) DuplicateLabel found.label
+    statement ← statement_in text found
+    unless (is_taken before.names label (refs_in statement)) DuplicateLabel (record { label = label; statement = statement })
+
+  -- where it leads
+  unfoldable pub moved : Said → Result Checked AsmCause
+  moved line = do
+    move ← as_expr (move before.names before.location before.reached line.statement)
+    move ← unless (is_too_far before line.statement move) Overflow move
+    unless (is_bad before line.label line.statement) BadDirective
+        (record { label = line.label; statement = line.statement; move = move })
+
+  -- a line by the first checks
+  abbrev pub checked : List ℕ → Result Checked AsmCause
+  checked text = said text >>= moved
+
+abbrev pub line_of : ℕ → Checked → Line
+line_of number checked =
+    record {
+      number = number;
+      origin = checked.move.origin;
+      gap = checked.move.gap;
+      size = checked.move.size;
+      names = label_entry checked.label checked.move.label ++ external_entries (refs_in checked.statement);
+      statement = checked.statement;
+      last = is_end checked.statement;
+    }
+
+-- what a line comes to behind others
+abbrev pub check : List Line → ℕ → List ℕ → Result Line AsmCause
+check before number text = do
+  found ← checked (known_of before) text
+  Ok (line_of number found)

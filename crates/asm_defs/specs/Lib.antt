@@ -1,7 +1,8 @@
-pub mod Operations
-pub mod Operands
-pub mod Forms
+pub mod Directives
+pub mod Statements
+pub mod Locations
 pub mod FirstChecks
 pub mod SecondChecks
+pub mod Memory
+pub mod Modules
 pub mod Growing
-pub mod Printed

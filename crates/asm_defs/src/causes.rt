@@ -1,20 +1,24 @@
-//! Why an instruction line is refused.
+//! Why a line of an assembler source is refused.
 
-use source_defs::ExprError;
+use instruction_defs::FormError;
+use source_defs::{ExprError, TextError};
 
-/// Why an instruction line is refused, or a directive by the same rule.
+/// Why a line of an assembler source is refused. No inner error is its `Memory`.
 #[derive(Clone, Copy, Debug, PartialEq, Eq)]
-pub enum FormError {
-    /// The operation field names no operation.
-    UnknownOperation,
-    /// There are more operands, or fewer, than the operation takes.
-    OperandCount,
-    /// An operand is empty or has a form that its place does not allow, or its value is out of range.
-    BadOperand,
-    /// A jump's target is not from -128 to 127 whole words behind the next instruction.
-    JumpTooFar,
-    /// An expression is refused. It never carries `ExprError::Memory`.
+pub enum AsmCause {
+    /// The line has no fields.
+    Text(TextError),
+    /// An expression of a directive is refused.
     Expr(ExprError),
-    /// Memory was wanting.
-    Memory,
+    /// An instruction is refused, or a directive by the same rule.
+    Form(FormError),
+    /// The label, or a name of REF, stands for something already, or REF names it twice or names the label.
+    DuplicateLabel,
+    /// EQU without a label; IDT or TITL without a quoted text; a module name that is none; a name that DEF names twice,
+    /// or that REF names too.
+    BadDirective,
+    /// A location past the end of its part, the 257th name of DEF or of REF, or the 32,769th word.
+    Overflow,
+    /// A byte that was placed before.
+    Overlap,
 }

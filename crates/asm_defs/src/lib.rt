@@ -1,11 +1,13 @@
-//! The TMS9900's assembler source: its operations by name, the operands of each, the words of an instruction line and
-//! the text of an instruction. The definitions stand in `specs/`.
+//! The module that an assembler source stands for: its directives, where its lines are placed, and the words that they
+//! place. The definitions stand in `specs/`.
 #![tactic(auto)]
 
 mod causes;
-mod mnemonic;
-mod slot;
+mod content;
+mod directive;
+mod location;
 
-pub use crate::causes::FormError;
-pub use crate::mnemonic::Mnemonic;
-pub use crate::slot::Slot;
+pub use crate::causes::AsmCause;
+pub use crate::content::Content;
+pub use crate::directive::Directive;
+pub use crate::location::{Location, Part};

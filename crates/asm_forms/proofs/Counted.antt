@@ -4,10 +4,10 @@ use Rattle.std.specs.Prelude.{Result, Ok, Err}
 use Rattle.std.proofs.lemmas.Bool.Decides.{nat_tests}
 use Rattle.source_defs.specs.Refusals.{◌>>=◌}
 use Rattle.source_defs.specs.Operands.{operand_texts}
-use Rattle.asm_defs.specs.declared.causes.FormError.{FormError}
-use Rattle.asm_defs.specs.declared.slot.Slot.{Slot}
-use Rattle.asm_defs.specs.Forms.{Form}
-use Rattle.asm_defs.specs.FirstChecks.{form_in, forms_of, operand_forms}
+use Rattle.instruction_defs.specs.declared.causes.FormError.{FormError}
+use Rattle.instruction_defs.specs.declared.slot.Slot.{Slot}
+use Rattle.instruction_defs.specs.Forms.{Form}
+use Rattle.instruction_defs.specs.FirstChecks.{form_in, forms_of, operand_forms}
 use Rattle.asm_forms.specs.Forms.{one_of, two_of, both_forms}
 
 longer : (n : ℕ) → eqb (suc (suc n)) 1 ≡ false

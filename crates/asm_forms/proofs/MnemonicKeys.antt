@@ -4,11 +4,11 @@ use Rattle.std.specs.Prelude.{Option, ◌==◌, find, map, codes}
 use Rattle.std.specs.Option.{option_map}
 use Rattle.std.proofs.lemmas.Bool.Decides.{nat_tests}
 use Rattle.source_defs.specs.Names.{is_word}
-use Rattle.console_defs.specs.Instructions.{operations}
-use Rattle.console_defs.specs.declared.instruction.Operation.{Operation}
-use Rattle.asm_defs.specs.Operations.{name_of, mnemonic}
-use Rattle.asm_defs.specs.declared.mnemonic.Mnemonic.{Mnemonic}
-use Rattle.asm_defs.specs.declared.mnemonic.Mnemonic.TheVariants.{Of, Fixed}
+use Rattle.tms_defs.specs.Instructions.{operations}
+use Rattle.tms_defs.specs.declared.instruction.Operation.{Operation}
+use Rattle.instruction_defs.specs.Operations.{name_of, mnemonic}
+use Rattle.instruction_defs.specs.declared.mnemonic.Mnemonic.{Mnemonic}
+use Rattle.instruction_defs.specs.declared.mnemonic.Mnemonic.TheVariants.{Of, Fixed}
 use Rattle.asm_text.specs.WordKeys.{key_of, word_key, is_of_key, with_key}
 use Rattle.asm_text.proofs.WordKeys.{AreBytes, word_told, words_found}
 

@@ -3,7 +3,7 @@ use Rattle.std.proofs.Common.{◌≡◌, Err, ap}
 use Rattle.std.specs.Prelude.{Result}
 use Rattle.source_defs.specs.declared.causes.ExprError.{ExprError}
 use Rattle.source_defs.specs.declared.causes.ExprError.TheVariants as expr
-use Rattle.asm_defs.specs.SecondChecks.{as_form}
+use Rattle.instruction_defs.specs.SecondChecks.{as_form}
 use Rattle.asm_text.specs.Yielded.{Yields}
 use Rattle.asm_forms.specs.Answers.{Refuses, refused}
 

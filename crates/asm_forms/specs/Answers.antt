@@ -2,8 +2,8 @@
 use Rattle.std.specs.Prelude.{◌≡◌, ⊤, Result, Ok, Err}
 use Rattle.source_defs.specs.declared.causes.ExprError.{ExprError}
 use Rattle.source_defs.specs.declared.causes.ExprError.TheVariants as expr
-use Rattle.asm_defs.specs.declared.causes.FormError.{FormError}
-use Rattle.asm_defs.specs.declared.causes.FormError.TheVariants.{Expr, Memory}
+use Rattle.instruction_defs.specs.declared.causes.FormError.{FormError}
+use Rattle.instruction_defs.specs.declared.causes.FormError.TheVariants.{Expr, Memory}
 
 -- what the definitions say, or want of memory; no other answer stands for that
 abbrev pub Refuses : {B : Type 0} → FormError → Result B FormError → Type 0

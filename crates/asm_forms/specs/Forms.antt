@@ -1,11 +1,11 @@
 -- What the code finds in a line, as the definitions have it.
 use Rattle.std.specs.Prelude.{ℕ, List, [], ◌∷◌, Result, Ok, Err}
-use Rattle.asm_defs.specs.declared.causes.FormError.{FormError}
-use Rattle.asm_defs.specs.declared.causes.FormError.TheVariants.{OperandCount}
+use Rattle.instruction_defs.specs.declared.causes.FormError.{FormError}
+use Rattle.instruction_defs.specs.declared.causes.FormError.TheVariants.{OperandCount}
 use Rattle.source_defs.specs.Refusals.{◌>>=◌}
-use Rattle.asm_defs.specs.declared.slot.Slot.{Slot}
-use Rattle.asm_defs.specs.Forms as spec
-use Rattle.asm_defs.specs.FirstChecks.{form_in}
+use Rattle.instruction_defs.specs.declared.slot.Slot.{Slot}
+use Rattle.instruction_defs.specs.Forms as spec
+use Rattle.instruction_defs.specs.FirstChecks.{form_in}
 use Rattle.asm_forms.specs.declared.forms.Form.{Form}
 use Rattle.asm_forms.specs.declared.forms.Form.TheVariants.{Plain, Indirect, Increment, Symbolic, Indexed}
 

@@ -2,9 +2,9 @@
 use Rattle.std.specs.Prelude.{ℕ, List, [], Option, Some, None, Result}
 use Rattle.source_defs.specs.Refusals.{◌>>=◌}
 use Rattle.source_defs.specs.Expression.{Value}
-use Rattle.asm_defs.specs.declared.causes.FormError.{FormError}
-use Rattle.asm_defs.specs.FirstChecks.{first_checks}
-use Rattle.asm_defs.specs.SecondChecks.{second_checks}
+use Rattle.instruction_defs.specs.declared.causes.FormError.{FormError}
+use Rattle.instruction_defs.specs.FirstChecks.{first_checks}
+use Rattle.instruction_defs.specs.SecondChecks.{second_checks}
 use Rattle.source_defs.specs.declared.text.Span.{Span}
 use Rattle.source_defs.specs.Lines.{part}
 use Rattle.asm_text.specs.declared.line_fields.Fields.{Fields}

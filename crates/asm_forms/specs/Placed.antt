@@ -1,11 +1,11 @@
 -- The words that the code places, as the definitions have them.
 use Rattle.std.specs.Prelude.{List, ◌∷◌, map, Result, Ok, Err}
 use Rattle.source_defs.specs.Refusals.{◌>>=◌}
-use Rattle.asm_defs.specs.declared.causes.FormError.{FormError}
+use Rattle.instruction_defs.specs.declared.causes.FormError.{FormError}
 use Rattle.source_defs.specs.Expression as expression
-use Rattle.console_defs.specs.Instructions.{word_of}
-use Rattle.console_defs.specs.declared.instruction.Operation.{Operation}
-use Rattle.asm_defs.specs.SecondChecks.{Operand, Ready, all_ranged, instruction_of, all_following}
+use Rattle.tms_defs.specs.Instructions.{word_of}
+use Rattle.tms_defs.specs.declared.instruction.Operation.{Operation}
+use Rattle.instruction_defs.specs.SecondChecks.{Operand, Ready, all_ranged, instruction_of, all_following}
 use Rattle.asm_forms.specs.declared.placed.Word.{Word}
 use Rattle.asm_forms.specs.declared.placed.Word.TheVariants.{Plain, Relocatable, External}
 use Rattle.asm_forms.specs.declared.placed.Placed.{Placed}

@@ -1,8 +1,8 @@
 -- What the first checks of the code leave, as the definitions have it.
 use Rattle.std.specs.Prelude.{List, Result, Ok, Err}
-use Rattle.asm_defs.specs.declared.causes.FormError.{FormError}
-use Rattle.asm_defs.specs.Forms.{Form}
-use Rattle.asm_defs.specs.FirstChecks as spec
+use Rattle.instruction_defs.specs.declared.causes.FormError.{FormError}
+use Rattle.instruction_defs.specs.Forms.{Form}
+use Rattle.instruction_defs.specs.FirstChecks as spec
 use Rattle.asm_forms.specs.Forms.{defined_form}
 use Rattle.asm_forms.specs.UpToTwo.{items_of}
 use Rattle.asm_forms.specs.declared.forms.Form.{Form as CodeForm}

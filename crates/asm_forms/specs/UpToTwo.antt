@@ -1,6 +1,6 @@
 -- Up to two operands as a list.
 use Rattle.std.specs.Prelude.{List, [], ◌∷◌}
-use Rattle.asm_defs.specs.declared.slot.Slot.{Slot}
+use Rattle.instruction_defs.specs.declared.slot.Slot.{Slot}
 use Rattle.asm_forms.specs.declared.up_to_two.UpToTwo.{UpToTwo}
 use Rattle.asm_forms.specs.declared.up_to_two.UpToTwo.TheVariants.{None, One, Two}
 

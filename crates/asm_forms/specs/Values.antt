@@ -4,9 +4,9 @@ use Rattle.source_defs.specs.Expression as expression
 use Rattle.std.specs.declared.option.Option.TheVariants as option
 use Rattle.asm_text.specs.declared.values.Value.{Value}
 use Rattle.asm_text.specs.GivenValues.{defined_value}
-use Rattle.asm_defs.specs.declared.causes.FormError.{FormError}
-use Rattle.asm_defs.specs.SecondChecks as spec
-use Rattle.console_defs.specs.Instructions.{IsPlace}
+use Rattle.instruction_defs.specs.declared.causes.FormError.{FormError}
+use Rattle.instruction_defs.specs.SecondChecks as spec
+use Rattle.tms_defs.specs.Instructions.{IsPlace}
 use Rattle.asm_forms.specs.UpToTwo.{items_of}
 use Rattle.asm_forms.specs.declared.up_to_two.UpToTwo.{UpToTwo}
 use Rattle.asm_forms.specs.declared.up_to_two.UpToTwo.TheVariants.{None, One, Two}

@@ -2,7 +2,7 @@
 
 ghost use Rattle.std.specs.Prelude.{◌≡◌, ◌≤◌, Ok, Err, IfOk, IfErr};
 ghost use Rattle.source_defs.specs.Operands.{operand_texts};
-ghost use Rattle.asm_defs.specs.FirstChecks as spec;
+ghost use Rattle.instruction_defs.specs.FirstChecks as spec;
 ghost use Rattle.asm_forms.specs.Forms.{defined_form, form_answer, one_of, two_of, both_forms};
 ghost use Rattle.asm_forms.specs.UpToTwo.{items_of, slots_in};
 ghost use Rattle.asm_forms.specs.Skeletons.{defined_skeleton, forms_answer, skeleton_answer};
@@ -11,10 +11,10 @@ use crate::forms::{Form, form_of};
 use crate::mnemonics::mnemonic;
 use crate::slots::slots_of;
 use crate::up_to_two::UpToTwo;
-use asm_defs::{FormError, Mnemonic, Slot};
 use asm_text::operands;
-use console_defs::Operation;
+use instruction_defs::{FormError, Mnemonic, Slot};
 use source_defs::Span;
+use tms_defs::Operation;
 
 /// What the first checks leave of a line.
 #[derive(Clone, Copy)]
@@ -26,7 +26,7 @@ pub(crate) enum Skeleton<'a> {
 }
 
 /// The first checks of an operation field and an operand field.
-#[tactic(auto, unfolding(asm_defs::specs::FirstChecks::first_checks))]
+#[tactic(auto, unfolding(instruction_defs::specs::FirstChecks::first_checks))]
 pub(crate) fn first_checks<'a>(operation: &[u8], field: &'a [u8]) -> Result<Skeleton<'a>, FormError>
     ensures { skeleton_answer result ≡ spec.first_checks operation.now field.now }
 {

@@ -1,7 +1,7 @@
 //! The forms of operands.
 
 ghost use Rattle.std.specs.Prelude.{◌≡◌};
-ghost use Rattle.asm_defs.specs.Forms as spec;
+ghost use Rattle.instruction_defs.specs.Forms as spec;
 ghost use Rattle.asm_forms.specs.Forms.{defined_form};
 
 use asm_text::parentheses_at;
@@ -22,7 +22,7 @@ pub(crate) enum Form<'a> {
 }
 
 /// The form of an operand.
-#[tactic(auto, unfolding(asm_defs::specs::Forms::form_of))]
+#[tactic(auto, unfolding(instruction_defs::specs::Forms::form_of))]
 pub(crate) fn form_of(text: &[u8]) -> Form<'_>
     ensures { defined_form result ≡ spec.form_of text.now }
 {

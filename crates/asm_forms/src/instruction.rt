@@ -1,14 +1,14 @@
 //! An operation with its operands, as an instruction.
 
 ghost use Rattle.std.specs.Prelude.{◌≡◌, ◌<◌};
-ghost use Rattle.console_defs.specs.Instructions.{IsPlace, HasRoom};
-ghost use Rattle.asm_defs.specs.SecondChecks as spec;
+ghost use Rattle.tms_defs.specs.Instructions.{IsPlace, HasRoom};
+ghost use Rattle.instruction_defs.specs.SecondChecks as spec;
 ghost use Rattle.asm_forms.specs.UpToTwo.{items_of};
 ghost use Rattle.asm_forms.specs.Values.{defined_ready, IsReady, AllReady};
 
 use crate::ranges::Ready;
 use crate::up_to_two::UpToTwo;
-use console_defs::{Instr, Operation, Place};
+use tms_defs::{Instr, Operation, Place};
 
 /// The instruction of an operation with its operands, a source before its destination and a register before a count.
 pub(crate) fn instruction_of(operation: Operation, readies: &UpToTwo<Ready>) -> Instr

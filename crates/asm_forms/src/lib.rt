@@ -17,7 +17,7 @@ mod text;
 mod up_to_two;
 mod values;
 
-pub use asm_defs::FormError;
+pub use instruction_defs::FormError;
 pub use parse::{parse_instr, size_of};
 pub use placed::{Placed, Word};
 pub use print::print_instr;

@@ -1,12 +1,12 @@
 //! What an operation field names.
 
 ghost use Rattle.std.specs.Prelude.{◌≡◌, Some};
-ghost use Rattle.asm_defs.specs.Operations as spec;
+ghost use Rattle.instruction_defs.specs.Operations as spec;
 ghost use Rattle.asm_text.specs.WordKeys.{with_key};
 
-use asm_defs::Mnemonic;
 use asm_text::word_key;
-use console_defs::{BareOp, ImmOp, JumpOp, OneOp, Operation, RegOp, ShiftOp, TwoOp};
+use instruction_defs::Mnemonic;
+use tms_defs::{BareOp, ImmOp, JumpOp, OneOp, Operation, RegOp, ShiftOp, TwoOp};
 
 /// The operations, in the order of the instruction table, each behind the number of its name.
 const NAMED: [(u64, Operation); 69] = [

@@ -2,13 +2,13 @@
 
 ghost use Rattle.std.specs.Prelude.{◌≡◌, ◌<◌, ◌≤◌, ◌+◌, ◌++◌, length, slice_index, Some};
 ghost use Rattle.arrayvec.specs.ArrayString.{array_string_len};
-ghost use Rattle.console_defs.specs.Instructions.{IsPlace, HasRoom};
-ghost use Rattle.asm_defs.specs.Operands.{following_words};
-ghost use Rattle.asm_defs.specs.Printed as spec;
+ghost use Rattle.tms_defs.specs.Instructions.{IsPlace, HasRoom};
+ghost use Rattle.instruction_defs.specs.Operands.{following_words};
+ghost use Rattle.instruction_defs.specs.Printed as spec;
 
 use crate::sizes::{following_words, has_immediate, has_value};
 use crate::text::{Text, push_decimal, push_register, push_signed, push_word};
-use console_defs::{Instr, JumpOp, Place, RegOp};
+use tms_defs::{Instr, JumpOp, Place, RegOp};
 
 /// Appends the operands of an instruction behind a blank, where it has any.
 #[tactic(auto, using(std::proofs::Common::append_assoc))]
@@ -80,7 +80,7 @@ fn word_at(words: &[u16], number: u8) -> u16
 }
 
 /// Appends an operand whose address, where it has one, is a word.
-#[tactic(auto, using(std::proofs::Common::append_assoc), unfolding(asm_defs::specs::Printed::operand_text))]
+#[tactic(auto, using(std::proofs::Common::append_assoc), unfolding(instruction_defs::specs::Printed::operand_text))]
 fn push_operand(text: &mut Text, place: Place, word: u16)
     requires room { array_string_len text.old + 16 ≤ 64 }
     requires place { IsPlace place }

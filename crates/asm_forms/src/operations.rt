@@ -1,11 +1,11 @@
 //! The operations by their names.
 
 ghost use Rattle.std.specs.Prelude.{◌≡◌, ◌≤◌, false, length, true};
-ghost use Rattle.console_defs.specs.Instructions.{operation_of};
-ghost use Rattle.console_defs.specs.declared.instruction.Operation.TheVariants.{Two, Reg, Shift, One, Jump, Imm, Bare};
-ghost use Rattle.asm_defs.specs.Operations as spec;
+ghost use Rattle.tms_defs.specs.Instructions.{operation_of};
+ghost use Rattle.tms_defs.specs.declared.instruction.Operation.TheVariants.{Two, Reg, Shift, One, Jump, Imm, Bare};
+ghost use Rattle.instruction_defs.specs.Operations as spec;
 
-use console_defs::{BareOp, ImmOp, Instr, JumpOp, OneOp, Operation, RegOp, ShiftOp, TwoOp};
+use tms_defs::{BareOp, ImmOp, Instr, JumpOp, OneOp, Operation, RegOp, ShiftOp, TwoOp};
 
 /// The name of an operation (Editor/Assembler manual, "Assembly Language Instructions").
 pub(crate) fn name_of(operation: Operation) -> &'static str

@@ -5,8 +5,8 @@ ghost use Rattle.source_defs.specs.Fields as lines;
 ghost use Rattle.source_defs.specs.Symbols.{look_up};
 ghost use Rattle.asm_text.specs.GivenFields.{defined_fields};
 ghost use Rattle.asm_text.specs.GivenValues.{defined_value, IsNotExternal};
-ghost use Rattle.asm_defs.specs.FirstChecks as first;
-ghost use Rattle.asm_defs.specs.SecondChecks as second;
+ghost use Rattle.instruction_defs.specs.FirstChecks as first;
+ghost use Rattle.instruction_defs.specs.SecondChecks as second;
 ghost use Rattle.asm_forms.specs.Answers.{Gives};
 ghost use Rattle.asm_forms.specs.Lines.{operation_in, operands_in, line_words};
 ghost use Rattle.asm_forms.specs.Placed.{words_in};
@@ -16,12 +16,12 @@ use crate::first_checks::{Skeleton, first_checks, size_in};
 use crate::placed::{Placed, in_range_words, one_word};
 use crate::slots::slots_of;
 use crate::values::Scope;
-use asm_defs::FormError;
 use asm_text::{Fields, Symbols, Value, part};
+use instruction_defs::FormError;
 use std::alloc::Global;
 
 /// The second checks of a line of which the first checks left this, and its words.
-#[tactic(auto, unfolding(asm_defs::specs::SecondChecks::second_checks))]
+#[tactic(auto, unfolding(instruction_defs::specs::SecondChecks::second_checks))]
 fn second_checks(scope: &Scope<'_>, skeleton: Skeleton<'_>) -> Result<Placed, FormError>
     requires { IsNotExternal scope.now.here }
     ensures { Gives words_in result

@@ -2,10 +2,10 @@
 
 ghost use Rattle.std.specs.Prelude.{◌≡◌, ◌≤◌, ◌+◌, ◌++◌, ◌∷◌, [], length};
 ghost use Rattle.arrayvec.specs.ArrayVec.{array_vec_len};
-ghost use Rattle.console_defs.specs.Instructions.{word_of as word_of_instr};
+ghost use Rattle.tms_defs.specs.Instructions.{word_of as word_of_instr};
 ghost use Rattle.source_defs.specs.Expression.{Absolute};
 ghost use Rattle.asm_text.specs.GivenValues.{defined_value};
-ghost use Rattle.asm_defs.specs.SecondChecks as spec;
+ghost use Rattle.instruction_defs.specs.SecondChecks as spec;
 ghost use Rattle.asm_forms.specs.Placed.{defined_word, defined_words, words_in, words_of, placed_of, placed_answer};
 ghost use Rattle.asm_forms.specs.UpToTwo.{items_of};
 ghost use Rattle.asm_forms.specs.Values.{defined_operand, defined_ready, AllReady};
@@ -15,9 +15,9 @@ use crate::ranges::{Ready, all_ranged};
 use crate::up_to_two::UpToTwo;
 use crate::values::Operand;
 use arrayvec::ArrayVec;
-use asm_defs::FormError;
 use asm_text::{Name, Value};
-use console_defs::Operation;
+use instruction_defs::FormError;
+use tms_defs::Operation;
 use tms_words::encode;
 
 /// A word that a line places.

@@ -2,16 +2,16 @@
 
 ghost use Rattle.std.specs.Prelude.{◌≡◌, ◌<◌, ◌≤◌, ◌+◌, [], length};
 ghost use Rattle.arrayvec.specs.ArrayString.{array_string_len};
-ghost use Rattle.console_defs.specs.Instructions.{HasRoom};
-ghost use Rattle.asm_defs.specs.Operands.{words_of};
-ghost use Rattle.asm_defs.specs.Printed as spec;
+ghost use Rattle.tms_defs.specs.Instructions.{HasRoom};
+ghost use Rattle.instruction_defs.specs.Operands.{words_of};
+ghost use Rattle.instruction_defs.specs.Printed as spec;
 
 use crate::operands_text::push_operands;
 use crate::operations::{name_of, operation_of};
 use crate::sizes::words_of;
 use crate::text::{Text, push_word};
 use arrayvec::ArrayString;
-use console_defs::Instr;
+use tms_defs::Instr;
 use tms_words::decode;
 
 /// The text of the instruction at the front of some words, of which the first stands at the address `at`, and how many
@@ -29,7 +29,7 @@ pub fn print_instr(words: &[u16], at: u16) -> (ArrayString<64>, u8)
 }
 
 /// Writes what stands at the front of some words into an empty text, and says how many of the words that is.
-#[tactic(auto, unfolding(asm_defs::specs::Printed::printed))]
+#[tactic(auto, unfolding(instruction_defs::specs::Printed::printed))]
 fn push_front(text: &mut Text, words: &[u16], at: u16) -> u8
     requires empty { text.old.bytes ≡ [] }
     requires words { 0 < length words.now }

@@ -2,15 +2,15 @@
 
 ghost use Rattle.std.specs.Prelude.{◌≡◌, ◌<◌, ◌+◌, IfOk};
 ghost use Rattle.asm_text.specs.GivenValues.{defined_value};
-ghost use Rattle.asm_defs.specs.SecondChecks as spec;
+ghost use Rattle.instruction_defs.specs.SecondChecks as spec;
 ghost use Rattle.asm_forms.specs.UpToTwo.{items_of};
 ghost use Rattle.asm_forms.specs.Values.{defined_operand, ready_answer, readies_answer, IsReady, AllReady};
 
 use crate::up_to_two::UpToTwo;
 use crate::values::Operand;
-use asm_defs::FormError;
 use asm_text::Value;
-use console_defs::Place;
+use instruction_defs::FormError;
+use tms_defs::Place;
 
 /// An operand whose values are in their ranges.
 #[derive(Clone, Copy)]

@@ -1,9 +1,9 @@
 //! How many words an instruction has.
 
 ghost use Rattle.std.specs.Prelude.{◌≡◌, ◌≤◌};
-ghost use Rattle.asm_defs.specs.Operands as spec;
+ghost use Rattle.instruction_defs.specs.Operands as spec;
 
-use console_defs::{BareOp, ImmOp, Instr, Place};
+use tms_defs::{BareOp, ImmOp, Instr, Place};
 
 /// How many words an instruction has: its first, and those of its operands.
 pub(crate) fn words_of(instr: &Instr) -> u8

@@ -1,13 +1,13 @@
 //! The operands of each operation.
 
 ghost use Rattle.std.specs.Prelude.{◌≡◌};
-ghost use Rattle.asm_defs.specs.Operands as spec;
+ghost use Rattle.instruction_defs.specs.Operands as spec;
 ghost use Rattle.asm_forms.specs.UpToTwo.{slots_in};
 
 use crate::sizes::{has_immediate, has_value};
 use crate::up_to_two::UpToTwo;
-use asm_defs::Slot;
-use console_defs::{JumpOp, Operation, RegOp};
+use instruction_defs::Slot;
+use tms_defs::{JumpOp, Operation, RegOp};
 
 /// The operands of an operation, in the order of the operand field (Editor/Assembler manual, "Assembly Language
 /// Instructions").

@@ -4,7 +4,7 @@ ghost use Rattle.std.specs.Prelude.{◌≡◌, ◌<◌, ◌≤◌, ◌+◌, ◌+
 ghost use Rattle.std.specs.Fmt.{decimal};
 ghost use Rattle.arrayvec.specs.ArrayString.{array_string_len};
 ghost use Rattle.source_defs.specs.Digits.{marked_word};
-ghost use Rattle.asm_defs.specs.Printed as spec;
+ghost use Rattle.instruction_defs.specs.Printed as spec;
 
 use arrayvec::ArrayString;
 use asm_text::word_digits;

@@ -4,7 +4,7 @@ ghost use Rattle.std.specs.Prelude.{◌≡◌, ◌≢◌, Err, IfErr};
 ghost use Rattle.source_defs.specs.Expression.{expression};
 ghost use Rattle.source_defs.specs.Symbols.{look_up};
 ghost use Rattle.asm_text.specs.GivenValues.{defined_value, IsNotExternal};
-ghost use Rattle.asm_defs.specs.SecondChecks as spec;
+ghost use Rattle.instruction_defs.specs.SecondChecks as spec;
 ghost use Rattle.asm_forms.specs.Answers.{Gives};
 ghost use Rattle.asm_forms.specs.Answers.{refused as refused_as};
 ghost use Rattle.asm_forms.specs.Forms.{defined_form};
@@ -13,8 +13,8 @@ ghost use Rattle.asm_forms.specs.Values.{defined_operand};
 
 use crate::forms::Form;
 use crate::up_to_two::UpToTwo;
-use asm_defs::{FormError, Slot};
 use asm_text::{ExprError, Symbols, Value, expression_value};
+use instruction_defs::{FormError, Slot};
 use std::alloc::Global;
 
 /// An operand with its values, not yet held against their ranges.

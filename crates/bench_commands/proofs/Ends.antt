@@ -6,7 +6,7 @@ use Rattle.bench_io.specs.Stream.{SourceState}
 use Rattle.bench_io.specs.ReadAll.{Took, GaveUp}
 use Rattle.bench_io.specs.declared.failed.Failed.{Failed}
 use Rattle.bench_io.specs.declared.whole.ReadError.TheVariants as error
-use Rattle.console_defs.specs.declared.ends.RunEnd.TheVariants.{Reached, Limit, Refused, Port, SelfJump}
+use Rattle.console_defs.specs.declared.run_end.RunEnd.TheVariants.{Reached, Limit, Refused, Port, SelfJump}
 use Rattle.report_defs.specs.declared.command.Command.{Command}
 use Rattle.report_defs.specs.declared.fault.Fault.TheVariants as fault
 use Rattle.report_defs.specs.declared.status.Status.{Status}
@@ -15,8 +15,8 @@ use Rattle.report_defs.specs.Commands.{command_of, reads}
 use Rattle.report_defs.specs.Report as spec
 use Rattle.report_defs.specs.Summary.{summary_lines}
 use Rattle.report_defs.specs.Program.{program_lines, program_status}
-use Rattle.step_defs.specs.declared.reason.Reason.{Reason}
-use Rattle.step_defs.specs.declared.reason.Reason.TheVariants.{Exit, Opcode, Cell, Stack, Length, Register}
+use Rattle.gpl_step_defs.specs.declared.reason.Reason.{Reason}
+use Rattle.gpl_step_defs.specs.declared.reason.Reason.TheVariants.{Exit, Opcode, Cell, Stack, Length, Register}
 use Rattle.gpl_run.specs.Sessions.{SessionState, seen}
 use Rattle.bench_commands.specs.declared.report.Report.{Report}
 use Rattle.bench_commands.specs.declared.report.Report.TheVariants as made

@@ -6,9 +6,9 @@ use Rattle.bench_io.specs.Stream.{SinkState}
 use Rattle.bench_io.specs.Written.{Wrote, Missed}
 use Rattle.bench_io.proofs.Writing.{wrote_none, wrote_more, missed_more, missed_early}
 use Rattle.source_defs.specs.Digits.{marked_byte}
-use Rattle.console_defs.specs.Words.{join}
-use Rattle.asm_defs.specs.Printed.{printed}
-use Rattle.asm_defs.proofs.Windows.{count_within}
+use Rattle.tms_defs.specs.Words.{join}
+use Rattle.instruction_defs.specs.Printed.{printed}
+use Rattle.instruction_defs.proofs.Windows.{count_within}
 use Rattle.word_listings.specs.Listing.{listing_line, words_in, lines_from, odd_byte_lines}
 
 abbrev nothing : List ℕ

@@ -3,8 +3,8 @@ use Rattle.std.proofs.Common.{◌≡◌, ℕ, Option, Some, None, Result, Ok, Er
 use Rattle.std.specs.Prelude.{IfOk}
 use Rattle.source_defs.specs.Refusals.{Refusal}
 use Rattle.gpl_defs.specs.Image.{Image}
-use Rattle.program_defs.specs.declared.causes.GplCause.{GplCause}
-use Rattle.program_defs.specs.Programs.{Program}
+use Rattle.gpl_source_defs.specs.declared.causes.GplCause.{GplCause}
+use Rattle.gpl_source_defs.specs.Programs.{Program}
 use Rattle.report_defs.specs.Report.{Report, EnteredReport, ProgramReport}
 use Rattle.bench_commands.specs.declared.commands.program.LoadedProgram.{LoadedProgram}
 use Rattle.bench_commands.specs.declared.commands.program.Loaded.{Loaded}

@@ -4,9 +4,9 @@ use Rattle.console_defs.specs.Grom.{GromState}
 use Rattle.console_defs.specs.Memory.{IsMemory}
 use Rattle.console_defs.specs.Machine.{MachineState}
 use Rattle.gpl_defs.specs.Image.{Image, written_bytes}
-use Rattle.step_defs.specs.declared.reason.Reason.{Reason}
-use Rattle.step_defs.specs.State.{GplState, start}
-use Rattle.step_defs.specs.Run.{GplRun, run}
+use Rattle.gpl_step_defs.specs.declared.reason.Reason.{Reason}
+use Rattle.gpl_step_defs.specs.State.{GplState, start}
+use Rattle.gpl_step_defs.specs.Run.{GplRun, run}
 use Rattle.interp_defs.specs.Match.{shown_by}
 use Rattle.interp_defs.specs.Programs.{EndsAs}
 use Rattle.gpl_run.specs.Sessions.{SessionState, seen, image_of, entry_of}

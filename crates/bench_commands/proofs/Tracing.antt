@@ -5,7 +5,7 @@ use Rattle.std.specs.Prelude.{nat_lt, is_err}
 use Rattle.std.proofs.lemmas.Bool.Decides.{nat_tests}
 use Rattle.console_defs.specs.Grom.{GromState}
 use Rattle.gpl_defs.specs.Image.{Image}
-use Rattle.program_defs.specs.Programs.{program_of_source}
+use Rattle.gpl_source_defs.specs.Programs.{program_of_source}
 use Rattle.console_defs.specs.Memory.{IsMemory}
 use Rattle.bench_io.specs.Stream.{SinkState}
 use Rattle.bench_io.specs.Written.{Wrote}
@@ -13,8 +13,8 @@ use Rattle.bench_io.proofs.Writing.{wrote_more, missed_more}
 use Rattle.trace_dump.specs.Plays.{Plays}
 use Rattle.trace_dump.proofs.Playing.{breaks_front}
 use Rattle.bench_commands.specs.declared.report.Report.TheVariants as made
-use Rattle.step_defs.specs.State.{GplState, start}
-use Rattle.step_defs.specs.Run.{run}
+use Rattle.gpl_step_defs.specs.State.{GplState, start}
+use Rattle.gpl_step_defs.specs.Run.{run}
 use Rattle.interp_defs.specs.Programs.{RunsSteps}
 use Rattle.gpl_run.specs.Sessions.{SessionState, seen, image_of, entry_of}
 use Rattle.report_defs.specs.declared.status.Status.{Status}

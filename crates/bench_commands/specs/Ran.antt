@@ -1,8 +1,8 @@
 -- A GPL program that was run.
 use Rattle.std.specs.Prelude.{◌≡◌, ℕ, List}
 use Rattle.console_defs.specs.Memory.{IsMemory}
-use Rattle.step_defs.specs.State.{start}
-use Rattle.step_defs.specs.Run.{run}
+use Rattle.gpl_step_defs.specs.State.{start}
+use Rattle.gpl_step_defs.specs.Run.{run}
 use Rattle.interp_defs.specs.Programs.{RunsProgram}
 use Rattle.gpl_run.specs.Sessions.{SessionState}
 

@@ -2,9 +2,9 @@
 use Rattle.std.specs.Prelude.{◌≡◌, ◌≤◌, ◌⊎◌, ℕ, List, ◌++◌, length, None}
 use Rattle.console_defs.specs.Memory.{IsMemory}
 use Rattle.console_defs.specs.Machine.{MachineState, IsMachine}
-use Rattle.step_defs.specs.State.{start}
-use Rattle.step_defs.specs.Run.{run}
-use Rattle.program_defs.specs.Programs.{program_of_source}
+use Rattle.gpl_step_defs.specs.State.{start}
+use Rattle.gpl_step_defs.specs.Run.{run}
+use Rattle.gpl_source_defs.specs.Programs.{program_of_source}
 use Rattle.bench_io.specs.Written.{Missed}
 use Rattle.interp_defs.specs.Match.{Matches}
 use Rattle.interp_defs.specs.Turns.{Boots}

@@ -2,7 +2,7 @@
 
 ghost use Rattle.std.specs.Prelude.{◌≡◌, ◌<◌, ◌≤◌, ◌+◌, ◌*◌, ◌++◌, length, take, slice_index, codes};
 ghost use Rattle.source_defs.specs.Digits.{marked_byte, marked_word};
-ghost use Rattle.asm_defs.specs.Printed.{printed};
+ghost use Rattle.instruction_defs.specs.Printed.{printed};
 ghost use Rattle.bench_io.specs.Written.{Written};
 ghost use Rattle.word_listings.specs.Listing as spec;
 

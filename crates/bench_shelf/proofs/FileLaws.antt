@@ -5,8 +5,8 @@ use Rattle.std.specs.FinMap.{get}
 use Rattle.std.proofs.lemmas.Bool.Decides.{nat_tests}
 use Rattle.source_defs.specs.Refusals.{◌>>=◌}
 use Rattle.source_defs.specs.Layout.{laid, numbered, line_texts}
-use Rattle.module_defs.specs.Locations.{Line}
-use Rattle.module_defs.specs.FirstChecks.{check}
+use Rattle.asm_defs.specs.Locations.{Line}
+use Rattle.asm_defs.specs.FirstChecks.{check}
 use Rattle.shelf_defs.specs.Files.{Files}
 use Rattle.shelf_defs.specs.Copied as spec
 use Rattle.shelf_defs.specs.Copied.{PlacedLine, CopyRefusal, Refused, Copied, lines_in, copy_line, copied_file, refused, most_bytes, most_copies, prepend}

@@ -3,9 +3,9 @@ use Rattle.std.proofs.Common.{◌≡◌, ℕ, ◌+◌, ◌<◌, ◌≤◌, Bool,
 use Rattle.std.specs.Prelude.{Result, if◌then◌else◌}
 use Rattle.source_defs.specs.Refusals.{Refusal, ◌>>=◌, at_line}
 use Rattle.source_defs.specs.Layout.{laid_behind, numbered}
-use Rattle.module_defs.specs.declared.causes.AsmCause.{AsmCause}
-use Rattle.module_defs.specs.Locations.{Line}
-use Rattle.module_defs.specs.FirstChecks.{check}
+use Rattle.asm_defs.specs.declared.causes.AsmCause.{AsmCause}
+use Rattle.asm_defs.specs.Locations.{Line}
+use Rattle.asm_defs.specs.FirstChecks.{check}
 
 abbrev pub Answer : Type 0
 Answer = Result (List Line) (Refusal AsmCause)

@@ -6,9 +6,9 @@ use Rattle.std.proofs.lemmas.Option.{unwrap_or-slice_get}
 use Rattle.std.proofs.lemmas.List.{get_or_append_left, length-map}
 use Rattle.source_defs.specs.Refusals.{Refusal, ◌>>=◌}
 use Rattle.source_defs.specs.Layout.{laid, numbered}
-use Rattle.module_defs.specs.declared.causes.AsmCause.{AsmCause}
-use Rattle.module_defs.specs.Locations.{Line}
-use Rattle.module_defs.specs.FirstChecks.{check}
+use Rattle.asm_defs.specs.declared.causes.AsmCause.{AsmCause}
+use Rattle.asm_defs.specs.Locations.{Line}
+use Rattle.asm_defs.specs.FirstChecks.{check}
 use Rattle.shelf_defs.specs.Copied.{Place, PlacedLine, CopyRefusal, At, Asm, Ending, Open, Ended, Refused, Copied, nothing, prepend, then_by, followed}
 use Rattle.shelf_defs.specs.Assembly.{texts, places, place_of, in_place, unless_refused, laid_copied}
 use Rattle.asm_core.specs.Building.{IsOpen}

@@ -6,10 +6,10 @@ use Rattle.source_defs.specs.Layout.{laid, numbered, line_texts}
 use Rattle.object_defs.specs.Modules as object
 use Rattle.object_tags.specs.Seen.{defined_module}
 use Rattle.object_tags.specs.declared.parts.Module.{Module}
-use Rattle.module_defs.specs.declared.causes.AsmCause.{AsmCause}
-use Rattle.module_defs.specs.Locations.{Line}
-use Rattle.module_defs.specs.FirstChecks.{check}
-use Rattle.module_defs.specs.Modules.{module_behind, module_of_lines, module_of_source}
+use Rattle.asm_defs.specs.declared.causes.AsmCause.{AsmCause}
+use Rattle.asm_defs.specs.Locations.{Line}
+use Rattle.asm_defs.specs.FirstChecks.{check}
+use Rattle.asm_defs.specs.Modules.{module_behind, module_of_lines, module_of_source}
 use Rattle.ended_lines.specs.Texts.{text_of}
 use Rattle.shelf_defs.specs.Files.{Files}
 use Rattle.shelf_defs.specs.Copied.{PlacedLine, CopyRefusal, Ending, Open, Ended, Refused, Copied, copied, lines_in, copy_line}

@@ -8,12 +8,12 @@ use Rattle.source_defs.specs.declared.causes.ExprError.TheVariants as expr
 use Rattle.source_defs.specs.Refusals.{Refusal, ◌>>=◌, at_line}
 use Rattle.source_defs.specs.Layout.{laid, numbered, has_ended}
 use Rattle.source_defs.proofs.LaidLaws.{laid_more, last_line}
-use Rattle.asm_defs.specs.declared.causes.FormError.TheVariants as form
-use Rattle.module_defs.specs.declared.causes.AsmCause.{AsmCause}
-use Rattle.module_defs.specs.declared.causes.AsmCause.TheVariants as cause
-use Rattle.module_defs.specs.Locations.{Line}
-use Rattle.module_defs.specs.FirstChecks.{check, checked, known_of, line_of}
-use Rattle.module_defs.proofs.CheckLaws.{bound, checked_said}
+use Rattle.instruction_defs.specs.declared.causes.FormError.TheVariants as form
+use Rattle.asm_defs.specs.declared.causes.AsmCause.{AsmCause}
+use Rattle.asm_defs.specs.declared.causes.AsmCause.TheVariants as cause
+use Rattle.asm_defs.specs.Locations.{Line}
+use Rattle.asm_defs.specs.FirstChecks.{check, checked, known_of, line_of}
+use Rattle.asm_defs.proofs.CheckLaws.{bound, checked_said}
 use Rattle.shelf_defs.specs.CopyLines.{says_end, ends_source}
 use Rattle.shelf_defs.specs.Copied as spec
 use Rattle.shelf_defs.specs.Copied.{Place, PlacedLine, CopyRefusal, Ending, Open, Ended, Copied, own_line, prepend}

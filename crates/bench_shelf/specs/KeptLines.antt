@@ -1,7 +1,7 @@
 -- That what was taken so far are lines, and that a module is that of some lines: also where a shelf tells no files.
 use Rattle.std.specs.Prelude.{◌≡◌, ℕ, List, Ok}
 use Rattle.object_defs.specs.Modules.{Module}
-use Rattle.module_defs.specs.Modules.{module_of_lines}
+use Rattle.asm_defs.specs.Modules.{module_of_lines}
 use Rattle.asm_core.specs.Building.{HasTaken}
 use Rattle.bench_shelf.specs.declared.copying.Copying.{Copying}
 

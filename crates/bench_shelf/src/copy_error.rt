@@ -1,7 +1,7 @@
 //! Why a source with the files that it copies is not assembled.
 
 use crate::file_name::FileName;
-use module_defs::AsmCause;
+use asm_defs::AsmCause;
 
 /// Why a line is refused.
 #[derive(Clone, Copy, Debug, PartialEq, Eq)]

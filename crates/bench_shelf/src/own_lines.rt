@@ -3,7 +3,7 @@
 ghost use Rattle.std.specs.Prelude.{◌≡◌, List, [], OnOk, IfOk, IfErr, length};
 ghost use Rattle.shelf_defs.specs.Copied.{PlacedLine, own_line};
 ghost use Rattle.shelf_defs.specs.Assembly.{texts, in_place};
-ghost use Rattle.module_defs.specs.Modules.{module_of_lines};
+ghost use Rattle.asm_defs.specs.Modules.{module_of_lines};
 ghost use Rattle.asm_core.specs.Building.{IsOpen};
 ghost use Rattle.object_tags.specs.Seen.{defined_module};
 ghost use Rattle.bench_shelf.specs.CopyAnswers.{defined_place, GivesCopied};

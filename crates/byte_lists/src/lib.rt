@@ -2,12 +2,12 @@
 #![tactic(auto)]
 
 ghost use Rattle.std.specs.Prelude.{◌<◌, ℕ, slice_index, IfOk};
-ghost use Rattle.console_defs.specs.Bytes.{HoldsZeros};
+ghost use Rattle.tms_defs.specs.Bytes.{HoldsZeros};
 
 use std::alloc::{AllocError, Global};
 
 /// So many zeros.
-#[tactic(auto, using(console_defs::proofs::ByteLaws::replicated_zeros))]
+#[tactic(auto, using(tms_defs::proofs::ByteLaws::replicated_zeros))]
 pub fn zeros(alloc: Global, count: usize) -> Result<Vec<u8>, AllocError>
     ensures { IfOk result (λ bytes. HoldsZeros count bytes.items) }
 {

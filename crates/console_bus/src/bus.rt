@@ -2,9 +2,9 @@
 
 ghost use Rattle.std.specs.Prelude.{◌≡◌, ◌<◌, ◌≤◌, ℕ, ◌+◌, ◌-◌, ◌*◌, ◌/◌, ◌%◌, length, slice_index, slice_set, IfOk};
 ghost use Rattle.std.specs.Prelude.{OnErr};
-ghost use Rattle.console_defs.specs.Words.{high, low, join, even};
-ghost use Rattle.console_defs.specs.Bytes.{HoldsBytes, HoldsZeros, word_in, with_word_in};
-ghost use Rattle.console_defs.specs.Accesses.{answer_of, written_by};
+ghost use Rattle.tms_defs.specs.Words.{high, low, join, even};
+ghost use Rattle.tms_defs.specs.Bytes.{HoldsBytes, HoldsZeros, word_in, with_word_in};
+ghost use Rattle.tms_defs.specs.Accesses.{answer_of, written_by};
 ghost use Rattle.console_defs.specs.Memory.{IsMemory, IsNewMemory, IsLoadable, port_at, port_region, is_port_address};
 ghost use Rattle.console_defs.specs.Memory.{region, port_read};
 ghost use Rattle.console_defs.specs.Memory.{port_written, byte_read_in, byte_read, byte_written_in, byte_written};
@@ -14,10 +14,10 @@ ghost use Rattle.console_defs.specs.Memory.{word_placed, cell_set};
 
 use byte_lists::{holds_bytes, zeros};
 use byteorder::{BigEndian, ByteOrder};
-use console_defs::PortStop;
 use grom_counter::Grom;
 use std::alloc::{AllocError, Global};
 use std::marker::Model;
+use tms_defs::PortStop;
 use vdp_ports::Vdp;
 
 /// The bytes of the low expansion memory, at >2000.
@@ -306,7 +306,7 @@ fn set_word(bytes: &mut [u8], at: usize, word: u16)
 }
 
 /// The 256 bytes of a new scratchpad.
-#[tactic(auto, using(console_defs::proofs::ByteLaws::replicated_zeros))]
+#[tactic(auto, using(tms_defs::proofs::ByteLaws::replicated_zeros))]
 fn zero_page() -> [u8; 256]
     ensures { HoldsZeros 256 result }
 {

@@ -4,4 +4,4 @@
 mod bus;
 
 pub use bus::{Bus, is_port};
-pub use console_defs::PortStop;
+pub use tms_defs::PortStop;

@@ -1,12 +1,4 @@
-pub mod ByteLaws
-pub mod WordLaws
-pub mod OverflowLaws
-pub mod ShiftLaws
-pub mod DivideLaws
-pub mod StatusLaws
-pub mod InstructionLaws
 pub mod GromLaws
 pub mod MemoryLaws
-pub mod StepRows
 pub mod RefusalLaws
 pub mod RunLaws

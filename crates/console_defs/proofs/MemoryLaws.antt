@@ -2,8 +2,8 @@
 use Rattle.std.proofs.Common.{◌≡◌, ◌<◌, ◌≤◌, ℕ, ◌+◌, ◌-◌, ◌%◌, Bool, true, false, nat_lt, arith, refl, ap, sym, ◌∙◌}
 use Rattle.std.proofs.Common.{Option, Some, None}
 use Rattle.std.proofs.lemmas.Bool.{ltb-true, ltb-false, lt-ltb}
-use Rattle.console_defs.specs.Words.{high, low, join, even}
-use Rattle.console_defs.specs.Accesses.{Answer, Gives, AtPort, ◌>>=◌}
+use Rattle.tms_defs.specs.Words.{high, low, join, even}
+use Rattle.tms_defs.specs.Accesses.{Answer, Gives, AtPort, ◌>>=◌}
 use Rattle.console_defs.specs.Vdp.{VdpState}
 use Rattle.console_defs.specs.Grom.{GromState}
 use Rattle.console_defs.specs.Memory.{Memory, Port, Region, Rom, LowExpansion, HighExpansion, Scratchpad, PortOf}

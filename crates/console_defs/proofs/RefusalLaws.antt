@@ -2,45 +2,45 @@
 -- alone: each instruction that is executed gives a state, or meets one of the eight ports.
 use Rattle.std.proofs.Common.{◌≡◌, ℕ, Bool, true, false, refl, ap, Option, Some, None, List, [], ◌∷◌}
 use Rattle.std.specs.Prelude.{eqb, ℤ, if◌then◌else◌}
-use Rattle.console_defs.specs.Words.{even, plus}
-use Rattle.console_defs.specs.Flags.{Width, Byte, Word, byte_or_word}
-use Rattle.console_defs.specs.Instructions.{instr_at}
-use Rattle.console_defs.specs.Accesses.{Answer, Gives, AtPort, NoInstruction, ◌>>=◌}
+use Rattle.tms_defs.specs.Words.{even, plus}
+use Rattle.tms_defs.specs.Flags.{Width, Byte, Word, byte_or_word}
+use Rattle.tms_defs.specs.Instructions.{instr_at}
+use Rattle.tms_defs.specs.Accesses.{Answer, Gives, AtPort, NoInstruction, ◌>>=◌}
 use Rattle.console_defs.specs.Memory.{Memory, Region, Rom, LowExpansion, HighExpansion, Scratchpad, PortOf, Unmapped}
 use Rattle.console_defs.specs.Memory.{region, is_port_region, is_port_address, word_read_in, word_written_in, word_read}
 use Rattle.console_defs.specs.Memory.{word_written, console}
-use Rattle.console_defs.specs.Operand.{Cpu, Mode, Register, Indirect, Symbolic, Increment, operand, index_of}
-use Rattle.console_defs.specs.Operand.{with_words, value_at, with_value}
-use Rattle.console_defs.specs.forms.Results.{stored}
-use Rattle.console_defs.specs.forms.Two.{two, two_operands}
-use Rattle.console_defs.specs.forms.Reg.{reg, with_source, with_division, in_row}
-use Rattle.console_defs.specs.forms.Shift.{shift, count_of}
-use Rattle.console_defs.specs.forms.One.{one, one_operand}
-use Rattle.console_defs.specs.forms.Jump.{jump, jump_where}
-use Rattle.console_defs.specs.forms.Imm.{imm}
-use Rattle.console_defs.specs.forms.Bare.{bare}
-use Rattle.console_defs.specs.Step.{is_stopping, executed, executed_where, step_end, step}
+use Rattle.tms_defs.specs.Operand.{Cpu, Mode, Register, Indirect, Symbolic, Increment, operand, index_of}
+use Rattle.tms_defs.specs.Operand.{with_words, value_at, with_value}
+use Rattle.tms_defs.specs.forms.Results.{stored}
+use Rattle.tms_defs.specs.forms.Two.{two, two_operands}
+use Rattle.tms_defs.specs.forms.Reg.{reg, with_source, with_division, in_row}
+use Rattle.tms_defs.specs.forms.Shift.{shift, count_of}
+use Rattle.tms_defs.specs.forms.One.{one, one_operand}
+use Rattle.tms_defs.specs.forms.Jump.{jump, jump_where}
+use Rattle.tms_defs.specs.forms.Imm.{imm}
+use Rattle.tms_defs.specs.forms.Bare.{bare}
+use Rattle.tms_defs.specs.Step.{is_stopping, executed, executed_where, step_end, step}
 use Rattle.console_defs.specs.Causes.{is_refused, refused_at, refusal, MeetsPort}
-use Rattle.console_defs.specs.declared.flags.Flags.{Flags}
-use Rattle.console_defs.specs.declared.instruction.Place.{Place}
-use Rattle.console_defs.specs.declared.instruction.TwoOp.{TwoOp}
-use Rattle.console_defs.specs.declared.instruction.TwoOp.TheVariants.{SZC, S, C, A, MOV, SOC}
-use Rattle.console_defs.specs.declared.instruction.RegOp.{RegOp}
-use Rattle.console_defs.specs.declared.instruction.RegOp.TheVariants.{COC, CZC, XOR, XOP, LDCR, STCR, MPY, DIV}
-use Rattle.console_defs.specs.declared.instruction.ShiftOp.{ShiftOp}
-use Rattle.console_defs.specs.declared.instruction.OneOp.{OneOp}
-use Rattle.console_defs.specs.declared.instruction.OneOp.TheVariants.{BLWP, B, X, CLR, NEG, INV, INC, INCT, DEC, DECT}
-use Rattle.console_defs.specs.declared.instruction.OneOp.TheVariants.{BL, SWPB, SETO, ABS}
-use Rattle.console_defs.specs.declared.instruction.JumpOp.{JumpOp}
-use Rattle.console_defs.specs.declared.instruction.JumpOp.TheVariants.{JMP, JLT, JLE, JEQ, JHE, JGT, JNE, JNC, JOC, JNO}
-use Rattle.console_defs.specs.declared.instruction.JumpOp.TheVariants.{JL, JH, JOP, SBO, SBZ, TB}
-use Rattle.console_defs.specs.declared.instruction.ImmOp.{ImmOp}
-use Rattle.console_defs.specs.declared.instruction.ImmOp.TheVariants.{LI, AI, ANDI, ORI, CI, STWP, STST}
-use Rattle.console_defs.specs.declared.instruction.BareOp.{BareOp}
-use Rattle.console_defs.specs.declared.instruction.BareOp.TheVariants.{LWPI, LIMI, IDLE, RSET, RTWP, CKON, CKOF, LREX}
-use Rattle.console_defs.specs.declared.instruction.Instr.{Instr}
-use Rattle.console_defs.specs.declared.instruction.Instr.TheVariants.{Two, Reg, Shift, One, Jump, Imm, Bare}
-use Rattle.console_defs.specs.declared.ends.StepEnd.{StepEnd}
+use Rattle.tms_defs.specs.declared.flags.Flags.{Flags}
+use Rattle.tms_defs.specs.declared.instruction.Place.{Place}
+use Rattle.tms_defs.specs.declared.instruction.TwoOp.{TwoOp}
+use Rattle.tms_defs.specs.declared.instruction.TwoOp.TheVariants.{SZC, S, C, A, MOV, SOC}
+use Rattle.tms_defs.specs.declared.instruction.RegOp.{RegOp}
+use Rattle.tms_defs.specs.declared.instruction.RegOp.TheVariants.{COC, CZC, XOR, XOP, LDCR, STCR, MPY, DIV}
+use Rattle.tms_defs.specs.declared.instruction.ShiftOp.{ShiftOp}
+use Rattle.tms_defs.specs.declared.instruction.OneOp.{OneOp}
+use Rattle.tms_defs.specs.declared.instruction.OneOp.TheVariants.{BLWP, B, X, CLR, NEG, INV, INC, INCT, DEC, DECT}
+use Rattle.tms_defs.specs.declared.instruction.OneOp.TheVariants.{BL, SWPB, SETO, ABS}
+use Rattle.tms_defs.specs.declared.instruction.JumpOp.{JumpOp}
+use Rattle.tms_defs.specs.declared.instruction.JumpOp.TheVariants.{JMP, JLT, JLE, JEQ, JHE, JGT, JNE, JNC, JOC, JNO}
+use Rattle.tms_defs.specs.declared.instruction.JumpOp.TheVariants.{JL, JH, JOP, SBO, SBZ, TB}
+use Rattle.tms_defs.specs.declared.instruction.ImmOp.{ImmOp}
+use Rattle.tms_defs.specs.declared.instruction.ImmOp.TheVariants.{LI, AI, ANDI, ORI, CI, STWP, STST}
+use Rattle.tms_defs.specs.declared.instruction.BareOp.{BareOp}
+use Rattle.tms_defs.specs.declared.instruction.BareOp.TheVariants.{LWPI, LIMI, IDLE, RSET, RTWP, CKON, CKOF, LREX}
+use Rattle.tms_defs.specs.declared.instruction.Instr.{Instr}
+use Rattle.tms_defs.specs.declared.instruction.Instr.TheVariants.{Two, Reg, Shift, One, Jump, Imm, Bare}
+use Rattle.tms_defs.specs.declared.step_end.StepEnd.{StepEnd}
 
 -- An access, an operand or an instruction that is executed: it gives a value, or a port stands where it stops.
 pub data Executes {X : Type 0} : Answer X → Type 0 where

@@ -3,17 +3,17 @@ use Rattle.std.proofs.Common.{◌≡◌, ◌<◌, ℕ, zero, suc, ◌+◌, Bool,
 use Rattle.std.proofs.Common.{None}
 use Rattle.std.specs.Prelude.{eqb}
 use Rattle.count_defs.specs.Counts.{raised}
-use Rattle.console_defs.specs.Accesses.{Answer, Gives, AtPort, NoInstruction, ◌>>=◌}
+use Rattle.tms_defs.specs.Accesses.{Answer, Gives, AtPort, NoInstruction, ◌>>=◌}
 use Rattle.console_defs.specs.Memory.{Memory, IsMemory, console}
-use Rattle.console_defs.specs.Operand.{Cpu}
-use Rattle.console_defs.specs.Step.{step}
+use Rattle.tms_defs.specs.Operand.{Cpu}
+use Rattle.tms_defs.specs.Step.{step}
 use Rattle.console_defs.specs.Machine.{MachineState, IsMachine, new_machine, counted, machine_step, given_by, done_step}
 use Rattle.console_defs.specs.Machine.{steps}
 use Rattle.console_defs.specs.Runs.{is_reached, end_of_step, after, self_jumped, end_at, IsRun}
-use Rattle.console_defs.specs.declared.ends.StepEnd.{StepEnd}
-use Rattle.console_defs.specs.declared.ends.StepEnd.TheVariants.{Done, Refused, Port}
-use Rattle.console_defs.specs.declared.ends.RunEnd.{RunEnd}
-use Rattle.console_defs.specs.declared.ends.RunEnd.TheVariants as run
+use Rattle.tms_defs.specs.declared.step_end.StepEnd.{StepEnd}
+use Rattle.tms_defs.specs.declared.step_end.StepEnd.TheVariants.{Done, Refused, Port}
+use Rattle.console_defs.specs.declared.run_end.RunEnd.{RunEnd}
+use Rattle.console_defs.specs.declared.run_end.RunEnd.TheVariants as run
 
 next_add : (j k : ℕ) (a : Answer MachineState) →
     ((y : MachineState) → steps (j + k) y ≡ (steps j y >>= steps k)) →

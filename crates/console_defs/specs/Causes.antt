@@ -1,12 +1,12 @@
 -- Why a step executes no instruction: what it refuses, and where it meets a port.
 use Rattle.std.specs.Prelude.{◌≡◌, ℕ, Bool, true, Option, Some, None, if◌then◌else◌}
-use Rattle.console_defs.specs.Instructions.{instr_at}
-use Rattle.console_defs.specs.Accesses.{Gives, AtPort, NoInstruction}
-use Rattle.console_defs.specs.Operand.{Cpu}
+use Rattle.tms_defs.specs.Instructions.{instr_at}
+use Rattle.tms_defs.specs.Accesses.{Gives, AtPort, NoInstruction}
+use Rattle.tms_defs.specs.Operand.{Cpu}
 use Rattle.console_defs.specs.Memory.{Memory, word_read, is_port_address}
-use Rattle.console_defs.specs.Step.{is_stopping}
-use Rattle.console_defs.specs.declared.ends.StepEnd.{StepEnd}
-use Rattle.console_defs.specs.declared.ends.StepEnd.TheVariants.{Done, Refused, Port}
+use Rattle.tms_defs.specs.Step.{is_stopping}
+use Rattle.tms_defs.specs.declared.step_end.StepEnd.{StepEnd}
+use Rattle.tms_defs.specs.declared.step_end.StepEnd.TheVariants.{Done, Refused, Port}
 
 -- A word that no step executes: it belongs to no row of the instruction table, or its operation is not executed.
 abbrev pub is_refused : ℕ → Bool

@@ -1,7 +1,7 @@
 -- The GROMs of the console: their bytes, their common address counter and their ports.
 use Rattle.std.specs.Prelude.{◌<◌, ℕ, ◌+◌, ◌*◌, ◌/◌, ◌%◌, Bool, true, false, not, List, slice_index}
-use Rattle.console_defs.specs.Words.{high, low, join}
-use Rattle.console_defs.specs.Bytes.{HoldsBytes}
+use Rattle.tms_defs.specs.Words.{high, low, join}
+use Rattle.tms_defs.specs.Bytes.{HoldsBytes}
 
 -- The state of the GROMs. `half_written` marks that one byte of an address was written and the other is to come.
 -- GPL Programmer's Guide, on the GROM ports.

@@ -1,14 +1,14 @@
 -- The machine of the console: the processor over the console's memory, with a count of its instructions, and its steps.
 use Rattle.std.specs.Prelude.{◌≡◌, ◌<◌, ℕ, zero, suc, ◌^◌, Bool, ◌&&◌, ◌||◌, nat_le}
 use Rattle.count_defs.specs.Counts.{raised}
-use Rattle.console_defs.specs.Words.{even}
-use Rattle.console_defs.specs.Status.{IsStatus, status_at}
-use Rattle.console_defs.specs.Accesses.{Answer, Gives, AtPort, NoInstruction, ◌>>=◌}
-use Rattle.console_defs.specs.Operand.{Cpu}
+use Rattle.tms_defs.specs.Words.{even}
+use Rattle.tms_defs.specs.Status.{IsStatus, status_at}
+use Rattle.tms_defs.specs.Accesses.{Answer, Gives, AtPort, NoInstruction, ◌>>=◌}
+use Rattle.tms_defs.specs.Operand.{Cpu}
 use Rattle.console_defs.specs.Memory.{Memory, IsMemory, console}
-use Rattle.console_defs.specs.Step.{step}
-use Rattle.console_defs.specs.declared.ends.StepEnd.{StepEnd}
-use Rattle.console_defs.specs.declared.ends.StepEnd.TheVariants.{Done, Refused, Port}
+use Rattle.tms_defs.specs.Step.{step}
+use Rattle.tms_defs.specs.declared.step_end.StepEnd.{StepEnd}
+use Rattle.tms_defs.specs.declared.step_end.StepEnd.TheVariants.{Done, Refused, Port}
 
 -- The count is no part of the processor: it says how many instructions were executed.
 pub record MachineState : Type 0 where

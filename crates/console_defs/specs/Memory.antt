@@ -1,12 +1,12 @@
 -- The memory map of the console.
 use Rattle.std.specs.Prelude.{◌≡◌, ◌≤◌, ℕ, ◌+◌, ◌-◌, ◌%◌, Bool, true, false, eqb, nat_lt, List, slice_index, slice_set}
 use Rattle.std.specs.Prelude.{Option, Some, None}
-use Rattle.console_defs.specs.Words.{high, low, join, even}
-use Rattle.console_defs.specs.Bytes.{HoldsBytes, HoldsZeros, word_in, with_word_in}
+use Rattle.tms_defs.specs.Words.{high, low, join, even}
+use Rattle.tms_defs.specs.Bytes.{HoldsBytes, HoldsZeros, word_in, with_word_in}
 use Rattle.console_defs.specs.Vdp.{VdpState, IsVdp, vdp_address_written, vdp_data_written, vdp_data_read}
 use Rattle.console_defs.specs.Vdp.{vdp_status_read}
 use Rattle.console_defs.specs.Grom.{GromState, IsGrom, grom_address_written, grom_address_read, grom_data_read}
-use Rattle.console_defs.specs.Accesses.{Answer, Gives, AtPort, Accesses}
+use Rattle.tms_defs.specs.Accesses.{Answer, Gives, AtPort, Accesses}
 
 -- The memory of a console: four lists of bytes, and the states of the video processor and of the GROMs.
 -- Editor/Assembler manual, on the memory of the computer.

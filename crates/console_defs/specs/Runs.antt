@@ -3,10 +3,10 @@
 -- executed as its limit says; a step is refused; a step meets a port; a jump to itself was executed.
 use Rattle.std.specs.Prelude.{◌≡◌, ◌<◌, ℕ, zero, suc, Bool, true, false, eqb, Option, Some, None}
 use Rattle.console_defs.specs.Machine.{MachineState, machine_step}
-use Rattle.console_defs.specs.declared.ends.StepEnd.{StepEnd}
-use Rattle.console_defs.specs.declared.ends.StepEnd.TheVariants.{Done, Refused, Port}
-use Rattle.console_defs.specs.declared.ends.RunEnd.{RunEnd}
-use Rattle.console_defs.specs.declared.ends.RunEnd.TheVariants as run
+use Rattle.tms_defs.specs.declared.step_end.StepEnd.{StepEnd}
+use Rattle.tms_defs.specs.declared.step_end.StepEnd.TheVariants.{Done, Refused, Port}
+use Rattle.console_defs.specs.declared.run_end.RunEnd.{RunEnd}
+use Rattle.console_defs.specs.declared.run_end.RunEnd.TheVariants as run
 
 -- The program counter stands at the address that ends the run, where there is one.
 abbrev pub is_reached : Option ℕ → ℕ → Bool

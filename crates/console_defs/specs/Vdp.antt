@@ -1,8 +1,8 @@
 -- The video processor as the processor sees it: its memory, its registers and its four ports.
 use Rattle.std.specs.Prelude.{◌≡◌, ◌<◌, ℕ, ◌+◌, ◌/◌, ◌%◌, Bool, true, false, eqb, List, slice_index, slice_set, Option}
 use Rattle.std.specs.Prelude.{Some, None, is_none, IfSome}
-use Rattle.console_defs.specs.Words.{join}
-use Rattle.console_defs.specs.Bytes.{HoldsBytes, HoldsZeros}
+use Rattle.tms_defs.specs.Words.{join}
+use Rattle.tms_defs.specs.Bytes.{HoldsBytes, HoldsZeros}
 
 -- The state of a video processor. `held` is the first byte of an address pair whose second byte is still to come.
 -- TMS9918A data manual, "CPU interface".

@@ -1,16 +1,6 @@
-//! The definitions of the console: words, processor, video processor, GROM and memory.
+//! The definitions of the console: video processor, GROM, memory map, the machine and its runs.
 #![tactic(auto)]
 
-mod ends;
-mod flags;
-mod instruction;
-mod port_stop;
-mod status;
+mod run_end;
 
-pub use ends::{RunEnd, StepEnd};
-pub use flags::{Flags, Out8, Out16};
-pub use instruction::{
-    BareOp, ImmOp, Instr, JumpOp, OneOp, Operation, Place, RegOp, ShiftOp, TwoOp,
-};
-pub use port_stop::PortStop;
-pub use status::Status;
+pub use run_end::RunEnd;

@@ -7,10 +7,10 @@ ghost use Rattle.lane_scan.specs.Plain as plain;
 ghost use Rattle.report_defs.specs.Summary as spec;
 
 use bench_io::{Failed, Sink, put_piece};
+use gpl_step_defs::{Reason, VISIBLE_CELLS};
 use lane_scan::sum_bytes;
 use report_defs::Summary;
 use report_lines::{Line, append, append_count};
-use step_defs::{Reason, VISIBLE_CELLS};
 use tms_step::Machine;
 
 /// The summary of a program that was made from a number and whose image has so many bytes: so many of its steps were

@@ -7,7 +7,7 @@ use Rattle.std.specs.FinMap.{get}
 use Rattle.source_defs.specs.Refusals.{◌>>=◌}
 use Rattle.object_defs.specs.Modules.{Module}
 use Rattle.object_defs.specs.Reading.{read}
-use Rattle.module_defs.proofs.CheckLaws.{bound}
+use Rattle.asm_defs.proofs.CheckLaws.{bound}
 use Rattle.shelf_defs.specs.Files.{Files}
 use Rattle.file_report_defs.specs.LinkedFiles.{FilesRefusal, InFile, bytes_of, read_files, in_file, modules_of}
 use Rattle.file_commands.specs.declared.file_text.FileText.{FileText}

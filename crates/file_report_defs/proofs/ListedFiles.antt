@@ -4,17 +4,17 @@ use Rattle.std.proofs.Common.{Ok, Option, Some, None, arith}
 use Rattle.std.specs.Prelude.{Result, map, slice_get, codes, if◌then◌else◌}
 use Rattle.std.specs.Option.{unwrap_or}
 use Rattle.std.specs.List.{concat}
-use Rattle.console_defs.specs.Instructions.{instr_at}
+use Rattle.tms_defs.specs.Instructions.{instr_at}
 use Rattle.source_defs.specs.Refusals.{Refusal}
 use Rattle.source_defs.specs.ListedLines.{listed}
 use Rattle.source_defs.specs.Layout.{numbered, laid}
 use Rattle.object_defs.specs.Modules.{Module}
-use Rattle.asm_defs.specs.Printed.{printed}
-use Rattle.module_defs.specs.declared.causes.AsmCause.{AsmCause}
-use Rattle.module_defs.specs.Statements.{statement_in}
-use Rattle.module_defs.specs.Locations.{Line}
-use Rattle.module_defs.specs.FirstChecks.{check}
-use Rattle.module_defs.specs.Modules.{module_behind}
+use Rattle.instruction_defs.specs.Printed.{printed}
+use Rattle.asm_defs.specs.declared.causes.AsmCause.{AsmCause}
+use Rattle.asm_defs.specs.Statements.{statement_in}
+use Rattle.asm_defs.specs.Locations.{Line}
+use Rattle.asm_defs.specs.FirstChecks.{check}
+use Rattle.asm_defs.specs.Modules.{module_behind}
 use Rattle.shelf_defs.specs.Files.{Files}
 use Rattle.shelf_defs.specs.CopyLines.{Itself, asked, ends_source}
 use Rattle.shelf_defs.specs.Copied.{Place, PlacedLine, Ended, Copied, lines_in, copy_line, deepest, copied}

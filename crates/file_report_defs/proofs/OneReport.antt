@@ -3,8 +3,8 @@ use Rattle.std.proofs.Common.{◌≡◌, ℕ, List, length, sym, ap, ◌∙◌, 
 use Rattle.std.specs.Prelude.{nat_lt}
 use Rattle.console_defs.specs.Machine.{MachineState}
 use Rattle.gpl_defs.specs.Image.{Image}
-use Rattle.program_defs.specs.Programs.{program_of_source}
-use Rattle.step_defs.specs.State.{start}
+use Rattle.gpl_source_defs.specs.Programs.{program_of_source}
+use Rattle.gpl_step_defs.specs.State.{start}
 use Rattle.interp_defs.specs.Programs.{RunsProgram}
 use Rattle.interp_defs.proofs.OneMachine.{one_machine_is_left}
 use Rattle.watch_defs.specs.declared.item.Item.{Item}

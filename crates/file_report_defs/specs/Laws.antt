@@ -1,7 +1,7 @@
 -- What holds of all reports with files.
 use Rattle.std.specs.Prelude.{◌≡◌, ℕ, ◌%◌, ◌<◌, List, length, None}
 use Rattle.std.specs.List.{concat}
-use Rattle.console_defs.specs.Bytes.{HoldsBytes}
+use Rattle.tms_defs.specs.Bytes.{HoldsBytes}
 use Rattle.word_listings.specs.Law.{listed_module}
 use Rattle.shelf_defs.specs.Files.{Files}
 use Rattle.report_defs.specs.declared.command.Command.TheVariants.{Dis}

@@ -4,8 +4,8 @@ use Rattle.std.specs.Fmt.{decimal}
 use Rattle.source_defs.specs.Digits.{marked_word, byte_digits}
 use Rattle.console_defs.specs.Machine.{MachineState}
 use Rattle.gpl_defs.specs.Image.{Image, AreBytesOf}
-use Rattle.step_defs.specs.State.{GplState, start}
-use Rattle.step_defs.specs.Run.{run}
+use Rattle.gpl_step_defs.specs.State.{GplState, start}
+use Rattle.gpl_step_defs.specs.Run.{run}
 use Rattle.interp_defs.specs.Programs.{RunsProgram}
 use Rattle.watch_defs.specs.declared.item.Item.{Item}
 use Rattle.watch_defs.specs.declared.found.Found.{Found}

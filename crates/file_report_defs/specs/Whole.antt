@@ -1,6 +1,6 @@
 -- The report of the program, by what its words say, by its input, and by the files.
 use Rattle.std.specs.Prelude.{◌≡◌, ℕ, List}
-use Rattle.program_defs.specs.Programs.{program_of_source}
+use Rattle.gpl_source_defs.specs.Programs.{program_of_source}
 use Rattle.shelf_defs.specs.Files.{Files}
 use Rattle.shelf_defs.specs.Assembly.{module_of_files}
 use Rattle.watch_defs.specs.declared.item.Item.{Item}

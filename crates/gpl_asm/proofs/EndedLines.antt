@@ -1,6 +1,6 @@
 -- The program of lines is that of their text.
 use Rattle.std.proofs.Common.{ap}
-use Rattle.program_defs.specs.Programs.{program_of}
+use Rattle.gpl_source_defs.specs.Programs.{program_of}
 use Rattle.ended_lines.proofs.EndedLines.{texts_have_their_lines}
 use Rattle.gpl_asm.specs.Laws.{LinesMakeTexts}
 

@@ -5,10 +5,10 @@ use Rattle.source_defs.specs.Refusals.{Refusal, ◌>>=◌}
 use Rattle.source_defs.specs.Symbols.{Names}
 use Rattle.source_defs.specs.Layout.{settled}
 use Rattle.source_defs.proofs.DefinedNames.{grown_not}
-use Rattle.program_defs.specs.declared.causes.GplCause.{GplCause}
-use Rattle.program_defs.specs.Locations.{Line}
-use Rattle.program_defs.specs.FirstChecks.{names}
-use Rattle.program_defs.specs.Programs.{Program, Settled, settle, program_by, program_behind}
+use Rattle.gpl_source_defs.specs.declared.causes.GplCause.{GplCause}
+use Rattle.gpl_source_defs.specs.Locations.{Line}
+use Rattle.gpl_source_defs.specs.FirstChecks.{names}
+use Rattle.gpl_source_defs.specs.Programs.{Program, Settled, settle, program_by, program_behind}
 use Rattle.gpl_asm.specs.declared.error.GplError.{GplError}
 use Rattle.gpl_asm.specs.declared.error.GplError.TheVariants.{At, Memory}
 use Rattle.gpl_asm.specs.declared.lines.GplLines.{GplLines}

@@ -8,15 +8,15 @@ use Rattle.source_defs.specs.Symbols.{Names, look_up}
 use Rattle.source_defs.specs.Growing.{Grows}
 use Rattle.source_defs.specs.Layout.{settled, with_names, set_or, none_or, origin, since}
 use Rattle.gpl_defs.specs.Image.{placed}
-use Rattle.program_defs.specs.declared.causes.GplCause.{GplCause}
-use Rattle.program_defs.specs.declared.causes.GplCause.TheVariants.{Overlap}
-use Rattle.program_defs.specs.declared.location.Location.{Location}
-use Rattle.program_defs.specs.Statements.{Statement, size_said}
-use Rattle.program_defs.specs.Locations.{Line, location, place, behind, start, origin_of, IsInGrom}
-use Rattle.program_defs.specs.FirstChecks.{Checked, line_of, names, label_entry, label_value, is_taken}
-use Rattle.program_defs.specs.SecondChecks.{Outcome, Bytes, Entry, outcome}
-use Rattle.program_defs.specs.Programs.{Settled, settle, image, entry, bytes_in, entry_by, overlaps, with_room}
-use Rattle.program_defs.proofs.Sizes.{outcome_size}
+use Rattle.gpl_source_defs.specs.declared.causes.GplCause.{GplCause}
+use Rattle.gpl_source_defs.specs.declared.causes.GplCause.TheVariants.{Overlap}
+use Rattle.gpl_source_defs.specs.declared.location.Location.{Location}
+use Rattle.gpl_source_defs.specs.Statements.{Statement, size_said}
+use Rattle.gpl_source_defs.specs.Locations.{Line, location, place, behind, start, origin_of, IsInGrom}
+use Rattle.gpl_source_defs.specs.FirstChecks.{Checked, line_of, names, label_entry, label_value, is_taken}
+use Rattle.gpl_source_defs.specs.SecondChecks.{Outcome, Bytes, Entry, outcome}
+use Rattle.gpl_source_defs.specs.Programs.{Settled, settle, image, entry, bytes_in, entry_by, overlaps, with_room}
+use Rattle.gpl_source_defs.proofs.Sizes.{outcome_size}
 use Rattle.gpl_asm.specs.declared.kept.Kept.{Kept}
 use Rattle.gpl_asm.specs.declared.kept.Rest.{Rest}
 use Rattle.gpl_asm.specs.declared.lines.GplLines.{GplLines}

@@ -3,7 +3,7 @@ use Rattle.std.proofs.Common.{◌≡◌, ℕ, List, [], ◌∷◌, ◌++◌, Ok,
 use Rattle.std.specs.Prelude.{Result}
 use Rattle.source_defs.specs.Refusals.{Refusal, ◌>>=◌}
 use Rattle.source_defs.specs.Symbols.{Names}
-use Rattle.program_defs.specs.declared.causes.GplCause.{GplCause}
+use Rattle.gpl_source_defs.specs.declared.causes.GplCause.{GplCause}
 use Rattle.gpl_asm.specs.declared.kept.Kept.{Kept}
 use Rattle.gpl_asm.specs.Replay.{Built, step, replay}
 

@@ -4,12 +4,12 @@ use Rattle.std.specs.Prelude.{Result}
 use Rattle.source_defs.specs.Refusals.{◌>>=◌}
 use Rattle.source_defs.specs.Symbols.{Names, look_up}
 use Rattle.source_defs.specs.Growing.{Grows, is_closed}
-use Rattle.program_defs.specs.declared.location.Location.{Location}
-use Rattle.program_defs.specs.Statements.{Statement}
-use Rattle.program_defs.specs.FirstChecks.{said}
-use Rattle.program_defs.specs.SecondChecks.{outcome}
-use Rattle.program_defs.specs.Growing.{is_open}
-use Rattle.program_defs.proofs.GrowingLaws.{outcome_stays, said_stays}
+use Rattle.gpl_source_defs.specs.declared.location.Location.{Location}
+use Rattle.gpl_source_defs.specs.Statements.{Statement}
+use Rattle.gpl_source_defs.specs.FirstChecks.{said}
+use Rattle.gpl_source_defs.specs.SecondChecks.{outcome}
+use Rattle.gpl_source_defs.specs.Growing.{is_open}
+use Rattle.gpl_source_defs.proofs.GrowingLaws.{outcome_stays, said_stays}
 
 -- a line that is read again says what it said, and comes to what it comes to
 pub open_again : (known later : Names) (at : Location) (text : List ℕ) (statement : Statement) → Grows known later → said known at text ≡ Ok statement

@@ -11,15 +11,15 @@ use Rattle.source_defs.specs.Symbols.{Names, look_up}
 use Rattle.source_defs.specs.Growing.{Grows}
 use Rattle.source_defs.specs.Layout.{with_names, has_ended, set_or}
 use Rattle.source_defs.proofs.DefinedNames.{grown, grown_on, grown_not}
-use Rattle.program_defs.specs.declared.causes.GplCause.{GplCause}
-use Rattle.program_defs.specs.declared.location.Location.{Location}
-use Rattle.program_defs.specs.Statements.{Statement, size_said}
-use Rattle.program_defs.specs.Locations.{Line, location, place, behind, origin_of, grom_size, IsInGrom}
-use Rattle.program_defs.specs.FirstChecks.{Checked, checked, line_of, names, label_entry, label_value, is_taken, is_end, is_full}
-use Rattle.program_defs.specs.SecondChecks.{Outcome, outcome}
-use Rattle.program_defs.specs.Programs.{bytes_in}
-use Rattle.program_defs.proofs.Sizes.{outcome_size}
-use Rattle.program_defs.proofs.CheckLaws.{is_let_through, leads}
+use Rattle.gpl_source_defs.specs.declared.causes.GplCause.{GplCause}
+use Rattle.gpl_source_defs.specs.declared.location.Location.{Location}
+use Rattle.gpl_source_defs.specs.Statements.{Statement, size_said}
+use Rattle.gpl_source_defs.specs.Locations.{Line, location, place, behind, origin_of, grom_size, IsInGrom}
+use Rattle.gpl_source_defs.specs.FirstChecks.{Checked, checked, line_of, names, label_entry, label_value, is_taken, is_end, is_full}
+use Rattle.gpl_source_defs.specs.SecondChecks.{Outcome, outcome}
+use Rattle.gpl_source_defs.specs.Programs.{bytes_in}
+use Rattle.gpl_source_defs.proofs.Sizes.{outcome_size}
+use Rattle.gpl_source_defs.proofs.CheckLaws.{is_let_through, leads}
 use Rattle.gpl_asm.specs.declared.kept.Kept.{Kept}
 use Rattle.gpl_asm.specs.declared.kept.Rest.{Rest}
 use Rattle.gpl_asm.specs.declared.lines.GplLines.{GplLines}

@@ -4,7 +4,7 @@ use Rattle.std.specs.Prelude.{Result}
 use Rattle.source_defs.specs.Refusals.{Refusal, ◌>>=◌, at_line}
 use Rattle.source_defs.specs.Layout.{laid, numbered, has_ended}
 use Rattle.source_defs.proofs.LaidLaws.{last_line, laid_more}
-use Rattle.program_defs.specs.FirstChecks.{check}
+use Rattle.gpl_source_defs.specs.FirstChecks.{check}
 use Rattle.gpl_asm.specs.Building.{Takes, HasTaken}
 use Rattle.gpl_asm.specs.Finishing.{TakesText}
 use Rattle.gpl_asm.specs.declared.error.GplError.{GplError}

@@ -5,10 +5,10 @@ use Rattle.source_defs.specs.Refusals.{Refusal, ◌>>=◌}
 use Rattle.source_defs.specs.Symbols.{Names}
 use Rattle.source_defs.specs.Growing.{Grows}
 use Rattle.source_defs.specs.Layout.{laid, numbered, settled, has_ended}
-use Rattle.program_defs.specs.declared.causes.GplCause.{GplCause}
-use Rattle.program_defs.specs.Locations.{Line, location}
-use Rattle.program_defs.specs.FirstChecks.{names, check}
-use Rattle.program_defs.specs.Programs.{Settled, settle, image, entry}
+use Rattle.gpl_source_defs.specs.declared.causes.GplCause.{GplCause}
+use Rattle.gpl_source_defs.specs.Locations.{Line, location}
+use Rattle.gpl_source_defs.specs.FirstChecks.{names, check}
+use Rattle.gpl_source_defs.specs.Programs.{Settled, settle, image, entry}
 use Rattle.gpl_asm.specs.declared.lines.GplLines.{GplLines}
 use Rattle.gpl_asm.specs.declared.error.GplError.{GplError}
 use Rattle.gpl_asm.specs.declared.error.GplError.TheVariants as error

@@ -1,7 +1,7 @@
 -- What a refusal of a line is.
 use Rattle.std.specs.Prelude.{◌≡◌, ⊤, ℕ, Result, Err}
 use Rattle.source_defs.specs.Refusals.{Refusal}
-use Rattle.program_defs.specs.declared.causes.GplCause.{GplCause}
+use Rattle.gpl_source_defs.specs.declared.causes.GplCause.{GplCause}
 use Rattle.gpl_lines.specs.Answers.{NoMemory}
 use Rattle.gpl_lines.specs.declared.failure.Failure.{Failure}
 use Rattle.gpl_lines.specs.declared.failure.Failure.TheVariants as failure

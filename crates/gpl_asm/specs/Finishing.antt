@@ -2,9 +2,9 @@
 use Rattle.std.specs.Prelude.{◌≡◌, ℕ, List, [], ◌∷◌, ◌++◌, Result, Ok, Err}
 use Rattle.source_defs.specs.Refusals.{Refusal}
 use Rattle.source_defs.specs.Layout.{laid, numbered}
-use Rattle.program_defs.specs.declared.causes.GplCause.{GplCause}
-use Rattle.program_defs.specs.FirstChecks.{check}
-use Rattle.program_defs.specs.Programs.{Program}
+use Rattle.gpl_source_defs.specs.declared.causes.GplCause.{GplCause}
+use Rattle.gpl_source_defs.specs.FirstChecks.{check}
+use Rattle.gpl_source_defs.specs.Programs.{Program}
 use Rattle.gpl_asm.specs.declared.error.GplError.{GplError}
 use Rattle.gpl_asm.specs.declared.finish.GplProgram.{GplProgram}
 use Rattle.gpl_asm.specs.declared.lines.GplLines.{GplLines}

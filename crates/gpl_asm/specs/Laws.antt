@@ -1,7 +1,7 @@
 -- What holds of the program of some lines.
 use Rattle.std.specs.Prelude.{◌≡◌, ℕ, List}
 use Rattle.std.specs.List.{AllByRecursion}
-use Rattle.program_defs.specs.Programs.{program_of_source, program_of_lines}
+use Rattle.gpl_source_defs.specs.Programs.{program_of_source, program_of_lines}
 use Rattle.ended_lines.specs.Texts.{IsOneLine, text_of}
 
 -- the law, which is proved: the program of some lines is that of their text

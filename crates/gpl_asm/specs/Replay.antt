@@ -6,12 +6,12 @@ use Rattle.source_defs.specs.Refusals.{Refusal, ◌>>=◌, at_line}
 use Rattle.source_defs.specs.Symbols.{Names, look_up}
 use Rattle.source_defs.specs.Growing.{Grows}
 use Rattle.gpl_defs.specs.Image.{Image, placed}
-use Rattle.program_defs.specs.declared.causes.GplCause.{GplCause}
-use Rattle.program_defs.specs.declared.causes.GplCause.TheVariants.{Overlap}
-use Rattle.program_defs.specs.declared.location.Location.{Location}
-use Rattle.program_defs.specs.FirstChecks.{said}
-use Rattle.program_defs.specs.SecondChecks.{Outcome, Bytes, outcome}
-use Rattle.program_defs.specs.Programs.{bytes_in, entry_by, overlaps}
+use Rattle.gpl_source_defs.specs.declared.causes.GplCause.{GplCause}
+use Rattle.gpl_source_defs.specs.declared.causes.GplCause.TheVariants.{Overlap}
+use Rattle.gpl_source_defs.specs.declared.location.Location.{Location}
+use Rattle.gpl_source_defs.specs.FirstChecks.{said}
+use Rattle.gpl_source_defs.specs.SecondChecks.{Outcome, Bytes, outcome}
+use Rattle.gpl_source_defs.specs.Programs.{bytes_in, entry_by, overlaps}
 use Rattle.gpl_lines.specs.Answers.{Fails, NoMemory}
 use Rattle.gpl_lines.specs.Defined.{defined_outcome}
 use Rattle.gpl_lines.specs.declared.failure.Failure.{Failure}

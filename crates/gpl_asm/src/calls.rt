@@ -4,7 +4,7 @@ ghost use Rattle.std.specs.Prelude.{◌≡◌, ◌↔◌, ◌<◌, ◌-◌, ◌^
 ghost use Rattle.source_defs.specs.Layout.{has_ended};
 ghost use Rattle.std.specs.List.{AllByRecursion};
 ghost use Rattle.ended_lines.specs.Texts.{IsOneLine, text_of};
-ghost use Rattle.program_defs.specs.Programs.{program_of_lines, program_of_source};
+ghost use Rattle.gpl_source_defs.specs.Programs.{program_of_lines, program_of_source};
 ghost use Rattle.gpl_asm.specs.Building.{HasTaken, IsOpen, CanCount};
 ghost use Rattle.gpl_asm.specs.Finishing.{TakesText, GivesProgram};
 
@@ -13,7 +13,7 @@ use crate::finish::GplProgram;
 use crate::lines::GplLines;
 use asm_text::Symbols;
 use gpl_forms::GromImage;
-use program_defs::Location;
+use gpl_source_defs::Location;
 use std::alloc::{AllocError, Global};
 
 /// The first address of the GROM in which a source begins.

@@ -5,7 +5,7 @@ ghost use Rattle.gpl_asm.specs.Errors.{refusal_at};
 ghost use Rattle.gpl_asm.specs.declared.error.GplError.TheVariants.{Memory};
 
 use gpl_lines::Failure;
-use program_defs::GplCause;
+use gpl_source_defs::GplCause;
 use std::alloc::AllocError;
 
 /// Why a GPL source is not assembled.

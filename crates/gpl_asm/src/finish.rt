@@ -2,8 +2,8 @@
 
 ghost use Rattle.std.specs.Prelude.{◌≡◌, List, None};
 ghost use Rattle.std.specs.List.{AllByRecursion};
-ghost use Rattle.program_defs.specs.Locations.{Line};
-ghost use Rattle.program_defs.specs.Programs.{program_behind};
+ghost use Rattle.gpl_source_defs.specs.Locations.{Line};
+ghost use Rattle.gpl_source_defs.specs.Programs.{program_behind};
 ghost use Rattle.gpl_asm.specs.Replay.{HasRoom, Replays, Settles};
 ghost use Rattle.gpl_asm.specs.Building.{IsBehind};
 ghost use Rattle.gpl_asm.specs.Finishing.{GivesProgram};

@@ -4,10 +4,10 @@ ghost use Rattle.std.specs.Prelude.{◌≡◌, ◌<◌, ◌+◌, ◌-◌, ◌^�
 ghost use Rattle.source_defs.specs.Layout.{with_names};
 ghost use Rattle.source_defs.specs.Symbols.{Names, look_up};
 ghost use Rattle.source_defs.specs.Growing.{Grows};
-ghost use Rattle.program_defs.specs.FirstChecks.{label_entry, said};
-ghost use Rattle.program_defs.specs.declared.location.Location.{Location};
-ghost use Rattle.program_defs.specs.SecondChecks.{Bytes, outcome};
-ghost use Rattle.program_defs.specs.Growing as growing;
+ghost use Rattle.gpl_source_defs.specs.FirstChecks.{label_entry, said};
+ghost use Rattle.gpl_source_defs.specs.declared.location.Location.{Location};
+ghost use Rattle.gpl_source_defs.specs.SecondChecks.{Bytes, outcome};
+ghost use Rattle.gpl_source_defs.specs.Growing as growing;
 ghost use Rattle.gpl_lines.specs.Defined.{defined_statement};
 ghost use Rattle.gpl_lines.specs.Validity.{IsValid};
 ghost use Rattle.gpl_asm.specs.Replay.{answer, WaitsForSome};
@@ -17,7 +17,7 @@ use crate::kept::{Kept, Rest};
 use crate::lines::GplLines;
 use asm_text::{ExprError, Name, Symbols, Value};
 use gpl_lines::{Failure, Outcome, Scope, Statement};
-use program_defs::GplCause;
+use gpl_source_defs::GplCause;
 use std::alloc::AllocError;
 
 /// What is left of a line that the first checks let through; none where it comes to nothing.

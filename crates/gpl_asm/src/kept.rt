@@ -1,7 +1,7 @@
 //! What a builder keeps of a line.
 
 use gpl_lines::Outcome;
-use program_defs::{GplCause, Location};
+use gpl_source_defs::{GplCause, Location};
 
 /// A line that comes to something, or that the second checks refuse.
 #[derive(Drop)]

@@ -15,4 +15,4 @@ pub use crate::error::GplError;
 pub use crate::finish::GplProgram;
 pub use crate::lines::GplLines;
 pub use crate::source::gpl_assemble;
-pub use program_defs::GplCause;
+pub use gpl_source_defs::GplCause;

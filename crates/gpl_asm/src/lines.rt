@@ -2,12 +2,12 @@
 
 ghost use Rattle.std.specs.Prelude.{◌≡◌};
 ghost use Rattle.std.specs.FinMap.{empty};
-ghost use Rattle.program_defs.specs.Locations.{IsInGrom};
+ghost use Rattle.gpl_source_defs.specs.Locations.{IsInGrom};
 
 use crate::kept::Kept;
 use asm_text::Symbols;
 use gpl_forms::GromImage;
-use program_defs::Location;
+use gpl_source_defs::Location;
 use std::alloc::Global;
 
 /// A GPL source, line by line. A line is kept by what it comes to; its text is kept only where a value of it is still

@@ -2,14 +2,14 @@
 
 ghost use Rattle.std.specs.Prelude.{◌≡◌, ◌≤◌, ◌+◌, ℕ, length, Ok, Err};
 ghost use Rattle.gpl_defs.specs.Image.{placed};
-ghost use Rattle.program_defs.specs.declared.causes.GplCause.TheVariants.{Overlap};
-ghost use Rattle.program_defs.specs.Programs.{bytes_in, overlaps};
+ghost use Rattle.gpl_source_defs.specs.declared.causes.GplCause.TheVariants.{Overlap};
+ghost use Rattle.gpl_source_defs.specs.Programs.{bytes_in, overlaps};
 ghost use Rattle.gpl_lines.specs.Defined.{defined_outcome};
 ghost use Rattle.gpl_asm.specs.Replay.{Puts};
 
 use gpl_forms::GromImage;
 use gpl_lines::Outcome;
-use program_defs::{GplCause, Location};
+use gpl_source_defs::{GplCause, Location};
 
 /// Places what a line comes to, and gives the entry behind it; or refuses it where a byte of it was placed before.
 pub(crate) fn put(

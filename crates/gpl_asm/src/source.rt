@@ -1,7 +1,7 @@
 //! A source as a program.
 
 ghost use Rattle.std.specs.Prelude.{◌≡◌, ◌<◌, ◌^◌, length};
-ghost use Rattle.program_defs.specs.Programs.{program_of_source};
+ghost use Rattle.gpl_source_defs.specs.Programs.{program_of_source};
 ghost use Rattle.gpl_asm.specs.Finishing.{GivesProgram};
 
 use crate::error::GplError;

@@ -2,8 +2,8 @@
 
 ghost use Rattle.std.specs.Prelude.{◌≡◌, ◌<◌, ◌≤◌, ◌+◌, ◌-◌, ◌^◌, ◌||◌, List};
 ghost use Rattle.source_defs.specs.Layout.{set_or};
-ghost use Rattle.program_defs.specs.Locations.{Line, behind, IsInGrom};
-ghost use Rattle.program_defs.specs.FirstChecks.{is_end};
+ghost use Rattle.gpl_source_defs.specs.Locations.{Line, behind, IsInGrom};
+ghost use Rattle.gpl_source_defs.specs.FirstChecks.{is_end};
 ghost use Rattle.gpl_lines.specs.Defined.{defined_statement};
 ghost use Rattle.gpl_asm.specs.Keeping.{SameLists};
 ghost use Rattle.gpl_asm.specs.Building.{IsBehind, Takes};
@@ -12,7 +12,7 @@ use crate::error::{GplError, refusal_at};
 use crate::keep::rest_of;
 use crate::lines::GplLines;
 use gpl_lines::{Checked, Scope};
-use program_defs::Location;
+use gpl_source_defs::Location;
 
 impl GplLines {
     /// Takes a line behind those that were taken. A refused line leaves the builder as before.
@@ -33,7 +33,7 @@ impl GplLines {
     }
 
     /// What a line behind those that were taken sees.
-    #[tactic(auto, using(program_defs::proofs::CheckLaws::most_number))]
+    #[tactic(auto, using(gpl_source_defs::proofs::CheckLaws::most_number))]
     fn scope(&self) -> Scope<'_>
         ensures symbols { result.symbols.now ≡ self.now.symbols }
         ensures at { result.at ≡ self.now.location }

@@ -3,7 +3,7 @@ use Rattle.std.proofs.Common.{◌≡◌, ℕ, zero, suc, ◌/◌, ◌%◌, ◌<�
 use Rattle.std.proofs.Common.{refl, sym, ap, arith, Some}
 use Rattle.std.specs.Prelude.{◌==◌, slice_index, IsTrue}
 use Rattle.std.proofs.lemmas.Bool.Decides.{nat_tests}
-use Rattle.console_defs.specs.Words.{high, low, join}
+use Rattle.tms_defs.specs.Words.{high, low, join}
 use Rattle.console_defs.specs.Grom.{next_in_grom}
 use Rattle.gpl_defs.specs.declared.instruction.MoveKind.{MoveKind}
 use Rattle.gpl_defs.specs.declared.instruction.MoveKind.TheVariants.{

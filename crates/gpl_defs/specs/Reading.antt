@@ -1,7 +1,7 @@
 -- What stands at an address of GROM.
 use Rattle.std.specs.Prelude.{◌≡◌, ℕ, ◌/◌, ◌%◌, ◌==◌, ◌&&◌, Bool, true, false, nat_lt, if◌then◌else◌, List, [], ◌∷◌}
 use Rattle.std.specs.Prelude.{slice_index, Option, Some, None}
-use Rattle.console_defs.specs.Words.{join}
+use Rattle.tms_defs.specs.Words.{join}
 use Rattle.console_defs.specs.Grom.{next_in_grom}
 use Rattle.gpl_defs.specs.declared.instruction.Space.{Space}
 use Rattle.gpl_defs.specs.declared.instruction.Space.TheVariants.{Cpu, Vdp}

@@ -8,7 +8,7 @@ use Rattle.gpl_defs.specs.Bytes.{bytes_of}
 use Rattle.gpl_defs.specs.Reading.{reading, IsReadAt}
 use Rattle.gpl_forms.specs.Sizes.{size_between}
 use Rattle.gpl_forms.proofs.SizeLaws.{stands_by_size}
-use Rattle.listing_defs.specs.Listing.{boundary, byte_listed, instr_listed, listed_at}
+use Rattle.gpl_listing_defs.specs.Listing.{boundary, byte_listed, instr_listed, listed_at}
 
 -- whether so many bytes are a whole instruction in its shortest spelling
 abbrev pub is_whole_by : ℕ → ℕ → ℕ → ℕ → Bool

@@ -5,7 +5,7 @@ ghost use Rattle.arrayvec.specs.ArrayString.{array_string_len};
 ghost use Rattle.source_defs.specs.ListedLines.{listed};
 ghost use Rattle.gpl_defs.specs.declared.instruction.GplRead.TheVariants.{Instr};
 ghost use Rattle.gpl_defs.specs.Reading.{reading, IsReadAt};
-ghost use Rattle.listing_defs.specs.Listing as spec;
+ghost use Rattle.gpl_listing_defs.specs.Listing as spec;
 
 use crate::listing::GROM_SIZE;
 use crate::text::{push_byte_text, push_instr};

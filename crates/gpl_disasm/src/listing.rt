@@ -5,7 +5,7 @@ ghost use Rattle.bench_io.specs.Written.{Written};
 ghost use Rattle.source_defs.specs.Digits.{marked_word};
 ghost use Rattle.source_defs.specs.ListedLines.{listing_line};
 ghost use Rattle.gpl_defs.specs.Image.{AreBytesOf, low_of, high_of};
-ghost use Rattle.listing_defs.specs.Listing as spec;
+ghost use Rattle.gpl_listing_defs.specs.Listing as spec;
 
 use crate::digits::push_word;
 use crate::line::{Line, MARGIN, list_line};
@@ -29,7 +29,7 @@ pub fn disassemble<O: Sink>(image: &GromImage, out: &mut O) -> Result<(), Failed
 }
 
 /// Writes the listing of 65,536 bytes from an address up to another.
-#[tactic(auto, unfolding(listing_defs::specs::Listing::grom_listing))]
+#[tactic(auto, unfolding(gpl_listing_defs::specs::Listing::grom_listing))]
 fn put_listing<O: Sink>(image: &[u8], low: u16, high: u32, out: &mut O) -> Result<(), Failed>
     requires size { length image.now ≡ 65536 }
     requires end { high ≤ 65536 }

@@ -2,7 +2,7 @@
 ghost use Rattle.std.specs.Prelude.{◌≡◌, ◌≤◌, ◌<◌, ◌+◌, ◌++◌, length};
 ghost use Rattle.arrayvec.specs.ArrayString.{array_string_len};
 ghost use Rattle.gpl_defs.specs.Bytes.{FitsSource};
-ghost use Rattle.listing_defs.specs.Texts as spec;
+ghost use Rattle.gpl_listing_defs.specs.Texts as spec;
 
 use crate::digits::{push_byte, push_word};
 use arrayvec::ArrayString;
@@ -13,7 +13,7 @@ const SCRATCHPAD: u16 = 0x8300;
 
 /// Appends an operand in memory.
 #[inline]
-#[tactic(auto, using(std::proofs::Common::append_assoc), unfolding(listing_defs::specs::Texts::operand_text))]
+#[tactic(auto, using(std::proofs::Common::append_assoc), unfolding(gpl_listing_defs::specs::Texts::operand_text))]
 pub(crate) fn push_operand<const N: usize>(text: &mut ArrayString<N>, operand: GplOperand)
     requires { array_string_len text.old + 15 ≤ N }
     ensures text { text.new.bytes ≡ text.old.bytes ++ spec.operand_text operand }

@@ -4,10 +4,10 @@ ghost use Rattle.arrayvec.specs.ArrayString.{array_string_len};
 ghost use Rattle.gpl_defs.specs.Codes.{row_of};
 ghost use Rattle.gpl_defs.specs.Reading.{reading};
 ghost use Rattle.gpl_defs.specs.Valid.{is_valid};
-ghost use Rattle.program_defs.specs.Mnemonics.{name_of_words};
+ghost use Rattle.gpl_source_defs.specs.Mnemonics.{name_of_words};
 ghost use Rattle.source_defs.specs.Digits.{marked_byte};
 ghost use Rattle.source_defs.specs.ListedLines.{two_texts};
-ghost use Rattle.listing_defs.specs.Texts as spec;
+ghost use Rattle.gpl_listing_defs.specs.Texts as spec;
 
 use crate::digits::{push_byte, push_word};
 use crate::listing::GROM_SIZE;
@@ -54,7 +54,7 @@ pub(crate) fn push_byte_text<const N: usize>(text: &mut ArrayString<N>, byte: u8
 }
 
 /// Appends the text of a valid instruction that stands at an address.
-#[tactic(auto, using(std::proofs::Common::append_assoc), unfolding(listing_defs::specs::Texts::instr_text))]
+#[tactic(auto, using(std::proofs::Common::append_assoc), unfolding(gpl_listing_defs::specs::Texts::instr_text))]
 pub(crate) fn push_instr<const N: usize>(text: &mut ArrayString<N>, instr: &GplInstr, at: u16)
     requires valid { IsTrue (is_valid instr.now) }
     requires room { array_string_len text.old + 52 ≤ N }

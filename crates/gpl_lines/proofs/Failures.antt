@@ -3,8 +3,8 @@ use Rattle.std.proofs.Common.{◌≡◌, Err}
 use Rattle.std.specs.Prelude.{Result}
 use Rattle.source_defs.specs.declared.causes.ExprError.{ExprError}
 use Rattle.source_defs.specs.declared.causes.ExprError.TheVariants as expr
-use Rattle.program_defs.specs.declared.causes.GplCause.{GplCause}
-use Rattle.program_defs.specs.declared.causes.GplCause.TheVariants.{Expr}
+use Rattle.gpl_source_defs.specs.declared.causes.GplCause.{GplCause}
+use Rattle.gpl_source_defs.specs.declared.causes.GplCause.TheVariants.{Expr}
 use Rattle.gpl_lines.specs.Answers.{Fails, expr_failure}
 
 pub expr_fails : {B : Type 0} (error : ExprError) (defined : Result B GplCause) → defined ≡ Err (Expr error) → Fails (expr_failure error) defined

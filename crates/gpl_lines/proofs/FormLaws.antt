@@ -3,8 +3,8 @@ use Rattle.std.proofs.Common.{◌≡◌, ℕ, Bool, true, false, List, [], ◌�
 use Rattle.std.specs.Prelude.{Option, find, ◌&&◌, if◌then◌else◌}
 use Rattle.std.specs.List.{list_all}
 use Rattle.source_defs.specs.Names.{is_word}
-use Rattle.program_defs.specs.declared.mnemonic.Mnemonic.{Mnemonic}
-use Rattle.program_defs.specs.Mnemonics.{mnemonic, mnemonics, name_of}
+use Rattle.gpl_source_defs.specs.declared.mnemonic.Mnemonic.{Mnemonic}
+use Rattle.gpl_source_defs.specs.Mnemonics.{mnemonic, mnemonics, name_of}
 use Rattle.gpl_lines.specs.Validity.{HasForm, has_form}
 
 all_have : list_all has_form mnemonics ≡ true

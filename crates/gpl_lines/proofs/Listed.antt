@@ -4,8 +4,8 @@ use Rattle.std.specs.Prelude.{Option}
 use Rattle.source_defs.specs.Refusals.{after}
 use Rattle.source_defs.specs.Expression.{Value}
 use Rattle.source_defs.proofs.RefusalLaws.{after_more}
-use Rattle.program_defs.specs.declared.causes.GplCause.{GplCause}
-use Rattle.program_defs.specs.Values.{number, numbers}
+use Rattle.gpl_source_defs.specs.declared.causes.GplCause.{GplCause}
+use Rattle.gpl_source_defs.specs.Values.{number, numbers}
 
 module _ (look : List ℕ → Option Value) (here : ℕ) where
   pub number_more : (front : List ℕ) (text : List ℕ) (texts : List (List ℕ)) (found : ℕ) → number look here text ≡ Ok found

@@ -1,8 +1,8 @@
 -- What an operation field names, by the number of its text.
 use Rattle.std.proofs.Common.{◌≡◌, ℕ, List, refl, sym, ap, ◌∙◌}
 use Rattle.std.specs.Prelude.{map, Option}
-use Rattle.program_defs.specs.declared.mnemonic.Mnemonic.{Mnemonic}
-use Rattle.program_defs.specs.Mnemonics.{mnemonic, mnemonics, name_of}
+use Rattle.gpl_source_defs.specs.declared.mnemonic.Mnemonic.{Mnemonic}
+use Rattle.gpl_source_defs.specs.Mnemonics.{mnemonic, mnemonics, name_of}
 use Rattle.asm_text.specs.WordKeys.{key_of, word_key, with_key}
 use Rattle.asm_text.proofs.WordKeys.{AreBytes, words_found}
 

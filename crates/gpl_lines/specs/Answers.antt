@@ -2,8 +2,8 @@
 use Rattle.std.specs.Prelude.{◌≡◌, ⊤, Result, Ok, Err}
 use Rattle.source_defs.specs.declared.causes.ExprError.{ExprError}
 use Rattle.source_defs.specs.declared.causes.ExprError.TheVariants as expr
-use Rattle.program_defs.specs.declared.causes.GplCause.{GplCause}
-use Rattle.program_defs.specs.declared.causes.GplCause.TheVariants.{Expr}
+use Rattle.gpl_source_defs.specs.declared.causes.GplCause.{GplCause}
+use Rattle.gpl_source_defs.specs.declared.causes.GplCause.TheVariants.{Expr}
 use Rattle.gpl_lines.specs.declared.failure.Failure.{Failure}
 use Rattle.gpl_lines.specs.declared.failure.Failure.TheVariants.{Refused, Memory}
 

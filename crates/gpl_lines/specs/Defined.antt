@@ -1,11 +1,11 @@
 -- What the code finds in a line, as the definitions have it.
 use Rattle.std.specs.Option.{option_map}
 use Rattle.source_defs.specs.Operands.{operand_texts}
-use Rattle.program_defs.specs.Forms as forms
-use Rattle.program_defs.specs.Skeletons as skeletons
-use Rattle.program_defs.specs.Statements as statements
-use Rattle.program_defs.specs.FirstChecks as first
-use Rattle.program_defs.specs.SecondChecks as second
+use Rattle.gpl_source_defs.specs.Forms as forms
+use Rattle.gpl_source_defs.specs.Skeletons as skeletons
+use Rattle.gpl_source_defs.specs.Statements as statements
+use Rattle.gpl_source_defs.specs.FirstChecks as first
+use Rattle.gpl_source_defs.specs.SecondChecks as second
 use Rattle.gpl_lines.specs.declared.forms.Memory.{Memory}
 use Rattle.gpl_lines.specs.declared.forms.Form.{Form}
 use Rattle.gpl_lines.specs.declared.forms.Form.TheVariants.{InMemory, InGrom, Register, Alone}

@@ -1,9 +1,9 @@
 -- What the code finds in a line has bytes, and is as short as a line.
 use Rattle.std.specs.Prelude.{⊤, Bool, ◌≡◌, ◌≤◌, ◌||◌, not, true, length, IsTrue}
 use Rattle.gpl_defs.specs.Valid.{has_words, is_valid}
-use Rattle.program_defs.specs.Skeletons.{instr_by_zero}
-use Rattle.program_defs.specs.declared.mnemonic.Mnemonic.{Mnemonic}
-use Rattle.program_defs.specs.declared.mnemonic.Mnemonic.TheVariants.{One}
+use Rattle.gpl_source_defs.specs.Skeletons.{instr_by_zero}
+use Rattle.gpl_source_defs.specs.declared.mnemonic.Mnemonic.{Mnemonic}
+use Rattle.gpl_source_defs.specs.declared.mnemonic.Mnemonic.TheVariants.{One}
 use Rattle.gpl_lines.specs.Defined.{defined_skeleton}
 use Rattle.gpl_lines.specs.declared.skeleton.Skeleton.{Skeleton}
 use Rattle.gpl_lines.specs.declared.statement.Statement.{Statement}

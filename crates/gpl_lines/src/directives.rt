@@ -1,13 +1,13 @@
 //! The directives by their names.
 
 ghost use Rattle.std.specs.Prelude.{◌≡◌};
-ghost use Rattle.program_defs.specs.Directives as spec;
+ghost use Rattle.gpl_source_defs.specs.Directives as spec;
 
 use asm_text::is_word;
-use program_defs::Directive;
+use gpl_source_defs::Directive;
 
 /// The directive that an operation field names, in upper or lower case.
-#[tactic(auto, unfolding(program_defs::specs::Directives::directive))]
+#[tactic(auto, unfolding(gpl_source_defs::specs::Directives::directive))]
 pub(crate) fn directive(text: &[u8]) -> Option<Directive>
     ensures { result ≡ spec.directive text.now }
 {

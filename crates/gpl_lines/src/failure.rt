@@ -1,11 +1,11 @@
 //! Why a line is refused, before its number is told.
 
 ghost use Rattle.std.specs.Prelude.{◌≡◌};
-ghost use Rattle.program_defs.specs.Skeletons.{operand_cause};
+ghost use Rattle.gpl_source_defs.specs.Skeletons.{operand_cause};
 ghost use Rattle.gpl_lines.specs.Answers.{expr_failure};
 ghost use Rattle.gpl_lines.specs.declared.failure.Failure.TheVariants.{Refused, Memory};
 
-use program_defs::GplCause;
+use gpl_source_defs::GplCause;
 use source_defs::{ExprError, OperandError};
 use std::alloc::AllocError;
 

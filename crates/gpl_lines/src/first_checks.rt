@@ -2,9 +2,9 @@
 
 ghost use Rattle.std.specs.Prelude.{◌≡◌, ◌≤◌, IfOk, IfSome};
 ghost use Rattle.source_defs.specs.Symbols.{look_up};
-ghost use Rattle.program_defs.specs.Locations as places;
-ghost use Rattle.program_defs.specs.FirstChecks as spec;
-ghost use Rattle.program_defs.specs.Statements.{size_said};
+ghost use Rattle.gpl_source_defs.specs.Locations as places;
+ghost use Rattle.gpl_source_defs.specs.FirstChecks as spec;
+ghost use Rattle.gpl_source_defs.specs.Statements.{size_said};
 ghost use Rattle.gpl_lines.specs.Answers.{Gives};
 ghost use Rattle.gpl_lines.specs.Defined.{defined_statement, defined_checked};
 ghost use Rattle.gpl_lines.specs.Validity.{IsValid};
@@ -14,7 +14,7 @@ use crate::numbers::GROM_SIZE;
 use crate::statement::Statement;
 use crate::values::{Scope, address_of};
 use asm_text::{Name, Symbols, fields};
-use program_defs::{GplCause, Location};
+use gpl_source_defs::{GplCause, Location};
 
 /// What the first checks leave of a line.
 #[derive(Clone, Copy)]
@@ -33,7 +33,7 @@ impl Scope<'_> {
     /// # Errors
     /// `Refused` carries what the first checks refuse first, and comes exactly where they do. `Memory` is want of
     /// memory.
-    #[tactic(auto, unfolding(program_defs::specs::FirstChecks::checked))]
+    #[tactic(auto, unfolding(gpl_source_defs::specs::FirstChecks::checked))]
     pub fn checked<'b>(&self, text: &'b [u8]) -> Result<Checked<'b>, Failure>
         requires { (self.now.at.grom ≤ 65535) × (self.now.at.number ≤ 65536) }
         ensures checked { Gives defined_checked result (spec.checked self.now.symbols.now self.now.at text.now) }

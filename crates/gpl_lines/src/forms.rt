@@ -2,7 +2,7 @@
 
 ghost use Rattle.std.specs.Prelude.{◌≡◌};
 ghost use Rattle.std.specs.Option.{option_map};
-ghost use Rattle.program_defs.specs.Forms as spec;
+ghost use Rattle.gpl_source_defs.specs.Forms as spec;
 ghost use Rattle.gpl_lines.specs.Defined.{defined_form};
 
 use asm_text::{parentheses_at, upper_case};
@@ -32,7 +32,7 @@ pub(crate) enum Form<'a> {
 }
 
 /// The form of an operand.
-#[tactic(auto, unfolding(program_defs::specs::Forms::form_of))]
+#[tactic(auto, unfolding(gpl_source_defs::specs::Forms::form_of))]
 pub(crate) fn form_of(text: &[u8]) -> Form<'_>
     ensures { defined_form result ≡ spec.form_of text.now }
 {

@@ -1,12 +1,12 @@
 //! The instructions by their names.
 
 ghost use Rattle.std.specs.Prelude.{◌≡◌, Some};
-ghost use Rattle.program_defs.specs.Mnemonics as spec;
+ghost use Rattle.gpl_source_defs.specs.Mnemonics as spec;
 ghost use Rattle.asm_text.specs.WordKeys.{with_key};
 
 use asm_text::word_key;
 use gpl_defs::{ByteOp, GoOp, OneName, PlainOp, TwoName};
-use program_defs::Mnemonic;
+use gpl_source_defs::Mnemonic;
 
 /// The instructions that have a name, each behind the number of its name.
 const NAMED: [(u64, Mnemonic); 75] = [

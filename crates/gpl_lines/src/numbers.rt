@@ -1,13 +1,13 @@
 //! Numbers by their ranges.
 
 ghost use Rattle.std.specs.Prelude.{◌≡◌, ◌≤◌, IfErr, IfOk};
-ghost use Rattle.program_defs.specs.Values as spec;
-ghost use Rattle.program_defs.specs.Locations as places;
-ghost use Rattle.program_defs.specs.SecondChecks as checks;
-ghost use Rattle.program_defs.specs.declared.causes.GplCause.TheVariants.{BadOperand, OtherGrom};
+ghost use Rattle.gpl_source_defs.specs.Values as spec;
+ghost use Rattle.gpl_source_defs.specs.Locations as places;
+ghost use Rattle.gpl_source_defs.specs.SecondChecks as checks;
+ghost use Rattle.gpl_source_defs.specs.declared.causes.GplCause.TheVariants.{BadOperand, OtherGrom};
 
 use gpl_defs::Space;
-use program_defs::{GplCause, Location};
+use gpl_source_defs::{GplCause, Location};
 
 /// The first address of the scratchpad.
 const SCRATCHPAD: u16 = 0x8300;

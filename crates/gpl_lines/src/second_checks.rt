@@ -6,8 +6,8 @@ ghost use Rattle.gpl_defs.specs.Bytes.{word_bytes};
 ghost use Rattle.gpl_defs.specs.Valid.{is_valid};
 ghost use Rattle.gpl_defs.specs.declared.instruction.GplInstr.TheVariants as instr;
 ghost use Rattle.source_defs.specs.Symbols.{look_up};
-ghost use Rattle.program_defs.specs.SecondChecks as spec;
-ghost use Rattle.program_defs.specs.Values as values;
+ghost use Rattle.gpl_source_defs.specs.SecondChecks as spec;
+ghost use Rattle.gpl_source_defs.specs.Values as values;
 ghost use Rattle.gpl_lines.specs.Answers.{Gives};
 ghost use Rattle.gpl_lines.specs.Defined.{defined_outcome, defined_route, defined_skeleton, defined_source};
 ghost use Rattle.gpl_lines.specs.Defined.{defined_statement};
@@ -38,7 +38,7 @@ impl Scope<'_> {
     /// # Errors
     /// `Refused` carries what its values or their ranges are refused for first, and comes exactly where they are.
     /// `Memory` is want of memory.
-    #[tactic(auto, unfolding(program_defs::specs::SecondChecks::outcome))]
+    #[tactic(auto, unfolding(gpl_source_defs::specs::SecondChecks::outcome))]
     pub fn outcome(&self, statement: &Statement<'_>) -> Result<Outcome, Failure>
         requires { IsValid statement.now }
         ensures { Gives defined_outcome result

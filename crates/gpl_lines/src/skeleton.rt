@@ -1,7 +1,7 @@
 //! What the first checks leave of an instruction.
 
 ghost use Rattle.std.specs.Prelude.{◌≡◌, ◌≤◌};
-ghost use Rattle.program_defs.specs.Skeletons as spec;
+ghost use Rattle.gpl_source_defs.specs.Skeletons as spec;
 ghost use Rattle.gpl_lines.specs.Defined.{defined_route, defined_skeleton, defined_source};
 
 use gpl_defs::{

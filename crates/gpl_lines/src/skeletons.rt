@@ -4,8 +4,8 @@ ghost use Rattle.std.specs.Prelude.{◌≡◌, IsTrue, IfOk, IfErr};
 ghost use Rattle.source_defs.specs.Operands.{operand_texts};
 ghost use Rattle.source_defs.specs.Refusals.{seen};
 ghost use Rattle.source_defs.specs.Symbols.{look_up};
-ghost use Rattle.program_defs.specs.Locations.{address_of};
-ghost use Rattle.program_defs.specs.Skeletons as spec;
+ghost use Rattle.gpl_source_defs.specs.Locations.{address_of};
+ghost use Rattle.gpl_source_defs.specs.Skeletons as spec;
 ghost use Rattle.gpl_lines.specs.Answers.{Gives, NoMemory};
 ghost use Rattle.gpl_lines.specs.Defined.{
   defined_form,
@@ -23,7 +23,7 @@ use crate::skeleton::{Route, Skeleton, Source};
 use crate::values::Scope;
 use asm_text::{one_of, operands};
 use gpl_defs::{GplOperand, TwoName};
-use program_defs::{GplCause, Mnemonic};
+use gpl_source_defs::{GplCause, Mnemonic};
 
 impl Scope<'_> {
     /// The operands of an instruction.

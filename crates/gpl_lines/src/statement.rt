@@ -4,9 +4,9 @@ ghost use Rattle.std.specs.Prelude.{◌≡◌, ◌≤◌, length, IfOk, IsTrue};
 ghost use Rattle.asm_text.specs.GivenFields.{defined_fields, FieldsLieInside};
 ghost use Rattle.source_defs.specs.Operands.{operand_texts};
 ghost use Rattle.source_defs.specs.Symbols.{look_up};
-ghost use Rattle.program_defs.specs.Locations.{address_of};
-ghost use Rattle.program_defs.specs.Mnemonics.{mnemonic};
-ghost use Rattle.program_defs.specs.Statements as spec;
+ghost use Rattle.gpl_source_defs.specs.Locations.{address_of};
+ghost use Rattle.gpl_source_defs.specs.Mnemonics.{mnemonic};
+ghost use Rattle.gpl_source_defs.specs.Statements as spec;
 ghost use Rattle.gpl_lines.specs.Answers.{Gives};
 ghost use Rattle.gpl_lines.specs.Defined.{defined_statement};
 ghost use Rattle.gpl_lines.specs.Validity.{IsValid};
@@ -19,7 +19,7 @@ use crate::values::Scope;
 use asm_text::{
     Fields, at_most_one_of, character_count, one_of, operand_count, part, quoted, some_of,
 };
-use program_defs::{Directive, GplCause};
+use gpl_source_defs::{Directive, GplCause};
 
 /// What a line says: an instruction, or a directive with its operands, those that move locations by their numbers. A
 /// field stands for the operands in it.

@@ -4,8 +4,8 @@ ghost use Rattle.std.specs.Prelude.{◌≡◌, IfErr, IfOk};
 ghost use Rattle.std.specs.Option.{option_map};
 ghost use Rattle.source_defs.specs.Operands.{operand_texts};
 ghost use Rattle.source_defs.specs.Symbols.{look_up};
-ghost use Rattle.program_defs.specs.Locations.{address_of};
-ghost use Rattle.program_defs.specs.Values as spec;
+ghost use Rattle.gpl_source_defs.specs.Locations.{address_of};
+ghost use Rattle.gpl_source_defs.specs.Values as spec;
 ghost use Rattle.gpl_lines.specs.Answers.{Gives};
 ghost use Rattle.gpl_lines.specs.Defined.{defined_memory};
 
@@ -14,7 +14,7 @@ use crate::forms::Memory;
 use crate::numbers::{held_address, index_of};
 use asm_text::{Symbols, Value, expression_value, operands};
 use gpl_defs::GplOperand;
-use program_defs::{GplCause, Location};
+use gpl_source_defs::{GplCause, Location};
 use source_defs::ExprError;
 use std::alloc::Global;
 

@@ -3,9 +3,9 @@ use Rattle.std.proofs.Common.{◌≡◌, ℕ, ◌<◌, ◌^◌, List, length, Re
 use Rattle.std.specs.Prelude.{IfOk}
 use Rattle.link_defs.specs.LinkedMemory.{LinkedMemory}
 use Rattle.native_interp.specs.Source.{source}
-use Rattle.build_defs.specs.Building.{Links}
-use Rattle.build_defs.specs.Interpreter.{IsInterpreter, SourceGivesWords}
-use Rattle.build_defs.proofs.OneMemory.{one_memory_links}
+use Rattle.interp_build_defs.specs.Building.{Links}
+use Rattle.interp_build_defs.specs.Interpreter.{IsInterpreter, SourceGivesWords}
+use Rattle.interp_build_defs.proofs.OneMemory.{one_memory_links}
 
 -- a text that is the source has linked memory
 pub text_links : (text : List ℕ) → text ≡ source → SourceGivesWords → (memory : LinkedMemory) × Links text memory

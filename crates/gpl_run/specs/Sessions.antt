@@ -1,9 +1,9 @@
 -- A session: the machine that runs a GPL program, and whether the program has ended.
 use Rattle.std.specs.Prelude.{ℕ, ◌+◌, List, Option, Some, None}
-use Rattle.console_defs.specs.Bytes.{word_in}
+use Rattle.tms_defs.specs.Bytes.{word_in}
 use Rattle.console_defs.specs.Machine.{MachineState}
-use Rattle.step_defs.specs.declared.reason.Reason.{Reason}
-use Rattle.step_defs.specs.State.{GplState}
+use Rattle.gpl_step_defs.specs.declared.reason.Reason.{Reason}
+use Rattle.gpl_step_defs.specs.State.{GplState}
 use Rattle.interp_defs.specs.declared.turn.Turn.{Turn}
 use Rattle.interp_defs.specs.declared.turn.Turn.TheVariants.{Stepped, Stopped}
 use Rattle.interp_defs.specs.Boot.{IsBoot, entry_cell}

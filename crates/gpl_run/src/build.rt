@@ -1,8 +1,8 @@
 //! Building.
 
 ghost use Rattle.std.specs.Prelude.{◌≡◌, ◌<◌, ◌^◌, ◌∷◌, [], length, Ok, IfOk};
-ghost use Rattle.build_defs.specs.Building.{Links};
-ghost use Rattle.build_defs.specs.Interpreter.{IsInterpreter, SourceGivesWords};
+ghost use Rattle.interp_build_defs.specs.Building.{Links};
+ghost use Rattle.interp_build_defs.specs.Interpreter.{IsInterpreter, SourceGivesWords};
 ghost use Rattle.object_tags.specs.Seen.{defined_module};
 ghost use Rattle.link_defs.specs.LinkedMemory.{LinkedMemory, linked};
 ghost use Rattle.link_loader.specs.View.{defined_linked};

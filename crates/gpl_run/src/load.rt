@@ -1,11 +1,11 @@
 //! The machine on which the interpreter begins.
 
 ghost use Rattle.std.specs.Prelude.{◌≡◌, length, IfOk};
-ghost use Rattle.build_defs.specs.Interpreter.{IsInterpreter};
+ghost use Rattle.interp_build_defs.specs.Interpreter.{IsInterpreter};
 ghost use Rattle.interp_defs.specs.Boot.{IsBoot};
 ghost use Rattle.link_loader.specs.View.{defined_linked};
 
-use boot_defs::loaded_interpreters_boot;
+use interp_boot_defs::loaded_interpreters_boot;
 use link_loader::Linked;
 use machine_load::load_machine;
 use native_interp::{GBOOT, WORKSPACE};

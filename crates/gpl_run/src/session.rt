@@ -2,7 +2,7 @@
 
 ghost use Rattle.std.specs.Prelude.{◌≡◌, ℕ, None, is_none};
 ghost use Rattle.console_defs.specs.Grom.{previous_in_grom};
-ghost use Rattle.step_defs.specs.State.{start};
+ghost use Rattle.gpl_step_defs.specs.State.{start};
 ghost use Rattle.interp_defs.specs.Match.{shown_by};
 ghost use Rattle.interp_defs.specs.Programs.{most_of_boot};
 ghost use Rattle.interp_defs.specs.Turned.{Turned};
@@ -10,12 +10,12 @@ ghost use Rattle.sim_steps.specs.Running.{RunsTurns};
 ghost use Rattle.sim_steps.specs.Starting.{Begins};
 ghost use Rattle.gpl_run.specs.Sessions.{IsSession, IsNew, image_of, entry_of, ended_by, address_in};
 
+use gpl_step_defs::Reason;
 use interp_defs::Turn;
 use sim_steps::{gpl_turn, machines_start, run_turns, start_program};
 use sim_view::register;
 use std::marker::Model;
 use std::sync::ledger::Ledger;
-use step_defs::Reason;
 use tms_step::{Machine, Steps};
 
 /// A GPL program that the interpreter runs, step by step.

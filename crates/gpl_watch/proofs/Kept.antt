@@ -7,7 +7,7 @@ use Rattle.std.proofs.lemmas.List.{take_all}
 use Rattle.std.proofs.lemmas.Option.{same_Some, slice_get-map}
 use Rattle.gpl_defs.specs.declared.instruction.Space.TheVariants.{Cpu, Vdp}
 use Rattle.lane_scan.specs.Plain.{common_length, first_difference}
-use Rattle.step_defs.specs.State.{GplState}
+use Rattle.gpl_step_defs.specs.State.{GplState}
 use Rattle.watch_defs.specs.declared.item.Item.{Item}
 use Rattle.watch_defs.specs.declared.item.Item.TheVariants.{Range, Pc}
 use Rattle.watch_defs.specs.Items.{base_of, bytes_of, holds_since, holds, change_since, change}

@@ -1,7 +1,7 @@
 -- Programs whose items are watched.
 use Rattle.std.specs.Prelude.{◌≡◌, ◌≤◌, ℕ, zero, suc, ◌+◌, List, map, length, position, Option, None}
-use Rattle.step_defs.specs.State.{GplState}
-use Rattle.step_defs.specs.Run.{run, turns, bound}
+use Rattle.gpl_step_defs.specs.State.{GplState}
+use Rattle.gpl_step_defs.specs.Run.{run, turns, bound}
 use Rattle.sim_steps.specs.Running.{RunsTurns}
 use Rattle.gpl_run.specs.Sessions.{SessionState, seen}
 use Rattle.watch_defs.specs.declared.item.Item.{Item}

@@ -8,7 +8,7 @@ ghost use Rattle.gpl_watch.specs.Watches.{count_of};
 
 use gpl_defs::Space;
 use gpl_run::Session;
-use step_defs::VISIBLE_CELLS;
+use gpl_step_defs::VISIBLE_CELLS;
 use watch_defs::Item;
 
 /// The bytes of a memory that a program sees.

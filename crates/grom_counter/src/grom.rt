@@ -1,7 +1,7 @@
 //! GROMs: an image of 65,536 bytes, and the ports that lead there.
 
 ghost use Rattle.std.specs.Prelude.{◌≡◌, ◌<◌, ℕ, ◌+◌, ◌*◌, ◌/◌, ◌%◌, length, slice_index, IfOk};
-ghost use Rattle.console_defs.specs.Bytes.{HoldsBytes};
+ghost use Rattle.tms_defs.specs.Bytes.{HoldsBytes};
 ghost use Rattle.console_defs.specs.Grom.{IsGrom, new_grom, is_grom_idle, next_in_grom, previous_in_grom};
 ghost use Rattle.console_defs.specs.Grom.{grom_fetched_ahead, grom_address_written};
 ghost use Rattle.console_defs.specs.Grom.{grom_address_read, grom_data_read};

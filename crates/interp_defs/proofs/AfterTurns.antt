@@ -1,8 +1,8 @@
 -- A program's machine is the machine after its turns.
 use Rattle.std.proofs.Common.{◌≡◌, ℕ, zero, suc, ◌+◌, subst, arith}
 use Rattle.console_defs.specs.Machine.{MachineState}
-use Rattle.step_defs.specs.State.{GplState, start}
-use Rattle.step_defs.specs.Run.{turns}
+use Rattle.gpl_step_defs.specs.State.{GplState, start}
+use Rattle.gpl_step_defs.specs.Run.{turns}
 use Rattle.interp_defs.specs.Turns.{Boots, IsAfter}
 use Rattle.interp_defs.specs.Programs.{AreTurns, ProgramsAreTurns}
 

@@ -3,10 +3,10 @@ use Rattle.std.proofs.Common.{◌≡◌, ℕ, suc, ◌<◌, ◌≤◌, ◌+◌, 
 use Rattle.std.proofs.Common.{refl, sym, ap, ◌∙◌, arith}
 use Rattle.std.specs.Prelude.{nat_lt, slice_index}
 use Rattle.std.proofs.lemmas.Bool.Decides.{nat_tests}
-use Rattle.console_defs.specs.Bytes.{HoldsBytes, HoldsZeros, word_in}
+use Rattle.tms_defs.specs.Bytes.{HoldsBytes, HoldsZeros, word_in}
 use Rattle.console_defs.specs.Vdp.{VdpState, IsNewVdp}
 use Rattle.console_defs.specs.Memory.{Memory}
-use Rattle.console_defs.specs.Operand.{Cpu}
+use Rattle.tms_defs.specs.Operand.{Cpu}
 use Rattle.console_defs.specs.Machine.{MachineState, IsMachine}
 use Rattle.native_interp.specs.declared.words.TheConstants.{INTERP}
 use Rattle.interp_defs.specs.Boot.{HoldsEntry, HoldsWords, IsBoot}

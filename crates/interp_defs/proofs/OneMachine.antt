@@ -2,11 +2,11 @@
 use Rattle.std.proofs.Common.{◌≡◌, ℕ, zero, suc, ◌<◌, refl, sym, ap, ◌∙◌, subst, arith, Bool, true, false}
 use Rattle.std.specs.Prelude.{nat_lt, eqb}
 use Rattle.std.proofs.lemmas.Bool.Decides.{nat_tests}
-use Rattle.console_defs.specs.Accesses.{Answer, Gives, AtPort, NoInstruction}
+use Rattle.tms_defs.specs.Accesses.{Answer, Gives, AtPort, NoInstruction}
 use Rattle.console_defs.specs.Machine.{MachineState, steps}
 use Rattle.native_interp.specs.declared.addresses.TheConstants.{GSTEP}
-use Rattle.step_defs.specs.State.{GplState, start}
-use Rattle.step_defs.specs.Run.{turns}
+use Rattle.gpl_step_defs.specs.State.{GplState, start}
+use Rattle.gpl_step_defs.specs.Run.{turns}
 use Rattle.interp_defs.specs.Runs.{is_end}
 use Rattle.interp_defs.specs.Turns.{Boots, IsTurn}
 use Rattle.interp_defs.specs.Programs.{AreTurns, OneMachineIsLeft}

@@ -1,7 +1,7 @@
 -- The machine on which the interpreter begins.
 use Rattle.std.specs.Prelude.{◌≡◌, ◌≤◌, ◌<◌, ℕ, ◌+◌, ◌*◌, ◌%◌, List, length, slice_index}
-use Rattle.console_defs.specs.Bytes.{HoldsZeros, word_in}
-use Rattle.console_defs.specs.Status.{status_at}
+use Rattle.tms_defs.specs.Bytes.{HoldsZeros, word_in}
+use Rattle.tms_defs.specs.Status.{status_at}
 use Rattle.console_defs.specs.Vdp.{IsNewVdp}
 use Rattle.console_defs.specs.Grom.{new_grom}
 use Rattle.console_defs.specs.Machine.{MachineState}

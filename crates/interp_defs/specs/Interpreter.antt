@@ -1,8 +1,8 @@
 -- A memory that holds the interpreter, and the registers that the interpreter works with.
 use Rattle.std.specs.Prelude.{◌≡◌, ◌<◌, ℕ, ◌*◌, List, [], ◌∷◌, length, slice_index}
-use Rattle.console_defs.specs.Bytes.{word_in}
-use Rattle.console_defs.specs.Accesses.{Gives}
-use Rattle.console_defs.specs.Operand.{register_in}
+use Rattle.tms_defs.specs.Bytes.{word_in}
+use Rattle.tms_defs.specs.Accesses.{Gives}
+use Rattle.tms_defs.specs.Operand.{register_in}
 use Rattle.console_defs.specs.Memory.{Memory, word_read}
 use Rattle.native_interp.specs.declared.addresses.TheConstants.{WORKSPACE}
 use Rattle.native_interp.specs.declared.words.TheConstants.{INTERP}

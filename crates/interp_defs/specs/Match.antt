@@ -5,11 +5,11 @@ use Rattle.console_defs.specs.Grom.{GromState, is_grom_idle, previous_in_grom}
 use Rattle.console_defs.specs.Memory.{Memory}
 use Rattle.console_defs.specs.Machine.{MachineState}
 use Rattle.native_interp.specs.declared.addresses.TheConstants.{GSTEP, GSTOP, GEXIT, WORKSPACE}
-use Rattle.step_defs.specs.declared.cells.TheConstants.{VISIBLE_CELLS}
-use Rattle.step_defs.specs.declared.reason.Reason.{Reason}
-use Rattle.step_defs.specs.declared.reason.Reason.TheVariants.{Exit}
-use Rattle.step_defs.specs.Reasons.{number_of}
-use Rattle.step_defs.specs.State.{GplState}
+use Rattle.gpl_step_defs.specs.declared.cells.TheConstants.{VISIBLE_CELLS}
+use Rattle.gpl_step_defs.specs.declared.reason.Reason.{Reason}
+use Rattle.gpl_step_defs.specs.declared.reason.Reason.TheVariants.{Exit}
+use Rattle.gpl_step_defs.specs.Reasons.{number_of}
+use Rattle.gpl_step_defs.specs.State.{GplState}
 use Rattle.interp_defs.specs.Interpreter.{HoldsInterpreter, HoldsRegister, HoldsConstants, constants, address_register}
 
 -- The state of GPL that a memory shows. The counter of the GROMs stands one past the byte to come.

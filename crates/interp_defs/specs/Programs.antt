@@ -1,9 +1,9 @@
 -- GPL programs run by the interpreter: its turns beside the steps of the definitions.
 use Rattle.std.specs.Prelude.{◌≡◌, ◌≤◌, ℕ, zero, suc, ◌+◌, List, Option, Some, None}
 use Rattle.console_defs.specs.Machine.{MachineState, IsMachine}
-use Rattle.step_defs.specs.declared.reason.Reason.{Reason}
-use Rattle.step_defs.specs.State.{GplState, start}
-use Rattle.step_defs.specs.Run.{run, turns, bound}
+use Rattle.gpl_step_defs.specs.declared.reason.Reason.{Reason}
+use Rattle.gpl_step_defs.specs.State.{GplState, start}
+use Rattle.gpl_step_defs.specs.Run.{run, turns, bound}
 use Rattle.interp_defs.specs.Boot.{IsBoot}
 use Rattle.interp_defs.specs.Match.{Matches, IsHalted}
 use Rattle.interp_defs.specs.Turns.{Boots, IsTurn, IsAfter}

@@ -1,6 +1,6 @@
 -- Runs of the machine that pass none of the interpreter's three ends.
 use Rattle.std.specs.Prelude.{◌≡◌, ◌<◌, ℕ, Bool, false, ◌||◌, eqb}
-use Rattle.console_defs.specs.Accesses.{Gives}
+use Rattle.tms_defs.specs.Accesses.{Gives}
 use Rattle.console_defs.specs.Machine.{MachineState, steps}
 use Rattle.native_interp.specs.declared.addresses.TheConstants.{GSTEP, GSTOP, GEXIT}
 

@@ -1,6 +1,6 @@
 -- The turns of the interpreter: from the beginning of a step to the next of its ends.
 use Rattle.std.specs.Prelude.{◌≡◌, ◌<◌, ℕ, zero, suc, ◌+◌, true, false, eqb}
-use Rattle.console_defs.specs.Accesses.{Gives}
+use Rattle.tms_defs.specs.Accesses.{Gives}
 use Rattle.console_defs.specs.Machine.{MachineState, steps}
 use Rattle.native_interp.specs.declared.addresses.TheConstants.{GSTEP}
 use Rattle.interp_defs.specs.Runs.{Runs, is_end}

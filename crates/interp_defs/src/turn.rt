@@ -1,6 +1,6 @@
 //! How a turn of the interpreter ends.
 
-use step_defs::Reason;
+use gpl_step_defs::Reason;
 
 /// What the interpreter's machine code made of one step of GPL.
 #[derive(Clone, Copy, Debug, PartialEq, Eq)]

@@ -5,12 +5,12 @@ ghost use Rattle.gpl_run.specs.Sessions.{IsNew};
 
 use gpl_forms::GromImage;
 use gpl_run::{BuildError, Session, build_interp, load_interpreter};
+use gpl_step_defs::Reason;
 use interp_defs::Turn;
 use std::alloc::Global;
 use std::marker::Brand;
 use std::sync::ledger::{Blank, Ledger};
 use std::test::Fail;
-use step_defs::Reason;
 use tms_step::{Machine, Steps};
 
 /// A program's name, its bytes from >6000 on, the addresses behind its steps, and how and where it ends.

@@ -3,6 +3,7 @@
 ghost use Rattle.std.specs.Prelude.{◌≡◌, ◌<◌};
 
 use crate::machines::{Program, booting};
+use gpl_step_defs::Reason;
 use native_interp::{GBOOT, GEXIT, GSTEP, GSTOP};
 use sim_steps::{run_turns, start_program};
 use sim_view::is_ready;
@@ -10,7 +11,6 @@ use std::alloc::{AllocError, Global};
 use std::marker::Brand;
 use std::sync::ledger::{Blank, Ledger};
 use std::test::Fail;
-use step_defs::Reason;
 use tms_step::{Machine, Steps};
 
 /// Bytes of the scratchpad, by their number.

@@ -7,18 +7,18 @@ use Rattle.source_defs.specs.Names.{is_kept_name}
 use Rattle.source_defs.specs.Expression.{Value, Absolute}
 use Rattle.source_defs.specs.Layout.{laid, numbered}
 use Rattle.object_defs.specs.declared.spot.Spot.TheVariants as spot
-use Rattle.module_defs.specs.Locations.{Line}
-use Rattle.module_defs.specs.FirstChecks.{check, line_of, external_entries, refs_in}
-use Rattle.known_lines.specs.KnownLines.{KnownLine, names_in, all_names, are_plain, is_plain, is_plain_statement}
-use Rattle.known_lines.proofs.Laying.{laid_list, plain_free}
-use Rattle.known_lines.proofs.Whole.{front, final, all_laid}
+use Rattle.asm_defs.specs.Locations.{Line}
+use Rattle.asm_defs.specs.FirstChecks.{check, line_of, external_entries, refs_in}
+use Rattle.line_laws.specs.KnownLines.{KnownLine, names_in, all_names, are_plain, is_plain, is_plain_statement}
+use Rattle.line_laws.proofs.Laying.{laid_list, plain_free}
+use Rattle.line_laws.proofs.Whole.{front, final, all_laid}
 use Rattle.native_interp.specs.declared.addresses.TheConstants.{GBOOT}
 use Rattle.line_table.specs.Table.{defined}
 use Rattle.line_table.specs.Rows.{names_of_lines, NamesAreDefined, named, no_name, IsNameRow}
 use Rattle.line_table.specs.declared.line_row.NameRow.{NameRow}
 use Rattle.line_table.proofs.Places.{index_map, tested}
 use Rattle.line_table.proofs.Known.{last, ending, front_texts, front_lines, are_known, lines_are}
-use Rattle.known_lines.proofs.Small.{both, append_none, map_length}
+use Rattle.line_laws.proofs.Small.{both, append_none, map_length}
 
 own_names : (line : KnownLine) (number : ℕ) → is_plain line ≡ true → (line_of number line.found).names ≡ names_in line
 own_names line number plain =

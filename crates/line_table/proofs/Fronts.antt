@@ -2,8 +2,8 @@
 use Rattle.std.proofs.Common.{ℕ, ◌+◌, List, [], ◌++◌, refl, sym, subst}
 use Rattle.std.specs.Prelude.{take, drop}
 use Rattle.source_defs.specs.Expression.{Value}
-use Rattle.module_defs.specs.declared.location.Location.{Location}
-use Rattle.known_lines.specs.Laws.{looks}
+use Rattle.asm_defs.specs.declared.location.Location.{Location}
+use Rattle.line_laws.specs.Laws.{looks}
 use Rattle.line_table.specs.declared.line_row.LineRow.{LineRow}
 use Rattle.line_table.specs.Table.{rows, defined}
 use Rattle.line_table.proofs.Reading.{Reads, reads_of, join, take_on}

@@ -7,23 +7,23 @@ use Rattle.std.proofs.lemmas.Bool.Decides.{nat_tests}
 use Rattle.source_defs.specs.Layout.{line_texts, numbered}
 use Rattle.object_defs.specs.declared.spot.Spot.{Spot}
 use Rattle.object_defs.specs.declared.spot.Spot.TheVariants as spot
-use Rattle.module_defs.specs.Modules.{module_of}
+use Rattle.asm_defs.specs.Modules.{module_of}
 use Rattle.link_defs.specs.Placing.{first_base, value_of}
 use Rattle.link_defs.specs.LinkedMemory.{LinkedMemory}
-use Rattle.known_lines.specs.KnownLines.{all_words}
-use Rattle.known_lines.specs.Texts.{IsWithoutControls}
-use Rattle.known_lines.specs.Laws.{HaveWords}
-use Rattle.known_lines.proofs.FedTexts.{fed_texts_have_their_lines}
-use Rattle.known_lines.proofs.Whole.{have_their_words}
-use Rattle.known_lines.proofs.Linking.{are_words, memory_of, module_linked, word_found, pair_found}
+use Rattle.line_laws.specs.KnownLines.{all_words}
+use Rattle.line_laws.specs.Texts.{IsWithoutControls}
+use Rattle.line_laws.specs.Laws.{HaveWords}
+use Rattle.line_laws.proofs.FedTexts.{fed_texts_have_their_lines}
+use Rattle.line_laws.proofs.Whole.{have_their_words}
+use Rattle.line_laws.proofs.Linking.{are_words, memory_of, module_linked, word_found, pair_found}
 use Rattle.native_interp.specs.Source.{lines, source}
 use Rattle.native_interp.specs.Words.{words}
 use Rattle.native_interp.specs.declared.addresses.TheConstants.{GBOOT}
-use Rattle.build_defs.specs.Building.{Links, HasShipped}
-use Rattle.build_defs.specs.Interpreter.{SourceGivesWords}
+use Rattle.interp_build_defs.specs.Building.{Links, HasShipped}
+use Rattle.interp_build_defs.specs.Interpreter.{SourceGivesWords}
 use Rattle.line_table.specs.Table.{defined}
 use Rattle.line_table.proofs.Known.{last, ending, front_texts, front_lines, are_known, words_are, lines_are}
-use Rattle.known_lines.proofs.Small.{chosen}
+use Rattle.line_laws.proofs.Small.{chosen}
 
 -- both tests ask for an even place from there on
 tests_agree : (at : ℕ) (b c : Bool) → (nat_le 0x2000 at && ((at - 0x2000) % 2 == 0)) ≡ b → (nat_le 0x2000 at && (at % 2 == 0)) ≡ c → b ≡ c

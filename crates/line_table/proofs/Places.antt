@@ -7,12 +7,12 @@ use Rattle.std.specs.List.{list_all}
 use Rattle.std.specs.Cmp.Lexicographic.{pointwise}
 use Rattle.std.proofs.lemmas.Bool.Decides.{nat_tests}
 use Rattle.object_defs.specs.declared.spot.Spot.TheVariants as spot
-use Rattle.module_defs.specs.SecondChecks.{Outcome, Nothing, Words, Bytes, Entry}
-use Rattle.known_lines.specs.KnownLines as known
-use Rattle.known_lines.specs.KnownLines.{KnownLine, words_in, is_plain, are_plain, is_plain_statement}
-use Rattle.known_lines.specs.Laws.{StandsIn}
-use Rattle.known_lines.proofs.Placing.{are_numbers}
-use Rattle.known_lines.proofs.Standing.{known_lines_stand}
+use Rattle.asm_defs.specs.SecondChecks.{Outcome, Nothing, Words, Bytes, Entry}
+use Rattle.line_laws.specs.KnownLines as known
+use Rattle.line_laws.specs.KnownLines.{KnownLine, words_in, is_plain, are_plain, is_plain_statement}
+use Rattle.line_laws.specs.Laws.{StandsIn}
+use Rattle.line_laws.proofs.Placing.{are_numbers}
+use Rattle.line_laws.proofs.Standing.{known_lines_stand}
 use Rattle.native_interp.specs.Source.{lines}
 use Rattle.native_interp.specs.Words.{words}
 use Rattle.native_interp.specs.declared.addresses.TheConstants.{GBOOT}
@@ -27,7 +27,7 @@ use Rattle.line_table.specs.Rows.{Places, IsRow}
 use Rattle.line_table.proofs.Reading.{Shown, shown, row_shown}
 use Rattle.line_table.proofs.Known.{last, ending, front_texts, front_lines, are_known, lines_are}
 use Rattle.line_table.proofs.Fronts.{to_last}
-use Rattle.known_lines.proofs.Small.{append_map, map_length}
+use Rattle.line_laws.proofs.Small.{append_map, map_length}
 
 some_words : (come : Outcome) (found : List ℕ) → known.words_of come ≡ Some found → Places come found
 some_words Nothing found e = let same : ◌≡◌ {A = List ℕ} [] found = cc e in sym same

@@ -4,14 +4,14 @@ use Rattle.source_defs.specs.Tokens.{token_at, tokens_from}
 use Rattle.source_defs.specs.Fields.{in_quotes, fields}
 use Rattle.source_defs.specs.Operands.{operands_from}
 use Rattle.source_defs.specs.Symbols.{registers}
-use Rattle.asm_defs.specs.Operations.{mnemonic}
-use Rattle.asm_defs.specs.Forms.{form_of}
-use Rattle.asm_defs.specs.FirstChecks.{first_checks}
-use Rattle.asm_defs.specs.SecondChecks.{second_checks}
-use Rattle.module_defs.specs.Directives.{directive}
-use Rattle.module_defs.specs.Statements.{statement_in}
-use Rattle.module_defs.specs.FirstChecks.{said, moved}
-use Rattle.module_defs.specs.SecondChecks.{outcome}
+use Rattle.instruction_defs.specs.Operations.{mnemonic}
+use Rattle.instruction_defs.specs.Forms.{form_of}
+use Rattle.instruction_defs.specs.FirstChecks.{first_checks}
+use Rattle.instruction_defs.specs.SecondChecks.{second_checks}
+use Rattle.asm_defs.specs.Directives.{directive}
+use Rattle.asm_defs.specs.Statements.{statement_in}
+use Rattle.asm_defs.specs.FirstChecks.{said, moved}
+use Rattle.asm_defs.specs.SecondChecks.{outcome}
 use Rattle.line_table.proofs.Blocks.{Block}
 
 pub lines_280 : Block 280 40 33 7

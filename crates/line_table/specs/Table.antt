@@ -1,8 +1,8 @@
 -- The rows of the table, in the order of the source's lines.
 use Rattle.std.specs.Prelude.{ℕ, nat_eq, if◌then◌else◌, List, [], ◌∷◌, ◌++◌, take, map}
 use Rattle.source_defs.specs.Expression.{Value, Absolute}
-use Rattle.module_defs.specs.declared.location.Location.{Location}
-use Rattle.module_defs.specs.declared.location.Part.TheVariants as part
+use Rattle.asm_defs.specs.declared.location.Location.{Location}
+use Rattle.asm_defs.specs.declared.location.Part.TheVariants as part
 use Rattle.line_table.specs.declared.line_row.LineRow.{LineRow}
 use Rattle.line_table.specs.declared.names.TheConstants.{NAMES}
 use Rattle.line_table.specs.declared.rows.routines.TheConstants.{ROUTINE_ROWS}

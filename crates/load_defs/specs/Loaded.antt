@@ -1,7 +1,7 @@
 -- A machine that linked memory is loaded into.
 use Rattle.std.specs.Prelude.{◌≡◌, ℕ, List, [], ◌∷◌}
 use Rattle.std.specs.FinMap.{entries}
-use Rattle.console_defs.specs.Words.{high, low}
+use Rattle.tms_defs.specs.Words.{high, low}
 use Rattle.console_defs.specs.Vdp.{VdpState, IsNewVdp}
 use Rattle.console_defs.specs.Grom.{new_grom}
 use Rattle.console_defs.specs.Memory.{Memory, IsNewMemory, word_placed, cell_set}

@@ -8,12 +8,12 @@ use Rattle.std.specs.Cmp.{nat_cmp_total}
 use Rattle.std.specs.FinMap.{empty, get, insert, get-insert, get-empty}
 use Rattle.std.proofs.lemmas.Cmp.{eq_by_cmp_equiv}
 use Rattle.std.proofs.lemmas.Bool.Decides.{nat_tests}
-use Rattle.console_defs.specs.Bytes.{HoldsBytes}
+use Rattle.tms_defs.specs.Bytes.{HoldsBytes}
 use Rattle.source_defs.specs.Symbols.{predefined}
 use Rattle.gpl_defs.specs.Image.{Image, byte_at, low_of, high_of, placed}
 use Rattle.gpl_defs.proofs.ImageLaws.{high_of-insert, low_of-insert, high_of-empty, low_of-empty, ties-other, part_by}
-use Rattle.program_defs.specs.Programs.{program_of_source}
-use Rattle.listing_defs.proofs.ListingLaw.{listings_come_back}
+use Rattle.gpl_source_defs.specs.Programs.{program_of_source}
+use Rattle.gpl_listing_defs.proofs.ListingLaw.{listings_come_back}
 use Rattle.report_defs.specs.GromListing.{grom_bytes}
 use Rattle.report_defs.specs.Laws.{ListedInputsComeBack, listed_text}
 use Rattle.report_defs.proofs.GromBytes.{bytes_of_image}

@@ -3,8 +3,8 @@ use Rattle.std.proofs.Common.{◌≡◌, ℕ, ◌+◌, ◌%◌, ◌<◌, ◌≤�
 use Rattle.std.specs.Prelude.{MatchBool, nat_lt, if◌then◌else◌, None}
 use Rattle.std.specs.List.{concat}
 use Rattle.std.proofs.lemmas.Bool.Decides.{nat_tests}
-use Rattle.console_defs.specs.Bytes.{HoldsBytes}
-use Rattle.module_defs.specs.Modules.{module_of_source}
+use Rattle.tms_defs.specs.Bytes.{HoldsBytes}
+use Rattle.asm_defs.specs.Modules.{module_of_source}
 use Rattle.word_listings.specs.Listing.{memory_listing}
 use Rattle.word_listings.specs.Law.{StandEven, listed_module}
 use Rattle.word_listings.proofs.ListingLaw.{words_fit, word_listings_come_back}

@@ -11,7 +11,7 @@ use Rattle.load_defs.specs.Loaded.{IsLoaded, with_words, with_first_word}
 use Rattle.report_defs.specs.ObjectInput.{linked_input}
 use Rattle.console_defs.specs.Machine.{MachineState, new_machine}
 use Rattle.console_defs.specs.Runs.{IsRun, end_at, after}
-use Rattle.console_defs.specs.declared.ends.RunEnd.{RunEnd}
+use Rattle.console_defs.specs.declared.run_end.RunEnd.{RunEnd}
 use Rattle.report_defs.specs.declared.command.Command.{Command}
 use Rattle.report_defs.specs.declared.command.Command.TheVariants.{Asm, Gasm, Dis, Gdis, Link, Exec, Interp, Run, Trace, Demo}
 use Rattle.report_defs.specs.Exec.{IsStart, Executes, exec_lines, end_status}
@@ -25,11 +25,11 @@ use Rattle.report_defs.specs.DemoText.{demo_text}
 use Rattle.report_defs.specs.Commands.{most_steps}
 use Rattle.source_defs.specs.Refusals.{Refusal}
 use Rattle.gpl_defs.specs.Image.{Image, AreBytesOf}
-use Rattle.program_defs.specs.declared.causes.GplCause.{GplCause}
-use Rattle.program_defs.specs.Programs.{Program, program_of_source}
-use Rattle.build_defs.proofs.OneMemory.{one_memory_links}
-use Rattle.step_defs.specs.State.{GplState, start}
-use Rattle.step_defs.specs.Run.{GplRun, run}
+use Rattle.gpl_source_defs.specs.declared.causes.GplCause.{GplCause}
+use Rattle.gpl_source_defs.specs.Programs.{Program, program_of_source}
+use Rattle.interp_build_defs.proofs.OneMemory.{one_memory_links}
+use Rattle.gpl_step_defs.specs.State.{GplState, start}
+use Rattle.gpl_step_defs.specs.Run.{GplRun, run}
 use Rattle.interp_defs.specs.Programs.{RunsProgram}
 use Rattle.interp_defs.proofs.OneBoot.{same_list, one_zeros, one_vdp, same_memory}
 use Rattle.interp_defs.proofs.OneMachine.{one_machine_is_left}

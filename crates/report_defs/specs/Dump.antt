@@ -2,13 +2,13 @@
 use Rattle.std.specs.Prelude.{ℕ, ◌*◌, if◌then◌else◌, List, [], ◌∷◌, ◌++◌, codes}
 use Rattle.std.specs.List.{flat_map, range_with_len}
 use Rattle.std.specs.Fmt.{decimal}
-use Rattle.console_defs.specs.Words.{plus}
-use Rattle.console_defs.specs.Accesses.{Answer, Gives, AtPort, NoInstruction}
+use Rattle.tms_defs.specs.Words.{plus}
+use Rattle.tms_defs.specs.Accesses.{Answer, Gives, AtPort, NoInstruction}
 use Rattle.console_defs.specs.Vdp.{VdpState}
 use Rattle.console_defs.specs.Grom.{GromState}
 use Rattle.console_defs.specs.Memory.{Memory, word_read}
-use Rattle.console_defs.specs.Operand.{Cpu}
-use Rattle.console_defs.specs.Status.{status_word}
+use Rattle.tms_defs.specs.Operand.{Cpu}
+use Rattle.tms_defs.specs.Status.{status_word}
 use Rattle.console_defs.specs.Machine.{MachineState, has_workspace}
 use Rattle.source_defs.specs.Digits.{marked_word}
 use Rattle.report_defs.specs.Rows.{spaced_bytes, rows_lines}

@@ -1,10 +1,10 @@
 -- Executing linked memory.
 use Rattle.std.specs.Prelude.{ℕ, List, ◌∷◌, ◌++◌, codes, None}
-use Rattle.console_defs.specs.Bytes.{HoldsZeros}
+use Rattle.tms_defs.specs.Bytes.{HoldsZeros}
 use Rattle.console_defs.specs.Machine.{MachineState}
 use Rattle.console_defs.specs.Runs.{IsRun}
-use Rattle.console_defs.specs.declared.ends.RunEnd.{RunEnd}
-use Rattle.console_defs.specs.declared.ends.RunEnd.TheVariants.{Reached, Limit, Refused, Port, SelfJump}
+use Rattle.console_defs.specs.declared.run_end.RunEnd.{RunEnd}
+use Rattle.console_defs.specs.declared.run_end.RunEnd.TheVariants.{Reached, Limit, Refused, Port, SelfJump}
 use Rattle.link_defs.specs.LinkedMemory.{LinkedMemory}
 use Rattle.load_defs.specs.Loaded.{IsLoadedMachine}
 use Rattle.report_defs.specs.declared.status.Status.{Status}

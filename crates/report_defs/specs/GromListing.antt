@@ -2,7 +2,7 @@
 use Rattle.std.specs.Prelude.{ℕ, List, map}
 use Rattle.std.specs.List.{range_with_len}
 use Rattle.gpl_defs.specs.Image.{Image, byte_at, low_of, high_of}
-use Rattle.listing_defs.specs.Listing.{grom_listing}
+use Rattle.gpl_listing_defs.specs.Listing.{grom_listing}
 
 -- the bytes of all addresses
 unfoldable pub grom_bytes : Image → List ℕ

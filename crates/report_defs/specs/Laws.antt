@@ -2,10 +2,10 @@
 use Rattle.std.specs.Prelude.{◌≡◌, ℕ, ◌+◌, ◌%◌, ◌≤◌, ◌<◌, List, length, None, Ok}
 use Rattle.std.specs.List.{concat}
 use Rattle.std.specs.FinMap.{empty}
-use Rattle.console_defs.specs.Bytes.{HoldsBytes}
+use Rattle.tms_defs.specs.Bytes.{HoldsBytes}
 use Rattle.source_defs.specs.Symbols.{predefined}
 use Rattle.gpl_defs.specs.Image.{placed}
-use Rattle.program_defs.specs.Programs.{program_of_source}
+use Rattle.gpl_source_defs.specs.Programs.{program_of_source}
 use Rattle.word_listings.specs.Law.{listed_module}
 use Rattle.report_defs.specs.declared.command.Command.{Command}
 use Rattle.report_defs.specs.declared.command.Command.TheVariants.{Asm, Dis}

@@ -2,11 +2,11 @@
 use Rattle.std.specs.Prelude.{ℕ, ◌+◌, List, [], ◌∷◌, ◌++◌, codes, drop, slice_index, Option, Some, None}
 use Rattle.console_defs.specs.Machine.{MachineState}
 use Rattle.source_defs.specs.Digits.{marked_word, byte_digits}
-use Rattle.step_defs.specs.declared.cells.TheConstants.{VISIBLE_CELLS, STATUS, VALUE_STACK, RETURN_STACK}
-use Rattle.step_defs.specs.declared.reason.Reason.{Reason}
-use Rattle.step_defs.specs.declared.reason.Reason.TheVariants.{Exit}
-use Rattle.step_defs.specs.Reasons.{number_of}
-use Rattle.step_defs.specs.State.{GplState}
+use Rattle.gpl_step_defs.specs.declared.cells.TheConstants.{VISIBLE_CELLS, STATUS, VALUE_STACK, RETURN_STACK}
+use Rattle.gpl_step_defs.specs.declared.reason.Reason.{Reason}
+use Rattle.gpl_step_defs.specs.declared.reason.Reason.TheVariants.{Exit}
+use Rattle.gpl_step_defs.specs.Reasons.{number_of}
+use Rattle.gpl_step_defs.specs.State.{GplState}
 use Rattle.report_defs.specs.declared.status.Status.{Status}
 use Rattle.report_defs.specs.declared.status.Status.TheVariants as status
 use Rattle.report_defs.specs.Dump.{dump_lines}

@@ -2,19 +2,19 @@
 use Rattle.std.specs.Prelude.{◌≡◌, ℕ, ◌+◌, ◌≤◌, nat_lt, if◌then◌else◌, List, [], ◌∷◌, ◌++◌, length, Result, Ok, Err, MatchBool}
 use Rattle.std.specs.Prelude.{Option, Some, None}
 use Rattle.console_defs.specs.Machine.{MachineState}
-use Rattle.console_defs.specs.declared.ends.RunEnd.{RunEnd}
+use Rattle.console_defs.specs.declared.run_end.RunEnd.{RunEnd}
 use Rattle.source_defs.specs.Refusals.{Refusal}
 use Rattle.std.specs.FinMap.{empty}
 use Rattle.gpl_defs.specs.Image.{Image, AreBytesOf, written_bytes, placed}
-use Rattle.step_defs.specs.State.{GplState, start}
-use Rattle.step_defs.specs.Run.{GplRun, run}
+use Rattle.gpl_step_defs.specs.State.{GplState, start}
+use Rattle.gpl_step_defs.specs.Run.{GplRun, run}
 use Rattle.interp_defs.specs.Programs.{RunsProgram}
-use Rattle.program_defs.specs.declared.causes.GplCause.{GplCause}
-use Rattle.program_defs.specs.Programs.{Program, program_of_source}
+use Rattle.gpl_source_defs.specs.declared.causes.GplCause.{GplCause}
+use Rattle.gpl_source_defs.specs.Programs.{Program, program_of_source}
 use Rattle.object_defs.specs.Modules.{Module}
 use Rattle.object_defs.specs.Writing.{written}
-use Rattle.module_defs.specs.declared.causes.AsmCause.{AsmCause}
-use Rattle.module_defs.specs.Modules.{module_of_source}
+use Rattle.asm_defs.specs.declared.causes.AsmCause.{AsmCause}
+use Rattle.asm_defs.specs.Modules.{module_of_source}
 use Rattle.report_defs.specs.declared.command.Command.{Command}
 use Rattle.report_defs.specs.declared.command.Command.TheVariants.{Asm, Gasm, Dis, Gdis, Link, Exec, Interp}
 use Rattle.report_defs.specs.declared.command.Command.TheVariants.{Run, Trace, Demo}
@@ -30,7 +30,7 @@ use Rattle.word_listings.specs.Listing.{memory_listing}
 use Rattle.report_defs.specs.GromListing.{image_listing}
 use Rattle.link_defs.specs.LinkedMemory.{LinkedMemory}
 use Rattle.native_interp.specs.Source.{source}
-use Rattle.build_defs.specs.Building.{Links}
+use Rattle.interp_build_defs.specs.Building.{Links}
 use Rattle.report_defs.specs.MemoryListing.{linked_lines}
 use Rattle.report_defs.specs.ObjectInput.{linked_input}
 use Rattle.report_defs.specs.Exec.{Executes, exec_lines, end_status}

@@ -3,10 +3,10 @@ use Rattle.std.specs.Prelude.{ℕ, ◌+◌, List, [], ◌∷◌, ◌++◌, codes
 use Rattle.std.specs.Fmt.{decimal}
 use Rattle.console_defs.specs.Machine.{MachineState}
 use Rattle.lane_scan.specs.Plain.{sum_bytes}
-use Rattle.step_defs.specs.declared.reason.Reason.{Reason}
-use Rattle.step_defs.specs.declared.reason.Reason.TheVariants.{Exit}
-use Rattle.step_defs.specs.Reasons.{number_of}
-use Rattle.step_defs.specs.Run.{GplRun}
+use Rattle.gpl_step_defs.specs.declared.reason.Reason.{Reason}
+use Rattle.gpl_step_defs.specs.declared.reason.Reason.TheVariants.{Exit}
+use Rattle.gpl_step_defs.specs.Reasons.{number_of}
+use Rattle.gpl_step_defs.specs.Run.{GplRun}
 use Rattle.report_defs.specs.declared.summary.Summary.{Summary}
 
 -- Profile: a summary tells the number of the command, how many bytes the image has, how many steps were done, the sums

@@ -5,9 +5,9 @@ use Rattle.std.specs.List.{range_with_len}
 use Rattle.std.specs.Fmt.{decimal}
 use Rattle.source_defs.specs.Digits.{marked_word, byte_digits}
 use Rattle.gpl_defs.specs.Reading.{reading}
-use Rattle.listing_defs.specs.Texts.{read_text}
-use Rattle.step_defs.specs.State.{GplState}
-use Rattle.step_defs.specs.Run.{run}
+use Rattle.gpl_listing_defs.specs.Texts.{read_text}
+use Rattle.gpl_step_defs.specs.State.{GplState}
+use Rattle.gpl_step_defs.specs.Run.{run}
 use Rattle.lane_scan.specs.Plain.{first_difference, count_differences}
 use Rattle.report_defs.specs.Program.{state_text}
 

@@ -1,6 +1,6 @@
 //! What `demo` reports of its program.
 
-use step_defs::Reason;
+use gpl_step_defs::Reason;
 
 /// The summary of a GPL program that was made from a number and run.
 #[derive(Clone, Copy, Debug, PartialEq, Eq)]

@@ -5,9 +5,9 @@ ghost use Rattle.report_defs.specs.FaultLine as faults;
 ghost use Rattle.report_defs.specs.SourceFaults as spec;
 
 use crate::line::{Line, append, append_count};
-use asm_defs::FormError;
-use module_defs::AsmCause;
-use program_defs::GplCause;
+use asm_defs::AsmCause;
+use gpl_source_defs::GplCause;
+use instruction_defs::FormError;
 use source_defs::{ExprError, TextError};
 
 /// The line of a refused line of an assembler source, by its number, from 1.

@@ -7,10 +7,10 @@ use Rattle.std.specs.Option.{unwrap_or}
 use Rattle.source_defs.specs.Refusals.{Refusal, ◌>>=◌}
 use Rattle.source_defs.specs.Layout.{laid, numbered}
 use Rattle.object_defs.specs.Modules.{Module}
-use Rattle.module_defs.specs.declared.causes.AsmCause.{AsmCause}
-use Rattle.module_defs.specs.Locations.{Line}
-use Rattle.module_defs.specs.FirstChecks.{check}
-use Rattle.module_defs.specs.Modules.{module_behind}
+use Rattle.asm_defs.specs.declared.causes.AsmCause.{AsmCause}
+use Rattle.asm_defs.specs.Locations.{Line}
+use Rattle.asm_defs.specs.FirstChecks.{check}
+use Rattle.asm_defs.specs.Modules.{module_behind}
 use Rattle.shelf_defs.specs.Files.{Files}
 use Rattle.shelf_defs.specs.Copied.{Place, PlacedLine, Asm, CopyRefusal, At, Ending, Open, Ended, Refused}
 use Rattle.shelf_defs.specs.Copied.{Copied, copied}

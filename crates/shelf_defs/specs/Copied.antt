@@ -8,7 +8,7 @@ use Rattle.std.specs.Prelude.{ℕ, zero, suc, ◌+◌, nat_lt, nat_le, if◌then
 use Rattle.std.specs.Prelude.{Option, Some, None}
 use Rattle.std.specs.FinMap.{get}
 use Rattle.source_defs.specs.Layout.{line_texts}
-use Rattle.module_defs.specs.declared.causes.AsmCause.{AsmCause}
+use Rattle.asm_defs.specs.declared.causes.AsmCause.{AsmCause}
 use Rattle.shelf_defs.specs.Files.{Files}
 use Rattle.shelf_defs.specs.CopyLines.{Asked, Itself, File, Bad, asked, ends_source}
 

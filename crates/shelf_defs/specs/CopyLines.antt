@@ -11,9 +11,9 @@ use Rattle.source_defs.specs.Expression.{between_quotes}
 use Rattle.source_defs.specs.Fields.{Fields, fields}
 use Rattle.source_defs.specs.Lines.{part}
 use Rattle.source_defs.specs.Names.{is_word}
-use Rattle.module_defs.specs.declared.causes.AsmCause.{AsmCause}
-use Rattle.module_defs.specs.Statements.{Statement, said_of}
-use Rattle.module_defs.specs.FirstChecks.{is_end}
+use Rattle.asm_defs.specs.declared.causes.AsmCause.{AsmCause}
+use Rattle.asm_defs.specs.Statements.{Statement, said_of}
+use Rattle.asm_defs.specs.FirstChecks.{is_end}
 use Rattle.shelf_defs.specs.Files.{is_file_name}
 
 -- What a line asks for: itself, the lines of a file, or a file in a way that is none.

@@ -2,8 +2,8 @@
 
 use crate::shelves::name_of;
 use asm_core::{AsmCause, assemble};
-use asm_defs::FormError;
 use bench_shelf::{CopyCause, CopyError, FileName, MemShelf, copy_assemble};
+use instruction_defs::FormError;
 use object_tags::Module;
 use source_defs::{ExprError, TextError};
 use std::alloc::{AllocError, Global};

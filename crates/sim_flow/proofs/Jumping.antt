@@ -4,7 +4,7 @@ use Rattle.sim_rows.proofs.Common.{B, behind_code, bound, bound_made, bound_stop
 use Rattle.sim_rows.proofs.Common.{Exits, from, GEXIT, GOB, Goes, GOEXIT, GOTO, GplState, grom_at, GromState, is_end, Jump, just, known, leaves, MachineState}
 use Rattle.sim_rows.proofs.Common.{matches, operation_in, Plain, reaches, Sees, Stands, step_jump, step_plain, Stepped, Stopped, STREAM, Turned, turned_by}
 use Rattle.sim_rows.proofs.Common.{View, view, word_at}
-use Rattle.sim_rows.specs.step_defs.declared.reason.Reason.TheVariants.{Exit}
+use Rattle.sim_rows.specs.gpl_step_defs.declared.reason.Reason.TheVariants.{Exit}
 use Rattle.sim_jumps.specs.Jumps.{GoesOn}
 use Rattle.sim_rows.specs.sim_operands.Pieces as operands
 use Rattle.sim_flow.specs.Pieces as pieces

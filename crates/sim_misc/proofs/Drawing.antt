@@ -4,7 +4,7 @@ use Rattle.sim_rows.proofs.Common.{behind_code, bound, bound_made, comes, comes_
 use Rattle.sim_rows.proofs.Common.{GromState, GSTEP, is_end, just, MachineState, matches, next_in_grom, next_seed, operation_in, past, RAND, RANDL, RANDOM}
 use Rattle.sim_rows.proofs.Common.{reaches, SEED, Sees, Stands, step_byte, Stepped, swapped, Turned, turned_by, unchanged, View, view, with_word_in, word_in}
 use Rattle.sim_rows.specs.gpl_defs.declared.instruction.GplOperation.TheVariants.{Byte}
-use Rattle.sim_rows.specs.step_defs.Place.{word_at}
+use Rattle.sim_rows.specs.gpl_step_defs.Place.{word_at}
 use Rattle.sim_misc.proofs.Numbers.{seed_is}
 use Rattle.sim_misc.specs.Pieces as pieces
 

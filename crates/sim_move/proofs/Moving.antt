@@ -4,8 +4,8 @@ use Rattle.sim_rows.proofs.Common.{◌>>=◌, bound, bound_made, bytes_or_none, 
 use Rattle.sim_rows.proofs.Common.{Length, length_of, Lies, Move, moved, MoveKind, MoveLength, MoveSource, MoveTarget, operation_in, origin_of, Place}
 use Rattle.sim_rows.proofs.Common.{place_lies, place_of, place_same, plus, Reason, Register, step, step_move, target_of, To, ToMemory, ToRegisters, value_at}
 use Rattle.sim_rows.proofs.Common.{value_same, within_limit, Word}
-use Rattle.sim_rows.specs.step_defs.declared.reason.Reason.TheVariants.{Exit}
-use Rattle.sim_rows.specs.step_defs.Place.{word_at}
+use Rattle.sim_rows.specs.gpl_step_defs.declared.reason.Reason.TheVariants.{Exit}
+use Rattle.sim_rows.specs.gpl_step_defs.Place.{word_at}
 use Rattle.sim_rows.specs.gpl_defs.declared.instruction.MoveLength.TheVariants as counted
 use Rattle.sim_rows.specs.gpl_defs.declared.instruction.MoveTarget.TheVariants as target
 use Rattle.sim_rows.specs.gpl_defs.declared.instruction.MoveSource.TheVariants as source

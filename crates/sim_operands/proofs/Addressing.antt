@@ -5,7 +5,7 @@ use Rattle.std.proofs.lemmas.Bool.{cases_eq, eq-eqb, eqb-true, le-leb, le-ltb, l
 use Rattle.sim_view.proofs.Common.{address_at, APTR, ASPACE, Cpu, Exit, Goes, GplOperand, GromState, GSTOP, high, HoldsBytes, INDEX, index_at, index_by}
 use Rattle.sim_view.proofs.Common.{indexed, is_visible, join, last_out, low, next_in_grom, operand_at, operand_from, pick, Place, plus, pointed, ranged}
 use Rattle.sim_view.proofs.Common.{Reason, shifted, SLA, Space, space_at, space_of, SRL, sum_of, Vdp, View, with_index, Word, word_in}
-use Rattle.sim_view.specs.step_defs.declared.reason.Reason.TheVariants.{Cell}
+use Rattle.sim_view.specs.gpl_step_defs.declared.reason.Reason.TheVariants.{Cell}
 use Rattle.sim_operands.specs.Pieces.{past}
 use Rattle.sim_operands.specs.Values.{number_of_space}
 use Rattle.sim_operands.specs.Subroutines.{Addressed, Barred, grom_at, Placed, state_of}

@@ -6,7 +6,7 @@ use Rattle.sim_rows.specs.Prelude.{bound, Cell, Comes, Dispatched, Ended, GEXIT,
 use Rattle.sim_rows.specs.Prelude.{IsFetched, IsHalted, Length, MachineState, Matches, Memory, next_in_grom, number_of, Opcode, PortsAreIdle}
 use Rattle.sim_rows.specs.Prelude.{previous_in_grom, Reaches, Reason, Register, Runs, Sees, shown_by, Stack, Stands, StandsBy, state_at_dispatch, state_of}
 use Rattle.sim_rows.specs.Prelude.{step, StoppedBy, Turn, Turned, TurnedBy, VdpState, View, view, view_of}
-use Rattle.sim_view.specs.step_defs.declared.reason.Reason.TheVariants.{Exit}
+use Rattle.sim_view.specs.gpl_step_defs.declared.reason.Reason.TheVariants.{Exit}
 
 -- a state of parts
 abbrev pub made : List ℕ → List ℕ → List ℕ → ℕ → List ℕ → GplState

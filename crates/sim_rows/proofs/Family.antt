@@ -4,8 +4,8 @@ use Rattle.sim_view.proofs.Common.{is_view}
 use Rattle.sim_rows.specs.Prelude.{AtDispatch, AtEntry, bytes_by, Cell, code_byte, GplOperation, GplState, HasStarted, is_end, is_row, IsVisible}
 use Rattle.sim_rows.specs.Prelude.{MachineState, next_of, operation_entry, operation_in, row_entry, row_result, row_width, RunsRow, size_of}
 use Rattle.sim_rows.specs.Prelude.{state_at_dispatch, Stepped, Stopped, Turn, Turned, TurnsRow, view, Width, width_in}
-use Rattle.sim_view.specs.step_defs.declared.reason.Reason.{Reason}
-use Rattle.sim_view.specs.step_defs.declared.reason.Reason.TheVariants.{Exit}
+use Rattle.sim_view.specs.gpl_step_defs.declared.reason.Reason.{Reason}
+use Rattle.sim_view.specs.gpl_step_defs.declared.reason.Reason.TheVariants.{Exit}
 use Rattle.sim_rows.proofs.Ends.{fetched_of, idle_of}
 use Rattle.sim_rows.proofs.Fronting.{space_small}
 use Rattle.sim_rows.proofs.Storing.{width_again}

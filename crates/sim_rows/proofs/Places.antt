@@ -3,7 +3,7 @@ use Rattle.std.proofs.Common.{ℕ, ◌&&◌, ◌+◌, ◌==◌, ◌≡◌, ◌�
 use Rattle.std.proofs.lemmas.Bool.{leb-true}
 use Rattle.sim_rows.specs.Prelude.{◌>>=◌, Cell, Cpu, GplOperand, GplState, indexed, is_visible, number_of_space, Place, place_of, plus, pointed, ranged}
 use Rattle.sim_rows.specs.Prelude.{Reason, Space, Vdp}
-use Rattle.sim_view.specs.step_defs.Place.{word_at}
+use Rattle.sim_view.specs.gpl_step_defs.Place.{word_at}
 
 -- A place is visible where it lies in the cells, and there is none for one reason alone.
 abbrev pub Lies : ℕ → Result Place Reason → Type 0

@@ -6,7 +6,7 @@ use Rattle.sim_rows.specs.Prelude.{GplOperation, GplSource, GplState, GSTEP, GST
 use Rattle.sim_rows.specs.Prelude.{operands_of, operation_in, Place, place_of, Reason, result_of, row_entry, row_result, row_width, RunsRow, second_by}
 use Rattle.sim_rows.specs.Prelude.{second_of, SeesResult, size_of, Source, source_of, source_read, StartsRow, step, Stepped, Stopped, StoppedBy, Turn, Turned}
 use Rattle.sim_rows.specs.Prelude.{TurnsBy, TurnsRow, unchanged, value_at, View, Width}
-use Rattle.sim_view.specs.step_defs.declared.reason.Reason.TheVariants.{Exit}
+use Rattle.sim_view.specs.gpl_step_defs.declared.reason.Reason.TheVariants.{Exit}
 use Rattle.sim_view.specs.gpl_defs.declared.instruction.GplSource.TheVariants as source
 use Rattle.sim_view.specs.gpl_defs.declared.instruction.GplOperation.TheVariants as operation
 use Rattle.sim_rows.proofs.Places.{Lies, place_lies}

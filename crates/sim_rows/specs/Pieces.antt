@@ -5,7 +5,7 @@ use Rattle.std.specs.Prelude.{ℕ, ◌+◌, ◌-◌, ◌/◌, ◌==◌, if◌the
 use Rattle.sim_view.specs.Prelude.{ADDR, CHARACTER, COLUMN, difference_of, even, Exit, FETCH, GO, grom_address_read}
 use Rattle.sim_view.specs.Prelude.{GromState, GSTEP, INTERP, join, last_out, LOAD, low, OPS, OPTAB, OPVAL, origin}
 use Rattle.sim_view.specs.Prelude.{SEEK, shifted, SHOW, SLA, SRL, STORE, sum_of, TABLE, View, WHERE, Word}
-use Rattle.sim_view.specs.step_defs.declared.cells.TheConstants.{ROW}
+use Rattle.sim_view.specs.gpl_step_defs.declared.cells.TheConstants.{ROW}
 use Rattle.sim_operands.specs.Pieces.{exit, return_of}
 
 -- the numbers of the first words of both tables, among the words of the interpreter

@@ -3,7 +3,7 @@ use Rattle.std.proofs.Common.{ℕ, ◌∙◌, ◌≡◌, ap, Option, refl, Some,
 use Rattle.sim_rows.specs.Prelude.{AtEntry}
 use Rattle.sim_rows.proofs.Common.{GplOperation, is_row, MachineState, One, row_entry, ShiftOp, Stands, Two}
 use Rattle.sim_shift.specs.Family.{count_entry, is_shift, name_of, shift_of}
-use Rattle.sim_rows.specs.console_defs.declared.instruction.ShiftOp.TheVariants as shift
+use Rattle.sim_rows.specs.tms_defs.declared.instruction.ShiftOp.TheVariants as shift
 use Rattle.sim_rows.specs.gpl_defs.declared.instruction.TwoName.TheVariants as two
 
 pub rows : (o : Option GplOperation) → is_shift o ≡ true → is_row o ≡ true

@@ -3,7 +3,7 @@ use Rattle.std.specs.Prelude.{ℕ, Bool, false, Option, Some, true}
 use Rattle.sim_rows.specs.Prelude.{GplOperation, ShiftOp, SLL, SLLB, SLLV, SRAB, SRAV, SRCB, SRCV, SRLB, SRLV, Two}
 use Rattle.sim_rows.specs.Prelude.{TwoName}
 use Rattle.sim_rows.specs.gpl_defs.declared.instruction.TwoName.TheVariants.{SRA, SRC, SRL}
-use Rattle.sim_rows.specs.console_defs.declared.instruction.ShiftOp.TheVariants as shift
+use Rattle.sim_rows.specs.tms_defs.declared.instruction.ShiftOp.TheVariants as shift
 
 abbrev pub is_shift : Option GplOperation → Bool
 is_shift (Some (Two SRA)) = true

@@ -5,7 +5,7 @@ use Rattle.sim_rows.proofs.Common.{GplState, grom_at, GromState, GSTEP, GSTOP, i
 use Rattle.sim_rows.proofs.Common.{next_in_grom, next_of, on_stack, One, Place, PortsAreIdle, Reason, row_result, SeesFinished, Stack, Stands, Stepped}
 use Rattle.sim_rows.proofs.Common.{Stopped, StoppedBy, TurnsBy, TurnsRow, unchanged, View, view, WHERE, with_byte_from, word_in}
 use Rattle.sim_rows.specs.gpl_defs.declared.instruction.OneName.TheVariants.{FETCH}
-use Rattle.sim_rows.specs.step_defs.Place.{word_at}
+use Rattle.sim_rows.specs.gpl_step_defs.Place.{word_at}
 use Rattle.sim_stack.specs.Pieces.{offset_of}
 use Rattle.sim_stack.specs.Stacks.{EndsFetch, fetched_at, FetchesStacked, Fetching, LoadsStacked, Located, Locates, SetAside, SetsAside}
 use Rattle.sim_stack.proofs.Room.{goes_full, goes_on, no_room, offset_above, with_room}

@@ -7,7 +7,7 @@ use Rattle.sim_rows.proofs.Common.{Exits, finished, GORTN, GOTO, GplOperation, G
 use Rattle.sim_rows.proofs.Common.{join, LOAD, Loaded, LoadsValue, MachineState, matches, on_stack, operation_at, operation_in, place_in, Plain, PortsAreIdle}
 use Rattle.sim_rows.proofs.Common.{reaches, Reason, return_of, RTN, RTNC, RTNP, Sees, SeesFinished, Stack, Stands, state_of, step, step_plain, Stepped}
 use Rattle.sim_rows.proofs.Common.{Stopped, StoppedBy, sum_of, TAKE, Turned, turned_by, value_at, View, view, width_in, with_condition, Word}
-use Rattle.sim_rows.specs.step_defs.Place.{word_at}
+use Rattle.sim_rows.specs.gpl_step_defs.Place.{word_at}
 use Rattle.sim_jumps.specs.Jumps.{GoesOn, TakesBranch}
 use Rattle.sim_stack.specs.Pieces.{offset_of, pointer_at}
 use Rattle.sim_stack.specs.Family.{is_return}

@@ -5,7 +5,7 @@ use Rattle.std.proofs.lemmas.Bool.{le-leb, lt-leb, ltb-false, ltb-true}
 use Rattle.sim_rows.proofs.Common.{bound, bound_stop, Comes, Exit, Exits, GplState, grown_by, GSTOP, high, is_end, join, Loaded, MachineState, on_stack}
 use Rattle.sim_rows.proofs.Common.{place_in, plus, reaches, Reason, Sees, Stack, step, Stopped, StoppedBy, stops, sum_of, Turned, turned_by, value_at, View}
 use Rattle.sim_rows.proofs.Common.{Word}
-use Rattle.sim_rows.specs.step_defs.Place.{word_at}
+use Rattle.sim_rows.specs.gpl_step_defs.Place.{word_at}
 use Rattle.sim_stack.specs.Pieces.{offset_of}
 
 -- ---- numbers

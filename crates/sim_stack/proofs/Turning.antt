@@ -6,7 +6,7 @@ use Rattle.sim_rows.proofs.Common.{◌>>=◌, AtDispatch, Byte, Changes, code_by
 use Rattle.sim_rows.proofs.Common.{operation_in, Place, PUSH, Reason, row_result, row_width, size_of, Source, Stack, state_at_dispatch, Turn, Turned}
 use Rattle.sim_rows.proofs.Common.{TurnsRow, view, word_or_byte}
 use Rattle.sim_rows.specs.gpl_defs.declared.instruction.OneName.TheVariants.{FETCH}
-use Rattle.sim_rows.specs.step_defs.declared.reason.Reason.TheVariants.{Exit}
+use Rattle.sim_rows.specs.gpl_step_defs.declared.reason.Reason.TheVariants.{Exit}
 use Rattle.sim_stack.specs.Family.{is_stack_row}
 use Rattle.sim_stack.proofs.Dispatch.{rows}
 use Rattle.sim_stack.proofs.Room.{OnlyStack, stack_alone}

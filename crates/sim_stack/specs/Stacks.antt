@@ -5,7 +5,7 @@ use Rattle.sim_rows.specs.Prelude.{GplState, grom_at, grown_by, GSTEP, high, joi
 use Rattle.sim_rows.specs.Prelude.{number_of_space, Place, RETURN_STACK, Sees, SeesFinished, unchanged, View, view}
 use Rattle.sim_rows.specs.Prelude.{WHERE, with_byte, with_cell, with_condition, with_pc, with_word}
 use Rattle.sim_rows.specs.Prelude.{word_at as word_in_grom, word_in}
-use Rattle.sim_rows.specs.step_defs.Place.{word_at}
+use Rattle.sim_rows.specs.gpl_step_defs.Place.{word_at}
 use Rattle.sim_stack.specs.Pieces.{ask_stacked}
 
 -- RTN and RTNC

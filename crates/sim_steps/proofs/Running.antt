@@ -2,7 +2,7 @@
 use Rattle.std.proofs.Common.{ℕ, ◌+◌, ◌<◌, ◌∙◌, ◌≡◌, ◌≤◌, ap, arith, Err, None, Ok, Option, refl, Result, Some, subst, suc, sym, zero}
 use Rattle.sim_rows.proofs.Common.{◌>>=◌, AreTurns, bound, Cell, EndsAs, GplRun, GplState, IsMatching, IsTurn, MachineState, Matches, one_more, Reason, run}
 use Rattle.sim_rows.proofs.Common.{shown_by, step, Stepped, Stopped, Turn, Turned, TurnedBy, with_stop}
-use Rattle.sim_rows.specs.step_defs.Run.{steps}
+use Rattle.sim_rows.specs.gpl_step_defs.Run.{steps}
 use Rattle.sim_steps.specs.Running.{RunsTurns}
 
 state_in : GplState → Result GplState Reason → GplState

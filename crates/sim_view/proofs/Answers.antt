@@ -1,6 +1,6 @@
 -- What answers give.
 use Rattle.std.proofs.Common.{◌≡◌, refl}
-use Rattle.console_defs.specs.Accesses.{Answer, Gives, AtPort, NoInstruction, ◌>>=◌}
+use Rattle.tms_defs.specs.Accesses.{Answer, Gives, AtPort, NoInstruction, ◌>>=◌}
 
 pub given : {X : Type 0} (a b : X) → Gives a ≡ Gives b → a ≡ b
 given a b e = cc

@@ -5,17 +5,17 @@ use Rattle.std.proofs.lemmas.List.{get_or-drop, get_or-take, get_or_past, take_a
 use Rattle.std.proofs.lemmas.Bool.{cases_lt}
 use Rattle.std.proofs.Math.ListN.{take-append-drop}
 use Rattle.std.specs.Prelude.{slice_index}
-use Rattle.console_defs.specs.Words.{join, even}
-use Rattle.console_defs.specs.Bytes.{word_in}
+use Rattle.tms_defs.specs.Words.{join, even}
+use Rattle.tms_defs.specs.Bytes.{word_in}
 use Rattle.console_defs.proofs.MemoryLaws.{region_scratchpad}
-use Rattle.console_defs.specs.Status.{IsStatus}
+use Rattle.tms_defs.specs.Status.{IsStatus}
 use Rattle.console_defs.specs.Vdp.{VdpState, IsVdp}
 use Rattle.console_defs.specs.Grom.{GromState, IsGrom}
-use Rattle.console_defs.specs.Accesses.{Answer, Gives, ◌>>=◌}
-use Rattle.console_defs.specs.Operand.{Cpu, register_in}
+use Rattle.tms_defs.specs.Accesses.{Answer, Gives, ◌>>=◌}
+use Rattle.tms_defs.specs.Operand.{Cpu, register_in}
 use Rattle.console_defs.specs.Memory.{Memory, IsMemory, Region, Scratchpad, region, word_read}
 use Rattle.console_defs.specs.Machine.{MachineState, IsMachine}
-use Rattle.console_defs.specs.declared.status.Status.{Status}
+use Rattle.tms_defs.specs.declared.status.Status.{Status}
 use Rattle.interp_defs.specs.Interpreter.{HoldsInterpreter}
 use Rattle.interp_defs.specs.Runs.{Runs}
 use Rattle.native_interp.specs.declared.addresses.TheConstants.{WORKSPACE}

@@ -1,7 +1,7 @@
 -- One stretch after another.
 use Rattle.std.proofs.Common.{◌≡◌, ℕ, ◌+◌, ◌-◌, ◌<◌, ◌≤◌, Bool, true, false, refl, sym, ap, subst, ◌∙◌, arith, ⊎_elim, ◌⊎◌}
 use Rattle.std.proofs.lemmas.Bool.{cases_order}
-use Rattle.console_defs.specs.Accesses.{Answer, Gives, ◌>>=◌}
+use Rattle.tms_defs.specs.Accesses.{Answer, Gives, ◌>>=◌}
 use Rattle.console_defs.specs.Machine.{MachineState, steps}
 use Rattle.console_defs.proofs.RunLaws.{steps-add}
 use Rattle.interp_defs.specs.Runs.{Runs, is_end}

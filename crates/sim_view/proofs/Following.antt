@@ -2,12 +2,12 @@
 use Rattle.std.proofs.Common.{◌≡◌, ℕ, zero, suc, ◌+◌, ◌-◌, ◌<◌, List, Bool, true, false, refl, sym, ap, subst, ◌∙◌, arith}
 use Rattle.std.specs.Prelude.{◌||◌}
 use Rattle.count_defs.specs.Counts.{raised}
-use Rattle.console_defs.specs.Accesses.{Answer, Gives, ◌>>=◌}
+use Rattle.tms_defs.specs.Accesses.{Answer, Gives, ◌>>=◌}
 use Rattle.console_defs.specs.Memory.{Memory}
-use Rattle.console_defs.specs.Operand.{Cpu}
-use Rattle.console_defs.specs.Step.{execution}
+use Rattle.tms_defs.specs.Operand.{Cpu}
+use Rattle.tms_defs.specs.Step.{execution}
 use Rattle.console_defs.specs.Machine.{MachineState, machine_step, steps}
-use Rattle.console_defs.specs.declared.ends.StepEnd.TheVariants.{Done}
+use Rattle.tms_defs.specs.declared.step_end.StepEnd.TheVariants.{Done}
 use Rattle.interp_defs.specs.Runs.{is_end, Runs}
 use Rattle.sim_view.specs.View.{View}
 use Rattle.sim_view.specs.Running.{Ran, one_more, ends_piece, ran}

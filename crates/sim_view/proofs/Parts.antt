@@ -1,10 +1,10 @@
 -- Runs of the view in parts: a piece is proved part by part, each up to the next test.
 use Rattle.std.proofs.Common.{◌≡◌, ℕ, zero, suc, ◌+◌, List, Bool, true, false, refl, sym, ap, subst, ◌∙◌, arith, zero-add}
-use Rattle.console_defs.specs.Status.{IsStatus}
-use Rattle.console_defs.specs.Accesses.{Answer, Gives, NoInstruction, ◌>>=◌}
-use Rattle.console_defs.specs.Operand.{Cpu}
-use Rattle.console_defs.specs.Step.{execution}
-use Rattle.console_defs.specs.declared.status.Status.{Status}
+use Rattle.tms_defs.specs.Status.{IsStatus}
+use Rattle.tms_defs.specs.Accesses.{Answer, Gives, NoInstruction, ◌>>=◌}
+use Rattle.tms_defs.specs.Operand.{Cpu}
+use Rattle.tms_defs.specs.Step.{execution}
+use Rattle.tms_defs.specs.declared.status.Status.{Status}
 use Rattle.native_interp.specs.declared.addresses.TheConstants.{WORKSPACE}
 use Rattle.sim_view.specs.View.{View}
 use Rattle.sim_view.specs.Exits.{Exit}

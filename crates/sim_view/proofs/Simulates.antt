@@ -6,46 +6,46 @@ use Rattle.std.specs.Prelude.{slice_index, slice_set, ◌&&◌, ◌||◌, not, �
 use Rattle.std.proofs.lemmas.Bool.{ne_eqb, cases_eq}
 use Rattle.std.proofs.Math.Nat.{pos_of_ne-zero}
 use Rattle.std.proofs.lemmas.List.{get_or-append_right, get_or_append_left, set-append_right, set-append_left, length-set}
-use Rattle.console_defs.specs.Words.{high, low, join, even, plus}
-use Rattle.console_defs.specs.Flags.{Width, size_of, Byte, Word, byte_or_word}
-use Rattle.console_defs.specs.Status.{with_result, with_order, with_extension, with_mask, status_word, status_at}
-use Rattle.console_defs.specs.Logic.{swapped, by_ones, by_zeros}
-use Rattle.console_defs.specs.MultiplyDivide.{product_of, division_of, by_division}
-use Rattle.console_defs.specs.Bytes.{word_in, with_word_in}
-use Rattle.console_defs.specs.Instructions.{instr_at}
-use Rattle.console_defs.specs.declared.flags.Flags.{Flags}
-use Rattle.console_defs.specs.declared.status.Status.{Status}
-use Rattle.console_defs.specs.declared.instruction.Place.{Place}
-use Rattle.console_defs.specs.declared.instruction.TwoOp.{TwoOp}
-use Rattle.console_defs.specs.declared.instruction.TwoOp.TheVariants.{SZC, S, C, A, MOV, SOC}
-use Rattle.console_defs.specs.declared.instruction.RegOp.{RegOp}
-use Rattle.console_defs.specs.declared.instruction.RegOp.TheVariants.{COC, CZC, XOR, XOP, LDCR, STCR, MPY, DIV}
-use Rattle.console_defs.specs.declared.instruction.ShiftOp.{ShiftOp}
-use Rattle.console_defs.specs.declared.instruction.OneOp.{OneOp}
-use Rattle.console_defs.specs.declared.instruction.OneOp.TheVariants.{BLWP, B, X, CLR, NEG, INV, INC, INCT, DEC, DECT, BL, SWPB, SETO, ABS}
-use Rattle.console_defs.specs.declared.instruction.JumpOp.{JumpOp}
-use Rattle.console_defs.specs.declared.instruction.ImmOp.{ImmOp}
-use Rattle.console_defs.specs.declared.instruction.ImmOp.TheVariants.{LI, AI, ANDI, ORI, CI, STWP, STST}
-use Rattle.console_defs.specs.declared.instruction.BareOp.{BareOp}
-use Rattle.console_defs.specs.declared.instruction.BareOp.TheVariants.{LWPI, LIMI, IDLE, RSET, RTWP, CKON, CKOF, LREX}
-use Rattle.console_defs.specs.declared.instruction.Instr.{Instr}
-use Rattle.console_defs.specs.declared.instruction.Instr.TheVariants as instr
-use Rattle.console_defs.specs.Accesses.{Answer, Gives, AtPort, NoInstruction, ◌>>=◌, Accesses}
-use Rattle.console_defs.specs.Operand.{Cpu, Mode, Register, Indirect, Symbolic, Increment, mode_of, register_in, word_at, with_word, with_words}
-use Rattle.console_defs.specs.Operand.{register_address, next_word, index_of, operand, value_at, with_value}
+use Rattle.tms_defs.specs.Words.{high, low, join, even, plus}
+use Rattle.tms_defs.specs.Flags.{Width, size_of, Byte, Word, byte_or_word}
+use Rattle.tms_defs.specs.Status.{with_result, with_order, with_extension, with_mask, status_word, status_at}
+use Rattle.tms_defs.specs.Logic.{swapped, by_ones, by_zeros}
+use Rattle.tms_defs.specs.MultiplyDivide.{product_of, division_of, by_division}
+use Rattle.tms_defs.specs.Bytes.{word_in, with_word_in}
+use Rattle.tms_defs.specs.Instructions.{instr_at}
+use Rattle.tms_defs.specs.declared.flags.Flags.{Flags}
+use Rattle.tms_defs.specs.declared.status.Status.{Status}
+use Rattle.tms_defs.specs.declared.instruction.Place.{Place}
+use Rattle.tms_defs.specs.declared.instruction.TwoOp.{TwoOp}
+use Rattle.tms_defs.specs.declared.instruction.TwoOp.TheVariants.{SZC, S, C, A, MOV, SOC}
+use Rattle.tms_defs.specs.declared.instruction.RegOp.{RegOp}
+use Rattle.tms_defs.specs.declared.instruction.RegOp.TheVariants.{COC, CZC, XOR, XOP, LDCR, STCR, MPY, DIV}
+use Rattle.tms_defs.specs.declared.instruction.ShiftOp.{ShiftOp}
+use Rattle.tms_defs.specs.declared.instruction.OneOp.{OneOp}
+use Rattle.tms_defs.specs.declared.instruction.OneOp.TheVariants.{BLWP, B, X, CLR, NEG, INV, INC, INCT, DEC, DECT, BL, SWPB, SETO, ABS}
+use Rattle.tms_defs.specs.declared.instruction.JumpOp.{JumpOp}
+use Rattle.tms_defs.specs.declared.instruction.ImmOp.{ImmOp}
+use Rattle.tms_defs.specs.declared.instruction.ImmOp.TheVariants.{LI, AI, ANDI, ORI, CI, STWP, STST}
+use Rattle.tms_defs.specs.declared.instruction.BareOp.{BareOp}
+use Rattle.tms_defs.specs.declared.instruction.BareOp.TheVariants.{LWPI, LIMI, IDLE, RSET, RTWP, CKON, CKOF, LREX}
+use Rattle.tms_defs.specs.declared.instruction.Instr.{Instr}
+use Rattle.tms_defs.specs.declared.instruction.Instr.TheVariants as instr
+use Rattle.tms_defs.specs.Accesses.{Answer, Gives, AtPort, NoInstruction, ◌>>=◌, Accesses}
+use Rattle.tms_defs.specs.Operand.{Cpu, Mode, Register, Indirect, Symbolic, Increment, mode_of, register_in, word_at, with_word, with_words}
+use Rattle.tms_defs.specs.Operand.{register_address, next_word, index_of, operand, value_at, with_value}
 use Rattle.console_defs.specs.Memory.{Memory, console, Port, VdpDataRead, VdpStatusRead, VdpDataWrite, VdpAddressWrite, GromDataRead, GromAddressRead}
 use Rattle.console_defs.specs.Memory.{GromDataWrite, GromAddressWrite, Region, region, word_read_in, word_read, word_written_in, word_written, byte_read_in}
 use Rattle.console_defs.specs.Memory.{byte_read, byte_written_in, byte_written, port_read, port_written}
-use Rattle.console_defs.specs.forms.Results.{with_flags, stored, stored_by_result}
-use Rattle.console_defs.specs.forms.ContextSwitch.{kept_in, vector_at, kept_of}
-use Rattle.console_defs.specs.forms.Two.{two, two_operands}
-use Rattle.console_defs.specs.forms.Reg.{in_row, values_at, with_division, reg, with_source}
-use Rattle.console_defs.specs.forms.Shift.{count_in, count_of, shift}
-use Rattle.console_defs.specs.forms.One.{one, one_operand}
-use Rattle.console_defs.specs.forms.Jump.{jump_target, jump_where, condition, jump}
-use Rattle.console_defs.specs.forms.Imm.{immediate, imm}
-use Rattle.console_defs.specs.forms.Bare.{bare}
-use Rattle.console_defs.specs.Step.{executed, executed_where, execution, is_stopping}
+use Rattle.tms_defs.specs.forms.Results.{with_flags, stored, stored_by_result}
+use Rattle.tms_defs.specs.forms.ContextSwitch.{kept_in, vector_at, kept_of}
+use Rattle.tms_defs.specs.forms.Two.{two, two_operands}
+use Rattle.tms_defs.specs.forms.Reg.{in_row, values_at, with_division, reg, with_source}
+use Rattle.tms_defs.specs.forms.Shift.{count_in, count_of, shift}
+use Rattle.tms_defs.specs.forms.One.{one, one_operand}
+use Rattle.tms_defs.specs.forms.Jump.{jump_target, jump_where, condition, jump}
+use Rattle.tms_defs.specs.forms.Imm.{immediate, imm}
+use Rattle.tms_defs.specs.forms.Bare.{bare}
+use Rattle.tms_defs.specs.Step.{executed, executed_where, execution, is_stopping}
 use Rattle.count_defs.specs.Counts.{raised}
 use Rattle.console_defs.specs.Machine.{MachineState, machine_step, done_step, steps}
 use Rattle.sim_view.specs.View.{View, Registers, listed, relisted}

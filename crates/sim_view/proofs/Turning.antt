@@ -2,8 +2,8 @@
 use Rattle.std.proofs.Common.{◌≡◌, ℕ, zero, suc, ◌+◌, ◌-◌, ◌<◌, Bool, true, false, List, refl, sym, ap, ◌∙◌, arith}
 use Rattle.std.specs.Prelude.{if◌then◌else◌}
 use Rattle.console_defs.specs.Machine.{MachineState, machine_step}
-use Rattle.console_defs.specs.declared.ends.StepEnd.{StepEnd}
-use Rattle.console_defs.specs.declared.ends.StepEnd.TheVariants.{Done, Refused, Port}
+use Rattle.tms_defs.specs.declared.step_end.StepEnd.{StepEnd}
+use Rattle.tms_defs.specs.declared.step_end.StepEnd.TheVariants.{Done, Refused, Port}
 use Rattle.tms_step.specs.Turns.{executed_by}
 use Rattle.sim_view.specs.Running.{Ran, one_more, is_last, ran}
 

@@ -1,7 +1,8 @@
+pub use Rattle.tms_defs.specs as tms_defs
 pub use Rattle.console_defs.specs as console_defs
 pub use Rattle.source_defs.specs as source_defs
 pub use Rattle.gpl_defs.specs as gpl_defs
-pub use Rattle.step_defs.specs as step_defs
+pub use Rattle.gpl_step_defs.specs as gpl_step_defs
 pub use Rattle.native_interp.specs as native_interp
 pub use Rattle.interp_defs.specs as interp_defs
 pub mod View

@@ -1,26 +1,26 @@
 -- The names that the clauses and definitions of a piece cite, passed on from one place. Declares nothing.
-pub use Rattle.console_defs.specs.Accesses.{Answer, Gives}
-pub use Rattle.console_defs.specs.Bytes.{HoldsBytes, with_word_in, word_in}
-pub use Rattle.console_defs.specs.Flags.{absolute_flags, absolute_of, Byte, difference_flags, difference_of, modulus}
-pub use Rattle.console_defs.specs.Flags.{negation_flags, negation_of, signed, size_of, sum_flags, sum_of, Width, Word}
+pub use Rattle.tms_defs.specs.Accesses.{Answer, Gives}
+pub use Rattle.tms_defs.specs.Bytes.{HoldsBytes, with_word_in, word_in}
+pub use Rattle.tms_defs.specs.Flags.{absolute_flags, absolute_of, Byte, difference_flags, difference_of, modulus}
+pub use Rattle.tms_defs.specs.Flags.{negation_flags, negation_of, signed, size_of, sum_flags, sum_of, Width, Word}
 pub use Rattle.console_defs.specs.Grom.{grom_address_read, grom_address_written, grom_data_read, GromState}
 pub use Rattle.console_defs.specs.Grom.{is_grom_idle, new_grom, next_in_grom, previous_in_grom}
-pub use Rattle.console_defs.specs.Logic.{complement_of, conjunction_of, exclusive_or_of, ones_cleared, ones_set}
-pub use Rattle.console_defs.specs.Logic.{swapped}
+pub use Rattle.tms_defs.specs.Logic.{complement_of, conjunction_of, exclusive_or_of, ones_cleared, ones_set}
+pub use Rattle.tms_defs.specs.Logic.{swapped}
 pub use Rattle.console_defs.specs.Machine.{IsMachine, MachineState, steps}
 pub use Rattle.console_defs.specs.Memory.{IsMemory, Memory}
-pub use Rattle.console_defs.specs.MultiplyDivide.{division_of, double_word, product_of}
-pub use Rattle.console_defs.specs.Shifts.{last_out, shifted}
-pub use Rattle.console_defs.specs.Status.{bit_of, is_set, IsStatus, status_word}
+pub use Rattle.tms_defs.specs.MultiplyDivide.{division_of, double_word, product_of}
+pub use Rattle.tms_defs.specs.Shifts.{last_out, shifted}
+pub use Rattle.tms_defs.specs.Status.{bit_of, is_set, IsStatus, status_word}
 pub use Rattle.console_defs.specs.Vdp.{is_vdp_idle, IsNewVdp, next_in_vdp, NoOperation, pair_kind, PairKind}
 pub use Rattle.console_defs.specs.Vdp.{ReadSetup, RegisterWrite, vdp_address_written, vdp_data_read, vdp_data_written}
 pub use Rattle.console_defs.specs.Vdp.{VdpState, WriteSetup}
-pub use Rattle.console_defs.specs.Words.{even, high, join, low, plus}
-pub use Rattle.console_defs.specs.declared.flags.Flags.{Flags}
-pub use Rattle.console_defs.specs.declared.instruction.ShiftOp.{ShiftOp}
-pub use Rattle.console_defs.specs.declared.instruction.ShiftOp.TheVariants.{SLA, SRA, SRC, SRL}
-pub use Rattle.console_defs.specs.declared.status.Status.{Status}
-pub use Rattle.console_defs.specs.forms.Shift.{count_in}
+pub use Rattle.tms_defs.specs.Words.{even, high, join, low, plus}
+pub use Rattle.tms_defs.specs.declared.flags.Flags.{Flags}
+pub use Rattle.tms_defs.specs.declared.instruction.ShiftOp.{ShiftOp}
+pub use Rattle.tms_defs.specs.declared.instruction.ShiftOp.TheVariants.{SLA, SRA, SRC, SRL}
+pub use Rattle.tms_defs.specs.declared.status.Status.{Status}
+pub use Rattle.tms_defs.specs.forms.Shift.{count_in}
 pub use Rattle.source_defs.specs.Refusals.{◌>>=◌}
 pub use Rattle.gpl_defs.specs.Codes.{operation_at}
 pub use Rattle.gpl_defs.specs.Reading.{address_at, from_at, index_at, index_by, length_at, operand_from, read_by}
@@ -52,31 +52,31 @@ pub use Rattle.gpl_defs.specs.declared.instruction.Space.TheVariants.{Cpu, Vdp}
 pub use Rattle.gpl_defs.specs.declared.instruction.TwoName.{TwoName}
 pub use Rattle.gpl_defs.specs.declared.instruction.TwoName.TheVariants.{ADD, AND, CEQ, CGE, CGT, CH, CHE, CLOG, DIV}
 pub use Rattle.gpl_defs.specs.declared.instruction.TwoName.TheVariants.{EX, MUL, OR, SLL, ST, SUB, XOR}
-pub use Rattle.step_defs.specs.Arithmetic.{count_of, divided, exchanged, has_quotient, repeated, repeated_sign}
-pub use Rattle.step_defs.specs.Arithmetic.{shifted_left, shifted_right, Source, two, with_quotient}
-pub use Rattle.step_defs.specs.Changes.{Changes, condition, finished, shown, status_byte, status_of, unchanged}
-pub use Rattle.step_defs.specs.Changes.{with_byte, with_byte_in, with_cell, with_condition, with_double}
-pub use Rattle.step_defs.specs.Changes.{with_overflow, with_pc, with_register, with_status, with_value}
-pub use Rattle.step_defs.specs.Copy.{byte_from, copied, From, FromGrom, FromMemory, length_of, moved, next_from}
-pub use Rattle.step_defs.specs.Copy.{next_to, origin_of, target_of, To, ToMemory, ToRegisters, with_byte_to}
-pub use Rattle.step_defs.specs.Copy.{within_limit}
-pub use Rattle.step_defs.specs.Flow.{branched, cells_at, drawn, grown_by, in_grom_of, is_taken, next_seed, on_stack}
-pub use Rattle.step_defs.specs.Flow.{with_byte_from, with_word}
-pub use Rattle.step_defs.specs.Place.{behind, byte_at, byte_in, double_at, indexed, is_visible, Place, place_of}
-pub use Rattle.step_defs.specs.Place.{pointed, ranged, value_at}
-pub use Rattle.step_defs.specs.Reasons.{number_of}
-pub use Rattle.step_defs.specs.Run.{bound, bound_at, bound_by, bytes_or_none, GplRun, one_more, run, with_stop}
-pub use Rattle.step_defs.specs.State.{GplState, start}
-unfoldable pub use Rattle.step_defs.specs.State.{zeros}
-pub use Rattle.step_defs.specs.Step.{destination_size, executed, jump, one, plain, source_of, step, with_immediate}
-pub use Rattle.step_defs.specs.Step.{with_tested, word_or_byte}
-unfoldable pub use Rattle.step_defs.specs.Step.{after}
-pub use Rattle.step_defs.specs.declared.cells.TheConstants.{CHARACTER, COLUMN, RANDOM, RETURN_STACK, SEED, STATUS}
-pub use Rattle.step_defs.specs.declared.cells.TheConstants.{VALUE_STACK, VISIBLE_CELLS}
-pub use Rattle.step_defs.specs.declared.reason.Reason.{Reason}
-pub use Rattle.step_defs.specs.declared.reason.Reason.TheVariants.{Cell, Length, Opcode, Register, Stack}
-pub use Rattle.step_defs.specs.declared.status_bits.TheConstants.{CARRY_BIT, CONDITION_BIT, GREATER_BIT, HIGHER_BIT}
-pub use Rattle.step_defs.specs.declared.status_bits.TheConstants.{OVERFLOW_BIT}
+pub use Rattle.gpl_step_defs.specs.Arithmetic.{count_of, divided, exchanged, has_quotient, repeated, repeated_sign}
+pub use Rattle.gpl_step_defs.specs.Arithmetic.{shifted_left, shifted_right, Source, two, with_quotient}
+pub use Rattle.gpl_step_defs.specs.Changes.{Changes, condition, finished, shown, status_byte, status_of, unchanged}
+pub use Rattle.gpl_step_defs.specs.Changes.{with_byte, with_byte_in, with_cell, with_condition, with_double}
+pub use Rattle.gpl_step_defs.specs.Changes.{with_overflow, with_pc, with_register, with_status, with_value}
+pub use Rattle.gpl_step_defs.specs.Copy.{byte_from, copied, From, FromGrom, FromMemory, length_of, moved, next_from}
+pub use Rattle.gpl_step_defs.specs.Copy.{next_to, origin_of, target_of, To, ToMemory, ToRegisters, with_byte_to}
+pub use Rattle.gpl_step_defs.specs.Copy.{within_limit}
+pub use Rattle.gpl_step_defs.specs.Flow.{branched, cells_at, drawn, grown_by, in_grom_of, is_taken, next_seed, on_stack}
+pub use Rattle.gpl_step_defs.specs.Flow.{with_byte_from, with_word}
+pub use Rattle.gpl_step_defs.specs.Place.{behind, byte_at, byte_in, double_at, indexed, is_visible, Place, place_of}
+pub use Rattle.gpl_step_defs.specs.Place.{pointed, ranged, value_at}
+pub use Rattle.gpl_step_defs.specs.Reasons.{number_of}
+pub use Rattle.gpl_step_defs.specs.Run.{bound, bound_at, bound_by, bytes_or_none, GplRun, one_more, run, with_stop}
+pub use Rattle.gpl_step_defs.specs.State.{GplState, start}
+unfoldable pub use Rattle.gpl_step_defs.specs.State.{zeros}
+pub use Rattle.gpl_step_defs.specs.Step.{destination_size, executed, jump, one, plain, source_of, step, with_immediate}
+pub use Rattle.gpl_step_defs.specs.Step.{with_tested, word_or_byte}
+unfoldable pub use Rattle.gpl_step_defs.specs.Step.{after}
+pub use Rattle.gpl_step_defs.specs.declared.cells.TheConstants.{CHARACTER, COLUMN, RANDOM, RETURN_STACK, SEED, STATUS}
+pub use Rattle.gpl_step_defs.specs.declared.cells.TheConstants.{VALUE_STACK, VISIBLE_CELLS}
+pub use Rattle.gpl_step_defs.specs.declared.reason.Reason.{Reason}
+pub use Rattle.gpl_step_defs.specs.declared.reason.Reason.TheVariants.{Cell, Length, Opcode, Register, Stack}
+pub use Rattle.gpl_step_defs.specs.declared.status_bits.TheConstants.{CARRY_BIT, CONDITION_BIT, GREATER_BIT, HIGHER_BIT}
+pub use Rattle.gpl_step_defs.specs.declared.status_bits.TheConstants.{OVERFLOW_BIT}
 pub use Rattle.native_interp.specs.Entries.{operation_entry, row_entry}
 pub use Rattle.native_interp.specs.Words.{origin}
 pub use Rattle.native_interp.specs.declared.addresses.TheConstants.{ABSV, ADDR, ADDV, ANDV, APTR, ASPACE, BRANCH}

@@ -2,8 +2,8 @@
 use Rattle.std.specs.Prelude.{◌≡◌, ◌+◌, ℕ, zero, suc, ◌/◌, Bool, true, false, ◌||◌, eqb, List, if◌then◌else◌}
 use Rattle.std.specs.List.{list_any}
 use Rattle.console_defs.specs.Machine.{MachineState, IsMachine, machine_step}
-use Rattle.console_defs.specs.declared.ends.StepEnd.{StepEnd}
-use Rattle.console_defs.specs.declared.ends.StepEnd.TheVariants.{Done, Refused, Port}
+use Rattle.tms_defs.specs.declared.step_end.StepEnd.{StepEnd}
+use Rattle.tms_defs.specs.declared.step_end.StepEnd.TheVariants.{Done, Refused, Port}
 use Rattle.tms_step.specs.Turns.{executed_by}
 use Rattle.interp_defs.specs.Runs.{is_end}
 use Rattle.sim_view.specs.declared.run.TheConstants.{PIECE}

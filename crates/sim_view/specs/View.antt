@@ -1,6 +1,6 @@
 -- What the interpreter's author sees of a machine: sixteen registers, the cells, the words between them, and the ports.
 use Rattle.std.specs.Prelude.{◌≡◌, ℕ, List, [], ◌∷◌, take, drop, slice_index}
-use Rattle.console_defs.specs.Words.{join}
+use Rattle.tms_defs.specs.Words.{join}
 use Rattle.console_defs.specs.Vdp.{VdpState}
 use Rattle.console_defs.specs.Grom.{GromState}
 use Rattle.console_defs.specs.Memory.{Memory}

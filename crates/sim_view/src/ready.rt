@@ -1,7 +1,7 @@
 //! Whether a machine is ready to run the interpreter, for hosts and tests that look at a machine before it is run.
 
 ghost use Rattle.std.specs.Prelude.{◌≡◌, ◌<◌, ◌*◌, true, false};
-ghost use Rattle.console_defs.specs.Bytes.{word_in};
+ghost use Rattle.tms_defs.specs.Bytes.{word_in};
 ghost use Rattle.interp_defs.specs.Interpreter.{HoldsInterpreter};
 ghost use Rattle.sim_view.specs.View.{Stands};
 

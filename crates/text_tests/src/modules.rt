@@ -2,7 +2,7 @@
 
 use crate::object_text::word;
 use asm_core::{AsmCause, AsmError, AsmLines, assemble};
-use asm_defs::FormError;
+use instruction_defs::FormError;
 use object_tags::{Piece, Spot};
 use source_defs::ExprError;
 use std::alloc::Global;

@@ -3,17 +3,17 @@ use Rattle.std.proofs.Common.{◌≡◌, ◌<◌, ℕ, ◌+◌, Bool, true, fals
 use Rattle.std.proofs.Common.{Option, Some, None}
 use Rattle.std.proofs.lemmas.Bool.Decides.{nat_tests}
 use Rattle.std.specs.Prelude.{eqb}
-use Rattle.console_defs.specs.Accesses.{Answer, Gives, AtPort, NoInstruction}
+use Rattle.tms_defs.specs.Accesses.{Answer, Gives, AtPort, NoInstruction}
 use Rattle.console_defs.specs.Memory.{Memory, console}
-use Rattle.console_defs.specs.Operand.{Cpu}
-use Rattle.console_defs.specs.Step.{step_end, execution, step}
+use Rattle.tms_defs.specs.Operand.{Cpu}
+use Rattle.tms_defs.specs.Step.{step_end, execution, step}
 use Rattle.console_defs.specs.Machine.{MachineState, counted, machine_step}
 use Rattle.console_defs.specs.Runs.{is_reached, is_self_jump, end_of_step, after, self_jumped, end_before, end_at}
 use Rattle.console_defs.specs.Runs.{IsRun}
-use Rattle.console_defs.specs.declared.ends.StepEnd.{StepEnd}
-use Rattle.console_defs.specs.declared.ends.StepEnd.TheVariants.{Done, Refused, Port}
-use Rattle.console_defs.specs.declared.ends.RunEnd.{RunEnd}
-use Rattle.console_defs.specs.declared.ends.RunEnd.TheVariants as run
+use Rattle.tms_defs.specs.declared.step_end.StepEnd.{StepEnd}
+use Rattle.tms_defs.specs.declared.step_end.StepEnd.TheVariants.{Done, Refused, Port}
+use Rattle.console_defs.specs.declared.run_end.RunEnd.{RunEnd}
+use Rattle.console_defs.specs.declared.run_end.RunEnd.TheVariants as run
 use Rattle.tms_step.specs.Turns.{executed_by, end_of_turn, end_at_limit}
 
 -- So many steps led from x to y, and nothing has ended the run.

@@ -3,8 +3,8 @@ use Rattle.std.proofs.Common.{◌≡◌, ℕ, arith, ℤ, pos, negsuc}
 use Rattle.std.specs.Prelude.{FitsSigned}
 use Rattle.std.specs.Int.{w8}
 use Rattle.std.proofs.lemmas.Int.{ints}
-use Rattle.console_defs.specs.Words.{even}
-use Rattle.console_defs.specs.forms.Jump.{jump_target}
+use Rattle.tms_defs.specs.Words.{even}
+use Rattle.tms_defs.specs.forms.Jump.{jump_target}
 
 pub even_target : (pc : ℕ) (disp : ℤ) → even pc ≡ pc → FitsSigned w8 disp → even (jump_target pc disp)
     ≡ jump_target pc disp

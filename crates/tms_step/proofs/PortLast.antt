@@ -1,9 +1,9 @@
 -- A byte of a port may be read before a destination is derived or after it: words neither see nor change a port.
 use Rattle.std.proofs.Common.{◌≡◌, ℕ, true, false, refl, sym, ap, ◌∙◌}
 use Rattle.std.specs.Prelude.{eqb}
-use Rattle.console_defs.specs.Words.{even, plus}
-use Rattle.console_defs.specs.Flags.{Width, Byte, size_of}
-use Rattle.console_defs.specs.Accesses.{Answer, Gives, AtPort, NoInstruction, ◌>>=◌}
+use Rattle.tms_defs.specs.Words.{even, plus}
+use Rattle.tms_defs.specs.Flags.{Width, Byte, size_of}
+use Rattle.tms_defs.specs.Accesses.{Answer, Gives, AtPort, NoInstruction, ◌>>=◌}
 use Rattle.console_defs.specs.Vdp.{VdpState}
 use Rattle.console_defs.specs.Grom.{GromState}
 use Rattle.console_defs.specs.Memory.{Memory, Port, VdpDataRead, VdpStatusRead, VdpDataWrite, VdpAddressWrite}
@@ -11,11 +11,11 @@ use Rattle.console_defs.specs.Memory.{GromDataRead, GromAddressRead, GromDataWri
 use Rattle.console_defs.specs.Memory.{LowExpansion, HighExpansion, Scratchpad, PortOf, Unmapped, region, is_port_region}
 use Rattle.console_defs.specs.Memory.{is_port_address, port_read, byte_read_in, word_read, word_written_in}
 use Rattle.console_defs.specs.Memory.{word_written, console}
-use Rattle.console_defs.specs.Operand.{Cpu, Mode, Register, Indirect, Symbolic, Increment, mode_of, operand}
-use Rattle.console_defs.specs.Operand.{register_address, index_of, with_word}
-use Rattle.console_defs.specs.forms.Two.{two}
-use Rattle.console_defs.specs.declared.instruction.TwoOp.{TwoOp}
-use Rattle.console_defs.specs.declared.instruction.Place.{Place}
+use Rattle.tms_defs.specs.Operand.{Cpu, Mode, Register, Indirect, Symbolic, Increment, mode_of, operand}
+use Rattle.tms_defs.specs.Operand.{register_address, index_of, with_word}
+use Rattle.tms_defs.specs.forms.Two.{two}
+use Rattle.tms_defs.specs.declared.instruction.TwoOp.{TwoOp}
+use Rattle.tms_defs.specs.declared.instruction.Place.{Place}
 use Rattle.console_defs.proofs.MemoryLaws.{with_ports, word_read_past_ports, word_written_past_ports}
 use Rattle.tms_step.specs.Parts.{from_source, from_port}
 

@@ -3,11 +3,11 @@ use Rattle.std.proofs.Common.{◌≡◌, ℕ, ◌+◌, ◌<◌, List, refl, sym,
 use Rattle.std.specs.Prelude.{Option, Some, None, Result, Ok, Err, OnErr}
 use Rattle.std.proofs.Math.ListN.{set}
 use Rattle.std.proofs.lemmas.List.{set_comm, set-set, set-get_or}
-use Rattle.console_defs.specs.Words.{high, low, join, even}
-use Rattle.console_defs.specs.Accesses.{Answer, Gives, AtPort, NoInstruction, ◌>>=◌, written_by}
-use Rattle.console_defs.specs.Operand.{Cpu, with_word}
-use Rattle.console_defs.specs.declared.instruction.Place.{Place}
-use Rattle.console_defs.specs.declared.port_stop.PortStop.{PortStop}
+use Rattle.tms_defs.specs.Words.{high, low, join, even}
+use Rattle.tms_defs.specs.Accesses.{Answer, Gives, AtPort, NoInstruction, ◌>>=◌, written_by}
+use Rattle.tms_defs.specs.Operand.{Cpu, with_word}
+use Rattle.tms_defs.specs.declared.instruction.Place.{Place}
+use Rattle.tms_defs.specs.declared.port_stop.PortStop.{PortStop}
 use Rattle.console_defs.specs.Memory.{Memory, Region, Rom, LowExpansion, HighExpansion, Scratchpad, PortOf, Unmapped}
 use Rattle.console_defs.specs.Memory.{IsMemory, region, word_read_in, word_written_in, word_read, word_written, console}
 use Rattle.tms_step.specs.declared.cpu.Kept.{Kept}

@@ -6,8 +6,8 @@ use Rattle.std.proofs.lemmas.Bool.Decides.{nat_tests}
 use Rattle.std.proofs.Math.Nat.{mod-eq_of_lt}
 use Rattle.std.proofs.lemmas.Nat.{and_le_l, and_mod, or_lt}
 use Rattle.std.specs.Int.Bits.{bit_and}
-use Rattle.console_defs.specs.Flags.{modulus, half, byte_or_word, signed}
-use Rattle.console_defs.specs.Logic.{ones_set, ones_cleared}
+use Rattle.tms_defs.specs.Flags.{modulus, half, byte_or_word, signed}
+use Rattle.tms_defs.specs.Logic.{ones_set, ones_cleared}
 
 above : (modulus half n : ℕ) (positive below : Bool) → nat_lt 0 n ≡ positive → nat_lt n half ≡ below → n < modulus →
     int_lt (pos 0) (if below then pos n else pos n -ℤ pos modulus) ≡ (positive && below)

@@ -1,17 +1,17 @@
 -- Parts of the machine step that are functions of the code.
 use Rattle.std.specs.Prelude.{ℕ, Bool, true, false}
-use Rattle.console_defs.specs.Accesses.{Answer, ◌>>=◌}
+use Rattle.tms_defs.specs.Accesses.{Answer, ◌>>=◌}
 use Rattle.console_defs.specs.Memory.{Memory, console}
-use Rattle.console_defs.specs.Flags.{Width, Byte}
-use Rattle.console_defs.specs.Operand.{Cpu, mode_of, operand, value_at}
-use Rattle.console_defs.specs.forms.Two.{two}
-use Rattle.console_defs.specs.declared.instruction.TwoOp.{TwoOp}
-use Rattle.console_defs.specs.declared.instruction.TwoOp.TheVariants.{SZC, S, C, A, MOV, SOC}
-use Rattle.console_defs.specs.declared.instruction.OneOp.{OneOp}
-use Rattle.console_defs.specs.declared.instruction.OneOp.TheVariants.{INC, INCT, DEC, DECT}
-use Rattle.console_defs.specs.declared.instruction.ImmOp.{ImmOp}
-use Rattle.console_defs.specs.declared.instruction.ImmOp.TheVariants.{AI, ANDI, ORI, CI}
-use Rattle.console_defs.specs.declared.instruction.Place.{Place}
+use Rattle.tms_defs.specs.Flags.{Width, Byte}
+use Rattle.tms_defs.specs.Operand.{Cpu, mode_of, operand, value_at}
+use Rattle.tms_defs.specs.forms.Two.{two}
+use Rattle.tms_defs.specs.declared.instruction.TwoOp.{TwoOp}
+use Rattle.tms_defs.specs.declared.instruction.TwoOp.TheVariants.{SZC, S, C, A, MOV, SOC}
+use Rattle.tms_defs.specs.declared.instruction.OneOp.{OneOp}
+use Rattle.tms_defs.specs.declared.instruction.OneOp.TheVariants.{INC, INCT, DEC, DECT}
+use Rattle.tms_defs.specs.declared.instruction.ImmOp.{ImmOp}
+use Rattle.tms_defs.specs.declared.instruction.ImmOp.TheVariants.{AI, ANDI, ORI, CI}
+use Rattle.tms_defs.specs.declared.instruction.Place.{Place}
 
 -- What follows once the source of two operands is derived.
 abbrev pub from_source : TwoOp → Width → ℕ → Place → Cpu Memory → Answer (Cpu Memory)

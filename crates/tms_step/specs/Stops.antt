@@ -1,7 +1,7 @@
 -- What the results of the code say.
 use Rattle.std.specs.Prelude.{Result, Ok, Err}
-use Rattle.console_defs.specs.Accesses.{Answer, Gives, AtPort}
-use Rattle.console_defs.specs.declared.port_stop.PortStop.{PortStop}
+use Rattle.tms_defs.specs.Accesses.{Answer, Gives, AtPort}
+use Rattle.tms_defs.specs.declared.port_stop.PortStop.{PortStop}
 
 -- What a result comes to, with what the call left.
 abbrev pub left_by : {X Y : Type 0} → Result X PortStop → (X → Y) → Answer Y

@@ -1,10 +1,10 @@
 -- One turn of a run, a step; and the end of a run at its limit.
 use Rattle.std.specs.Prelude.{ℕ, true, false, eqb, Option, Some, None}
 use Rattle.console_defs.specs.Runs.{is_reached}
-use Rattle.console_defs.specs.declared.ends.StepEnd.{StepEnd}
-use Rattle.console_defs.specs.declared.ends.StepEnd.TheVariants.{Done, Refused, Port}
-use Rattle.console_defs.specs.declared.ends.RunEnd.{RunEnd}
-use Rattle.console_defs.specs.declared.ends.RunEnd.TheVariants as run
+use Rattle.tms_defs.specs.declared.step_end.StepEnd.{StepEnd}
+use Rattle.tms_defs.specs.declared.step_end.StepEnd.TheVariants.{Done, Refused, Port}
+use Rattle.console_defs.specs.declared.run_end.RunEnd.{RunEnd}
+use Rattle.console_defs.specs.declared.run_end.RunEnd.TheVariants as run
 
 -- How many instructions a step executed.
 abbrev pub executed_by : StepEnd → ℕ

@@ -1,9 +1,9 @@
 -- A word that was written over, and its being put back.
 use Rattle.std.specs.Prelude.{◌≡◌, ℕ, true, false, eqb, Option, Some, None}
-use Rattle.console_defs.specs.Accesses.{Answer, Gives, AtPort, NoInstruction}
+use Rattle.tms_defs.specs.Accesses.{Answer, Gives, AtPort, NoInstruction}
 use Rattle.console_defs.specs.Memory.{Memory, word_written}
-use Rattle.console_defs.specs.Operand.{Cpu, register_in}
-use Rattle.console_defs.specs.declared.instruction.Place.{Place}
+use Rattle.tms_defs.specs.Operand.{Cpu, register_in}
+use Rattle.tms_defs.specs.declared.instruction.Place.{Place}
 use Rattle.tms_step.specs.declared.cpu.Kept.{Kept}
 
 -- The memory that a write leaves, or the memory before it where it stops.

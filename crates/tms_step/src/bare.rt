@@ -2,16 +2,16 @@
 
 ghost use Rattle.std.specs.Prelude.{◌≡◌, OnErr, false};
 ghost use Rattle.console_defs.specs.Memory.{Memory, console};
-ghost use Rattle.console_defs.specs.Step.{is_stopping};
-ghost use Rattle.console_defs.specs.forms.Bare.{bare};
-ghost use Rattle.console_defs.specs.declared.instruction.BareOp.TheVariants.{RTWP};
-ghost use Rattle.console_defs.specs.declared.instruction.Instr.TheVariants.{Bare};
+ghost use Rattle.tms_defs.specs.Step.{is_stopping};
+ghost use Rattle.tms_defs.specs.forms.Bare.{bare};
+ghost use Rattle.tms_defs.specs.declared.instruction.BareOp.TheVariants.{RTWP};
+ghost use Rattle.tms_defs.specs.declared.instruction.Instr.TheVariants.{Bare};
 ghost use Rattle.tms_step.specs.Stops.{left_by};
 ghost use Rattle.tms_step.specs.Undo.{SameButPc};
 
 use crate::cpu::{Cpu, even};
 use crate::status::status_at;
-use console_defs::{BareOp, PortStop};
+use tms_defs::{BareOp, PortStop};
 
 impl Cpu {
     /// An operation on the processor's registers; the program counter stands at the word that may follow (TMS9900 data

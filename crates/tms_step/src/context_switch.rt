@@ -1,13 +1,13 @@
 //! The change to another workspace, and back.
 
 ghost use Rattle.std.specs.Prelude.{◌≡◌, IfOk};
-ghost use Rattle.console_defs.specs.Words.{even};
+ghost use Rattle.tms_defs.specs.Words.{even};
 ghost use Rattle.console_defs.specs.Memory.{Memory, console};
-ghost use Rattle.console_defs.specs.forms.ContextSwitch.{kept_in, vector_at, kept_of};
+ghost use Rattle.tms_defs.specs.forms.ContextSwitch.{kept_in, vector_at, kept_of};
 ghost use Rattle.tms_step.specs.Stops.{left_by};
 
 use crate::cpu::{Cpu, even, register_in};
-use console_defs::PortStop;
+use tms_defs::PortStop;
 
 impl Cpu {
     /// The workspace pointer and the program counter of a context switch, from two words of memory (TMS9900 data

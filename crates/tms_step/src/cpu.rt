@@ -1,16 +1,16 @@
 //! The processor's state, and its accesses to memory.
 
 ghost use Rattle.std.specs.Prelude.{◌≡◌, ◌<◌, ◌*◌, OnErr};
-ghost use Rattle.console_defs.specs.Words.{even};
-ghost use Rattle.console_defs.specs.Status.{IsStatus};
+ghost use Rattle.tms_defs.specs.Words.{even};
+ghost use Rattle.tms_defs.specs.Status.{IsStatus};
 ghost use Rattle.console_defs.specs.Memory.{Memory, IsMemory, console};
-ghost use Rattle.console_defs.specs.Operand.{word_at, with_word, register_in, register_address, next_word};
+ghost use Rattle.tms_defs.specs.Operand.{word_at, with_word, register_in, register_address, next_word};
 ghost use Rattle.tms_step.specs.Stops.{left_by};
 ghost use Rattle.tms_step.specs.Undo.{SameButPc};
 
 use console_bus::Bus;
-use console_defs::{PortStop, Status};
 use std::marker::Model;
+use tms_defs::{PortStop, Status};
 
 /// The processor with its memory (TMS9900 data manual, "Registers and memory").
 #[derive(Drop)]
@@ -23,10 +23,10 @@ pub(crate) struct Cpu {
 
 impl Model for Cpu {
     ghost use Rattle.std.specs.Prelude.{◌≡◌};
-    ghost use Rattle.console_defs.specs.Words.{even};
+    ghost use Rattle.tms_defs.specs.Words.{even};
     ghost use Rattle.console_defs.specs.Memory.{Memory};
-    ghost use Rattle.console_defs.specs.Operand.{Cpu as CpuState};
-    ghost use Rattle.console_defs.specs.Status.{IsStatus};
+    ghost use Rattle.tms_defs.specs.Operand.{Cpu as CpuState};
+    ghost use Rattle.tms_defs.specs.Status.{IsStatus};
 
     ghost Value = { CpuState Memory };
 

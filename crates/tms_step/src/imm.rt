@@ -2,13 +2,13 @@
 
 ghost use Rattle.std.specs.Prelude.{◌≡◌, ◌<◌, OnErr, true};
 ghost use Rattle.console_defs.specs.Memory.{Memory, console};
-ghost use Rattle.console_defs.specs.forms.Imm.{immediate, imm};
+ghost use Rattle.tms_defs.specs.forms.Imm.{immediate, imm};
 ghost use Rattle.tms_step.specs.Parts.{reads_both};
 ghost use Rattle.tms_step.specs.Stops.{left_by};
 ghost use Rattle.tms_step.specs.Undo.{SameButPc};
 
 use crate::cpu::Cpu;
-use console_defs::{ImmOp, PortStop};
+use tms_defs::{ImmOp, PortStop};
 use tms_words::add16;
 
 impl Cpu {

@@ -1,14 +1,14 @@
 //! Jumps.
 
 ghost use Rattle.std.specs.Prelude.{◌≡◌, ◌≢◌, Some};
-ghost use Rattle.console_defs.specs.Words.{even};
-ghost use Rattle.console_defs.specs.Accesses.{Gives};
+ghost use Rattle.tms_defs.specs.Words.{even};
+ghost use Rattle.tms_defs.specs.Accesses.{Gives};
 ghost use Rattle.console_defs.specs.Memory.{Memory};
-ghost use Rattle.console_defs.specs.forms.Jump.{jump_target, condition, jump};
-ghost use Rattle.console_defs.specs.declared.instruction.JumpOp.TheVariants.{JMP, JEQ, JNE, SBO, SBZ, TB};
+ghost use Rattle.tms_defs.specs.forms.Jump.{jump_target, condition, jump};
+ghost use Rattle.tms_defs.specs.declared.instruction.JumpOp.TheVariants.{JMP, JEQ, JNE, SBO, SBZ, TB};
 
 use crate::cpu::Cpu;
-use console_defs::{JumpOp, Status};
+use tms_defs::{JumpOp, Status};
 
 impl Cpu {
     /// A jump; the program counter stands at the next instruction (TMS9900 data manual, "Jump instructions").

@@ -1,11 +1,11 @@
 //! The machine: the processor over the console's memory, with a count of its instructions.
 
 ghost use Rattle.std.specs.Prelude.{◌≡◌, ◌<◌, true};
-ghost use Rattle.console_defs.specs.Words.{even};
-ghost use Rattle.console_defs.specs.Accesses.{Gives};
+ghost use Rattle.tms_defs.specs.Words.{even};
+ghost use Rattle.tms_defs.specs.Accesses.{Gives};
 ghost use Rattle.console_defs.specs.Memory.{Memory, console, word_read};
-ghost use Rattle.console_defs.specs.Operand.{register_address};
-ghost use Rattle.console_defs.specs.Status.{status_at, status_word};
+ghost use Rattle.tms_defs.specs.Operand.{register_address};
+ghost use Rattle.tms_defs.specs.Status.{status_at, status_word};
 ghost use Rattle.console_defs.specs.Machine.{MachineState, IsMachine, new_machine, machine_step, WhereStopped};
 ghost use Rattle.console_defs.specs.Machine.{has_workspace};
 ghost use Rattle.console_defs.specs.Causes.{refused_at, refusal, MeetsPort};
@@ -13,8 +13,8 @@ ghost use Rattle.console_defs.specs.Causes.{refused_at, refusal, MeetsPort};
 use crate::cpu::{Cpu, even};
 use crate::status::status_at;
 use console_bus::Bus;
-use console_defs::StepEnd;
 use std::marker::Model;
+use tms_defs::StepEnd;
 
 /// A TMS9900 processor over the memory of the console, with a count of the instructions that it executed.
 #[derive(Drop)]

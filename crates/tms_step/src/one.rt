@@ -1,17 +1,17 @@
 //! Instructions with one operand in any mode.
 
 ghost use Rattle.std.specs.Prelude.{◌≡◌, ◌≢◌, ◌<◌, OnErr, true, false};
-ghost use Rattle.console_defs.specs.Instructions.{IsPlace};
-ghost use Rattle.console_defs.specs.Accesses.{Gives};
+ghost use Rattle.tms_defs.specs.Instructions.{IsPlace};
+ghost use Rattle.tms_defs.specs.Accesses.{Gives};
 ghost use Rattle.console_defs.specs.Memory.{Memory, console};
-ghost use Rattle.console_defs.specs.forms.One.{one, one_operand};
-ghost use Rattle.console_defs.specs.declared.instruction.OneOp.TheVariants.{BLWP, B, X, BL, CLR};
+ghost use Rattle.tms_defs.specs.forms.One.{one, one_operand};
+ghost use Rattle.tms_defs.specs.declared.instruction.OneOp.TheVariants.{BLWP, B, X, BL, CLR};
 ghost use Rattle.tms_step.specs.Parts.{is_increment};
 ghost use Rattle.tms_step.specs.Stops.{left_by};
 ghost use Rattle.tms_step.specs.Undo.{SameButPc};
 
 use crate::cpu::{Cpu, even};
-use console_defs::{OneOp, Place, PortStop};
+use tms_defs::{OneOp, Place, PortStop};
 use tms_words::{abs16, add16, neg16, sub16};
 
 impl Cpu {

@@ -1,15 +1,15 @@
 //! Operands: where they stand, what they are, and the growth of a register.
 
 ghost use Rattle.std.specs.Prelude.{◌≡◌, ◌<◌, IfOk, IsOk, OnErr, Some, true, false};
-ghost use Rattle.console_defs.specs.Flags.{Word, modulus, byte_or_word};
+ghost use Rattle.tms_defs.specs.Flags.{Word, modulus, byte_or_word};
 ghost use Rattle.console_defs.specs.Memory.{Memory, console};
-ghost use Rattle.console_defs.specs.Operand.{mode_of, index_of, operand, value_at, with_value};
-ghost use Rattle.console_defs.specs.Instructions.{IsPlace};
+ghost use Rattle.tms_defs.specs.Operand.{mode_of, index_of, operand, value_at, with_value};
+ghost use Rattle.tms_defs.specs.Instructions.{IsPlace};
 ghost use Rattle.tms_step.specs.Stops.{left_by};
 ghost use Rattle.tms_step.specs.Undo.{put_back, grown_by, grown_register, SameButPc};
 
 use crate::cpu::{Cpu, Kept};
-use console_defs::{Place, PortStop};
+use tms_defs::{Place, PortStop};
 
 impl Cpu {
     /// What an index register adds to an address. Register 0 is no index (TMS9900 data manual, "Indexed addressing").

@@ -1,16 +1,16 @@
 //! Instructions with a source in any mode, and a register or the number of an extended operation.
 
 ghost use Rattle.std.specs.Prelude.{◌≡◌, ◌≢◌, ◌<◌, OnErr};
-ghost use Rattle.console_defs.specs.Instructions.{IsPlace};
+ghost use Rattle.tms_defs.specs.Instructions.{IsPlace};
 ghost use Rattle.console_defs.specs.Memory.{Memory, console};
-ghost use Rattle.console_defs.specs.Operand.{register_address};
-ghost use Rattle.console_defs.specs.forms.Reg.{values_at, with_division, reg, with_source};
-ghost use Rattle.console_defs.specs.declared.instruction.RegOp.TheVariants.{XOP, LDCR, STCR, DIV};
+ghost use Rattle.tms_defs.specs.Operand.{register_address};
+ghost use Rattle.tms_defs.specs.forms.Reg.{values_at, with_division, reg, with_source};
+ghost use Rattle.tms_defs.specs.declared.instruction.RegOp.TheVariants.{XOP, LDCR, STCR, DIV};
 ghost use Rattle.tms_step.specs.Stops.{left_by};
 ghost use Rattle.tms_step.specs.Undo.{SameButPc};
 
 use crate::cpu::{Cpu, register_in};
-use console_defs::{Place, PortStop, RegOp};
+use tms_defs::{Place, PortStop, RegOp};
 use tms_words::{div16, mul16};
 
 impl Cpu {

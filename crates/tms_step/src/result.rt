@@ -1,11 +1,11 @@
 //! Results and their status bits, of words and of bytes.
 
 ghost use Rattle.std.specs.Prelude.{◌≡◌, ◌<◌};
-ghost use Rattle.console_defs.specs.Flags.{modulus, byte_or_word, by_result, sum_of, sum_flags, difference_of};
-ghost use Rattle.console_defs.specs.Flags.{difference_flags, by_order, no_flags};
-ghost use Rattle.console_defs.specs.Logic.{ones_set, ones_cleared};
+ghost use Rattle.tms_defs.specs.Flags.{modulus, byte_or_word, by_result, sum_of, sum_flags, difference_of};
+ghost use Rattle.tms_defs.specs.Flags.{difference_flags, by_order, no_flags};
+ghost use Rattle.tms_defs.specs.Logic.{ones_set, ones_cleared};
 
-use console_defs::{Flags, Out8, Out16};
+use tms_defs::{Flags, Out8, Out16};
 use tms_words::{add8, add16, compare8, compare16, sub8, sub16};
 
 /// L>, A> and EQ by a result, and the other status bits as they are (TMS9900 data manual, "Status register").

@@ -2,7 +2,7 @@
 
 ghost use Rattle.std.specs.Prelude.{◌≡◌, ◌≤◌, ◌+◌, ◌-◌};
 ghost use Rattle.count_defs.specs.Counts.{raised};
-ghost use Rattle.console_defs.specs.Accesses.{Gives};
+ghost use Rattle.tms_defs.specs.Accesses.{Gives};
 ghost use Rattle.console_defs.specs.Machine.{machine_step};
 ghost use Rattle.console_defs.specs.Machine as machine;
 ghost use Rattle.console_defs.specs.Runs.{IsRun, is_reached};
@@ -10,8 +10,9 @@ ghost use Rattle.tms_step.specs.Turns.{executed_by, end_of_turn, end_at_limit};
 
 use crate::machine::Machine;
 use crate::steps::Steps;
-use console_defs::{RunEnd, StepEnd};
+use console_defs::RunEnd;
 use std::sync::ledger::Ledger;
+use tms_defs::StepEnd;
 
 /// The word of a jump to itself.
 const SELF_JUMP: u16 = 0x10FF;

@@ -2,13 +2,13 @@
 
 ghost use Rattle.std.specs.Prelude.{◌≡◌, ◌<◌, ◌≤◌, IfOk, OnErr};
 ghost use Rattle.console_defs.specs.Memory.{Memory, console};
-ghost use Rattle.console_defs.specs.Shifts.{shifted, by_shift};
-ghost use Rattle.console_defs.specs.forms.Shift.{count_in, count_of, shift};
+ghost use Rattle.tms_defs.specs.Shifts.{shifted, by_shift};
+ghost use Rattle.tms_defs.specs.forms.Shift.{count_in, count_of, shift};
 ghost use Rattle.tms_step.specs.Stops.{left_by};
 ghost use Rattle.tms_step.specs.Undo.{SameButPc};
 
 use crate::cpu::Cpu;
-use console_defs::{Flags, Out16, PortStop, ShiftOp};
+use tms_defs::{Flags, Out16, PortStop, ShiftOp};
 use tms_words::shift16;
 
 impl Cpu {

@@ -1,14 +1,14 @@
 //! The word of the status register.
 
 ghost use Rattle.std.specs.Prelude.{◌≡◌, ◌<◌, ◌≤◌};
-ghost use Rattle.console_defs.specs.Status.{IsStatus, bit_of, is_set, status_at, status_word};
+ghost use Rattle.tms_defs.specs.Status.{IsStatus, bit_of, is_set, status_at, status_word};
 
 use crate::cpu::Cpu;
-use console_defs::{Flags, Status};
+use tms_defs::{Flags, Status};
 
 impl Cpu {
     /// The word of the status register (TMS9900 data manual, "Status register").
-    #[tactic(auto, using(console_defs::proofs::StatusLaws::status_again))]
+    #[tactic(auto, using(tms_defs::proofs::StatusLaws::status_again))]
     pub(crate) fn status_word(&self) -> u16
         ensures word { result ≡ status_word self.now.status }
         ensures status { status_at result ≡ self.now.status }

@@ -5,15 +5,15 @@
 //! as long as a whole step. What is told so stands in functions that are not inlined into each other.
 
 ghost use Rattle.std.specs.Prelude.{◌≡◌, OnErr, false};
-ghost use Rattle.console_defs.specs.Instructions.{HasRoom};
+ghost use Rattle.tms_defs.specs.Instructions.{HasRoom};
 ghost use Rattle.console_defs.specs.Machine.{WhereStopped};
 ghost use Rattle.console_defs.specs.Memory.{Memory, console};
-ghost use Rattle.console_defs.specs.Step.{executed, is_stopping, step};
+ghost use Rattle.tms_defs.specs.Step.{executed, is_stopping, step};
 ghost use Rattle.tms_step.specs.Stops.{left_by};
 ghost use Rattle.tms_step.specs.Undo.{SameButPc};
 
 use crate::cpu::Cpu;
-use console_defs::{BareOp, Instr, JumpOp, OneOp, PortStop, RegOp, StepEnd};
+use tms_defs::{BareOp, Instr, JumpOp, OneOp, PortStop, RegOp, StepEnd};
 use tms_words::decode;
 
 impl Cpu {

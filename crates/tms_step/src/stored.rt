@@ -1,15 +1,15 @@
 //! Results that are stored with their status bits.
 
 ghost use Rattle.std.specs.Prelude.{◌≡◌, ◌<◌, IsOk, OnErr, true};
-ghost use Rattle.console_defs.specs.Flags.{Word, modulus, byte_or_word};
+ghost use Rattle.tms_defs.specs.Flags.{Word, modulus, byte_or_word};
 ghost use Rattle.console_defs.specs.Memory.{Memory, console};
-ghost use Rattle.console_defs.specs.Status.{with_order};
-ghost use Rattle.console_defs.specs.forms.Results.{stored, stored_by_result};
+ghost use Rattle.tms_defs.specs.Status.{with_order};
+ghost use Rattle.tms_defs.specs.forms.Results.{stored, stored_by_result};
 ghost use Rattle.tms_step.specs.Stops.{left_by};
 
 use crate::cpu::Cpu;
 use crate::result::{order, result_flags};
-use console_defs::{Flags, Out16, PortStop};
+use tms_defs::{Flags, Out16, PortStop};
 use tms_words::odd8;
 
 impl Cpu {

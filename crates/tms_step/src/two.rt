@@ -1,11 +1,11 @@
 //! Instructions with two operands in any mode.
 
 ghost use Rattle.std.specs.Prelude.{◌≡◌, ◌<◌, OnErr, true, false};
-ghost use Rattle.console_defs.specs.Flags.{modulus, byte_or_word};
-ghost use Rattle.console_defs.specs.Instructions.{IsPlace};
+ghost use Rattle.tms_defs.specs.Flags.{modulus, byte_or_word};
+ghost use Rattle.tms_defs.specs.Instructions.{IsPlace};
 ghost use Rattle.console_defs.specs.Memory.{Memory, console, is_port_address};
-ghost use Rattle.console_defs.specs.forms.Two.{two, two_operands};
-ghost use Rattle.console_defs.specs.declared.instruction.TwoOp.TheVariants.{MOV};
+ghost use Rattle.tms_defs.specs.forms.Two.{two, two_operands};
+ghost use Rattle.tms_defs.specs.declared.instruction.TwoOp.TheVariants.{MOV};
 ghost use Rattle.tms_step.specs.Stops.{left_by};
 ghost use Rattle.tms_step.specs.Undo.{SameButPc};
 ghost use Rattle.tms_step.specs.Parts.{from_source, from_port, two_from_port, is_arithmetic, is_bitwise};
@@ -13,7 +13,7 @@ ghost use Rattle.tms_step.specs.Parts.{from_source, from_port, two_from_port, is
 use crate::cpu::Cpu;
 use crate::result::{difference, ones_cleared, ones_set, sum};
 use console_bus::is_port;
-use console_defs::{Place, PortStop, TwoOp};
+use tms_defs::{Place, PortStop, TwoOp};
 
 impl Cpu {
     /// An operation on two operands: the source is derived first.

@@ -1,14 +1,14 @@
 //! Words that are written, and put back where a later access stops the instruction.
 
 ghost use Rattle.std.specs.Prelude.{◌≡◌, IfOk, OnOk, OnErr, Some};
-ghost use Rattle.console_defs.specs.Accesses.{Gives};
+ghost use Rattle.tms_defs.specs.Accesses.{Gives};
 ghost use Rattle.console_defs.specs.Memory.{Memory, console, word_read};
-ghost use Rattle.console_defs.specs.Operand.{with_word, with_words};
+ghost use Rattle.tms_defs.specs.Operand.{with_word, with_words};
 ghost use Rattle.tms_step.specs.Stops.{left_by};
 ghost use Rattle.tms_step.specs.Undo.{put_back, SameButPc};
 
 use crate::cpu::{Cpu, Kept};
-use console_defs::PortStop;
+use tms_defs::PortStop;
 
 impl Cpu {
     /// Writes words in a row; of each pair the first is the address. Where a port stops one of them, the memory is as

@@ -1,4 +1,4 @@
-pub use Rattle.console_defs.specs.Flags
-pub use Rattle.console_defs.specs.Shifts
-pub use Rattle.console_defs.specs.MultiplyDivide
-pub use Rattle.console_defs.specs.Instructions
+pub use Rattle.tms_defs.specs.Flags
+pub use Rattle.tms_defs.specs.Shifts
+pub use Rattle.tms_defs.specs.MultiplyDivide
+pub use Rattle.tms_defs.specs.Instructions

@@ -1,15 +1,15 @@
 //! Sums, differences, negatives, absolute values, comparisons and the parity of bytes, with their status bits.
 ghost use Rattle.std.specs.Prelude.{◌≡◌};
-ghost use Rattle.console_defs.specs.Flags.{Byte, result_flags, sum_of, sum_flags, sum_overflows, sum_has_wrong_sign};
-ghost use Rattle.console_defs.specs.Flags.{difference_has_wrong_sign, difference_of, difference_flags};
-ghost use Rattle.console_defs.specs.Flags.{difference_overflows, negation_of, negation_flags, absolute_of};
-ghost use Rattle.console_defs.specs.Flags.{absolute_flags, by_order, no_flags, has_odd_parity};
+ghost use Rattle.tms_defs.specs.Flags.{Byte, result_flags, sum_of, sum_flags, sum_overflows, sum_has_wrong_sign};
+ghost use Rattle.tms_defs.specs.Flags.{difference_has_wrong_sign, difference_of, difference_flags};
+ghost use Rattle.tms_defs.specs.Flags.{difference_overflows, negation_of, negation_flags, absolute_of};
+ghost use Rattle.tms_defs.specs.Flags.{absolute_flags, by_order, no_flags, has_odd_parity};
 
-use console_defs::{Flags, Out8};
+use tms_defs::{Flags, Out8};
 
 /// The sum of two bytes; its status bits are those of `add16` at the width of a byte.
 /// TMS9900 data manual, "Add bytes".
-#[tactic(auto, using(console_defs::proofs::OverflowLaws::sum_overflows_by_signs))]
+#[tactic(auto, using(tms_defs::proofs::OverflowLaws::sum_overflows_by_signs))]
 pub fn add8(d: u8, s: u8) -> Out8
     ensures value { result.value ≡ sum_of Byte d s }
     ensures flags { result.flags ≡ sum_flags Byte d s }
@@ -25,7 +25,7 @@ pub fn add8(d: u8, s: u8) -> Out8
 
 /// The difference `d - s` of two bytes; its status bits are those of `sub16` at the width of a byte.
 /// TMS9900 data manual, "Subtract bytes".
-#[tactic(auto, using(console_defs::proofs::OverflowLaws::difference_overflows_by_signs))]
+#[tactic(auto, using(tms_defs::proofs::OverflowLaws::difference_overflows_by_signs))]
 pub fn sub8(d: u8, s: u8) -> Out8
     ensures value { result.value ≡ difference_of Byte d s }
     ensures flags { result.flags ≡ difference_flags Byte d s }

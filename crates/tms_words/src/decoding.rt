@@ -5,11 +5,11 @@
 //! `operands_at` are inlined into each of their callers, since a call of them takes long beside the rest of a step; of
 //! the other parts the compiler decides.
 ghost use Rattle.std.specs.Prelude.{◌≡◌, ◌≢◌, ◌≤◌, ◌<◌, ◌/◌, ◌%◌, ◌*◌, eqb, IfSome, IfNone};
-ghost use Rattle.console_defs.specs.Instructions.{two_code, reg_code, shift_code, one_code, jump_code, imm_code};
-ghost use Rattle.console_defs.specs.Instructions.{bare_code, operation_at, operands_at, source_at, destination_at};
-ghost use Rattle.console_defs.specs.Instructions.{instr_at, word_of, HasRoom};
+ghost use Rattle.tms_defs.specs.Instructions.{two_code, reg_code, shift_code, one_code, jump_code, imm_code};
+ghost use Rattle.tms_defs.specs.Instructions.{bare_code, operation_at, operands_at, source_at, destination_at};
+ghost use Rattle.tms_defs.specs.Instructions.{instr_at, word_of, HasRoom};
 
-use console_defs::{BareOp, ImmOp, Instr, JumpOp, OneOp, Operation, Place, RegOp, ShiftOp, TwoOp};
+use tms_defs::{BareOp, ImmOp, Instr, JumpOp, OneOp, Operation, Place, RegOp, ShiftOp, TwoOp};
 
 /// The instruction that a word says, and None exactly where the word belongs to no row of the instruction table.
 /// TMS9900 data manual, "Instructions".

@@ -1,10 +1,10 @@
 //! The word of an instruction.
 ghost use Rattle.std.specs.Prelude.{◌≡◌, ◌≤◌, ◌<◌, ◌+◌, Some};
-ghost use Rattle.console_defs.specs.Instructions.{code_of, operation_of, operands_word, two_code, reg_code, shift_code};
-ghost use Rattle.console_defs.specs.Instructions.{one_code, jump_code, imm_code, bare_code, instr_at, word_of};
-ghost use Rattle.console_defs.specs.Instructions.{source_word, destination_word, IsPlace, HasRoom, HasSignedByte};
+ghost use Rattle.tms_defs.specs.Instructions.{code_of, operation_of, operands_word, two_code, reg_code, shift_code};
+ghost use Rattle.tms_defs.specs.Instructions.{one_code, jump_code, imm_code, bare_code, instr_at, word_of};
+ghost use Rattle.tms_defs.specs.Instructions.{source_word, destination_word, IsPlace, HasRoom, HasSignedByte};
 
-use console_defs::{BareOp, ImmOp, Instr, JumpOp, OneOp, Place, RegOp, ShiftOp, TwoOp};
+use tms_defs::{BareOp, ImmOp, Instr, JumpOp, OneOp, Place, RegOp, ShiftOp, TwoOp};
 
 /// The word of an instruction whose modes are below 4 and whose registers, counts and `d` are below 16.
 /// TMS9900 data manual, "Instructions".

@@ -1,11 +1,11 @@
 //! Shifts with their status bits.
 ghost use Rattle.std.specs.Prelude.{◌≡◌, ◌≤◌, ◌<◌, ◌-◌, ◌/◌, ◌%◌, ◌^◌, eqb, false};
-ghost use Rattle.console_defs.specs.Flags.{Word, result_flags};
-ghost use Rattle.console_defs.specs.Shifts.{shifted, shift_flags, shift_overflows, sign_changes, long_word};
-ghost use Rattle.console_defs.specs.declared.instruction.ShiftOp.TheVariants.{SLA};
+ghost use Rattle.tms_defs.specs.Flags.{Word, result_flags};
+ghost use Rattle.tms_defs.specs.Shifts.{shifted, shift_flags, shift_overflows, sign_changes, long_word};
+ghost use Rattle.tms_defs.specs.declared.instruction.ShiftOp.TheVariants.{SLA};
 
 use crate::words::result_flags16;
-use console_defs::{Out16, ShiftOp};
+use tms_defs::{Out16, ShiftOp};
 
 /// A word shifted by a count from 1 to 16. L>, A> and EQ are set by the result; C is the last bit that was shifted
 /// out; OV is set where SLA changed the sign at any moment of the shift, and is false for the others.

@@ -1,15 +1,15 @@
 //! Sums, differences, negatives, absolute values and comparisons of words, with their status bits.
 ghost use Rattle.std.specs.Prelude.{◌≡◌};
-ghost use Rattle.console_defs.specs.Flags.{Word, result_flags, sum_of, sum_flags, sum_overflows, sum_has_wrong_sign};
-ghost use Rattle.console_defs.specs.Flags.{difference_has_wrong_sign, difference_of, difference_flags};
-ghost use Rattle.console_defs.specs.Flags.{difference_overflows, negation_of, negation_flags, absolute_of};
-ghost use Rattle.console_defs.specs.Flags.{absolute_flags, by_order, no_flags};
+ghost use Rattle.tms_defs.specs.Flags.{Word, result_flags, sum_of, sum_flags, sum_overflows, sum_has_wrong_sign};
+ghost use Rattle.tms_defs.specs.Flags.{difference_has_wrong_sign, difference_of, difference_flags};
+ghost use Rattle.tms_defs.specs.Flags.{difference_overflows, negation_of, negation_flags, absolute_of};
+ghost use Rattle.tms_defs.specs.Flags.{absolute_flags, by_order, no_flags};
 
-use console_defs::{Flags, Out16};
+use tms_defs::{Flags, Out16};
 
 /// The sum of two words. L>, A> and EQ are set by the sum; C where it leaves the width; OV where the sum of the
 /// signed numbers does. TMS9900 data manual, "Add words".
-#[tactic(auto, using(console_defs::proofs::OverflowLaws::sum_overflows_by_signs))]
+#[tactic(auto, using(tms_defs::proofs::OverflowLaws::sum_overflows_by_signs))]
 pub fn add16(d: u16, s: u16) -> Out16
     ensures value { result.value ≡ sum_of Word d s }
     ensures flags { result.flags ≡ sum_flags Word d s }
@@ -25,7 +25,7 @@ pub fn add16(d: u16, s: u16) -> Out16
 
 /// The difference `d - s` of two words. L>, A> and EQ are set by the difference; C where there is no borrow; OV where
 /// the difference of the signed numbers leaves the width. TMS9900 data manual, "Subtract words".
-#[tactic(auto, using(console_defs::proofs::OverflowLaws::difference_overflows_by_signs))]
+#[tactic(auto, using(tms_defs::proofs::OverflowLaws::difference_overflows_by_signs))]
 pub fn sub16(d: u16, s: u16) -> Out16
     ensures value { result.value ≡ difference_of Word d s }
     ensures flags { result.flags ≡ difference_flags Word d s }

@@ -1,7 +1,7 @@
 -- Parts of a dump.
 use Rattle.std.proofs.Common.{◌≡◌, ℕ, true, List, [], ◌∷◌, length, get_or, refl, arith}
 use Rattle.std.specs.Prelude.{codes}
-use Rattle.console_defs.specs.Operand.{Cpu}
+use Rattle.tms_defs.specs.Operand.{Cpu}
 use Rattle.console_defs.specs.Memory.{Memory}
 use Rattle.console_defs.specs.Machine.{has_workspace}
 use Rattle.report_defs.specs.Dump.{registers_line, workspace_lines}

@@ -3,8 +3,8 @@ use Rattle.std.proofs.Common.{◌≡◌, ℕ, List, Option, Some, None, refl, sy
 use Rattle.std.proofs.lemmas.List.{take-append-drop}
 use Rattle.console_defs.specs.Memory.{IsMemory}
 use Rattle.console_defs.specs.Machine.{MachineState}
-use Rattle.step_defs.specs.declared.reason.Reason.{Reason}
-use Rattle.step_defs.specs.State.{GplState}
+use Rattle.gpl_step_defs.specs.declared.reason.Reason.{Reason}
+use Rattle.gpl_step_defs.specs.State.{GplState}
 use Rattle.interp_defs.specs.Match.{IsHalted}
 use Rattle.interp_defs.specs.Programs.{EndsAs}
 use Rattle.sim_view.proofs.Bridge.{register_is, reg_word}

@@ -9,8 +9,8 @@ use crate::parts::dump;
 use crate::state::{state_line, stop_line};
 use bench_io::{Failed, Sink, put_piece};
 use gpl_run::Session;
+use gpl_step_defs::Reason;
 use report_defs::Status;
-use step_defs::Reason;
 
 /// Writes how a program ended, if it did. It takes no memory.
 #[tactic(auto, using(bench_io::proofs::Writing::wrote_none))]

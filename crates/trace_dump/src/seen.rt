@@ -12,11 +12,11 @@ use crate::state::push_byte_digits;
 use arrayvec::ArrayString;
 use byte_lists::zeros;
 use gpl_disasm::push_word;
+use gpl_step_defs::VISIBLE_CELLS;
 use itoa::Buffer;
 use lane_scan::{count_differences, first_difference};
 use std::alloc::{AllocError, Global};
 use std::marker::Model;
-use step_defs::VISIBLE_CELLS;
 use tms_step::Machine;
 
 /// How many cells a GPL program sees.

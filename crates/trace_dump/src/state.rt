@@ -3,7 +3,7 @@
 ghost use Rattle.std.specs.Prelude.{◌≡◌, ◌<◌, ◌≤◌, ◌+◌, ◌++◌, length, slice_index};
 ghost use Rattle.arrayvec.specs.ArrayString.{array_string_len};
 ghost use Rattle.source_defs.specs.Digits.{byte_digits};
-ghost use Rattle.step_defs.specs.declared.cells.TheConstants.{VISIBLE_CELLS};
+ghost use Rattle.gpl_step_defs.specs.declared.cells.TheConstants.{VISIBLE_CELLS};
 ghost use Rattle.gpl_run.specs.Sessions.{seen};
 ghost use Rattle.report_defs.specs.Program as spec;
 
@@ -11,7 +11,7 @@ use arrayvec::ArrayString;
 use asm_text::byte_digits;
 use gpl_disasm::push_word;
 use gpl_run::Session;
-use step_defs::{RETURN_STACK, Reason, STATUS, VALUE_STACK};
+use gpl_step_defs::{RETURN_STACK, Reason, STATUS, VALUE_STACK};
 
 /// The line of the state that a program stands in: the address of its next code byte, or of the one that ended it, and
 /// its status and the pointers of its two stacks.

@@ -1,3 +1,3 @@
-pub use Rattle.console_defs.specs.Words
-pub use Rattle.console_defs.specs.Bytes
+pub use Rattle.tms_defs.specs.Words
+pub use Rattle.tms_defs.specs.Bytes
 pub use Rattle.console_defs.specs.Vdp

@@ -1,7 +1,7 @@
 //! A video processor: its memory, its registers, and the ports that lead there.
 
 ghost use Rattle.std.specs.Prelude.{◌≡◌, ◌<◌, ℕ, ◌+◌, ◌*◌, ◌/◌, ◌%◌, length, slice_index, slice_set, IfOk, IfSome};
-ghost use Rattle.console_defs.specs.Bytes.{HoldsZeros};
+ghost use Rattle.tms_defs.specs.Bytes.{HoldsZeros};
 ghost use Rattle.console_defs.specs.Vdp.{IsVdp, IsNewVdp, is_vdp_idle, next_in_vdp, vdp_fetched_ahead, pair_kind};
 ghost use Rattle.console_defs.specs.Vdp.{pair_address, pair_done};
 ghost use Rattle.console_defs.specs.Vdp.{vdp_address_written, vdp_data_written, vdp_data_read, vdp_status_read};

@@ -6,8 +6,8 @@ use Rattle.std.specs.List.{filter_map, cons_option, range_with_len}
 use Rattle.std.proofs.lemmas.Bool.{cases_lt}
 use Rattle.std.proofs.lemmas.Option.{same_Some, get_or_from_slice_get, slice_get-get_or}
 use Rattle.std.proofs.lemmas.List.Quantifiers.{position-Some}
-use Rattle.step_defs.specs.State.{GplState}
-use Rattle.step_defs.specs.Run.{run}
+use Rattle.gpl_step_defs.specs.State.{GplState}
+use Rattle.gpl_step_defs.specs.Run.{run}
 use Rattle.watch_defs.specs.declared.item.Item.{Item}
 use Rattle.watch_defs.specs.declared.item.Item.TheVariants.{Pc}
 use Rattle.watch_defs.specs.declared.found.Found.{Found}

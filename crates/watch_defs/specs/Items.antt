@@ -4,8 +4,8 @@ use Rattle.std.specs.Prelude.{Option, None, is_some, option_map, All, ⊤}
 use Rattle.gpl_defs.specs.declared.instruction.Space.{Space}
 use Rattle.gpl_defs.specs.declared.instruction.Space.TheVariants.{Cpu, Vdp}
 use Rattle.lane_scan.specs.Plain.{first_difference}
-use Rattle.step_defs.specs.State.{GplState}
-use Rattle.step_defs.specs.declared.cells.TheConstants.{VISIBLE_CELLS}
+use Rattle.gpl_step_defs.specs.State.{GplState}
+use Rattle.gpl_step_defs.specs.declared.cells.TheConstants.{VISIBLE_CELLS}
 use Rattle.watch_defs.specs.declared.item.Item.{Item}
 use Rattle.watch_defs.specs.declared.item.Item.TheVariants.{Range, Pc}
 

@@ -1,7 +1,7 @@
 -- What the definitions say of what is found.
 use Rattle.std.specs.Prelude.{◌≡◌, ◌<◌, ◌≤◌, ℕ, ◌-◌, List, slice_get, true, false, Option, Some}
-use Rattle.step_defs.specs.State.{GplState}
-use Rattle.step_defs.specs.Run.{run}
+use Rattle.gpl_step_defs.specs.State.{GplState}
+use Rattle.gpl_step_defs.specs.Run.{run}
 use Rattle.watch_defs.specs.declared.item.Item.{Item}
 use Rattle.watch_defs.specs.declared.found.Found.{Found}
 use Rattle.watch_defs.specs.declared.found.Found.TheVariants.{Hit, None}

@@ -1,7 +1,7 @@
 -- What the change of a range says.
 use Rattle.std.specs.Prelude.{◌≡◌, ◌≢◌, ◌<◌, ◌≤◌, ℕ, ◌+◌, ◌-◌, slice_index, Option, Some, None, is_some}
 use Rattle.gpl_defs.specs.declared.instruction.Space.{Space}
-use Rattle.step_defs.specs.State.{GplState, IsState}
+use Rattle.gpl_step_defs.specs.State.{GplState, IsState}
 use Rattle.watch_defs.specs.declared.item.Item.TheVariants.{Range}
 use Rattle.watch_defs.specs.Items as items
 

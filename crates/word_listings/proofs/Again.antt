@@ -5,17 +5,17 @@ use Rattle.std.specs.Prelude.{Result, Err, ◌==◌, ℤ, IfSome, map, slice_ind
 use Rattle.std.specs.Option.{option_map}
 use Rattle.std.proofs.lemmas.Int.{ints}
 use Rattle.source_defs.specs.Expression.{Value, Absolute}
-use Rattle.console_defs.specs.Instructions.{HasRoom, HasSignedByte, operation_of, operation_at, operands_at, instr_at, word_of}
-use Rattle.console_defs.proofs.InstructionLaws.{instr_at-encoded, instr_at-room}
-use Rattle.console_defs.specs.declared.instruction.Place.{Place}
-use Rattle.console_defs.specs.declared.instruction.Operation.{Operation}
-use Rattle.console_defs.specs.declared.instruction.Operation.TheVariants as operation
-use Rattle.console_defs.specs.declared.instruction.Instr.{Instr}
-use Rattle.console_defs.specs.declared.instruction.Instr.TheVariants.{Two, Reg, Shift, One, Jump, Imm, Bare}
-use Rattle.asm_defs.specs.declared.causes.FormError.{FormError}
-use Rattle.asm_defs.specs.declared.causes.FormError.TheVariants.{JumpTooFar}
-use Rattle.asm_defs.specs.Operands.{following_words, words_of, has_immediate, has_value, one_if}
-use Rattle.asm_defs.specs.SecondChecks.{Ready, Located, Counted, Displaced, Followed, instruction_of, following_in}
+use Rattle.tms_defs.specs.Instructions.{HasRoom, HasSignedByte, operation_of, operation_at, operands_at, instr_at, word_of}
+use Rattle.tms_defs.proofs.InstructionLaws.{instr_at-encoded, instr_at-room}
+use Rattle.tms_defs.specs.declared.instruction.Place.{Place}
+use Rattle.tms_defs.specs.declared.instruction.Operation.{Operation}
+use Rattle.tms_defs.specs.declared.instruction.Operation.TheVariants as operation
+use Rattle.tms_defs.specs.declared.instruction.Instr.{Instr}
+use Rattle.tms_defs.specs.declared.instruction.Instr.TheVariants.{Two, Reg, Shift, One, Jump, Imm, Bare}
+use Rattle.instruction_defs.specs.declared.causes.FormError.{FormError}
+use Rattle.instruction_defs.specs.declared.causes.FormError.TheVariants.{JumpTooFar}
+use Rattle.instruction_defs.specs.Operands.{following_words, words_of, has_immediate, has_value, one_if}
+use Rattle.instruction_defs.specs.SecondChecks.{Ready, Located, Counted, Displaced, Followed, instruction_of, following_in}
 use Rattle.word_listings.specs.Modules.{jump_wraps, wraps}
 use Rattle.word_listings.proofs.Instructions.{values_of, readies_of}
 

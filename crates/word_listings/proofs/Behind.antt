@@ -11,20 +11,20 @@ use Rattle.source_defs.specs.Symbols.{predefined}
 use Rattle.source_defs.specs.Layout.{laid_behind, settled, numbered}
 use Rattle.object_defs.specs.Digits.{padded}
 use Rattle.object_defs.specs.Modules.{Module}
-use Rattle.module_defs.specs.declared.causes.AsmCause.{AsmCause}
-use Rattle.module_defs.specs.declared.location.Location.{Location}
-use Rattle.module_defs.specs.declared.location.Part.{Part}
-use Rattle.module_defs.specs.declared.location.Part.TheVariants as part
-use Rattle.module_defs.specs.Statements.{statement_in}
-use Rattle.module_defs.specs.Locations.{Line, location, place, reached, relocatable, behind}
-use Rattle.module_defs.specs.FirstChecks.{Before, Checked, said, moved, checked, check, known_of, line_of, names, refs, defs}
-use Rattle.module_defs.specs.SecondChecks.{Outcome, Words}
-use Rattle.module_defs.specs.Memory.{Settled}
-use Rattle.module_defs.specs.Modules.{settle, settle_at, with_room, module_by, title, entry}
-use Rattle.known_lines.specs.KnownLines.{numbers_of, is_empty, is_at}
-use Rattle.known_lines.proofs.Placing.{HoldWords, ComesNext, hold_more}
-use Rattle.known_lines.proofs.Settling.{has_room}
-use Rattle.known_lines.proofs.Small.{chosen}
+use Rattle.asm_defs.specs.declared.causes.AsmCause.{AsmCause}
+use Rattle.asm_defs.specs.declared.location.Location.{Location}
+use Rattle.asm_defs.specs.declared.location.Part.{Part}
+use Rattle.asm_defs.specs.declared.location.Part.TheVariants as part
+use Rattle.asm_defs.specs.Statements.{statement_in}
+use Rattle.asm_defs.specs.Locations.{Line, location, place, reached, relocatable, behind}
+use Rattle.asm_defs.specs.FirstChecks.{Before, Checked, said, moved, checked, check, known_of, line_of, names, refs, defs}
+use Rattle.asm_defs.specs.SecondChecks.{Outcome, Words}
+use Rattle.asm_defs.specs.Memory.{Settled}
+use Rattle.asm_defs.specs.Modules.{settle, settle_at, with_room, module_by, title, entry}
+use Rattle.line_laws.specs.KnownLines.{numbers_of, is_empty, is_at}
+use Rattle.line_laws.proofs.Placing.{HoldWords, ComesNext, hold_more}
+use Rattle.line_laws.proofs.Settling.{has_room}
+use Rattle.line_laws.proofs.Small.{chosen}
 use Rattle.word_listings.proofs.LineBacks.{absolute_at, LineBack}
 
 -- lines behind which the location is an absolute place, and which say nothing else

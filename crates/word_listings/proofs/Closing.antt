@@ -8,28 +8,28 @@ use Rattle.source_defs.specs.Refusals.{Refusal, ◌>>=◌}
 use Rattle.source_defs.specs.Digits.{marked_byte}
 use Rattle.source_defs.specs.Layout.{settled}
 use Rattle.source_defs.specs.Symbols.{predefined}
-use Rattle.console_defs.specs.Words.{join}
+use Rattle.tms_defs.specs.Words.{join}
 use Rattle.object_defs.specs.declared.spot.Spot.{Spot}
 use Rattle.object_defs.specs.declared.spot.Spot.TheVariants as spot
 use Rattle.object_defs.specs.declared.spot.Piece.{Piece}
 use Rattle.object_defs.specs.Digits.{padded}
 use Rattle.object_defs.specs.Modules.{Module, Definition, Reference}
-use Rattle.module_defs.specs.declared.content.Content.{Content}
-use Rattle.module_defs.specs.declared.content.Content.TheVariants as content
-use Rattle.module_defs.specs.declared.causes.AsmCause.{AsmCause}
-use Rattle.module_defs.specs.declared.location.Part.{Part}
-use Rattle.module_defs.specs.declared.location.Part.TheVariants as part
-use Rattle.module_defs.specs.Locations.{Line}
-use Rattle.module_defs.specs.FirstChecks.{names}
-use Rattle.module_defs.specs.SecondChecks.{Bytes}
-use Rattle.module_defs.specs.Memory.{Settled, covers, is_placed, bytes_in, any_from, content_at, pieces, pieces_at, pieces_from, part_words, word_count, references_of}
-use Rattle.module_defs.specs.Modules.{settle, with_room, module_by, entry, entry_by, unused, definition_in}
-use Rattle.known_lines.specs.KnownLines.{pieces_of}
-use Rattle.known_lines.proofs.Placing.{HoldWords, content_of, few_words}
-use Rattle.known_lines.proofs.Settling.{room_by}
-use Rattle.known_lines.proofs.Linking.{pieces_held, pieces_there, pieces_split, none_from, at_word, content_none, content_not_yet, nothing_before}
-use Rattle.known_lines.proofs.Whole.{not_covered, no_uses}
-use Rattle.known_lines.proofs.Small.{chosen}
+use Rattle.asm_defs.specs.declared.content.Content.{Content}
+use Rattle.asm_defs.specs.declared.content.Content.TheVariants as content
+use Rattle.asm_defs.specs.declared.causes.AsmCause.{AsmCause}
+use Rattle.asm_defs.specs.declared.location.Part.{Part}
+use Rattle.asm_defs.specs.declared.location.Part.TheVariants as part
+use Rattle.asm_defs.specs.Locations.{Line}
+use Rattle.asm_defs.specs.FirstChecks.{names}
+use Rattle.asm_defs.specs.SecondChecks.{Bytes}
+use Rattle.asm_defs.specs.Memory.{Settled, covers, is_placed, bytes_in, any_from, content_at, pieces, pieces_at, pieces_from, part_words, word_count, references_of}
+use Rattle.asm_defs.specs.Modules.{settle, with_room, module_by, entry, entry_by, unused, definition_in}
+use Rattle.line_laws.specs.KnownLines.{pieces_of}
+use Rattle.line_laws.proofs.Placing.{HoldWords, content_of, few_words}
+use Rattle.line_laws.proofs.Settling.{room_by}
+use Rattle.line_laws.proofs.Linking.{pieces_held, pieces_there, pieces_split, none_from, at_word, content_none, content_not_yet, nothing_before}
+use Rattle.line_laws.proofs.Whole.{not_covered, no_uses}
+use Rattle.line_laws.proofs.Small.{chosen}
 use Rattle.word_listings.proofs.LineBacks.{absolute_at, end_text, end_outcome, end_line, IsEntry, byte_line}
 use Rattle.word_listings.proofs.Behind.{Stands, Holds, Fails, taken, Ends, ends_last, ends_more, settles_now, fails_still}
 

@@ -10,15 +10,15 @@ use Rattle.std.proofs.lemmas.Bool.Decides.{nat_tests}
 use Rattle.std.proofs.lemmas.Int.{ints}
 use Rattle.source_defs.specs.Digits.{marked_word, word_digits}
 use Rattle.source_defs.specs.Expression.{Value, Absolute, negated}
-use Rattle.console_defs.specs.Words.{plus}
-use Rattle.console_defs.specs.forms.Jump.{jump_target}
-use Rattle.asm_defs.specs.declared.slot.Slot.TheVariants.{Register, Count, Immediate, Target, Displacement}
-use Rattle.asm_defs.specs.Forms.{Plain}
-use Rattle.asm_defs.specs.FirstChecks.{form_in, is_mode_sign}
-use Rattle.asm_defs.specs.SecondChecks.{Number, Bit, To, Following, Counted, Displaced, Followed, displacement_to, displaced}
-use Rattle.asm_defs.specs.SecondChecks.{is_displacement}
-use Rattle.asm_defs.specs.Printed.{register_text, signed_text}
-use Rattle.known_lines.proofs.Small.{both}
+use Rattle.tms_defs.specs.Words.{plus}
+use Rattle.tms_defs.specs.forms.Jump.{jump_target}
+use Rattle.instruction_defs.specs.declared.slot.Slot.TheVariants.{Register, Count, Immediate, Target, Displacement}
+use Rattle.instruction_defs.specs.Forms.{Plain}
+use Rattle.instruction_defs.specs.FirstChecks.{form_in, is_mode_sign}
+use Rattle.instruction_defs.specs.SecondChecks.{Number, Bit, To, Following, Counted, Displaced, Followed, displacement_to, displaced}
+use Rattle.instruction_defs.specs.SecondChecks.{is_displacement}
+use Rattle.instruction_defs.specs.Printed.{register_text, signed_text}
+use Rattle.line_laws.proofs.Small.{both}
 use Rattle.listed_lines.proofs.DigitLaws.{eqb_same, word_passes}
 use Rattle.listed_lines.proofs.OperandLines.{whole}
 use Rattle.listed_lines.proofs.LineTexts.{plain_byte}

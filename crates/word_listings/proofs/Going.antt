@@ -4,13 +4,13 @@ use Rattle.std.proofs.Common.{length, length-append, append_assoc, append-nil, t
 use Rattle.std.specs.Prelude.{Err, if◌then◌else◌}
 use Rattle.source_defs.specs.Refusals.{Refusal}
 use Rattle.object_defs.specs.Modules.{Module}
-use Rattle.console_defs.specs.Instructions.{instr_at}
-use Rattle.asm_defs.specs.declared.causes.FormError.TheVariants.{JumpTooFar}
-use Rattle.asm_defs.specs.Printed.{printed}
-use Rattle.module_defs.specs.declared.causes.AsmCause.{AsmCause}
-use Rattle.module_defs.specs.declared.causes.AsmCause.TheVariants.{Form}
-use Rattle.module_defs.specs.Locations.{Line}
-use Rattle.module_defs.specs.Memory.{Settled}
+use Rattle.tms_defs.specs.Instructions.{instr_at}
+use Rattle.instruction_defs.specs.declared.causes.FormError.TheVariants.{JumpTooFar}
+use Rattle.instruction_defs.specs.Printed.{printed}
+use Rattle.asm_defs.specs.declared.causes.AsmCause.{AsmCause}
+use Rattle.asm_defs.specs.declared.causes.AsmCause.TheVariants.{Form}
+use Rattle.asm_defs.specs.Locations.{Line}
+use Rattle.asm_defs.specs.Memory.{Settled}
 use Rattle.word_listings.specs.Modules.{wraps, first_wrapping, unless_far}
 use Rattle.word_listings.proofs.Instructions.{AreWords}
 use Rattle.word_listings.proofs.LineBacks.{LineBack, Counts, come_unless, words_back}

@@ -8,32 +8,32 @@ use Rattle.source_defs.specs.Refusals.{◌>>=◌}
 use Rattle.source_defs.specs.Digits.{marked_word}
 use Rattle.source_defs.specs.Expression.{Value, Absolute}
 use Rattle.source_defs.specs.ListedLines.{two_texts}
-use Rattle.console_defs.specs.Instructions.{HasRoom, HasSignedByte, operation_of, word_of}
-use Rattle.console_defs.specs.declared.instruction.Place.{Place}
-use Rattle.console_defs.specs.declared.instruction.RegOp.{RegOp}
-use Rattle.console_defs.specs.declared.instruction.RegOp.TheVariants.{COC, CZC, XOR, XOP, LDCR, STCR, MPY, DIV}
-use Rattle.console_defs.specs.declared.instruction.JumpOp.{JumpOp}
-use Rattle.console_defs.specs.declared.instruction.JumpOp.TheVariants.{JMP, JLT, JLE, JEQ, JHE, JGT, JNE, JNC, JOC, JNO}
-use Rattle.console_defs.specs.declared.instruction.JumpOp.TheVariants.{JL, JH, JOP, SBO, SBZ, TB}
-use Rattle.console_defs.specs.declared.instruction.ImmOp.{ImmOp}
-use Rattle.console_defs.specs.declared.instruction.BareOp.{BareOp}
-use Rattle.console_defs.specs.declared.instruction.Operation.{Operation}
-use Rattle.console_defs.specs.declared.instruction.Instr.{Instr}
-use Rattle.console_defs.specs.declared.instruction.Instr.TheVariants.{Two, Reg, Shift, One, Jump, Imm, Bare}
-use Rattle.asm_defs.specs.declared.causes.FormError.{FormError}
-use Rattle.asm_defs.specs.declared.causes.FormError.TheVariants.{JumpTooFar}
-use Rattle.asm_defs.specs.declared.slot.Slot.{Slot}
-use Rattle.asm_defs.specs.declared.slot.Slot.TheVariants as slot
-use Rattle.asm_defs.specs.Forms.{Form}
-use Rattle.asm_defs.specs.Operations.{name_of}
-use Rattle.asm_defs.specs.Operands.{following_words, words_of, slots_of, reg_slots, jump_slots, has_immediate, has_value, one_if}
-use Rattle.asm_defs.specs.FirstChecks.{Skeleton, Instruction, first_checks, forms_of, all_following, size_of}
-use Rattle.asm_defs.specs.SecondChecks as second
-use Rattle.asm_defs.specs.SecondChecks.{Ready, Located, Counted, Displaced, Followed, all_valued, all_ranged, second_checks, displaced}
-use Rattle.asm_defs.specs.SecondChecks.{instruction_of, following_in}
-use Rattle.console_defs.specs.Words.{plus}
-use Rattle.console_defs.specs.forms.Jump.{jump_target}
-use Rattle.asm_defs.specs.Printed.{operand_text, register_text, number_text, signed_text, target_text, operands_text}
+use Rattle.tms_defs.specs.Instructions.{HasRoom, HasSignedByte, operation_of, word_of}
+use Rattle.tms_defs.specs.declared.instruction.Place.{Place}
+use Rattle.tms_defs.specs.declared.instruction.RegOp.{RegOp}
+use Rattle.tms_defs.specs.declared.instruction.RegOp.TheVariants.{COC, CZC, XOR, XOP, LDCR, STCR, MPY, DIV}
+use Rattle.tms_defs.specs.declared.instruction.JumpOp.{JumpOp}
+use Rattle.tms_defs.specs.declared.instruction.JumpOp.TheVariants.{JMP, JLT, JLE, JEQ, JHE, JGT, JNE, JNC, JOC, JNO}
+use Rattle.tms_defs.specs.declared.instruction.JumpOp.TheVariants.{JL, JH, JOP, SBO, SBZ, TB}
+use Rattle.tms_defs.specs.declared.instruction.ImmOp.{ImmOp}
+use Rattle.tms_defs.specs.declared.instruction.BareOp.{BareOp}
+use Rattle.tms_defs.specs.declared.instruction.Operation.{Operation}
+use Rattle.tms_defs.specs.declared.instruction.Instr.{Instr}
+use Rattle.tms_defs.specs.declared.instruction.Instr.TheVariants.{Two, Reg, Shift, One, Jump, Imm, Bare}
+use Rattle.instruction_defs.specs.declared.causes.FormError.{FormError}
+use Rattle.instruction_defs.specs.declared.causes.FormError.TheVariants.{JumpTooFar}
+use Rattle.instruction_defs.specs.declared.slot.Slot.{Slot}
+use Rattle.instruction_defs.specs.declared.slot.Slot.TheVariants as slot
+use Rattle.instruction_defs.specs.Forms.{Form}
+use Rattle.instruction_defs.specs.Operations.{name_of}
+use Rattle.instruction_defs.specs.Operands.{following_words, words_of, slots_of, reg_slots, jump_slots, has_immediate, has_value, one_if}
+use Rattle.instruction_defs.specs.FirstChecks.{Skeleton, Instruction, first_checks, forms_of, all_following, size_of}
+use Rattle.instruction_defs.specs.SecondChecks as second
+use Rattle.instruction_defs.specs.SecondChecks.{Ready, Located, Counted, Displaced, Followed, all_valued, all_ranged, second_checks, displaced}
+use Rattle.instruction_defs.specs.SecondChecks.{instruction_of, following_in}
+use Rattle.tms_defs.specs.Words.{plus}
+use Rattle.tms_defs.specs.forms.Jump.{jump_target}
+use Rattle.instruction_defs.specs.Printed.{operand_text, register_text, number_text, signed_text, target_text, operands_text}
 use Rattle.listed_lines.proofs.Scans.{all_both}
 use Rattle.listed_lines.proofs.OperandLines.{one_text, two_operands}
 use Rattle.listed_lines.proofs.LineTexts.{field_of}

@@ -10,28 +10,28 @@ use Rattle.source_defs.specs.ListedLines.{listed, with_operands}
 use Rattle.source_defs.specs.Expression.{Value, Absolute}
 use Rattle.source_defs.specs.Names.{is_word}
 use Rattle.source_defs.specs.Symbols.{Names}
-use Rattle.console_defs.specs.Instructions.{instr_at, operation_of}
-use Rattle.console_defs.specs.declared.instruction.Instr.{Instr}
-use Rattle.console_defs.specs.declared.instruction.Instr.TheVariants as instr
-use Rattle.asm_defs.specs.declared.causes.FormError.{FormError}
-use Rattle.asm_defs.specs.declared.causes.FormError.TheVariants.{JumpTooFar}
-use Rattle.asm_defs.specs.Operations.{name_of}
-use Rattle.asm_defs.specs.Operands.{words_of}
-use Rattle.asm_defs.specs.FirstChecks.{size_of}
-use Rattle.asm_defs.specs.SecondChecks.{second_checks}
-use Rattle.asm_defs.specs.Printed.{instr_text, operands_text, printed, printed_where, printed_word, Printed}
+use Rattle.tms_defs.specs.Instructions.{instr_at, operation_of}
+use Rattle.tms_defs.specs.declared.instruction.Instr.{Instr}
+use Rattle.tms_defs.specs.declared.instruction.Instr.TheVariants as instr
+use Rattle.instruction_defs.specs.declared.causes.FormError.{FormError}
+use Rattle.instruction_defs.specs.declared.causes.FormError.TheVariants.{JumpTooFar}
+use Rattle.instruction_defs.specs.Operations.{name_of}
+use Rattle.instruction_defs.specs.Operands.{words_of}
+use Rattle.instruction_defs.specs.FirstChecks.{size_of}
+use Rattle.instruction_defs.specs.SecondChecks.{second_checks}
+use Rattle.instruction_defs.specs.Printed.{instr_text, operands_text, printed, printed_where, printed_word, Printed}
 use Rattle.object_defs.specs.declared.spot.Spot.TheVariants as spot
-use Rattle.module_defs.specs.declared.causes.AsmCause.{AsmCause}
-use Rattle.module_defs.specs.declared.causes.AsmCause.TheVariants.{Form}
-use Rattle.module_defs.specs.declared.location.Location.{Location}
-use Rattle.module_defs.specs.declared.location.Part.TheVariants as part
-use Rattle.module_defs.specs.Locations.{behind, value_of}
-use Rattle.module_defs.specs.Directives.{directive}
-use Rattle.module_defs.specs.Statements.{Statement, Instruction, Data, Byte, End, operation_statement, as_form}
-use Rattle.module_defs.specs.FirstChecks.{Before, move, refs_in, defs_in, is_end, lists_too_many, is_bad}
-use Rattle.module_defs.specs.SecondChecks.{Outcome, outcome}
-use Rattle.module_defs.specs.SecondChecks as out
-use Rattle.module_defs.specs.Modules.{title_by}
+use Rattle.asm_defs.specs.declared.causes.AsmCause.{AsmCause}
+use Rattle.asm_defs.specs.declared.causes.AsmCause.TheVariants.{Form}
+use Rattle.asm_defs.specs.declared.location.Location.{Location}
+use Rattle.asm_defs.specs.declared.location.Part.TheVariants as part
+use Rattle.asm_defs.specs.Locations.{behind, value_of}
+use Rattle.asm_defs.specs.Directives.{directive}
+use Rattle.asm_defs.specs.Statements.{Statement, Instruction, Data, Byte, End, operation_statement, as_form}
+use Rattle.asm_defs.specs.FirstChecks.{Before, move, refs_in, defs_in, is_end, lists_too_many, is_bad}
+use Rattle.asm_defs.specs.SecondChecks.{Outcome, outcome}
+use Rattle.asm_defs.specs.SecondChecks as out
+use Rattle.asm_defs.specs.Modules.{title_by}
 use Rattle.listed_lines.proofs.DigitLaws.{word_passes, byte_passes}
 use Rattle.listed_lines.proofs.OperandLines.{whole, one_text}
 use Rattle.listed_lines.proofs.LineTexts.{field_of}

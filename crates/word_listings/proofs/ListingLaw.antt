@@ -11,19 +11,19 @@ use Rattle.source_defs.specs.Operands.{operand_texts}
 use Rattle.source_defs.specs.Expression.{Relocatable}
 use Rattle.source_defs.specs.Layout.{laid_behind, settled}
 use Rattle.source_defs.specs.Symbols.{predefined}
-use Rattle.console_defs.specs.Words.{join}
+use Rattle.tms_defs.specs.Words.{join}
 use Rattle.object_defs.specs.Digits.{padded}
 use Rattle.object_defs.specs.Modules.{Module}
-use Rattle.asm_defs.specs.Printed.{printed}
-use Rattle.module_defs.specs.declared.causes.AsmCause.{AsmCause}
-use Rattle.module_defs.specs.Directives.{directive}
-use Rattle.module_defs.specs.Statements.{Aorg, statement_in}
-use Rattle.module_defs.specs.Locations.{Line, start}
-use Rattle.module_defs.specs.FirstChecks.{Checked, said, moved, check, line_of, names, set_to}
-use Rattle.module_defs.specs.SecondChecks.{Nothing, outcome}
-use Rattle.module_defs.specs.Modules.{settle, module_by, module_behind, module_of_source}
-use Rattle.known_lines.proofs.Placing.{HoldWords}
-use Rattle.known_lines.proofs.Whole.{none_by, room_still, hold_still}
+use Rattle.instruction_defs.specs.Printed.{printed}
+use Rattle.asm_defs.specs.declared.causes.AsmCause.{AsmCause}
+use Rattle.asm_defs.specs.Directives.{directive}
+use Rattle.asm_defs.specs.Statements.{Aorg, statement_in}
+use Rattle.asm_defs.specs.Locations.{Line, start}
+use Rattle.asm_defs.specs.FirstChecks.{Checked, said, moved, check, line_of, names, set_to}
+use Rattle.asm_defs.specs.SecondChecks.{Nothing, outcome}
+use Rattle.asm_defs.specs.Modules.{settle, module_by, module_behind, module_of_source}
+use Rattle.line_laws.proofs.Placing.{HoldWords}
+use Rattle.line_laws.proofs.Whole.{none_by, room_still, hold_still}
 use Rattle.word_listings.specs.Listing.{memory_listing, words_in, lines_from, odd_byte_lines}
 use Rattle.listed_lines.proofs.DigitLaws.{word_passes}
 use Rattle.listed_lines.proofs.OperandLines.{whole, one_text}

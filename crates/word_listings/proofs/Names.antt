@@ -3,10 +3,10 @@ use Rattle.std.proofs.Common.{◌≡◌, ◌<◌, ◌≤◌, true, false, length
 use Rattle.std.specs.Prelude.{codes}
 use Rattle.std.specs.List.{list_all}
 use Rattle.source_defs.specs.Names.{is_word}
-use Rattle.console_defs.specs.declared.instruction.TwoOp.TheVariants.{SZC, S, C, A, MOV, SOC}
-use Rattle.console_defs.specs.declared.instruction.RegOp.TheVariants.{COC, CZC, XOR, XOP, LDCR, STCR, MPY, DIV}
-use Rattle.console_defs.specs.declared.instruction.ShiftOp.TheVariants.{SRA, SRL, SLA, SRC}
-use Rattle.console_defs.specs.declared.instruction.OneOp.TheVariants.{
+use Rattle.tms_defs.specs.declared.instruction.TwoOp.TheVariants.{SZC, S, C, A, MOV, SOC}
+use Rattle.tms_defs.specs.declared.instruction.RegOp.TheVariants.{COC, CZC, XOR, XOP, LDCR, STCR, MPY, DIV}
+use Rattle.tms_defs.specs.declared.instruction.ShiftOp.TheVariants.{SRA, SRL, SLA, SRC}
+use Rattle.tms_defs.specs.declared.instruction.OneOp.TheVariants.{
   BLWP,
   B,
   X,
@@ -22,7 +22,7 @@ use Rattle.console_defs.specs.declared.instruction.OneOp.TheVariants.{
   SETO,
   ABS,
 }
-use Rattle.console_defs.specs.declared.instruction.JumpOp.TheVariants.{
+use Rattle.tms_defs.specs.declared.instruction.JumpOp.TheVariants.{
   JMP,
   JLT,
   JLE,
@@ -40,13 +40,13 @@ use Rattle.console_defs.specs.declared.instruction.JumpOp.TheVariants.{
   SBZ,
   TB,
 }
-use Rattle.console_defs.specs.declared.instruction.ImmOp.TheVariants.{LI, AI, ANDI, ORI, CI, STWP, STST}
-use Rattle.console_defs.specs.declared.instruction.BareOp.TheVariants.{LWPI, LIMI, IDLE, RSET, RTWP, CKON, CKOF, LREX}
-use Rattle.console_defs.specs.declared.instruction.Operation.{Operation}
-use Rattle.console_defs.specs.declared.instruction.Operation.TheVariants.{Two, Reg, Shift, One, Jump, Imm, Bare}
-use Rattle.asm_defs.specs.declared.mnemonic.Mnemonic.TheVariants.{Of}
-use Rattle.asm_defs.specs.Operations.{name_of, mnemonic}
-use Rattle.module_defs.specs.Directives.{directive}
+use Rattle.tms_defs.specs.declared.instruction.ImmOp.TheVariants.{LI, AI, ANDI, ORI, CI, STWP, STST}
+use Rattle.tms_defs.specs.declared.instruction.BareOp.TheVariants.{LWPI, LIMI, IDLE, RSET, RTWP, CKON, CKOF, LREX}
+use Rattle.tms_defs.specs.declared.instruction.Operation.{Operation}
+use Rattle.tms_defs.specs.declared.instruction.Operation.TheVariants.{Two, Reg, Shift, One, Jump, Imm, Bare}
+use Rattle.instruction_defs.specs.declared.mnemonic.Mnemonic.TheVariants.{Of}
+use Rattle.instruction_defs.specs.Operations.{name_of, mnemonic}
+use Rattle.asm_defs.specs.Directives.{directive}
 use Rattle.listed_lines.proofs.LineTexts.{plain_byte}
 
 pub record Names (operation : Operation) : Type 0 where

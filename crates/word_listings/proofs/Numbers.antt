@@ -9,10 +9,10 @@ use Rattle.source_defs.specs.Digits.{marked_word, marked_byte}
 use Rattle.source_defs.specs.Tokens.{Token, Kind, Number, Name, Here, Text, Sign, tokens, token_at, tokens_from, token_to}
 use Rattle.source_defs.specs.Expression.{Value, Absolute, expression, value, negated}
 use Rattle.source_defs.specs.Symbols.{look_up, predefined, registers}
-use Rattle.asm_defs.specs.Printed.{register_text}
-use Rattle.known_lines.specs.KnownLines.{look_in}
-use Rattle.known_lines.proofs.Whole.{registers_stand}
-use Rattle.known_lines.proofs.Small.{both}
+use Rattle.instruction_defs.specs.Printed.{register_text}
+use Rattle.line_laws.specs.KnownLines.{look_in}
+use Rattle.line_laws.proofs.Whole.{registers_stand}
+use Rattle.line_laws.proofs.Small.{both}
 use Rattle.listed_lines.proofs.DigitLaws.{eqb_same, word_tokens, byte_tokens}
 
 -- what holds of each number below 16

@@ -5,12 +5,12 @@ use Rattle.std.specs.List.{AllByRecursion}
 use Rattle.source_defs.specs.Names.{is_word}
 use Rattle.source_defs.specs.Digits.{marked_word}
 use Rattle.source_defs.specs.ListedLines.{listed}
-use Rattle.asm_defs.specs.Printed.{printed}
-use Rattle.module_defs.specs.Directives.{directive}
-use Rattle.module_defs.specs.declared.causes.AsmCause.{AsmCause}
-use Rattle.module_defs.specs.Statements.{Statement, Aorg, operation_statement}
-use Rattle.module_defs.specs.FirstChecks.{is_end}
-use Rattle.module_defs.specs.SecondChecks.{Outcome}
+use Rattle.instruction_defs.specs.Printed.{printed}
+use Rattle.asm_defs.specs.Directives.{directive}
+use Rattle.asm_defs.specs.declared.causes.AsmCause.{AsmCause}
+use Rattle.asm_defs.specs.Statements.{Statement, Aorg, operation_statement}
+use Rattle.asm_defs.specs.FirstChecks.{is_end}
+use Rattle.asm_defs.specs.SecondChecks.{Outcome}
 use Rattle.listed_lines.proofs.LineTexts.{Cut}
 use Rattle.word_listings.specs.Listing.{words_in}
 use Rattle.word_listings.proofs.Instructions.{AreWords}

@@ -4,7 +4,7 @@ use Rattle.std.specs.Prelude.{codes}
 use Rattle.std.specs.List.{concat}
 use Rattle.source_defs.specs.Digits.{marked_word, word_digits, byte_digits}
 use Rattle.source_defs.specs.ListedLines.{listing_line}
-use Rattle.asm_defs.specs.Printed.{printed}
+use Rattle.instruction_defs.specs.Printed.{printed}
 use Rattle.word_listings.specs.Listing.{memory_listing, words_in, lines_from, odd_byte_lines}
 use Rattle.word_listings.specs.Law.{WordListingsAreShort}
 use Rattle.word_listings.proofs.Instructions.{AreWords}

@@ -9,18 +9,18 @@ use Rattle.source_defs.specs.Digits.{marked_word, word_digits}
 use Rattle.source_defs.specs.Fields.{in_quotes}
 use Rattle.source_defs.specs.Parentheses.{closes_at, opening, last_place}
 use Rattle.source_defs.specs.Expression.{Value, Absolute}
-use Rattle.console_defs.specs.Instructions.{IsPlace}
-use Rattle.console_defs.specs.declared.instruction.Place.{Place}
-use Rattle.asm_defs.specs.declared.causes.FormError.{FormError}
-use Rattle.asm_defs.specs.declared.slot.Slot.{Slot}
-use Rattle.asm_defs.specs.declared.slot.Slot.TheVariants.{General}
-use Rattle.asm_defs.specs.Forms.{Form, Plain, Indirect, Increment, Symbolic, Indexed, form_of}
-use Rattle.asm_defs.specs.Operands.{following_words}
-use Rattle.asm_defs.specs.FirstChecks.{form_in, following}
-use Rattle.asm_defs.specs.SecondChecks.{Operand, InRegister, ByRegister, Growing, AtAddress, AtIndexed}
-use Rattle.asm_defs.specs.SecondChecks.{Ready, Located, valued, ranged}
-use Rattle.asm_defs.specs.Printed.{register_text, operand_text}
-use Rattle.known_lines.proofs.Small.{both}
+use Rattle.tms_defs.specs.Instructions.{IsPlace}
+use Rattle.tms_defs.specs.declared.instruction.Place.{Place}
+use Rattle.instruction_defs.specs.declared.causes.FormError.{FormError}
+use Rattle.instruction_defs.specs.declared.slot.Slot.{Slot}
+use Rattle.instruction_defs.specs.declared.slot.Slot.TheVariants.{General}
+use Rattle.instruction_defs.specs.Forms.{Form, Plain, Indirect, Increment, Symbolic, Indexed, form_of}
+use Rattle.instruction_defs.specs.Operands.{following_words}
+use Rattle.instruction_defs.specs.FirstChecks.{form_in, following}
+use Rattle.instruction_defs.specs.SecondChecks.{Operand, InRegister, ByRegister, Growing, AtAddress, AtIndexed}
+use Rattle.instruction_defs.specs.SecondChecks.{Ready, Located, valued, ranged}
+use Rattle.instruction_defs.specs.Printed.{register_text, operand_text}
+use Rattle.line_laws.proofs.Small.{both}
 use Rattle.listed_lines.proofs.Scans.{all_both, unquoted, not_quoted}
 use Rattle.listed_lines.proofs.DigitLaws.{digits_pass, digit_is_not, word_passes}
 use Rattle.listed_lines.proofs.OperandLines.{whole}

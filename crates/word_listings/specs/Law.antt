@@ -4,10 +4,10 @@ use Rattle.std.specs.List.{concat}
 use Rattle.source_defs.specs.Refusals.{Refusal}
 use Rattle.source_defs.specs.Digits.{marked_word}
 use Rattle.source_defs.specs.ListedLines.{listing_line}
-use Rattle.console_defs.specs.Bytes.{HoldsBytes}
+use Rattle.tms_defs.specs.Bytes.{HoldsBytes}
 use Rattle.object_defs.specs.Modules.{Module}
-use Rattle.module_defs.specs.declared.causes.AsmCause.{AsmCause}
-use Rattle.module_defs.specs.Modules.{module_of_source}
+use Rattle.asm_defs.specs.declared.causes.AsmCause.{AsmCause}
+use Rattle.asm_defs.specs.Modules.{module_of_source}
 use Rattle.word_listings.specs.Listing.{memory_listing, words_in, lines_from, odd_byte_lines}
 use Rattle.word_listings.specs.Modules.{padded_words, module_of_words, first_wrapping, unless_far}
 

@@ -8,7 +8,7 @@ use Rattle.object_defs.specs.Writing.{written}
 use Rattle.object_defs.specs.Reading.{read}
 use Rattle.link_defs.specs.Causes.{LinkCause, OutOfMemoryRange}
 use Rattle.link_defs.specs.LinkedMemory.{LinkedMemory, is_loadable, linked}
-use Rattle.module_defs.specs.Modules.{module_of_source}
+use Rattle.asm_defs.specs.Modules.{module_of_source}
 use Rattle.word_listings.specs.Modules.{padded_words, module_of_words}
 use Rattle.word_listings.specs.Law.{StandEven, entered_listing}
 

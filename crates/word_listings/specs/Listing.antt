@@ -2,8 +2,8 @@
 use Rattle.std.specs.Prelude.{ℕ, zero, suc, ◌+◌, ◌-◌, List, [], ◌∷◌, ◌++◌, codes}
 use Rattle.source_defs.specs.Digits.{marked_word, marked_byte}
 pub use Rattle.source_defs.specs.ListedLines.{listing_line}
-use Rattle.console_defs.specs.Words.{join}
-use Rattle.asm_defs.specs.Printed.{printed}
+use Rattle.tms_defs.specs.Words.{join}
+use Rattle.instruction_defs.specs.Printed.{printed}
 
 -- bytes as words, the high byte first; a last odd byte is no word
 abbrev pub words_in : List ℕ → List ℕ

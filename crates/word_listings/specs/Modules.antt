@@ -3,20 +3,20 @@ use Rattle.std.specs.Prelude.{ℕ, zero, suc, ℤ, pos, negsuc, ◌+◌, ◌-◌
 use Rattle.std.specs.Prelude.{Option, Some, None, Result, Ok, Err}
 use Rattle.std.specs.Option.{option_map}
 use Rattle.source_defs.specs.Refusals.{Refusal}
-use Rattle.console_defs.specs.Words.{join}
-use Rattle.console_defs.specs.Instructions.{instr_at}
-use Rattle.console_defs.specs.declared.instruction.JumpOp.{JumpOp}
-use Rattle.console_defs.specs.declared.instruction.JumpOp.TheVariants.{SBO, SBZ, TB}
-use Rattle.console_defs.specs.declared.instruction.Instr.{Instr}
-use Rattle.console_defs.specs.declared.instruction.Instr.TheVariants.{Two, Reg, Shift, One, Jump, Imm, Bare}
+use Rattle.tms_defs.specs.Words.{join}
+use Rattle.tms_defs.specs.Instructions.{instr_at}
+use Rattle.tms_defs.specs.declared.instruction.JumpOp.{JumpOp}
+use Rattle.tms_defs.specs.declared.instruction.JumpOp.TheVariants.{SBO, SBZ, TB}
+use Rattle.tms_defs.specs.declared.instruction.Instr.{Instr}
+use Rattle.tms_defs.specs.declared.instruction.Instr.TheVariants.{Two, Reg, Shift, One, Jump, Imm, Bare}
 use Rattle.object_defs.specs.declared.spot.Spot.TheVariants as spot
 use Rattle.object_defs.specs.Digits.{padded}
 use Rattle.object_defs.specs.Modules.{Module}
-use Rattle.asm_defs.specs.declared.causes.FormError.TheVariants.{JumpTooFar}
-use Rattle.asm_defs.specs.Printed.{printed}
-use Rattle.module_defs.specs.declared.causes.AsmCause.{AsmCause}
-use Rattle.module_defs.specs.declared.causes.AsmCause.TheVariants.{Form}
-use Rattle.known_lines.specs.KnownLines.{pieces_of}
+use Rattle.instruction_defs.specs.declared.causes.FormError.TheVariants.{JumpTooFar}
+use Rattle.instruction_defs.specs.Printed.{printed}
+use Rattle.asm_defs.specs.declared.causes.AsmCause.{AsmCause}
+use Rattle.asm_defs.specs.declared.causes.AsmCause.TheVariants.{Form}
+use Rattle.line_laws.specs.KnownLines.{pieces_of}
 
 -- bytes as words, the high byte first; a last odd byte is the high one of a word whose low one is 0
 abbrev pub padded_words : List ℕ → List ℕ

@@ -9,7 +9,7 @@ use Rattle.bench_io.specs.declared.whole.ReadError.TheVariants as error
 use Rattle.report_defs.specs.declared.fault.Fault.TheVariants.{TooLarge}
 use Rattle.report_defs.specs.declared.status.Status.{Status}
 use Rattle.report_defs.specs.declared.status.Status.TheVariants as status
-use Rattle.program_defs.specs.Programs.{program_of_source}
+use Rattle.gpl_source_defs.specs.Programs.{program_of_source}
 use Rattle.watch_defs.specs.declared.item.Item.{Item}
 use Rattle.report_defs.specs.Report.{Report, Faulty, ProgramReport, largest_input}
 use Rattle.file_report_defs.specs.Watching.{ReportsWatch}

@@ -3,7 +3,7 @@
 ghost use Rattle.std.specs.Prelude.{◌≡◌, ◌≤◌, length, Ok, IfOk};
 ghost use Rattle.object_defs.specs.Writing.{written};
 ghost use Rattle.object_tags.specs.Seen.{defined_module};
-ghost use Rattle.module_defs.specs.Modules.{module_of_source};
+ghost use Rattle.asm_defs.specs.Modules.{module_of_source};
 ghost use Rattle.report_defs.specs.Report as spec;
 ghost use Rattle.bench_commands.specs.Made.{defined_report};
 

@@ -1,7 +1,7 @@
 //! `demo`: a GPL program that is made from a number, run by the interpreter.
 
 ghost use Rattle.std.specs.Prelude.{◌≤◌, [], length, IfOk};
-ghost use Rattle.program_defs.specs.Programs.{program_of_source};
+ghost use Rattle.gpl_source_defs.specs.Programs.{program_of_source};
 ghost use Rattle.report_defs.specs.Commands.{most_blocks, most_steps};
 ghost use Rattle.report_defs.specs.Report as spec;
 ghost use Rattle.bench_commands.specs.Made.{defined_report};

@@ -1,10 +1,10 @@
 //! A GPL program for the interpreter: assembled from its source, loaded, and run.
 
 ghost use Rattle.std.specs.Prelude.{◌≡◌, ◌<◌, ◌≤◌, length, IfOk};
-ghost use Rattle.build_defs.specs.Interpreter.{IsInterpreter};
+ghost use Rattle.interp_build_defs.specs.Interpreter.{IsInterpreter};
 ghost use Rattle.gpl_run.specs.Sessions.{IsNew, image_of, entry_of};
 ghost use Rattle.link_loader.specs.View.{defined_linked};
-ghost use Rattle.program_defs.specs.Programs.{program_of_source};
+ghost use Rattle.gpl_source_defs.specs.Programs.{program_of_source};
 ghost use Rattle.report_defs.specs.Report.{largest_input};
 ghost use Rattle.bench_commands.specs.Loaded.{LoadsSource, LoadsImage};
 ghost use Rattle.bench_commands.specs.Ran.{RanProgram};

@@ -3,7 +3,7 @@ use Rattle.std.specs.Prelude.{map}
 use Rattle.source_defs.specs.Lines.{part}
 use Rattle.source_defs.specs.Operands.{OperandsLieInside}
 use Rattle.source_defs.specs.Operands.{operand_texts}
-use Rattle.module_defs.specs.Statements.{all_names}
+use Rattle.asm_defs.specs.Statements.{all_names}
 use Rattle.asm_checks.proofs.name_lists.all_names.Given as goal
 
 abbrev pub invariant-loop-span : goal.invariant-loop-span

@@ -3,7 +3,7 @@ use Rattle.std.specs.Prelude.{map}
 use Rattle.source_defs.specs.Lines.{part}
 use Rattle.source_defs.specs.Operands.{OperandsLieInside}
 use Rattle.source_defs.specs.Operands.{operand_texts}
-use Rattle.module_defs.specs.Statements.{all_names, upper_names}
+use Rattle.asm_defs.specs.Statements.{all_names, upper_names}
 use Rattle.asm_checks.proofs.names.names_in.Given as goal
 
 -- the names so far, and those of the operands that are left

@@ -1,5 +1,5 @@
 use Rattle.std.proofs.Common.{◌≡◌, length}
-use Rattle.module_defs.specs.FirstChecks.{repeats}
+use Rattle.asm_defs.specs.FirstChecks.{repeats}
 use Rattle.asm_checks.proofs.names.repeats.Given as goal
 
 abbrev pub invariant-loop-rest : goal.invariant-loop-rest

@@ -1,7 +1,7 @@
 use Rattle.std.proofs.Common.{◌≡◌, drop}
 use Rattle.std.specs.List.{list_all}
 use Rattle.asm_forms.specs.Placed.{defined_words}
-use Rattle.module_defs.specs.Growing.{is_own}
+use Rattle.asm_defs.specs.Growing.{is_own}
 use Rattle.asm_checks.proofs.second_checks.all_own.Given as goal
 
 abbrev pub invariant-loop-word : goal.invariant-loop-word

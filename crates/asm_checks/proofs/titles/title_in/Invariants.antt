@@ -1,6 +1,6 @@
 use Rattle.std.proofs.Common.{◌≡◌, ◌-◌, length}
 use Rattle.object_defs.specs.Digits.{padded}
-use Rattle.module_defs.specs.FirstChecks.{title_in}
+use Rattle.asm_defs.specs.FirstChecks.{title_in}
 use Rattle.asm_checks.proofs.titles.title_in.Given as goal
 
 -- the blanks that are missing make the name

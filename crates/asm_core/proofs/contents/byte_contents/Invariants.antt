@@ -1,6 +1,6 @@
 use Rattle.std.proofs.Common.{◌≡◌, ◌++◌, length}
 use Rattle.std.specs.Prelude.{map}
-use Rattle.module_defs.specs.declared.content.Content.TheVariants.{Byte}
+use Rattle.asm_defs.specs.declared.content.Content.TheVariants.{Byte}
 use Rattle.asm_core.proofs.contents.byte_contents.Given as goal
 
 abbrev pub invariant-loop-rest : goal.invariant-loop-rest

@@ -2,7 +2,7 @@ use Rattle.std.proofs.Common.{◌≡◌, ◌++◌, ◌+◌, ◌*◌, ◌≤◌, 
 use Rattle.std.specs.Prelude.{map}
 use Rattle.object_tags.specs.Seen.{defined_ref}
 use Rattle.asm_forms.specs.Placed.{defined_words}
-use Rattle.module_defs.specs.Memory.{word_contents, behind_words}
+use Rattle.asm_defs.specs.Memory.{word_contents, behind_words}
 use Rattle.asm_core.proofs.contents.word_contents.Given as goal
 
 -- the bytes so far, and those of the words that are left

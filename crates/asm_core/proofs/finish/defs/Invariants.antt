@@ -1,7 +1,7 @@
 use Rattle.std.proofs.Common.{◌≡◌, take}
 use Rattle.std.specs.Prelude.{map}
 use Rattle.object_tags.specs.Seen.{defined_def}
-use Rattle.module_defs.specs.Modules.{definition_in}
+use Rattle.asm_defs.specs.Modules.{definition_in}
 use Rattle.asm_core.proofs.finish.defs.Given as goal
 
 abbrev pub invariant-loop-name : goal.invariant-loop-name

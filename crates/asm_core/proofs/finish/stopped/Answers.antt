@@ -1,6 +1,6 @@
 use Rattle.std.proofs.Common.{[], sym, subst}
 use Rattle.source_defs.specs.Layout.{settled}
-use Rattle.module_defs.specs.Modules.{settle}
+use Rattle.asm_defs.specs.Modules.{settle}
 use Rattle.asm_core.specs.declared.error.AsmError.{AsmError}
 use Rattle.asm_core.specs.Finishing.{RefusesAt}
 use Rattle.asm_core.proofs.StopLaws.{value_refused, still_refused, refused_behind}

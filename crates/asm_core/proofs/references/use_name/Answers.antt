@@ -2,7 +2,7 @@ use Rattle.std.proofs.Common.{◌<◌, List, length, sym, ap, ◌∙◌, arith}
 use Rattle.std.specs.Prelude.{map}
 use Rattle.object_tags.specs.declared.parts.Ref.{Ref}
 use Rattle.object_tags.specs.Seen.{defined_ref}
-use Rattle.module_defs.specs.Memory.{with_use}
+use Rattle.asm_defs.specs.Memory.{with_use}
 use Rattle.asm_core.proofs.ReferenceLaws.{used_at}
 use Rattle.asm_core.proofs.references.use_name.Goals as goal
 

@@ -1,7 +1,7 @@
 use Rattle.std.proofs.Common.{◌≡◌, ◌++◌, take, drop}
 use Rattle.std.specs.Prelude.{map}
 use Rattle.object_tags.specs.Seen.{defined_ref}
-use Rattle.module_defs.specs.Memory.{last_use, with_use}
+use Rattle.asm_defs.specs.Memory.{last_use, with_use}
 use Rattle.asm_core.proofs.references.use_name.Given as goal
 
 -- none of the names before is the one asked for

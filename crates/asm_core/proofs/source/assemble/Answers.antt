@@ -3,13 +3,13 @@ use Rattle.source_defs.specs.declared.text.Line.{Line as TextLine}
 use Rattle.source_defs.specs.Refusals.{◌>>=◌}
 use Rattle.source_defs.specs.Lines.{LinesLieInside}
 use Rattle.source_defs.specs.Layout.{laid, laid_behind, line_texts}
-use Rattle.module_defs.specs.Locations.{Line}
-use Rattle.module_defs.specs.FirstChecks.{check}
-use Rattle.module_defs.specs.Modules.{module_behind}
+use Rattle.asm_defs.specs.Locations.{Line}
+use Rattle.asm_defs.specs.FirstChecks.{check}
+use Rattle.asm_defs.specs.Modules.{module_behind}
 use Rattle.std.specs.Prelude.{Result}
 use Rattle.std.proofs.lemmas.Result.{err_from_is_err_and}
 use Rattle.source_defs.specs.Refusals.{Refusal}
-use Rattle.module_defs.specs.declared.causes.AsmCause.{AsmCause}
+use Rattle.asm_defs.specs.declared.causes.AsmCause.{AsmCause}
 use Rattle.source_defs.specs.Layout.{has_ended}
 use Rattle.asm_core.specs.Building.{IsBehind}
 use Rattle.asm_core.specs.Finishing.{GivesModule}

@@ -1,8 +1,8 @@
 use Rattle.std.proofs.Common.{◌≡◌, ◌+◌, false, List, length}
 use Rattle.source_defs.specs.Lines.{LinesLieInside}
 use Rattle.source_defs.specs.Layout.{laid, laid_behind, line_texts}
-use Rattle.module_defs.specs.Locations.{Line}
-use Rattle.module_defs.specs.FirstChecks.{check}
+use Rattle.asm_defs.specs.Locations.{Line}
+use Rattle.asm_defs.specs.FirstChecks.{check}
 use Rattle.asm_core.specs.Building.{IsBehind}
 use Rattle.asm_core.proofs.SourceLaws.{IsNumbered, texts_of}
 use Rattle.asm_core.proofs.source.assemble.Given as goal

@@ -1,7 +1,7 @@
 use Rattle.std.proofs.Common.{ap, ◌∙◌, ◌++◌, arith}
 use Rattle.std.specs.Prelude.{codes}
-use Rattle.asm_defs.specs.Printed.{printed}
-use Rattle.asm_defs.proofs.Windows.{printed_window}
+use Rattle.instruction_defs.specs.Printed.{printed}
+use Rattle.instruction_defs.proofs.Windows.{printed_window}
 use Rattle.word_listings.specs.Listing.{words_in}
 use Rattle.bench_commands.proofs.Listings.{three_words}
 use Rattle.bench_commands.proofs.listing_lines.make_front_line.Goals as goal

@@ -1,4 +1,4 @@
-use Rattle.console_defs.proofs.ByteLaws.{replicated_zeros}
+use Rattle.tms_defs.proofs.ByteLaws.{replicated_zeros}
 use Rattle.console_bus.proofs.bus.zero_page.Goals as goal
 
 pub returns : goal.returns

@@ -1,5 +1,5 @@
 use Rattle.std.proofs.Common.{◌≡◌, ◌+◌, ◌≤◌, length}
-use Rattle.program_defs.specs.Programs.{overlaps}
+use Rattle.gpl_source_defs.specs.Programs.{overlaps}
 use Rattle.gpl_asm.proofs.place.overlaps.Given as goal
 
 -- where the bytes end before the addresses do, those that are left overlap as all do

@@ -5,10 +5,10 @@ use Rattle.source_defs.specs.Refusals.{Refusal, ◌>>=◌}
 use Rattle.source_defs.specs.Lines.{LinesLieInside}
 use Rattle.source_defs.specs.Layout.{laid, laid_behind, line_texts, has_ended}
 use Rattle.source_defs.proofs.LaidLaws.{IsNumbered, lines_numbered, texts_of, ends_there, first_of_two}
-use Rattle.program_defs.specs.declared.causes.GplCause.{GplCause}
-use Rattle.program_defs.specs.Locations.{Line}
-use Rattle.program_defs.specs.FirstChecks.{check}
-use Rattle.program_defs.specs.Programs.{program_behind}
+use Rattle.gpl_source_defs.specs.declared.causes.GplCause.{GplCause}
+use Rattle.gpl_source_defs.specs.Locations.{Line}
+use Rattle.gpl_source_defs.specs.FirstChecks.{check}
+use Rattle.gpl_source_defs.specs.Programs.{program_behind}
 use Rattle.gpl_asm.specs.Building.{IsBehind}
 use Rattle.gpl_asm.specs.Finishing.{GivesProgram}
 use Rattle.gpl_asm.proofs.source.gpl_assemble.Goals as goal

@@ -1,4 +1,4 @@
-use Rattle.listing_defs.proofs.ListingLaw as law
+use Rattle.gpl_listing_defs.proofs.ListingLaw as law
 use Rattle.gpl_disasm.proofs.laws.listings_come_back.Goals as goal
 
 pub returns : goal.returns

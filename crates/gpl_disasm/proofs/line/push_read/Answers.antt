@@ -1,6 +1,6 @@
 use Rattle.std.proofs.Common.{◌≡◌, ◌≤◌, ◌+◌, length, min, arith}
 use Rattle.gpl_defs.specs.Bytes.{bytes_of}
-use Rattle.listing_defs.specs.Listing.{byte_listed, boundary, listed_at}
+use Rattle.gpl_listing_defs.specs.Listing.{byte_listed, boundary, listed_at}
 use Rattle.gpl_forms.specs.Sizes.{size_between}
 use Rattle.gpl_disasm.proofs.Listed.{whole_listed, longer_listed, cut_listed}
 use Rattle.gpl_disasm.proofs.line.push_read.Goals as goal

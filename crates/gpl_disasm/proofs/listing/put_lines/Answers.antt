@@ -3,8 +3,8 @@ use Rattle.std.proofs.lemmas.List.{map-append}
 use Rattle.std.proofs.lemmas.Result.{err_from_is_err_and}
 use Rattle.source_defs.specs.ListedLines.{listing_line}
 use Rattle.bench_io.proofs.Progress.{listed_append, listed_missed_in, listed_same}
-use Rattle.listing_defs.specs.Listing.{listed_at, texts_from, origin_texts_at}
-use Rattle.listing_defs.proofs.LineSteps.{texts_first, texts_step}
+use Rattle.gpl_listing_defs.specs.Listing.{listed_at, texts_from, origin_texts_at}
+use Rattle.gpl_listing_defs.proofs.LineSteps.{texts_first, texts_step}
 use Rattle.gpl_disasm.proofs.listing.put_lines.Goals as goal
 
 pub returns-in_err-at : goal.returns-in_err-at

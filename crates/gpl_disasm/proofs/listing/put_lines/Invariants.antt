@@ -1,7 +1,7 @@
 use Rattle.std.proofs.Common.{◌≤◌, ◌-◌, map}
 use Rattle.source_defs.specs.ListedLines.{listing_line}
 use Rattle.bench_io.proofs.Progress.{Listed}
-use Rattle.listing_defs.specs.Listing.{texts_from}
+use Rattle.gpl_listing_defs.specs.Listing.{texts_from}
 use Rattle.gpl_disasm.proofs.listing.put_lines.Given as goal
 
 -- the lines that are left

@@ -1,6 +1,6 @@
 use Rattle.std.proofs.Common.{◌≡◌, length}
 use Rattle.source_defs.specs.Refusals.{after}
-use Rattle.program_defs.specs.Values.{bytes_of}
+use Rattle.gpl_source_defs.specs.Values.{bytes_of}
 use Rattle.gpl_lines.proofs.second_checks.bytes_of.Given as goal
 
 -- the bytes so far, and those of the numbers that are left

@@ -1,5 +1,5 @@
 use Rattle.object_tags.specs.Seen.{defined_module}
-use Rattle.build_defs.proofs.OneMemory.{module_linked}
+use Rattle.interp_build_defs.proofs.OneMemory.{module_linked}
 use Rattle.gpl_run.proofs.build.link_source.Goals as goal
 
 pub link_module-requires : goal.link_module-requires

@@ -1,5 +1,5 @@
 use Rattle.std.proofs.Common.{arith}
-use Rattle.console_defs.proofs.OverflowLaws.{sum_overflows_by_signs}
+use Rattle.tms_defs.proofs.OverflowLaws.{sum_overflows_by_signs}
 use Rattle.tms_words.proofs.bytes.add8.Goals as goal
 
 pub returns-clause-flags : goal.returns-clause-flags

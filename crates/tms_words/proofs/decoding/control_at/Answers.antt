@@ -1,6 +1,6 @@
 use Rattle.std.proofs.Common.{sym, ◌∙◌, arith}
-use Rattle.console_defs.specs.declared.instruction.Operation.TheVariants.{Imm}
-use Rattle.console_defs.proofs.InstructionLaws.{operation_at-has_code, operation_at-control}
+use Rattle.tms_defs.specs.declared.instruction.Operation.TheVariants.{Imm}
+use Rattle.tms_defs.proofs.InstructionLaws.{operation_at-has_code, operation_at-control}
 use Rattle.tms_words.proofs.decoding.control_at.Goals as goal
 
 pub returns-in-Some : goal.returns-in-Some

@@ -1,5 +1,5 @@
 use Rattle.std.proofs.Common.{sym, ◌∙◌, arith}
-use Rattle.console_defs.proofs.InstructionLaws.{word_of-found}
+use Rattle.tms_defs.proofs.InstructionLaws.{word_of-found}
 use Rattle.tms_words.proofs.decoding.decode.Goals as goal
 
 pub returns-clause-encoded : goal.returns-clause-encoded

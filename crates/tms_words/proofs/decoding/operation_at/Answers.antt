@@ -1,5 +1,5 @@
 use Rattle.std.proofs.Common.{sym, arith}
-use Rattle.console_defs.proofs.InstructionLaws.{operation_at-between}
+use Rattle.tms_defs.proofs.InstructionLaws.{operation_at-between}
 use Rattle.tms_words.proofs.decoding.operation_at.Goals as goal
 
 pub returns-then-word-ge3072 : goal.returns-then-word-ge3072

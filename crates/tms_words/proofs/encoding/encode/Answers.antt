@@ -1,6 +1,6 @@
 use Rattle.std.proofs.Common.{◌≡◌, ◌+◌, ap, ◌∙◌}
-use Rattle.console_defs.specs.Instructions.{instr_at, word_of}
-use Rattle.console_defs.proofs.InstructionLaws.{instr_at-word_of}
+use Rattle.tms_defs.specs.Instructions.{instr_at, word_of}
+use Rattle.tms_defs.proofs.InstructionLaws.{instr_at-word_of}
 use Rattle.tms_words.proofs.encoding.encode.Goals as goal
 
 pub returns-clause-decoded : goal.returns-clause-decoded

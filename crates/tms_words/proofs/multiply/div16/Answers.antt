@@ -1,5 +1,5 @@
 use Rattle.std.proofs.Common.{arith}
-use Rattle.console_defs.proofs.DivideLaws.{quotient_is_word}
+use Rattle.tms_defs.proofs.DivideLaws.{quotient_is_word}
 use Rattle.tms_words.proofs.multiply.div16.Goals as goal
 
 pub returns-clause-value : goal.returns-clause-value

@@ -1,6 +1,6 @@
 use Rattle.std.proofs.Common.{ap, ◌∙◌, arith}
-use Rattle.console_defs.specs.declared.flags.Flags.{Flags}
-use Rattle.console_defs.proofs.ShiftLaws.{shift_overflows-sign_changes}
+use Rattle.tms_defs.specs.declared.flags.Flags.{Flags}
+use Rattle.tms_defs.proofs.ShiftLaws.{shift_overflows-sign_changes}
 use Rattle.tms_words.proofs.shift.shift16.Goals as goal
 
 pub returns-in-SLA-clause-sign : goal.returns-in-SLA-clause-sign

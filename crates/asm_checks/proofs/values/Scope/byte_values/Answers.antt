@@ -4,7 +4,7 @@ use Rattle.std.specs.Result.{is_ok}
 use Rattle.source_defs.specs.Lines.{part}
 use Rattle.source_defs.specs.Operands.{OperandsLieInside}
 use Rattle.source_defs.specs.Symbols.{look_up}
-use Rattle.module_defs.specs.SecondChecks.{byte_values}
+use Rattle.asm_defs.specs.SecondChecks.{byte_values}
 use Rattle.source_defs.specs.Refusals.{after}
 use Rattle.asm_checks.proofs.Listed.{byte_more}
 use Rattle.asm_checks.proofs.values.Scope.byte_values.Goals as goal

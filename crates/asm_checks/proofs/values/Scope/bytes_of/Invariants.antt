@@ -1,5 +1,5 @@
 use Rattle.std.proofs.Common.{◌≡◌, length}
-use Rattle.module_defs.specs.SecondChecks.{bytes_of}
+use Rattle.asm_defs.specs.SecondChecks.{bytes_of}
 use Rattle.source_defs.specs.Refusals.{after}
 use Rattle.asm_checks.proofs.values.Scope.bytes_of.Given as goal
 

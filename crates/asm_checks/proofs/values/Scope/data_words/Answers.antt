@@ -6,7 +6,7 @@ use Rattle.source_defs.specs.Lines.{part}
 use Rattle.source_defs.specs.Operands.{OperandsLieInside}
 use Rattle.source_defs.specs.Symbols.{look_up}
 use Rattle.asm_forms.specs.Placed.{defined_word, defined_words}
-use Rattle.module_defs.specs.SecondChecks.{data_values}
+use Rattle.asm_defs.specs.SecondChecks.{data_values}
 use Rattle.source_defs.specs.Refusals.{after}
 use Rattle.asm_checks.proofs.Listed.{data_more}
 use Rattle.asm_checks.proofs.values.Scope.data_words.Goals as goal

@@ -5,7 +5,7 @@ use Rattle.source_defs.specs.Lines.{part}
 use Rattle.source_defs.specs.Operands.{OperandsLieInside}
 use Rattle.source_defs.specs.Operands.{operand_texts}
 use Rattle.asm_forms.specs.Placed.{defined_words}
-use Rattle.module_defs.specs.SecondChecks.{data_values}
+use Rattle.asm_defs.specs.SecondChecks.{data_values}
 use Rattle.source_defs.specs.Refusals.{after}
 use Rattle.asm_checks.proofs.values.Scope.data_words.Given as goal
 

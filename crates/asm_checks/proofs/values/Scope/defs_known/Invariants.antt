@@ -1,6 +1,6 @@
 use Rattle.std.proofs.Common.{◌≡◌, length}
 use Rattle.source_defs.specs.Symbols.{look_up}
-use Rattle.module_defs.specs.SecondChecks.{defs_known}
+use Rattle.asm_defs.specs.SecondChecks.{defs_known}
 use Rattle.asm_checks.proofs.values.Scope.defs_known.Given as goal
 
 abbrev pub invariant-loop-rest : goal.invariant-loop-rest

@@ -3,11 +3,11 @@ use Rattle.std.specs.Prelude.{map}
 use Rattle.source_defs.specs.Orders.{onto}
 use Rattle.object_tags.specs.Seen.{defined_ref}
 use Rattle.object_tags.specs.declared.parts.Ref.{Ref}
-use Rattle.module_defs.specs.Memory.{Settled}
-use Rattle.module_defs.specs.Modules.{entry_by}
+use Rattle.asm_defs.specs.Memory.{Settled}
+use Rattle.asm_defs.specs.Modules.{entry_by}
 use Rattle.asm_checks.specs.Outcomes.{defined_outcome}
-use Rattle.asm_image.specs.Images.{IsImage}
-use Rattle.asm_image.specs.declared.image.Image.{Image}
+use Rattle.module_image.specs.Images.{IsImage}
+use Rattle.module_image.specs.declared.image.Image.{Image}
 use Rattle.asm_core.proofs.draft.Draft.fill.Goals as goal
 
 pub returns : goal.returns

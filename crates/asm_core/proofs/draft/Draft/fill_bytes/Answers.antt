@@ -2,7 +2,7 @@ use Rattle.std.proofs.Common.{length, ap, ◌∙◌, arith}
 use Rattle.std.specs.Prelude.{map}
 use Rattle.object_tags.specs.Seen.{defined_ref}
 use Rattle.asm_checks.specs.Outcomes.{defined_outcome}
-use Rattle.asm_image.proofs.HoldingLaws.{contents_length}
+use Rattle.module_image.proofs.HoldingLaws.{contents_length}
 use Rattle.asm_core.proofs.DraftLaws.{dummy_filled, bytes_filled}
 use Rattle.asm_core.proofs.draft.Draft.fill_bytes.Goals as goal
 

@@ -1,7 +1,7 @@
 use Rattle.std.proofs.Common.{◌≡◌, Ok, ap, ◌∙◌, sym, arith, subst}
 use Rattle.source_defs.specs.Symbols.{look_up}
 use Rattle.source_defs.specs.Refusals.{◌>>=◌}
-use Rattle.module_defs.specs.Statements.{said_of, statement_in, as_text}
+use Rattle.asm_defs.specs.Statements.{said_of, statement_in, as_text}
 use Rattle.asm_checks.specs.Defined.{defined_statement}
 use Rattle.asm_checks.specs.Outcomes.{defined_outcome}
 use Rattle.asm_core.proofs.JudgeLaws.{comes_within, fits_there}

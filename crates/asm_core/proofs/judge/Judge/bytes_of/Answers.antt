@@ -2,7 +2,7 @@ use Rattle.std.proofs.Common.{List, [], Ok, Err, ap, ◌∙◌}
 use Rattle.std.specs.Prelude.{Result, map, OnOk, IfOk}
 use Rattle.object_tags.specs.Seen.{defined_ref}
 use Rattle.object_tags.specs.declared.parts.Ref.{Ref}
-use Rattle.module_defs.specs.Memory.{contents_by}
+use Rattle.asm_defs.specs.Memory.{contents_by}
 use Rattle.asm_checks.specs.Outcomes.{defined_outcome}
 use Rattle.asm_core.proofs.JudgeLaws.{gives}
 use Rattle.asm_core.proofs.judge.Judge.bytes_of.Goals as goal

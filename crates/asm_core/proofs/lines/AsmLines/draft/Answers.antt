@@ -2,9 +2,9 @@ use Rattle.std.proofs.Common.{◌≡◌, [], Some, None, List, refl, sym, ap, su
 use Rattle.std.specs.Prelude.{Option, map}
 use Rattle.source_defs.specs.Orders.{onto}
 use Rattle.object_tags.specs.Seen.{defined_ref}
-use Rattle.module_defs.specs.Memory.{Settled}
-use Rattle.module_defs.specs.Modules.{unused}
-use Rattle.asm_image.specs.declared.image.Image.{Image}
+use Rattle.asm_defs.specs.Memory.{Settled}
+use Rattle.asm_defs.specs.Modules.{unused}
+use Rattle.module_image.specs.declared.image.Image.{Image}
 use Rattle.asm_core.specs.Building.{ImageOf}
 use Rattle.asm_core.proofs.DraftLaws.{first_image}
 use Rattle.asm_core.proofs.lines.AsmLines.draft.Goals as goal

@@ -2,8 +2,8 @@ use Rattle.std.proofs.Common.{◌≡◌, ℕ, [], List, sym, ap, subst}
 use Rattle.std.specs.Prelude.{map}
 use Rattle.std.proofs.lemmas.Result.{err_from_is_err_and}
 use Rattle.object_tags.specs.Seen.{defined_module}
-use Rattle.module_defs.specs.FirstChecks.{refs}
-use Rattle.module_defs.specs.Modules.{unused}
+use Rattle.asm_defs.specs.FirstChecks.{refs}
+use Rattle.asm_defs.specs.Modules.{unused}
 use Rattle.asm_core.specs.Drafts.{IsDraft}
 use Rattle.asm_core.proofs.EndLaws.{ends_refused, ends_stopped, ends_going}
 use Rattle.asm_core.proofs.lines.AsmLines.module.Goals as goal

@@ -2,14 +2,14 @@ use Rattle.std.proofs.Common.{◌≡◌, ◌++◌, ℕ, refl, ap, ◌∙◌}
 use Rattle.std.specs.Prelude.{map, Option}
 use Rattle.source_defs.specs.Symbols.{Names}
 use Rattle.object_tags.specs.Seen.{defined_ref, defined_def}
-use Rattle.module_defs.specs.declared.content.Content.{Content}
-use Rattle.module_defs.specs.declared.location.Part.{Part}
-use Rattle.module_defs.specs.declared.location.Part.TheVariants as part
-use Rattle.module_defs.specs.FirstChecks.{refs, names, defs}
-use Rattle.module_defs.specs.Memory.{content_at, pieces_in, part_words}
-use Rattle.module_defs.specs.Modules.{unused, definition_in}
-use Rattle.asm_image.specs.Tables.{cell}
-use Rattle.asm_image.proofs.PieceLaws.{pieces_same}
+use Rattle.asm_defs.specs.declared.content.Content.{Content}
+use Rattle.asm_defs.specs.declared.location.Part.{Part}
+use Rattle.asm_defs.specs.declared.location.Part.TheVariants as part
+use Rattle.asm_defs.specs.FirstChecks.{refs, names, defs}
+use Rattle.asm_defs.specs.Memory.{content_at, pieces_in, part_words}
+use Rattle.asm_defs.specs.Modules.{unused, definition_in}
+use Rattle.module_image.specs.Tables.{cell}
+use Rattle.module_image.proofs.PieceLaws.{pieces_same}
 use Rattle.asm_core.proofs.lines.AsmLines.module_of.Goals as goal
 
 all_same : (f g : ℕ → Option Content) (at : Part) → ((p : ℕ) → f p ≡ g p) → pieces_in f at ≡ pieces_in g at

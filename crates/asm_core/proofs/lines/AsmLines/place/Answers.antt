@@ -1,6 +1,6 @@
 use Rattle.std.proofs.Common.{[], Some, subst}
 use Rattle.std.specs.Prelude.{Option}
-use Rattle.asm_image.specs.declared.image.Image.{Image}
+use Rattle.module_image.specs.declared.image.Image.{Image}
 use Rattle.asm_core.specs.Building.{ImageOf}
 use Rattle.asm_core.proofs.lines.AsmLines.place.Goals as goal
 

@@ -2,7 +2,7 @@ use Rattle.std.proofs.Common.{◌≡◌, ◌+◌, [], ◌∷◌, List, length, d
 use Rattle.std.proofs.lemmas.List.{drop_all}
 use Rattle.source_defs.specs.Orders.{onto}
 use Rattle.source_defs.specs.Layout.{settled}
-use Rattle.module_defs.specs.Modules.{settle}
+use Rattle.asm_defs.specs.Modules.{settle}
 use Rattle.asm_core.specs.declared.error.AsmError.{AsmError}
 use Rattle.asm_core.specs.declared.pending.Pending.{Pending}
 use Rattle.asm_core.specs.Finishing.{RefusesAt}

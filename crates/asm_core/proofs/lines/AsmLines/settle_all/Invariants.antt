@@ -1,8 +1,8 @@
 use Rattle.std.proofs.Common.{List, [], drop}
 use Rattle.object_defs.specs.Modules.{Reference}
-use Rattle.module_defs.specs.Locations.{Line}
-use Rattle.module_defs.specs.Memory.{Settled}
-use Rattle.asm_image.specs.Standing.{AllStand}
+use Rattle.asm_defs.specs.Locations.{Line}
+use Rattle.asm_defs.specs.Memory.{Settled}
+use Rattle.module_image.specs.Standing.{AllStand}
 use Rattle.asm_core.specs.Building.{AreKnown}
 use Rattle.asm_core.proofs.ProgressLaws.{IsSoFar}
 use Rattle.asm_core.proofs.lines.AsmLines.settle_all.Given as goal

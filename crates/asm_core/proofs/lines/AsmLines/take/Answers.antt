@@ -2,12 +2,12 @@ use Rattle.std.proofs.Common.{◌≡◌, ◌+◌, ◌||◌, ◌∷◌, ◌++◌,
 use Rattle.std.specs.Prelude.{max, Bool}
 use Rattle.source_defs.specs.Refusals.{◌>>=◌}
 use Rattle.source_defs.specs.Symbols.{Names}
-use Rattle.module_defs.specs.declared.location.Location.{Location}
-use Rattle.module_defs.specs.Locations.{Line, location, reached, relocatable, behind, is_in_part}
-use Rattle.module_defs.specs.FirstChecks as spec
-use Rattle.module_defs.specs.FirstChecks.{Before, known_of, line_of, location_behind, defs_in, refs_in, is_end}
-use Rattle.module_defs.specs.Modules.{title_by}
-use Rattle.module_defs.proofs.CheckLaws.{checked_within, checked_titled, checked_said, checked_room}
+use Rattle.asm_defs.specs.declared.location.Location.{Location}
+use Rattle.asm_defs.specs.Locations.{Line, location, reached, relocatable, behind, is_in_part}
+use Rattle.asm_defs.specs.FirstChecks as spec
+use Rattle.asm_defs.specs.FirstChecks.{Before, known_of, line_of, location_behind, defs_in, refs_in, is_end}
+use Rattle.asm_defs.specs.Modules.{title_by}
+use Rattle.asm_defs.proofs.CheckLaws.{checked_within, checked_titled, checked_said, checked_room}
 use Rattle.asm_checks.specs.Checks.{defined_checked}
 use Rattle.asm_core.specs.Keeping.{known_in, names_with}
 use Rattle.asm_core.specs.Building.{IsBehind}

@@ -1,8 +1,8 @@
 use Rattle.std.proofs.Common.{◌≡◌, ◌+◌, ◌∷◌, List, Ok, Err, true, false, Some, None, refl, sym, ap, subst, ◌∙◌}
 use Rattle.std.specs.Prelude.{Result, Option, OnOk, is_some}
 use Rattle.source_defs.specs.Symbols.{Names}
-use Rattle.module_defs.specs.Locations.{Line}
-use Rattle.asm_image.specs.declared.image.Image.{Image}
+use Rattle.asm_defs.specs.Locations.{Line}
+use Rattle.module_image.specs.declared.image.Image.{Image}
 use Rattle.asm_checks.specs.Defined.{defined_statement}
 use Rattle.asm_checks.specs.declared.first_checks.Checked.{Checked}
 use Rattle.asm_core.specs.declared.pending.Refused.{Refused}
@@ -10,7 +10,7 @@ use Rattle.asm_core.specs.declared.pending.Pending.{Pending}
 use Rattle.asm_core.specs.declared.lines.AsmLines.{AsmLines}
 use Rattle.asm_core.specs.Building.{IsWorked, ImageOf, IsGoing}
 use Rattle.asm_core.specs.Keeping.{Keeps, IsUnchanged, SameNames, SameWork}
-use Rattle.module_defs.specs.declared.location.Location.{Location}
+use Rattle.asm_defs.specs.declared.location.Location.{Location}
 use Rattle.asm_core.specs.Judging.{JudgesBy}
 use Rattle.asm_core.specs.Claiming.{SameLines, Claims}
 use Rattle.asm_core.specs.Adding.{Adds, IsAsBefore, WorksIn}

@@ -1,4 +1,4 @@
-use Rattle.program_defs.specs.Programs.{program_of_source}
+use Rattle.gpl_source_defs.specs.Programs.{program_of_source}
 use Rattle.report_defs.specs.Commands.{most_steps}
 use Rattle.report_defs.specs.Report.{ReportsProgram, demo_lines}
 use Rattle.bench_commands.specs.declared.commands.program.LoadedProgram.{LoadedProgram}

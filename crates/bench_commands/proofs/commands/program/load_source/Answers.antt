@@ -1,4 +1,4 @@
-use Rattle.program_defs.specs.Programs.{program_of_source}
+use Rattle.gpl_source_defs.specs.Programs.{program_of_source}
 use Rattle.bench_commands.proofs.Loading.{source_loaded}
 use Rattle.bench_commands.proofs.commands.program.load_source.Goals as goal
 

@@ -1,8 +1,8 @@
 use Rattle.std.proofs.Common.{ap, ◌∙◌, subst}
 use Rattle.console_defs.specs.Memory.{IsMemory}
 use Rattle.console_defs.specs.Machine.{MachineState}
-use Rattle.step_defs.specs.State.{GplState}
-use Rattle.step_defs.specs.Run.{run}
+use Rattle.gpl_step_defs.specs.State.{GplState}
+use Rattle.gpl_step_defs.specs.Run.{run}
 use Rattle.interp_defs.specs.Programs.{RunsSteps}
 use Rattle.bench_commands.proofs.commands.program.run_session.Goals as goal
 

@@ -1,4 +1,4 @@
-use Rattle.program_defs.specs.Programs.{program_of_source}
+use Rattle.gpl_source_defs.specs.Programs.{program_of_source}
 use Rattle.report_defs.specs.Report.{ReportsProgram, run_lines}
 use Rattle.bench_commands.specs.declared.commands.program.LoadedProgram.{LoadedProgram}
 use Rattle.bench_commands.specs.declared.report.Report.TheVariants as made

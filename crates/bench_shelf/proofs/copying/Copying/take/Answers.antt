@@ -2,7 +2,7 @@ use Rattle.std.proofs.Common.{[], ◌∷◌, ◌++◌, length, refl, sym, ap, su
 use Rattle.shelf_defs.specs.Copied.{own_line, prepend}
 use Rattle.shelf_defs.specs.Assembly.{texts, laid_copied}
 use Rattle.source_defs.specs.Layout.{laid, numbered}
-use Rattle.module_defs.specs.FirstChecks.{check}
+use Rattle.asm_defs.specs.FirstChecks.{check}
 use Rattle.asm_core.specs.Finishing.{RefusesAt}
 use Rattle.bench_shelf.specs.Runs.{places_of}
 use Rattle.bench_shelf.specs.CopyAnswers.{defined_place, CopyRefuses}

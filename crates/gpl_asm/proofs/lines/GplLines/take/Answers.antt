@@ -3,14 +3,14 @@ use Rattle.std.specs.Prelude.{Option}
 use Rattle.source_defs.specs.Refusals.{◌>>=◌}
 use Rattle.source_defs.specs.Symbols.{Names, look_up}
 use Rattle.source_defs.specs.Layout.{with_names}
-use Rattle.program_defs.specs.declared.location.Location.{Location}
+use Rattle.gpl_source_defs.specs.declared.location.Location.{Location}
 use Rattle.source_defs.specs.Growing.{Grows}
-use Rattle.program_defs.specs.Locations.{Line, location, behind, origin_of}
+use Rattle.gpl_source_defs.specs.Locations.{Line, location, behind, origin_of}
 use Rattle.source_defs.specs.Layout.{set_or}
-use Rattle.program_defs.specs.FirstChecks.{Checked, checked, line_of, names, label_entry, is_taken, is_full, is_end}
-use Rattle.program_defs.specs.SecondChecks.{outcome}
+use Rattle.gpl_source_defs.specs.FirstChecks.{Checked, checked, line_of, names, label_entry, is_taken, is_full, is_end}
+use Rattle.gpl_source_defs.specs.SecondChecks.{outcome}
 use Rattle.gpl_lines.specs.Defined.{defined_checked, defined_statement}
-use Rattle.program_defs.proofs.CheckLaws.{is_let_through}
+use Rattle.gpl_source_defs.proofs.CheckLaws.{is_let_through}
 use Rattle.gpl_asm.specs.Replay.{answer}
 use Rattle.gpl_asm.proofs.TakeLaws.{leads_on, reaches, is_behind}
 use Rattle.gpl_asm.proofs.lines.GplLines.take.Goals as goal

@@ -4,8 +4,8 @@ use Rattle.source_defs.specs.Refusals.{after}
 use Rattle.source_defs.specs.Symbols.{look_up}
 use Rattle.source_defs.specs.Lines.{part}
 use Rattle.source_defs.specs.Operands.{OperandsLieInside, operand_texts}
-use Rattle.program_defs.specs.Locations.{address_of}
-use Rattle.program_defs.specs.Values.{numbers}
+use Rattle.gpl_source_defs.specs.Locations.{address_of}
+use Rattle.gpl_source_defs.specs.Values.{numbers}
 use Rattle.gpl_lines.proofs.values.Scope.numbers.Given as goal
 
 -- the numbers so far, and those of the operands that are left

@@ -1,5 +1,5 @@
 use Rattle.std.proofs.Common.{subst, arith}
-use Rattle.step_defs.specs.State.{GplState}
+use Rattle.gpl_step_defs.specs.State.{GplState}
 use Rattle.sim_steps.specs.Starting.{Begins}
 use Rattle.gpl_run.specs.Sessions.{image_of, entry_of}
 use Rattle.gpl_run.proofs.session.Session.new.Goals as goal

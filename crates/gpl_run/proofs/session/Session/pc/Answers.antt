@@ -1,5 +1,5 @@
 use Rattle.std.proofs.Common.{Option, ap, sym, ◌∙◌, lit<}
-use Rattle.step_defs.specs.declared.reason.Reason.{Reason}
+use Rattle.gpl_step_defs.specs.declared.reason.Reason.{Reason}
 use Rattle.sim_view.proofs.Bridge.{reg_word}
 use Rattle.gpl_run.specs.Sessions.{SessionState, address_in}
 use Rattle.gpl_run.proofs.session.Session.pc.Goals as goal

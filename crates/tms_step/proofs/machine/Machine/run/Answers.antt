@@ -1,8 +1,8 @@
 use Rattle.std.proofs.Common.{◌≡◌, ◌+◌, ◌-◌, ℕ, Bool, true, false, refl, sym, ap, ◌∙◌, arith, Option, None}
 use Rattle.console_defs.specs.Machine.{machine_step}
 use Rattle.console_defs.specs.Runs.{is_reached}
-use Rattle.console_defs.specs.declared.ends.StepEnd.{StepEnd}
-use Rattle.console_defs.specs.declared.ends.StepEnd.TheVariants.{Done, Refused, Port}
+use Rattle.tms_defs.specs.declared.step_end.StepEnd.{StepEnd}
+use Rattle.tms_defs.specs.declared.step_end.StepEnd.TheVariants.{Done, Refused, Port}
 use Rattle.tms_step.specs.Turns.{executed_by, end_of_turn, end_at_limit}
 use Rattle.tms_step.proofs.Going.{going_start, going_more, run_reached, run_ended, run_at_limit}
 use Rattle.tms_step.proofs.machine.Machine.run.Goals as goal

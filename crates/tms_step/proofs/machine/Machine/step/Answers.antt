@@ -1,9 +1,9 @@
 use Rattle.std.proofs.Common.{◌≡◌, rules, ap, sym, subst, ◌∙◌}
-use Rattle.console_defs.specs.Operand.{Cpu}
+use Rattle.tms_defs.specs.Operand.{Cpu}
 use Rattle.console_defs.specs.Memory.{Memory, console}
-use Rattle.console_defs.specs.Step.{step}
+use Rattle.tms_defs.specs.Step.{step}
 use Rattle.console_defs.specs.Causes.{refused_at, refusal, MeetsPort}
-use Rattle.console_defs.specs.declared.ends.StepEnd.{StepEnd}
+use Rattle.tms_defs.specs.declared.step_end.StepEnd.{StepEnd}
 use Rattle.console_defs.proofs.RefusalLaws.{step_refused, step_meets_port}
 use Rattle.tms_step.proofs.machine.Machine.step.Goals as goal
 

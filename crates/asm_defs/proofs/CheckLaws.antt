@@ -1,0 +1,202 @@
+-- What the first checks know of a line that they let through.
+use Rattle.std.proofs.Common.{◌≡◌, ℕ, ◌+◌, ◌≤◌, Bool, true, false, not, ◌||◌, List, Some, None, Ok, Err, refl, ap, subst, ◌∙◌, arith}
+use Rattle.std.specs.Prelude.{Option, Result, nat_le, ◌⊎◌, ◌&&◌, ⊤}
+use Rattle.std.proofs.Common.{inl, inr}
+use Rattle.source_defs.specs.declared.causes.ExprError.{ExprError}
+use Rattle.asm_defs.specs.declared.causes.AsmCause.TheVariants.{DuplicateLabel, Overflow, BadDirective}
+use Rattle.std.proofs.lemmas.Bool.Decides.{nat_tests}
+use Rattle.source_defs.specs.Refusals.{◌>>=◌}
+use Rattle.source_defs.specs.QuotedTexts.{is_quoted}
+use Rattle.source_defs.specs.Fields.{fields}
+use Rattle.source_defs.specs.Symbols.{Names}
+use Rattle.source_defs.specs.Layout.{set_or}
+use Rattle.asm_defs.specs.declared.causes.AsmCause.{AsmCause}
+use Rattle.asm_defs.specs.declared.location.Part.{Part}
+use Rattle.asm_defs.specs.declared.location.Part.TheVariants as part
+use Rattle.asm_defs.specs.declared.location.Location.{Location}
+use Rattle.asm_defs.specs.Statements.{Statement, Nothing, Instruction, Aorg, Rorg, Dorg, Bss, Bes, Even, Equ, Data, Byte, Text, Def, Ref, Idt, Titl, End}
+use Rattle.asm_defs.specs.Statements.{said_of, statement_in, as_text}
+use Rattle.asm_defs.specs.Locations.{behind, is_in_part, limit}
+use Rattle.asm_defs.specs.FirstChecks.{Before, Said, Checked, Move, unless, any_known, label_in, is_taken, refs_in, said, moved, checked, move, as_expr}
+use Rattle.asm_defs.specs.FirstChecks.{is_too_far, lists_too_many, is_bad, is_title, location_behind, absolute_in, value, number_in, known_here}
+use Rattle.asm_defs.specs.Growing.{size_said}
+
+-- a value that an answer is made of
+pub bound : {A B E : Type 0} (answer : Result A E) (make : A → Result B E) (made : B) → (answer >>= make) ≡ Ok made
+    → (value : A) × (answer ≡ Ok value) × (make value ≡ Ok made)
+bound (Ok value) make made e = (value, refl, e)
+bound (Err error) make made e = cc e
+
+-- nothing speaks against what is let through
+let_through : {A : Type 0} (b : Bool) (cause : AsmCause) (value found : A) → unless b cause value ≡ Ok found → (b ≡ false) × (value ≡ found)
+let_through true cause value found e = cc e
+let_through false cause value found e = (refl, cc e)
+
+abbrev answers : {A : Type 0} → Result A ExprError → Result A ExprError → Type 0
+answers a b = a ≡ b
+
+-- a line that places bytes goes on from the location, and a line that sets it places none
+abbrev Fits : Statement → Move → Type 0
+Fits statement move = ((move.origin ≡ None) × (size_said statement ≤ move.size)) ⊎ ((size_said statement ≡ 0) × (move.gap ≡ 0))
+
+fits_by : {A E : Type 0} (statement : Statement) (answer : Result A E) (make : A → Result Move E) (found : Move) → (answer >>= make) ≡ Ok found
+    → ((value : A) → make value ≡ Ok found → Fits statement found) → Fits statement found
+fits_by statement (Ok value) make found e each = each value e
+fits_by statement (Err error) make found e each = cc e
+
+ok_fits : (statement : Statement) (made found : Move) → answers (Ok made) (Ok found) → Fits statement made → Fits statement found
+ok_fits statement made found e fits =
+    let same : made ≡ found = cc e in
+    subst (Fits statement) same fits
+
+module _ (known : Names) (here : Location) (reached : ℕ) where
+  move_fits : (statement : Statement) (found : Move) → move known here reached statement ≡ Ok found → Fits statement found
+  move_fits Nothing found e = ok_fits Nothing _ found e (inl (refl, omega arith))
+  move_fits (Instruction size operation field) found e = ok_fits (Instruction size operation field) _ found e (inl (refl, omega arith))
+  move_fits (Aorg text) found e = fits_by (Aorg text) (absolute_in known here text) _ found e (λ value f. ok_fits (Aorg text) _ found f (inr (refl, refl)))
+  move_fits (Rorg None) found e = ok_fits (Rorg None) _ found e (inr (refl, refl))
+  move_fits (Rorg (Some text)) found e =
+      fits_by (Rorg (Some text)) (value known here text >>= number_in) _ found e (λ value f. ok_fits (Rorg (Some text)) _ found f (inr (refl, refl)))
+  move_fits (Dorg text) found e = fits_by (Dorg text) (absolute_in known here text) _ found e (λ value f. ok_fits (Dorg text) _ found f (inr (refl, refl)))
+  move_fits (Bss text) found e = fits_by (Bss text) (absolute_in known here text) _ found e (λ value f. ok_fits (Bss text) _ found f (inl (refl, omega arith)))
+  move_fits (Bes text) found e = fits_by (Bes text) (absolute_in known here text) _ found e (λ value f. ok_fits (Bes text) _ found f (inl (refl, omega arith)))
+  move_fits Even found e = ok_fits Even _ found e (inl (refl, omega arith))
+  move_fits (Equ text) found e =
+      fits_by (Equ text) (value known here text >>= known_here) _ found e (λ value f. ok_fits (Equ text) _ found f (inl (refl, omega arith)))
+  move_fits (Data texts) found e = ok_fits (Data texts) _ found e (inl (refl, omega arith))
+  move_fits (Byte texts) found e = ok_fits (Byte texts) _ found e (inl (refl, omega arith))
+  move_fits (Text quoted) found e = ok_fits (Text quoted) _ found e (inl (refl, omega arith))
+  move_fits (Def names) found e = ok_fits (Def names) _ found e (inl (refl, omega arith))
+  move_fits (Ref names) found e = ok_fits (Ref names) _ found e (inl (refl, omega arith))
+  move_fits (Idt text) found e = ok_fits (Idt text) _ found e (inl (refl, omega arith))
+  move_fits (Titl text) found e = ok_fits (Titl text) _ found e (inl (refl, omega arith))
+  move_fits (End text) found e = ok_fits (End text) _ found e (inl (refl, omega arith))
+
+limit_le : (found : Part) → limit found ≤ 65536
+limit_le part.Relocatable = omega arith
+limit_le part.Absolute = omega arith
+limit_le part.Dummy = omega arith
+
+expr_bound : {A : Type 0} (answer : Result A ExprError) (found : A) → as_expr answer ≡ Ok found → answer ≡ Ok found
+expr_bound (Ok value) found e = cc e
+expr_bound (Err error) found e = cc e
+
+-- the name that IDT gives is that of a module
+abbrev pub IsTitled : Statement → Type 0
+IsTitled (Idt text) = is_title text ≡ true
+IsTitled _ = ⊤
+
+both : (a b : Bool) → not (a && b) ≡ false → b ≡ true
+both true true e = refl
+both true false e = cc e
+both false b e = cc e
+
+module _ (before : Before) where
+  titled_by : (label : Option (List ℕ)) (statement : Statement) → is_bad before label statement ≡ false → IsTitled statement
+  titled_by None (Idt text) fine = both (is_quoted text) (is_title text) fine
+  titled_by (Some name) (Idt text) fine = both (is_quoted text) (is_title text) fine
+  titled_by label Nothing fine = tt
+  titled_by label (Instruction size operation field) fine = tt
+  titled_by label (Aorg text) fine = tt
+  titled_by label (Rorg text) fine = tt
+  titled_by label (Dorg text) fine = tt
+  titled_by label (Bss text) fine = tt
+  titled_by label (Bes text) fine = tt
+  titled_by label Even fine = tt
+  titled_by label (Equ text) fine = tt
+  titled_by label (Data texts) fine = tt
+  titled_by label (Byte texts) fine = tt
+  titled_by label (Text quoted) fine = tt
+  titled_by label (Def names) fine = tt
+  titled_by label (Ref names) fine = tt
+  titled_by label (Titl text) fine = tt
+  titled_by label (End text) fine = tt
+
+  -- what the first checks let through is what the line says
+  said_is : (text : List ℕ) (found : Said) → said before text ≡ Ok found → said_of text ≡ Ok found.statement
+  unfolding said
+  said_is text found e =
+      let a = bound (as_text (fields text)) _ found e in
+      let b = bound (unless (any_known before.names (label_in a.0.label)) DuplicateLabel a.0.label) _ found a.2 in
+      let c = bound (statement_in text a.0) _ found b.2 in
+      let d = let_through (is_taken before.names b.0 (refs_in c.0)) DuplicateLabel (record { label = b.0; statement = c.0 }) found c.2 in
+      let same : c.0 ≡ found.statement = ap (λ (line : Said). line.statement) d.1 in
+      ap (λ answer. answer >>= statement_in text) a.1 ∙ (c.1 ∙ ap Ok same)
+
+  -- a module's name is one
+  named_is : (line : Said) → is_bad before line.label line.statement ≡ false → IsTitled line.statement
+  named_is line fine = titled_by line.label line.statement fine
+
+  -- and where it leads lies in its part
+  record Leads (line : Said) (found : Checked) : Type 0 where
+    statement : line.statement ≡ found.statement
+    fits : Fits found.statement found.move
+    titled : IsTitled found.statement
+    few : lists_too_many before found.statement ≡ false
+    within : is_in_part (location_behind before.location found.move) ≡ true
+
+  not_false : (a b : Bool) → (not a || b) ≡ false → a ≡ true
+  not_false true b e = refl
+  not_false false b e = cc e
+
+  second_false : (a b : Bool) → (not a || b) ≡ false → b ≡ false
+  second_false true b e = e
+  second_false false b e = cc e
+
+  moved_is : (line : Said) (found : Checked) → moved before line ≡ Ok found → Leads line found
+  unfolding moved
+  moved_is line found e =
+      let a = bound (as_expr (move before.names before.location before.reached line.statement)) _ found e in
+      let b = bound (unless (is_too_far before line.statement a.0) Overflow a.0) _ found a.2 in
+      let c = let_through (is_too_far before line.statement a.0) Overflow a.0 b.0 b.1 in
+      let d = let_through (is_bad before line.label line.statement) BadDirective (record { label = line.label; statement = line.statement; move = b.0 }) found b.2 in
+      let said_same : line.statement ≡ found.statement = ap (λ (line : Checked). line.statement) d.1 in
+      let move_same : a.0 ≡ found.move = c.1 ∙ ap (λ (line : Checked). line.move) d.1 in
+      let fits = move_fits before.names before.location before.reached line.statement a.0 (expr_bound _ _ a.1) in
+      let stays = not_false (is_in_part (location_behind before.location a.0)) (lists_too_many before line.statement) c.0 in
+      record {
+        statement = said_same;
+        fits = subst (λ statement. Fits statement found.move) said_same (subst (Fits line.statement) move_same fits);
+        titled = subst IsTitled said_same (named_is line d.0);
+        few = subst (λ statement. lists_too_many before statement ≡ false) said_same
+            (second_false (is_in_part (location_behind before.location a.0)) (lists_too_many before line.statement) c.0);
+        within = subst (λ move. is_in_part (location_behind before.location move) ≡ true) move_same stays;
+      }
+
+  pub checked_said : (text : List ℕ) (found : Checked) → checked before text ≡ Ok found → said_of text ≡ Ok found.statement
+  checked_said text found e =
+      let a = bound (said before text) _ found e in
+      said_is text a.0 a.1 ∙ ap Ok (moved_is a.0 found a.2).statement
+
+  room_by : (location : Location) (statement : Statement) (move : Move) → is_in_part location ≡ true → Fits statement move
+      → is_in_part (location_behind location move) ≡ true → location.number + move.gap + size_said statement ≤ 65536
+  room_by location statement move here (inl (none, le)) there =
+      let behind_it : nat_le (location.number + (move.gap + move.size)) (limit location.part) ≡ true =
+      subst (λ origin. is_in_part (behind (set_or origin location) (move.gap + move.size)) ≡ true) none there in
+      grind (arith, nat_tests, behind_it, limit_le location.part, le)
+  room_by location statement move here (inr (nothing, gap)) there =
+      grind (arith, nat_tests, here, limit_le location.part, nothing, gap)
+
+  -- a line that is let through has room at its place
+  pub checked_room : (text : List ℕ) (found : Checked) → is_in_part before.location ≡ true → checked before text ≡ Ok found
+      → before.location.number + found.move.gap + size_said found.statement ≤ 65536
+  checked_room text found here e =
+      let a = bound (said before text) _ found e in
+      let leads = moved_is a.0 found a.2 in
+      room_by before.location found.statement found.move here leads.fits leads.within
+
+  pub checked_within : (text : List ℕ) (found : Checked) → checked before text ≡ Ok found
+      → is_in_part (location_behind before.location found.move) ≡ true
+  checked_within text found e =
+      let a = bound (said before text) _ found e in
+      (moved_is a.0 found a.2).within
+
+  pub checked_titled : (text : List ℕ) (found : Checked) → checked before text ≡ Ok found → IsTitled found.statement
+  checked_titled text found e =
+      let a = bound (said before text) _ found e in
+      (moved_is a.0 found a.2).titled
+
+  pub checked_few : (text : List ℕ) (found : Checked) → checked before text ≡ Ok found → lists_too_many before found.statement ≡ false
+  checked_few text found e =
+      let a = bound (said before text) _ found e in
+      (moved_is a.0 found a.2).few

@@ -1,0 +1,10 @@
+-- What is known of a line while names are still to come.
+use Rattle.std.specs.Prelude.{Bool, false}
+use Rattle.source_defs.specs.Growing as expressions
+use Rattle.gpl_source_defs.specs.declared.causes.GplCause.{GplCause}
+use Rattle.gpl_source_defs.specs.declared.causes.GplCause.TheVariants.{Expr}
+
+-- a refusal that more names may lift
+abbrev pub is_open : GplCause → Bool
+is_open (Expr error) = expressions.is_open error
+is_open _ = false

@@ -1,0 +1,85 @@
+-- The values of expressions in a GPL source.
+use Rattle.std.specs.Prelude.{ℕ, ◌+◌, ◌-◌, ◌%◌, ◌&&◌, Bool, true, false, nat_le, if◌then◌else◌, List, [], ◌∷◌, Option}
+use Rattle.std.specs.Prelude.{Some, None, Result, Ok, Err}
+use Rattle.source_defs.specs.declared.causes.ExprError.{ExprError}
+use Rattle.source_defs.specs.declared.causes.ExprError.TheVariants.{BadRelocation}
+use Rattle.source_defs.specs.Refusals.{◌>>=◌}
+use Rattle.source_defs.specs.Expression.{Value, Absolute, Relocatable, External, expression}
+use Rattle.gpl_defs.specs.declared.instruction.Space.{Space}
+use Rattle.gpl_defs.specs.declared.instruction.Space.TheVariants.{Cpu, Vdp}
+use Rattle.gpl_defs.specs.declared.instruction.GplOperand.{GplOperand}
+use Rattle.gpl_source_defs.specs.declared.causes.GplCause.{GplCause}
+use Rattle.gpl_source_defs.specs.declared.causes.GplCause.TheVariants.{Expr, BadOperand}
+use Rattle.gpl_source_defs.specs.Forms.{Memory}
+
+-- an expression's refusal is one of the line
+abbrev pub as_expr : {A : Type 0} → Result A ExprError → Result A GplCause
+as_expr (Ok value) = Ok value
+as_expr (Err error) = Err (Expr error)
+
+-- Profile: every name of a GPL source stands for a number, so other values do not come.
+abbrev pub number_in : Value → Result ℕ ExprError
+number_in (Absolute number) = Ok number
+number_in (Relocatable number) = Err BadRelocation
+number_in (External name) = Err BadRelocation
+
+-- GPL Programmer's Guide, operands: the scratchpad begins at >8300.
+abbrev pub scratchpad : ℕ
+scratchpad = 0x8300
+
+-- The address that an operand holds. Profile: one of the processor is an offset from >8300, as is that of a pointer.
+abbrev pub held_address : Space → Bool → ℕ → ℕ
+held_address Vdp false number = number
+held_address Vdp true number = (number + 0x10000 - scratchpad) % 0x10000
+held_address Cpu indirect number = (number + 0x10000 - scratchpad) % 0x10000
+
+-- Profile: the word that is added lies from >8300 to >83FF.
+abbrev pub index_of : ℕ → Result ℕ GplCause
+index_of number =
+    if nat_le scratchpad number && nat_le number (scratchpad + 255) then Ok (number - scratchpad) else Err BadOperand
+
+-- Profile: a byte value is from -128 to 255.
+abbrev pub byte_of : ℕ → Result ℕ GplCause
+byte_of number =
+    if nat_le number 0xFF then Ok number else if nat_le 0xFF80 number then Ok (number % 256) else Err BadOperand
+
+-- the numbers as bytes
+abbrev pub bytes_of : List ℕ → Result (List ℕ) GplCause
+bytes_of [] = Ok []
+bytes_of (number ∷ numbers) = do
+  byte ← byte_of number
+  bytes ← bytes_of numbers
+  Ok (byte ∷ bytes)
+
+-- by what each name stands for, and the address that $ stands for
+module _ (look : List ℕ → Option Value) (here : ℕ) where
+  -- the number that an expression comes to
+  abbrev pub number : List ℕ → Result ℕ GplCause
+  number text = as_expr (expression look (Absolute here) text >>= number_in)
+
+  -- those of expressions, from the left
+  abbrev pub numbers : List (List ℕ) → Result (List ℕ) GplCause
+  numbers [] = Ok []
+  numbers (text ∷ texts) = do
+    first ← number text
+    others ← numbers texts
+    Ok (first ∷ others)
+
+  abbrev pub index_value : Option (List ℕ) → Result (Option ℕ) GplCause
+  index_value None = Ok None
+  index_value (Some text) = do
+    number ← number text
+    index ← index_of number
+    Ok (Some index)
+
+  -- an operand in memory: its address, then its index, whose range is asked at once
+  abbrev pub operand : Memory → Result GplOperand GplCause
+  operand memory = do
+    number ← number memory.address
+    index ← index_value memory.index
+    Ok (record {
+      space = memory.space;
+      indirect = memory.indirect;
+      address = held_address memory.space memory.indirect number;
+      index = index;
+    })

@@ -1,0 +1,3 @@
+pub mod LineRows
+pub mod Windows
+pub mod GrowingLaws

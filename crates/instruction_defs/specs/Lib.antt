@@ -1,0 +1,7 @@
+pub mod Operations
+pub mod Operands
+pub mod Forms
+pub mod FirstChecks
+pub mod SecondChecks
+pub mod Growing
+pub mod Printed

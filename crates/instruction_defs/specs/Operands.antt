@@ -1,0 +1,76 @@
+-- The operands of each operation, in the order of the operand field, and the words that stand behind its first.
+use Rattle.std.specs.Prelude.{ℕ, ◌+◌, ◌==◌, Bool, true, false, if◌then◌else◌, List, [], ◌∷◌}
+use Rattle.tms_defs.specs.declared.instruction.Place.{Place}
+use Rattle.tms_defs.specs.declared.instruction.RegOp.{RegOp}
+use Rattle.tms_defs.specs.declared.instruction.RegOp.TheVariants.{COC, CZC, XOR, XOP, LDCR, STCR, MPY, DIV}
+use Rattle.tms_defs.specs.declared.instruction.JumpOp.{JumpOp}
+use Rattle.tms_defs.specs.declared.instruction.JumpOp.TheVariants.{SBO, SBZ, TB}
+use Rattle.tms_defs.specs.declared.instruction.ImmOp.{ImmOp}
+use Rattle.tms_defs.specs.declared.instruction.ImmOp.TheVariants.{STWP, STST}
+use Rattle.tms_defs.specs.declared.instruction.BareOp.{BareOp}
+use Rattle.tms_defs.specs.declared.instruction.BareOp.TheVariants.{LWPI, LIMI}
+use Rattle.tms_defs.specs.declared.instruction.Operation.{Operation}
+use Rattle.tms_defs.specs.declared.instruction.Operation.TheVariants as operation
+use Rattle.tms_defs.specs.declared.instruction.Instr.{Instr}
+use Rattle.tms_defs.specs.declared.instruction.Instr.TheVariants.{Two, Reg, Shift, One, Jump, Imm, Bare}
+use Rattle.instruction_defs.specs.declared.slot.Slot.{Slot}
+use Rattle.instruction_defs.specs.declared.slot.Slot.TheVariants.{General, Register, Count, Immediate, Target, Displacement}
+
+-- The operation on a register takes a word that follows.
+-- TMS9900 data manual, "Immediate register instructions", "Internal register store instructions".
+abbrev pub has_immediate : ImmOp → Bool
+has_immediate STWP = false
+has_immediate STST = false
+has_immediate _ = true
+
+-- The operation without register takes a word that follows.
+-- TMS9900 data manual, "Internal register load immediate instructions".
+abbrev pub has_value : BareOp → Bool
+has_value LWPI = true
+has_value LIMI = true
+has_value _ = false
+
+-- An operand in mode 2 has a word that follows, its address. TMS9900 data manual, "Addressing modes".
+abbrev pub following_words : Place → ℕ
+following_words place = if place.mode == 2 then 1 else 0
+
+abbrev pub one_if : Bool → ℕ
+one_if true = 1
+one_if false = 0
+
+-- How many words an instruction has: its first, and those of its operands.
+abbrev pub words_of : Instr → ℕ
+words_of (Two op byte dst src) = 1 + following_words src + following_words dst
+words_of (Reg op number src) = 1 + following_words src
+words_of (Shift op count number) = 1
+words_of (One op at) = 1 + following_words at
+words_of (Jump op disp) = 1
+words_of (Imm op number) = 1 + one_if (has_immediate op)
+words_of (Bare op) = 1 + one_if (has_value op)
+
+-- The operands of an operation, in the order of the operand field.
+-- Editor/Assembler manual, "Assembly Language Instructions".
+abbrev pub reg_slots : RegOp → List Slot
+reg_slots COC = General ∷ Register ∷ []
+reg_slots CZC = General ∷ Register ∷ []
+reg_slots XOR = General ∷ Register ∷ []
+reg_slots XOP = General ∷ Count ∷ []
+reg_slots LDCR = General ∷ Count ∷ []
+reg_slots STCR = General ∷ Count ∷ []
+reg_slots MPY = General ∷ Register ∷ []
+reg_slots DIV = General ∷ Register ∷ []
+
+abbrev pub jump_slots : JumpOp → List Slot
+jump_slots SBO = Displacement ∷ []
+jump_slots SBZ = Displacement ∷ []
+jump_slots TB = Displacement ∷ []
+jump_slots op = Target ∷ []
+
+abbrev pub slots_of : Operation → List Slot
+slots_of (operation.Two op byte) = General ∷ General ∷ []
+slots_of (operation.Reg op) = reg_slots op
+slots_of (operation.Shift op) = Register ∷ Count ∷ []
+slots_of (operation.One op) = General ∷ []
+slots_of (operation.Jump op) = jump_slots op
+slots_of (operation.Imm op) = if has_immediate op then Register ∷ Immediate ∷ [] else Register ∷ []
+slots_of (operation.Bare op) = if has_value op then Immediate ∷ [] else []

@@ -1,0 +1,11 @@
+//! The TMS9900's assembler source: its operations by name, the operands of each, the words of an instruction line and
+//! the text of an instruction. The definitions stand in `specs/`.
+#![tactic(auto)]
+
+mod causes;
+mod mnemonic;
+mod slot;
+
+pub use crate::causes::FormError;
+pub use crate::mnemonic::Mnemonic;
+pub use crate::slot::Slot;

@@ -1,0 +1,128 @@
+-- Lines that are known by themselves pass the second checks.
+use Rattle.std.proofs.Common.{◌≡◌, ℕ, ◌+◌, ◌*◌, inl, inr, Bool, true, false, List, [], ◌∷◌, ◌++◌, append_assoc, Some}
+use Rattle.std.proofs.Common.{None, Ok, Err, length, length-append, refl, sym, ap, subst, ◌∙◌, arith}
+use Rattle.std.specs.Prelude.{Option, Result, ◌||◌, is_some, nat_lt, if◌then◌else◌}
+use Rattle.std.specs.Option.{unwrap_or}
+use Rattle.std.proofs.lemmas.Bool.Decides.{nat_tests}
+use Rattle.source_defs.specs.Refusals.{Refusal, ◌>>=◌, at_line}
+use Rattle.source_defs.specs.Symbols.{Names, look_up}
+use Rattle.source_defs.specs.Expression.{Value}
+use Rattle.source_defs.specs.Layout.{settled}
+use Rattle.object_defs.specs.declared.spot.Spot.{Spot}
+use Rattle.asm_defs.specs.declared.causes.AsmCause.{AsmCause}
+use Rattle.asm_defs.specs.declared.causes.AsmCause.TheVariants.{Overflow, Overlap}
+use Rattle.asm_defs.specs.declared.location.Part.{Part}
+use Rattle.asm_defs.specs.declared.location.Part.TheVariants as part
+use Rattle.asm_defs.specs.Locations.{Line, location}
+use Rattle.asm_defs.specs.FirstChecks.{line_of, Checked}
+use Rattle.asm_defs.specs.SecondChecks.{Outcome, Nothing, Words, Bytes, Entry, outcome}
+use Rattle.asm_defs.specs.Memory.{Settled, is_placed, any_from, bytes_in, word_count, overlaps}
+use Rattle.asm_defs.specs.Modules.{settle, settle_at, with_room, entry, entry_by}
+use Rattle.line_laws.specs.KnownLines.{KnownLine, known_line, line_laws, are_plain, is_plain, is_plain_statement}
+use Rattle.line_laws.specs.KnownLines.{words_of, words_in, all_words, are_close, is_at, is_empty}
+use Rattle.line_laws.proofs.Laying.{laid_list, location_more, parts_of, first_of, First}
+use Rattle.line_laws.proofs.Placing.{HoldWords, ComesNext, hold_more, few_words, any_none, stands, size, Stands}
+use Rattle.line_laws.proofs.Small.{both}
+
+abbrev pub as_settled : KnownLine → Settled
+as_settled line = record { at = line.at; outcome = line.outcome }
+
+-- what lines come to behind others
+abbrev pub settled_list : List Settled → List KnownLine → List Settled
+settled_list earlier [] = earlier
+settled_list earlier (line ∷ lines) = settled_list (as_settled line ∷ earlier) lines
+
+pub room_by : (line : Settled) (full overlap : Bool) → full ≡ false → overlap ≡ false → (if full then Err Overflow else if overlap then Err Overlap else Ok line) ≡ Ok line
+room_by line full overlap a b = rw (a, b) refl
+
+-- a line whose words come next has room
+module _ (earlier : List Settled) (line : Settled) (from : ℕ) (words more : List ℕ) (hold : HoldWords [] earlier from words) (next : ComesNext line (from + 2 * length words) more) where
+  overlaps_none : Stands line.at (from + 2 * length words) more → overlaps earlier line ≡ false
+  overlaps_none (inl none) =
+      let empty : bytes_in line.outcome ≡ 0 = omega (arith, size line (from + 2 * length words) more next, none) in
+      ap (any_from (is_placed earlier line.at.part) line.at.number) empty
+  overlaps_none (inr there) =
+      ap (λ (found : Part). any_from (is_placed earlier found) line.at.number (bytes_in line.outcome)) there.0
+      ∙ any_none (is_placed earlier part.Absolute) line.at.number (bytes_in line.outcome) (λ p le lt. hold.free p (omega (arith, le, there.1)))
+
+  pub has_room : with_room earlier line ≡ Ok line
+  has_room =
+      let behind = hold_more line (from + 2 * length words) more next [] earlier from words refl hold in
+      let few = few_words (line ∷ earlier) behind.none in
+      let fits : nat_lt 32768 (word_count (line ∷ earlier)) ≡ false = grind (arith, nat_tests, few) in
+      room_by line _ _ fits (overlaps_none (stands line (from + 2 * length words) more next))
+
+known_words : (found : Option (List ℕ)) → is_some found ≡ true → found ≡ Some (unwrap_or found [])
+known_words (Some words) e = refl
+known_words None e = cc e
+
+kept_entry : (before : Option Spot) (found : Outcome) → is_some (words_of found) ≡ true → entry_by before found ≡ before
+kept_entry before Nothing e = refl
+kept_entry before (Words values) e = refl
+kept_entry before (Bytes bytes) e = cc e
+kept_entry before (Entry spot) e = cc e
+
+pub settled_step : (known : Names) (before : List Line) (earlier : List Settled) (number : ℕ) (found : Checked) (line : Settled) (answer : Result (List Settled) (Refusal AsmCause))
+    → answer ≡ Ok earlier → settle known before earlier (line_of number found) ≡ Ok line
+    → (answer >>= λ earlier. at_line number (settle known before earlier (line_of number found)) >>= λ found. Ok (found ∷ earlier)) ≡ Ok (line ∷ earlier)
+settled_step known before earlier number found line answer is e = rw is (rw e refl)
+
+module _ (look : List ℕ → Option Value) (known : Names) (same : look ≡ look_up known) (from : ℕ) where
+  -- a line behind others
+  pub settle_is : (text : List ℕ) (line : KnownLine) (before : List Line) (number : ℕ) (earlier : List Settled) → known_line look (location before) text ≡ Ok line
+      → with_room earlier (as_settled line) ≡ Ok (as_settled line) → settle known before earlier (line_of number line.found) ≡ Ok (as_settled line)
+  settle_is text line before number earlier e room =
+      let p = parts_of look (location before) text line e in
+      let comes : outcome (look_up known) line.at line.found.statement ≡ Ok line.outcome =
+      subst (λ look. outcome look line.at line.found.statement ≡ Ok line.outcome) same p.comes in
+      subst (λ at. settle_at known at line.found.statement earlier ≡ Ok (as_settled line)) p.stands
+      (ap (λ answer. answer >>= λ found. with_room earlier (record { at = line.at; outcome = found })) comes ∙ room)
+
+  pub record AreSettled (lines : List KnownLine) (before : List Line) (number : ℕ) (earlier : List Settled) (words : List ℕ) : Type 0 where
+    pub settled : settled (settle known) (laid_list before number lines) ≡ Ok (settled_list earlier lines)
+    pub hold : HoldWords [] (settled_list earlier lines) from (words ++ all_words lines)
+    pub entry : entry (settled_list earlier lines) ≡ entry earlier
+
+  abbrev SettlesAll : List (List ℕ) → List KnownLine → Type 0
+  SettlesAll texts lines =
+      (before : List Line) (number : ℕ) (earlier : List Settled) (words : List ℕ) → line_laws look (location before) texts ≡ Ok lines
+      → are_plain lines ≡ true → are_close (from + 2 * length words) lines ≡ true → settled (settle known) before ≡ Ok earlier
+      → HoldWords [] earlier from words → AreSettled lines before number earlier words
+
+  module _ (text : List ℕ) (texts : List (List ℕ)) (line : KnownLine) (others : List KnownLine) (settles : SettlesAll texts others) (before : List Line) (number : ℕ) (earlier : List Settled) (words : List ℕ) where
+    first_settled : First look (location before) text texts line others → are_plain (line ∷ others) ≡ true
+        → are_close (from + 2 * length words) (line ∷ others) ≡ true → settled (settle known) before ≡ Ok earlier
+        → HoldWords [] earlier from words → AreSettled (line ∷ others) before number earlier words
+    first_settled first plain close is hold =
+        let fair = both (is_plain line) (are_plain others) plain in
+        let near = both (is_empty (words_in line) || is_at (from + 2 * length words) line.at) _ close in
+        let some = (both (is_plain_statement line.found.statement) _ fair.0).1 in
+        let next : ComesNext (as_settled line) (from + 2 * length words) (words_in line) = record { words = known_words (words_of line.outcome) some; place = near.0 } in
+        let room = has_room earlier (as_settled line) from words (words_in line) hold next in
+        let behind = hold_more (as_settled line) (from + 2 * length words) (words_in line) next [] earlier from words refl hold in
+        let there = location_more before number line.found in
+        let total : from + 2 * length words + 2 * length (words_in line) ≡ from + 2 * length (words ++ words_in line) = omega (arith, length-append words (words_in line)) in
+        let now = settled_step known before earlier number line.found (as_settled line) (settled (settle known) before) is
+        (settle_is text line before number earlier first.is room) in
+        let rest = settles (line_of number line.found ∷ before) (number + 1) (as_settled line ∷ earlier) (words ++ words_in line)
+        (ap (λ at. line_laws look at texts) there ∙ first.others) fair.1 (ap (λ n. are_close n others) (sym total) ∙ near.1) now behind in
+        record {
+          settled = rest.settled;
+          hold = subst (λ words. HoldWords [] (settled_list (as_settled line ∷ earlier) others) from words) (append_assoc words (words_in line) (all_words others)) rest.hold;
+          entry = rest.entry ∙ kept_entry (entry earlier) line.outcome some;
+        }
+
+  append_none : (items : List ℕ) → items ≡ items ++ []
+  append_none [] = refl
+  append_none (item ∷ items) = ap (λ items. item ∷ items) (append_none items)
+
+  pub are_settled : (texts : List (List ℕ)) (lines : List KnownLine) → SettlesAll texts lines
+  are_settled [] lines before number earlier words e plain close is hold =
+      let none : ◌≡◌ {A = List KnownLine} [] lines = cc e in
+      subst (λ lines. AreSettled lines before number earlier words) none
+      (record { settled = is; hold = subst (HoldWords [] earlier from) (append_none words) hold; entry = refl })
+  are_settled (text ∷ texts) lines before number earlier words e plain close is hold =
+      let f = first_of look (location before) text texts lines e in
+      subst (λ lines. AreSettled lines before number earlier words) (sym f.2)
+      (first_settled text texts f.0 f.1 (are_settled texts f.1) before number earlier words f.3
+      (subst (λ lines. are_plain lines ≡ true) f.2 plain) (subst (λ lines. are_close (from + 2 * length words) lines ≡ true) f.2 close) is hold)

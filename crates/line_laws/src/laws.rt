@@ -1,0 +1,22 @@
+//! Laws of the definitions. Each function does nothing, and its contract is the law.
+
+ghost use Rattle.line_laws.specs.Laws.{KnownLinesHaveTheirWords, KnownLinesStand};
+ghost use Rattle.line_laws.specs.Texts.{FedTextsHaveTheirLines};
+
+/// The module of plain lines that are known by themselves has their words, one behind the other, and nothing else.
+#[tactic(auto, using(crate::proofs::Whole::have_their_words))]
+pub fn known_lines_have_their_words()
+    ensures { KnownLinesHaveTheirWords }
+{}
+
+/// Each of such lines stands where it is known to stand, and comes to what it is known to come to.
+#[tactic(auto, using(crate::proofs::Standing::known_lines_stand))]
+pub fn known_lines_stand()
+    ensures { KnownLinesStand }
+{}
+
+/// The lines of a text whose lines are each ended by a line feed are these lines.
+#[tactic(auto, using(crate::proofs::FedTexts::fed_texts_have_their_lines))]
+pub fn fed_texts_have_their_lines()
+    ensures { FedTextsHaveTheirLines }
+{}

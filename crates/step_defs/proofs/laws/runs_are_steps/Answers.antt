@@ -1,5 +1,0 @@
-use Rattle.step_defs.proofs.RunLaws as law
-use Rattle.step_defs.proofs.laws.runs_are_steps.Goals as goal
-
-pub returns : goal.returns
-returns c = law.runs_are_steps
