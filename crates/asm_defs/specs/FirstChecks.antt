@@ -8,7 +8,7 @@ use Rattle.std.specs.Prelude.{length, map, is_some, Option, Some, None, Result, 
 use Rattle.std.specs.List.{list_any}
 use Rattle.std.specs.Cmp.Lexicographic.{pointwise}
 use Rattle.std.specs.FinMap.{get}
-use Rattle.source_defs.specs.Refusals.{◌>>=◌}
+use Rattle.source_defs.specs.Refusals.{◌>>=◌, unless}
 use Rattle.source_defs.specs.QuotedTexts.{is_quoted}
 use Rattle.source_defs.specs.declared.causes.ExprError.{ExprError}
 use Rattle.source_defs.specs.declared.causes.ExprError.TheVariants.{BadRelocation}
@@ -26,11 +26,6 @@ use Rattle.asm_defs.specs.declared.location.Part.TheVariants as part
 use Rattle.asm_defs.specs.Statements.{Statement, Nothing, Instruction, Aorg, Rorg, Dorg, Bss, Bes, Even, Equ, Data}
 use Rattle.asm_defs.specs.Statements.{Byte, Text, Def, Ref, Idt, Titl, End, statement_in, as_text}
 use Rattle.asm_defs.specs.Locations.{Line, location, reached, behind, to_even, value_of, is_in_part}
-
--- a value, unless something speaks against it
-abbrev pub unless : {A : Type 0} → Bool → AsmCause → A → Result A AsmCause
-unless true cause value = Err cause
-unless false cause value = Ok value
 
 -- an expression's refusal is one of the line
 abbrev pub as_expr : {A : Type 0} → Result A ExprError → Result A AsmCause

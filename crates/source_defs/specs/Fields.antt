@@ -34,12 +34,12 @@ use Rattle.source_defs.specs.declared.text.Span.{Span}
 use Rattle.source_defs.specs.declared.causes.TextError.{TextError}
 use Rattle.source_defs.specs.declared.causes.TextError.TheVariants.{LineTooLong, BadLabel}
 use Rattle.source_defs.specs.Characters.{is_blank, is_quote, is_asterisk, upper_case}
-use Rattle.source_defs.specs.Least.{least_place}
+use Rattle.source_defs.specs.Least.{least_place, end_of}
 use Rattle.source_defs.specs.Names.{is_name}
 
 -- from a place on, the first byte that is no blank, or the line's end
 abbrev pub word_start : List ℕ → ℕ → ℕ
-word_start line from = least_place (λ k. not (is_blank (slice_index line k))) line from
+word_start line from = end_of is_blank line from
 
 -- from a place on, the first blank, or the line's end
 abbrev pub word_end : List ℕ → ℕ → ℕ
