@@ -22,7 +22,7 @@ use Rattle.asm_defs.specs.declared.location.Location.{Location}
 use Rattle.asm_defs.specs.Statements.{Statement, Nothing, Instruction, Aorg, Rorg, Dorg, Bss, Bes, Even, Equ, Data, Byte as ByteLine, Text, Def, Ref, Idt}
 use Rattle.asm_defs.specs.Statements.{Titl, End}
 use Rattle.asm_defs.specs.Locations.{Line, place}
-use Rattle.asm_defs.specs.FirstChecks.{check, names, same_name, checked, known_of, line_of, lists_too_many, has_too_many, defs, refs, defs_in, refs_in}
+use Rattle.asm_defs.specs.FirstChecks.{check, names, checked, known_of, line_of, lists_too_many, has_too_many, defs, refs, defs_in, refs_in}
 use Rattle.asm_defs.specs.SecondChecks.{Outcome, Words, Bytes, Entry, outcome}
 use Rattle.asm_defs.specs.SecondChecks as second
 use Rattle.asm_defs.specs.Memory.{Settled, spot_by, joined, pieces_at, pieces_from, pieces_in, content_at, has_word, words_in, word_count, count_from}
@@ -32,6 +32,7 @@ use Rattle.asm_defs.proofs.CheckLaws.{bound, checked_few}
 use Rattle.module_image.proofs.TableLaws.{count_same, count_none}
 use Rattle.module_image.proofs.HoldingLaws.{content_some}
 use Rattle.count_defs.specs.Counts.{one_if}
+use Rattle.source_defs.specs.Names.{same_text}
 
 -- words stand at even places
 all_append : {A : Type 0} (P : A → Type 0) (first second : List A) → AllByRecursion P first → AllByRecursion P second → AllByRecursion P (first ++ second)
@@ -97,7 +98,7 @@ one_more false first others second rest same = ap suc same
 use_length : (references : List Reference) (name : List ℕ) (at : Spot) → length (with_use references name at) ≡ length references
 use_length [] name at = refl
 use_length (reference ∷ references) name at =
-    one_more (same_name reference.name name) (record { name = reference.name; last = at }) references reference (with_use references name at)
+    one_more (same_text reference.name name) (record { name = reference.name; last = at }) references reference (with_use references name at)
     (use_length references name at)
 
 word_length : (references : List Reference) (at : Spot) (value : Value) → length (behind_word references at value) ≡ length references

@@ -26,6 +26,7 @@ use Rattle.asm_defs.specs.declared.location.Part.TheVariants as part
 use Rattle.asm_defs.specs.Statements.{Statement, Nothing, Instruction, Aorg, Rorg, Dorg, Bss, Bes, Even, Equ, Data}
 use Rattle.asm_defs.specs.Statements.{Byte, Text, Def, Ref, Idt, Titl, End, statement_in, as_text}
 use Rattle.asm_defs.specs.Locations.{Line, location, reached, behind, to_even, value_of, is_in_part}
+use Rattle.source_defs.specs.Names.{same_text}
 
 -- an expression's refusal is one of the line
 abbrev pub as_expr : {A : Type 0} → Result A ExprError → Result A AsmCause
@@ -42,11 +43,8 @@ is_known known name = is_some (get known name)
 abbrev pub any_known : Names → List (List ℕ) → Bool
 any_known known names = list_any (is_known known) names
 
-abbrev pub same_name : List ℕ → List ℕ → Bool
-same_name a b = pointwise nat_eq a b
-
 abbrev pub is_among : List ℕ → List (List ℕ) → Bool
-is_among name others = list_any (λ other. same_name other name) others
+is_among name others = list_any (λ other. same_text other name) others
 
 -- one of some names stands among earlier ones, or twice among them
 abbrev pub repeats : List (List ℕ) → List (List ℕ) → Bool

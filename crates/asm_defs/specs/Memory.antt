@@ -11,9 +11,9 @@ use Rattle.asm_defs.specs.declared.content.Content.TheVariants as content
 use Rattle.asm_defs.specs.declared.location.Location.{Location}
 use Rattle.asm_defs.specs.declared.location.Part.{Part}
 use Rattle.asm_defs.specs.declared.location.Part.TheVariants as part
-use Rattle.asm_defs.specs.FirstChecks.{same_name}
 use Rattle.asm_defs.specs.SecondChecks.{Outcome, Nothing, Words, Bytes, Entry}
 use Rattle.count_defs.specs.Counts.{one_if}
+use Rattle.source_defs.specs.Names.{same_text}
 
 -- a line by its place and what it came to
 pub record Settled : Type 0 where
@@ -87,13 +87,13 @@ overlaps before line = any_from (is_placed before line.at.part) line.at.number (
 abbrev pub last_use : List Reference → List ℕ → Spot
 last_use [] name = spot.Absolute 0
 last_use (reference ∷ references) name =
-    if same_name reference.name name then reference.last else last_use references name
+    if same_text reference.name name then reference.last else last_use references name
 
 -- the last uses behind one more
 abbrev pub with_use : List Reference → List ℕ → Spot → List Reference
 with_use [] name at = []
 with_use (reference ∷ references) name at =
-    if same_name reference.name name
+    if same_text reference.name name
     then record { name = reference.name; last = at } ∷ references
     else reference ∷ with_use references name at
 

@@ -29,6 +29,7 @@ use Rattle.std.specs.Prelude.{
   Result,
   Ok,
   Err,
+  IsFalse,
 }
 use Rattle.source_defs.specs.declared.text.Span.{Span}
 use Rattle.source_defs.specs.declared.causes.TextError.{TextError}
@@ -106,6 +107,6 @@ fields line =
 pub record HasBadLabel (line : List ℕ) : Type 0 where
   pub fits : length line ≤ longest_line
   pub written : 0 < length line
-  pub no_blank : is_blank (slice_index line 0) ≡ false
-  pub no_asterisk : is_asterisk (slice_index line 0) ≡ false
-  pub no_name : is_name (label_field line) ≡ false
+  pub no_blank : IsFalse (is_blank (slice_index line 0))
+  pub no_asterisk : IsFalse (is_asterisk (slice_index line 0))
+  pub no_name : IsFalse (is_name (label_field line))

@@ -1,5 +1,5 @@
 -- The least place with a property.
-use Rattle.std.specs.Prelude.{◌≡◌, ℕ, zero, suc, ◌+◌, ◌-◌, ◌<◌, ◌≤◌, Bool, true, false, not, if◌then◌else◌, List, length}
+use Rattle.std.specs.Prelude.{◌≡◌, ℕ, zero, suc, ◌+◌, ◌-◌, ◌<◌, ◌≤◌, Bool, true, false, not, if◌then◌else◌, List, length, IsTrue, IsFalse}
 use Rattle.std.specs.Prelude.{slice_index}
 
 -- the least of the `count` numbers from `from` on that passes, or the number after them
@@ -19,8 +19,8 @@ end_of is text from = least_place (λ k. not (is (slice_index text k))) text fro
 pub record IsLeastPlace (p : ℕ → Bool) (bytes : List ℕ) (from place : ℕ) : Type 0 where
   pub not_before_start : from ≤ place
   pub not_after_end : place ≤ length bytes
-  pub none_before : (k : ℕ) → from ≤ k → k < place → p k ≡ false
-  pub passes : place < length bytes → p place ≡ true
+  pub none_before : (k : ℕ) → from ≤ k → k < place → IsFalse (p k)
+  pub passes : place < length bytes → IsTrue (p place)
 
 -- the law, which is proved
 abbrev pub LeastPlacesAreLeast : Type 0
