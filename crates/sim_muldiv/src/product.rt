@@ -1,4 +1,4 @@
-//! MUL.
+//! MUL: the product of numbers without sign.
 
 ghost use Rattle.std.specs.Prelude.{◌≡◌};
 ghost use Rattle.sim_rows.specs.Prelude.{Byte, MUL, RunsRow, Stands, Two, view, width_in, Word};

@@ -1,4 +1,4 @@
-//! DIV.
+//! DIV: the quotient and the remainder of numbers without sign.
 
 ghost use Rattle.std.specs.Prelude.{◌<◌, ◌≡◌, ◌≤◌};
 ghost use Rattle.sim_rows.specs.Prelude.{Byte, Comes, DIV, IsVisible, PortsAreIdle, return_of, RunsRow, Stands, Two};

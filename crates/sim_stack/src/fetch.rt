@@ -1,4 +1,4 @@
-//! FETCH.
+//! FETCH: the byte at the return address is stored, and that address goes on.
 
 ghost use Rattle.std.specs.Prelude.{◌<◌, ◌≡◌};
 ghost use Rattle.sim_rows.specs.Prelude.{IsFetched, IsVisible, One, PortsAreIdle, Stands, TurnsRow, view};

@@ -1,4 +1,4 @@
-//! PUSH.
+//! PUSH: a byte goes on the data stack.
 
 ghost use Rattle.std.specs.Prelude.{◌≡◌};
 ghost use Rattle.sim_rows.specs.Prelude.{One, PortsAreIdle, PUSH, Stands, TurnsRow, view};
