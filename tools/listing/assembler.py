@@ -32,7 +32,8 @@ def number(text):
 def value(text, names):
     """The value of an expression with one operator at most."""
     found = re.fullmatch(r'(>?\w+)(?:([+-])(>?\w+))?', text)
-    first, second = (None if it is None else number(it) if number(it) is not None else names[it] for it in found.group(1, 3))
+    numbers = (None if it is None else number(it) for it in found.group(1, 3))
+    first, second = (names.get(it) if at is None else at for it, at in zip(found.group(1, 3), numbers))
     if second is None:
         return first & 0xFFFF
     return (first + second if found.group(2) == '+' else first - second) & 0xFFFF

@@ -30,7 +30,8 @@ def words_file(listing):
         if part.list != '-':
             lines.append(f'    // {part.heading}')
             lines += ['    ' + ' '.join(f'0x{word:04X},' for word in some) for some in chunks(part.words, 12)]
-    lines += ['];', '', '/// The words of the interpreter from `>2000` up.', 'pub fn interpreter_words() -> &\'static [u16]',
+    lines += ['];', '', '/// The words of the interpreter from `>2000` up.',
+              'pub fn interpreter_words() -> &\'static [u16]',
               '    ensures { result.now ≡ spec.words }', '{', '    &INTERP', '}', '']
     return '\n'.join(lines)
 
@@ -85,8 +86,9 @@ def all_words_file(listing):
     lines += [f'use Rattle.native_interp.specs.{group.file}Words as {group.prefix}' for group in listing.groups]
     lines += ['', '-- the address of the first word', 'abbrev pub origin : ℕ', 'origin = ORIGIN']
     for group in listing.groups:
-        items = [f'({part.label}, {part.group.prefix}.{part.list}) ∷' for part in group.parts if part.list != '-'] + ['[]']
-        lines += ['', f'-- {group.about}', f'abbrev pub {group.name} : List (ℕ × List ℕ)', f'{group.name} ='] + filled(items)
+        items = [f'({part.label}, {group.prefix}.{part.list}) ∷' for part in group.parts if part.list != '-'] + ['[]']
+        lines += ['', f'-- {group.about}', f'abbrev pub {group.name} : List (ℕ × List ℕ)', f'{group.name} =']
+        lines += filled(items)
     names = [group.name for group in listing.groups]
     joined = ' ++ ('.join(names[:-1]) + f' ++ {names[-1]}' + ')' * (len(names) - 2)
     lines += [
@@ -141,8 +143,8 @@ use Rattle.asm_defs.specs.Statements.{statement_in}
 use Rattle.asm_defs.specs.FirstChecks.{said, moved}
 use Rattle.asm_defs.specs.SecondChecks.{outcome}
 use Rattle.line_table.proofs.Blocks.{Block}'''
-OPENED = ('unfolding mnemonic form_of first_checks second_checks token_at tokens_from in_quotes operands_from fields registers '
-          'directive statement_in said moved outcome')
+OPENED = ('unfolding mnemonic form_of first_checks second_checks token_at tokens_from in_quotes operands_from fields '
+          'registers directive statement_in said moved outcome')
 FILES = ['FirstBlocks', 'SecondBlocks', 'ThirdBlocks']
 
 
@@ -152,9 +154,11 @@ def shared(found):
 
 
 def blocks_file(found):
-    lines = [f'-- {WRITTEN}', '-- Blocks of the source\'s lines: each line by itself comes to what its row says.'] + BLOCK_USES.split('\n')
+    lines = [f'-- {WRITTEN}', '-- Blocks of the source\'s lines: each line by itself comes to what its row says.']
+    lines += BLOCK_USES.split('\n')
     for first, count, named, names in found:
-        lines += ['', f'pub lines_{first:03} : Block {first} {count} {named} {names}', OPENED, f'lines_{first:03} = refl']
+        name = f'lines_{first:03}'
+        lines += ['', f'pub {name} : Block {first} {count} {named} {names}', OPENED, f'{name} = refl']
     return '\n'.join(lines) + '\n'
 
 
@@ -174,7 +178,8 @@ def chain_file(listing):
              'use Rattle.line_table.proofs.Fronts.{Front, none_yet, with_block}']
     for file, some in zip(FILES, shared(found)):
         if some:
-            lines.append(f'use Rattle.line_table.proofs.{file}.{{' + ', '.join(f'lines_{block[0]:03}' for block in some) + '}')
+            names = ', '.join(f'lines_{block[0]:03}' for block in some)
+            lines.append(f'use Rattle.line_table.proofs.{file}.{{{names}}}')
     before = 'none_yet'
     for first, count, named, names in found:
         name = f'to_{first + count:03}'
@@ -196,5 +201,6 @@ def files(listing):
     }
     found.update({f'{NATIVE}/specs/{group.file}Words.antt': list_file(group) for group in listing.groups})
     found.update({f'{TABLE}/src/rows/{group}.rt': rows_file(listing, group) for group in ROWS})
-    found.update({f'{TABLE}/proofs/{file}.antt': blocks_file(some) for file, some in zip(FILES, shared(blocks(listing)))})
+    for file, some in zip(FILES, shared(blocks(listing))):
+        found[f'{TABLE}/proofs/{file}.antt'] = blocks_file(some)
     return found

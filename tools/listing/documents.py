@@ -1,6 +1,4 @@
 """The columns of docs/INTERPRETER.md that follow from the listing, and docs/OPERATIONS.md."""
-import re
-
 from . import operations, pieces
 from .source import TOP
 
@@ -48,7 +46,8 @@ def table(page, head, rows):
 
 def memory_rows(listing):
     places = [listing.origin if label == 'ORIGIN' else listing.names[label] for label, _ in MEMORY] + [listing.behind]
-    return [f'| `>{at:04X}` | {about} | {(behind - at) // 2} |' for at, behind, (_, about) in zip(places, places[1:], MEMORY)]
+    return [f'| `>{at:04X}` | {about} | {(behind - at) // 2} |'
+            for at, behind, (_, about) in zip(places, places[1:], MEMORY)]
 
 
 def piece_rows(old, found):
@@ -61,7 +60,8 @@ def piece_rows(old, found):
             raise SystemExit(f'tools/interpreter: docs/INTERPRETER.md has a row for no piece: {about}')
         function = f'`{piece.function}`' if piece.crate == crate else f'`{piece.crate}`, `{piece.function}`'
         crate = piece.crate
-        rows.append(f'| {about} | `>{piece.place:04X}` | {piece.most} | {len(piece.ways)} | {", ".join(piece.ends)} | {function} |')
+        told = f'`>{piece.place:04X}` | {piece.most} | {len(piece.ways)} | {", ".join(piece.ends)}'
+        rows.append(f'| {about} | {told} | {function} |')
     if left:
         raise SystemExit('tools/interpreter: docs/INTERPRETER.md has no row for the pieces ' + ', '.join(left))
     return rows

@@ -3,9 +3,9 @@ import re
 
 from .source import TOP
 
-STEP, ARITHMETIC, COPY, FLOW = (f'crates/gpl_step_defs/specs/{it}.antt' for it in ('Step', 'Arithmetic', 'Copy', 'Flow'))
-ROUTINES = ['WHERE', 'SEEK', 'FETCH', 'ADDR', 'APTR', 'INDEX', 'ASPACE', 'LOAD', 'LDATA', 'STREAM', 'STORE', 'SDATA', 'SREG',
-            'COUNT']
+STEP, ARITHMETIC = (f'crates/gpl_step_defs/specs/{it}.antt' for it in ('Step', 'Arithmetic'))
+ROUTINES = ['WHERE', 'SEEK', 'FETCH', 'ADDR', 'APTR', 'INDEX', 'ASPACE', 'LOAD', 'LDATA', 'STREAM', 'STORE', 'SDATA',
+            'SREG', 'COUNT']
 TAILS = ['STO', 'SHOW', 'GOTO', 'TAKE', 'RESUME', 'CTRUE', 'CFALSE', 'GSTEP', 'GSTOP', 'GEXIT']
 ROWS = ['ROW', 'WIDE', 'OPS', 'OPSDST', 'OPSVAL', 'OPVAL', 'GO']
 STEPS = ['GBOOT', 'GSTEP', 'GKEEP', 'GBYTE', 'GCODE', 'UNKN']
@@ -75,7 +75,8 @@ def definition(kind, name):
     words = [(word, home(word)) for word in dict.fromkeys(re.findall(r'[a-z_]{4,}', text.partition('=')[2]))]
     words = [(word, place) for word, place in words if place and word not in ('state', 'plain')]
     if words:
-        lines[0] = lines[0][:-1] + '; ' + ', '.join(f'`{word}` in {place.split("/")[-1]}' for word, place in words) + '.'
+        homes = ', '.join(f'`{word}` in {place.split("/")[-1]}' for word, place in words)
+        lines[0] = f'{lines[0][:-1]}; {homes}.'
     return lines
 
 
@@ -154,7 +155,8 @@ class Edit:
 
 def edits():
     paths = sorted((TOP / 'crates').glob('sim_*/must-fail/*.edit')) + sorted((TOP / 'more-edits').glob('sim_*/*.edit'))
-    paths += sorted((TOP / 'crates/native_interp/must-fail').glob('*.edit')) + sorted((TOP / 'more-edits/native_interp').glob('*.edit'))
+    for folder in ('crates/native_interp/must-fail', 'more-edits/native_interp'):
+        paths += sorted((TOP / folder).glob('*.edit'))
     return [Edit(path) for path in paths]
 
 
@@ -175,8 +177,8 @@ def edits_of(listing, found, labels, kind, name, every):
 
 def edits_beside(crate, kept, every):
     """Those of a family that turn no piece and name no operation."""
-    return [edit for edit in every if edit.crate == crate and edit not in kept and not re.search(r'(Op|Name)::\w+', edit.old)
-            and not edit.file.endswith('pieces.rt')]
+    return [edit for edit in every if edit.crate == crate and edit not in kept
+            and not re.search(r'(Op|Name)::\w+', edit.old) and not edit.file.endswith('pieces.rt')]
 
 
 def section(listing, found, kind, name, code, count, every):
@@ -190,14 +192,15 @@ def section(listing, found, kind, name, code, count, every):
     lines = ['', f'## {"MOVE " + MOVES[name] if moves else name}', '', f'- Code bytes: {bytes_of(code, count)}.']
     lines += definition(kind, name)
     if row:
-        lines.append(f'- Entry: TABLE leads to {entry_table}, which loads the operands, and OPTAB to {entry} at `>{found[entry].place:04X}`.')
+        lines.append(f'- Entry: TABLE leads to {entry_table}, which loads the operands, and OPTAB to {entry} at '
+                     f'`>{found[entry].place:04X}`.')
     else:
         lines.append(f'- Entry: TABLE leads to {entry} at `>{found[entry].place:04X}`.')
     if tails:
         lines.append(f'- It ends by {", ".join(tails)}.')
     run, test, path = family(found[entry].crate)
-    lines.append(f'- Proved by the contract of `{run}`, in {path}: from the dispatch of an operation of `{test}` it runs to the')
-    lines.append('  end of the step and leaves what the definition says (`Turned`).')
+    lines.append(f'- Proved by the contract of `{run}`, in {path}: from the dispatch of an operation of `{test}`')
+    lines.append('  it runs to the end of the step and leaves what the definition says (`Turned`).')
     own = edits_of(listing, found, labels, kind, name, every)
     if own:
         lines.append('- Refused: ' + ', '.join(edit.name for edit in own) + '.')
@@ -214,7 +217,8 @@ def page(listing, found):
     lines = HEAD.rstrip('\n').split('\n')
     for kind, name, code, count in operations():
         lines += section(listing, found, kind, name, code, count, every)
-    shared = [('The step and its dispatch', STEPS), ('Operands of a row', ROWS), ('Routines', ROUTINES), ('Ends', TAILS)]
+    shared = [('The step and its dispatch', STEPS), ('Operands of a row', ROWS), ('Routines', ROUTINES),
+              ('Ends', TAILS)]
     for about, labels in shared:
         labels = [label for label in labels if label in found and not (about == 'Ends' and label in STEPS)]
         lines += ['', f'## {about}', '', 'Shared by the operations.', ''] + words_table(found, labels) + ['']

@@ -15,7 +15,8 @@ class Piece:
         self.crate, self.file, self.function, self.label = crate, file, function, label
         self.place, self.declared = listing.names[label], ends
         self.ways = list(ways(listing, self.place, ends))
-        self.lines = sorted({line.place: line for way in self.ways for line in way[0]}.values(), key=lambda line: line.place)
+        by_place = {line.place: line for way in self.ways for line in way[0]}
+        self.lines = [line for _, line in sorted(by_place.items())]
 
     @property
     def most(self):

@@ -20,7 +20,7 @@ def rows(listing):
 def part(text, listing, found):
     """A text with the rows in it as they are now: the last row for one that was the last, and the entry."""
     entry = f'>{listing.names["GBOOT"]:04X}'
-    text = re.sub(r'(entry |from )>2[0-9A-F]{3}\b', lambda it: f'{it.group(1)}{entry}' if it.group() != 'from >2000' else it.group(), text)
+    text = re.sub(r'(entry |from )>2(?!000)[0-9A-F]{3}\b', rf'\1{entry}', text)
 
     def row(it):
         at = int(it.group(1), 16)
