@@ -1,6 +1,6 @@
 //! The second checks of a line, and what it places.
 
-ghost use Rattle.std.specs.Prelude.{◌≡◌, ◌≤◌, Ok, IsSome, IsOk, map, IfOk, true, length};
+ghost use Rattle.std.specs.Prelude.{◌≡◌, ◌≤◌, map, IfOk, true, length};
 ghost use Rattle.source_defs.specs.Symbols.{look_up};
 ghost use Rattle.asm_text.specs.GivenValues.{defined_value};
 ghost use Rattle.source_defs.specs.Operands.{operand_texts};
@@ -99,7 +99,6 @@ impl Scope<'_> {
     }
 
     /// The words of an instruction, of which the first checks left this.
-    #[inline(never)]
     #[tactic(auto, using(crate::proofs::Failures::form_fails))]
     fn instruction_outcome(&self, skeleton: &Skeleton<'_>) -> Result<Outcome, Failure>
         ensures { Gives defined_outcome result

@@ -84,7 +84,6 @@ pub fn statement_in<'a>(
 }
 
 /// An instruction with its operands.
-#[inline(never)]
 fn instruction_statement<'a>(
     operation: &'a [u8],
     field: &'a [u8],
