@@ -22,15 +22,17 @@ use Rattle.asm_defs.specs.declared.location.Location.{Location}
 use Rattle.asm_defs.specs.Statements.{Statement, Nothing, Instruction, Aorg, Rorg, Dorg, Bss, Bes, Even, Equ, Data, Byte as ByteLine, Text, Def, Ref, Idt}
 use Rattle.asm_defs.specs.Statements.{Titl, End}
 use Rattle.asm_defs.specs.Locations.{Line, place}
-use Rattle.asm_defs.specs.FirstChecks.{check, names, same_name, checked, known_of, line_of, lists_too_many, has_too_many, defs, refs, defs_in, refs_in}
+use Rattle.asm_defs.specs.FirstChecks.{check, names, checked, known_of, line_of, lists_too_many, has_too_many, defs, refs, defs_in, refs_in}
 use Rattle.asm_defs.specs.SecondChecks.{Outcome, Words, Bytes, Entry, outcome}
 use Rattle.asm_defs.specs.SecondChecks as second
-use Rattle.asm_defs.specs.Memory.{Settled, spot_by, joined, pieces_at, pieces_from, pieces_in, content_at, is_word, words_in, word_count, count_from, one_if}
+use Rattle.asm_defs.specs.Memory.{Settled, spot_by, joined, pieces_at, pieces_from, pieces_in, content_at, has_word, words_in, word_count, count_from}
 use Rattle.asm_defs.specs.Memory.{part_words, with_use, behind_word, behind_words, behind_by, references_of, is_placed_in, is_placed, overlaps}
 use Rattle.asm_defs.specs.Modules.{settle, module_by, module_of, definition_in, unused}
 use Rattle.asm_defs.proofs.CheckLaws.{bound, checked_few}
 use Rattle.module_image.proofs.TableLaws.{count_same, count_none}
 use Rattle.module_image.proofs.HoldingLaws.{content_some}
+use Rattle.count_defs.specs.Counts.{one_if}
+use Rattle.source_defs.specs.Names.{same_text}
 
 -- words stand at even places
 all_append : {A : Type 0} (P : A → Type 0) (first second : List A) → AllByRecursion P first → AllByRecursion P second → AllByRecursion P (first ++ second)
@@ -60,10 +62,10 @@ joined_length (Some (Byte byte)) low = refl
 joined_length (Some (First word)) low = refl
 joined_length (Some Second) low = refl
 
-abbrev has_word : (ℕ → Option Content) → ℕ → Bool
-has_word content w = is_some (content (2 * w)) || is_some (content (2 * w + 1))
+abbrev holds_word : (ℕ → Option Content) → ℕ → Bool
+holds_word content w = is_some (content (2 * w)) || is_some (content (2 * w + 1))
 
-pieces_length : (content : ℕ → Option Content) (at : Part) (first n : ℕ) → length (pieces_from content at first n) ≡ count_from (has_word content) first n
+pieces_length : (content : ℕ → Option Content) (at : Part) (first n : ℕ) → length (pieces_from content at first n) ≡ count_from (holds_word content) first n
 pieces_length content at first zero = refl
 pieces_length content at first (suc n) =
     let words = joined (content (2 * first)) (content (2 * first + 1)) in
@@ -76,7 +78,7 @@ pieces_length content at first (suc n) =
     )
 
 module _ (start : List Reference) (lines : List Settled) where
-  some_word : (at : Part) (w : ℕ) → has_word (content_at start lines at) w ≡ is_word lines at w
+  some_word : (at : Part) (w : ℕ) → holds_word (content_at start lines at) w ≡ has_word lines at w
   some_word at w =
       ap (λ b. b || is_some (content_at start lines at (2 * w + 1))) (content_some start lines at (2 * w))
       ∙ ap (λ b. is_placed lines at (2 * w) || b) (content_some start lines at (2 * w + 1))
@@ -85,7 +87,7 @@ module _ (start : List Reference) (lines : List Settled) where
   unfolding part_words
   pieces_count at =
       pieces_length (content_at start lines at) at 0 32768
-      ∙ count_same (is_word lines at) (has_word (content_at start lines at)) 0 32768 (λ w le. some_word at w)
+      ∙ count_same (has_word lines at) (holds_word (content_at start lines at)) 0 32768 (λ w le. some_word at w)
 
 -- there are as many last uses as names of REF
 one_more : {A : Type 0} (b : Bool) (first : A) (others : List A) (second : A) (rest : List A) → length rest ≡ length others
@@ -96,7 +98,7 @@ one_more false first others second rest same = ap suc same
 use_length : (references : List Reference) (name : List ℕ) (at : Spot) → length (with_use references name at) ≡ length references
 use_length [] name at = refl
 use_length (reference ∷ references) name at =
-    one_more (same_name reference.name name) (record { name = reference.name; last = at }) references reference (with_use references name at)
+    one_more (same_text reference.name name) (record { name = reference.name; last = at }) references reference (with_use references name at)
     (use_length references name at)
 
 word_length : (references : List Reference) (at : Spot) (value : Value) → length (behind_word references at value) ≡ length references
@@ -197,7 +199,7 @@ settled_room : (known : Names) (lines : List Line) (found : List Settled) → se
 settled_room known [] found e =
     let same : [] ≡ found = cc e in
     subst (λ (lines : List Settled). word_count lines ≤ 32768) same
-    (omega (arith, count_none (is_word [] part.Relocatable) 0 part_words (λ w. refl), count_none (is_word [] part.Absolute) 0 part_words (λ w. refl)))
+    (omega (arith, count_none (has_word [] part.Relocatable) 0 part_words (λ w. refl), count_none (has_word [] part.Absolute) 0 part_words (λ w. refl)))
 settled_room known (line ∷ before) found e =
     let a = bound (settled (settle known) before) _ found e in
     let b = bound (at_line line.number (settle known before a.0 line)) _ found a.2 in

@@ -3,7 +3,7 @@ use Rattle.std.specs.Prelude.{◌≡◌, ℕ, List, Ok}
 use Rattle.std.specs.List.{AllByRecursion}
 use Rattle.object_defs.specs.Modules.{Module, HasText}
 use Rattle.asm_defs.specs.Modules.{module_of_source, module_of_lines}
-use Rattle.ended_lines.specs.Texts.{IsOneLine, text_of}
+use Rattle.source_defs.specs.EndedLines.{IsOneLine, text_of}
 
 -- the law, which is proved: it can be written as object text
 abbrev pub ModulesHaveTexts : Type 0

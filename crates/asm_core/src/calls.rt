@@ -6,7 +6,7 @@ ghost use Rattle.source_defs.specs.Layout.{has_ended};
 ghost use Rattle.asm_defs.specs.Modules.{module_of_lines, module_of_source, title};
 ghost use Rattle.asm_core.specs.Building.{HasTaken, IsOpen, CanCount};
 ghost use Rattle.asm_core.specs.Finishing.{TakesText, GivesModule};
-ghost use Rattle.ended_lines.specs.Texts.{IsOneLine, text_of};
+ghost use Rattle.source_defs.specs.EndedLines.{IsOneLine, text_of};
 
 use crate::error::AsmError;
 use crate::lines::AsmLines;

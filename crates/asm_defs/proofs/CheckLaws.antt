@@ -5,7 +5,7 @@ use Rattle.std.proofs.Common.{inl, inr}
 use Rattle.source_defs.specs.declared.causes.ExprError.{ExprError}
 use Rattle.asm_defs.specs.declared.causes.AsmCause.TheVariants.{DuplicateLabel, Overflow, BadDirective}
 use Rattle.std.proofs.lemmas.Bool.Decides.{nat_tests}
-use Rattle.source_defs.specs.Refusals.{◌>>=◌}
+use Rattle.source_defs.specs.Refusals.{◌>>=◌, unless}
 use Rattle.source_defs.specs.QuotedTexts.{is_quoted}
 use Rattle.source_defs.specs.Fields.{fields}
 use Rattle.source_defs.specs.Symbols.{Names}
@@ -17,7 +17,7 @@ use Rattle.asm_defs.specs.declared.location.Location.{Location}
 use Rattle.asm_defs.specs.Statements.{Statement, Nothing, Instruction, Aorg, Rorg, Dorg, Bss, Bes, Even, Equ, Data, Byte, Text, Def, Ref, Idt, Titl, End}
 use Rattle.asm_defs.specs.Statements.{said_of, statement_in, as_text}
 use Rattle.asm_defs.specs.Locations.{behind, is_in_part, limit}
-use Rattle.asm_defs.specs.FirstChecks.{Before, Said, Checked, Move, unless, any_known, label_in, is_taken, refs_in, said, moved, checked, move, as_expr}
+use Rattle.asm_defs.specs.FirstChecks.{Before, Said, Checked, Move, any_known, label_in, is_taken, refs_in, said, moved, checked, move, as_expr}
 use Rattle.asm_defs.specs.FirstChecks.{is_too_far, lists_too_many, is_bad, is_title, location_behind, absolute_in, value, number_in, known_here}
 use Rattle.asm_defs.specs.Growing.{size_said}
 

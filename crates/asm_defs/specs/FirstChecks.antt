@@ -8,7 +8,7 @@ use Rattle.std.specs.Prelude.{length, map, is_some, Option, Some, None, Result, 
 use Rattle.std.specs.List.{list_any}
 use Rattle.std.specs.Cmp.Lexicographic.{pointwise}
 use Rattle.std.specs.FinMap.{get}
-use Rattle.source_defs.specs.Refusals.{◌>>=◌}
+use Rattle.source_defs.specs.Refusals.{◌>>=◌, unless}
 use Rattle.source_defs.specs.QuotedTexts.{is_quoted}
 use Rattle.source_defs.specs.declared.causes.ExprError.{ExprError}
 use Rattle.source_defs.specs.declared.causes.ExprError.TheVariants.{BadRelocation}
@@ -26,11 +26,7 @@ use Rattle.asm_defs.specs.declared.location.Part.TheVariants as part
 use Rattle.asm_defs.specs.Statements.{Statement, Nothing, Instruction, Aorg, Rorg, Dorg, Bss, Bes, Even, Equ, Data}
 use Rattle.asm_defs.specs.Statements.{Byte, Text, Def, Ref, Idt, Titl, End, statement_in, as_text}
 use Rattle.asm_defs.specs.Locations.{Line, location, reached, behind, to_even, value_of, is_in_part}
-
--- a value, unless something speaks against it
-abbrev pub unless : {A : Type 0} → Bool → AsmCause → A → Result A AsmCause
-unless true cause value = Err cause
-unless false cause value = Ok value
+use Rattle.source_defs.specs.Names.{same_text}
 
 -- an expression's refusal is one of the line
 abbrev pub as_expr : {A : Type 0} → Result A ExprError → Result A AsmCause
@@ -47,11 +43,8 @@ is_known known name = is_some (get known name)
 abbrev pub any_known : Names → List (List ℕ) → Bool
 any_known known names = list_any (is_known known) names
 
-abbrev pub same_name : List ℕ → List ℕ → Bool
-same_name a b = pointwise nat_eq a b
-
 abbrev pub is_among : List ℕ → List (List ℕ) → Bool
-is_among name others = list_any (λ other. same_name other name) others
+is_among name others = list_any (λ other. same_text other name) others
 
 -- one of some names stands among earlier ones, or twice among them
 abbrev pub repeats : List (List ℕ) → List (List ℕ) → Bool

@@ -11,8 +11,9 @@ use Rattle.asm_defs.specs.declared.content.Content.TheVariants as content
 use Rattle.asm_defs.specs.declared.location.Location.{Location}
 use Rattle.asm_defs.specs.declared.location.Part.{Part}
 use Rattle.asm_defs.specs.declared.location.Part.TheVariants as part
-use Rattle.asm_defs.specs.FirstChecks.{same_name}
 use Rattle.asm_defs.specs.SecondChecks.{Outcome, Nothing, Words, Bytes, Entry}
+use Rattle.count_defs.specs.Counts.{one_if}
+use Rattle.source_defs.specs.Names.{same_text}
 
 -- a line by its place and what it came to
 pub record Settled : Type 0 where
@@ -54,16 +55,12 @@ is_placed [] part p = false
 is_placed (line ∷ before) part p = covers line part p || is_placed before part p
 
 -- a byte of a word was placed, by the word's number
-abbrev pub is_word : List Settled → Part → ℕ → Bool
-is_word lines part w = is_placed lines part (2 * w) || is_placed lines part (2 * w + 1)
+abbrev pub has_word : List Settled → Part → ℕ → Bool
+has_word lines part w = is_placed lines part (2 * w) || is_placed lines part (2 * w + 1)
 
 -- how many words a part has
 unfoldable pub part_words : ℕ
 part_words = 32768
-
-abbrev pub one_if : Bool → ℕ
-one_if true = 1
-one_if false = 0
 
 -- how many of some numbers have a property, and whether one has; they count from the first on
 abbrev pub count_from : (ℕ → Bool) → ℕ → ℕ → ℕ
@@ -76,7 +73,7 @@ any_from has first (suc count) = has first || any_from has (first + 1) count
 
 -- how many words of a part are placed
 abbrev pub words_in : List Settled → Part → ℕ
-words_in lines part = count_from (is_word lines part) 0 part_words
+words_in lines part = count_from (has_word lines part) 0 part_words
 
 -- how many words are placed
 abbrev pub word_count : List Settled → ℕ
@@ -90,13 +87,13 @@ overlaps before line = any_from (is_placed before line.at.part) line.at.number (
 abbrev pub last_use : List Reference → List ℕ → Spot
 last_use [] name = spot.Absolute 0
 last_use (reference ∷ references) name =
-    if same_name reference.name name then reference.last else last_use references name
+    if same_text reference.name name then reference.last else last_use references name
 
 -- the last uses behind one more
 abbrev pub with_use : List Reference → List ℕ → Spot → List Reference
 with_use [] name at = []
 with_use (reference ∷ references) name at =
-    if same_name reference.name name
+    if same_text reference.name name
     then record { name = reference.name; last = at } ∷ references
     else reference ∷ with_use references name at
 

@@ -10,7 +10,7 @@ use Rattle.asm_defs.specs.declared.causes.AsmCause.{AsmCause}
 use Rattle.asm_defs.specs.Locations.{Line}
 use Rattle.asm_defs.specs.FirstChecks.{check}
 use Rattle.asm_defs.specs.Modules.{module_behind, module_of_lines, module_of_source}
-use Rattle.ended_lines.specs.Texts.{text_of}
+use Rattle.source_defs.specs.EndedLines.{text_of}
 use Rattle.shelf_defs.specs.Files.{Files}
 use Rattle.shelf_defs.specs.Copied.{PlacedLine, CopyRefusal, Ending, Open, Ended, Refused, Copied, copied, lines_in, copy_line}
 use Rattle.shelf_defs.specs.Assembly.{texts, in_place, unless_refused, laid_copied, module_of_copied, module_of_files}

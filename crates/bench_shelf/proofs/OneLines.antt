@@ -10,7 +10,7 @@ use Rattle.source_defs.specs.Lines.{part, lines}
 use Rattle.source_defs.specs.LineLaw.{IsLine}
 use Rattle.source_defs.specs.Layout.{line_texts}
 use Rattle.source_defs.proofs.LineLaws.{lines_are_lines}
-use Rattle.ended_lines.specs.Texts.{IsOneLine}
+use Rattle.source_defs.specs.EndedLines.{IsOneLine}
 use Rattle.shelf_defs.specs.Files.{Files}
 use Rattle.shelf_defs.specs.CopyLines.{Asked, Itself, File, Bad, asked}
 use Rattle.shelf_defs.specs.Copied.{Place, PlacedLine, Ending, Open, Ended, Refused, Copied, then_by, lines_in, copy_line, copied_file, copied, asked_line, most_bytes, most_copies}

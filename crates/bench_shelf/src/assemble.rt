@@ -2,7 +2,7 @@
 
 ghost use Rattle.std.specs.Prelude.{◌≡◌, ◌≤◌, ◌+◌, ◌*◌, Ok, IfSome, IfOk, IfErr, OnOk, length};
 ghost use Rattle.count_defs.specs.Counts.{raised};
-ghost use Rattle.ended_lines.specs.Texts.{text_of};
+ghost use Rattle.source_defs.specs.EndedLines.{text_of};
 ghost use Rattle.asm_defs.specs.Modules.{module_of_source};
 ghost use Rattle.object_tags.specs.Seen.{defined_module};
 ghost use Rattle.shelf_defs.specs.Copied.{copied, most_bytes, most_copies};

@@ -74,7 +74,7 @@ impl Bus {
     }
 
     /// Reads the word that holds an address: the lowest address bit is ignored (TMS9900 data manual, "Registers and
-    /// memory"). By this project's own rule a port stops it, with the port's address; nothing ever changes.
+    /// memory"). Profile: a port stops it, with the port's address; nothing ever changes.
     #[inline]
     pub fn read_word(&mut self, at: u16) -> Result<u16, PortStop>
         ensures word { answer_of result ≡ word_read self.old at }
@@ -147,7 +147,7 @@ impl Bus {
     }
 
     /// Reads the byte at an address; a port may change by it (Editor/Assembler manual, on the memory of the computer).
-    /// By this project's own rule a port for writing, and an address that leads nowhere, give 0.
+    /// Profile: a port for writing, and an address that leads nowhere, give 0.
     #[inline]
     pub fn read_byte(&mut self, at: u16) -> u8
         ensures { (result, self.new) ≡ byte_read self.old at }
@@ -166,7 +166,7 @@ impl Bus {
     }
 
     /// Writes the byte at an address. A write to the console ROM changes nothing (Editor/Assembler manual, on the
-    /// memory of the computer). By this project's own rules no read comes before it, and a write to a port for reading,
+    /// memory of the computer). Profile: no read comes before it, and a write to a port for reading,
     /// to the GROM's data port and to an address that leads nowhere changes nothing.
     #[inline]
     pub fn write_byte(&mut self, at: u16, byte: u8)
@@ -272,8 +272,8 @@ impl Bus {
     }
 }
 
-/// One of the eight ports stands at the address (Editor/Assembler manual, on VDP and GROM access). By this project's
-/// own rule each stands at one address only, and none at an odd one.
+/// One of the eight ports stands at the address (Editor/Assembler manual, on VDP and GROM access).
+/// Profile: each stands at one address only, and none at an odd one.
 #[inline]
 pub fn is_port(at: u16) -> bool
     ensures { result ≡ is_port_address at }

@@ -1,4 +1,3 @@
-pub mod GromLaws
 pub mod MemoryLaws
 pub mod RefusalLaws
 pub mod RunLaws

@@ -1,6 +1,7 @@
 -- Laws about the memory map.
 use Rattle.std.proofs.Common.{◌≡◌, ◌<◌, ◌≤◌, ℕ, ◌+◌, ◌-◌, ◌%◌, Bool, true, false, nat_lt, arith, refl, ap, sym, ◌∙◌}
 use Rattle.std.proofs.Common.{Option, Some, None}
+use Rattle.std.specs.Prelude.{if◌then◌else◌}
 use Rattle.std.proofs.lemmas.Bool.{ltb-true, ltb-false, lt-ltb}
 use Rattle.tms_defs.specs.Words.{high, low, join, even}
 use Rattle.tms_defs.specs.Accesses.{Answer, Gives, AtPort, ◌>>=◌}
@@ -38,23 +39,12 @@ beside_port None = refl
 -- The region by its five tests.
 abbrev region_by_tests : Bool → Bool → Bool → Bool → Bool → ℕ → Region
 region_by_tests rom low gap scratchpad ports address =
-    elim rom [
-      | true ↦ Rom address
-      | false ↦
-          elim low [
-            | true ↦ LowExpansion (address - 0x2000)
-            | false ↦
-                elim gap [
-                  | true ↦ Unmapped
-                  | false ↦
-                      elim scratchpad [
-                        | true ↦ Scratchpad (address % 256)
-                        | false ↦ elim ports
-                            [ true ↦ port_region (port_at address) | false ↦ HighExpansion (address - 0xA000) ]
-                      ]
-                ]
-          ]
-    ]
+    if rom then Rom address
+    else if low then LowExpansion (address - 0x2000)
+    else if gap then Unmapped
+    else if scratchpad then Scratchpad (address % 256)
+    else if ports then port_region (port_at address)
+    else HighExpansion (address - 0xA000)
 
 -- The regions by their ranges.
 pub region_rom : (address : ℕ) → address < 0x2000 → region address ≡ Rom address
@@ -110,10 +100,9 @@ region_beside address =
 
 read_by_region : (place : Region) (m : Memory) (address : ℕ) →
     word_read_in place m address
-    ≡ elim (is_port_region place) [
-      | true ↦ AtPort address
-      | false ↦ Gives (join (byte_read_in place m).0 (byte_read_in (beside place) m).0)
-    ]
+    ≡ (if is_port_region place
+      then AtPort address
+      else Gives (join (byte_read_in place m).0 (byte_read_in (beside place) m).0))
 read_by_region (Rom at) m address = refl
 read_by_region (LowExpansion at) m address = refl
 read_by_region (HighExpansion at) m address = refl
@@ -126,18 +115,16 @@ pub read_is_two_bytes : (m : Memory) (address : ℕ) → word_read m address ≡
 read_is_two_bytes m address =
     let with_second : Region → Answer ℕ =
     λ second.
-    elim (is_port_address (even address)) [
-      | true ↦ AtPort (even address)
-      | false ↦ Gives (join (byte_read m (even address)).0 (byte_read_in second m).0)
-    ] in
+    (if is_port_address (even address)
+    then AtPort (even address)
+    else Gives (join (byte_read m (even address)).0 (byte_read_in second m).0)) in
     read_by_region (region (even address)) m (even address) ∙ ap with_second (sym (region_beside address))
 
 write_by_region : (place : Region) (m : Memory) (address word : ℕ) →
     word_written_in place m address word
-    ≡ elim (is_port_region place) [
-      | true ↦ AtPort address
-      | false ↦ Gives (byte_written_in (beside place) (byte_written_in place m (high word)) (low word))
-    ]
+    ≡ (if is_port_region place
+      then AtPort address
+      else Gives (byte_written_in (beside place) (byte_written_in place m (high word)) (low word)))
 write_by_region (Rom at) m address word = refl
 write_by_region (LowExpansion at) m address word = refl
 write_by_region (HighExpansion at) m address word = refl
@@ -151,10 +138,9 @@ pub write_is_two_bytes : (m : Memory) (address word : ℕ) → word_written m ad
 write_is_two_bytes m address word =
     let with_second : Region → Answer Memory =
     λ second.
-    elim (is_port_address (even address)) [
-      | true ↦ AtPort (even address)
-      | false ↦ Gives (byte_written_in second (byte_written m (even address) (high word)) (low word))
-    ] in
+    (if is_port_address (even address)
+    then AtPort (even address)
+    else Gives (byte_written_in second (byte_written m (even address) (high word)) (low word))) in
     write_by_region (region (even address)) m (even address) word ∙ ap with_second (sym (region_beside address))
 
 -- The same memory with other states of its ports.

@@ -55,7 +55,7 @@ next_executes (AtPort address) next (MeetsPortAt a port) all = MeetsPortAt addre
 next_executes NoInstruction next is all = elim is [ ]
 
 either_executes : (test : Bool) (a b : Answer ℕ) → Executes a → Executes b →
-    Executes (elim test as (λ _. Answer ℕ) [ true ↦ a | false ↦ b ])
+    Executes (if test then a else b)
 either_executes true a b first second = first
 either_executes false a b first second = second
 

@@ -1,7 +1,8 @@
 -- The GROMs of the console: their bytes, their common address counter and their ports.
-use Rattle.std.specs.Prelude.{◌<◌, ℕ, ◌+◌, ◌*◌, ◌/◌, ◌%◌, Bool, true, false, not, List, slice_index}
+use Rattle.std.specs.Prelude.{◌<◌, ℕ, Bool, true, false, not, List, slice_index}
 use Rattle.tms_defs.specs.Words.{high, low, join}
 use Rattle.tms_defs.specs.Bytes.{HoldsBytes}
+use Rattle.grom_defs.specs.Addresses.{next_in_grom}
 
 -- The state of the GROMs. `half_written` marks that one byte of an address was written and the other is to come.
 -- GPL Programmer's Guide, on the GROM ports.
@@ -24,15 +25,6 @@ new_grom image = record { image = image; counter = 0; fetched = 0; half_written 
 -- Idle: no half of an address was written.
 abbrev pub is_grom_idle : GromState → Bool
 is_grom_idle grom = not grom.half_written
-
--- The address after an address. A GROM has 8 KiB of addresses: the top three bits stay, the low thirteen wrap.
--- GPL Programmer's Guide, on the GROM address counter.
-abbrev pub next_in_grom : ℕ → ℕ
-next_in_grom address = address / 8192 * 8192 + (address + 1) % 8192
-
--- The address before an address, in the same GROM.
-abbrev pub previous_in_grom : ℕ → ℕ
-previous_in_grom address = address / 8192 * 8192 + (address + 8191) % 8192
 
 -- The byte at the counter is fetched ahead, and the counter goes on.
 -- GPL Programmer's Guide, on the GROM address counter.

@@ -1,6 +1,6 @@
 -- The memory map of the console.
-use Rattle.std.specs.Prelude.{◌≡◌, ◌≤◌, ℕ, ◌+◌, ◌-◌, ◌%◌, Bool, true, false, eqb, nat_lt, List, slice_index, slice_set}
-use Rattle.std.specs.Prelude.{Option, Some, None}
+use Rattle.std.specs.Prelude.{◌≡◌, ◌≤◌, ℕ, ◌+◌, ◌-◌, ◌%◌, ◌==◌, Bool, true, false, nat_lt, if◌then◌else◌, List, [], ◌∷◌}
+use Rattle.std.specs.Prelude.{slice_index, slice_set, Option, Some, None}
 use Rattle.tms_defs.specs.Words.{high, low, join, even}
 use Rattle.tms_defs.specs.Bytes.{HoldsBytes, HoldsZeros, word_in, with_word_in}
 use Rattle.console_defs.specs.Vdp.{VdpState, IsVdp, vdp_address_written, vdp_data_written, vdp_data_read}
@@ -48,40 +48,29 @@ pub data Port : Type 0 where
   GromDataWrite : Port
   GromAddressWrite : Port
 
--- The port at an address.
+-- The ports and their addresses.
 -- Editor/Assembler manual, on VDP and GROM access.
 -- Profile: each port stands at one address only, and none at an odd one.
+abbrev pub ports : List (ℕ × Port)
+ports =
+    (0x8800, VdpDataRead)
+    ∷ (0x8802, VdpStatusRead)
+    ∷ (0x8C00, VdpDataWrite)
+    ∷ (0x8C02, VdpAddressWrite)
+    ∷ (0x9800, GromDataRead)
+    ∷ (0x9802, GromAddressRead)
+    ∷ (0x9C00, GromDataWrite)
+    ∷ (0x9C02, GromAddressWrite)
+    ∷ []
+
+-- The first of some ports that stands at an address.
+abbrev pub port_among : List (ℕ × Port) → ℕ → Option Port
+port_among [] address = None
+port_among (port ∷ others) address = if address == port.0 then Some port.1 else port_among others address
+
+-- The port at an address.
 abbrev pub port_at : ℕ → Option Port
-port_at address =
-    elim (eqb address 0x8800) [
-      | true ↦ Some VdpDataRead
-      | false ↦
-          elim (eqb address 0x8802) [
-            | true ↦ Some VdpStatusRead
-            | false ↦
-                elim (eqb address 0x8C00) [
-                  | true ↦ Some VdpDataWrite
-                  | false ↦
-                      elim (eqb address 0x8C02) [
-                        | true ↦ Some VdpAddressWrite
-                        | false ↦
-                            elim (eqb address 0x9800) [
-                              | true ↦ Some GromDataRead
-                              | false ↦
-                                  elim (eqb address 0x9802) [
-                                    | true ↦ Some GromAddressRead
-                                    | false ↦
-                                        elim (eqb address 0x9C00) [
-                                          | true ↦ Some GromDataWrite
-                                          | false ↦
-                                              elim (eqb address 0x9C02) [ true ↦ Some GromAddressWrite | false ↦ None ]
-                                        ]
-                                  ]
-                            ]
-                      ]
-                ]
-          ]
-    ]
+port_at address = port_among ports address
 
 -- Where an address leads, with the offset inside it.
 pub data Region : Type 0 where
@@ -103,26 +92,12 @@ port_region None = Unmapped
 -- Profile: all else leads nowhere.
 abbrev pub region : ℕ → Region
 region address =
-    elim (nat_lt address 0x2000) [
-      | true ↦ Rom address
-      | false ↦
-          elim (nat_lt address 0x4000) [
-            | true ↦ LowExpansion (address - 0x2000)
-            | false ↦
-                elim (nat_lt address 0x8000) [
-                  | true ↦ Unmapped
-                  | false ↦
-                      elim (nat_lt address 0x8400) [
-                        | true ↦ Scratchpad (address % 256)
-                        | false ↦
-                            elim (nat_lt address 0xA000) [
-                              | true ↦ port_region (port_at address)
-                              | false ↦ HighExpansion (address - 0xA000)
-                            ]
-                      ]
-                ]
-          ]
-    ]
+    if nat_lt address 0x2000 then Rom address
+    else if nat_lt address 0x4000 then LowExpansion (address - 0x2000)
+    else if nat_lt address 0x8000 then Unmapped
+    else if nat_lt address 0x8400 then Scratchpad (address % 256)
+    else if nat_lt address 0xA000 then port_region (port_at address)
+    else HighExpansion (address - 0xA000)
 
 -- A port stands at the address.
 abbrev pub is_port_region : Region → Bool
@@ -258,14 +233,12 @@ cell_set m number byte = record m { scratchpad = slice_set m.scratchpad number b
 -- Profile: a word access to a port stops.
 abbrev pub two_bytes_read : Memory → ℕ → Answer ℕ
 two_bytes_read m address =
-    elim (is_port_address (even address)) [
-      | true ↦ AtPort (even address)
-      | false ↦ Gives (join (byte_read m (even address)).0 (byte_read m (even address + 1)).0)
-    ]
+    if is_port_address (even address)
+    then AtPort (even address)
+    else Gives (join (byte_read m (even address)).0 (byte_read m (even address + 1)).0)
 
 abbrev pub two_bytes_written : Memory → ℕ → ℕ → Answer Memory
 two_bytes_written m address word =
-    elim (is_port_address (even address)) [
-      | true ↦ AtPort (even address)
-      | false ↦ Gives (byte_written (byte_written m (even address) (high word)) (even address + 1) (low word))
-    ]
+    if is_port_address (even address)
+    then AtPort (even address)
+    else Gives (byte_written (byte_written m (even address) (high word)) (even address + 1) (low word))

@@ -1,5 +1,5 @@
 -- The video processor as the processor sees it: its memory, its registers and its four ports.
-use Rattle.std.specs.Prelude.{◌≡◌, ◌<◌, ℕ, ◌+◌, ◌/◌, ◌%◌, Bool, true, false, eqb, List, slice_index, slice_set, Option}
+use Rattle.std.specs.Prelude.{◌≡◌, ◌<◌, ℕ, ◌+◌, ◌/◌, ◌%◌, ◌==◌, Bool, if◌then◌else◌, List, slice_index, slice_set, Option}
 use Rattle.std.specs.Prelude.{Some, None, is_none, IfSome}
 use Rattle.tms_defs.specs.Words.{join}
 use Rattle.tms_defs.specs.Bytes.{HoldsBytes, HoldsZeros}
@@ -55,14 +55,10 @@ pub data PairKind : Type 0 where
 -- Profile: the top bits 11 ask for nothing.
 abbrev pub pair_kind : ℕ → PairKind
 pair_kind second =
-    elim (eqb (second / 64) 0) [
-      | true ↦ ReadSetup
-      | false ↦
-          elim (eqb (second / 64) 1) [
-            | true ↦ WriteSetup
-            | false ↦ elim (eqb (second / 64) 2) [ true ↦ RegisterWrite | false ↦ NoOperation ]
-          ]
-    ]
+    if second / 64 == 0 then ReadSetup
+    else if second / 64 == 1 then WriteSetup
+    else if second / 64 == 2 then RegisterWrite
+    else NoOperation
 
 -- The address of a pair: the first byte is its low half, and the low six bits of the second are its high half.
 -- TMS9918A data manual, "CPU write to VRAM".

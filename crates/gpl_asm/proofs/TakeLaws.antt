@@ -14,7 +14,7 @@ use Rattle.source_defs.proofs.DefinedNames.{grown, grown_on, grown_not}
 use Rattle.gpl_source_defs.specs.declared.causes.GplCause.{GplCause}
 use Rattle.gpl_source_defs.specs.declared.location.Location.{Location}
 use Rattle.gpl_source_defs.specs.Statements.{Statement, size_said}
-use Rattle.gpl_source_defs.specs.Locations.{Line, location, place, behind, origin_of, grom_size, IsInGrom}
+use Rattle.gpl_source_defs.specs.Locations.{Line, location, place, behind, origin_of, IsInGrom}
 use Rattle.gpl_source_defs.specs.FirstChecks.{Checked, checked, line_of, names, label_entry, label_value, is_taken, is_end, is_full}
 use Rattle.gpl_source_defs.specs.SecondChecks.{Outcome, outcome}
 use Rattle.gpl_source_defs.specs.Programs.{bytes_in}
@@ -27,6 +27,7 @@ use Rattle.gpl_asm.specs.Replay.{Built, put, answer, answer_by, replay, nothing,
 use Rattle.gpl_asm.specs.Keeping.{kept_of}
 use Rattle.gpl_asm.specs.Building.{IsBehind, whole}
 use Rattle.gpl_asm.proofs.LineLaws.{location_more, place_is, whole_more, kept_more}
+use Rattle.grom_defs.specs.Addresses.{GROM_SIZE}
 
 -- a label that is new leaves the names before as they are
 none_is : {A : Type 0} (found : Option A) → is_some found ≡ false → found ≡ None
@@ -131,5 +132,5 @@ leads_on known at here next text found origin size e same still by le sized is =
 -- how far a line reaches
 pub reaches : (here : Location) (statement : Statement) → IsInGrom here → is_full here statement ≡ false → here.number + size_said statement ≤ 65536
 reaches here statement is fits =
-    let within : here.number + size_said statement ≤ here.grom + grom_size = grind (arith, nat_tests, fits) in
+    let within : here.number + size_said statement ≤ here.grom + GROM_SIZE = grind (arith, nat_tests, fits) in
     omega (arith, within, is.aligned, is.address)

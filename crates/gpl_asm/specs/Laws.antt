@@ -2,7 +2,7 @@
 use Rattle.std.specs.Prelude.{◌≡◌, ℕ, List}
 use Rattle.std.specs.List.{AllByRecursion}
 use Rattle.gpl_source_defs.specs.Programs.{program_of_source, program_of_lines}
-use Rattle.ended_lines.specs.Texts.{IsOneLine, text_of}
+use Rattle.source_defs.specs.EndedLines.{IsOneLine, text_of}
 
 -- the law, which is proved: the program of some lines is that of their text
 abbrev pub LinesMakeTexts : Type 0

@@ -3,7 +3,7 @@
 ghost use Rattle.std.specs.Prelude.{◌≡◌, ◌↔◌, ◌<◌, ◌-◌, ◌^◌, ℕ, false, List, [], length, IfOk};
 ghost use Rattle.source_defs.specs.Layout.{has_ended};
 ghost use Rattle.std.specs.List.{AllByRecursion};
-ghost use Rattle.ended_lines.specs.Texts.{IsOneLine, text_of};
+ghost use Rattle.source_defs.specs.EndedLines.{IsOneLine, text_of};
 ghost use Rattle.gpl_source_defs.specs.Programs.{program_of_lines, program_of_source};
 ghost use Rattle.gpl_asm.specs.Building.{HasTaken, IsOpen, CanCount};
 ghost use Rattle.gpl_asm.specs.Finishing.{TakesText, GivesProgram};

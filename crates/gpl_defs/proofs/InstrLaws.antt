@@ -4,7 +4,7 @@ use Rattle.std.proofs.Common.{List, [], ◌∷◌, refl, ap, ◌∙◌, arith, S
 use Rattle.std.specs.Prelude.{◌==◌, slice_index, IsTrue}
 use Rattle.std.proofs.lemmas.Bool.Decides.{nat_tests}
 use Rattle.tms_defs.specs.Words.{high, low, join}
-use Rattle.console_defs.specs.Grom.{next_in_grom}
+use Rattle.grom_defs.specs.Addresses.{next_in_grom}
 use Rattle.gpl_defs.specs.declared.instruction.GplOperand.{GplOperand}
 use Rattle.gpl_defs.specs.declared.instruction.GplSource.{GplSource}
 use Rattle.gpl_defs.specs.declared.instruction.GplSource.TheVariants as source
@@ -31,7 +31,7 @@ use Rattle.gpl_defs.specs.declared.instruction.GplInstr.TheVariants.{Plain, Byte
 use Rattle.gpl_defs.specs.declared.instruction.GplRead.TheVariants.{Instr}
 use Rattle.gpl_defs.specs.Codes.{row_of, plain_row, byte_row, go_row, branch_row, one_row, two_row, move_row, operation_at}
 use Rattle.gpl_defs.specs.Valid.{is_valid, is_valid_source, is_valid_move, has_words}
-use Rattle.gpl_defs.specs.Bytes.{one_if, word_bytes, value_bytes, from_bytes, kind_of, operation_of, is_immediate, is_counted}
+use Rattle.gpl_defs.specs.Bytes.{word_bytes, value_bytes, from_bytes, kind_of, operation_of, is_immediate, is_counted}
 use Rattle.gpl_defs.specs.Bytes.{variant_of, code_of}
 use Rattle.gpl_defs.specs.Spellings.{SpellsSource, SpellsLength, SpellsTarget, SpellsFrom, SpellsRest}
 use Rattle.gpl_defs.specs.Spellings.{Stand, Holds, Joined, Means}
@@ -40,6 +40,7 @@ use Rattle.gpl_defs.specs.Reading.{reading}
 use Rattle.gpl_defs.proofs.CodeLaws.{found, rows_fit, row_fits, row_ends}
 use Rattle.gpl_defs.proofs.StandLaws.{holds_part}
 use Rattle.gpl_defs.proofs.OperandLaws.{operand_back}
+use Rattle.count_defs.specs.Counts.{one_if}
 
 -- ---- from the spelling to what is read
 

@@ -4,15 +4,16 @@ use Rattle.std.proofs.Common.{refl, arith, Option, Some, None}
 use Rattle.std.specs.Prelude.{◌==◌, if◌then◌else◌, nat_lt, slice_index, IsTrue, is_some}
 use Rattle.std.proofs.lemmas.Bool.Decides.{nat_tests}
 use Rattle.tms_defs.specs.Words.{high, low, join}
-use Rattle.console_defs.specs.Grom.{next_in_grom}
+use Rattle.grom_defs.specs.Addresses.{next_in_grom}
 use Rattle.gpl_defs.specs.declared.instruction.Space.{Space}
 use Rattle.gpl_defs.specs.declared.instruction.Space.TheVariants.{Cpu, Vdp}
 use Rattle.gpl_defs.specs.declared.instruction.GplOperand.{GplOperand}
-use Rattle.gpl_defs.specs.Bytes.{one_if, is_vdp, form_bits, index_bytes}
+use Rattle.gpl_defs.specs.Bytes.{is_vdp, form_bits, index_bytes}
 use Rattle.gpl_defs.specs.Bytes.{fits_one_byte}
 use Rattle.gpl_defs.specs.Spellings.{Spelling, OneByte, TwelveBits, SixteenBits, may_have, spelled, SpellsOperand, Stand, Holds}
 use Rattle.gpl_defs.specs.Reading.{space_of, address_at, index_by, index_at, with_index, with_address, plain_operand, word_at}
 use Rattle.gpl_defs.specs.Reading.{operand_from, operand_at}
+use Rattle.count_defs.specs.Counts.{one_if}
 
 -- the bits of the first byte of an operand, by what it says
 record Bits (first index vdp indirect top : ℕ) : Type 0 where

@@ -1,6 +1,6 @@
 -- Bytes that stand behind one another in a GROM.
 use Rattle.std.proofs.Common.{ℕ, List, [], ◌∷◌, ◌++◌, refl}
-use Rattle.console_defs.specs.Grom.{next_in_grom}
+use Rattle.grom_defs.specs.Addresses.{next_in_grom}
 use Rattle.gpl_defs.specs.Spellings.{Stand, Holds, Joined}
 
 -- bytes behind other bytes, and the address between them

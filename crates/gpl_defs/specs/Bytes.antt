@@ -26,11 +26,7 @@ use Rattle.gpl_defs.specs.declared.instruction.GplInstr.TheVariants.{Plain, Byte
 use Rattle.gpl_defs.specs.declared.instruction.GplOperation.{GplOperation}
 use Rattle.gpl_defs.specs.declared.instruction.GplOperation.TheVariants as operation
 use Rattle.gpl_defs.specs.Codes.{row_of}
-
--- 1 where a test holds, else 0
-abbrev pub one_if : Bool → ℕ
-one_if true = 1
-one_if false = 0
+use Rattle.count_defs.specs.Counts.{one_if}
 
 abbrev pub is_vdp : Space → Bool
 is_vdp Cpu = false
@@ -122,7 +118,7 @@ abbrev pub operation_of : GplInstr → GplOperation
 operation_of (Plain op) = operation.Plain op
 operation_of (Byte op value) = operation.Byte op
 operation_of (Jump op to) = operation.Jump op
-operation_of (Branch on low) = operation.Branch on
+operation_of (Branch on offset) = operation.Branch on
 operation_of (One op word at) = operation.One op
 operation_of (Two op word dst src) = operation.Two op
 operation_of (Move length target source) = operation.Move (kind_of target source)

@@ -12,6 +12,7 @@ use Rattle.gpl_defs.specs.declared.instruction.MoveSource.{MoveSource}
 use Rattle.gpl_defs.specs.declared.instruction.MoveSource.TheVariants as from
 use Rattle.gpl_defs.specs.declared.instruction.GplInstr.{GplInstr}
 use Rattle.gpl_defs.specs.declared.instruction.GplInstr.TheVariants.{Plain, Byte, Jump, Branch, One, Two, Move}
+use Rattle.grom_defs.specs.Addresses.{GROM_SIZE}
 
 -- Profile: FETCH and PUSH have no form of words.
 abbrev pub has_words : OneName → Bool
@@ -41,7 +42,7 @@ abbrev pub is_valid : GplInstr → Bool
 is_valid (Plain op) = true
 is_valid (Byte op value) = true
 is_valid (Jump op to) = true
-is_valid (Branch on low) = nat_lt low 0x2000
+is_valid (Branch on offset) = nat_lt offset GROM_SIZE
 is_valid (One op word at) = has_words op || not word
 is_valid (Two op word dst src) = is_valid_source op word src
 is_valid (Move length target source) = is_valid_move target source

@@ -218,10 +218,10 @@ pub enum GplInstr {
         op: GoOp,
         to: u16,
     },
-    /// BR, or BS where `on` is true. `low`, below `>2000`, is the target's offset in the GROM of the instruction.
+    /// BR, or BS where `on` is true. `offset`, below `>2000`, is the target's offset in the GROM of the instruction.
     Branch {
         on: bool,
-        low: u16,
+        offset: u16,
     },
     /// An operation with the operand `at`. `word` is true for the form of words.
     One {

@@ -2,8 +2,10 @@
 #![tactic(auto)]
 
 mod instruction;
+mod scratchpad;
 
 pub use instruction::{
     ByteOp, GoOp, GplInstr, GplOperand, GplOperation, GplRead, GplSource, MoveKind, MoveLength,
     MoveSource, MoveTarget, OneName, PlainOp, Space, TwoName,
 };
+pub use scratchpad::SCRATCHPAD;

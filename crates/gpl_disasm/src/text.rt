@@ -71,9 +71,9 @@ pub(crate) fn push_instr<const N: usize>(text: &mut ArrayString<N>, instr: &GplI
             push_name(text, GplOperation::Jump(*op));
             push_word(text, *to);
         }
-        GplInstr::Branch { on, low } => {
+        GplInstr::Branch { on, offset } => {
             push_name(text, GplOperation::Branch(*on));
-            push_word(text, at / GROM_SIZE * GROM_SIZE + *low);
+            push_word(text, at / GROM_SIZE * GROM_SIZE + *offset);
         }
         GplInstr::One {
             op,

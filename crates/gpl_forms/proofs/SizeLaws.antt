@@ -3,7 +3,7 @@ use Rattle.std.proofs.Common.{◌≡◌, ◌≢◌, ℕ, suc, ◌+◌, ◌*◌, 
 use Rattle.std.proofs.Common.{List, [], ◌∷◌, ◌++◌, length, length-append, refl, sym, ◌∙◌, arith}
 use Rattle.std.specs.Prelude.{slice_index, ◌==◌, ◌&&◌, IsTrue, Option, Some, None}
 use Rattle.std.proofs.lemmas.Bool.Decides.{nat_tests}
-use Rattle.console_defs.specs.Grom.{next_in_grom}
+use Rattle.grom_defs.specs.Addresses.{next_in_grom}
 use Rattle.gpl_defs.specs.declared.instruction.GplOperand.{GplOperand}
 use Rattle.gpl_defs.specs.declared.instruction.GplSource.{GplSource}
 use Rattle.gpl_defs.specs.declared.instruction.GplSource.TheVariants as source

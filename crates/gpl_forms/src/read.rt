@@ -12,7 +12,7 @@ use gpl_defs::{
     GplInstr, GplOperand, GplOperation, GplRead, GplSource, MoveKind, MoveLength, MoveSource,
     MoveTarget, Space,
 };
-use grom_counter::next_in_grom;
+use grom_addresses::next_in_grom;
 
 /// The instruction at an address of 65,536 bytes, in any of its spellings, with the address after it; or the code
 /// byte there, exactly where it is no instruction's. Behind the last address of a GROM comes its first.
@@ -93,8 +93,8 @@ fn read_operands(operation: GplOperation, code: u8, image: &[u8], at: u16) -> (G
             (GplInstr::Jump { op, to }, next)
         }
         GplOperation::Branch(on) => {
-            let low = 256 * u16::from(code % 32) + u16::from(image[usize::from(at)]);
-            (GplInstr::Branch { on, low }, next_in_grom(at))
+            let offset = 256 * u16::from(code % 32) + u16::from(image[usize::from(at)]);
+            (GplInstr::Branch { on, offset }, next_in_grom(at))
         }
         GplOperation::One(op) => {
             let (at, next) = read_operand(image, at);

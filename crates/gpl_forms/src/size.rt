@@ -5,9 +5,7 @@ ghost use Rattle.gpl_forms.specs.Sizes as sizes;
 
 use crate::write::{fits_one_byte, fits_twelve_bits};
 use gpl_defs::{GplInstr, GplOperand, GplSource, MoveLength, MoveSource, MoveTarget};
-
-/// How far the first addresses of GROMs stand apart.
-pub(crate) const GROM_SIZE: u16 = 0x2000;
+use grom_defs::GROM_SIZE;
 
 /// How many bytes an instruction has in its shortest spelling.
 /// GPL Programmer's Guide, the statements.

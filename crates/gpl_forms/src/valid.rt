@@ -2,8 +2,8 @@
 ghost use Rattle.std.specs.Prelude.{◌≡◌};
 ghost use Rattle.gpl_defs.specs.Valid as spec;
 
-use crate::size::GROM_SIZE;
 use gpl_defs::{GplInstr, GplSource, MoveSource, MoveTarget, OneName, TwoName};
+use grom_defs::GROM_SIZE;
 
 /// Whether an instruction has bytes: the offset of a BR or BS is below `>2000`, FETCH and PUSH are no words, an
 /// immediate source of a form of bytes is below 256, EX has no immediate source, and MOVE loads registers of the
@@ -13,7 +13,7 @@ pub fn is_valid(instr: &GplInstr) -> bool
 {
     match instr {
         GplInstr::Plain(_) | GplInstr::Byte { .. } | GplInstr::Jump { .. } => true,
-        GplInstr::Branch { low, .. } => *low < GROM_SIZE,
+        GplInstr::Branch { offset, .. } => *offset < GROM_SIZE,
         GplInstr::One { op, word, .. } => has_words(*op) || !*word,
         GplInstr::Two { op, word, src, .. } => is_valid_source(*op, *word, src),
         GplInstr::Move { target, source, .. } => is_valid_move(target, source),

@@ -74,7 +74,7 @@ fn variant_of(instr: &GplInstr) -> u8
 {
     match instr {
         GplInstr::Plain(_) | GplInstr::Byte { .. } | GplInstr::Jump { .. } => 0,
-        GplInstr::Branch { low, .. } => (*low / 256) as u8,
+        GplInstr::Branch { offset, .. } => (*offset / 256) as u8,
         GplInstr::One { word, .. } => u8::from(*word),
         GplInstr::Two { word, src, .. } => 2 * u8::from(is_immediate(src)) + u8::from(*word),
         GplInstr::Move { length, .. } => u8::from(is_counted(length)),
@@ -105,7 +105,7 @@ fn push_operands(bytes: &mut Bytes, instr: &GplInstr)
         GplInstr::Plain(_) => {}
         GplInstr::Byte { value, .. } => bytes.push(*value),
         GplInstr::Jump { to, .. } => push_word(bytes, *to),
-        GplInstr::Branch { low, .. } => bytes.push((*low % 256) as u8),
+        GplInstr::Branch { offset, .. } => bytes.push((*offset % 256) as u8),
         GplInstr::One { at, .. } => push_operand(bytes, at),
         GplInstr::Two { word, dst, src, .. } => {
             push_operand(bytes, dst);

@@ -97,8 +97,8 @@ impl Scope<'_> {
             }
             Skeleton::Branch(on, text) => {
                 let target = self.number(text)?;
-                let low = branch_offset(self.at, target)?;
-                Ok(GplInstr::Branch { on, low })
+                let offset = branch_offset(self.at, target)?;
+                Ok(GplInstr::Branch { on, offset })
             }
             Skeleton::One(op, word, at) => Ok(GplInstr::One { op, word, at }),
             Skeleton::Two(op, word, dst, source) => {

@@ -66,7 +66,7 @@ impl Skeleton<'_> {
             Skeleton::Plain(op) => GplInstr::Plain(op),
             Skeleton::Byte(op, _) => GplInstr::Byte { op, value: 0 },
             Skeleton::Jump(op, _) => GplInstr::Jump { op, to: 0 },
-            Skeleton::Branch(on, _) => GplInstr::Branch { on, low: 0 },
+            Skeleton::Branch(on, _) => GplInstr::Branch { on, offset: 0 },
             Skeleton::One(op, word, at) => GplInstr::One { op, word, at },
             Skeleton::Two(op, word, dst, source) => GplInstr::Two {
                 op,

@@ -27,11 +27,11 @@ use Rattle.gpl_source_defs.specs.declared.location.Location.{Location}
 use Rattle.gpl_source_defs.specs.Directives.{directive}
 use Rattle.gpl_source_defs.specs.Mnemonics.{name_of}
 use Rattle.gpl_source_defs.specs.Statements.{Statement, Instruction, Grom, Aorg, Byte, End, operation_statement, size_said}
-use Rattle.gpl_source_defs.specs.Locations.{Line, behind, address_of, grom_size}
+use Rattle.gpl_source_defs.specs.Locations.{Line, behind, address_of}
 use Rattle.gpl_source_defs.specs.FirstChecks.{is_full, is_bad}
 use Rattle.gpl_source_defs.specs.SecondChecks.{Bytes, outcome}
 use Rattle.gpl_source_defs.specs.Programs.{Settled, overlaps}
-use Rattle.gpl_listing_defs.specs.Texts.{prefix, operand_text, source_text, length_text, target_text, from_text, mnemonic_of, operands_text, branch_target}
+use Rattle.gpl_listing_defs.specs.Texts.{prefix, operand_text, source_text, length_text, target_text, from_text, mnemonic_of, operands_text}
 use Rattle.gpl_listing_defs.specs.Texts.{instr_text, shown_address}
 use Rattle.listed_lines.proofs.Scans.{all_both}
 use Rattle.listed_lines.proofs.DigitLaws.{word_passes, byte_passes}
@@ -44,6 +44,7 @@ use Rattle.gpl_listing_defs.proofs.InstructionAgain.{InGromOf, size_back, instru
 use Rattle.gpl_listing_defs.proofs.NameLaws.{instr_names}
 use Rattle.listed_lines.proofs.LineTexts.{Fit, cut_listed, in_line, listed_in_line, plain_byte, field_of}
 use Rattle.gpl_listing_defs.proofs.StateLaws.{Stands, Taken, checked_as, taken, here_again}
+use Rattle.grom_defs.specs.Addresses.{GROM_SIZE, in_grom_of}
 
 -- ---- operands stand in a line
 
@@ -65,7 +66,7 @@ operands_plain : (found : GplInstr) (at : ℕ) → list_all plain_byte (field_of
 operands_plain (instr.Plain op) at = refl
 operands_plain (instr.Byte op value) at = byte_passes plain_byte value refl refl
 operands_plain (instr.Jump op to) at = word_passes plain_byte to refl refl
-operands_plain (instr.Branch on offset) at = word_passes plain_byte (branch_target at offset) refl refl
+operands_plain (instr.Branch on offset) at = word_passes plain_byte (in_grom_of at offset) refl refl
 operands_plain (instr.One op word operand) at = operand_all plain_byte plain_letters operand
 operands_plain (instr.Two op word dst src) at =
     all_both plain_byte (operand_text dst) (0x2C ∷ source_text word src) (operand_all plain_byte plain_letters dst)
@@ -129,7 +130,7 @@ operands_short : (found : GplInstr) (at : ℕ) → length (field_of (operands_te
 operands_short (instr.Plain op) at = omega arith
 operands_short (instr.Byte op value) at = let n = byte_short value in omega arith
 operands_short (instr.Jump op to) at = let n = word_short to in omega arith
-operands_short (instr.Branch on offset) at = let n = word_short (branch_target at offset) in omega arith
+operands_short (instr.Branch on offset) at = let n = word_short (in_grom_of at offset) in omega arith
 operands_short (instr.One op word operand) at = let n = operand_short operand in omega arith
 operands_short (instr.Two op word dst src) at =
     let n = operand_short dst in
@@ -176,7 +177,7 @@ instr_in_line found at valid =
 
 not_full : (here : Location) (said : Statement) → here.number + size_said said ≤ here.grom + 0x2000 → is_full here
     said ≡ false
-not_full here said le = let test : nat_lt (here.grom + grom_size) (here.number + size_said said) ≡ false = grind
+not_full here said le = let test : nat_lt (here.grom + GROM_SIZE) (here.number + size_said said) ≡ false = grind
     (arith, nat_tests) in test
 
 -- an instruction at its place
@@ -311,7 +312,7 @@ grom_taken before earlier at held number e stands lt even within =
     let cut = cut_listed (codes "GROM") (Some (marked_word e))
     (word_fit (codes "GROM") e (omega arith) (omega arith) refl) (inr (omega arith)) in
     let said : Statement = Grom e in
-    let whole_e : (e % grom_size == 0) ≡ true = grind (arith, nat_tests) in
+    let whole_e : (e % GROM_SIZE == 0) ≡ true = grind (arith, nat_tests) in
     let bad : is_bad None said ≡ false = rw whole_e refl in
     let full : is_full at said ≡ false = not_full at said (omega arith) in
     let first = checked_as predefined at (listed (grom_text e)) _ _ said cut (grom_said (address_of at) e lt) full
@@ -330,7 +331,7 @@ aorg_taken before earlier at held number e stands lt within =
     let cut = cut_listed (codes "AORG") (Some (marked_word e))
     (word_fit (codes "AORG") e (omega arith) (omega arith) refl) (inr (omega arith)) in
     let said : Statement = Aorg e in
-    let below : nat_lt e grom_size ≡ true = grind (arith, nat_tests) in
+    let below : nat_lt e GROM_SIZE ≡ true = grind (arith, nat_tests) in
     let bad : is_bad None said ≡ false = rw below refl in
     let full : is_full at said ≡ false = not_full at said (omega arith) in
     let first = checked_as predefined at (listed (aorg_text e)) _ _ said cut

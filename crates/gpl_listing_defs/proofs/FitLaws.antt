@@ -2,7 +2,7 @@
 use Rattle.std.proofs.Common.{◌≡◌, ℕ, ◌/◌, ◌%◌, ◌<◌, Bool, true, false, List, refl, subst, Option, Some, None, arith}
 use Rattle.std.specs.Prelude.{◌==◌, if◌then◌else◌, nat_lt, slice_index}
 use Rattle.tms_defs.specs.Words.{join}
-use Rattle.console_defs.specs.Grom.{next_in_grom}
+use Rattle.grom_defs.specs.Addresses.{next_in_grom}
 use Rattle.gpl_defs.specs.declared.instruction.GplOperand.{GplOperand}
 use Rattle.gpl_defs.specs.declared.instruction.MoveKind.{MoveKind}
 use Rattle.gpl_defs.specs.declared.instruction.MoveKind.TheVariants.{

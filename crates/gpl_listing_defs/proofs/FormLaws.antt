@@ -9,11 +9,12 @@ use Rattle.gpl_defs.specs.declared.instruction.Space.{Space}
 use Rattle.gpl_defs.specs.declared.instruction.Space.TheVariants.{Cpu, Vdp}
 use Rattle.gpl_defs.specs.declared.instruction.GplOperand.{GplOperand}
 use Rattle.gpl_source_defs.specs.Forms.{Memory, InMemory, InGrom, Register, Alone, has_index, address_text, index_text, form_of}
-use Rattle.gpl_source_defs.specs.Values.{scratchpad, operand}
+use Rattle.gpl_source_defs.specs.Values.{operand}
 use Rattle.gpl_listing_defs.specs.Texts as texts
 use Rattle.gpl_listing_defs.specs.Texts.{prefix, shown_address, operand_text}
 use Rattle.listed_lines.proofs.Scans.{all_both, unquoted, not_quoted}
 use Rattle.listed_lines.proofs.DigitLaws.{word_passes, digit_is_not}
+use Rattle.gpl_defs.specs.declared.scratchpad.TheConstants.{SCRATCHPAD}
 
 -- an address without an index
 no_index : (a : ℕ) → has_index (marked_word a) ≡ false
@@ -63,17 +64,17 @@ rest_of a index = marked_word a ++ texts.index_text index
 
 abbrev pub index_written : Option ℕ → Option (List ℕ)
 index_written None = None
-index_written (Some i) = Some (marked_word (scratchpad + i))
+index_written (Some i) = Some (marked_word (SCRATCHPAD + i))
 
 pub address_back : (a : ℕ) (index : Option ℕ) → address_text (rest_of a index) ≡ marked_word a
 unfolding word_digits
 address_back a None = rw (no_index a) refl
-address_back a (Some i) = rw (indexed_has a (scratchpad + i), indexed_opening a (scratchpad + i)) refl
+address_back a (Some i) = rw (indexed_has a (SCRATCHPAD + i), indexed_opening a (SCRATCHPAD + i)) refl
 
 pub index_back : (a : ℕ) (index : Option ℕ) → index_text (rest_of a index) ≡ index_written index
 unfolding word_digits
 index_back a None = rw (no_index a) refl
-index_back a (Some i) = rw (indexed_has a (scratchpad + i), indexed_opening a (scratchpad + i)) refl
+index_back a (Some i) = rw (indexed_has a (SCRATCHPAD + i), indexed_opening a (SCRATCHPAD + i)) refl
 
 -- an operand in memory, by the texts of its address and its index
 abbrev pub memory_of : GplOperand → Memory

@@ -20,14 +20,15 @@ use Rattle.gpl_defs.specs.Valid.{is_valid, is_valid_move}
 use Rattle.gpl_defs.specs.Bytes.{operand_bytes, source_bytes, length_bytes, target_bytes, from_bytes, bytes_of}
 use Rattle.gpl_source_defs.specs.Skeletons.{source_by_zero, length_by_zero, move_by_zero}
 use Rattle.gpl_source_defs.specs.declared.location.Location.{Location}
-use Rattle.gpl_source_defs.specs.Values.{scratchpad, operand, number, index_of, byte_of}
+use Rattle.gpl_source_defs.specs.Values.{operand, number, index_of, byte_of}
 use Rattle.gpl_source_defs.specs.Skeletons.{size_of}
 use Rattle.gpl_source_defs.specs.SecondChecks.{instruction, source_value, length_value, moved, register_of}
-use Rattle.gpl_source_defs.specs.Locations.{address_of, branch_offset, grom_size}
-use Rattle.gpl_listing_defs.specs.Texts.{branch_target}
+use Rattle.gpl_source_defs.specs.Locations.{address_of, branch_offset}
 use Rattle.gpl_listing_defs.proofs.NumberLaws.{word_value, byte_value}
 use Rattle.gpl_listing_defs.proofs.SkeletonLaws.{SourceFits, LengthFits, TargetFits, FromFits, InstrFits}
 use Rattle.gpl_listing_defs.proofs.InstructionText.{source_left, length_left, route_left, left_of}
+use Rattle.grom_defs.specs.Addresses.{GROM_SIZE, in_grom_of}
+use Rattle.gpl_defs.specs.declared.scratchpad.TheConstants.{SCRATCHPAD}
 
 -- ---- how many bytes it takes
 
@@ -104,16 +105,16 @@ pub record InGromOf (at : Location) : Type 0 where
   pub fits : at.number < 65536
 
 branch_back : (at : Location) (offset : ℕ) → InGromOf at → offset < 0x2000 →
-    branch_offset at (branch_target at.number offset) ≡ Ok offset
+    branch_offset at (in_grom_of at.number offset) ≡ Ok offset
 branch_back at offset place lt =
-    let same : (branch_target at.number offset / grom_size == at.grom / grom_size) ≡ true =
-    let q : branch_target at.number offset / grom_size ≡ at.grom / grom_size = omega
+    let same : (in_grom_of at.number offset / GROM_SIZE == at.grom / GROM_SIZE) ≡ true =
+    let q : in_grom_of at.number offset / GROM_SIZE ≡ at.grom / GROM_SIZE = omega
     (arith, place.whole, place.from, place.below) in
     grind (arith, nat_tests) in
-    let rest : branch_target at.number offset % grom_size ≡ offset = omega arith in
+    let rest : in_grom_of at.number offset % GROM_SIZE ≡ offset = omega arith in
     rw (same, rest) refl
 
-branch_fits : (at offset : ℕ) → at < 65536 → offset < 0x2000 → branch_target at offset < 65536
+branch_fits : (at offset : ℕ) → at < 65536 → offset < 0x2000 → in_grom_of at offset < 65536
 branch_fits at offset lt lt_too = omega arith
 
 module _ (look : List ℕ → Option Value) (at : Location) where
@@ -128,11 +129,11 @@ module _ (look : List ℕ → Option Value) (at : Location) where
   length_again (count.At operand) fits = refl
   length_again (count.Immediate number) fits = rw (word_value look (address_of at) number fits) refl
 
-  index_number : (i : ℕ) → i < 256 → index_of (scratchpad + i) ≡ Ok i
+  index_number : (i : ℕ) → i < 256 → index_of (SCRATCHPAD + i) ≡ Ok i
   index_number i lt =
-      let from : nat_le scratchpad (scratchpad + i) ≡ true = grind (arith, nat_tests) in
-      let to : nat_le (scratchpad + i) (scratchpad + 255) ≡ true = grind (arith, nat_tests) in
-      let back : scratchpad + i - scratchpad ≡ i = omega arith in
+      let from : nat_le SCRATCHPAD (SCRATCHPAD + i) ≡ true = grind (arith, nat_tests) in
+      let to : nat_le (SCRATCHPAD + i) (SCRATCHPAD + 255) ≡ true = grind (arith, nat_tests) in
+      let back : SCRATCHPAD + i - SCRATCHPAD ≡ i = omega arith in
       rw (from, to, back) refl
 
   register_number : (n : ℕ) → n < 256 → register_of n ≡ Ok n
@@ -147,7 +148,7 @@ module _ (look : List ℕ → Option Value) (at : Location) where
   moved_again count (target.At to) (from.GromIndexed address index) valid fits fits_too =
       rw (
         word_value look (address_of at) address fits_too.0,
-        word_value look (address_of at) (scratchpad + index) (omega (arith, fits_too.1)),
+        word_value look (address_of at) (SCRATCHPAD + index) (omega (arith, fits_too.1)),
         index_number index fits_too.1,
       ) refl
   moved_again count (target.Register number) (from.Grom address) valid fits fits_too =
@@ -167,7 +168,7 @@ module _ (look : List ℕ → Option Value) (at : Location) where
   instruction_back (instr.Jump op to) valid fits place = rw (word_value look (address_of at) to fits) refl
   instruction_back (instr.Branch on offset) valid fits place =
       rw (
-        word_value look (address_of at) (branch_target at.number offset) (branch_fits at.number offset place.fits fits),
+        word_value look (address_of at) (in_grom_of at.number offset) (branch_fits at.number offset place.fits fits),
         branch_back at offset place fits,
       ) refl
   instruction_back (instr.One op word operand) valid fits place = refl

@@ -25,13 +25,14 @@ use Rattle.gpl_source_defs.specs.Values.{operand, number}
 use Rattle.gpl_source_defs.specs.Skeletons.{Source, At, Immediate, Route, Within, ToMemory, ToRegisters, Skeleton, Plain, Byte, Jump, Branch, One, Two, Move}
 use Rattle.gpl_source_defs.specs.Skeletons.{written_form, text_of_one, source_in, route_in, two_skeleton, move_skeleton, skeleton}
 use Rattle.gpl_listing_defs.specs.Texts.{operand_text, source_text, length_text, target_text, from_text, value_text}
-use Rattle.gpl_listing_defs.specs.Texts.{branch_target, mnemonic_of, operands_text}
+use Rattle.gpl_listing_defs.specs.Texts.{mnemonic_of, operands_text}
 use Rattle.listed_lines.proofs.DigitLaws.{word_passes, byte_passes}
 use Rattle.listed_lines.proofs.OperandLines.{whole, one_text, two_operands, three_operands}
 use Rattle.listed_lines.proofs.LineTexts.{field_of}
 use Rattle.gpl_listing_defs.proofs.FormLaws.{memory_of, index_written, operand_form, grom_form, register_form, word_form, byte_form}
 use Rattle.gpl_listing_defs.proofs.SkeletonLaws.{OperandFits, SourceFits, LengthFits, TargetFits, FromFits, InstrFits}
 use Rattle.gpl_listing_defs.proofs.SkeletonLaws.{whole_letters, operand_all, source_all, length_all, target_all, from_all, operand_some, operand_back}
+use Rattle.grom_defs.specs.Addresses.{in_grom_of}
 
 -- ---- what the first checks leave of an instruction at an address
 
@@ -56,7 +57,7 @@ abbrev pub left_of : GplInstr → ℕ → Skeleton
 left_of (instr.Plain op) at = Plain op
 left_of (instr.Byte op value) at = Byte op (marked_byte value)
 left_of (instr.Jump op to) at = Jump op (marked_word to)
-left_of (instr.Branch on offset) at = Branch on (marked_word (branch_target at offset))
+left_of (instr.Branch on offset) at = Branch on (marked_word (in_grom_of at offset))
 left_of (instr.One op word operand) at = One op word operand
 left_of (instr.Two op word dst src) at = Two op word dst (source_left word src)
 left_of (instr.Move length to source) at = Move (length_left length) (route_left to source)
@@ -205,7 +206,7 @@ module _ (look : List ℕ → Option Value) (here : ℕ) where
   skeleton_back (instr.Plain op) at valid fits = refl
   skeleton_back (instr.Byte op value) at valid fits = rw (byte_left value) refl
   skeleton_back (instr.Jump op to) at valid fits = rw (word_left to) refl
-  skeleton_back (instr.Branch on offset) at valid fits = rw (word_left (branch_target at offset)) refl
+  skeleton_back (instr.Branch on offset) at valid fits = rw (word_left (in_grom_of at offset)) refl
   skeleton_back (instr.One op word operand) at valid fits =
       rw (
         one_text (operand_text operand) (operand_some operand) (operand_all whole whole_letters operand),

@@ -18,7 +18,7 @@ use Rattle.gpl_defs.specs.Valid.{is_valid}
 use Rattle.gpl_defs.specs.Reading.{reading, stand, IsReadAt, ReadsInstr}
 use Rattle.gpl_defs.proofs.MeaningLaws.{reading_means}
 use Rattle.gpl_source_defs.specs.declared.location.Location.{Location}
-use Rattle.gpl_source_defs.specs.Locations.{Line, start, grom_size}
+use Rattle.gpl_source_defs.specs.Locations.{Line, start}
 use Rattle.gpl_source_defs.specs.Programs.{Settled, overlaps, program_of_source}
 use Rattle.gpl_listing_defs.specs.Listing.{boundary, Listed, byte_listed, instr_listed, is_whole, listed_by, listed_at}
 use Rattle.gpl_listing_defs.specs.Listing.{origin_texts, origin_texts_at, texts_from, grom_texts, grom_listing}
@@ -34,6 +34,7 @@ use Rattle.gpl_listing_defs.proofs.PlacingLaws.{placed_behind, placed_free, empt
 use Rattle.gpl_listing_defs.proofs.StateLaws.{Stands, Taken, Ends, at_first, ends_last, ends_more, same_location}
 use Rattle.gpl_listing_defs.proofs.EntryLaws.{instr_taken, byte_taken, grom_taken, aorg_taken, end_taken}
 use Rattle.gpl_listing_defs.proofs.EntryLaws.{instr_in_line, byte_in_line, grom_in_line, aorg_in_line}
+use Rattle.grom_defs.specs.Addresses.{GROM_SIZE}
 
 not_false : (b : Bool) → not b ≡ false → b ≡ true
 not_false true e = refl
@@ -176,39 +177,39 @@ module _ (image : List ℕ) (low high : ℕ) (bytes : (k : ℕ) → slice_index 
 
   -- GROM and AORG, and what stands behind them
   origin_from : (loc : Location) (at : ℕ) (texts : List (List ℕ)) → at < 65536 → loc.number ≤ loc.grom + 0x2000 →
-      Goes (at / grom_size * grom_size) at texts → (before : List Line) (earlier : List Settled) (number : ℕ) →
+      Goes (at / GROM_SIZE * GROM_SIZE) at texts → (before : List Line) (earlier : List Settled) (number : ℕ) →
       Stands before earlier loc (placed empty low (between image low at)) →
       Ends before number (map listed (origin_texts at ++ texts)) whole_image
   origin_from loc at texts lt within go before earlier number stands =
       let first = grom_taken before earlier loc (placed empty low (between image low at)) number
-      (at / grom_size * grom_size) stands (omega arith) (omega arith) within in
+      (at / GROM_SIZE * GROM_SIZE) stands (omega arith) (omega arith) within in
       let second = aorg_taken (first.line ∷ before) first.earlier
-      (here (at / grom_size * grom_size) (at / grom_size * grom_size)) (placed empty low (between image low at))
-      (number + 1) (at % grom_size) first.stands (omega arith) (omega arith) in
-      let there : ◌≡◌ {A = Location} (here (at / grom_size * grom_size)
-      (at / grom_size * grom_size + at % grom_size)) (here (at / grom_size * grom_size) at) =
-      same_location (at / grom_size * grom_size) (at / grom_size * grom_size + at % grom_size) at (omega arith) in
+      (here (at / GROM_SIZE * GROM_SIZE) (at / GROM_SIZE * GROM_SIZE)) (placed empty low (between image low at))
+      (number + 1) (at % GROM_SIZE) first.stands (omega arith) (omega arith) in
+      let there : ◌≡◌ {A = Location} (here (at / GROM_SIZE * GROM_SIZE)
+      (at / GROM_SIZE * GROM_SIZE + at % GROM_SIZE)) (here (at / GROM_SIZE * GROM_SIZE) at) =
+      same_location (at / GROM_SIZE * GROM_SIZE) (at / GROM_SIZE * GROM_SIZE + at % GROM_SIZE) at (omega arith) in
       let S : Location → Type 0 = λ loc. Stands (second.line ∷ first.line ∷ before) second.earlier loc
       (placed empty low (between image low at)) in
       ends_more before number _ _ _ _ whole_image first
       (ends_more (first.line ∷ before) (number + 1) _ _ _ _ whole_image second
       (go (second.line ∷ first.line ∷ before) second.earlier (number + 1 + 1) (subst S there second.stands)))
 
-  step_goes : (test : Bool) (grom at : ℕ) → ((at % grom_size == 0) && not (at == low)) ≡ test → low ≤ at → at < high →
+  step_goes : (test : Bool) (grom at : ℕ) → ((at % GROM_SIZE == 0) && not (at == low)) ≡ test → low ≤ at → at < high →
       grom % 0x2000 ≡ 0 → grom ≤ at → at ≤ grom + 0x2000 → (at ≡ low → at < grom + 0x2000) →
       ((next : ℕ) → at < next → next ≤ high → GoesFrom next) →
       Goes grom at ((if test then origin_texts at else []) ++ entry_texts at)
   step_goes true grom at e le before_end whole from to first rest =
       let even : at % 0x2000 ≡ 0 = grind (arith, nat_tests) in
       origin_from (here grom at) at (entry_texts at) (omega arith) to
-      (entry_goes (at / grom_size * grom_size) at le before_end (omega arith) (omega arith) (omega arith) rest)
+      (entry_goes (at / GROM_SIZE * GROM_SIZE) at le before_end (omega arith) (omega arith) (omega arith) rest)
   step_goes false grom at e le before_end whole from to first rest =
       entry_goes grom at le before_end whole from (inside (cases_eq at (grom + 0x2000))) rest
     where
       inside : (at ≡ grom + 0x2000) ⊎ (at ≢ grom + 0x2000) → at < grom + 0x2000
       inside (inr other) = omega arith
       inside (inl same) =
-          let even : (at % grom_size == 0) ≡ true =
+          let even : (at % GROM_SIZE == 0) ≡ true =
           (let z : at % 0x2000 ≡ 0 = omega arith in grind (arith, nat_tests)) in
           let is_low : (at == low) ≡ true = not_false (at == low) (rw even at e) in
           first (grind (arith, nat_tests))
@@ -269,7 +270,7 @@ module _ (image : List ℕ) (low high : ℕ) (bytes : (k : ℕ) → slice_index 
           let before_end : at < high = grind (arith, nat_tests) in
           let G : List (List ℕ) → Type 0 = λ texts. Goes grom at texts in
           subst G (sym (left_step at before_end))
-          (step_goes ((at % grom_size == 0) && not (at == low)) grom at refl le before_end whole from within first rest)
+          (step_goes ((at % GROM_SIZE == 0) && not (at == low)) grom at refl le before_end whole from within first rest)
       by false e rest = end_goes grom at (grind (arith, nat_tests)) within
 
   -- ---- the whole listing
@@ -280,14 +281,14 @@ module _ (image : List ℕ) (low high : ℕ) (bytes : (k : ℕ) → slice_index 
       let none : [] ≡ between image low low = ap (λ n. take n (drop low image)) (sym nothing) in
       let S : List ℕ → Type 0 = λ taken. Stands [] [] start (placed empty low taken) in
       origin_from start low (left_from low) fits (omega arith)
-      (goes high low (omega arith) (omega arith) order (low / grom_size * grom_size) (omega arith) (omega arith)
+      (goes high low (omega arith) (omega arith) order (low / GROM_SIZE * GROM_SIZE) (omega arith) (omega arith)
       (omega arith) (λ first. omega arith))
       [] [] 1 (subst S none at_first)
 
   -- ---- no text has a line feed
 
   clean_origin : (at : ℕ) → clean (origin_texts at) ≡ true
-  clean_origin at = rw (grom_in_line (at / grom_size * grom_size), aorg_in_line (at % grom_size)) refl
+  clean_origin at = rw (grom_in_line (at / GROM_SIZE * GROM_SIZE), aorg_in_line (at % GROM_SIZE)) refl
 
   clean_origin_at : (test : Bool) (at : ℕ) → clean (if test then origin_texts at else []) ≡ true
   clean_origin_at true at = clean_origin at
@@ -315,7 +316,7 @@ module _ (image : List ℕ) (low high : ℕ) (bytes : (k : ℕ) → slice_index 
   clean_from at (suc belonging) zero = refl
   clean_from at (suc belonging) (suc left) = clean_from (at + 1) belonging left
   clean_from at zero (suc left) =
-      clean_both (origin_texts_at low at) _ (clean_origin_at ((at % grom_size == 0) && not (at == low)) at)
+      clean_both (origin_texts_at low at) _ (clean_origin_at ((at % GROM_SIZE == 0) && not (at == low)) at)
       (rw (clean_listed at, clean_from (at + 1) ((listed_at image at high).size - 1) left) refl)
 
   clean_all : clean (grom_texts image low high) ≡ true

@@ -8,7 +8,7 @@ use Rattle.std.specs.FinMap.{empty, insert, contains_key, get-insert, get-empty}
 use Rattle.std.proofs.lemmas.List.{drop_more}
 use Rattle.std.proofs.lemmas.Bool.Decides.{nat_tests}
 use Rattle.std.proofs.lemmas.Grind.{common_steps}
-use Rattle.console_defs.specs.Grom.{next_in_grom}
+use Rattle.grom_defs.specs.Addresses.{next_in_grom}
 use Rattle.gpl_defs.specs.Image.{Image, placed}
 use Rattle.gpl_defs.specs.Reading.{stand}
 use Rattle.gpl_defs.proofs.ImageLaws.{ties-other}

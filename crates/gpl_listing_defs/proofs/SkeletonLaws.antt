@@ -19,13 +19,14 @@ use Rattle.gpl_defs.specs.declared.instruction.MoveSource.{MoveSource}
 use Rattle.gpl_defs.specs.declared.instruction.MoveSource.TheVariants as from
 use Rattle.gpl_defs.specs.declared.instruction.GplInstr.{GplInstr}
 use Rattle.gpl_defs.specs.declared.instruction.GplInstr.TheVariants as instr
-use Rattle.gpl_source_defs.specs.Values.{scratchpad, held_address, operand, number, index_of, index_value}
+use Rattle.gpl_source_defs.specs.Values.{held_address, operand, number, index_of, index_value}
 use Rattle.gpl_listing_defs.specs.Texts.{prefix, shown_address, index_text, operand_text, source_text, length_text, target_text, from_text}
 use Rattle.listed_lines.proofs.Scans.{all_both}
 use Rattle.listed_lines.proofs.DigitLaws.{digits_pass, word_passes, byte_passes}
 use Rattle.gpl_listing_defs.proofs.NumberLaws.{word_value}
 use Rattle.listed_lines.proofs.OperandLines.{whole}
 use Rattle.gpl_listing_defs.proofs.FormLaws.{memory_of, index_written, rest_of}
+use Rattle.gpl_defs.specs.declared.scratchpad.TheConstants.{SCRATCHPAD}
 
 -- ---- numbers that have room
 
@@ -88,7 +89,7 @@ index_all : (p : ℕ → Bool) → Alphabet p → (index : Option ℕ) → list_
 index_all p a None = refl
 index_all p a (Some i) =
     rw (a.opens, a.at_sign)
-    (all_both p (marked_word (scratchpad + i)) (0x29 ∷ []) (word_passes p (scratchpad + i) a.digits a.sign)
+    (all_both p (marked_word (SCRATCHPAD + i)) (0x29 ∷ []) (word_passes p (SCRATCHPAD + i) a.digits a.sign)
     (rw a.closes refl))
 
 rest_all : (p : ℕ → Bool) → Alphabet p → (n : ℕ) (index : Option ℕ) → list_all p (rest_of n index) ≡ true
@@ -162,16 +163,16 @@ shown_fits Vdp true address lt = omega arith
 shown_fits Cpu indirect address lt = omega arith
 
 module _ (look : List ℕ → Option Value) (here : ℕ) where
-  index_number : (i : ℕ) → i < 256 → index_of (scratchpad + i) ≡ Ok i
+  index_number : (i : ℕ) → i < 256 → index_of (SCRATCHPAD + i) ≡ Ok i
   index_number i lt =
-      let from : nat_le scratchpad (scratchpad + i) ≡ true = grind (arith, nat_tests) in
-      let to : nat_le (scratchpad + i) (scratchpad + 255) ≡ true = grind (arith, nat_tests) in
-      let back : scratchpad + i - scratchpad ≡ i = omega arith in
+      let from : nat_le SCRATCHPAD (SCRATCHPAD + i) ≡ true = grind (arith, nat_tests) in
+      let to : nat_le (SCRATCHPAD + i) (SCRATCHPAD + 255) ≡ true = grind (arith, nat_tests) in
+      let back : SCRATCHPAD + i - SCRATCHPAD ≡ i = omega arith in
       rw (from, to, back) refl
 
   index_back : (index : Option ℕ) → IndexFits index → index_value look here (index_written index) ≡ Ok index
   index_back None fits = refl
-  index_back (Some i) fits = rw (word_value look here (scratchpad + i) (omega arith), index_number i fits) refl
+  index_back (Some i) fits = rw (word_value look here (SCRATCHPAD + i) (omega arith), index_number i fits) refl
 
   pub operand_back : (held : GplOperand) → OperandFits held → operand look here (memory_of held) ≡ Ok held
   operand_back held fits =

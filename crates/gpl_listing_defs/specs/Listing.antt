@@ -8,12 +8,12 @@ use Rattle.gpl_defs.specs.declared.instruction.GplRead.{GplRead}
 use Rattle.gpl_defs.specs.declared.instruction.GplRead.TheVariants.{Instr, Refused}
 use Rattle.gpl_defs.specs.Bytes.{bytes_of}
 use Rattle.gpl_defs.specs.Reading.{reading, stand}
-use Rattle.gpl_source_defs.specs.Locations.{grom_size}
 use Rattle.gpl_listing_defs.specs.Texts.{instr_text}
+use Rattle.grom_defs.specs.Addresses.{GROM_SIZE}
 
 -- the first address of the next GROM
 abbrev pub boundary : ℕ → ℕ
-boundary at = at / grom_size * grom_size + grom_size
+boundary at = at / GROM_SIZE * GROM_SIZE + GROM_SIZE
 
 -- what a line says, and how many bytes it stands for
 pub record Listed : Type 0 where
@@ -44,11 +44,11 @@ listed_at image at end = listed_by image at end (reading image at)
 -- Profile: a GROM is told by its first address, and the place in it by an offset.
 abbrev pub origin_texts : ℕ → List (List ℕ)
 origin_texts at =
-    (codes "GROM " ++ marked_word (at / grom_size * grom_size)) ∷ (codes "AORG " ++ marked_word (at % grom_size)) ∷ []
+    (codes "GROM " ++ marked_word (at / GROM_SIZE * GROM_SIZE)) ∷ (codes "AORG " ++ marked_word (at % GROM_SIZE)) ∷ []
 
 -- these stand again where a byte begins a GROM, unless it is the first of all
 abbrev pub origin_texts_at : ℕ → ℕ → List (List ℕ)
-origin_texts_at low at = if (at % grom_size == 0) && not (at == low) then origin_texts at else []
+origin_texts_at low at = if (at % GROM_SIZE == 0) && not (at == low) then origin_texts at else []
 
 -- What the lines of so many bytes from an address on say, by the address of the first of all and the end behind the
 -- last. The first of them may belong to the line before, and have none of their own.

@@ -24,8 +24,8 @@ use Rattle.gpl_defs.specs.declared.instruction.GplRead.TheVariants.{Instr, Refus
 use Rattle.gpl_source_defs.specs.declared.mnemonic.Mnemonic.{Mnemonic}
 use Rattle.gpl_source_defs.specs.declared.mnemonic.Mnemonic.TheVariants as named
 use Rattle.gpl_source_defs.specs.Mnemonics.{name_of}
-use Rattle.gpl_source_defs.specs.Locations.{grom_size}
-use Rattle.gpl_source_defs.specs.Values.{scratchpad}
+use Rattle.grom_defs.specs.Addresses.{in_grom_of}
+use Rattle.gpl_defs.specs.declared.scratchpad.TheConstants.{SCRATCHPAD}
 
 -- what an operand begins with
 abbrev pub prefix : Space → Bool → List ℕ
@@ -38,12 +38,12 @@ prefix Vdp true = codes "V*"
 -- offset from >8300.
 abbrev pub shown_address : Space → Bool → ℕ → ℕ
 shown_address Vdp false address = address
-shown_address Vdp true address = (address + scratchpad) % 0x10000
-shown_address Cpu indirect address = (address + scratchpad) % 0x10000
+shown_address Vdp true address = (address + SCRATCHPAD) % 0x10000
+shown_address Cpu indirect address = (address + SCRATCHPAD) % 0x10000
 
 abbrev pub index_text : Option ℕ → List ℕ
 index_text None = []
-index_text (Some index) = codes "(@" ++ (marked_word (scratchpad + index) ++ codes ")")
+index_text (Some index) = codes "(@" ++ (marked_word (SCRATCHPAD + index) ++ codes ")")
 
 unfoldable pub operand_text : GplOperand → List ℕ
 operand_text operand =
@@ -72,10 +72,6 @@ from_text (from.At operand) = operand_text operand
 from_text (from.Grom address) = codes "G@" ++ marked_word address
 from_text (from.GromIndexed address index) = codes "G@" ++ (marked_word address ++ index_text (Some index))
 
--- The target of a branch: its offset in the GROM of an address.
-abbrev pub branch_target : ℕ → ℕ → ℕ
-branch_target at offset = at / grom_size * grom_size + offset
-
 -- what an instruction is called
 abbrev pub mnemonic_of : GplInstr → Mnemonic
 mnemonic_of (Plain op) = named.Plain op
@@ -93,7 +89,7 @@ abbrev pub operands_text : GplInstr → ℕ → Option (List ℕ)
 operands_text (Plain op) at = None
 operands_text (Byte op value) at = Some (marked_byte value)
 operands_text (Jump op to) at = Some (marked_word to)
-operands_text (Branch on offset) at = Some (marked_word (branch_target at offset))
+operands_text (Branch on offset) at = Some (marked_word (in_grom_of at offset))
 operands_text (One op word operand) at = Some (operand_text operand)
 operands_text (Two op word dst src) at = Some (two_texts (operand_text dst) (source_text word src))
 operands_text (Move length to source) at =

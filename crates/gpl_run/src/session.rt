@@ -1,7 +1,7 @@
 //! Sessions.
 
 ghost use Rattle.std.specs.Prelude.{◌≡◌, ℕ, None, is_none};
-ghost use Rattle.console_defs.specs.Grom.{previous_in_grom};
+ghost use Rattle.grom_defs.specs.Addresses.{previous_in_grom};
 ghost use Rattle.gpl_step_defs.specs.State.{start};
 ghost use Rattle.interp_defs.specs.Match.{shown_by};
 ghost use Rattle.interp_defs.specs.Programs.{most_of_boot};

@@ -2,7 +2,7 @@
 use Rattle.std.proofs.Common.{◌≡◌, ℕ, ◌+◌, ◌%◌, ◌≤◌, Bool, true, false, List, Some, None, Ok, Err, refl, sym, ap, subst, ◌∙◌, arith}
 use Rattle.std.specs.Prelude.{Option, Result, IfSome, not, nat_lt, ◌==◌}
 use Rattle.std.proofs.lemmas.Bool.Decides.{nat_tests}
-use Rattle.source_defs.specs.Refusals.{◌>>=◌}
+use Rattle.source_defs.specs.Refusals.{◌>>=◌, unless}
 use Rattle.source_defs.specs.Fields.{fields}
 use Rattle.source_defs.specs.Symbols.{Names, look_up}
 use Rattle.source_defs.specs.Layout.{set_or}
@@ -11,8 +11,9 @@ use Rattle.gpl_source_defs.specs.declared.causes.GplCause.{GplCause}
 use Rattle.gpl_source_defs.specs.declared.causes.GplCause.TheVariants.{DuplicateLabel, GromFull, BadDirective}
 use Rattle.gpl_source_defs.specs.declared.location.Location.{Location}
 use Rattle.gpl_source_defs.specs.Statements.{Statement, Nothing, Instruction, Grom, Aorg, Equ, Bss, Data, Byte, Text, End, statement_at, size_said}
-use Rattle.gpl_source_defs.specs.Locations.{address_of, origin_of, behind, grom_size, passes, IsInGrom}
-use Rattle.gpl_source_defs.specs.FirstChecks.{Checked, as_text, checked, is_bad, is_full, is_taken, said, unless}
+use Rattle.gpl_source_defs.specs.Locations.{address_of, origin_of, behind, passes, IsInGrom}
+use Rattle.gpl_source_defs.specs.FirstChecks.{Checked, as_text, checked, is_bad, is_full, is_taken, said}
+use Rattle.grom_defs.specs.Addresses.{GROM_SIZE}
 
 let_through : {A : Type 0} (against : Bool) (cause : GplCause) (value found : A) → unless against cause value ≡ Ok found → (against ≡ false) × (value ≡ found)
 let_through true cause value found e = cc e
@@ -53,7 +54,7 @@ fitting here bytes is fits = record {
   within = grind (arith, nat_tests, fits);
 }
 
-at_start : (address : ℕ) → address ≤ 65535 → not (address % grom_size == 0) ≡ false → IsInGrom (behind (record { grom = address; number = address }) 0)
+at_start : (address : ℕ) → address ≤ 65535 → not (address % GROM_SIZE == 0) ≡ false → IsInGrom (behind (record { grom = address; number = address }) 0)
 at_start address le fine = record {
   aligned = grind (arith, nat_tests, fine);
   address = le;
@@ -61,7 +62,7 @@ at_start address le fine = record {
   within = omega arith;
 }
 
-at_offset : (here : Location) (offset : ℕ) → IsInGrom here → not (nat_lt offset grom_size) ≡ false
+at_offset : (here : Location) (offset : ℕ) → IsInGrom here → not (nat_lt offset GROM_SIZE) ≡ false
     → IsInGrom (behind (record { grom = here.grom; number = here.grom + offset }) 0)
 at_offset here offset is fine = record {
   aligned = is.aligned;

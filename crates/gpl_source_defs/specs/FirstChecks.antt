@@ -7,7 +7,7 @@
 use Rattle.std.specs.Prelude.{ℕ, ◌%◌, ◌==◌, Bool, true, false, not, nat_lt, List, [], ◌∷◌, Option, Some, None, Result}
 use Rattle.std.specs.Prelude.{Ok, Err, is_some}
 use Rattle.std.specs.FinMap.{get}
-use Rattle.source_defs.specs.Refusals.{◌>>=◌}
+use Rattle.source_defs.specs.Refusals.{◌>>=◌, unless}
 use Rattle.source_defs.specs.declared.causes.TextError.{TextError}
 use Rattle.source_defs.specs.Expression.{Value, Absolute}
 use Rattle.source_defs.specs.Fields.{fields}
@@ -18,12 +18,8 @@ use Rattle.gpl_source_defs.specs.declared.causes.GplCause.TheVariants as cause
 use Rattle.gpl_source_defs.specs.declared.causes.GplCause.TheVariants.{DuplicateLabel, GromFull, BadDirective}
 use Rattle.gpl_source_defs.specs.declared.location.Location.{Location}
 use Rattle.gpl_source_defs.specs.Statements.{Statement, Grom, Aorg, Equ, End, statement_at, size_said}
-use Rattle.gpl_source_defs.specs.Locations.{Line, location, address_of, origin_of, grom_size, passes}
-
--- a value, unless something speaks against it
-abbrev pub unless : {A : Type 0} → Bool → GplCause → A → Result A GplCause
-unless true cause value = Err cause
-unless false cause value = Ok value
+use Rattle.gpl_source_defs.specs.Locations.{Line, location, address_of, origin_of, passes}
+use Rattle.grom_defs.specs.Addresses.{GROM_SIZE}
 
 -- a line that has no fields is refused for the cause that it has none
 abbrev pub as_text : {A : Type 0} → Result A TextError → Result A GplCause
@@ -60,8 +56,8 @@ is_full here statement = passes here (size_said statement)
 -- Profile: EQU has a label, a GROM starts at a multiple of >2000, and AORG sets one of its offsets.
 abbrev pub is_bad : Option (List ℕ) → Statement → Bool
 is_bad None (Equ number) = true
-is_bad label (Grom address) = not (address % grom_size == 0)
-is_bad label (Aorg offset) = not (nat_lt offset grom_size)
+is_bad label (Grom address) = not (address % GROM_SIZE == 0)
+is_bad label (Aorg offset) = not (nat_lt offset GROM_SIZE)
 is_bad label _ = false
 
 abbrev pub is_end : Statement → Bool

@@ -29,6 +29,16 @@ is_at byte = byte == 0x40
 abbrev pub is_star : ℕ → Bool
 is_star byte = byte == 0x2A
 
+-- the letters V, G and R, in upper case
+abbrev pub video_letter : ℕ
+video_letter = 0x56
+
+abbrev pub grom_letter : ℕ
+grom_letter = 0x47
+
+abbrev pub register_letter : ℕ
+register_letter = 0x52
+
 -- The text ends with an index in parentheses, which begins with @.
 -- Profile: it is cut at the first parenthesis that opens outside quotes; one that stands elsewhere belongs to an
 -- expression, which is refused for it.
@@ -48,10 +58,10 @@ in_memory space indirect text =
 -- the form of an operand that begins with a letter, by that letter in upper case, the sign behind it and the rest
 abbrev pub signed_form : List ℕ → ℕ → ℕ → List ℕ → Form
 signed_form text letter sign rest =
-    if (letter == 0x56) && is_at sign then in_memory Vdp false rest
-    else if (letter == 0x56) && is_star sign then in_memory Vdp true rest
-    else if (letter == 0x47) && is_at sign then InGrom (address_text rest) (index_text rest)
-    else if (letter == 0x52) && is_at sign then Register rest
+    if (letter == video_letter) && is_at sign then in_memory Vdp false rest
+    else if (letter == video_letter) && is_star sign then in_memory Vdp true rest
+    else if (letter == grom_letter) && is_at sign then InGrom (address_text rest) (index_text rest)
+    else if (letter == register_letter) && is_at sign then Register rest
     else Alone text
 
 abbrev pub lettered_form : List ℕ → Form

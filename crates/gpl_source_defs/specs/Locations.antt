@@ -1,4 +1,7 @@
 -- The locations of a GPL source.
+--
+-- GPL Programmer's Guide, GROM: each has its addresses, and the next begins >2000 behind. Profile: it has bytes at all
+-- of them.
 use Rattle.std.specs.Prelude.{◌≡◌, ◌≤◌, ℕ, ◌+◌, ◌/◌, ◌%◌, ◌==◌, Bool, nat_lt, if◌then◌else◌, List, Option, Some, None}
 use Rattle.std.specs.Prelude.{Result, Ok, Err}
 use Rattle.source_defs.specs.Expression.{to_word}
@@ -8,15 +11,11 @@ use Rattle.gpl_source_defs.specs.declared.causes.GplCause.{GplCause}
 use Rattle.gpl_source_defs.specs.declared.causes.GplCause.TheVariants.{OtherGrom}
 use Rattle.gpl_source_defs.specs.declared.location.Location.{Location}
 use Rattle.gpl_source_defs.specs.Statements.{Statement, Grom, Aorg}
+use Rattle.grom_defs.specs.Addresses.{GROM_SIZE}
 
 -- a line of a GPL source
 abbrev pub Line : Type 0
 Line = Laid Location Statement
-
--- GPL Programmer's Guide, GROM: each has its addresses, and the next begins >2000 behind.
--- Profile: it has bytes at all of them.
-abbrev pub grom_size : ℕ
-grom_size = 0x2000
 
 -- Profile: a source starts at >6000.
 abbrev pub start : Location
@@ -37,7 +36,7 @@ address_of location = to_word location.number
 
 -- some bytes from a location on pass the last address of its GROM
 abbrev pub passes : Location → ℕ → Bool
-passes here bytes = nat_lt (here.grom + grom_size) (here.number + bytes)
+passes here bytes = nat_lt (here.grom + GROM_SIZE) (here.number + bytes)
 
 -- The location that a line sets. Profile: GROM sets the first address of a GROM, and AORG an offset in the GROM that
 -- was set last.
@@ -49,11 +48,11 @@ origin_of here _ = None
 -- Profile: BR and BS lead to an offset in the GROM of their line.
 abbrev pub branch_offset : Location → ℕ → Result ℕ GplCause
 branch_offset at target =
-    if target / grom_size == at.grom / grom_size then Ok (target % grom_size) else Err OtherGrom
+    if target / GROM_SIZE == at.grom / GROM_SIZE then Ok (target % GROM_SIZE) else Err OtherGrom
 
 -- a location of a GROM, or the one behind its last
 pub record IsInGrom (here : Location) : Type 0 where
-  pub aligned : here.grom % grom_size ≡ 0
+  pub aligned : here.grom % GROM_SIZE ≡ 0
   pub address : here.grom ≤ 65535
   pub from : here.grom ≤ here.number
-  pub within : here.number ≤ here.grom + grom_size
+  pub within : here.number ≤ here.grom + GROM_SIZE

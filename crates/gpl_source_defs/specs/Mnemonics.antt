@@ -21,7 +21,7 @@ use Rattle.gpl_source_defs.specs.declared.mnemonic.Mnemonic.TheVariants.{Plain, 
 
 -- Profile: the form of words has D before the name.
 abbrev pub name_of_words : Row → List ℕ
-name_of_words row = 0x44 ∷ row.name
+name_of_words row = codes "D" ++ row.name
 
 -- The name of an instruction: that of its row in the table of codes.
 abbrev pub name_of : Mnemonic → List ℕ

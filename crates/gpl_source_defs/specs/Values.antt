@@ -11,6 +11,7 @@ use Rattle.gpl_defs.specs.declared.instruction.GplOperand.{GplOperand}
 use Rattle.gpl_source_defs.specs.declared.causes.GplCause.{GplCause}
 use Rattle.gpl_source_defs.specs.declared.causes.GplCause.TheVariants.{Expr, BadOperand}
 use Rattle.gpl_source_defs.specs.Forms.{Memory}
+use Rattle.gpl_defs.specs.declared.scratchpad.TheConstants.{SCRATCHPAD}
 
 -- an expression's refusal is one of the line
 abbrev pub as_expr : {A : Type 0} → Result A ExprError → Result A GplCause
@@ -23,20 +24,16 @@ number_in (Absolute number) = Ok number
 number_in (Relocatable number) = Err BadRelocation
 number_in (External name) = Err BadRelocation
 
--- GPL Programmer's Guide, operands: the scratchpad begins at >8300.
-abbrev pub scratchpad : ℕ
-scratchpad = 0x8300
-
 -- The address that an operand holds. Profile: one of the processor is an offset from >8300, as is that of a pointer.
 abbrev pub held_address : Space → Bool → ℕ → ℕ
 held_address Vdp false number = number
-held_address Vdp true number = (number + 0x10000 - scratchpad) % 0x10000
-held_address Cpu indirect number = (number + 0x10000 - scratchpad) % 0x10000
+held_address Vdp true number = (number + 0x10000 - SCRATCHPAD) % 0x10000
+held_address Cpu indirect number = (number + 0x10000 - SCRATCHPAD) % 0x10000
 
 -- Profile: the word that is added lies from >8300 to >83FF.
 abbrev pub index_of : ℕ → Result ℕ GplCause
 index_of number =
-    if nat_le scratchpad number && nat_le number (scratchpad + 255) then Ok (number - scratchpad) else Err BadOperand
+    if nat_le SCRATCHPAD number && nat_le number (SCRATCHPAD + 255) then Ok (number - SCRATCHPAD) else Err BadOperand
 
 -- Profile: a byte value is from -128 to 255.
 abbrev pub byte_of : ℕ → Result ℕ GplCause

@@ -5,10 +5,10 @@ use Rattle.std.proofs.lemmas.Bool.Decides.{nat_tests}
 use Rattle.tms_defs.specs.Words.{join}
 use Rattle.tms_defs.specs.Bytes.{HoldsBytes}
 use Rattle.tms_defs.proofs.ByteLaws.{replicated_zeros}
-use Rattle.console_defs.specs.Grom.{next_in_grom}
+use Rattle.grom_defs.specs.Addresses.{next_in_grom}
 use Rattle.tms_defs.specs.Flags.{Width, modulus, size_of}
 use Rattle.tms_defs.proofs.WordLaws.{join-fits}
-use Rattle.console_defs.proofs.GromLaws.{next-fits}
+use Rattle.grom_defs.proofs.AddressLaws.{next-fits}
 use Rattle.gpl_defs.specs.declared.instruction.GplOperand.{GplOperand}
 use Rattle.gpl_defs.specs.declared.instruction.GplSource.{GplSource}
 use Rattle.gpl_defs.specs.declared.instruction.GplSource.TheVariants as source
@@ -34,7 +34,7 @@ use Rattle.gpl_step_defs.specs.declared.cells.TheConstants.{VISIBLE_CELLS, VALUE
 use Rattle.gpl_step_defs.specs.Laws.{StepsKeepStates}
 use Rattle.gpl_step_defs.specs.Place.{place_of, value_at}
 use Rattle.gpl_step_defs.specs.Changes.{Changes, unchanged, shown, finished}
-use Rattle.gpl_step_defs.specs.Flow.{in_grom_of}
+use Rattle.grom_defs.specs.Addresses.{in_grom_of}
 use Rattle.gpl_step_defs.specs.Copy.{From, FromMemory, FromGrom, To, ToMemory, ToRegisters, byte_from, next_from, with_byte_to, next_to, copied, length_of}
 use Rattle.gpl_step_defs.specs.Copy.{within_limit, target_of, origin_of, moved}
 use Rattle.gpl_step_defs.specs.Step.{word_or_byte, destination_size, source_of, changes_of, after, executed, step}

@@ -9,15 +9,7 @@ use Rattle.gpl_step_defs.specs.declared.reason.Reason.{Reason}
 use Rattle.gpl_step_defs.specs.declared.reason.Reason.TheVariants.{Exit, Opcode, Cell, Stack, Length, Register}
 use Rattle.gpl_step_defs.specs.State.{GplState, zeros, start}
 use Rattle.gpl_step_defs.specs.Step.{after}
-
--- the instruction of any row, also of one that the interpreter does not execute yet
-abbrev read_step : GplRead → GplState → Result GplState Reason
-read_step (Instr instr next) s = after instr next s
-read_step (Refused code) s = Err Opcode
-
-abbrev steps : ℕ → GplState → Result GplState Reason
-steps zero s = Ok s
-steps (suc count) s = read_step (reading s.image s.pc) s >>= λ s. steps count s
+use Rattle.gpl_step_defs.specs.Run.{steps}
 
 -- a program with these cells from >8300 on
 abbrev given : List ℕ → List ℕ → GplState

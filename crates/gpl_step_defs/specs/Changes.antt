@@ -12,6 +12,7 @@ use Rattle.gpl_step_defs.specs.declared.status_bits.TheConstants.{HIGHER_BIT, GR
 use Rattle.gpl_step_defs.specs.declared.status_bits.TheConstants.{OVERFLOW_BIT}
 use Rattle.gpl_step_defs.specs.State.{GplState}
 use Rattle.gpl_step_defs.specs.Place.{Place, behind}
+use Rattle.gpl_step_defs.specs.declared.limits.TheConstants.{SCREEN_WIDTH}
 
 -- the state so far, and whether a byte was stored at the character's cell
 pub record Changes : Type 0 where
@@ -94,7 +95,7 @@ abbrev pub shown : Bool → GplState → GplState
 shown false s = s
 shown true s =
     record s {
-      vdp = slice_set s.vdp (32 * slice_index s.cells ROW + slice_index s.cells COLUMN) (slice_index s.cells CHARACTER);
+      vdp = slice_set s.vdp (SCREEN_WIDTH * slice_index s.cells ROW + slice_index s.cells COLUMN) (slice_index s.cells CHARACTER);
     }
 
 -- the state after all changes

@@ -1,7 +1,7 @@
 -- MOVE: so many bytes go from one place to another. GPL Programmer's Guide, MOVE.
 use Rattle.std.specs.Prelude.{ℕ, zero, suc, ◌+◌, nat_lt, nat_le, if◌then◌else◌, slice_index, Some, Result, Ok, Err}
 use Rattle.tms_defs.specs.Flags.{Word}
-use Rattle.console_defs.specs.Grom.{next_in_grom}
+use Rattle.grom_defs.specs.Addresses.{next_in_grom}
 use Rattle.source_defs.specs.Refusals.{◌>>=◌}
 use Rattle.gpl_defs.specs.declared.instruction.MoveLength.{MoveLength}
 use Rattle.gpl_defs.specs.declared.instruction.MoveLength.TheVariants as counted
@@ -14,6 +14,7 @@ use Rattle.gpl_step_defs.specs.declared.reason.Reason.TheVariants.{Length, Regis
 use Rattle.gpl_step_defs.specs.State.{GplState}
 use Rattle.gpl_step_defs.specs.Place.{Place, behind, place_of, indexed, byte_at, value_at}
 use Rattle.gpl_step_defs.specs.Changes.{Changes, with_byte, with_register}
+use Rattle.gpl_step_defs.specs.declared.limits.TheConstants.{MOST_MOVED, VIDEO_REGISTERS}
 
 -- Where the next byte comes from: memory, or GROM. Where it goes: memory, or the video processor's registers.
 pub data From : Type 0 where
@@ -29,15 +30,15 @@ abbrev pub length_of : GplState → MoveLength → Result ℕ Reason
 length_of s (counted.At operand) = place_of s 2 operand >>= λ p. Ok (value_at s Word p)
 length_of s (counted.Immediate count) = Ok count
 
--- Profile: a length is at most 16,384 bytes, and 0 is one too.
+-- Profile: at most 16,384 bytes are copied; 0 is a length too.
 abbrev pub within_limit : ℕ → Result ℕ Reason
-within_limit bytes = if nat_lt 16384 bytes then Err Length else Ok bytes
+within_limit bytes = if nat_lt MOST_MOVED bytes then Err Length else Ok bytes
 
 -- Profile: the number of the first register and the length together are at most 8.
 abbrev pub target_of : GplState → ℕ → MoveTarget → Result To Reason
 target_of s bytes (target.At operand) = place_of s bytes operand >>= λ p. Ok (ToMemory p)
 target_of s bytes (target.Register number) =
-    if nat_le (number + bytes) 8 then Ok (ToRegisters number) else Err Register
+    if nat_le (number + bytes) VIDEO_REGISTERS then Ok (ToRegisters number) else Err Register
 
 -- Profile: an index adds a word to the address in GROM, in 16 bits.
 abbrev pub origin_of : GplState → ℕ → MoveSource → Result From Reason

@@ -4,7 +4,7 @@ use Rattle.std.specs.Prelude.{Err}
 use Rattle.tms_defs.specs.Words.{plus}
 use Rattle.tms_defs.specs.Flags.{Word}
 use Rattle.tms_defs.specs.Logic.{swapped}
-use Rattle.console_defs.specs.Grom.{next_in_grom}
+use Rattle.grom_defs.specs.Addresses.{next_in_grom}
 use Rattle.source_defs.specs.Refusals.{◌>>=◌}
 use Rattle.gpl_defs.specs.declared.instruction.Space.TheVariants.{Cpu}
 use Rattle.gpl_step_defs.specs.declared.cells.TheConstants.{VALUE_STACK, RETURN_STACK, RANDOM, SEED}
@@ -13,10 +13,6 @@ use Rattle.gpl_step_defs.specs.declared.reason.Reason.TheVariants.{Stack}
 use Rattle.gpl_step_defs.specs.State.{GplState}
 use Rattle.gpl_step_defs.specs.Place.{Place, is_visible, word_at}
 use Rattle.gpl_step_defs.specs.Changes.{Changes, condition, with_cell, with_byte, with_value, with_pc, with_condition}
-
--- an address with thirteen bits of its own in the GROM of another. GPL Programmer's Guide, BR and BS.
-abbrev pub in_grom_of : ℕ → ℕ → ℕ
-in_grom_of address offset = address / 8192 * 8192 + offset
 
 -- BS jumps where COND is 1, BR where it is 0. GPL Programmer's Guide, BR and BS.
 abbrev pub is_taken : Bool → Bool → Bool

@@ -8,6 +8,7 @@ use Rattle.std.specs.Prelude.{Result, Ok, Err}
 use Rattle.tms_defs.specs.Status.{is_set}
 use Rattle.tms_defs.specs.Flags.{Width, Byte, Word, size_of}
 use Rattle.tms_defs.specs.Logic.{complement_of}
+use Rattle.grom_defs.specs.Addresses.{in_grom_of}
 use Rattle.source_defs.specs.Refusals.{◌>>=◌}
 use Rattle.gpl_defs.specs.declared.instruction.PlainOp.{PlainOp}
 use Rattle.gpl_defs.specs.declared.instruction.PlainOp.TheVariants.{RTN, RTNC, H, GT, EXIT, CARRY, OVF}
@@ -48,8 +49,10 @@ use Rattle.gpl_step_defs.specs.Place.{Place, place_of, value_at}
 use Rattle.gpl_step_defs.specs.Changes.{Changes, unchanged, with_pc, with_register, with_value, with_condition, status_of}
 use Rattle.gpl_step_defs.specs.Changes.{finished}
 use Rattle.gpl_step_defs.specs.Arithmetic.{Source, added, subtracted, negated, made_absolute, two}
-use Rattle.gpl_step_defs.specs.Flow.{in_grom_of, branched, selected, called, returned, pushed, fetched, drawn}
+use Rattle.gpl_step_defs.specs.Flow.{branched, selected, called, returned, pushed, fetched, drawn}
 use Rattle.gpl_step_defs.specs.Copy.{moved}
+use Rattle.gpl_step_defs.specs.declared.limits.TheConstants.{SCREEN_BYTES, BORDER_REGISTER}
+use Rattle.gpl_defs.specs.declared.instruction.GplOperand.{GplOperand}
 
 abbrev pub word_or_byte : Bool → Width
 word_or_byte true = Word
@@ -70,14 +73,14 @@ plain GT c = Ok (with_tested GREATER_BIT c)
 plain CARRY c = Ok (with_tested CARRY_BIT c)
 plain OVF c = Ok (with_tested OVERFLOW_BIT c)
 
--- ALL fills the screen, the first 768 bytes of video memory. GPL Programmer's Guide, ALL.
+-- ALL fills the screen, the first bytes of video memory. GPL Programmer's Guide, ALL.
 abbrev pub filled : ℕ → List ℕ → List ℕ
-filled byte vdp = replicate 768 byte ++ drop 768 vdp
+filled byte vdp = replicate SCREEN_BYTES byte ++ drop SCREEN_BYTES vdp
 
 -- The operations on a byte. BACK loads the register of the border colour. GPL Programmer's Guide, BACK.
 abbrev pub with_immediate : ByteOp → ℕ → Changes → Changes
 with_immediate RAND limit c = drawn limit c
-with_immediate BACK byte c = with_register 7 byte c
+with_immediate BACK byte c = with_register BORDER_REGISTER byte c
 with_immediate ALL byte c = record c { state = record c.state { vdp = filled byte c.state.vdp } }
 
 abbrev pub jump : GoOp → ℕ → Changes → Result Changes Reason
@@ -112,19 +115,27 @@ source_of s width (source.At operand) =
     place_of s (size_of width) operand >>= λ p. Ok (record { number = value_at s width p; place = Some p })
 source_of s width (source.Immediate value) = Ok (record { number = value; place = None })
 
+-- One operand: its place, and what stands there.
+abbrev pub one_operand : OneName → Width → GplOperand → Changes → Result Changes Reason
+one_operand op width operand c = do
+  p ← place_of c.state (size_of width) operand
+  one op width p (value_at c.state width p) c
+
+-- Two operands: the destination's place, the source, and what stands at that place.
+abbrev pub two_operands : TwoName → Width → GplOperand → GplSource → Changes → Result Changes Reason
+two_operands op width dst src c = do
+  p ← place_of c.state (destination_size op width) dst
+  source ← source_of c.state width src
+  Ok (two op width p (value_at c.state width p) source c)
+
 -- What an instruction changes, where the one behind it has its address already.
 abbrev pub changes_of : GplInstr → ℕ → Changes → Result Changes Reason
 changes_of (Plain op) at c = plain op c
 changes_of (OfByte op value) at c = Ok (with_immediate op value c)
 changes_of (Jump op to) at c = jump op to c
-changes_of (Branch on low) at c = Ok (branched on (in_grom_of at low) c)
-changes_of (One op word operand) at c = do
-  p ← place_of c.state (size_of (word_or_byte word)) operand
-  one op (word_or_byte word) p (value_at c.state (word_or_byte word) p) c
-changes_of (Two op word dst src) at c = do
-  p ← place_of c.state (destination_size op (word_or_byte word)) dst
-  source ← source_of c.state (word_or_byte word) src
-  Ok (two op (word_or_byte word) p (value_at c.state (word_or_byte word) p) source c)
+changes_of (Branch on offset) at c = Ok (branched on (in_grom_of at offset) c)
+changes_of (One op word operand) at c = one_operand op (word_or_byte word) operand c
+changes_of (Two op word dst src) at c = two_operands op (word_or_byte word) dst src c
 changes_of (Move length target source) at c = moved length target source c
 
 -- the state after an instruction that stands at the state's pc, or why it stops

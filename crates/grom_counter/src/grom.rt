@@ -2,11 +2,12 @@
 
 ghost use Rattle.std.specs.Prelude.{◌≡◌, ◌<◌, ℕ, ◌+◌, ◌*◌, ◌/◌, ◌%◌, length, slice_index, IfOk};
 ghost use Rattle.tms_defs.specs.Bytes.{HoldsBytes};
-ghost use Rattle.console_defs.specs.Grom.{IsGrom, new_grom, is_grom_idle, next_in_grom, previous_in_grom};
+ghost use Rattle.console_defs.specs.Grom.{IsGrom, new_grom, is_grom_idle};
 ghost use Rattle.console_defs.specs.Grom.{grom_fetched_ahead, grom_address_written};
 ghost use Rattle.console_defs.specs.Grom.{grom_address_read, grom_data_read};
 
 use byte_lists::holds_bytes;
+use grom_addresses::next_in_grom;
 use std::alloc::{AllocError, Global};
 use std::marker::Model;
 
@@ -137,14 +138,4 @@ impl Grom {
         self.fetched = self.image[self.counter as usize];
         self.counter = next_in_grom(self.counter);
     }
-}
-
-/// The address after an address, in the same GROM: the top three bits stay, the low thirteen count up and wrap
-/// (GPL Programmer's Guide, on the GROM address counter).
-#[inline]
-pub fn next_in_grom(at: u16) -> u16
-    ensures next { result ≡ next_in_grom at }
-    ensures back { previous_in_grom result ≡ at }
-{
-    at / 8192 * 8192 + (at % 8192 + 1) % 8192
 }

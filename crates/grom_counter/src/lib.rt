@@ -3,4 +3,4 @@
 
 mod grom;
 
-pub use grom::{Grom, next_in_grom};
+pub use grom::Grom;

@@ -7,8 +7,9 @@ use Rattle.tms_defs.specs.declared.instruction.Place.{Place}
 use Rattle.tms_defs.specs.declared.instruction.Instr.{Instr}
 use Rattle.tms_defs.specs.declared.instruction.Instr.TheVariants.{Two, Reg, Shift, One, Jump, Imm, Bare}
 use Rattle.instruction_defs.specs.Operations.{name_of}
-use Rattle.instruction_defs.specs.Operands.{following_words, has_immediate, has_value, one_if, words_of}
+use Rattle.instruction_defs.specs.Operands.{following_words, has_immediate, has_value, words_of}
 use Rattle.instruction_defs.specs.Printed.{printed, printed_where, operands_text, operand_text, two_texts, with_operands}
+use Rattle.count_defs.specs.Counts.{one_if}
 
 following_few : (place : Place) → following_words place ≤ 1
 following_few place = by (place.mode == 2)

@@ -15,6 +15,7 @@ use Rattle.tms_defs.specs.declared.instruction.Instr.{Instr}
 use Rattle.tms_defs.specs.declared.instruction.Instr.TheVariants.{Two, Reg, Shift, One, Jump, Imm, Bare}
 use Rattle.instruction_defs.specs.declared.slot.Slot.{Slot}
 use Rattle.instruction_defs.specs.declared.slot.Slot.TheVariants.{General, Register, Count, Immediate, Target, Displacement}
+use Rattle.count_defs.specs.Counts.{one_if}
 
 -- The operation on a register takes a word that follows.
 -- TMS9900 data manual, "Immediate register instructions", "Internal register store instructions".
@@ -33,10 +34,6 @@ has_value _ = false
 -- An operand in mode 2 has a word that follows, its address. TMS9900 data manual, "Addressing modes".
 abbrev pub following_words : Place → ℕ
 following_words place = if place.mode == 2 then 1 else 0
-
-abbrev pub one_if : Bool → ℕ
-one_if true = 1
-one_if false = 0
 
 -- How many words an instruction has: its first, and those of its operands.
 abbrev pub words_of : Instr → ℕ

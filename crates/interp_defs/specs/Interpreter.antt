@@ -1,5 +1,5 @@
 -- A memory that holds the interpreter, and the registers that the interpreter works with.
-use Rattle.std.specs.Prelude.{◌≡◌, ◌<◌, ℕ, ◌*◌, List, [], ◌∷◌, length, slice_index}
+use Rattle.std.specs.Prelude.{◌≡◌, ◌<◌, ℕ, ◌*◌, List, length, slice_index}
 use Rattle.tms_defs.specs.Bytes.{word_in}
 use Rattle.tms_defs.specs.Accesses.{Gives}
 use Rattle.tms_defs.specs.Operand.{register_in}
@@ -16,11 +16,6 @@ HoldsInterpreter bytes =
 abbrev pub HoldsRegister : Memory → ℕ → ℕ → Type 0
 HoldsRegister memory number word = word_read memory (register_in WORKSPACE number) ≡ Gives word
 
--- The registers that hold a constant wherever a step begins, with their words. Profile: there is none, since the words
--- of the interpreter name the ports by their addresses.
-abbrev pub constants : List (ℕ × ℕ)
-constants = []
-
 -- Profile: at the dispatch of a step, where the first table has led, these two registers hold the code byte and its address.
 abbrev pub code_register : ℕ
 code_register = 0
@@ -31,8 +26,3 @@ address_register = 1
 -- No more instructions than these lead to the dispatch from the beginning of a step.
 abbrev pub most_to_dispatch : ℕ
 most_to_dispatch = 29
-
-abbrev pub HoldsConstants : Memory → List (ℕ × ℕ) → Type 0
-HoldsConstants memory [] = Unit {0}
-HoldsConstants memory (constant ∷ others) =
-    HoldsRegister memory constant.0 constant.1 × HoldsConstants memory others

@@ -1,7 +1,8 @@
 -- The match of a machine that runs the interpreter with a state of GPL.
 use Rattle.std.specs.Prelude.{◌≡◌, true, take, slice_index}
 use Rattle.console_defs.specs.Vdp.{is_vdp_idle}
-use Rattle.console_defs.specs.Grom.{GromState, is_grom_idle, previous_in_grom}
+use Rattle.grom_defs.specs.Addresses.{previous_in_grom}
+use Rattle.console_defs.specs.Grom.{GromState, is_grom_idle}
 use Rattle.console_defs.specs.Memory.{Memory}
 use Rattle.console_defs.specs.Machine.{MachineState}
 use Rattle.native_interp.specs.declared.addresses.TheConstants.{GSTEP, GSTOP, GEXIT, WORKSPACE}
@@ -10,7 +11,7 @@ use Rattle.gpl_step_defs.specs.declared.reason.Reason.{Reason}
 use Rattle.gpl_step_defs.specs.declared.reason.Reason.TheVariants.{Exit}
 use Rattle.gpl_step_defs.specs.Reasons.{number_of}
 use Rattle.gpl_step_defs.specs.State.{GplState}
-use Rattle.interp_defs.specs.Interpreter.{HoldsInterpreter, HoldsRegister, HoldsConstants, constants, address_register}
+use Rattle.interp_defs.specs.Interpreter.{HoldsInterpreter, HoldsRegister, address_register}
 
 -- The state of GPL that a memory shows. The counter of the GROMs stands one past the byte to come.
 abbrev pub shown_by : Memory → GplState
@@ -39,7 +40,6 @@ pub record IsMatching (x : MachineState) : Type 0 where
   pub words : HoldsInterpreter x.cpu.memory.low_expansion
   pub idle : PortsAreIdle x.cpu.memory
   pub fetched : IsFetched x.cpu.memory.grom
-  pub constants : HoldsConstants x.cpu.memory constants
 
 -- It matches the state that it shows.
 pub record Matches (s : GplState) (x : MachineState) : Type 0 where

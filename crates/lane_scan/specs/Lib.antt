@@ -1,1 +1,1 @@
-pub mod Plain
+pub use Rattle.list_defs.specs.Lists

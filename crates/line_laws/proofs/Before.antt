@@ -4,7 +4,7 @@ use Rattle.std.specs.Prelude.{Option, Result}
 use Rattle.std.specs.Ordering.{nat_cmp}
 use Rattle.std.specs.Cmp.Lexicographic.{slice_cmp}
 use Rattle.std.specs.FinMap.{empty, get-empty}
-use Rattle.source_defs.specs.Refusals.{◌>>=◌}
+use Rattle.source_defs.specs.Refusals.{◌>>=◌, unless}
 use Rattle.source_defs.specs.Fields.{Fields, fields}
 use Rattle.source_defs.specs.Symbols.{Names, look_up}
 use Rattle.source_defs.specs.Expression.{Value}
@@ -17,7 +17,7 @@ use Rattle.asm_defs.specs.Statements.{Statement, Nothing, Instruction, Aorg, Ror
 use Rattle.asm_defs.specs.Statements.{Byte, Text, Def, Ref, Idt, Titl, End}
 use Rattle.asm_defs.specs.Statements.{as_text, statement_in}
 use Rattle.asm_defs.specs.Locations.{value_of}
-use Rattle.asm_defs.specs.FirstChecks.{Before, Said, Checked, Move, unless, any_known, label_in, is_taken, refs_in}
+use Rattle.asm_defs.specs.FirstChecks.{Before, Said, Checked, Move, any_known, label_in, is_taken, refs_in}
 use Rattle.asm_defs.specs.FirstChecks.{said, moved, move, as_expr}
 use Rattle.asm_defs.specs.FirstChecks.{is_too_far, is_bad, value, known_here}
 use Rattle.instruction_defs.specs.SecondChecks.{absolute}

@@ -4,7 +4,7 @@ use Rattle.std.proofs.Common.{subst, ◌∙◌, arith}
 use Rattle.std.specs.Prelude.{Option, Result, ◌&&◌, ◌||◌, not, is_some, if◌then◌else◌}
 use Rattle.std.proofs.lemmas.Cmp.{nat_list_cmp_total}
 use Rattle.std.specs.FinMap.{insert, get-insert}
-use Rattle.source_defs.specs.Refusals.{◌>>=◌, at_line}
+use Rattle.source_defs.specs.Refusals.{◌>>=◌, at_line, unless}
 use Rattle.source_defs.specs.Fields.{Fields, fields}
 use Rattle.source_defs.specs.Symbols.{Names, look_up}
 use Rattle.source_defs.specs.Expression.{Value}
@@ -17,7 +17,7 @@ use Rattle.asm_defs.specs.Locations.{Line, behind, location}
 use Rattle.asm_defs.specs.FirstChecks.{Checked, Said, any_known, label_in, moved, checked, check, known_of}
 use Rattle.asm_defs.specs.FirstChecks.{line_of, location_behind, names, refs, defs, refs_in, defs_in, is_end}
 use Rattle.asm_defs.specs.FirstChecks.{label_entry, external_entries}
-use Rattle.asm_defs.specs.FirstChecks.{unless, is_too_far, is_bad, as_expr, move}
+use Rattle.asm_defs.specs.FirstChecks.{is_too_far, is_bad, as_expr, move}
 use Rattle.asm_defs.specs.declared.causes.AsmCause.TheVariants.{Overflow, BadDirective}
 use Rattle.asm_defs.specs.SecondChecks.{outcome}
 use Rattle.asm_defs.proofs.CheckLaws.{bound}

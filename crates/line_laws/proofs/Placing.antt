@@ -14,10 +14,10 @@ use Rattle.asm_defs.specs.declared.location.Part.{Part}
 use Rattle.asm_defs.specs.declared.location.Part.TheVariants as part
 use Rattle.asm_defs.specs.SecondChecks.{Outcome, Nothing, Words, Bytes, Entry}
 use Rattle.asm_defs.specs.Memory.{Settled, covers, same_part, is_placed, bytes_in, contents_by, word_contents}
-use Rattle.asm_defs.specs.Memory.{content_at, any_from, count_from, is_word, words_in, word_count, part_words}
-use Rattle.asm_defs.specs.Memory.{one_if}
+use Rattle.asm_defs.specs.Memory.{content_at, any_from, count_from, has_word, words_in, word_count, part_words}
 use Rattle.line_laws.specs.KnownLines.{numbers_of, words_of, is_at, is_empty, is_absolute}
 use Rattle.line_laws.proofs.Small.{both, chosen, map_length, get_past}
+use Rattle.count_defs.specs.Counts.{one_if}
 
 -- the bytes of absolute words
 abbrev pub cells : List ℕ → List Content
@@ -264,11 +264,11 @@ count_most f first (suc n) = omega (arith, one_at_most (f first), count_most f (
 
 none_counted : (lines : List Settled) → ((p : ℕ) → is_placed lines part.Relocatable p ≡ false) → words_in lines part.Relocatable ≡ 0
 none_counted lines none =
-    count_none (is_word lines part.Relocatable) 0 part_words
+    count_none (has_word lines part.Relocatable) 0 part_words
     (λ w. ap (λ b. b || is_placed lines part.Relocatable (2 * w + 1)) (none (2 * w)) ∙ none (2 * w + 1))
 
 most_words : (lines : List Settled) → words_in lines part.Absolute ≤ part_words
-most_words lines = count_most (is_word lines part.Absolute) 0 part_words
+most_words lines = count_most (has_word lines part.Absolute) 0 part_words
 
 few : (relocatable absolute most : ℕ) → relocatable ≡ 0 → absolute ≤ most → relocatable + absolute ≤ most
 few relocatable absolute most none le = omega (arith, none, le)

@@ -1,5 +1,5 @@
 -- What holds of a source whose lines are known by themselves.
-use Rattle.std.specs.Prelude.{◌≡◌, ℕ, ◌+◌, ◌*◌, ◌≤◌, ◌<◌, true, List, [], ◌∷◌, ◌++◌, length, slice_index_or, take}
+use Rattle.std.specs.Prelude.{◌≡◌, ℕ, ◌+◌, ◌*◌, ◌≤◌, ◌<◌, true, List, [], ◌∷◌, ◌++◌, length, slice_index_or, take, IsTrue}
 use Rattle.std.specs.Prelude.{Option, Some, None, Ok}
 use Rattle.source_defs.specs.Expression.{Value}
 use Rattle.source_defs.specs.Symbols.{registers, look_up}
@@ -26,9 +26,9 @@ pub record AreKnown (from : ℕ) (texts : List (List ℕ)) (last : List ℕ) (de
     (lines : List KnownLine) (end : KnownLine) (entry : Spot) : Type 0 where
   pub known : line_laws (looks defined) start texts ≡ Ok lines
   pub names : all_names lines ≡ defined
-  pub plain : are_plain lines ≡ true
-  pub new : are_new registers defined ≡ true
-  pub close : are_close from lines ≡ true
+  pub plain : IsTrue (are_plain lines)
+  pub new : IsTrue (are_new registers defined)
+  pub close : IsTrue (are_close from lines)
   pub closing : known_line (looks defined) (end_of start lines) last ≡ Ok end
   pub unnamed : end.found.label ≡ None
   pub ends : (text : Option (List ℕ)) × (end.found.statement ≡ End text)

@@ -1,11 +1,11 @@
 -- The text of lines that are each ended by a line feed alone.
-use Rattle.std.specs.Prelude.{◌≡◌, ℕ, true, nat_le, List, [], ◌∷◌, ◌++◌}
+use Rattle.std.specs.Prelude.{◌≡◌, ℕ, true, nat_le, List, [], ◌∷◌, ◌++◌, IsTrue}
 use Rattle.std.specs.List.{flat_map, list_all, AllByRecursion}
 use Rattle.source_defs.specs.Layout.{line_texts, numbered}
 
 -- no control character stands in a line: so neither a line feed nor a carriage return does
 abbrev pub IsWithoutControls : List ℕ → Type 0
-IsWithoutControls text = list_all (λ byte. nat_le 0x20 byte) text ≡ true
+IsWithoutControls text = IsTrue (list_all (λ byte. nat_le 0x20 byte) text)
 
 -- the text of some lines, each with a line feed behind it
 abbrev pub fed_text : List (List ℕ) → List ℕ

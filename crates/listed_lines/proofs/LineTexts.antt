@@ -11,7 +11,7 @@ use Rattle.std.proofs.Math.Seq.{drop-append-add, drop-append_seam, take-append_s
 use Rattle.source_defs.specs.declared.text.Span.{Span}
 use Rattle.source_defs.specs.Least.{least_place}
 use Rattle.source_defs.specs.Characters.{is_blank, is_line_feed, is_carriage_return}
-use Rattle.source_defs.specs.Lines.{part, lines_from, feed_place, without_return, after}
+use Rattle.source_defs.specs.Lines.{part, lines_from, feed_place, without_return, behind_feed}
 use Rattle.source_defs.specs.Fields.{fields, word_start, word_end, operand_end, in_quotes}
 use Rattle.source_defs.specs.Layout.{line_texts, numbered}
 use Rattle.source_defs.specs.ListedLines.{listed, with_operands}
@@ -279,7 +279,7 @@ module _ (front l more : List ℕ) (e : list_all in_line l ≡ true) where
       let inside : nat_lt (length front + length l) (length whole) ≡ true = grind (arith, nat_tests) in
       rw (inside, no_return _ refl) refl
 
-  after_here : after whole (length front + length l) ≡ length (front ++ (l ++ 10 ∷ []))
+  after_here : behind_feed whole (length front + length l) ≡ length (front ++ (l ++ 10 ∷ []))
   after_here =
       let n = whole_length in
       let inside : nat_lt (length front + length l) (length whole) ≡ true = grind (arith, nat_tests) in

@@ -7,12 +7,12 @@ use Rattle.std.proofs.lemmas.Bool.Decides.{nat_tests}
 use Rattle.std.proofs.lemmas.Grind.{common_steps}
 use Rattle.std.proofs.lemmas.List.{take_all}
 use Rattle.std.proofs.Math.Seq.{drop-append_seam, take-append_seam}
-use Rattle.source_defs.specs.Numbers.{is_comma}
 use Rattle.source_defs.specs.Lines.{part}
 use Rattle.source_defs.specs.Operands.{parts_operands, operands_from, operand_texts}
 use Rattle.source_defs.specs.ListedLines.{two_texts}
 use Rattle.source_defs.proofs.OperandSteps.{comma_place, operands_from_step}
 use Rattle.listed_lines.proofs.Scans.{place_is, all_get, all_both, at_second, at_third, and_left, and_right, not_true, unquoted, not_quoted}
+use Rattle.source_defs.specs.Characters.{is_comma}
 
 -- a byte that stands in one operand
 abbrev pub uncut : ℕ → Bool

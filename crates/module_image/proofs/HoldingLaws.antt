@@ -13,7 +13,7 @@ use Rattle.asm_defs.specs.declared.location.Part.{Part}
 use Rattle.asm_defs.specs.declared.location.Part.TheVariants as part
 use Rattle.asm_defs.specs.declared.location.Location.{Location}
 use Rattle.asm_defs.specs.SecondChecks.{Outcome, Nothing, Words, Bytes, Entry}
-use Rattle.asm_defs.specs.Memory.{Settled, same_part, covers, is_placed, is_word, words_in, any_from, part_words, bytes_in, word_contents, behind_word}
+use Rattle.asm_defs.specs.Memory.{Settled, same_part, covers, is_placed, has_word, words_in, any_from, part_words, bytes_in, word_contents, behind_word}
 use Rattle.asm_defs.specs.Memory.{spot_by, contents_by, contents, content_at, references_of, behind_by, behind_words, is_placed_in}
 use Rattle.module_image.specs.Tables.{cell, put_from, is_taken, is_taken_word, words_taken}
 use Rattle.module_image.proofs.TableLaws.{count_same}
@@ -114,12 +114,12 @@ module _ (unused : List Reference) where
     pub any_is : (from n : ℕ) → any_from (is_taken cells) from n ≡ any_from (is_placed lines part) from n
     any_is from n = any_same _ _ from n taken_is
 
-    word_is : (w : ℕ) → is_taken_word cells w ≡ is_word lines part w
+    word_is : (w : ℕ) → is_taken_word cells w ≡ has_word lines part w
     word_is w = ap (λ b. b || is_taken cells (2 * w + 1)) (taken_is (2 * w)) ∙ ap (λ b. is_placed lines part (2 * w) || b) (taken_is (2 * w + 1))
 
     pub words_are : words_taken cells ≡ words_in lines part
     unfolding words_taken part_words
-    words_are = count_same (is_word lines part) (is_taken_word cells) 0 32768 (λ w le. word_is w)
+    words_are = count_same (has_word lines part) (is_taken_word cells) 0 32768 (λ w le. word_is w)
 
   module _ (line : Settled) (earlier : List Settled) (part : Part) (old : List (Option Content)) (holds : (p : ℕ) → cell old p ≡ content_at unused earlier part p) where
     -- a line of another part

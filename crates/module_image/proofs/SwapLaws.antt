@@ -17,7 +17,7 @@ use Rattle.asm_defs.specs.declared.location.Part.{Part}
 use Rattle.asm_defs.specs.declared.location.Part.TheVariants as part
 use Rattle.asm_defs.specs.declared.location.Location.{Location}
 use Rattle.asm_defs.specs.SecondChecks.{Outcome, Nothing, Words, Bytes, Entry}
-use Rattle.asm_defs.specs.Memory.{Settled, same_part, covers, is_placed, is_word, words_in, word_count, overlaps, count_from, any_from, part_words, bytes_in}
+use Rattle.asm_defs.specs.Memory.{Settled, same_part, covers, is_placed, has_word, words_in, word_count, overlaps, count_from, any_from, part_words, bytes_in}
 use Rattle.asm_defs.specs.Memory.{spot_by, word_of, behind_word, word_contents, behind_words, contents_by, contents, content_at, references_of, behind_by}
 use Rattle.asm_defs.specs.Memory.{is_placed_in}
 use Rattle.asm_defs.specs.Modules.{with_room, entry_by}
@@ -91,12 +91,12 @@ module _ (first second : List Settled) (same : SamePlaces first second) where
   pub same_behind : (line : Settled) → SamePlaces (line ∷ first) (line ∷ second)
   same_behind line part p = ap (λ b. covers line part p || b) (same part p)
 
-  word_same : (part : Part) (w : ℕ) → is_word first part w ≡ is_word second part w
+  word_same : (part : Part) (w : ℕ) → has_word first part w ≡ has_word second part w
   word_same part w =
       ap (λ b. b || is_placed first part (2 * w + 1)) (same part (2 * w)) ∙ ap (λ b. is_placed second part (2 * w) || b) (same part (2 * w + 1))
 
   words_same : (part : Part) → words_in first part ≡ words_in second part
-  words_same part = count_same (is_word second part) (is_word first part) 0 part_words (λ w le. word_same part w)
+  words_same part = count_same (has_word second part) (has_word first part) 0 part_words (λ w le. word_same part w)
 
   count_is : word_count first ≡ word_count second
   count_is =

@@ -12,7 +12,7 @@ use Rattle.object_defs.specs.declared.tag.Tag.{Tag}
 use Rattle.object_defs.specs.declared.tag.Tag.TheVariants as tags
 use Rattle.object_defs.specs.Modules.{Definition, Reference, same_spot, is_name_character, all_name_characters, is_module_name}
 use Rattle.source_defs.specs.Digits.{word_digits}
-use Rattle.object_defs.specs.Digits.{decimal, padded, checksum}
+use Rattle.object_defs.specs.Digits.{four_digits, padded, checksum}
 use Rattle.object_defs.specs.Tags.{tag_character, kind_of}
 use Rattle.object_defs.specs.Writing.{group, word_text, address_text, definition_text, reference_text, entry_text, header_text, Placed, item_text, summed}
 use Rattle.object_defs.proofs.Conjunctions.{and_left, and_right}
@@ -38,8 +38,8 @@ word_digits_print n =
     let d : is_name_character (hexadecimal_digit (n % 16)) ≡ true = digit_prints (n % 16) (omega arith) in
     rw (a, b, c, d) refl
 
-pub decimal_number_prints : (n : ℕ) → all_name_characters (decimal n) ≡ true
-unfolding decimal
+pub decimal_number_prints : (n : ℕ) → all_name_characters (four_digits n) ≡ true
+unfolding four_digits
 decimal_number_prints n =
     let a : is_name_character (0x30 + n / 1000 % 10) ≡ true = decimal_prints (n / 1000 % 10) (omega arith) in
     let b : is_name_character (0x30 + n / 100 % 10) ≡ true = decimal_prints (n / 100 % 10) (omega arith) in

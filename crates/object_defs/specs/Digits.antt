@@ -2,8 +2,8 @@
 use Rattle.std.specs.Prelude.{ℕ, ◌+◌, ◌-◌, ◌/◌, ◌%◌, List, [], ◌∷◌, ◌++◌, length, replicate, sum}
 
 -- four decimal digits
-unfoldable pub decimal : ℕ → List ℕ
-decimal number =
+unfoldable pub four_digits : ℕ → List ℕ
+four_digits number =
     (0x30 + number / 1000 % 10) ∷ (0x30 + number / 100 % 10) ∷ (0x30 + number / 10 % 10) ∷ (0x30 + number % 10) ∷ []
 
 -- characters with blanks behind them up to a width

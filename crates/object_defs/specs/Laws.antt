@@ -1,5 +1,5 @@
 -- What a written module reads as.
-use Rattle.std.specs.Prelude.{◌≡◌, ◌<◌, true, [], ◌∷◌, IfSome, Ok}
+use Rattle.std.specs.Prelude.{◌≡◌, ◌<◌, true, [], ◌∷◌, IfSome, Ok, IsTrue}
 use Rattle.std.specs.List.{AllByRecursion}
 use Rattle.source_defs.specs.Names.{is_kept_name}
 use Rattle.object_defs.specs.declared.spot.Spot.{Spot}
@@ -17,16 +17,16 @@ pub record FitsPiece (piece : Piece) : Type 0 where
   pub word : FitsSpot piece.word
 
 pub record FitsDefinition (definition : Definition) : Type 0 where
-  pub name : is_kept_name definition.name ≡ true
+  pub name : IsTrue (is_kept_name definition.name)
   pub value : FitsSpot definition.value
 
 pub record FitsReference (reference : Reference) : Type 0 where
-  pub name : is_kept_name reference.name ≡ true
+  pub name : IsTrue (is_kept_name reference.name)
   pub last : FitsSpot reference.last
 
 -- a module of numbers of 16 bits and of names
 pub record IsModule (m : Module) : Type 0 where
-  pub name : is_module_name m.name ≡ true
+  pub name : IsTrue (is_module_name m.name)
   pub size : m.size < 65536
   pub pieces : AllByRecursion FitsPiece m.pieces
   pub defs : AllByRecursion FitsDefinition m.defs

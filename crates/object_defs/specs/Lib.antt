@@ -4,6 +4,5 @@ pub mod Tags
 pub mod Fields
 pub mod Groups
 pub mod Reading
-pub mod Running
 pub mod Writing
 pub mod Laws

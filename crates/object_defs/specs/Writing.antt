@@ -9,7 +9,7 @@ use Rattle.object_defs.specs.declared.tag.Tag.{Tag}
 use Rattle.object_defs.specs.declared.tag.Tag.TheVariants as tags
 use Rattle.object_defs.specs.Modules.{Module, Definition, Reference, number_of, moved, same_spot}
 use Rattle.source_defs.specs.Digits.{word_digits}
-use Rattle.object_defs.specs.Digits.{decimal, padded, checksum}
+use Rattle.object_defs.specs.Digits.{four_digits, padded, checksum}
 use Rattle.object_defs.specs.Tags.{tag_character, kind_of}
 
 -- a tag and four digits
@@ -89,7 +89,7 @@ summed text =
 
 -- Profile: a line is padded to column 76; then stand its number in four digits and a line feed.
 abbrev pub numbered : ℕ → List ℕ → List ℕ
-numbered number text = padded 76 text ++ (decimal number ++ 0x0A ∷ [])
+numbered number text = padded 76 text ++ (four_digits number ++ 0x0A ∷ [])
 
 abbrev pub line_text : ℕ → List ℕ → List ℕ
 line_text number text = numbered number (summed text)

@@ -7,7 +7,7 @@ use Rattle.object_defs.specs.declared.form.TextForm.{TextForm}
 use Rattle.object_defs.specs.declared.causes.TagCause.{TagCause}
 use Rattle.object_defs.specs.Digits.{complement, checksum}
 use Rattle.object_defs.specs.Groups.{FoundGroup, tag_at, found_with, ends_line, size_found, groups_from}
-use Rattle.object_defs.specs.Running.{Kept, kept_with, kept_groups}
+use Rattle.object_laws.specs.Running.{Kept, kept_with, kept_groups}
 use Rattle.object_tags.specs.declared.error.Failure.{Failure}
 use Rattle.object_tags.specs.declared.error.Failure.TheVariants as failures
 use Rattle.object_tags.specs.Answers.{Fails}

@@ -6,7 +6,7 @@ use Rattle.source_defs.specs.Refusals.{Refusal}
 use Rattle.object_defs.specs.declared.form.TextForm.{TextForm}
 use Rattle.object_defs.specs.declared.causes.TagCause.{TagCause}
 use Rattle.object_defs.specs.Reading.{NumberedLine}
-use Rattle.object_defs.specs.Running.{Kept, kept_line, kept_lines, finished}
+use Rattle.object_laws.specs.Running.{Kept, kept_line, kept_lines, finished}
 use Rattle.object_tags.specs.declared.error.TagError.{TagError}
 use Rattle.object_tags.specs.declared.error.TagError.TheVariants.{At, Memory}
 use Rattle.object_tags.specs.Answers.{Refuses}

@@ -3,7 +3,7 @@ use Rattle.std.specs.Prelude.{◌≡◌, ⊤, List, map, Result, Ok, Err}
 use Rattle.object_defs.specs.declared.causes.TagCause.{TagCause}
 use Rattle.object_defs.specs.Modules as defined
 use Rattle.source_defs.specs.Refusals.{Refusal}
-use Rattle.object_defs.specs.Running as running
+use Rattle.object_laws.specs.Running as running
 use Rattle.object_tags.specs.declared.error.Failure.{Failure}
 use Rattle.object_tags.specs.declared.error.Failure.TheVariants as failures
 use Rattle.object_tags.specs.declared.error.TagError.{TagError}

@@ -4,9 +4,9 @@ pub use Rattle.object_defs.specs.Tags
 pub use Rattle.object_defs.specs.Fields
 pub use Rattle.object_defs.specs.Groups
 pub use Rattle.object_defs.specs.Reading
-pub use Rattle.object_defs.specs.Running
 pub use Rattle.object_defs.specs.Writing
 pub use Rattle.object_defs.specs.Laws
+pub use Rattle.object_laws.specs.Running
 pub mod Seen
 pub mod SeenGroups
 pub mod Lines

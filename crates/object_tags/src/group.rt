@@ -2,7 +2,7 @@
 
 ghost use Rattle.std.specs.Prelude.{◌≡◌};
 ghost use Rattle.object_defs.specs.Groups as spec;
-ghost use Rattle.object_defs.specs.Running as running;
+ghost use Rattle.object_laws.specs.Running as running;
 ghost use Rattle.object_tags.specs.SeenGroups.{defined_group, defined_found, defined_whole};
 
 use crate::fields::number_size;

@@ -2,7 +2,7 @@
 
 ghost use Rattle.std.specs.Prelude.{◌≡◌, ◌≤◌, OnOk};
 ghost use Rattle.object_defs.specs.Reading as reading;
-ghost use Rattle.object_defs.specs.Running as running;
+ghost use Rattle.object_laws.specs.Running as running;
 ghost use Rattle.object_tags.specs.Answers.{defined_open, Makes, Leaves};
 ghost use Rattle.object_tags.specs.Seen.{defined_module};
 ghost use Rattle.object_tags.specs.SeenGroups.{defined_group, defined_found};
@@ -36,7 +36,7 @@ pub(crate) struct OpenModule {
 
 impl OpenModule {
     /// The module that a group begins, where some modules have ended.
-    #[tactic(auto, unfolding(object_defs::specs::Running::begun))]
+    #[tactic(auto, unfolding(object_laws::specs::Running::begun))]
     pub(crate) fn begin(
         alloc: Global,
         ended: usize,
@@ -69,7 +69,7 @@ impl OpenModule {
     }
 
     /// Takes one more group.
-    #[tactic(auto, unfolding(object_defs::specs::Running::more))]
+    #[tactic(auto, unfolding(object_laws::specs::Running::more))]
     pub(crate) fn take_group(&mut self, found: FoundGroup) -> Result<(), Failure>
         ensures { Leaves result (defined_open self.new) (running.more (defined_open self.old) (defined_found found)) }
     {

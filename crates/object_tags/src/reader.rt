@@ -2,7 +2,7 @@
 
 ghost use Rattle.std.specs.Prelude.{◌≡◌, ◌<◌, ◌^◌, length, [], false, None, Some};
 ghost use Rattle.object_defs.specs.Groups.{groups_from};
-ghost use Rattle.object_defs.specs.Running as running;
+ghost use Rattle.object_laws.specs.Running as running;
 ghost use Rattle.object_tags.specs.Answers.{Leaves, Gives, defined_modules, defined_open};
 ghost use Rattle.object_tags.specs.Reads.{kept_of, TakesLine};
 ghost use Rattle.object_tags.specs.SeenGroups.{defined_found};
@@ -40,7 +40,7 @@ impl Reader {
     }
 
     /// Takes a line.
-    #[tactic(auto, unfolding(object_defs::specs::Running::kept_line))]
+    #[tactic(auto, unfolding(object_laws::specs::Running::kept_line))]
     pub(crate) fn take_line(
         &mut self,
         alloc: Global,

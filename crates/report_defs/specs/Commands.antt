@@ -7,9 +7,10 @@ use Rattle.source_defs.specs.Numbers.{all_digits, value_after, hexadecimal_numbe
 use Rattle.report_defs.specs.declared.command.Command.{Command}
 use Rattle.report_defs.specs.declared.command.Command.TheVariants.{Asm, Gasm, Dis, Gdis, Link, Exec, Interp}
 use Rattle.report_defs.specs.declared.command.Command.TheVariants.{Run, Trace, Demo}
+use Rattle.source_defs.specs.Names.{same_text}
 
 abbrev pub same_word : List ℕ → List ℕ → Bool
-same_word word name = pointwise nat_eq word name
+same_word word name = same_text word name
 
 -- a 0 with more behind it
 abbrev pub has_leading_zero : List ℕ → Bool

@@ -3,7 +3,7 @@ use Rattle.std.specs.Prelude.{ℕ, ◌+◌, ◌-◌, ◌*◌, ◌/◌, Bool, not
 use Rattle.std.specs.Prelude.{◌++◌, length, slice_range, codes}
 use Rattle.std.specs.List.{flat_map, range_with_len}
 use Rattle.source_defs.specs.Digits.{byte_digits, marked_word}
-use Rattle.lane_scan.specs.Plain.{rows_equal}
+use Rattle.list_defs.specs.Lists.{rows_equal}
 
 -- the row of 16 bytes with a number, from 0
 abbrev pub row : List ℕ → ℕ → List ℕ

@@ -8,7 +8,7 @@ use Rattle.gpl_defs.specs.Reading.{reading}
 use Rattle.gpl_listing_defs.specs.Texts.{read_text}
 use Rattle.gpl_step_defs.specs.State.{GplState}
 use Rattle.gpl_step_defs.specs.Run.{run}
-use Rattle.lane_scan.specs.Plain.{first_difference, count_differences}
+use Rattle.list_defs.specs.Lists.{first_difference, count_differences}
 use Rattle.report_defs.specs.Program.{state_text}
 
 -- Profile: the number of a step stands right in six places.

@@ -48,10 +48,7 @@ video_at address h = omega arith
 -- the kind of a pair by the top bits of its second byte
 abbrev kind_by : ℕ → PairKind
 kind_by bits =
-    elim (eqb bits 0) [
-      | true ↦ ReadSetup
-      | false ↦ elim (eqb bits 1) [ true ↦ WriteSetup | false ↦ elim (eqb bits 2) [ true ↦ RegisterWrite | false ↦ NoOperation ] ]
-    ]
+    if bits == 0 then ReadSetup else if bits == 1 then WriteSetup else if bits == 2 then RegisterWrite else NoOperation
 
 read_kind : (at : ℕ) → at < 16384 → pair_kind (high at) ≡ ReadSetup
 read_kind at h = let n : high at / 64 ≡ 0 = omega arith in ap kind_by n

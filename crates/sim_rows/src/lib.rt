@@ -19,4 +19,4 @@ pub use tail::{end_row, finish_row, show, store_result};
 // what a family speaks of
 pub use gpl_forms as gpl;
 pub use sim_operands as subroutines;
-pub use sim_view::{Reason, Turn, console, labels, processor, register, run_piece};
+pub use sim_view::{Reason, Turn, instructions, labels, processor, register, run_piece};

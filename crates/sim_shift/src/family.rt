@@ -10,8 +10,8 @@ use crate::pieces::{
     ask_arithmetic_count, ask_left_count, ask_right_count, ask_turn_count, shift_arithmetic,
     shift_left, shift_right, take_count, turn_right,
 };
-use sim_rows::console::ShiftOp;
 use sim_rows::gpl::{GplOperation, TwoName};
+use sim_rows::instructions::ShiftOp;
 use sim_rows::processor::{Machine, Steps};
 use sim_rows::{Reason, Turn, finish_row, start_row};
 use std::sync::ledger::Ledger;

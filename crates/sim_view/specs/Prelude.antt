@@ -4,7 +4,8 @@ pub use Rattle.tms_defs.specs.Bytes.{HoldsBytes, with_word_in, word_in}
 pub use Rattle.tms_defs.specs.Flags.{absolute_flags, absolute_of, Byte, difference_flags, difference_of, modulus}
 pub use Rattle.tms_defs.specs.Flags.{negation_flags, negation_of, signed, size_of, sum_flags, sum_of, Width, Word}
 pub use Rattle.console_defs.specs.Grom.{grom_address_read, grom_address_written, grom_data_read, GromState}
-pub use Rattle.console_defs.specs.Grom.{is_grom_idle, new_grom, next_in_grom, previous_in_grom}
+pub use Rattle.grom_defs.specs.Addresses.{in_grom_of, next_in_grom, previous_in_grom}
+pub use Rattle.console_defs.specs.Grom.{is_grom_idle, new_grom}
 pub use Rattle.tms_defs.specs.Logic.{complement_of, conjunction_of, exclusive_or_of, ones_cleared, ones_set}
 pub use Rattle.tms_defs.specs.Logic.{swapped}
 pub use Rattle.console_defs.specs.Machine.{IsMachine, MachineState, steps}
@@ -60,7 +61,7 @@ pub use Rattle.gpl_step_defs.specs.Changes.{with_overflow, with_pc, with_registe
 pub use Rattle.gpl_step_defs.specs.Copy.{byte_from, copied, From, FromGrom, FromMemory, length_of, moved, next_from}
 pub use Rattle.gpl_step_defs.specs.Copy.{next_to, origin_of, target_of, To, ToMemory, ToRegisters, with_byte_to}
 pub use Rattle.gpl_step_defs.specs.Copy.{within_limit}
-pub use Rattle.gpl_step_defs.specs.Flow.{branched, cells_at, drawn, grown_by, in_grom_of, is_taken, next_seed, on_stack}
+pub use Rattle.gpl_step_defs.specs.Flow.{branched, cells_at, drawn, grown_by, is_taken, next_seed, on_stack}
 pub use Rattle.gpl_step_defs.specs.Flow.{with_byte_from, with_word}
 pub use Rattle.gpl_step_defs.specs.Place.{behind, byte_at, byte_in, double_at, indexed, is_visible, Place, place_of}
 pub use Rattle.gpl_step_defs.specs.Place.{pointed, ranged, value_at}

@@ -11,8 +11,8 @@ pub use registers::register;
 pub use run::{PIECE, run_piece};
 
 // what a piece speaks of
-pub use console_defs as console;
 pub use gpl_step_defs::Reason;
 pub use interp_defs::Turn;
 pub use native_interp as labels;
+pub use tms_defs as instructions;
 pub use tms_step as processor;

@@ -2,6 +2,7 @@ pub mod LeastLaws
 pub mod Quotes
 pub mod LineSteps
 pub mod LineLaws
+pub mod EndedLines
 pub mod FieldLaws
 pub mod FieldPlaces
 pub mod NumberLaws

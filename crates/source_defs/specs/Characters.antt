@@ -17,6 +17,9 @@ is_quote byte = byte == 0x27
 abbrev pub is_asterisk : ℕ → Bool
 is_asterisk byte = byte == 0x2A
 
+abbrev pub is_comma : ℕ → Bool
+is_comma byte = byte == 0x2C
+
 -- 0 to 9
 abbrev pub is_digit : ℕ → Bool
 is_digit byte = nat_le 0x30 byte && nat_le byte 0x39

@@ -1,5 +1,5 @@
 -- What the fields of a line are, in the words of the rule.
-use Rattle.std.specs.Prelude.{◌≡◌, ℕ, ◌<◌, ◌≤◌, true, false, ◌⊎◌, List, length, slice_index, take, map, Option, Some}
+use Rattle.std.specs.Prelude.{◌≡◌, ℕ, ◌<◌, ◌≤◌, true, false, ◌⊎◌, List, length, slice_index, take, map, Option, Some, IsTrue, IsFalse}
 use Rattle.std.specs.Prelude.{None, Ok}
 use Rattle.source_defs.specs.declared.text.Span.{Span}
 use Rattle.source_defs.specs.Characters.{is_blank, is_asterisk, upper_case}
@@ -10,34 +10,34 @@ use Rattle.source_defs.specs.Fields.{in_quotes, Fields, no_fields, longest_line,
 pub record IsWordStart (line : List ℕ) (from start : ℕ) : Type 0 where
   pub after : from ≤ start
   pub within : start ≤ length line
-  pub blanks_before : (k : ℕ) → from ≤ k → k < start → is_blank (slice_index line k) ≡ true
-  pub no_blank : start < length line → is_blank (slice_index line start) ≡ false
+  pub blanks_before : (k : ℕ) → from ≤ k → k < start → IsTrue (is_blank (slice_index line k))
+  pub no_blank : start < length line → IsFalse (is_blank (slice_index line start))
 
 -- no blank stands before the place, and a blank stands there or the line ends
 pub record IsWordEnd (line : List ℕ) (from end : ℕ) : Type 0 where
   pub after : from ≤ end
   pub within : end ≤ length line
-  pub no_blank_before : (k : ℕ) → from ≤ k → k < end → is_blank (slice_index line k) ≡ false
-  pub blank : end < length line → is_blank (slice_index line end) ≡ true
+  pub no_blank_before : (k : ℕ) → from ≤ k → k < end → IsFalse (is_blank (slice_index line k))
+  pub blank : end < length line → IsTrue (is_blank (slice_index line end))
 
 -- each blank of the operand field is in quotes, and a blank outside quotes stands at its end or the line ends
 pub record IsOperandEnd (line : List ℕ) (start end : ℕ) : Type 0 where
   pub after : start ≤ end
   pub within : end ≤ length line
   pub blanks_in_quotes :
-      (k : ℕ) → start ≤ k → k < end → is_blank (slice_index line k) ≡ true → in_quotes line start k ≡ true
-  pub blank : end < length line → is_blank (slice_index line end) ≡ true
-  pub outside_quotes : end < length line → in_quotes line start end ≡ false
+      (k : ℕ) → start ≤ k → k < end → IsTrue (is_blank (slice_index line k)) → IsTrue (in_quotes line start k)
+  pub blank : end < length line → IsTrue (is_blank (slice_index line end))
+  pub outside_quotes : end < length line → IsFalse (in_quotes line start end)
 
 -- a comment: nothing but blanks, or an asterisk in column 1
 abbrev pub IsComment : List ℕ → Type 0
-IsComment line = IsWordStart line 0 (length line) ⊎ (is_asterisk (slice_index line 0) ≡ true)
+IsComment line = IsWordStart line 0 (length line) ⊎ IsTrue (is_asterisk (slice_index line 0))
 
 -- the label is the name that stands from column 1 up to the first blank, in upper case; a blank there is no label
 abbrev pub IsLabel : List ℕ → Option (List ℕ) → ℕ → Type 0
 IsLabel line (Some name) end =
-    IsWordEnd line 0 end × (is_name (take end line) ≡ true) × (name ≡ map upper_case (take end line))
-IsLabel line None end = (is_blank (slice_index line 0) ≡ true) × (end ≡ 0)
+    IsWordEnd line 0 end × IsTrue (is_name (take end line)) × (name ≡ map upper_case (take end line))
+IsLabel line None end = IsTrue (is_blank (slice_index line 0)) × (end ≡ 0)
 
 -- the operation is the first word from a place on; there is none where only blanks follow
 abbrev pub IsOperation : List ℕ → ℕ → Option Span → ℕ → Type 0

@@ -29,17 +29,18 @@ use Rattle.std.specs.Prelude.{
   Result,
   Ok,
   Err,
+  IsFalse,
 }
 use Rattle.source_defs.specs.declared.text.Span.{Span}
 use Rattle.source_defs.specs.declared.causes.TextError.{TextError}
 use Rattle.source_defs.specs.declared.causes.TextError.TheVariants.{LineTooLong, BadLabel}
 use Rattle.source_defs.specs.Characters.{is_blank, is_quote, is_asterisk, upper_case}
-use Rattle.source_defs.specs.Least.{least_place}
+use Rattle.source_defs.specs.Least.{least_place, end_of}
 use Rattle.source_defs.specs.Names.{is_name}
 
 -- from a place on, the first byte that is no blank, or the line's end
 abbrev pub word_start : List ℕ → ℕ → ℕ
-word_start line from = least_place (λ k. not (is_blank (slice_index line k))) line from
+word_start line from = end_of is_blank line from
 
 -- from a place on, the first blank, or the line's end
 abbrev pub word_end : List ℕ → ℕ → ℕ
@@ -106,6 +107,6 @@ fields line =
 pub record HasBadLabel (line : List ℕ) : Type 0 where
   pub fits : length line ≤ longest_line
   pub written : 0 < length line
-  pub no_blank : is_blank (slice_index line 0) ≡ false
-  pub no_asterisk : is_asterisk (slice_index line 0) ≡ false
-  pub no_name : is_name (label_field line) ≡ false
+  pub no_blank : IsFalse (is_blank (slice_index line 0))
+  pub no_asterisk : IsFalse (is_asterisk (slice_index line 0))
+  pub no_name : IsFalse (is_name (label_field line))

@@ -18,5 +18,6 @@ pub mod Symbols
 pub mod Growing
 pub mod Layout
 pub mod LineLaw
+pub mod EndedLines
 pub mod FieldLaw
 pub mod ListedLines

@@ -1,5 +1,5 @@
 -- What the lines of a text are, in the words of the rule.
-use Rattle.std.specs.Prelude.{◌≡◌, ℕ, ◌+◌, ◌-◌, ◌<◌, ◌≤◌, false, ◌&&◌, if◌then◌else◌, List, [], ◌∷◌, ◌++◌, length}
+use Rattle.std.specs.Prelude.{◌≡◌, ℕ, ◌+◌, ◌-◌, ◌<◌, ◌≤◌, false, ◌&&◌, if◌then◌else◌, List, [], ◌∷◌, ◌++◌, length, IsFalse}
 use Rattle.std.specs.Prelude.{slice_index, map}
 use Rattle.std.specs.List.{flat_map, range_with_len, AllByRecursion}
 use Rattle.source_defs.specs.declared.text.Line.{Line}
@@ -17,9 +17,9 @@ ending text at =
 -- to the end of the text and is not empty
 pub record IsLine (text : List ℕ) (line : Line) : Type 0 where
   pub inside : IsInside text line.span
-  pub no_feed : (k : ℕ) → line.span.start ≤ k → k < line.span.end → is_line_feed (slice_index text k) ≡ false
+  pub no_feed : (k : ℕ) → line.span.start ≤ k → k < line.span.end → IsFalse (is_line_feed (slice_index text k))
   pub no_return : ending text line.span.end ≡ 0x0A ∷ [] → line.span.start < line.span.end
-      → is_carriage_return (slice_index text (line.span.end - 1)) ≡ false
+      → IsFalse (is_carriage_return (slice_index text (line.span.end - 1)))
   pub last : ending text line.span.end ≡ [] → (line.span.end ≡ length text) × (line.span.start < line.span.end)
 
 -- lines and their endings, one after the other, are the text; each is a line, and they count from 1

@@ -28,8 +28,8 @@ abbrev pub feed_place : List ℕ → ℕ → ℕ
 feed_place text from = least_place (λ k. is_line_feed (slice_index text k)) text from
 
 -- the place where the next line begins, after a line that goes up to a line feed or the text's end
-abbrev pub after : List ℕ → ℕ → ℕ
-after text feed = if nat_lt feed (length text) then feed + 1 else feed
+abbrev pub behind_feed : List ℕ → ℕ → ℕ
+behind_feed text feed = if nat_lt feed (length text) then feed + 1 else feed
 
 -- the places of the line feeds among bytes of which the first stands at a place
 abbrev pub line_feeds_from : ℕ → List ℕ → List ℕ

@@ -1,12 +1,13 @@
 -- The lines of a listing, which are lines of a source.
 use Rattle.std.specs.Prelude.{ℕ, List, ◌∷◌, ◌++◌, codes, Option, Some, None}
 
--- Profile: seven blanks, an operation, and its operands behind a blank.
+-- Profile: a line of a listing has no label: its operation stands behind seven blanks.
 abbrev pub listed : List ℕ → List ℕ
 listed text = codes "       " ++ text
 
+-- the line of a listing with its line feed
 abbrev pub listing_line : List ℕ → List ℕ
-listing_line text = codes "       " ++ (text ++ codes "\n")
+listing_line text = listed (text ++ codes "\n")
 
 -- operands with a comma between
 abbrev pub two_texts : List ℕ → List ℕ → List ℕ

@@ -1,7 +1,8 @@
 -- Names, and words that are compared with no heed of case.
-use Rattle.std.specs.Prelude.{◌≡◌, ℕ, ◌==◌, Bool, true, ◌&&◌, ◌||◌, nat_lt, nat_le, List, length, slice_index, map}
+use Rattle.std.specs.Prelude.{◌≡◌, ℕ, ◌==◌, Bool, true, ◌&&◌, ◌||◌, nat_lt, nat_le, List, length, slice_index, map, IsTrue, nat_eq}
 use Rattle.std.specs.List.{list_all, zip}
 use Rattle.source_defs.specs.Characters.{is_digit, is_letter, upper_case}
+use Rattle.std.specs.Cmp.Lexicographic.{pointwise}
 
 abbrev pub is_letter_or_digit : ℕ → Bool
 is_letter_or_digit byte = is_letter byte || is_digit byte
@@ -16,7 +17,7 @@ is_name bytes =
 
 -- a name whose letters are in upper case
 pub record IsUpperCaseName (bytes : List ℕ) : Type 0 where
-  pub name : is_name bytes ≡ true
+  pub name : IsTrue (is_name bytes)
   pub upper : map upper_case bytes ≡ bytes
 
 -- a character that prints, other than the space
@@ -38,3 +39,7 @@ same_letters text word = list_all (λ pair. upper_case pair.0 == pair.1) (zip te
 -- Profile: letters outside quotes are taken as upper case. Whether a text is the word, which is in upper case.
 abbrev pub is_word : List ℕ → List ℕ → Bool
 is_word text word = (length text == length word) && same_letters text word
+
+-- two texts are the same, byte by byte
+abbrev pub same_text : List ℕ → List ℕ → Bool
+same_text a b = pointwise nat_eq a b

@@ -43,6 +43,3 @@ hexadecimal_number digits =
     if nat_lt 0 (length digits) && nat_le (length digits) 4 && all_hexadecimal_digits digits
     then Some (value_after 16 0 digits)
     else None
-
-abbrev pub is_comma : ℕ → Bool
-is_comma byte = byte == 0x2C

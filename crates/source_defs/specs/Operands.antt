@@ -6,8 +6,8 @@ use Rattle.std.specs.Prelude.{ℕ, ◌-◌, Bool, not, ◌&&◌, List, [], ◌�
 use Rattle.std.specs.List.{AllByRecursion, range_with_len}
 use Rattle.source_defs.specs.declared.text.Span.{Span}
 use Rattle.source_defs.specs.Lines.{IsInside, bounds_between, part}
-use Rattle.source_defs.specs.Numbers.{is_comma}
 use Rattle.source_defs.specs.Fields.{in_quotes}
+use Rattle.source_defs.specs.Characters.{is_comma}
 
 -- a comma outside the quotes of a field
 abbrev pub parts_operands : List ℕ → ℕ → Bool

@@ -1,6 +1,6 @@
 -- Refusals of lines: which line is refused, and why. A definition that may refuse is read from the top, and the first
 -- cause that comes is its answer.
-use Rattle.std.specs.Prelude.{ℕ, List, ◌++◌, Result, Ok, Err}
+use Rattle.std.specs.Prelude.{ℕ, Bool, true, false, List, ◌++◌, Result, Ok, Err}
 
 -- a refused line, by its number
 pub record Refusal (C : Type 0) : Type 0 where
@@ -12,6 +12,11 @@ infixl 10 ◌>>=◌
 abbrev pub ◌>>=◌ : {A B C : Type 0} → Result A C → (A → Result B C) → Result B C
 (Ok value) >>= next = next value
 (Err cause) >>= next = Err cause
+
+-- a value, unless something speaks against it
+abbrev pub unless : {A C : Type 0} → Bool → C → A → Result A C
+unless true cause value = Err cause
+unless false cause value = Ok value
 
 -- an answer, with its value seen as something else
 abbrev pub seen : {A B C : Type 0} → (A → B) → Result A C → Result B C

@@ -33,7 +33,7 @@ use Rattle.source_defs.specs.declared.causes.ExprError.{ExprError}
 use Rattle.source_defs.specs.declared.causes.ExprError.TheVariants.{BadToken, TooLarge}
 use Rattle.source_defs.specs.Refusals.{◌>>=◌}
 use Rattle.source_defs.specs.Characters.{is_quote, is_digit, is_letter, upper_case}
-use Rattle.source_defs.specs.Least.{least_place}
+use Rattle.source_defs.specs.Least.{least_place, end_of}
 use Rattle.source_defs.specs.Names.{is_letter_or_digit, is_name}
 use Rattle.source_defs.specs.Numbers.{is_hexadecimal_digit, decimal_number, hexadecimal_number}
 use Rattle.source_defs.specs.Fields.{in_quotes}
@@ -53,15 +53,15 @@ pub record Token : Type 0 where
 
 -- from a place on, the first byte that is no digit, or the text's end
 abbrev pub digits_end : List ℕ → ℕ → ℕ
-digits_end text from = least_place (λ k. not (is_digit (slice_index text k))) text from
+digits_end text from = end_of is_digit text from
 
 -- from a place on, the first byte that is no hexadecimal digit, or the text's end
 abbrev pub hexadecimal_end : List ℕ → ℕ → ℕ
-hexadecimal_end text from = least_place (λ k. not (is_hexadecimal_digit (slice_index text k))) text from
+hexadecimal_end text from = end_of is_hexadecimal_digit text from
 
 -- from a place on, the first byte that is no letter and no digit, or the text's end
 abbrev pub name_end : List ℕ → ℕ → ℕ
-name_end text from = least_place (λ k. not (is_letter_or_digit (slice_index text k))) text from
+name_end text from = end_of is_letter_or_digit text from
 
 -- a byte that is no quote, outside the quotes of a text that starts at a place
 abbrev pub ends_text : List ℕ → ℕ → ℕ → Bool

@@ -131,14 +131,14 @@ const INSTRUCTIONS: &[(GplInstr, &[u8])] = &[
     (
         GplInstr::Branch {
             on: false,
-            low: 0x1FFF,
+            offset: 0x1FFF,
         },
         &[0x5F, 0xFF],
     ),
     (
         GplInstr::Branch {
             on: true,
-            low: 0x0102,
+            offset: 0x0102,
         },
         &[0x61, 0x02],
     ),

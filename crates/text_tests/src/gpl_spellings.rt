@@ -35,7 +35,7 @@ const REFUSED: &[(u8, u8)] = &[
 const INVALID: &[GplInstr] = &[
     GplInstr::Branch {
         on: true,
-        low: 0x2000,
+        offset: 0x2000,
     },
     GplInstr::One {
         op: OneName::FETCH,

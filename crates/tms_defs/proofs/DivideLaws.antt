@@ -1,6 +1,6 @@
 -- There is a quotient exactly where the divisor is above the high word.
 use Rattle.std.proofs.Common.{◌≡◌, ℕ, ◌/◌, ◌<◌, ◌≤◌, Bool, true, false, refl, sym, ap, arith, ◌∙◌, Option, Some, None}
-use Rattle.std.specs.Prelude.{nat_lt, is_some, ◌&&◌}
+use Rattle.std.specs.Prelude.{nat_lt, is_some, ◌&&◌, if◌then◌else◌}
 use Rattle.std.proofs.Math.Nat.{div-lt_iff_lt-mul}
 use Rattle.std.proofs.lemmas.Nat.{le-div}
 use Rattle.std.proofs.lemmas.Bool.Decides.{nat_tests}
@@ -16,7 +16,7 @@ quotient-no_word more less divisor some under = le-div 65536 (double_word more l
 -- the two tests by which there is a quotient
 by_tests : (above some word : Bool) (pair : ℕ × ℕ) → (above ≡ true → some ≡ true) →
     (above ≡ true → word ≡ true) → (above ≡ false → (some && word) ≡ false) →
-    is_some (elim above as (λ _. Option (ℕ × ℕ)) [ true ↦ Some pair | false ↦ None ]) ≡ (some && word)
+    is_some (if above then Some pair else None) ≡ (some && word)
 by_tests true some word pair is_some_then is_word_then none =
     ap (λ (b : Bool). true && b) (sym (is_word_then refl)) ∙ ap (λ (b : Bool). b && word) (sym (is_some_then refl))
 by_tests false some word pair is_some_then is_word_then none = sym (none refl)

@@ -2,7 +2,7 @@
 -- instructions give each other back.
 use Rattle.std.proofs.Common.{◌≡◌, ℕ, zero, suc, ◌+◌, ◌*◌, ◌/◌, ◌%◌, ◌<◌, ◌≤◌, Bool, true, false, length, get_or, List}
 use Rattle.std.proofs.Common.{[], ◌∷◌, refl, sym, ap, ◌∙◌, arith, Option, Some, None}
-use Rattle.std.specs.Prelude.{ℤ, ◌≢◌, eqb, ◌&&◌, not, nat_lt, nat_le, bit_and, Contains, IfSome}
+use Rattle.std.specs.Prelude.{if◌then◌else◌, ℤ, ◌≢◌, eqb, ◌&&◌, not, nat_lt, nat_le, bit_and, Contains, IfSome}
 use Rattle.std.specs.Option.{option_map}
 use Rattle.std.specs.Int.{w8, cast_signed, cast_unsigned}
 use Rattle.std.specs.List.{list_all}
@@ -142,7 +142,7 @@ first_row_meets (row ∷ rows) word operation e =
   where
     by : (first_row rows word ≡ Some operation → bit_and word (mask_of operation) ≡ code_of operation) → (b : Bool) →
         eqb (bit_and word (mask_of row)) (code_of row) ≡ b →
-        (elim b as (λ _. Option Operation) [ true ↦ Some row | false ↦ first_row rows word ]) ≡ Some operation →
+        (if b then Some row else first_row rows word) ≡ Some operation →
         bit_and word (mask_of operation) ≡ code_of operation
     by rest true test found = let same : row ≡ operation = cc in rw (← same) (grind (arith, nat_tests))
     by rest false test found = rest found
@@ -168,7 +168,7 @@ passes test (row ∷ rows) operation (suc k) all lt at =
     passes test rows operation k (right_of (test row) (list_all test rows) all) (omega arith) at
 
 front : (b : Bool) (row : Operation) (rest : Option Operation) → b ≡ true →
-    (elim b as (λ _. Option Operation) [ true ↦ Some row | false ↦ rest ]) ≡ Some row
+    (if b then Some row else rest) ≡ Some row
 front true row rest e = refl
 front false row rest e = absurd (cc)
 
@@ -193,7 +193,7 @@ first_row_at (row ∷ rows) word operation (suc k) apart lt at meets =
         (left_of (list_all (λ other. not (could_share row other)) rows) (all_apart rows) apart) (omega arith) at
 
     by : first_row rows word ≡ Some operation → (b : Bool) → eqb (bit_and word (mask_of row)) (code_of row) ≡ b →
-        (elim b as (λ _. Option Operation) [ true ↦ Some row | false ↦ first_row rows word ]) ≡ Some operation
+        (if b then Some row else first_row rows word) ≡ Some operation
     by rest true test =
         let meets_row : bit_and word (mask_of row) ≡ code_of row = grind (arith, nat_tests) in
         absurd

@@ -1,6 +1,6 @@
 -- Widths of operands, sums, differences and comparisons, and the status bits that they set.
 use Rattle.std.specs.Prelude.{ℕ, ℤ, pos, ◌+◌, ◌-◌, ◌%◌, ◌+ℤ◌, ◌-ℤ◌, unsigned_abs, count_ones}
-use Rattle.std.specs.Prelude.{Bool, true, false, not, ◌&&◌, ◌||◌, eqb, ◌==◌, nat_lt, nat_le, int_lt, int_le}
+use Rattle.std.specs.Prelude.{Bool, true, false, not, ◌&&◌, ◌||◌, ◌==◌, nat_lt, nat_le, int_lt, int_le}
 use Rattle.std.specs.Prelude.{if◌then◌else◌}
 use Rattle.tms_defs.specs.declared.flags.Flags.{Flags}
 
@@ -50,7 +50,7 @@ result_flags width number carry overflow =
 
 -- OP: a byte has an odd number of ones. TMS9900 data manual, "Status register".
 abbrev pub has_odd_parity : ℕ → Bool
-has_odd_parity byte = eqb (count_ones byte % 2) 1
+has_odd_parity byte = count_ones byte % 2 == 1
 
 -- Addition: the exact sum, kept to the width.
 abbrev pub sum_of : Width → ℕ → ℕ → ℕ

@@ -1,5 +1,5 @@
 -- The instruction table.
-use Rattle.std.specs.Prelude.{ℕ, ◌+◌, ◌*◌, ◌/◌, ◌%◌, ◌<◌, Bool, true, false, eqb, bit_and, List, [], ◌∷◌, Option, Some}
+use Rattle.std.specs.Prelude.{ℕ, ◌+◌, ◌*◌, ◌/◌, ◌%◌, ◌<◌, ◌==◌, if◌then◌else◌, Bool, true, false, bit_and, List, [], ◌∷◌, Option, Some}
 use Rattle.std.specs.Prelude.{None, FitsSigned}
 use Rattle.std.specs.Option.{option_map}
 use Rattle.std.specs.Int.{w8, cast_signed, cast_unsigned}
@@ -216,10 +216,7 @@ operations =
 abbrev pub first_row : List Operation → ℕ → Option Operation
 first_row [] word = None
 first_row (operation ∷ rest) word =
-    elim (eqb (bit_and word (mask_of operation)) (code_of operation)) [
-      | true ↦ Some operation
-      | false ↦ first_row rest word
-    ]
+    if bit_and word (mask_of operation) == code_of operation then Some operation else first_row rest word
 
 abbrev pub operation_at : ℕ → Option Operation
 operation_at word = first_row operations word

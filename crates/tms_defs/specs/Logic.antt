@@ -1,5 +1,5 @@
 -- The results of the operations that work bit by bit; L>, A> and EQ are set by the result, as `by_result` says.
-use Rattle.std.specs.Prelude.{ℕ, ◌-◌, eqb, bit_and, bit_or, bit_xor}
+use Rattle.std.specs.Prelude.{ℕ, ◌-◌, ◌==◌, bit_and, bit_or, bit_xor}
 use Rattle.tms_defs.specs.declared.flags.Flags.{Flags}
 use Rattle.tms_defs.specs.Words.{high, low, join}
 use Rattle.tms_defs.specs.Flags.{Width, modulus}
@@ -33,9 +33,9 @@ swapped word = join (low word) (high word)
 -- EQ where every one of the source is a one in the register; the others stay.
 -- TMS9900 data manual, "Compare ones corresponding".
 abbrev pub by_ones : ℕ → ℕ → Flags → Flags
-by_ones register source flags = record flags { eq = eqb (bit_and source register) source }
+by_ones register source flags = record flags { eq = bit_and source register == source }
 
 -- EQ where every one of the source is a zero in the register; the others stay.
 -- TMS9900 data manual, "Compare zeros corresponding".
 abbrev pub by_zeros : ℕ → ℕ → Flags → Flags
-by_zeros register source flags = record flags { eq = eqb (bit_and source register) 0 }
+by_zeros register source flags = record flags { eq = bit_and source register == 0 }

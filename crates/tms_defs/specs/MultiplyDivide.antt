@@ -1,5 +1,5 @@
 -- Multiplication and division of numbers without sign.
-use Rattle.std.specs.Prelude.{ℕ, ◌+◌, ◌*◌, ◌/◌, ◌%◌, Bool, true, false, ◌&&◌, nat_lt, Option, Some, None, is_none}
+use Rattle.std.specs.Prelude.{ℕ, ◌+◌, ◌*◌, ◌/◌, ◌%◌, Bool, ◌&&◌, nat_lt, if◌then◌else◌, Option, Some, None, is_none}
 use Rattle.tms_defs.specs.declared.flags.Flags.{Flags}
 
 -- The number of two words, the first of them the more significant.
@@ -14,10 +14,9 @@ product_of a b = (a * b / 65536, a * b % 65536)
 -- word, for the quotient would not be a word. TMS9900 data manual, "Divide".
 abbrev pub division_of : ℕ → ℕ → ℕ → Option (ℕ × ℕ)
 division_of more less divisor =
-    elim (nat_lt more divisor) [
-      | true ↦ Some (double_word more less / divisor, double_word more less % divisor)
-      | false ↦ None
-    ]
+    if nat_lt more divisor
+    then Some (double_word more less / divisor, double_word more less % divisor)
+    else None
 
 -- That is the manual's rule: there is a quotient, and it is a word.
 -- TMS9900 data manual, "Divide".

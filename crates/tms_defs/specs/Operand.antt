@@ -1,6 +1,6 @@
 -- The processor's state, and its operands. All is said over any memory with the four accesses, so the order of the
 -- lines is the order of the accesses.
-use Rattle.std.specs.Prelude.{ℕ, ◌*◌, true, false, eqb, List, [], ◌∷◌}
+use Rattle.std.specs.Prelude.{ℕ, ◌*◌, ◌==◌, if◌then◌else◌, List, [], ◌∷◌}
 use Rattle.tms_defs.specs.Words.{plus}
 use Rattle.tms_defs.specs.Flags.{Width, Byte, Word, size_of}
 use Rattle.tms_defs.specs.Accesses.{Answer, Gives, ◌>>=◌, Accesses}
@@ -24,14 +24,7 @@ pub data Mode : Type 0 where
 -- The mode of the two bits of an instruction word.
 abbrev pub mode_of : ℕ → Mode
 mode_of bits =
-    elim (eqb bits 0) [
-      | true ↦ Register
-      | false ↦
-          elim (eqb bits 1) [
-            | true ↦ Indirect
-            | false ↦ elim (eqb bits 2) [ true ↦ Symbolic | false ↦ Increment ]
-          ]
-    ]
+    if bits == 0 then Register else if bits == 1 then Indirect else if bits == 2 then Symbolic else Increment
 
 -- A workspace register is a word of memory. TMS9900 data manual, "Registers and memory".
 abbrev pub register_in : ℕ → ℕ → ℕ
@@ -67,7 +60,7 @@ module _ (M : Type 0) (access : Accesses M) where
   -- Register 0 is no index. TMS9900 data manual, "Indexed addressing".
   abbrev pub index_of : Cpu M → ℕ → Answer ℕ
   index_of x number =
-      elim (eqb number 0) [ true ↦ Gives 0 | false ↦ access.word x.memory (register_address x number) ]
+      if number == 0 then Gives 0 else access.word x.memory (register_address x number)
 
   -- The address of an operand, and the state after the growth of its register: by the bytes of the operand.
   -- TMS9900 data manual, "Addressing modes".

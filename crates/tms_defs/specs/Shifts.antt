@@ -1,5 +1,5 @@
 -- Shifts of a word by a count from 1 to 16.
-use Rattle.std.specs.Prelude.{ℕ, zero, suc, pos, ◌+◌, ◌-◌, ◌*◌, ◌/◌, ◌%◌, ◌^◌, ◌*ℤ◌, Bool, false, not, ◌||◌, eqb}
+use Rattle.std.specs.Prelude.{ℕ, zero, suc, pos, ◌+◌, ◌-◌, ◌*◌, ◌/◌, ◌%◌, ◌^◌, ◌*ℤ◌, Bool, false, not, ◌||◌, ◌==◌}
 use Rattle.std.specs.Prelude.{nat_lt, if◌then◌else◌}
 use Rattle.tms_defs.specs.declared.flags.Flags.{Flags}
 use Rattle.tms_defs.specs.declared.instruction.ShiftOp.{ShiftOp}
@@ -25,8 +25,8 @@ shifted op word count = long_word op word / 2 ^ count % 65536
 
 -- C: the last bit that was shifted out. TMS9900 data manual, "Shift instructions".
 abbrev pub last_out : ShiftOp → ℕ → ℕ → Bool
-last_out SLA word count = eqb (word * 2 ^ count / 65536 % 2) 1
-last_out op word count = eqb (long_word op word / 2 ^ (count - 1) % 2) 1
+last_out SLA word count = word * 2 ^ count / 65536 % 2 == 1
+last_out op word count = long_word op word / 2 ^ (count - 1) % 2 == 1
 
 -- OV: the exact signed number, doubled once for each place of a shift to the left, has no place in a word. The other
 -- shifts give false. TMS9900 data manual, "Shift left arithmetic".
@@ -42,7 +42,7 @@ sign_after word places = word * 2 ^ places / 32768 % 2
 abbrev pub sign_changes : ℕ → ℕ → Bool
 sign_changes word zero = false
 sign_changes word (suc places) =
-    sign_changes word places || not (eqb (sign_after word (suc places)) (sign_after word 0))
+    sign_changes word places || not (sign_after word (suc places) == sign_after word 0)
 
 -- The status bits of a shift: L>, A> and EQ by the result. TMS9900 data manual, "Shift instructions".
 abbrev pub shift_flags : ShiftOp → ℕ → ℕ → Flags

@@ -1,5 +1,5 @@
 -- The status register and its word.
-use Rattle.std.specs.Prelude.{ℕ, ◌+◌, ◌*◌, ◌/◌, ◌%◌, ◌<◌, Bool, true, false, eqb}
+use Rattle.std.specs.Prelude.{ℕ, ◌+◌, ◌*◌, ◌/◌, ◌%◌, ◌<◌, Bool, true, false, ◌==◌}
 use Rattle.tms_defs.specs.declared.flags.Flags.{Flags}
 use Rattle.tms_defs.specs.declared.status.Status.{Status}
 use Rattle.tms_defs.specs.Flags.{Width, Byte, Word, by_order, has_odd_parity}
@@ -25,7 +25,7 @@ status_word status =
 
 -- A bit of a word is set.
 abbrev pub is_set : ℕ → ℕ → Bool
-is_set word weight = eqb (word / weight % 2) 1
+is_set word weight = word / weight % 2 == 1
 
 -- The status register of a word. TMS9900 data manual, "Status register".
 abbrev pub status_at : ℕ → Status

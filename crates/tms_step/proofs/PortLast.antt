@@ -1,6 +1,6 @@
 -- A byte of a port may be read before a destination is derived or after it: words neither see nor change a port.
 use Rattle.std.proofs.Common.{◌≡◌, ℕ, true, false, refl, sym, ap, ◌∙◌}
-use Rattle.std.specs.Prelude.{eqb}
+use Rattle.std.specs.Prelude.{eqb, if◌then◌else◌, ◌==◌}
 use Rattle.tms_defs.specs.Words.{even, plus}
 use Rattle.tms_defs.specs.Flags.{Width, Byte, size_of}
 use Rattle.tms_defs.specs.Accesses.{Answer, Gives, AtPort, NoInstruction, ◌>>=◌}
@@ -83,7 +83,7 @@ module _ (a : VdpState → VdpState) (b : GromState → GromState)
   index_past : (x : Cpu Memory) (number : ℕ) → index_of Memory console (moved x) number
       ≡ index_of Memory console x number
   index_past x number =
-      ap (λ (word : Answer ℕ). elim (eqb number 0) as (λ _. Answer ℕ) [ true ↦ Gives 0 | false ↦ word ])
+      ap (λ (word : Answer ℕ). if number == 0 then Gives 0 else word)
       (read_past x (register_address Memory console x number))
 
   indexed : (x : Cpu Memory) (number : ℕ) (word : Answer ℕ) →

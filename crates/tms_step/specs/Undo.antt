@@ -1,5 +1,5 @@
 -- A word that was written over, and its being put back.
-use Rattle.std.specs.Prelude.{◌≡◌, ℕ, true, false, eqb, Option, Some, None}
+use Rattle.std.specs.Prelude.{◌≡◌, ℕ, ◌==◌, if◌then◌else◌, Option, Some, None}
 use Rattle.tms_defs.specs.Accesses.{Answer, Gives, AtPort, NoInstruction}
 use Rattle.console_defs.specs.Memory.{Memory, word_written}
 use Rattle.tms_defs.specs.Operand.{Cpu, register_in}
@@ -24,7 +24,7 @@ grown_register number word wp = record { address = register_in wp number; word =
 -- The register that has grown with an operand at an address, as it was before: what it held is the address.
 abbrev pub grown_by : Place → ℕ → ℕ → Option Kept
 grown_by place address wp =
-    elim (eqb place.mode 3) [ true ↦ Some (grown_register place.reg address wp) | false ↦ None ]
+    if place.mode == 3 then Some (grown_register place.reg address wp) else None
 
 -- The new state is the old one but for the program counter.
 pub record SameButPc (old new : Cpu Memory) : Type 0 where

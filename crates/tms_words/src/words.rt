@@ -40,7 +40,7 @@ pub fn sub16(d: u16, s: u16) -> Out16
 }
 
 /// The negative of a word. L>, A> and EQ are set by the negative; OV for >8000, which stays as it is (TMS9900 data
-/// manual, "Negate"). C is set for 0 alone, which is this project's own rule.
+/// manual, "Negate"). Profile: C is set for 0 alone.
 pub fn neg16(x: u16) -> Out16
     ensures value { result.value ≡ negation_of Word x }
     ensures flags { result.flags ≡ negation_flags Word x }
@@ -53,7 +53,7 @@ pub fn neg16(x: u16) -> Out16
 }
 
 /// The absolute value of a word. L>, A> and EQ are set by the word as it was; OV for >8000, which stays as it is
-/// (TMS9900 data manual, "Absolute value"). C is false, which is this project's own rule.
+/// (TMS9900 data manual, "Absolute value"). Profile: C is false.
 pub fn abs16(x: u16) -> Out16
     ensures value { result.value ≡ absolute_of Word x }
     ensures flags { result.flags ≡ absolute_flags Word x }

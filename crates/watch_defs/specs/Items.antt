@@ -3,11 +3,12 @@ use Rattle.std.specs.Prelude.{◌≤◌, ℕ, ◌+◌, ◌-◌, ◌==◌, List, 
 use Rattle.std.specs.Prelude.{Option, None, is_some, option_map, All, ⊤}
 use Rattle.gpl_defs.specs.declared.instruction.Space.{Space}
 use Rattle.gpl_defs.specs.declared.instruction.Space.TheVariants.{Cpu, Vdp}
-use Rattle.lane_scan.specs.Plain.{first_difference}
+use Rattle.list_defs.specs.Lists.{first_difference}
 use Rattle.gpl_step_defs.specs.State.{GplState}
 use Rattle.gpl_step_defs.specs.declared.cells.TheConstants.{VISIBLE_CELLS}
 use Rattle.watch_defs.specs.declared.item.Item.{Item}
 use Rattle.watch_defs.specs.declared.item.Item.TheVariants.{Range, Pc}
+use Rattle.gpl_defs.specs.declared.scratchpad.TheConstants.{SCRATCHPAD}
 
 -- The bytes of a memory that a program sees, and the address of the first of them.
 abbrev pub bytes_in : Space → GplState → List ℕ
@@ -15,7 +16,7 @@ bytes_in Cpu s = s.cells
 bytes_in Vdp s = s.vdp
 
 abbrev pub base_of : Space → ℕ
-base_of Cpu = 0x8300
+base_of Cpu = SCRATCHPAD
 base_of Vdp = 0
 
 -- how many they are

@@ -1,5 +1,5 @@
 -- What the definitions say of what is found.
-use Rattle.std.specs.Prelude.{◌≡◌, ◌<◌, ◌≤◌, ℕ, ◌-◌, List, slice_get, true, false, Option, Some}
+use Rattle.std.specs.Prelude.{◌≡◌, ◌<◌, ◌≤◌, ℕ, ◌-◌, List, slice_get, true, false, Option, Some, IsTrue}
 use Rattle.gpl_step_defs.specs.State.{GplState}
 use Rattle.gpl_step_defs.specs.Run.{run}
 use Rattle.watch_defs.specs.declared.item.Item.{Item}
@@ -29,7 +29,7 @@ pub record IsFirstHit (list : List Item) (limit : ℕ) (s : GplState) (step from
   pub numbered : 1 ≤ number
   pub item : Item
   pub stands : slice_get list (number - 1) ≡ Some item
-  pub holds : items.holds item (behind s (step - 1)) (behind s step) ≡ true
+  pub holds : IsTrue (items.holds item (behind s (step - 1)) (behind s step))
   pub none_before : NoneHoldsBefore list (number - 1) (behind s (step - 1)) (behind s step)
   pub changed : shown ≡ items.change item (behind s (step - 1)) (behind s step)
 

@@ -14,10 +14,11 @@ use Rattle.tms_defs.specs.declared.instruction.Instr.{Instr}
 use Rattle.tms_defs.specs.declared.instruction.Instr.TheVariants.{Two, Reg, Shift, One, Jump, Imm, Bare}
 use Rattle.instruction_defs.specs.declared.causes.FormError.{FormError}
 use Rattle.instruction_defs.specs.declared.causes.FormError.TheVariants.{JumpTooFar}
-use Rattle.instruction_defs.specs.Operands.{following_words, words_of, has_immediate, has_value, one_if}
+use Rattle.instruction_defs.specs.Operands.{following_words, words_of, has_immediate, has_value}
 use Rattle.instruction_defs.specs.SecondChecks.{Ready, Located, Counted, Displaced, Followed, instruction_of, following_in}
 use Rattle.word_listings.specs.Modules.{jump_wraps, wraps}
 use Rattle.word_listings.proofs.Instructions.{values_of, readies_of}
+use Rattle.count_defs.specs.Counts.{one_if}
 
 -- what is read has a signed byte
 signed : (operation : Operation) (word : ℕ) → HasSignedByte (operands_at operation word)

@@ -26,7 +26,7 @@ use Rattle.instruction_defs.specs.declared.slot.Slot.{Slot}
 use Rattle.instruction_defs.specs.declared.slot.Slot.TheVariants as slot
 use Rattle.instruction_defs.specs.Forms.{Form}
 use Rattle.instruction_defs.specs.Operations.{name_of}
-use Rattle.instruction_defs.specs.Operands.{following_words, words_of, slots_of, reg_slots, jump_slots, has_immediate, has_value, one_if}
+use Rattle.instruction_defs.specs.Operands.{following_words, words_of, slots_of, reg_slots, jump_slots, has_immediate, has_value}
 use Rattle.instruction_defs.specs.FirstChecks.{Skeleton, Instruction, first_checks, forms_of, all_following, size_of}
 use Rattle.instruction_defs.specs.SecondChecks as second
 use Rattle.instruction_defs.specs.SecondChecks.{Ready, Located, Counted, Displaced, Followed, all_valued, all_ranged, second_checks, displaced}
@@ -43,6 +43,7 @@ use Rattle.word_listings.proofs.Numbers.{known}
 use Rattle.word_listings.proofs.Slots.{SlotBack, followed, place_back}
 use Rattle.word_listings.proofs.Counts.{register_back, count_back, immediate_back, bit_back, target_back}
 use Rattle.word_listings.proofs.Names.{names}
+use Rattle.count_defs.specs.Counts.{one_if}
 
 -- an operand field by its slots, and what the checks make of it
 pub record FieldBack (here : Value) (slots : List Slot) (operands : Option (List ℕ)) (answer : Result (List Ready) FormError) (count : ℕ) : Type 0 where

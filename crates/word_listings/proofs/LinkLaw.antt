@@ -6,7 +6,7 @@ use Rattle.std.specs.List.{AllByRecursion}
 use Rattle.std.proofs.lemmas.Bool.Decides.{nat_tests}
 use Rattle.object_defs.specs.Modules.{Module, StandsEven}
 use Rattle.object_defs.specs.Laws.{FitsPiece}
-use Rattle.object_defs.proofs.Written.{written_modules_are_read}
+use Rattle.object_laws.proofs.Written.{written_modules_are_read}
 use Rattle.link_defs.specs.Placing.{sections, first_base, word_at, words_of}
 use Rattle.link_defs.specs.First.{first_behind}
 use Rattle.link_defs.specs.LinkedMemory.{linked, linked_parts, is_outside, is_loadable}

@@ -1,4 +1,4 @@
-use Rattle.object_defs.proofs.Written as law
+use Rattle.object_laws.proofs.Written as law
 use Rattle.object_tags.proofs.laws.written_modules_are_read.Goals as goal
 
 pub returns : goal.returns

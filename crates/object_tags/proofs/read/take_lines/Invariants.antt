@@ -3,7 +3,7 @@ use Rattle.std.specs.Prelude.{map}
 use Rattle.source_defs.specs.Lines.{lines, LinesLieInside}
 use Rattle.object_defs.specs.declared.form.TextForm.TheVariants.{Plain}
 use Rattle.object_defs.specs.Reading.{numbered_line}
-use Rattle.object_defs.specs.Running.{kept_lines}
+use Rattle.object_laws.specs.Running.{kept_lines}
 use Rattle.object_tags.specs.Reads.{kept_of}
 use Rattle.object_tags.proofs.read.take_lines.Given as goal
 

@@ -2,7 +2,7 @@ use Rattle.std.proofs.Common.{◌≡◌, ◌-◌}
 use Rattle.std.specs.Prelude.{map}
 use Rattle.std.specs.List.{range_with_len}
 use Rattle.object_defs.specs.Reading.{record_at, records}
-use Rattle.object_defs.specs.Running.{kept_lines}
+use Rattle.object_laws.specs.Running.{kept_lines}
 use Rattle.object_tags.specs.Reads.{kept_of}
 use Rattle.object_tags.proofs.read.take_records.Given as goal
 

@@ -8,7 +8,7 @@ use Rattle.std.specs.List.{AllByRecursion}
 use Rattle.std.proofs.Common.{Ok}
 use Rattle.object_defs.specs.Reading.{read}
 use Rattle.object_defs.specs.Laws.{FitsPiece, FitsDefinition, FitsReference, IsModule}
-use Rattle.object_defs.proofs.Written.{written_modules_are_read}
+use Rattle.object_laws.proofs.Written.{written_modules_are_read}
 use Rattle.object_tags.proofs.Composed.{composed, in_two_steps, begins, all_defined, if_ok}
 use Rattle.object_tags.proofs.write.write_module.Goals as goal
 

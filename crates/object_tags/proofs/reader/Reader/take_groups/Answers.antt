@@ -1,7 +1,7 @@
 use Rattle.std.proofs.Common.{List, ap, ◌∙◌}
 use Rattle.std.proofs.lemmas.Result.{err_from_is_err_and}
 use Rattle.object_defs.specs.Groups.{FoundGroup}
-use Rattle.object_defs.specs.Running.{kept_groups}
+use Rattle.object_laws.specs.Running.{kept_groups}
 use Rattle.object_tags.specs.Reads.{kept_of}
 use Rattle.object_tags.specs.SeenGroups.{defined_found}
 use Rattle.object_tags.proofs.GroupSteps.{group_added, group_fails, all_added}

@@ -1,6 +1,6 @@
 use Rattle.std.proofs.Common.{◌≡◌, []}
 use Rattle.object_defs.specs.Groups.{groups_from}
-use Rattle.object_defs.specs.Running.{kept_groups}
+use Rattle.object_laws.specs.Running.{kept_groups}
 use Rattle.object_tags.specs.Reads.{kept_of}
 use Rattle.object_tags.proofs.reader.Reader.take_groups.Given as goal
 

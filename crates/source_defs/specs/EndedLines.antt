@@ -1,12 +1,12 @@
 -- The text of lines that are each ended by a carriage return and a line feed.
-use Rattle.std.specs.Prelude.{◌≡◌, ℕ, true, not, List, [], ◌∷◌, ◌++◌}
+use Rattle.std.specs.Prelude.{◌≡◌, ℕ, true, not, List, [], ◌∷◌, ◌++◌, IsTrue}
 use Rattle.std.specs.List.{flat_map, list_all, AllByRecursion}
 use Rattle.source_defs.specs.Characters.{is_line_feed}
 use Rattle.source_defs.specs.Layout.{line_texts, numbered}
 
 -- no line feed stands in a line
 abbrev pub IsOneLine : List ℕ → Type 0
-IsOneLine text = list_all (λ byte. not (is_line_feed byte)) text ≡ true
+IsOneLine text = IsTrue (list_all (λ byte. not (is_line_feed byte)) text)
 
 -- the text of some lines, each with a carriage return and a line feed behind it
 abbrev pub text_of : List (List ℕ) → List ℕ

@@ -14,7 +14,7 @@ use Rattle.object_defs.specs.Modules.{Definition, Reference, number_of, moved, e
 use Rattle.object_defs.specs.Digits.{padded}
 use Rattle.object_defs.specs.Tags.{tag_of}
 use Rattle.object_defs.specs.Groups.{Group, Entry, Referred, Defined, Address, Word, Whole, found_with, found_at, group_size, ends_line, groups_from}
-use Rattle.object_defs.specs.Running.{OpenModule, more, Kept, with_current, kept_with, kept_groups}
+use Rattle.object_laws.specs.Running.{OpenModule, more, Kept, with_current, kept_with, kept_groups}
 use Rattle.object_defs.specs.Writing.{word_text, address_text, definition_text, reference_text, entry_text, Placed, item_text}
 use Rattle.object_defs.specs.Laws.{FitsSpot, FitsPiece, FitsDefinition, FitsReference}
 use Rattle.object_defs.proofs.FieldsAgain.{number_again, symbol_again, digits_length, kept_length}

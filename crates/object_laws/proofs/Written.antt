@@ -13,22 +13,22 @@ use Rattle.object_defs.specs.declared.spot.Piece.{Piece}
 use Rattle.object_defs.specs.declared.tag.Tag.TheVariants as tags
 use Rattle.object_defs.specs.Modules.{Module, Definition, Reference, HasText, StandsEven, moved, all_name_characters}
 use Rattle.source_defs.specs.Digits.{word_digits}
-use Rattle.object_defs.specs.Digits.{decimal, padded, checksum}
+use Rattle.object_defs.specs.Digits.{four_digits, padded, checksum}
 use Rattle.object_defs.specs.Tags.{tag_of}
 use Rattle.object_defs.specs.Writing.{group, header_text, definition_text, reference_text, Item, Group, Placed, items_of, entry_items, Line, empty_line}
 use Rattle.object_defs.specs.Writing.{item_text, next_after, with_item, summed, numbered, line_text, last_line_text, number_after, written_from, written}
 use Rattle.object_defs.specs.Fields.{all_blank}
 use Rattle.object_defs.specs.Groups.{Header, Sum, Whole, found_with, found_at, groups_from}
 use Rattle.object_defs.specs.Reading.{NumberedLine, numbered_line, has_line_feed, form_of}
-use Rattle.object_defs.specs.Running.{OpenModule, opened, begun, more, Kept, nothing_kept, with_current, kept_groups, kept_line, kept_lines}
+use Rattle.object_laws.specs.Running.{OpenModule, opened, begun, more, Kept, nothing_kept, with_current, kept_groups, kept_line, kept_lines}
 use Rattle.object_defs.specs.Laws.{FitsSpot, FitsPiece, FitsDefinition, FitsReference, IsModule, WrittenModulesAreRead}
 use Rattle.object_defs.proofs.FieldsAgain.{number_again, module_name_again, digits_length}
-use Rattle.object_defs.proofs.Adding.{leads, Adds, group_adds, with_piece, piece_adds, with_def, definition_adds, with_ref, reference_adds, with_entry_at}
-use Rattle.object_defs.proofs.Adding.{entry_adds}
+use Rattle.object_laws.proofs.Adding.{leads, Adds, group_adds, with_piece, piece_adds, with_def, definition_adds, with_ref, reference_adds, with_entry_at}
+use Rattle.object_laws.proofs.Adding.{entry_adds}
 use Rattle.object_defs.proofs.FirstLine.{left_lines, first_line}
 use Rattle.object_defs.proofs.Characters.{behind_each_other, decimal_number_prints, padded_prints, summed_prints, piece_prints, definition_prints}
 use Rattle.object_defs.proofs.Characters.{reference_prints, entry_prints, header_prints, name_padded, name_length}
-use Rattle.object_defs.proofs.Running.{read_is}
+use Rattle.object_laws.proofs.Running.{read_is}
 
 -- ---- a line up to its line feed
 
@@ -41,15 +41,15 @@ last_digit number = 0x30 + number % 10
 abbrev body_of : ℕ → List ℕ → List ℕ
 body_of number text = (padded 76 text ++ first_digits number) ++ last_digit number ∷ []
 
-decimal_is : (number : ℕ) (rest : List ℕ) → decimal number ++ rest ≡ first_digits number ++ (last_digit number ∷ rest)
-unfolding decimal
+decimal_is : (number : ℕ) (rest : List ℕ) → four_digits number ++ rest ≡ first_digits number ++ (last_digit number ∷ rest)
+unfolding four_digits
 decimal_is number rest = refl
 
 numbered_is : (number : ℕ) (text more : List ℕ) → numbered number text ++ more ≡ body_of number text ++ 10 ∷ more
 numbered_is number text more =
     let left : numbered number text ++ more ≡ padded 76 text ++ (first_digits number ++ (last_digit number ∷ 10 ∷ more)) =
-    append_assoc (padded 76 text) (decimal number ++ 10 ∷ []) more
-    ∙ ap (λ (xs : List ℕ). padded 76 text ++ xs) (append_assoc (decimal number) (10 ∷ []) more ∙ decimal_is number (10 ∷ more)) in
+    append_assoc (padded 76 text) (four_digits number ++ 10 ∷ []) more
+    ∙ ap (λ (xs : List ℕ). padded 76 text ++ xs) (append_assoc (four_digits number) (10 ∷ []) more ∙ decimal_is number (10 ∷ more)) in
     let right : body_of number text ++ 10 ∷ more ≡ padded 76 text ++ (first_digits number ++ (last_digit number ∷ 10 ∷ more)) =
     append_assoc (padded 76 text ++ first_digits number) (last_digit number ∷ []) (10 ∷ more)
     ∙ append_assoc (padded 76 text) (first_digits number) (last_digit number ∷ 10 ∷ more) in
@@ -57,7 +57,7 @@ numbered_is number text more =
 
 body_prints : (number : ℕ) (text : List ℕ) → all_name_characters text ≡ true → all_name_characters (body_of number text) ≡ true
 body_prints number text h =
-    let digits : all_name_characters (first_digits number ++ last_digit number ∷ []) ≡ true = ap all_name_characters (sym (decimal_is number []) ∙ append-nil (decimal number)) ∙ decimal_number_prints number in
+    let digits : all_name_characters (first_digits number ++ last_digit number ∷ []) ≡ true = ap all_name_characters (sym (decimal_is number []) ∙ append-nil (four_digits number)) ∙ decimal_number_prints number in
     ap all_name_characters (append_assoc (padded 76 text) (first_digits number) (last_digit number ∷ []))
     ∙ behind_each_other (padded 76 text) (first_digits number ++ last_digit number ∷ []) (padded_prints 76 text h) digits
 
@@ -423,7 +423,7 @@ feed_written : (items : List Item) (line : Line) (number : ℕ) → has_line_fee
 unfolding written_from
 feed_written [] line number =
     feed_at_right (line_text number line.text) (last_line_text (number_after number))
-    (feed_at_right (padded 76 (0x3A ∷ [])) (decimal (number_after number) ++ 0x0A ∷ []) (feed_at_right (decimal (number_after number)) (0x0A ∷ []) refl))
+    (feed_at_right (padded 76 (0x3A ∷ [])) (four_digits (number_after number) ++ 0x0A ∷ []) (feed_at_right (four_digits (number_after number)) (0x0A ∷ []) refl))
 feed_written (item ∷ items) line number =
     by (nat_le (length line.text + length (item_text line.next item)) 70) (feed_written items (with_item line item) number) (feed_written items (with_item empty_line item) (number_after number))
   where

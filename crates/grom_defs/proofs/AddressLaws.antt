@@ -1,6 +1,6 @@
--- Laws about the address counter of the GROMs.
+-- Laws about the addresses of GROM.
 use Rattle.std.proofs.Common.{◌≡◌, ◌<◌, ℕ, ◌/◌, arith}
-use Rattle.console_defs.specs.Grom.{next_in_grom, previous_in_grom}
+use Rattle.grom_defs.specs.Addresses.{next_in_grom, previous_in_grom}
 
 -- Each is the inverse of the other.
 pub previous-next : (address : ℕ) → previous_in_grom (next_in_grom address) ≡ address
@@ -9,7 +9,7 @@ previous-next address = omega arith
 pub next-previous : (address : ℕ) → next_in_grom (previous_in_grom address) ≡ address
 next-previous address = omega arith
 
--- The counter stays in its GROM, and in its 16 bits.
+-- An address stays in its GROM, and in its 16 bits.
 pub grom-next : (address : ℕ) → next_in_grom address / 8192 ≡ address / 8192
 grom-next address = omega arith
 

@@ -9,7 +9,7 @@ use Rattle.std.proofs.Math.Seq.{drop-append_seam, take-append_seam, get_or-appen
 use Rattle.source_defs.specs.Characters.{is_line_feed}
 use Rattle.source_defs.specs.Lines.{line_feeds_from, lines_from, without_return, part}
 use Rattle.source_defs.specs.Layout.{numbered}
-use Rattle.ended_lines.specs.Texts.{IsOneLine, text_of, TextsHaveTheirLines}
+use Rattle.source_defs.specs.EndedLines.{IsOneLine, text_of, TextsHaveTheirLines}
 
 both_of : (a b : Bool) → (not a && b) ≡ true → (a ≡ false) × (b ≡ true)
 both_of false b h = (refl, h)

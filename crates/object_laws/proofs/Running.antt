@@ -12,7 +12,7 @@ use Rattle.object_defs.specs.Groups.{Group, Header, Entry, Referred, Defined, Su
 use Rattle.object_defs.specs.Groups.{tag_of_group, groups_from}
 use Rattle.object_defs.specs.Reading.{last_address, words_since, place_behind, module_of, stands_first, stands_behind, Found, nothing_found, added, with_group}
 use Rattle.object_defs.specs.Reading.{with_groups, NumberedLine, with_lines, last_number, ended, form_of, text_lines, read}
-use Rattle.object_defs.specs.Running.{OpenModule, first_of, grown, more, begun, Kept, nothing_kept, kept_with, kept_groups, kept_line, kept_lines, finished}
+use Rattle.object_laws.specs.Running.{OpenModule, first_of, grown, more, begun, Kept, nothing_kept, kept_with, kept_groups, kept_line, kept_lines, finished}
 
 -- ---- what is kept of some groups
 

@@ -1,0 +1,4 @@
+//! Where the scratchpad begins.
+
+/// The address of the first cell of the scratchpad, from which operands in it count. GPL Programmer's Guide, operands.
+pub const SCRATCHPAD: u16 = 0x8300;

@@ -1,0 +1,1 @@
+pub use Rattle.grom_defs.specs.Addresses
