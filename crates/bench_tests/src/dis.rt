@@ -1,78 +1,99 @@
 //! Raw bytes, and what `dis` lists of them.
 
-use super::run::{answers, behind_blanks};
-use report_defs::Status;
-use std::alloc::{AllocError, Global};
+use super::rows::failed_rows;
 use std::test::Fail;
 
-/// An address, bytes, and their listing without the seven blanks in front of each line.
-const LISTINGS: &[(&[u8], &[u8], &[u8])] = &[
-    (
-        b"A000",
-        b"\x02\x01\x12\x34\x04\x5B\x02\x10",
-        b"AORG >A000\nLI R1,>1234\nB *R11\nDATA >0210\nEND\n",
-    ),
-    (b"0000", b"", b"AORG >0000\nEND\n"),
-    (b"abcE", b"\x00", b"AORG >ABCE\nBYTE >00\nEND\n"),
-    // the last word of MOV is missing, and a last odd byte is none
-    (
-        b"6000",
-        b"\xC8\x20\x83\x00\xFF",
-        b"AORG >6000\nDATA >C820\nC R0,R12\nBYTE >FF\nEND\n",
-    ),
-    // a jump by its target, also past the end; counts in decimal
-    (
-        b"FFF8",
-        b"\x10\xFF\x10\x02\x08\xA1\x31\x41",
-        b"AORG >FFF8\nJMP >FFF8\nJMP >0000\nSRA R1,10\nLDCR R1,5\nEND\n",
-    ),
-    (b"FFFE", b"\x1D\xFF", b"AORG >FFFE\nSBO -1\nEND\n"),
-    (b"FFFE", b"\xAA", b"AORG >FFFE\nBYTE >AA\nEND\n"),
-    (
-        b"0000",
-        b"\x10\xFF\x11\x7E\xAA",
-        b"AORG >0000\nJMP >0000\nJLT >0100\nBYTE >AA\nEND\n",
-    ),
-    (
-        b"FFFA",
-        b"\x10\x80\x16\x00\x1D\xFF",
-        b"AORG >FFFA\nJMP >FEFC\nJNE >FFFE\nSBO -1\nEND\n",
-    ),
-    // a jump that wraps around the first address
-    (b"0000", b"\x10\xFE", b"AORG >0000\nJMP >FFFE\nEND\n"),
-];
+/// The runs, by rows.
+const ROWS: &str = r#"
+%
+$ dis A000
+<-\x02\x01\x124\x04[\x02\x10
+>        AORG >A000
+>        LI R1,>1234
+>        B *R11
+>        DATA >0210
+>        END
 
-/// Whether bytes from an address on have this listing.
-fn lists(alloc: Global, at: &[u8], bytes: &[u8], listing: &[u8]) -> Result<bool, AllocError> {
-    let lines = behind_blanks(alloc, listing)?;
-    answers(
-        alloc,
-        &[b"dis", at],
-        bytes,
-        Status::Done,
-        lines.as_slice(),
-        b"",
-    )
-}
+%
+$ dis 0000
+>        AORG >0000
+>        END
 
-/// Whether three bytes from >FFFE on are refused.
-fn refuses_past_the_end(alloc: Global) -> Result<bool, AllocError> {
-    let line = b"past the end of memory\n";
-    answers(
-        alloc,
-        &[b"dis", b"FFFE"],
-        b"\x00\x00\x00",
-        Status::Refused,
-        b"",
-        line,
-    )
-}
+%
+$ dis abcE
+<-\x00
+>        AORG >ABCE
+>        BYTE >00
+>        END
+
+% the last word of MOV is missing, and a last odd byte is none
+$ dis 6000
+<-\xC8 \x83\x00\xFF
+>        AORG >6000
+>        DATA >C820
+>        C R0,R12
+>        BYTE >FF
+>        END
+
+% a jump by its target, also past the end; counts in decimal
+$ dis FFF8
+<-\x10\xFF\x10\x02\x08\xA11A
+>        AORG >FFF8
+>        JMP >FFF8
+>        JMP >0000
+>        SRA R1,10
+>        LDCR R1,5
+>        END
+
+%
+$ dis FFFE
+<-\x1D\xFF
+>        AORG >FFFE
+>        SBO -1
+>        END
+
+%
+$ dis FFFE
+<-\xAA
+>        AORG >FFFE
+>        BYTE >AA
+>        END
+
+%
+$ dis 0000
+<-\x10\xFF\x11~\xAA
+>        AORG >0000
+>        JMP >0000
+>        JLT >0100
+>        BYTE >AA
+>        END
+
+%
+$ dis FFFA
+<-\x10\x80\x16\x00\x1D\xFF
+>        AORG >FFFA
+>        JMP >FEFC
+>        JNE >FFFE
+>        SBO -1
+>        END
+
+% a jump that wraps around the first address
+$ dis 0000
+<-\x10\xFE
+>        AORG >0000
+>        JMP >FFFE
+>        END
+
+% three bytes from the last word on
+$ dis FFFE
+<-\x00\x00\x00
+? Refused
+e past the end of memory
+"#;
 
 #[test]
 fn raw_bytes_are_listed_up_to_the_end_of_memory(rt: HostRuntime) -> Result<(), Fail> {
-    for &(at, bytes, listing) in LISTINGS {
-        assert!(rt; lists(rt.alloc(), at, bytes, listing)?, "{bytes:?}");
-    }
-    assert!(rt; refuses_past_the_end(rt.alloc())?);
+    let failed = failed_rows(rt.alloc(), ROWS)?;
+    assert!(rt; failed.is_empty(), "{failed}");
     Ok(())
 }

@@ -27,6 +27,8 @@ mod interp;
 #[cfg(test)]
 mod link;
 #[cfg(test)]
+mod rows;
+#[cfg(test)]
 mod run;
 #[cfg(test)]
 mod statuses;

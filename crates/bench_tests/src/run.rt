@@ -1,7 +1,7 @@
 //! One run, and what came of it.
 
 use bench_io::{MemSink, MemSource};
-use bench_shelf::{FileName, MemShelf};
+use bench_shelf::MemShelf;
 use command_words::Words;
 use report_defs::Status;
 use std::alloc::{AllocError, Global};
@@ -10,9 +10,6 @@ use workbench::bench_with;
 /// The usage line.
 pub(crate) const USAGE: &[u8] =
     b"usage: ti_bench asm|link [NAME ...]|dis ADDR|exec N|gasm|gdis ADDR|interp|run N|trace N|demo K|watch N ITEM ...\n";
-
-/// Names, each with the bytes of its file.
-pub(crate) type Files = &'static [(&'static [u8], &'static [u8])];
 
 /// How a run ended, and what the two sinks hold then.
 #[derive(Drop)]
@@ -32,17 +29,6 @@ pub(crate) fn words_of(alloc: Global, words: &[&[u8]]) -> Result<Words, AllocErr
     Ok(list)
 }
 
-/// A shelf of files, each a name and its bytes, of which these calls fail.
-pub(crate) fn shelf_of(alloc: Global, files: Files, fails: &[u64]) -> Result<MemShelf, AllocError> {
-    let mut list = Vec::new(alloc);
-    for &(name, bytes) in files {
-        if let Some(name) = FileName::read(name) {
-            list.push((name, Vec::from_slice(alloc, bytes)?))?;
-        }
-    }
-    Ok(MemShelf::new(list, Vec::from_slice(alloc, fails)?))
-}
-
 /// Runs words over an input and an empty shelf, with room for 16,384 bytes in each sink. The calls of each with these
 /// numbers fail.
 pub(crate) fn run(
@@ -52,7 +38,7 @@ pub(crate) fn run(
     take_fails: &[u64],
     put_fails: &[u64],
 ) -> Result<Ended, AllocError> {
-    let mut shelf = shelf_of(alloc, &[], &[])?;
+    let mut shelf = MemShelf::new(Vec::new(alloc), Vec::new(alloc));
     run_with(alloc, words, input, &mut shelf, take_fails, put_fails)
 }
 
@@ -89,14 +75,4 @@ pub(crate) fn answers(
 ) -> Result<bool, AllocError> {
     let ended = run(alloc, words, input.to_vec(alloc)?, &[], &[])?;
     Ok(ended.status == status && ended.out.bytes() == out && ended.err.bytes() == err)
-}
-
-/// The lines of a listing, each behind seven blanks.
-pub(crate) fn behind_blanks(alloc: Global, listing: &[u8]) -> Result<Vec<u8>, AllocError> {
-    let mut lines = Vec::new(alloc);
-    for line in listing.split_inclusive(|&byte| byte == b'\n') {
-        lines.extend_from_slice(b"       ")?;
-        lines.extend_from_slice(line)?;
-    }
-    Ok(lines)
 }

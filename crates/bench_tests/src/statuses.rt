@@ -1,5 +1,6 @@
 //! Words, faults, and the statuses that they end with.
 
+use super::rows;
 use super::run::{USAGE, run, words_of};
 use bench_commands::bench_steady;
 use bench_io::SteadySource;
@@ -7,64 +8,55 @@ use report_defs::Status;
 use std::alloc::{AllocError, Global};
 use std::test::Fail;
 
-/// Words that are no command.
-const NO_COMMANDS: &[&[&[u8]]] = &[
-    &[],
-    &[b"gasm", b"gasm"],
-    &[b"ASM"],
-    &[b"GASM"],
-    &[b"gas"],
-    &[b"?"],
-    &[b""],
-    &[b"--help"],
-    &[b"run"],
-    &[b"run", b"007"],
-    &[b"run", b"100001"],
-    &[b"interp", b"1"],
-    &[b"trace", b"100001"],
-    &[b"demo"],
-    &[b"demo", b"0"],
-    &[b"demo", b"007"],
-    &[b"demo", b"501"],
-    &[b"demo", b"1", b"1"],
-    &[b"dis"],
-    &[b"dis", b"A001"],
-    &[b"dis", b"0"],
-    &[b"dis", b"A00G"],
-    &[b"dis", b">A00"],
-    &[b"dis", b"0A000"],
-    &[b"dis", b"A000", b"A000"],
-    &[b"exec"],
-    &[b"exec", b""],
-    &[b"exec", b"007"],
-    &[b"exec", b"-1"],
-    &[b"exec", b"1x"],
-    &[b"exec", b"10000001"],
-    &[b"exec", b"99999999999999999999"],
-    &[b"exec", b"1", b"1"],
-    // names of files that are none, and one too many
-    &[b"asm", b"A"],
-    &[b"link", b".A"],
-    &[b"link", b"A", b"../A"],
-    &[b"link", b""],
-    &[
-        b"link", b"A", b"A", b"A", b"A", b"A", b"A", b"A", b"A", b"A", b"A", b"A", b"A", b"A",
-        b"A", b"A", b"A", b"A",
-    ],
-    // a range past the last cell, no item, no byte, no whole address, leading zeros, too many steps, nine items
-    &[b"watch", b"10", b"pad:83C1+2"],
-    &[b"watch"],
-    &[b"watch", b"100"],
-    &[b"watch", b"100", b"vdp:0000+0"],
-    &[b"watch", b"100", b"pc:60"],
-    &[b"watch", b"0100", b"pc:6000"],
-    &[b"watch", b"100", b"pad:8300+01"],
-    &[b"watch", b"100001", b"pc:6000"],
-    &[
-        b"watch", b"100", b"pc:6000", b"pc:6001", b"pc:6002", b"pc:6003", b"pc:6004", b"pc:6005",
-        b"pc:6006", b"pc:6007", b"pc:6008",
-    ],
-];
+/// Lines of words that are no command; `''` is the empty word.
+const NO_COMMANDS: &str = "\
+gasm gasm
+ASM
+GASM
+gas
+?
+''
+--help
+run
+run 007
+run 100001
+interp 1
+trace 100001
+demo
+demo 0
+demo 007
+demo 501
+demo 1 1
+dis
+dis A001
+dis 0
+dis A00G
+dis >A00
+dis 0A000
+dis A000 A000
+exec
+exec ''
+exec 007
+exec -1
+exec 1x
+exec 10000001
+exec 99999999999999999999
+exec 1 1
+asm A
+link .A
+link A ../A
+link ''
+link A A A A A A A A A A A A A A A A A
+watch 10 pad:83C1+2
+watch
+watch 100
+watch 100 vdp:0000+0
+watch 100 pc:60
+watch 0100 pc:6000
+watch 100 pad:8300+01
+watch 100001 pc:6000
+watch 100 pc:6000 pc:6001 pc:6002 pc:6003 pc:6004 pc:6005 pc:6006 pc:6007 pc:6008
+";
 
 /// Whether words are answered by the usage line, and nothing is read.
 fn is_usage(alloc: Global, words: &[&[u8]]) -> Result<bool, AllocError> {
@@ -169,9 +161,11 @@ fn steady_runs_answer_by_their_report(rt: HostRuntime) -> Result<(), Fail> {
 
 #[test]
 fn words_that_are_no_command_read_nothing(rt: HostRuntime) -> Result<(), Fail> {
-    for &words in NO_COMMANDS {
-        assert!(rt; is_usage(rt.alloc(), words)?);
+    for line in NO_COMMANDS.lines() {
+        let words = rows::words_of(rt.alloc(), line)?;
+        assert!(rt; is_usage(rt.alloc(), words.as_slice())?, "{line}");
     }
+    assert!(rt; is_usage(rt.alloc(), &[])?);
     assert!(rt; usage_is_missed(rt.alloc())?);
     Ok(())
 }

@@ -1,89 +1,239 @@
 //! Programs whose items are watched.
 
+use super::rows::failed_rows;
 use super::run::run;
-use super::trace::{CARTRIDGE, source_of};
-use report_defs::Status;
+use super::trace::source_of;
 use std::alloc::{AllocError, Global};
 use std::test::Fail;
 
 /// Stores to the last cell and to the last byte of video memory, and then a code byte that is no instruction's.
 const ENDS: &[u8] = b"S ST @>83C1,1; ST V@>3FFF,2; BYTE >0F; END S";
 
-/// The statements of a program, the words, the first lines of the report, and its status.
-const REPORTS: &[(&[u8], &[&[u8]], &[u8], Status)] = &[
-    (
-        CARTRIDGE,
-        &[b"watch", b"100", b"vdp:0000+768"],
-        b"hit 2 at >6024 item 1 >0000=20\ngpl >6026 S00 D9F R7E\npad\n",
-        Status::Done,
-    ),
-    (
-        CARTRIDGE,
-        &[b"watch", b"100", b"pad:8302+1"],
-        b"hit 24 at >604C item 1 >8302=7F\ngpl >604F SC0 D9F R80\npad\n",
-        Status::Done,
-    ),
-    (
-        CARTRIDGE,
-        &[b"watch", b"100", b"pad:8302+1", b"pc:6035"],
-        b"hit 5 at >602B item 2 pc\ngpl >6035 S00 D9F R80\npad\n",
-        Status::Done,
-    ),
-    (
-        CARTRIDGE,
-        &[b"watch", b"100", b"pad:8310+4"],
-        b"no hit\nexit at >6034\ngpl >6034 S10 D9F R7E\npad\n",
-        Status::Done,
-    ),
-    (
-        CARTRIDGE,
-        &[b"watch", b"3", b"pad:8302+1"],
-        b"no hit\ngpl >6028 S00 D9F R7E\npad\n",
-        Status::Done,
-    ),
-    (
-        ENDS,
-        &[b"watch", b"100", b"pad:8310+4"],
-        b"no hit\nstop 1 at >6009\ngpl >6009 S00 D9F R7E\npad\n",
-        Status::Stopped,
-    ),
-    (
-        ENDS,
-        &[b"watch", b"100", b"pad:83c1+1"],
-        b"hit 1 at >6000 item 1 >83C1=01\ngpl >6004 S00 D9F R7E\npad\n",
-        Status::Done,
-    ),
-];
+/// The runs, by rows.
+const ROWS: &str = r#"
+%
+$ watch 100 vdp:0000+768
+<  BYTE >AA,1,1,0
+<  DATA 0,MENU,0,0
+< MENU DATA 0,START
+<  BYTE 5
+< HELLO TEXT 'HELLO'
+< REGS BYTE >00,>E0,>00,>0E,>01,>06,>00,>07
+< COUNT EQU >8300
+< SUM EQU >8302
+< START MOVE 8,R@0,G@REGS
+<  ALL >20
+<  BACK >17
+<  ST @COUNT,3
+< LOOP CALL SHOW
+<  DEC @COUNT
+<  CZ @COUNT
+<  BR LOOP
+<  EXIT
+< SHOW CASE @COUNT
+<  BR NONE
+<  BR ONE
+<  BR TWO
+<  BR THREE
+< THREE MOVE 5,V@0,G@HELLO
+<  RTN
+< TWO ST V@>0021,@COUNT
+<  RTN
+< ONE ADD @SUM,>7F
+<  RTN
+< NONE RTN
+<- END START
+> hit 2 at >6024 item 1 >0000=20
+> gpl >6026 S00 D9F R7E
+> pad
+...
 
-/// Sources that are not run, and what is said of them.
-const UNRUN: &[(&[u8], &[u8])] = &[
-    (b" OOPS", b"line 1: unknown operation\n"),
-    (b" EXIT; END", b"no entry\n"),
-];
+%
+$ watch 100 pad:8302+1
+<  BYTE >AA,1,1,0
+<  DATA 0,MENU,0,0
+< MENU DATA 0,START
+<  BYTE 5
+< HELLO TEXT 'HELLO'
+< REGS BYTE >00,>E0,>00,>0E,>01,>06,>00,>07
+< COUNT EQU >8300
+< SUM EQU >8302
+< START MOVE 8,R@0,G@REGS
+<  ALL >20
+<  BACK >17
+<  ST @COUNT,3
+< LOOP CALL SHOW
+<  DEC @COUNT
+<  CZ @COUNT
+<  BR LOOP
+<  EXIT
+< SHOW CASE @COUNT
+<  BR NONE
+<  BR ONE
+<  BR TWO
+<  BR THREE
+< THREE MOVE 5,V@0,G@HELLO
+<  RTN
+< TWO ST V@>0021,@COUNT
+<  RTN
+< ONE ADD @SUM,>7F
+<  RTN
+< NONE RTN
+<- END START
+> hit 24 at >604C item 1 >8302=7F
+> gpl >604F SC0 D9F R80
+> pad
+...
 
-/// Whether the report of a program that is watched so begins with these lines, and has this status.
-fn is_reported(
-    alloc: Global,
-    statements: &[u8],
-    words: &[&[u8]],
-    lines: &[u8],
-    status: Status,
-) -> Result<bool, AllocError> {
-    let source = source_of(alloc, statements)?;
-    let ended = run(alloc, words, source, &[], &[])?;
-    Ok(
-        ended.status == status
-            && ended.out.bytes().starts_with(lines)
-            && ended.err.bytes().is_empty(),
-    )
-}
+%
+$ watch 100 pad:8302+1 pc:6035
+<  BYTE >AA,1,1,0
+<  DATA 0,MENU,0,0
+< MENU DATA 0,START
+<  BYTE 5
+< HELLO TEXT 'HELLO'
+< REGS BYTE >00,>E0,>00,>0E,>01,>06,>00,>07
+< COUNT EQU >8300
+< SUM EQU >8302
+< START MOVE 8,R@0,G@REGS
+<  ALL >20
+<  BACK >17
+<  ST @COUNT,3
+< LOOP CALL SHOW
+<  DEC @COUNT
+<  CZ @COUNT
+<  BR LOOP
+<  EXIT
+< SHOW CASE @COUNT
+<  BR NONE
+<  BR ONE
+<  BR TWO
+<  BR THREE
+< THREE MOVE 5,V@0,G@HELLO
+<  RTN
+< TWO ST V@>0021,@COUNT
+<  RTN
+< ONE ADD @SUM,>7F
+<  RTN
+< NONE RTN
+<- END START
+> hit 5 at >602B item 2 pc
+> gpl >6035 S00 D9F R80
+> pad
+...
 
-/// Whether a source is refused with this line.
-fn is_refused(alloc: Global, statements: &[u8], line: &[u8]) -> Result<bool, AllocError> {
-    let source = source_of(alloc, statements)?;
-    let ended = run(alloc, &[b"watch", b"5", b"pc:6000"], source, &[], &[])?;
-    Ok(ended.status == Status::Refused && ended.out.bytes().is_empty() && ended.err.bytes() == line)
-}
+%
+$ watch 100 pad:8310+4
+<  BYTE >AA,1,1,0
+<  DATA 0,MENU,0,0
+< MENU DATA 0,START
+<  BYTE 5
+< HELLO TEXT 'HELLO'
+< REGS BYTE >00,>E0,>00,>0E,>01,>06,>00,>07
+< COUNT EQU >8300
+< SUM EQU >8302
+< START MOVE 8,R@0,G@REGS
+<  ALL >20
+<  BACK >17
+<  ST @COUNT,3
+< LOOP CALL SHOW
+<  DEC @COUNT
+<  CZ @COUNT
+<  BR LOOP
+<  EXIT
+< SHOW CASE @COUNT
+<  BR NONE
+<  BR ONE
+<  BR TWO
+<  BR THREE
+< THREE MOVE 5,V@0,G@HELLO
+<  RTN
+< TWO ST V@>0021,@COUNT
+<  RTN
+< ONE ADD @SUM,>7F
+<  RTN
+< NONE RTN
+<- END START
+> no hit
+> exit at >6034
+> gpl >6034 S10 D9F R7E
+> pad
+...
+
+%
+$ watch 3 pad:8302+1
+<  BYTE >AA,1,1,0
+<  DATA 0,MENU,0,0
+< MENU DATA 0,START
+<  BYTE 5
+< HELLO TEXT 'HELLO'
+< REGS BYTE >00,>E0,>00,>0E,>01,>06,>00,>07
+< COUNT EQU >8300
+< SUM EQU >8302
+< START MOVE 8,R@0,G@REGS
+<  ALL >20
+<  BACK >17
+<  ST @COUNT,3
+< LOOP CALL SHOW
+<  DEC @COUNT
+<  CZ @COUNT
+<  BR LOOP
+<  EXIT
+< SHOW CASE @COUNT
+<  BR NONE
+<  BR ONE
+<  BR TWO
+<  BR THREE
+< THREE MOVE 5,V@0,G@HELLO
+<  RTN
+< TWO ST V@>0021,@COUNT
+<  RTN
+< ONE ADD @SUM,>7F
+<  RTN
+< NONE RTN
+<- END START
+> no hit
+> gpl >6028 S00 D9F R7E
+> pad
+...
+
+%
+$ watch 100 pad:8310+4
+< S ST @>83C1,1
+<  ST V@>3FFF,2
+<  BYTE >0F
+<- END S
+? Stopped
+> no hit
+> stop 1 at >6009
+> gpl >6009 S00 D9F R7E
+> pad
+...
+
+%
+$ watch 100 pad:83c1+1
+< S ST @>83C1,1
+<  ST V@>3FFF,2
+<  BYTE >0F
+<- END S
+> hit 1 at >6000 item 1 >83C1=01
+> gpl >6004 S00 D9F R7E
+> pad
+...
+
+%
+$ watch 5 pc:6000
+<- OOPS
+? Refused
+e line 1: unknown operation
+
+%
+$ watch 5 pc:6000
+<  EXIT
+<- END
+? Refused
+e no entry
+"#;
 
 /// Whether nothing is found is what `run` says, behind its line.
 fn no_hit_is_run(alloc: Global) -> Result<bool, AllocError> {
@@ -103,15 +253,8 @@ fn no_hit_is_run(alloc: Global) -> Result<bool, AllocError> {
 
 #[test]
 fn a_watched_program_is_reported(rt: HostRuntime) -> Result<(), Fail> {
-    for &(statements, words, lines, status) in REPORTS {
-        assert!(rt;
-            is_reported(rt.alloc(), statements, words, lines, status)?,
-            "{words:?}"
-        );
-    }
-    for &(statements, line) in UNRUN {
-        assert!(rt; is_refused(rt.alloc(), statements, line)?);
-    }
+    let failed = failed_rows(rt.alloc(), ROWS)?;
+    assert!(rt; failed.is_empty(), "{failed}");
     assert!(rt; no_hit_is_run(rt.alloc())?);
     Ok(())
 }

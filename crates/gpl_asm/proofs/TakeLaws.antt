@@ -27,7 +27,7 @@ use Rattle.gpl_asm.specs.Replay.{Built, put, answer, answer_by, replay, nothing,
 use Rattle.gpl_asm.specs.Keeping.{kept_of}
 use Rattle.gpl_asm.specs.Building.{IsBehind, whole}
 use Rattle.gpl_asm.proofs.LineLaws.{location_more, place_is, whole_more, kept_more}
-use Rattle.grom_defs.specs.Addresses.{GROM_SIZE}
+use Rattle.grom_defs.specs.declared.size.TheConstants.{GROM_SIZE}
 
 -- a label that is new leaves the names before as they are
 none_is : {A : Type 0} (found : Option A) → is_some found ≡ false → found ≡ None

@@ -44,7 +44,8 @@ use Rattle.gpl_listing_defs.proofs.InstructionAgain.{InGromOf, size_back, instru
 use Rattle.gpl_listing_defs.proofs.NameLaws.{instr_names}
 use Rattle.listed_lines.proofs.LineTexts.{Fit, cut_listed, in_line, listed_in_line, plain_byte, field_of}
 use Rattle.gpl_listing_defs.proofs.StateLaws.{Stands, Taken, checked_as, taken, here_again}
-use Rattle.grom_defs.specs.Addresses.{GROM_SIZE, in_grom_of}
+use Rattle.grom_defs.specs.Addresses.{in_grom_of}
+use Rattle.grom_defs.specs.declared.size.TheConstants.{GROM_SIZE}
 
 -- ---- operands stand in a line
 

@@ -27,8 +27,9 @@ use Rattle.gpl_source_defs.specs.Locations.{address_of, branch_offset}
 use Rattle.gpl_listing_defs.proofs.NumberLaws.{word_value, byte_value}
 use Rattle.gpl_listing_defs.proofs.SkeletonLaws.{SourceFits, LengthFits, TargetFits, FromFits, InstrFits}
 use Rattle.gpl_listing_defs.proofs.InstructionText.{source_left, length_left, route_left, left_of}
-use Rattle.grom_defs.specs.Addresses.{GROM_SIZE, in_grom_of}
+use Rattle.grom_defs.specs.Addresses.{in_grom_of}
 use Rattle.gpl_defs.specs.declared.scratchpad.TheConstants.{SCRATCHPAD}
+use Rattle.grom_defs.specs.declared.size.TheConstants.{GROM_SIZE}
 
 -- ---- how many bytes it takes
 

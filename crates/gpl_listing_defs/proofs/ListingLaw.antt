@@ -34,7 +34,7 @@ use Rattle.gpl_listing_defs.proofs.PlacingLaws.{placed_behind, placed_free, empt
 use Rattle.gpl_listing_defs.proofs.StateLaws.{Stands, Taken, Ends, at_first, ends_last, ends_more, same_location}
 use Rattle.gpl_listing_defs.proofs.EntryLaws.{instr_taken, byte_taken, grom_taken, aorg_taken, end_taken}
 use Rattle.gpl_listing_defs.proofs.EntryLaws.{instr_in_line, byte_in_line, grom_in_line, aorg_in_line}
-use Rattle.grom_defs.specs.Addresses.{GROM_SIZE}
+use Rattle.grom_defs.specs.declared.size.TheConstants.{GROM_SIZE}
 
 not_false : (b : Bool) → not b ≡ false → b ≡ true
 not_false true e = refl

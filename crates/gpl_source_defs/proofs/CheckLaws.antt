@@ -13,7 +13,7 @@ use Rattle.gpl_source_defs.specs.declared.location.Location.{Location}
 use Rattle.gpl_source_defs.specs.Statements.{Statement, Nothing, Instruction, Grom, Aorg, Equ, Bss, Data, Byte, Text, End, statement_at, size_said}
 use Rattle.gpl_source_defs.specs.Locations.{address_of, origin_of, behind, passes, IsInGrom}
 use Rattle.gpl_source_defs.specs.FirstChecks.{Checked, as_text, checked, is_bad, is_full, is_taken, said}
-use Rattle.grom_defs.specs.Addresses.{GROM_SIZE}
+use Rattle.grom_defs.specs.declared.size.TheConstants.{GROM_SIZE}
 
 let_through : {A : Type 0} (against : Bool) (cause : GplCause) (value found : A) → unless against cause value ≡ Ok found → (against ≡ false) × (value ≡ found)
 let_through true cause value found e = cc e

@@ -1,6 +1,6 @@
 -- The addresses of GROM.
 use Rattle.std.specs.Prelude.{ℕ, ◌+◌, ◌-◌, ◌*◌, ◌/◌, ◌%◌}
-pub use Rattle.grom_defs.specs.declared.size.TheConstants.{GROM_SIZE}
+use Rattle.grom_defs.specs.declared.size.TheConstants.{GROM_SIZE}
 
 -- The address at an offset in the GROM of another address.
 -- GPL Programmer's Guide, on the GROM address counter.

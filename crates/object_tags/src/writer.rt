@@ -164,9 +164,9 @@ fn summed(groups: &ArrayVec<u8, GROUP_COLUMNS>) -> ArrayVec<u8, PADDED_COLUMNS>
 }
 
 /// Four decimal digits.
-#[tactic(auto, unfolding(object_defs::specs::Digits::decimal))]
+#[tactic(auto, unfolding(object_defs::specs::Digits::four_digits))]
 fn decimal(number: u16) -> [u8; 4]
-    ensures { result ≡ digits.decimal number }
+    ensures { result ≡ digits.four_digits number }
 {
     [
         b'0' + (number / 1000 % 10) as u8,
