@@ -3,7 +3,6 @@
 ghost use Rattle.std.specs.Prelude.{◌≡◌};
 ghost use Rattle.source_defs.specs.Characters as spec;
 ghost use Rattle.source_defs.specs.Names as names;
-ghost use Rattle.source_defs.specs.Numbers as numbers;
 
 /// Whether a byte is a line feed, which ends a line.
 pub fn is_line_feed(byte: u8) -> bool
@@ -34,7 +33,7 @@ pub fn is_quote(byte: u8) -> bool
 
 /// Whether a byte is a comma, which parts operands.
 pub fn is_comma(byte: u8) -> bool
-    ensures { result ≡ numbers.is_comma byte }
+    ensures { result ≡ spec.is_comma byte }
 {
     byte == b','
 }

@@ -8,7 +8,7 @@ use Rattle.tms_defs.specs.Accesses.{Answer, Gives, AtPort, ◌>>=◌}
 use Rattle.console_defs.specs.Vdp.{VdpState}
 use Rattle.console_defs.specs.Grom.{GromState}
 use Rattle.console_defs.specs.Memory.{Memory, Port, Region, Rom, LowExpansion, HighExpansion, Scratchpad, PortOf}
-use Rattle.console_defs.specs.Memory.{Unmapped, region, port_at, port_region, is_port_region, is_port_address}
+use Rattle.console_defs.specs.Memory.{Unmapped, region, region_by, port_at, port_region, is_port_region, is_port_address}
 use Rattle.console_defs.specs.Memory.{byte_read, byte_written, word_read_in, word_written_in, word_read, word_written}
 use Rattle.console_defs.specs.Memory.{two_bytes_read, two_bytes_written, byte_read_in, byte_written_in}
 
@@ -36,16 +36,6 @@ beside_port : (port : Option Port) → Unmapped ≡ beside (port_region port)
 beside_port (Some port) = refl
 beside_port None = refl
 
--- The region by its five tests.
-abbrev region_by_tests : Bool → Bool → Bool → Bool → Bool → ℕ → Region
-region_by_tests rom low gap scratchpad ports address =
-    if rom then Rom address
-    else if low then LowExpansion (address - 0x2000)
-    else if gap then Unmapped
-    else if scratchpad then Scratchpad (address % 256)
-    else if ports then port_region (port_at address)
-    else HighExpansion (address - 0xA000)
-
 -- The regions by their ranges.
 pub region_rom : (address : ℕ) → address < 0x2000 → region address ≡ Rom address
 region_rom address below = grind arith
@@ -62,7 +52,7 @@ region_scratchpad address from below = grind arith
 
 pub region_ports : (address : ℕ) → 0x8400 ≤ address → address < 0xA000 → region address ≡ port_region (port_at address)
 region_ports address from below =
-    let by_tests : region address ≡ region_by_tests (nat_lt address 0x2000) (nat_lt address 0x4000) (nat_lt address 0x8000) (nat_lt address 0x8400) (nat_lt address 0xA000) address =
+    let by_tests : region address ≡ region_by (nat_lt address 0x2000) (nat_lt address 0x4000) (nat_lt address 0x8000) (nat_lt address 0x8400) (nat_lt address 0xA000) address =
     refl in
     by_tests
     ∙ rw

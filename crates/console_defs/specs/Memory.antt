@@ -63,10 +63,15 @@ ports =
     ∷ (0x9C02, GromAddressWrite)
     ∷ []
 
+-- A port where a test holds, else what the others have.
+abbrev pub port_if : Bool → Port → Option Port → Option Port
+port_if true port others = Some port
+port_if false port others = others
+
 -- The first of some ports that stands at an address.
 abbrev pub port_among : List (ℕ × Port) → ℕ → Option Port
 port_among [] address = None
-port_among (port ∷ others) address = if address == port.0 then Some port.1 else port_among others address
+port_among (port ∷ others) address = port_if (address == port.0) port.1 (port_among others address)
 
 -- The port at an address.
 abbrev pub port_at : ℕ → Option Port
@@ -86,18 +91,23 @@ abbrev pub port_region : Option Port → Region
 port_region (Some port) = PortOf port
 port_region None = Unmapped
 
+-- The region of an address, by whether it lies below >2000, >4000, >8000, >8400 and >A000.
+abbrev pub region_by : Bool → Bool → Bool → Bool → Bool → ℕ → Region
+region_by true _ _ _ _ address = Rom address
+region_by false true _ _ _ address = LowExpansion (address - 0x2000)
+region_by false false true _ _ address = Unmapped
+region_by false false false true _ address = Scratchpad (address % 256)
+region_by false false false false true address = port_region (port_at address)
+region_by false false false false false address = HighExpansion (address - 0xA000)
+
 -- Console ROM at >0000, low expansion at >2000, the scratchpad at >8300, the ports from >8800 on, high expansion at
 -- >A000. Editor/Assembler manual, on the memory of the computer.
 -- The scratchpad answers at >8000, >8100 and >8200 too.
 -- Profile: all else leads nowhere.
 abbrev pub region : ℕ → Region
 region address =
-    if nat_lt address 0x2000 then Rom address
-    else if nat_lt address 0x4000 then LowExpansion (address - 0x2000)
-    else if nat_lt address 0x8000 then Unmapped
-    else if nat_lt address 0x8400 then Scratchpad (address % 256)
-    else if nat_lt address 0xA000 then port_region (port_at address)
-    else HighExpansion (address - 0xA000)
+    region_by (nat_lt address 0x2000) (nat_lt address 0x4000) (nat_lt address 0x8000) (nat_lt address 0x8400)
+        (nat_lt address 0xA000) address
 
 -- A port stands at the address.
 abbrev pub is_port_region : Region → Bool

@@ -11,9 +11,7 @@ use crate::digits::push_word;
 use crate::line::{Line, MARGIN, list_line};
 use bench_io::{Failed, Sink, put_piece};
 use gpl_forms::GromImage;
-
-/// How far the first addresses of GROMs stand apart.
-pub(crate) const GROM_SIZE: u16 = 0x2000;
+use grom_defs::GROM_SIZE;
 
 /// Writes the listing of an image from its lowest to its highest written address, each line by one call. A line for
 /// GROM and one for AORG stand before the first byte, and again where a byte begins a GROM; the last line is END. An

@@ -6,10 +6,8 @@ ghost use Rattle.gpl_listing_defs.specs.Texts as spec;
 
 use crate::digits::{push_byte, push_word};
 use arrayvec::ArrayString;
+use gpl_defs::SCRATCHPAD;
 use gpl_forms::{GplOperand, GplSource, MoveLength, MoveSource, MoveTarget, Space};
-
-/// The first address of the scratchpad.
-const SCRATCHPAD: u16 = 0x8300;
 
 /// Appends an operand in memory.
 #[inline]

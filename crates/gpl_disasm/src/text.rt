@@ -10,12 +10,12 @@ ghost use Rattle.source_defs.specs.ListedLines.{two_texts};
 ghost use Rattle.gpl_listing_defs.specs.Texts as spec;
 
 use crate::digits::{push_byte, push_word};
-use crate::listing::GROM_SIZE;
 use crate::operands::{push_from, push_length, push_operand, push_source, push_target};
 use arrayvec::ArrayString;
 use gpl_forms::{
     GplInstr, GplOperation, GplRead, MoveLength, MoveSource, MoveTarget, name_of, read_instr,
 };
+use grom_defs::GROM_SIZE;
 
 /// The text of a valid instruction that stands at the address `at`: the operation, and its operands behind a blank. The
 /// GROM of `at` completes the target of a BR or BS. GPL Programmer's Guide, the statements.

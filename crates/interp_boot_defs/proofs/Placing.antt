@@ -9,13 +9,14 @@ use Rattle.load_defs.specs.Loaded.{with_words}
 use Rattle.interp_boot_defs.proofs.Bytes.{length_with, other_byte, same_word, other_word}
 use Rattle.interp_boot_defs.proofs.Pairs.{Every, Occurs}
 use Rattle.interp_boot_defs.proofs.Shipped.{IsWord}
+use Rattle.native_interp.specs.declared.addresses.TheConstants.{ORIGIN}
 
 -- a word in low expansion memory is placed there
 placed_low : (memory : Memory) (number word : ℕ) → number < 4096
-    → word_placed memory (0x2000 + 2 * number) word ≡ record memory { low_expansion = with_word_in memory.low_expansion (2 * number) word }
+    → word_placed memory (ORIGIN + 2 * number) word ≡ record memory { low_expansion = with_word_in memory.low_expansion (2 * number) word }
 placed_low memory number word few =
-    let at : 0x2000 + 2 * number - 0x2000 ≡ 2 * number = omega arith in
-    ap (λ (there : Region). word_placed_in there memory word) (region_low (0x2000 + 2 * number) (omega arith) (omega arith) ∙ ap LowExpansion at)
+    let at : ORIGIN + 2 * number - ORIGIN ≡ 2 * number = omega arith in
+    ap (λ (there : Region). word_placed_in there memory word) (region_low (ORIGIN + 2 * number) (omega arith) (omega arith) ∙ ap LowExpansion at)
 
 -- A memory in which words were placed: all but low expansion memory is as before, each of the words that was right before
 -- or occurs among the pairs is right, and behind the words all is as before.
@@ -27,7 +28,7 @@ pub record Placed (shipped : List ℕ) (pairs : List (ℕ × ℕ)) (before after
   pub grom : after.grom ≡ before.grom
   pub size : length after.low_expansion ≡ length before.low_expansion
   pub words : (number : ℕ) → number < length shipped
-      → (word_in before.low_expansion (2 * number) ≡ slice_index shipped number) ⊎ Occurs (0x2000 + 2 * number) pairs
+      → (word_in before.low_expansion (2 * number) ≡ slice_index shipped number) ⊎ Occurs (ORIGIN + 2 * number) pairs
       → word_in after.low_expansion (2 * number) ≡ slice_index shipped number
   pub behind : (at : ℕ) → 2 * length shipped ≤ at → slice_index after.low_expansion at ≡ slice_index before.low_expansion at
 
@@ -70,7 +71,7 @@ right_with shipped bytes put number size few inside held = by (nat_eq put number
 
 -- a pair that is one of the words
 placed_word : (shipped : List ℕ) (pair : ℕ × ℕ) (pairs : List (ℕ × ℕ)) (before after : Memory) (put : ℕ) → length shipped ≤ 4096
-    → length before.low_expansion ≡ 8192 → put < length shipped → pair.0 ≡ 0x2000 + 2 * put
+    → length before.low_expansion ≡ 8192 → put < length shipped → pair.0 ≡ ORIGIN + 2 * put
     → Placed shipped pairs (record before { low_expansion = with_word_in before.low_expansion (2 * put) (slice_index shipped put) }) after
     → Placed shipped (pair ∷ pairs) before after
 placed_word shipped pair pairs before after put few size inside at placed = record {
@@ -86,9 +87,9 @@ placed_word shipped pair pairs before after put few size inside at placed = reco
 }
   where
     left : (number : ℕ)
-        → (word_in before.low_expansion (2 * number) ≡ slice_index shipped number) ⊎ ((pair.0 ≡ 0x2000 + 2 * number) ⊎ Occurs (0x2000 + 2 * number) pairs)
+        → (word_in before.low_expansion (2 * number) ≡ slice_index shipped number) ⊎ ((pair.0 ≡ ORIGIN + 2 * number) ⊎ Occurs (ORIGIN + 2 * number) pairs)
         → (word_in (with_word_in before.low_expansion (2 * put) (slice_index shipped put)) (2 * number) ≡ slice_index shipped number)
-        ⊎ Occurs (0x2000 + 2 * number) pairs
+        ⊎ Occurs (ORIGIN + 2 * number) pairs
     left number (inl is) = inl (right_with shipped before.low_expansion put number size few inside (inl is))
     left number (inr (inl there)) = inl (right_with shipped before.low_expansion put number size few inside (inr (omega arith)))
     left number (inr (inr there)) = inr there

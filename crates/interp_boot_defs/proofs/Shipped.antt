@@ -12,12 +12,13 @@ use Rattle.native_interp.specs.Words.{words}
 use Rattle.interp_build_defs.specs.Building.{shipped_at, HasShipped}
 use Rattle.interp_build_defs.specs.Interpreter.{IsInterpreter}
 use Rattle.interp_boot_defs.proofs.Pairs.{Every, Occurs, every_found, occurs, none_is_not}
+use Rattle.native_interp.specs.declared.addresses.TheConstants.{ORIGIN}
 
 -- a pair is one of the words that are shipped, at its address
 pub record IsWord (shipped : List ℕ) (pair : ℕ × ℕ) : Type 0 where
   pub number : ℕ
   pub inside : number < length shipped
-  pub address : pair.0 ≡ 0x2000 + 2 * number
+  pub address : pair.0 ≡ ORIGIN + 2 * number
   pub word : pair.1 ≡ slice_index shipped number
 
 -- a word that is found is inside the list
@@ -31,38 +32,38 @@ inside_of shipped number word found = by (nat_le (length shipped) number) refl
     by false past = grind (arith, nat_tests)
 
 -- the test for an address of one of the words
-from_test : (at : ℕ) → (nat_le 0x2000 at && (at % 2 == 0)) ≡ true → (0x2000 ≤ at) × (at % 2 ≡ 0)
+from_test : (at : ℕ) → (nat_le ORIGIN at && (at % 2 == 0)) ≡ true → (ORIGIN ≤ at) × (at % 2 ≡ 0)
 from_test at holds = grind (arith, nat_tests)
 
 -- the address of each of the words passes it
-test_from : (number : ℕ) → (nat_le 0x2000 (0x2000 + 2 * number) && ((0x2000 + 2 * number) % 2 == 0)) ≡ true
+test_from : (number : ℕ) → (nat_le ORIGIN (ORIGIN + 2 * number) && ((ORIGIN + 2 * number) % 2 == 0)) ≡ true
 test_from number =
-    let from : 0x2000 ≤ 0x2000 + 2 * number = omega arith in
-    let whole : (0x2000 + 2 * number) % 2 ≡ 0 = omega arith in
+    let from : ORIGIN ≤ ORIGIN + 2 * number = omega arith in
+    let whole : (ORIGIN + 2 * number) % 2 ≡ 0 = omega arith in
     grind (arith, nat_tests)
 
 -- a word that is shipped at an address is one of them
 is_word : (shipped : List ℕ) (at word : ℕ) → shipped_at shipped at ≡ Some word → IsWord shipped (at, word)
-is_word shipped at word is = by (nat_le 0x2000 at && (at % 2 == 0)) refl is
+is_word shipped at word is = by (nat_le ORIGIN at && (at % 2 == 0)) refl is
   where
-    by : (holds : Bool) → (nat_le 0x2000 at && (at % 2 == 0)) ≡ holds
-        → (if holds then slice_get shipped ((at - 0x2000) / 2) else None) ≡ Some word → IsWord shipped (at, word)
+    by : (holds : Bool) → (nat_le ORIGIN at && (at % 2 == 0)) ≡ holds
+        → (if holds then slice_get shipped ((at - ORIGIN) / 2) else None) ≡ Some word → IsWord shipped (at, word)
     by true holds found =
-        let tested : (0x2000 ≤ at) × (at % 2 ≡ 0) = from_test at holds in
+        let tested : (ORIGIN ≤ at) × (at % 2 ≡ 0) = from_test at holds in
         record {
-          number = (at - 0x2000) / 2;
-          inside = inside_of shipped ((at - 0x2000) / 2) word found;
+          number = (at - ORIGIN) / 2;
+          inside = inside_of shipped ((at - ORIGIN) / 2) word found;
           address = omega arith;
-          word = sym (get_or_from_slice_get shipped ((at - 0x2000) / 2) word 0 found);
+          word = sym (get_or_from_slice_get shipped ((at - ORIGIN) / 2) word 0 found);
         }
     by false holds found = absurd (none_is_not word None refl found)
 
 -- each of the words is shipped at its address
 shipped_word : (shipped : List ℕ) (number : ℕ) → number < length shipped
-    → shipped_at shipped (0x2000 + 2 * number) ≡ Some (slice_index shipped number)
+    → shipped_at shipped (ORIGIN + 2 * number) ≡ Some (slice_index shipped number)
 shipped_word shipped number inside =
-    let at : (0x2000 + 2 * number - 0x2000) / 2 ≡ number = omega arith in
-    ap (λ (holds : Bool). if holds then slice_get shipped ((0x2000 + 2 * number - 0x2000) / 2) else None) (test_from number)
+    let at : (ORIGIN + 2 * number - ORIGIN) / 2 ≡ number = omega arith in
+    ap (λ (holds : Bool). if holds then slice_get shipped ((ORIGIN + 2 * number - ORIGIN) / 2) else None) (test_from number)
     ∙ (ap (slice_get shipped) at ∙ slice_get-get_or shipped number 0 inside)
 
 module _ (shipped : List ℕ) (memory : LinkedMemory) (has : HasShipped shipped memory) where
@@ -74,11 +75,11 @@ module _ (shipped : List ℕ) (memory : LinkedMemory) (has : HasShipped shipped 
       belongs pair found = is_word shipped pair.0 pair.1 (sym (has pair.0) ∙ (get-entries memory.words pair.0 ∙ found))
 
   -- and each of the words stands there
-  pub all_occur : (number : ℕ) → number < length shipped → Occurs (0x2000 + 2 * number) (entries memory.words)
+  pub all_occur : (number : ℕ) → number < length shipped → Occurs (ORIGIN + 2 * number) (entries memory.words)
   all_occur number inside =
-      occurs (0x2000 + 2 * number) (slice_index shipped number) (entries memory.words)
-      (sym (get-entries memory.words (0x2000 + 2 * number))
-      ∙ (has (0x2000 + 2 * number) ∙ shipped_word shipped number inside))
+      occurs (ORIGIN + 2 * number) (slice_index shipped number) (entries memory.words)
+      (sym (get-entries memory.words (ORIGIN + 2 * number))
+      ∙ (has (ORIGIN + 2 * number) ∙ shipped_word shipped number inside))
 
 -- the interpreter's linked memory has the interpreter's words, of which nothing else is said here
 pub has_words : (shipped : List ℕ) (memory : LinkedMemory) → shipped ≡ words → IsInterpreter memory → HasShipped shipped memory

@@ -2,24 +2,21 @@
 
 use gpl_run::{BuildError, build_interp};
 use link_loader::Linked;
-use native_interp::interpreter_words;
+use native_interp::{BEHIND, GBOOT, GSTEP, ORIGIN, interpreter_words};
 use std::alloc::Global;
 use std::test::Fail;
-
-/// The address of the first word.
-const ORIGIN: u16 = 0x2000;
 
 /// How many addresses there are.
 const ADDRESSES: usize = 65536;
 
 /// Addresses, and the word there: before the words, the first two, between two words, the last, and behind it.
 const WORDS: &[(u16, Option<u16>)] = &[
-    (0x1FFE, None),
-    (0x2000, Some(0x2274)),
-    (0x2001, None),
-    (0x2002, Some(0x228C)),
-    (0x287C, Some(0x228C)),
-    (0x287E, None),
+    (ORIGIN - 2, None),
+    (ORIGIN, Some(GBOOT)),
+    (ORIGIN + 1, None),
+    (ORIGIN + 2, Some(GSTEP)),
+    (BEHIND - 2, Some(GSTEP)),
+    (BEHIND, None),
 ];
 
 /// The word at an address, of words that stand one behind the other from >2000 up.

@@ -3,7 +3,7 @@
 use console_bus::Bus;
 use gpl_forms::GromImage;
 use grom_counter::Grom;
-use native_interp::{GBOOT, INTERP, WORKSPACE};
+use native_interp::{GBOOT, INTERP, ORIGIN, WORKSPACE};
 use std::alloc::{AllocError, Global};
 use tms_step::Machine;
 use vdp_ports::Vdp;
@@ -33,7 +33,7 @@ fn holding(alloc: Global, program: Program) -> Result<Grom, AllocError> {
 pub(crate) fn console(alloc: Global, program: Program) -> Result<Bus, AllocError> {
     let mut bus = Bus::new(alloc, Vdp::new(alloc)?, holding(alloc, program)?)?;
     for (i, word) in INTERP.iter().enumerate() {
-        bus.place(0x2000 + 2 * i as u16, *word);
+        bus.place(ORIGIN + 2 * i as u16, *word);
     }
     Ok(bus)
 }

@@ -1,27 +1,24 @@
 //! The table of the source's lines and names, beside the words that are shipped.
 
 use line_table::{name_count, name_row, row, row_count};
-use native_interp::interpreter_words;
+use native_interp::{BEHIND, GBOOT, GEXIT, GOBACK, ORIGIN, interpreter_words};
 use std::test::Fail;
 
 /// Lines by their numbers from 0: the place, how many words there are, and the first of them, else 0. They are the first comment,
-/// the origin, an EQU, the first words, and the last lines.
+/// the origin, an EQU, and the first words.
 const LINES: &[(usize, u16, u8, u16)] = &[
     (0, 0, 0, 0),
     (23, 0, 0, 0),
-    (24, 0x2000, 0, 0),
-    (33, 0x2000, 3, 0x2274),
-    (34, 0x2006, 1, 0x22BA),
-    (833, 0x287A, 2, 0x0460),
-    (834, 0x287E, 0, 0),
+    (24, ORIGIN, 0, 0),
+    (33, ORIGIN, 3, GBOOT),
+    (34, ORIGIN + 6, 1, GEXIT),
 ];
 
-/// Names by their numbers from 0, and what they stand for: the first EQU, the first place, and the last.
-const NAMES: &[(usize, &[u8], u16)] = &[
-    (0, b"GRMRD", 0x9800),
-    (9, b"TABLE", 0x2008),
-    (153, b"GOBACK", 0x286A),
-];
+/// The last two lines, by how many lines stand behind them: B and END.
+const LAST_LINES: &[(usize, u16, u8, u16)] = &[(1, BEHIND - 4, 2, 0x0460), (0, BEHIND, 0, 0)];
+
+/// Names by their numbers from 0, and what they stand for: the first EQU, and the first place.
+const NAMES: &[(usize, &[u8], u16)] = &[(0, b"GRMRD", 0x9800), (9, b"TABLE", ORIGIN + 8)];
 
 /// Whether a line has such a row.
 fn is_row(index: usize, place: u16, count: u8, first: u16) -> bool {
@@ -61,9 +58,20 @@ fn rows_are_those_of_the_source(rt: HostRuntime) -> Result<(), Fail> {
     for &(index, place, count, first) in LINES {
         assert!(rt; is_row(index, place, count, first), "line {index}");
     }
+    for &(behind, place, count, first) in LAST_LINES {
+        let index = row_count().saturating_sub(behind + 1);
+        assert!(rt;
+            is_row(index, place, count, first),
+            "{behind} lines before the last"
+        );
+    }
     for &(index, name, value) in NAMES {
         assert!(rt; is_name(index, name, value), "name {index}");
     }
+    assert!(rt;
+        is_name(name_count().saturating_sub(1), b"GOBACK", GOBACK),
+        "the last name"
+    );
     assert!(rt; words_are_shipped(interpreter_words()));
     Ok(())
 }

@@ -9,10 +9,7 @@ use Rattle.native_interp.specs.Source.{lines}
 use Rattle.line_table.specs.declared.line_row.LineRow.{LineRow}
 use Rattle.line_table.specs.Table.{rows, defined, location_of}
 use Rattle.line_table.proofs.Reading.{summary, expected}
-
--- how many lines stand before the last
-abbrev pub most : ℕ
-most = 834
+use Rattle.line_table.proofs.Counts.{most}
 
 abbrev pub texts : List (List ℕ)
 texts = take most lines

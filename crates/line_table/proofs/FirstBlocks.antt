@@ -1,3 +1,4 @@
+-- Written by tools/interpreter from crates/native_interp/src/source.
 -- Blocks of the source's lines: each line by itself comes to what its row says.
 use Rattle.std.proofs.Common.{refl}
 use Rattle.source_defs.specs.Tokens.{token_at, tokens_from}
@@ -26,18 +27,18 @@ pub lines_080 : Block 80 40 10 0
 unfolding mnemonic form_of first_checks second_checks token_at tokens_from in_quotes operands_from fields registers directive statement_in said moved outcome
 lines_080 = refl
 
-pub lines_120 : Block 120 40 10 3
+pub lines_120 : Block 120 40 10 4
 unfolding mnemonic form_of first_checks second_checks token_at tokens_from in_quotes operands_from fields registers directive statement_in said moved outcome
 lines_120 = refl
 
-pub lines_160 : Block 160 40 13 8
+pub lines_160 : Block 160 40 14 10
 unfolding mnemonic form_of first_checks second_checks token_at tokens_from in_quotes operands_from fields registers directive statement_in said moved outcome
 lines_160 = refl
 
-pub lines_200 : Block 200 40 21 5
+pub lines_200 : Block 200 40 24 8
 unfolding mnemonic form_of first_checks second_checks token_at tokens_from in_quotes operands_from fields registers directive statement_in said moved outcome
 lines_200 = refl
 
-pub lines_240 : Block 240 40 26 7
+pub lines_240 : Block 240 40 32 8
 unfolding mnemonic form_of first_checks second_checks token_at tokens_from in_quotes operands_from fields registers directive statement_in said moved outcome
 lines_240 = refl

@@ -18,7 +18,7 @@ use Rattle.line_laws.proofs.Whole.{have_their_words}
 use Rattle.line_laws.proofs.Linking.{are_words, memory_of, module_linked, word_found, pair_found}
 use Rattle.native_interp.specs.Source.{lines, source}
 use Rattle.native_interp.specs.Words.{words}
-use Rattle.native_interp.specs.declared.addresses.TheConstants.{GBOOT}
+use Rattle.native_interp.specs.declared.addresses.TheConstants.{GBOOT, ORIGIN, WORD_COUNT}
 use Rattle.interp_build_defs.specs.Building.{Links, HasShipped}
 use Rattle.interp_build_defs.specs.Interpreter.{SourceGivesWords}
 use Rattle.line_table.specs.Table.{defined}
@@ -26,14 +26,14 @@ use Rattle.line_table.proofs.Known.{last, ending, front_texts, front_lines, are_
 use Rattle.line_laws.proofs.Small.{chosen}
 
 -- both tests ask for an even place from there on
-tests_agree : (at : ℕ) (b c : Bool) → (nat_le 0x2000 at && ((at - 0x2000) % 2 == 0)) ≡ b → (nat_le 0x2000 at && (at % 2 == 0)) ≡ c → b ≡ c
+tests_agree : (at : ℕ) (b c : Bool) → (nat_le ORIGIN at && ((at - ORIGIN) % 2 == 0)) ≡ b → (nat_le ORIGIN at && (at % 2 == 0)) ≡ c → b ≡ c
 tests_agree at true true x y = refl
 tests_agree at false false x y = refl
 tests_agree at true false x y =
-    let right : (nat_le 0x2000 at && (at % 2 == 0)) ≡ true = grind (arith, nat_tests, x) in
+    let right : (nat_le ORIGIN at && (at % 2 == 0)) ≡ true = grind (arith, nat_tests, x) in
     cc (right, y)
 tests_agree at false true x y =
-    let right : (nat_le 0x2000 at && ((at - 0x2000) % 2 == 0)) ≡ true = grind (arith, nat_tests, y) in
+    let right : (nat_le ORIGIN at && ((at - ORIGIN) % 2 == 0)) ≡ true = grind (arith, nat_tests, y) in
     cc (right, x)
 
 -- memory that holds words from >2000 on has the words that are shipped
@@ -41,8 +41,8 @@ has_shipped : (shipped : List ℕ) (entry : ℕ) → HasShipped shipped (memory_
 has_shipped shipped entry at =
     word_found (2 * 0x1000) shipped entry at
     ∙ (pair_found (2 * 0x1000) shipped at
-    ∙ chosen (nat_le 0x2000 at && ((at - 0x2000) % 2 == 0)) (nat_le 0x2000 at && (at % 2 == 0)) (slice_get shipped ((at - 0x2000) / 2)) None
-    (tests_agree at (nat_le 0x2000 at && ((at - 0x2000) % 2 == 0)) (nat_le 0x2000 at && (at % 2 == 0)) refl refl))
+    ∙ chosen (nat_le ORIGIN at && ((at - ORIGIN) % 2 == 0)) (nat_le ORIGIN at && (at % 2 == 0)) (slice_get shipped ((at - ORIGIN) / 2)) None
+    (tests_agree at (nat_le ORIGIN at && ((at - ORIGIN) % 2 == 0)) (nat_le ORIGIN at && (at % 2 == 0)) refl refl))
 
 -- a source whose lines have these words
 module _ (text : List ℕ) (texts : List (List ℕ)) (shipped : List ℕ) (entry : Spot) where
@@ -76,7 +76,7 @@ source_lines = fed_texts_have_their_lines lines (each lines without_controls)
 
 few_words : (held : List ℕ) → held ≡ words → 0x1000 + length held ≤ 32768
 few_words held is =
-    let size : length held ≡ 1087 = ap length is in
+    let size : length held ≡ WORD_COUNT = ap length is in
     omega (arith, size)
 
 lines_have : HaveWords (front_texts ++ last ∷ []) (2 * 0x1000) (all_words front_lines) (spot.Absolute GBOOT)

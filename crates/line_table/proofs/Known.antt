@@ -22,8 +22,9 @@ use Rattle.native_interp.specs.declared.addresses.TheConstants.{GBOOT}
 use Rattle.line_table.specs.declared.line_row.LineRow.{LineRow}
 use Rattle.line_table.specs.Table.{rows, defined}
 use Rattle.line_table.proofs.Reading.{Reads, row_shown, close_rows, close_shown, words_shown, shown_words}
+use Rattle.line_table.proofs.Counts.{most, name_count}
 use Rattle.line_table.proofs.Blocks.{texts, place}
-use Rattle.line_table.proofs.Fronts.{to_last}
+use Rattle.line_table.proofs.Chain.{to_last}
 
 -- the last line, by itself
 abbrev pub last : List ℕ
@@ -31,12 +32,12 @@ last = codes "       END GBOOT"
 
 abbrev pub ending : KnownLine
 ending = record {
-  at = place 834;
-  found = record { label = None; statement = End (Some (codes "GBOOT")); move = stays_at (place 834) 0 };
+  at = place most;
+  found = record { label = None; statement = End (Some (codes "GBOOT")); move = stays_at (place most) 0 };
   outcome = Entry (spot.Absolute GBOOT);
 }
 
-ends : known_line (looks defined) (place 834) last ≡ Ok ending
+ends : known_line (looks defined) (place most) last ≡ Ok ending
 unfolding token_at tokens_from in_quotes operands_from fields registers directive statement_in moved outcome
 ends = refl
 
@@ -61,32 +62,32 @@ module _ (from : ℕ) (all : List (List ℕ)) (last : List ℕ) (entries names :
   words_by = shown_words front.lines ∙ ap words_shown front.as_rows
 
 abbrev pub front_texts : List (List ℕ)
-front_texts = take 834 texts
+front_texts = take most texts
 
 abbrev pub front_lines : List KnownLine
 front_lines = to_last.lines
 
-all_named : take 154 defined ≡ defined
+all_named : take name_count defined ≡ defined
 all_named = refl
 
 all_new : are_new registers defined ≡ true
 unfolding registers
 all_new = refl
 
-all_close : close_rows (2 * 0x1000) (map row_shown (take 834 rows)) ≡ true
+all_close : close_rows (2 * 0x1000) (map row_shown (take most rows)) ≡ true
 all_close = refl
 
 pub are_known : AreKnown (2 * 0x1000) front_texts last defined front_lines ending (spot.Absolute GBOOT)
 are_known =
-    known_by (2 * 0x1000) front_texts last defined (take 154 defined) (take 834 rows) (place 0) (place 834) ending (spot.Absolute GBOOT) to_last
+    known_by (2 * 0x1000) front_texts last defined (take name_count defined) (take most rows) (place 0) (place most) ending (spot.Absolute GBOOT) to_last
     refl all_named all_new all_close ends refl (Some (codes "GBOOT"), refl) refl
 
-table_words : words_shown (map row_shown (take 834 rows)) ≡ words
+table_words : words_shown (map row_shown (take most rows)) ≡ words
 table_words = refl
 
 pub words_are : all_words front_lines ≡ words
 words_are =
-    words_by (2 * 0x1000) front_texts last defined (take 154 defined) (take 834 rows) (place 0) (place 834) ending (spot.Absolute GBOOT) to_last ∙ table_words
+    words_by (2 * 0x1000) front_texts last defined (take name_count defined) (take most rows) (place 0) (place most) ending (spot.Absolute GBOOT) to_last ∙ table_words
 
 pub lines_are : front_texts ++ last ∷ [] ≡ lines
 lines_are = refl

@@ -25,8 +25,9 @@ use Rattle.line_table.specs.declared.rows.copy.TheConstants.{COPY_ROWS}
 use Rattle.line_table.specs.Table.{Row, table, as_row, rows, defined, nothing, no_row, location_of, words_of}
 use Rattle.line_table.specs.Rows.{Places, IsRow}
 use Rattle.line_table.proofs.Reading.{Shown, shown, row_shown}
+use Rattle.line_table.proofs.Counts.{line_count, most}
 use Rattle.line_table.proofs.Known.{last, ending, front_texts, front_lines, are_known, lines_are}
-use Rattle.line_table.proofs.Fronts.{to_last}
+use Rattle.line_table.proofs.Chain.{to_last}
 use Rattle.line_laws.proofs.Small.{append_map, map_length}
 
 some_words : (come : Outcome) (found : List ℕ) → known.words_of come ≡ Some found → Places come found
@@ -120,26 +121,26 @@ alike (x ∷ xs) (y ∷ ys) e = by (nat_eq x y) refl e (alike xs ys)
 abbrev all_lines : List KnownLine
 all_lines = front_lines ++ ending ∷ []
 
-split_rows : take 834 rows ++ drop 834 rows ≡ rows
+split_rows : take most rows ++ drop most rows ≡ rows
 split_rows = refl
 
-ending_shown : map shown (ending ∷ []) ≡ map row_shown (drop 834 rows)
+ending_shown : map shown (ending ∷ []) ≡ map row_shown (drop most rows)
 ending_shown = refl
 
 all_shown : map shown all_lines ≡ map row_shown rows
 all_shown =
     append_map shown front_lines (ending ∷ [])
     ∙ (ap (λ front. front ++ map shown (ending ∷ [])) to_last.as_rows
-    ∙ (ap (λ rest. map row_shown (take 834 rows) ++ rest) ending_shown
-    ∙ (sym (append_map row_shown (take 834 rows) (drop 834 rows)) ∙ ap (map row_shown) split_rows)))
+    ∙ (ap (λ rest. map row_shown (take most rows) ++ rest) ending_shown
+    ∙ (sym (append_map row_shown (take most rows) (drop most rows)) ∙ ap (map row_shown) split_rows)))
 
-rows_counted : length rows ≡ 835
+rows_counted : length rows ≡ line_count
 rows_counted = refl
 
-lines_counted : length lines ≡ 835
+lines_counted : length lines ≡ line_count
 lines_counted = refl
 
-all_counted : length all_lines ≡ 835
+all_counted : length all_lines ≡ line_count
 all_counted = sym (map_length shown all_lines) ∙ (ap length all_shown ∙ (map_length row_shown rows ∙ rows_counted))
 
 -- a row of a table, whose line stands among lines
@@ -181,7 +182,7 @@ pub row_found : (index : ℕ) (row : LineRow) (found : Row) (a b c d : List Row)
     → found ≡ slice_index_or (a ++ (b ++ (c ++ d))) index nothing → row ≡ as_row found → index < length lines → IsRow index row
 row_found index row found a b c d one two three four is made lt =
     let same : a ++ (b ++ (c ++ d)) ≡ table = λ i. one i ++ (two i ++ (three i ++ four i)) in
-    let counted : length table ≡ 835 = sym (map_length as_row table) ∙ rows_counted in
+    let counted : length table ≡ line_count = sym (map_length as_row table) ∙ rows_counted in
     let there : slice_index_or rows index no_row ≡ as_row (slice_index_or table index nothing) =
     index_map as_row table index nothing no_row (omega (arith, lt, lines_counted, counted)) in
     let here : row ≡ slice_index_or rows index no_row = made ∙ (ap as_row (is ∙ ap (λ table. slice_index_or table index nothing) same) ∙ sym there) in

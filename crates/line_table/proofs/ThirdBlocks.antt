@@ -1,3 +1,4 @@
+-- Written by tools/interpreter from crates/native_interp/src/source.
 -- Blocks of the source's lines: each line by itself comes to what its row says.
 use Rattle.std.proofs.Common.{refl}
 use Rattle.source_defs.specs.Tokens.{token_at, tokens_from}
@@ -14,30 +15,30 @@ use Rattle.asm_defs.specs.FirstChecks.{said, moved}
 use Rattle.asm_defs.specs.SecondChecks.{outcome}
 use Rattle.line_table.proofs.Blocks.{Block}
 
-pub lines_560 : Block 560 40 102 6
+pub lines_560 : Block 560 40 113 6
 unfolding mnemonic form_of first_checks second_checks token_at tokens_from in_quotes operands_from fields registers directive statement_in said moved outcome
 lines_560 = refl
 
-pub lines_600 : Block 600 40 108 8
+pub lines_600 : Block 600 40 119 8
 unfolding mnemonic form_of first_checks second_checks token_at tokens_from in_quotes operands_from fields registers directive statement_in said moved outcome
 lines_600 = refl
 
-pub lines_640 : Block 640 40 116 6
+pub lines_640 : Block 640 40 127 6
 unfolding mnemonic form_of first_checks second_checks token_at tokens_from in_quotes operands_from fields registers directive statement_in said moved outcome
 lines_640 = refl
 
-pub lines_680 : Block 680 40 122 10
+pub lines_680 : Block 680 40 133 11
 unfolding mnemonic form_of first_checks second_checks token_at tokens_from in_quotes operands_from fields registers directive statement_in said moved outcome
 lines_680 = refl
 
-pub lines_720 : Block 720 40 132 5
+pub lines_720 : Block 720 40 144 5
 unfolding mnemonic form_of first_checks second_checks token_at tokens_from in_quotes operands_from fields registers directive statement_in said moved outcome
 lines_720 = refl
 
-pub lines_760 : Block 760 40 137 9
+pub lines_760 : Block 760 40 149 10
 unfolding mnemonic form_of first_checks second_checks token_at tokens_from in_quotes operands_from fields registers directive statement_in said moved outcome
 lines_760 = refl
 
-pub lines_800 : Block 800 34 146 8
+pub lines_800 : Block 800 34 159 8
 unfolding mnemonic form_of first_checks second_checks token_at tokens_from in_quotes operands_from fields registers directive statement_in said moved outcome
 lines_800 = refl

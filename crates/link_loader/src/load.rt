@@ -1,4 +1,4 @@
-//! Linking.
+//! Modules are linked: placed one behind the other, and each use of a name is made its value.
 
 ghost use Rattle.std.specs.Prelude.{◌≡◌, ◌≤◌, vec_len};
 ghost use Rattle.link_defs.specs.LinkedMemory as spec;

@@ -1,4 +1,4 @@
-//! Loading a machine.
+//! Linked memory is loaded into a new machine.
 
 ghost use Rattle.std.specs.Prelude.{◌≡◌, length, IfOk};
 ghost use Rattle.std.specs.FinMap.{entries};

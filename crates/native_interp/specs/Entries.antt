@@ -8,7 +8,6 @@ use Rattle.std.specs.Prelude.{
   ◌<◌,
   Bool,
   true,
-  false,
   not,
   nat_eq,
   ◌&&◌,

@@ -1,6 +1,8 @@
+-- Written by tools/interpreter from crates/native_interp/src/source.
 -- The words of the interpreter from >2000 up, part by part in the order of its source.
 use Rattle.std.specs.Prelude.{ℕ, ◌-◌, ◌/◌, List, [], ◌∷◌, ◌++◌, flat_map, slice_index}
 use Rattle.native_interp.specs.declared.addresses.TheConstants.{
+  ORIGIN,
   TABLE,
   OPTAB,
   GBOOT,
@@ -136,12 +138,12 @@ use Rattle.native_interp.specs.CopyWords as copy
 
 -- the address of the first word
 abbrev pub origin : ℕ
-origin = 0x2000
+origin = ORIGIN
 
 -- the entry points and the two tables
 abbrev pub tables : List (ℕ × List ℕ)
 tables =
-    (origin, table.entries) ∷ (TABLE, table.code_table) ∷ (OPTAB, table.operation_table) ∷ []
+    (ORIGIN, table.entries) ∷ (TABLE, table.code_table) ∷ (OPTAB, table.operation_table) ∷ []
 
 -- boot, the step, the routines, and the operands and the end of a row
 abbrev pub routine_parts : List (ℕ × List ℕ)

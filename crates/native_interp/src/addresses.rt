@@ -1,7 +1,23 @@
+// Written by tools/interpreter from crates/native_interp/src/source.
 //! Addresses in the interpreter. Profile: where the interpreter and its workspace stand.
+
+/// How many words the interpreter has.
+pub const WORD_COUNT: usize = 1087;
 
 /// The interpreter's workspace: the address of its register 0.
 pub const WORKSPACE: u16 = 0x83E0;
+
+/// The address behind the interpreter's last word.
+pub const BEHIND: u16 = 0x287E;
+
+/// Where the words of the interpreter begin.
+pub const ORIGIN: u16 = 0x2000;
+
+/// The table by code byte: a word for each of the 256.
+pub const TABLE: u16 = 0x2008;
+
+/// The table by operation: a word for two code bytes from `>80` on.
+pub const OPTAB: u16 = 0x2208;
 
 /// The interpreter begins here, with the entry of the GPL program in register 0.
 pub const GBOOT: u16 = 0x2274;
@@ -9,17 +25,14 @@ pub const GBOOT: u16 = 0x2274;
 /// Each step of GPL begins here.
 pub const GSTEP: u16 = 0x228C;
 
-/// A refused program stops here, with the reason in register 0 and the address of the code byte in register 1.
-pub const GSTOP: u16 = 0x22B8;
+/// The part of `GSTEP` behind the address of the code byte.
+pub const GKEEP: u16 = 0x2290;
 
-/// A program that leaves by EXIT stops here, with the address of the code byte in register 1.
-pub const GEXIT: u16 = 0x22BA;
+/// The part of `GSTEP` that reads the code byte again.
+pub const GBYTE: u16 = 0x2296;
 
-/// The table by code byte: a word for each of the 256.
-pub const TABLE: u16 = 0x2008;
-
-/// The table by operation: a word for two code bytes from `>80` on.
-pub const OPTAB: u16 = 0x2208;
+/// The part of `GSTEP` that goes where the code byte leads.
+pub const GCODE: u16 = 0x229A;
 
 /// Stops by reason 3.
 pub const STK: u16 = 0x22A8;
@@ -29,6 +42,12 @@ pub const UNKN: u16 = 0x22AE;
 
 /// Stops by reason 2.
 pub const BAD: u16 = 0x22B4;
+
+/// A refused program stops here, with the reason in register 0 and the address of the code byte in register 1.
+pub const GSTOP: u16 = 0x22B8;
+
+/// A program that leaves by EXIT stops here, with the address of the code byte in register 1.
+pub const GEXIT: u16 = 0x22BA;
 
 /// Gives the address of the next GROM byte.
 pub const WHERE: u16 = 0x22BC;
@@ -42,17 +61,35 @@ pub const FETCH: u16 = 0x22E4;
 /// Finds the place of an operand.
 pub const ADDR: u16 = 0x22EC;
 
+/// The part of `ADDR` for an address in more than one byte.
+pub const ALONG: u16 = 0x22FE;
+
+/// The part of `ADDR` for an address of 16 bits: its high byte.
+pub const AHIGH: u16 = 0x2308;
+
+/// The part of `ADDR` for the low byte of an address.
+pub const ALOW: u16 = 0x230C;
+
 /// The part of `ADDR` behind the address: the pointer.
 pub const APTR: u16 = 0x2314;
 
 /// The part of `ADDR` behind the pointer: the index.
 pub const INDEX: u16 = 0x2330;
 
+/// The part of `INDEX` that reads where the index is.
+pub const INDEXR: u16 = 0x2336;
+
+/// The part of `INDEX` that adds the word there.
+pub const INDEXW: u16 = 0x2342;
+
 /// The part of `ADDR` behind the index: the space and the range.
 pub const ASPACE: u16 = 0x2350;
 
 /// Loads a value from a place.
 pub const LOAD: u16 = 0x2368;
+
+/// The part of `LOAD` that sets the video processor's address.
+pub const LVSET: u16 = 0x238A;
 
 /// The part of `LOAD` that reads video memory at the address that was set.
 pub const LDATA: u16 = 0x2396;
@@ -62,6 +99,12 @@ pub const STREAM: u16 = 0x23AC;
 
 /// Stores a value at a place.
 pub const STORE: u16 = 0x23C2;
+
+/// The part of `STORE` behind the first byte of the cells.
+pub const SCELL: u16 = 0x23D6;
+
+/// The part of `STORE` that sets the video processor's address.
+pub const SVSET: u16 = 0x23F6;
 
 /// The part of `STORE` that writes video memory at the address that was set.
 pub const SDATA: u16 = 0x2402;
@@ -74,6 +117,15 @@ pub const ROW: u16 = 0x2426;
 
 /// `ROW` for the width in register 3.
 pub const OPS: u16 = 0x242E;
+
+/// The part of `ROW` behind the destination's place.
+pub const OPSDST: u16 = 0x2434;
+
+/// The part of `ROW` behind the destination's value.
+pub const OPSVAL: u16 = 0x243C;
+
+/// The part of `ROW` for a row of two operands.
+pub const OPSTWO: u16 = 0x244C;
 
 /// The part of `ROW` that loads the source.
 pub const OPVAL: u16 = 0x245C;
@@ -321,6 +373,9 @@ pub const FETCHD: u16 = 0x2750;
 /// The instruction RAND.
 pub const GORAND: u16 = 0x2762;
 
+/// The part of RAND that makes the next seed.
+pub const RANDM: u16 = 0x276C;
+
 /// The part of RAND behind the seed: the limit.
 pub const RANDL: u16 = 0x2780;
 
@@ -350,6 +405,9 @@ pub const COPYN: u16 = 0x27E2;
 
 /// The part of MOVE whose target is the registers of the video chip.
 pub const MOVER: u16 = 0x27F8;
+
+/// The part of MOVE that tests whether all the registers are there.
+pub const MOVERC: u16 = 0x2800;
 
 /// The part of MOVE whose source is in GROM.
 pub const MOVES: u16 = 0x280E;

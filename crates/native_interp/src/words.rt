@@ -1,3 +1,4 @@
+// Written by tools/interpreter from crates/native_interp/src/source.
 //! The interpreter's words.
 
 ghost use Rattle.std.specs.Prelude.{◌≡◌};

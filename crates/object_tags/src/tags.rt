@@ -38,24 +38,6 @@ fn opening_tag(form: TextForm) -> u8
     }
 }
 
-/// The tags but the one that a module begins with.
-const FURTHER_TAGS: &[Tag] = &[
-    Tag::Entry(Kind::Absolute),
-    Tag::Entry(Kind::Relocatable),
-    Tag::Reference(Kind::Relocatable),
-    Tag::Reference(Kind::Absolute),
-    Tag::Definition(Kind::Relocatable),
-    Tag::Definition(Kind::Absolute),
-    Tag::Sum,
-    Tag::IgnoredSum,
-    Tag::Address(Kind::Absolute),
-    Tag::Address(Kind::Relocatable),
-    Tag::Word(Kind::Absolute),
-    Tag::Word(Kind::Relocatable),
-    Tag::EndOfLine,
-    Tag::EndOfModule,
-];
-
 /// The tag of a character, or `None` where it is none.
 #[tactic(auto, unfolding(object_defs::specs::Tags::tag_of))]
 pub(crate) fn tag_of(form: TextForm, byte: u8) -> Option<Tag>
@@ -64,5 +46,21 @@ pub(crate) fn tag_of(form: TextForm, byte: u8) -> Option<Tag>
     if byte == opening_tag(form) {
         return Some(Tag::Header);
     }
-    FURTHER_TAGS.iter().copied().find(|tag| byte == tag_character(*tag))
+    match byte {
+        b'1' => Some(Tag::Entry(Kind::Absolute)),
+        b'2' => Some(Tag::Entry(Kind::Relocatable)),
+        b'3' => Some(Tag::Reference(Kind::Relocatable)),
+        b'4' => Some(Tag::Reference(Kind::Absolute)),
+        b'5' => Some(Tag::Definition(Kind::Relocatable)),
+        b'6' => Some(Tag::Definition(Kind::Absolute)),
+        b'7' => Some(Tag::Sum),
+        b'8' => Some(Tag::IgnoredSum),
+        b'9' => Some(Tag::Address(Kind::Absolute)),
+        b'A' => Some(Tag::Address(Kind::Relocatable)),
+        b'B' => Some(Tag::Word(Kind::Absolute)),
+        b'C' => Some(Tag::Word(Kind::Relocatable)),
+        b'F' => Some(Tag::EndOfLine),
+        b':' => Some(Tag::EndOfModule),
+        _ => None,
+    }
 }

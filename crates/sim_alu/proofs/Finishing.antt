@@ -10,6 +10,7 @@ use Rattle.sim_alu.proofs.Frames.{frame}
 use Rattle.sim_alu.proofs.Making.{Flagged, Plain}
 use Rattle.sim_alu.specs.Pieces as piece
 use Rattle.sim_alu.proofs.Making
+use Rattle.sim_rows.specs.sim_view.Bounds.{most_of_alu_row, most_of_store}
 
 -- ---- the status behind the result
 
@@ -36,7 +37,8 @@ pub with_status_stored : (x y z q : MachineState) (t u w p : ℕ) → (view x).r
     EndsRow z q w p → StoresWithStatus x q t p
 with_status_stored x y z q t u w p link d e f c width place number status h r12 =
     let done : Changes = with_value width place number c in
-    let a : Comes 16 x y t u STATB (ChangedFrom done (view x)) = subst (λ (n : ℕ). Comes 16 x y t u n (ChangedFrom done (view x))) (ap even link)
+    let a : Comes most_of_store x y t u STATB (ChangedFrom done (view x)) =
+        subst (λ (n : ℕ). Comes most_of_store x y t u n (ChangedFrom done (view x))) (ap even link)
     (store_then c width place number x y t u h d) in
     let b = comes_then 16 2 a e (status_stored done status (view y) a.holds.changed (a.holds.keeps.r12 ∙ r12)) refl in
     comes_on 18 29 b (f (with_status status done) b.holds) refl
@@ -57,7 +59,7 @@ result_idle op x y t u f i e =
 
 module _ (op : GplOperation) (x y z : MachineState) (t u w : ℕ) (f : is_alu (Some op) ≡ true) (start : ℕ) (stands : Stands x start)
     (e : Exits x y t u (result_piece op (view x))) where
-  pub by_sto : y.cpu.pc ≡ STO → StoresResult y z u w → RunsRow op 54 x z t w
+  pub by_sto : y.cpu.pc ≡ STO → StoresResult y z u w → RunsRow op most_of_alu_row x z t w
   by_sto at d s place source o a operands =
       let v : View = view x in
       let c : Changes = unchanged (gone_on s) in
@@ -70,7 +72,7 @@ module _ (op : GplOperation) (x y z : MachineState) (t u w : ℕ) (f : is_alu (S
       (λ (m : Flagged op s place source (result_piece op v)). let pc = e.stands.pc in let to = m.to in absurd (omega arith))
       (Making.made v (is_view x stands.machine) s place source a op f o operands)
 
-  pub by_store : (y.cpu.pc ≡ STO → ⊥) → StoresWithStatus y z u w → RunsRow op 54 x z t w
+  pub by_store : (y.cpu.pc ≡ STO → ⊥) → StoresWithStatus y z u w → RunsRow op most_of_alu_row x z t w
   by_store away d s place source o a operands =
       let v : View = view x in
       let c : Changes = unchanged (gone_on s) in

@@ -1,6 +1,5 @@
 pub mod Status
 pub mod Paths
-pub mod Bytes
 pub mod Numbers
 pub mod Making
 pub mod Frames

@@ -141,15 +141,19 @@ module _ (v : View) (i : IsView v) (s : GplState) (place : Place) (source : Sour
       }
 
   -- a record for each kind of end
-  plain : (op : GplOperation) (count r6 r9 number : ℕ) → count ≤ 3 → of_register w r9 ≡ number →
-      row_result op s place source ≡ Ok (with_value w place number c) →
-      Plain op s place source (exit count STO (with_result r6 r9))
-  plain op count r6 r9 number le e is = record { number = number; to = refl; within = le; storing = storing r6 r9 number e; is = is }
+  -- how many instructions the piece of an operation has
+  abbrev count_in : GplOperation → ℕ
+  count_in op = (result_piece op v).count
 
-  flagged : (op : GplOperation) (count r6 r9 number status : ℕ) (flags : Flags) → count ≤ 7 → of_register w r9 ≡ number → status_byte flags ≡ status →
+  plain : (op : GplOperation) (r6 r9 number : ℕ) → count_in op ≤ 3 → of_register w r9 ≡ number →
+      row_result op s place source ≡ Ok (with_value w place number c) →
+      Plain op s place source (exit (count_in op) STO (with_result r6 r9))
+  plain op r6 r9 number le e is = record { number = number; to = refl; within = le; storing = storing r6 r9 number e; is = is }
+
+  flagged : (op : GplOperation) (r6 r9 number status : ℕ) (flags : Flags) → count_in op ≤ 7 → of_register w r9 ≡ number → status_byte flags ≡ status →
       row_result op s place source ≡ Ok (with_status status (with_value w place number c)) →
-      Flagged op s place source (exit count STORE (with_kept r6 r9 flags))
-  flagged op count r6 r9 number status flags le e f is = record {
+      Flagged op s place source (exit (count_in op) STORE (with_kept r6 r9 flags))
+  flagged op r6 r9 number status flags le e f is = record {
     number = number;
     status = status;
     to = refl;
@@ -161,25 +165,25 @@ module _ (v : View) (i : IsView v) (s : GplState) (place : Place) (source : Sour
   }
 
   -- sums and differences of the destination with a number in register 6
-  adds : (op : GplOperation) (count r6 n : ℕ) → count ≤ 7 → IsSingle → n < modulus w → r6 ≡ in_register w n →
+  adds : (op : GplOperation) (r6 n : ℕ) → count_in op ≤ 7 → IsSingle → n < modulus w → r6 ≡ in_register w n →
       row_result op s place source ≡ Ok (with_status (status_byte (sum_flags w x n)) (with_value w place (sum_of w x n) c)) →
-      Flagged op s place source (exit count STORE (with_kept r6 (sum_of Word v.r.r9 r6) (sum_flags Word v.r.r9 r6)))
-  adds op count r6 n le e h is =
+      Flagged op s place source (exit (count_in op) STORE (with_kept r6 (sum_of Word v.r.r9 r6) (sum_flags Word v.r.r9 r6)))
+  adds op r6 n le e h is =
       let f = x_fits e in
       λ result.
-      flagged op count r6 (sum_of Word v.r.r9 r6) (sum_of w x n) (status_byte (sum_flags w x n)) (sum_flags Word v.r.r9 r6) le
+      flagged op r6 (sum_of Word v.r.r9 r6) (sum_of w x n) (status_byte (sum_flags w x n)) (sum_flags Word v.r.r9 r6) le
       (ap (λ p. of_register w (sum_of Word p r6)) (destination_is e) ∙ ap (λ q. of_register w (sum_of Word (in_register w x) q)) is ∙ Numbers.sum_is w x n f h)
       (ap (λ p. status_byte (sum_flags Word p r6)) (destination_is e) ∙ ap (λ q. status_byte (sum_flags Word (in_register w x) q)) is
       ∙ Numbers.sum_status w x n f h)
       result
 
-  subtracts : (op : GplOperation) (count r6 n : ℕ) → count ≤ 7 → IsSingle → n < modulus w → r6 ≡ in_register w n →
+  subtracts : (op : GplOperation) (r6 n : ℕ) → count_in op ≤ 7 → IsSingle → n < modulus w → r6 ≡ in_register w n →
       row_result op s place source ≡ Ok (with_status (status_byte (difference_flags w x n)) (with_value w place (difference_of w x n) c)) →
-      Flagged op s place source (exit count STORE (with_kept r6 (difference_of Word v.r.r9 r6) (difference_flags Word v.r.r9 r6)))
-  subtracts op count r6 n le e h is =
+      Flagged op s place source (exit (count_in op) STORE (with_kept r6 (difference_of Word v.r.r9 r6) (difference_flags Word v.r.r9 r6)))
+  subtracts op r6 n le e h is =
       let f = x_fits e in
       λ result.
-      flagged op count r6 (difference_of Word v.r.r9 r6) (difference_of w x n) (status_byte (difference_flags w x n)) (difference_flags Word v.r.r9 r6) le
+      flagged op r6 (difference_of Word v.r.r9 r6) (difference_of w x n) (status_byte (difference_flags w x n)) (difference_flags Word v.r.r9 r6) le
       (ap (λ p. of_register w (difference_of Word p r6)) (destination_is e) ∙ ap (λ q. of_register w (difference_of Word (in_register w x) q)) is
       ∙ Numbers.difference_is w x n f h)
       (ap (λ p. status_byte (difference_flags Word p r6)) (destination_is e) ∙ ap (λ q. status_byte (difference_flags Word (in_register w x) q)) is
@@ -203,49 +207,49 @@ module _ (v : View) (i : IsView v) (s : GplState) (place : Place) (source : Sour
   pub made : (op : GplOperation) → is_alu (Some op) ≡ true → operation_in s ≡ Some op → operands_of s ≡ Ok (place, source) → Made op
   made (operation.One one.ABS) f o e =
       let b = single (operation.One one.ABS) o refl in
-      inr (flagged (operation.One one.ABS) 6 v.r.r6 (absolute_of Word v.r.r9) (absolute_of w x) (status_byte (absolute_flags w x))
+      inr (flagged (operation.One one.ABS) v.r.r6 (absolute_of Word v.r.r9) (absolute_of w x) (status_byte (absolute_flags w x))
       (absolute_flags Word v.r.r9) (omega arith)
       (first (λ p. of_register w (absolute_of Word p)) b ∙ Numbers.absolute_is w x (x_fits b))
       (first (λ p. status_byte (absolute_flags Word p)) b ∙ Numbers.absolute_status w x (x_fits b)) refl)
   made (operation.One one.NEG) f o e =
       let b = single (operation.One one.NEG) o refl in
-      inr (flagged (operation.One one.NEG) 5 v.r.r6 (negation_of Word v.r.r9) (negation_of w x) (status_byte (negation_flags w x))
+      inr (flagged (operation.One one.NEG) v.r.r6 (negation_of Word v.r.r9) (negation_of w x) (status_byte (negation_flags w x))
       (negation_flags Word v.r.r9) (omega arith)
       (first (λ p. of_register w (negation_of Word p)) b ∙ Numbers.negation_is w x (x_fits b))
       (first (λ p. status_byte (negation_flags Word p)) b ∙ Numbers.negation_status w x (x_fits b)) refl)
   made (operation.One one.INV) f o e =
       let b = single (operation.One one.INV) o refl in
-      inl (plain (operation.One one.INV) 2 v.r.r6 (complement_of Word v.r.r9) (complement_of w x) (omega arith)
+      inl (plain (operation.One one.INV) v.r.r6 (complement_of Word v.r.r9) (complement_of w x) (omega arith)
       (first (λ p. of_register w (complement_of Word p)) b ∙ Numbers.complement_is w x (x_fits b)) refl)
-  made (operation.One one.CLR) f o e = inl (plain (operation.One one.CLR) 2 v.r.r6 0 0 (omega arith) (Numbers.zero_is (row_width s)) refl)
+  made (operation.One one.CLR) f o e = inl (plain (operation.One one.CLR) v.r.r6 0 0 (omega arith) (Numbers.zero_is (row_width s)) refl)
   made (operation.One one.INC) f o e =
-      inr (adds (operation.One one.INC) 6 v.r.r6 1 (omega arith) (single (operation.One one.INC) o refl) (one_fits w 1 (omega arith))
+      inr (adds (operation.One one.INC) v.r.r6 1 (omega arith) (single (operation.One one.INC) o refl) (one_fits w 1 (omega arith))
       (unit_in one.INC o e) refl)
-  made (operation.One one.DEC) f o e = inr (subtracts (operation.One one.DEC) 6 v.r.r6 1 (omega arith) (single (operation.One one.DEC) o refl)
+  made (operation.One one.DEC) f o e = inr (subtracts (operation.One one.DEC) v.r.r6 1 (omega arith) (single (operation.One one.DEC) o refl)
       (one_fits w 1 (omega arith)) (unit_in one.DEC o e) refl)
   made (operation.One one.INCT) f o e =
-      inr (adds (operation.One one.INCT) 7 (sum_of Word v.r.r6 v.r.r6) 2 (omega arith) (single (operation.One one.INCT) o refl) (one_fits w 2 (omega arith))
+      inr (adds (operation.One one.INCT) (sum_of Word v.r.r6 v.r.r6) 2 (omega arith) (single (operation.One one.INCT) o refl) (one_fits w 2 (omega arith))
       (twice_in one.INCT o e) refl)
   made (operation.One one.DECT) f o e =
-      inr (subtracts (operation.One one.DECT) 7 (sum_of Word v.r.r6 v.r.r6) 2 (omega arith) (single (operation.One one.DECT) o refl)
+      inr (subtracts (operation.One one.DECT) (sum_of Word v.r.r6 v.r.r6) 2 (omega arith) (single (operation.One one.DECT) o refl)
       (one_fits w 2 (omega arith)) (twice_in one.DECT o e) refl)
-  made (operation.Two two.ADD) f o e = inr (adds (operation.Two two.ADD) 6 v.r.r6 y (omega arith) (single (operation.Two two.ADD) o refl) y_fits a.value refl)
+  made (operation.Two two.ADD) f o e = inr (adds (operation.Two two.ADD) v.r.r6 y (omega arith) (single (operation.Two two.ADD) o refl) y_fits a.value refl)
   made (operation.Two two.SUB) f o e =
-      inr (subtracts (operation.Two two.SUB) 6 v.r.r6 y (omega arith) (single (operation.Two two.SUB) o refl) y_fits a.value refl)
+      inr (subtracts (operation.Two two.SUB) v.r.r6 y (omega arith) (single (operation.Two two.SUB) o refl) y_fits a.value refl)
   made (operation.Two two.AND) f o e =
       let b = single (operation.Two two.AND) o refl in
-      inl (plain (operation.Two two.AND) 3 (complement_of Word v.r.r6) (ones_cleared Word v.r.r9 (complement_of Word v.r.r6)) (conjunction_of x y) (omega arith)
+      inl (plain (operation.Two two.AND) (complement_of Word v.r.r6) (ones_cleared Word v.r.r9 (complement_of Word v.r.r6)) (conjunction_of x y) (omega arith)
       (both (λ p q. of_register w (ones_cleared Word p (complement_of Word q))) b ∙ Numbers.common_is w x y (x_fits b) y_fits) refl)
   made (operation.Two two.OR) f o e =
       let b = single (operation.Two two.OR) o refl in
-      inl (plain (operation.Two two.OR) 2 v.r.r6 (ones_set v.r.r9 v.r.r6) (ones_set x y) (omega arith)
+      inl (plain (operation.Two two.OR) v.r.r6 (ones_set v.r.r9 v.r.r6) (ones_set x y) (omega arith)
       (both (λ p q. of_register w (ones_set p q)) b ∙ Numbers.ones_are w x y (x_fits b) y_fits) refl)
   made (operation.Two two.XOR) f o e =
       let b = single (operation.Two two.XOR) o refl in
-      inl (plain (operation.Two two.XOR) 2 v.r.r6 (exclusive_or_of v.r.r9 v.r.r6) (exclusive_or_of x y) (omega arith)
+      inl (plain (operation.Two two.XOR) v.r.r6 (exclusive_or_of v.r.r9 v.r.r6) (exclusive_or_of x y) (omega arith)
       (both (λ p q. of_register w (exclusive_or_of p q)) b ∙ Numbers.exclusive_is w x y (x_fits b) y_fits) refl)
   made (operation.Two two.ST) f o e =
-      inl (plain (operation.Two two.ST) 1 v.r.r6 v.r.r6 y (omega arith) (ap (of_register w) a.value ∙ Numbers.source_is w y) refl)
+      inl (plain (operation.Two two.ST) v.r.r6 v.r.r6 y (omega arith) (ap (of_register w) a.value ∙ Numbers.source_is w y) refl)
   made (operation.One one.CASE) f o e = absurd (cc)
   made (operation.One one.CZ) f o e = absurd (cc)
   made (operation.One one.FETCH) f o e = absurd (cc)

@@ -10,6 +10,7 @@ use Rattle.sim_compare.specs.Family.{ending, is_test, IsTold, test, tested}
 use Rattle.sim_compare.proofs.Numbers.{bit_out_1, bit_out_2, bit_out_4, bit_out_5}
 use Rattle.sim_compare.proofs.Telling.{is_told, tells, told_goes}
 use Rattle.sim_compare.specs.Pieces as pieces
+use Rattle.sim_rows.specs.interp_defs.Interpreter.{most_to_dispatch}
 
 -- ---- the operations
 
@@ -105,7 +106,7 @@ module _ (x a : MachineState) (t u : ℕ) (name : PlainOp) (is : operation_seen 
   pub test_told : IsTold a
   test_told = is_told a flag at_flag.stands
 
-  pub test_turns : (y : MachineState) (v : ℕ) → Exits a y u v (ending (a.cpu.pc == CTRUE) (view a)) → Turned s 29 x y t v Stepped
+  pub test_turns : (y : MachineState) (v : ℕ) → Exits a y u v (ending (a.cpu.pc == CTRUE) (view a)) → Turned s most_to_dispatch x y t v Stepped
   test_turns y v second =
       let next = finished (changed s o) in
       let c = tells 4 s (behind_code s) flag at_flag second in

@@ -61,7 +61,7 @@ test_overflow v = test_bit 5 v
 
 -- CTRUE and CFALSE: the condition's bit of the status is set, or cleared.
 abbrev pub with_status : ℕ → View → View
-with_status byte v = record v { r = record v.r { r4 = 0x2000 }; cells = slice_set v.cells STATUS byte }
+with_status byte v = record v { r = record v.r { r4 = join CONDITION_BIT 0 }; cells = slice_set v.cells STATUS byte }
 
 abbrev pub set_condition : View → Exit
 set_condition v = exit 3 GSTEP (with_status (ones_set (slice_index v.cells STATUS) CONDITION_BIT) v)

@@ -10,6 +10,7 @@ use Rattle.sim_rows.proofs.Common.{with_byte_in, with_byte_to, with_value}
 use Rattle.sim_rows.specs.gpl_defs.Reading.{value_at as value_in}
 use Rattle.sim_copy.specs.Bytes.{AtCopy, byte_copied, CopiesByte, Counted, grom_behind, source_in, target_in}
 use Rattle.sim_copy.specs.Pieces as pieces
+use Rattle.sim_rows.specs.sim_view.Bounds.{most_of_load, most_of_store}
 
 -- ---- LOAD
 
@@ -42,11 +43,12 @@ stream_read v w one e =
     record { r4 = v.r.r4; address = v.vdp.address; byte = v.vdp.fetched; is = e ∙ ap left one }
 
 loads : (a b : MachineState) (t u : ℕ) → (view a).r.r3 ≡ 1 → IsFetched a.cpu.memory.grom → ((view a).r.r5 < 2 → LoadsValue a b t u) →
-    (1 < (view a).r.r5 → IsFetched a.cpu.memory.grom → LoadsStream a b t u) → Comes 17 a b t u (return_of (view a)) (ReadFrom (view a) (source_in (view a)))
+    (1 < (view a).r.r5 → IsFetched a.cpu.memory.grom → LoadsStream a b t u)
+        → Comes most_of_load a b t u (return_of (view a)) (ReadFrom (view a) (source_in (view a)))
 loads a b t u one fetched near far =
     let v : View = view a in
     let place : Place = place_in v.r.r5 v.r.r2 in
-    let to : Bool → Type 0 = λ c. Comes 17 a b t u (return_of v) (ReadFrom v (if c then FromMemory place else FromGrom (next_at v))) in
+    let to : Bool → Type 0 = λ c. Comes most_of_load a b t u (return_of v) (ReadFrom v (if c then FromMemory place else FromGrom (next_at v))) in
     pick (nat_lt v.r.r5 2)
     (λ c. subst to (sym c) (comes_as 17 (ReadFrom v (FromMemory place)) (near (ltb-true v.r.r5 2 c)) (omega arith) (λ w l. value_read v w place one l)))
     (λ c. let above : 1 < v.r.r5 = let le = ltb-false v.r.r5 2 c in omega arith in
@@ -64,14 +66,14 @@ abbrev pub stored_in : View → Changes
 stored_in v = with_byte_to (target_in v) (high v.r.r9) (unchanged (state_of v))
 
 stores : (a b : MachineState) (t u : ℕ) → (view a).r.r3 ≡ 1 → (1 < (view a).r.r8 → (view a).r.r7 < 8) → ((view a).r.r8 < 2 → StoresValue a b t u) →
-    (1 < (view a).r.r8 → (view a).r.r7 < 8 → StoresRegister a b t u) → Comes 16 a b t u (return_of (view a)) (Stored (view a) (stored_in (view a)))
+    (1 < (view a).r.r8 → (view a).r.r7 < 8 → StoresRegister a b t u) → Comes most_of_store a b t u (return_of (view a)) (Stored (view a) (stored_in (view a)))
 stores a b t u one there near far =
     let v : View = view a in
     let place : Place = place_in v.r.r8 v.r.r7 in
     let number : ℕ = high v.r.r9 in
-    let to : Bool → Type 0 = λ c. Comes 16 a b t u (return_of v)
+    let to : Bool → Type 0 = λ c. Comes most_of_store a b t u (return_of v)
     (Stored v (with_byte_to (if c then ToMemory place else ToRegisters v.r.r7) number (unchanged (state_of v)))) in
-    let by : ℕ → Type 0 = λ n. Comes 16 a b t u (return_of v)
+    let by : ℕ → Type 0 = λ n. Comes most_of_store a b t u (return_of v)
     (Stored v (with_value (width_in n) place (of_register (width_in n) v.r.r9) (unchanged (state_of v)))) in
     pick (nat_lt v.r.r8 2)
     (λ c. subst to (sym c) (subst by one (near (ltb-true v.r.r8 2 c))))
@@ -125,8 +127,8 @@ module _ {x a : MachineState} {t t1 : ℕ} (h : AtCopy x) (some : 0 < (view x).r
 
   module _ {b : MachineState} {t2 : ℕ} (near : (view a).r.r5 < 2 → LoadsValue a b t1 t2) (far : 1 < (view a).r.r5 → IsFetched a.cpu.memory.grom →
       LoadsStream a b t1 t2) where
-    loaded : Comes 17 a b t1 t2 COPYS (ReadFrom (view a) (source_in (view a)))
-    loaded = subst (λ (p : ℕ). Comes 17 a b t1 t2 p (ReadFrom (view a) (source_in (view a)))) (ap return_of went.shows)
+    loaded : Comes most_of_load a b t1 t2 COPYS (ReadFrom (view a) (source_in (view a)))
+    loaded = subst (λ (p : ℕ). Comes most_of_load a b t1 t2 p (ReadFrom (view a) (source_in (view a)))) (ap return_of went.shows)
         (loads a b t1 t2 one_asked fetched_asked near far)
 
     pub stands_read : Stands b COPYS
@@ -174,8 +176,8 @@ module _ {x a : MachineState} {t t1 : ℕ} (h : AtCopy x) (some : 0 < (view x).r
 
       module _ {k : MachineState} {t4 : ℕ} (value : (view d).r.r8 < 2 → StoresValue d k t3 t4) (register : 1 < (view d).r.r8 →
           (view d).r.r7 < 8 → StoresRegister d k t3 t4) where
-        stored : Comes 16 d k t3 t4 COPYN (Stored (view d) (stored_in (view d)))
-        stored = subst (λ (p : ℕ). Comes 16 d k t3 t4 p (Stored (view d) (stored_in (view d)))) (ap return_of seen_d)
+        stored : Comes most_of_store d k t3 t4 COPYN (Stored (view d) (stored_in (view d)))
+        stored = subst (λ (p : ℕ). Comes most_of_store d k t3 t4 p (Stored (view d) (stored_in (view d)))) (ap return_of seen_d)
             (stores d k t3 t4 one_storing there value register)
 
         pub stands_stored : Stands k COPYN

@@ -5,6 +5,7 @@ use Rattle.sim_rows.specs.Prelude.{grom_at, GromState, GSTEP, IsFetched, Machine
 use Rattle.sim_rows.specs.Prelude.{next_in_grom, place_in, PortsAreIdle, SeesFinished, Stands, state_of, sum_of, To}
 use Rattle.sim_rows.specs.Prelude.{ToMemory, ToRegisters, unchanged, View, view, VISIBLE_CELLS, with_byte_to, Word}
 use Rattle.sim_copy.specs.Copying.{Copying}
+use Rattle.sim_rows.specs.sim_view.Bounds.{most_of_byte}
 
 -- At COPY: bytes are loaded and stored, and as many as are left may be.
 pub record AtCopy (x : MachineState) : Type 0 where
@@ -59,7 +60,7 @@ pub record Counted (v w : View) : Type 0 where
 
 -- A byte is copied.
 abbrev pub CopiesByte : MachineState → MachineState → ℕ → ℕ → Type 0
-CopiesByte x y before after = Comes 42 x y before after COPY (Counted (view x))
+CopiesByte x y before after = Comes most_of_byte x y before after COPY (Counted (view x))
 
 -- All bytes are copied, and none is left.
 pub record Copied (c : Changes) (w : View) : Type 0 where
@@ -70,7 +71,7 @@ pub record Copied (c : Changes) (w : View) : Type 0 where
 abbrev pub CopiesRest : MachineState → MachineState → ℕ → ℕ → Type 0
 CopiesRest x y before after =
     (c : Changes) → (from : From) → (to : To) → (bytes : ℕ) → Copying c from to bytes (view x)
-    → Comes (42 * bytes) x y before after COPY (Copied (copied bytes from to c))
+    → Comes (most_of_byte * bytes) x y before after COPY (Copied (copied bytes from to c))
 
 -- The step ends with what was copied.
 abbrev pub EndsCopy : MachineState → MachineState → ℕ → ℕ → Type 0

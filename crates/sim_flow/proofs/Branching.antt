@@ -9,6 +9,7 @@ use Rattle.sim_jumps.specs.Jumps.{TakesBranch}
 use Rattle.sim_compare.specs.Pieces as compare
 use Rattle.sim_flow.proofs.Numbers.{condition_out, on_is, target_is}
 use Rattle.sim_flow.specs.Pieces as pieces
+use Rattle.sim_rows.specs.interp_defs.Interpreter.{most_to_dispatch}
 
 -- the address behind the instruction, and the target
 abbrev behind : GplState → ℕ
@@ -139,7 +140,7 @@ module _ (s : GplState) {x a b : MachineState} {t t1 t2 : ℕ} (on : Bool) (is :
       comes_then 10 7 at_test e2 (tested_by s (view a) on (condition s) h bit holds) refl
 
   turns : (y : MachineState) (t3 most : ℕ) (c : Bool) → taken ≡ c → Comes most x y t t3 GSTEP (SeesFinished (changed_by s c)) → most ≤ 26 →
-      Turned s 29 x y t t3 Stepped
+      Turned s most_to_dispatch x y t t3 Stepped
   turns y t3 most c e run le =
       let same : changed s on ≡ changed_by s c = ap (changed_by s) e in
       let step_is = step_branch s on is ∙ ap (λ (c : Changes). Ok (finished c)) same in
@@ -147,7 +148,7 @@ module _ (s : GplState) {x a b : MachineState} {t t1 t2 : ℕ} (on : Bool) (is :
       turned_by x y t t3 29 Stepped s (Ok (finished (changed_by s c))) step_is
       (refl, reaches 29 (bound s) run (ap is_end stands.pc) refl (omega arith), matches (finished (changed_by s c)) y run.stands run.holds)
 
-  pub takes : (y : MachineState) (t3 : ℕ) → b.cpu.pc ≡ TAKE → TakesBranch b y t2 t3 → Turned s 29 x y t t3 Stepped
+  pub takes : (y : MachineState) (t3 : ℕ) → b.cpu.pc ≡ TAKE → TakesBranch b y t2 t3 → Turned s most_to_dispatch x y t t3 Stepped
   takes y t3 here goes =
       let is_true = taken_at taken b.cpu.pc tested.stands.pc here in
       let h = tested.holds in
@@ -155,7 +156,8 @@ module _ (s : GplState) {x a b : MachineState} {t t1 t2 : ℕ} (on : Bool) (is :
       record { cells = h.sees.cells; vdp = h.sees.vdp; registers = h.sees.registers; held = h.sees.held; grom = h.sees.grom } in
       turns y t3 26 true is_true (comes_on 17 9 tested (goes (record s { pc = target s }) (behind s) seen h.to) (goes_on taken)) (omega arith)
 
-  pub passes_on : (y : MachineState) (t3 : ℕ) → (b.cpu.pc ≡ TAKE → ⊥) → Exits b y t2 t3 (compare.clear_condition (view b)) → Turned s 29 x y t t3 Stepped
+  pub passes_on : (y : MachineState) (t3 : ℕ) → (b.cpu.pc ≡ TAKE → ⊥) → Exits b y t2 t3 (compare.clear_condition (view b))
+      → Turned s most_to_dispatch x y t t3 Stepped
   passes_on y t3 elsewhere e3 =
       let is_false = passed_at taken b.cpu.pc tested.stands.pc elsewhere in
       turns y t3 20 false is_false (comes_then 17 3 tested e3 (passes s (view b) tested.holds.sees) (goes_on taken)) (omega arith)

@@ -8,10 +8,11 @@ use Rattle.sim_rows.specs.gpl_step_defs.declared.reason.Reason.TheVariants.{Exit
 use Rattle.sim_jumps.specs.Jumps.{GoesOn}
 use Rattle.sim_rows.specs.sim_operands.Pieces as operands
 use Rattle.sim_flow.specs.Pieces as pieces
+use Rattle.sim_rows.specs.interp_defs.Interpreter.{most_to_dispatch}
 
 -- EXIT
 pub exits : (s : GplState) (x y : MachineState) (t u : ℕ) → Dispatched s (view x) → operation_in s ≡ Some (Plain EXIT) → Stands x GOEXIT →
-    Exits x y t u (pieces.leave (view x)) → Turned s 29 x y t u (Stopped Exit)
+    Exits x y t u (pieces.leave (view x)) → Turned s most_to_dispatch x y t u (Stopped Exit)
 exits s x y t u d e stands run =
     let is = step_plain s EXIT e in
     let h = d.sees in
@@ -56,7 +57,7 @@ module _ (s : GplState) (v : View) (d : Dispatched s v) where
     to : w.r.r6 ≡ target
 
   pub jumps : (x a b y : MachineState) (t t1 t2 t3 : ℕ) → view x ≡ v → operation_in s ≡ Some (Jump B) → Stands x GOB →
-      Exits x a t t1 (pieces.ask_target (view x)) → Exits a b t1 t2 (operands.stream (view a)) → GoesOn b y t2 t3 → Turned s 29 x y t t3 Stepped
+      Exits x a t t1 (pieces.ask_target (view x)) → Exits a b t1 t2 (operands.stream (view a)) → GoesOn b y t2 t3 → Turned s most_to_dispatch x y t t3 Stepped
   jumps x a b y t t1 t2 t3 is e stands e1 e2 goes =
       let c1 = comes e1 (from pieces.ask_target is (just (pieces.ask_target v) 2 STREAM (omega arith) refl)) in
       let at : Goes (exit 8 GOTO streamed) 8 GOTO AtTarget = record { within = omega arith; to_is = refl; holds = record { sees = seen; to = refl } } in

@@ -10,6 +10,7 @@ use Rattle.sim_rows.specs.sim_operands.Pieces as operands
 use Rattle.sim_rows.specs.Pieces as rows
 use Rattle.sim_flow.proofs.Numbers.{doubled_is, most_is, number_is, place_fits}
 use Rattle.sim_flow.specs.Pieces as pieces
+use Rattle.sim_rows.specs.sim_view.Bounds.{most_of_case_row}
 
 -- ---- where the two routines return to
 
@@ -98,6 +99,6 @@ module _ (s : GplState) (place : Place) (source : Source) (v : View) (e : operat
 
 pub runs : (x a b c d f y : MachineState) (t t1 t2 t3 t4 t5 t6 : ℕ) → Stands x CASEV → Exits x a t t1 (pieces.ask_table (view x)) →
     Exits a b t1 t2 (rows.where_next (view a)) → Exits b c t2 t3 (pieces.find_branch (view b)) → Exits c d t3 t4 (operands.seek (view c)) →
-    Exits d f t4 t5 (pieces.go_to_branch (view d)) → TakesBranch f y t5 t6 → RunsRow (One CASE) 34 x y t t6
+    Exits d f t4 t5 (pieces.go_to_branch (view d)) → TakesBranch f y t5 t6 → RunsRow (One CASE) most_of_case_row x y t t6
 runs x a b c d f y t t1 t2 t3 t4 t5 t6 stands e1 e2 e3 e4 e5 goes s place source e row is =
     selects s place source (view x) e row (is_view x stands.machine) x a b c d f y t t1 t2 t3 t4 t5 t6 refl e1 e2 e3 e4 e5 goes

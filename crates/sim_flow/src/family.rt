@@ -5,6 +5,7 @@ ghost use Rattle.sim_rows.specs.Prelude.{AtDispatch, B, Branch, CASE, Dispatched
 ghost use Rattle.sim_rows.specs.Prelude.{operation_seen, RunsRow, Stands, state_at_dispatch, Stepped, Turned, view};
 ghost use Rattle.sim_flow.specs.Family.{is_case, is_flow};
 ghost use Rattle.sim_rows.specs.native_interp.declared.addresses.TheConstants as address;
+ghost use Rattle.sim_rows.specs.sim_view.Bounds.{most_of_case_row};
 
 use crate::pieces::{
     ask_table, ask_target, find_branch, find_target, go_to_branch, leave, test_branch,
@@ -51,7 +52,7 @@ fn run_branch<L: Ledger>(machine: &mut Machine, steps: &mut Steps<L>, _on: bool)
 /// Runs CASE from its row to the end of the step.
 fn run_case<L: Ledger>(machine: &mut Machine, steps: &mut Steps<L>)
     requires { Stands machine.old address.CASEV }
-    ensures { RunsRow (One CASE) 34 machine.old machine.new steps.old steps.new }
+    ensures { RunsRow (One CASE) most_of_case_row machine.old machine.new steps.old steps.new }
 {
     ask_table(machine, steps);
     where_next(machine, steps);

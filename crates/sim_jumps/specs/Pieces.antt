@@ -1,7 +1,7 @@
 -- What the pieces of a jump come to: how many instructions they have, where they end, and what they change of the view,
 -- in the words of the processor. Registers, cells and ports that are not named stay.
 use Rattle.std.specs.Prelude.{slice_index, slice_set}
-use Rattle.sim_rows.specs.Prelude.{Byte, CONDITION_BIT, Exit, exit, GOTO, GSTEP, ones_cleared, SEEK, SHOW, STATUS}
+use Rattle.sim_rows.specs.Prelude.{Byte, CONDITION_BIT, Exit, exit, GOTO, GSTEP, join, ones_cleared, SEEK, SHOW, STATUS}
 use Rattle.sim_rows.specs.Prelude.{View}
 
 -- GOTO: GROM goes on at the address in register 6.
@@ -12,7 +12,7 @@ go_on v = exit 2 SEEK (record v { r = record v.r { r11 = GSTEP } })
 abbrev pub take_branch : View → Exit
 take_branch v =
     exit 3 GOTO (record v {
-      r = record v.r { r4 = 0x2000 };
+      r = record v.r { r4 = join CONDITION_BIT 0 };
       cells = slice_set v.cells STATUS (ones_cleared Byte (slice_index v.cells STATUS) CONDITION_BIT);
     })
 

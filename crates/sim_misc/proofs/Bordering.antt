@@ -5,6 +5,7 @@ use Rattle.sim_rows.proofs.Common.{MachineState, matches, next_in_grom, operatio
 use Rattle.sim_rows.proofs.Common.{unchanged, vdp_address_written, VdpState, View, view, with_register}
 use Rattle.sim_rows.specs.gpl_defs.declared.instruction.GplOperation.TheVariants.{Byte}
 use Rattle.sim_misc.specs.Pieces as pieces
+use Rattle.sim_rows.specs.interp_defs.Interpreter.{most_to_dispatch}
 
 abbrev next : GplState → GplState
 next s = finished (with_register 7 (slice_index s.image (behind_code s)) (unchanged (record s { pc = next_in_grom (behind_code s) })))
@@ -33,7 +34,7 @@ border_goes s v d =
     }
 
 pub borders : (s : GplState) (x y : MachineState) (t u : ℕ) → Dispatched s (view x) → operation_in s ≡ Some (Byte BACK) → Stands x GOBACK →
-    Exits x y t u (pieces.set_border (view x)) → Turned s 29 x y t u Stepped
+    Exits x y t u (pieces.set_border (view x)) → Turned s most_to_dispatch x y t u Stepped
 borders s x y t u d is stands set =
     let c = comes set (border_goes s (view x) d) in
     let step_is = step_byte s BACK is in

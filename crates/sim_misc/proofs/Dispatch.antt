@@ -8,6 +8,8 @@ use Rattle.sim_rows.proofs.Rowing.{source_visible}
 use Rattle.sim_misc.specs.Family.{is_exchange, is_misc}
 use Rattle.sim_misc.proofs.Exchanging.{source_place}
 use Rattle.sim_rows.proofs.Family as family
+use Rattle.sim_rows.specs.sim_view.Bounds.{most_of_exchange_row}
+use Rattle.sim_rows.specs.interp_defs.Interpreter.{most_to_dispatch}
 
 pub rows : (o : Option GplOperation) → is_exchange o ≡ true → is_row o ≡ true
 rows (Some (Two op)) e = refl
@@ -62,6 +64,6 @@ module _ {x y : MachineState} {t u : ℕ} {op : GplOperation} {told : Option Gpl
       visible_of from.0 (size_of (row_width s)) (view y).r.r5 (view y).r.r2 (view y).r.r3 loads.space loads.address b.comes.holds.holds.bytes_are
       (some_bytes (row_width s)) lies
 
-  pub turned : {z : MachineState} {v : ℕ} → RunsRow (Two EX) 70 y z u v → Turned s 29 x z t v Stepped
+  pub turned : {z : MachineState} {v : ℕ} → RunsRow (Two EX) most_of_exchange_row y z u v → Turned s most_to_dispatch x z t v Stepped
   turned {z = z} {v = v} r =
-      family.turned rows at is l 70 (omega arith) (subst (λ (o : GplOperation). RunsRow o 70 y z u v) (sym alone) r)
+      family.turned rows at is l 70 (omega arith) (subst (λ (o : GplOperation). RunsRow o most_of_exchange_row y z u v) (sym alone) r)

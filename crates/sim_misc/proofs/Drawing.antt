@@ -7,6 +7,7 @@ use Rattle.sim_rows.specs.gpl_defs.declared.instruction.GplOperation.TheVariants
 use Rattle.sim_rows.specs.gpl_step_defs.Place.{word_at}
 use Rattle.sim_misc.proofs.Numbers.{seed_is}
 use Rattle.sim_misc.specs.Pieces as pieces
+use Rattle.sim_rows.specs.interp_defs.Interpreter.{most_to_dispatch}
 
 -- the cells by the next seed and the limit
 abbrev drawn_cells : List ℕ → ℕ → ℕ → List ℕ
@@ -33,7 +34,7 @@ drawn_goes s v d =
     }
 
 pub draws : (s : GplState) (x a y : MachineState) (t u v : ℕ) → Dispatched s (view x) → operation_in s ≡ Some (Byte RAND) → Stands x GORAND →
-    Exits x a t u (pieces.draw_seed (view x)) → Exits a y u v (pieces.draw_number (view a)) → Turned s 29 x y t v Stepped
+    Exits x a t u (pieces.draw_seed (view x)) → Exits a y u v (pieces.draw_number (view a)) → Turned s most_to_dispatch x y t v Stepped
 draws s x a y t u v d is stands first second =
     let c1 = comes first (just (pieces.draw_seed (view x)) 9 RANDL (omega arith) refl) in
     let c2 = comes_then 9 8 c1 second (from pieces.draw_number c1.holds (drawn_goes s (view x) d)) refl in

@@ -10,6 +10,7 @@ use Rattle.sim_rows.proofs.Common.{row_changed, row_result, row_width, second_by
 use Rattle.sim_rows.proofs.Common.{STO, STORE, store_then, stored_idle, StoresResult, StoresValue, Storing, Two, two_above, unchanged, value_at, View, view}
 use Rattle.sim_rows.proofs.Common.{Width, width_again, width_in, with_value, Word, word_of}
 use Rattle.sim_misc.specs.Pieces as pieces
+use Rattle.sim_rows.specs.sim_view.Bounds.{most_of_store}
 
 -- ---- the source of EX has a place
 
@@ -137,8 +138,8 @@ module _ {x y z p : MachineState} {t u v w : ℕ} (e1 : Exits x y t u (pieces.ke
     first =
         let c1 : Comes 3 x y t u STORE (λ b. b ≡ (pieces.keep_destination (view x)).left) =
         comes e1 (record { within = omega arith; to_is = refl; holds = refl }) in
-        let c2 : Comes 16 y z u v EXB (ChangedFrom between (view y)) =
-        subst (λ (n : ℕ). Comes 16 y z u v n (ChangedFrom between (view y))) (ap return_of e1.shows)
+        let c2 : Comes most_of_store y z u v EXB (ChangedFrom between (view y)) =
+        subst (λ (n : ℕ). Comes most_of_store y z u v n (ChangedFrom between (view y))) (ap return_of e1.shows)
         (store_then before width place source.number y z u v storing_first stored) in
         comes_on 3 16 c1 c2 refl
 

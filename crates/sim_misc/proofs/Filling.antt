@@ -8,6 +8,7 @@ use Rattle.sim_rows.proofs.Common.{operation_in, past, pick, reaches, Sees, set_
 use Rattle.sim_rows.proofs.Common.{vdp_data_written, VdpState, View, view, with_immediate, Word}
 use Rattle.sim_rows.specs.gpl_defs.declared.instruction.GplOperation.TheVariants.{Byte}
 use Rattle.sim_misc.specs.Pieces as pieces
+use Rattle.sim_rows.specs.interp_defs.Interpreter.{most_to_dispatch}
 
 -- the byte, and a list whose first bytes are it
 abbrev pub byte_of : GplState → ℕ
@@ -145,7 +146,7 @@ all_seen s made w all h = record {
 }
 
 pub fills : (s : GplState) (x z : MachineState) (t u : ℕ) → Stands x GOALL → Dispatched s (view x) → operation_in s ≡ Some (Byte ALL) →
-    (made : ℕ) → made ≡ 768 → Filling s made x z t u → Turned s 29 x z t u Stepped
+    (made : ℕ) → made ≡ 768 → Filling s made x z t u → Turned s most_to_dispatch x z t u Stepped
 fills s x z t u stands d is made all h =
     let there : Stands z GSTEP = subst (λ (p : ℕ). Stands z p) (ap place all) h.stands in
     let c = h in

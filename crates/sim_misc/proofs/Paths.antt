@@ -4,6 +4,7 @@ use Rattle.sim_rows.proofs.Common.{difference_of, down, EXB, EXV, FILL, GOALL, G
 use Rattle.sim_rows.proofs.Common.{product_of, RANDL, Rest, SEED, STO, STORE, sum_of, swapped_high, View, Word, word_in}
 use Rattle.sim_misc.proofs.Numbers.{above_is, division_is, drawn_byte, less_fits, read_word, sum_fits}
 use Rattle.sim_misc.specs.Pieces as pieces
+use Rattle.sim_rows.specs.native_interp.declared.addresses.TheConstants.{RANDM}
 
 pub keep_destination : (v : View) → Leads (STORE ∷ []) v EXV (pieces.keep_destination v)
 keep_destination v = record { by = λ f q. refl }
@@ -15,12 +16,12 @@ turn_to_source v = record { by = λ f q. refl }
 abbrev with_seed : View → View
 with_seed v = record v { r = record v.r { r6 = word_in v.cells SEED } }
 
-seed_read : (v : View) → IsView v → Part (RANDL ∷ []) 3 v GORAND (with_seed v) 0x276C
+seed_read : (v : View) → IsView v → Part (RANDL ∷ []) 3 v GORAND (with_seed v) RANDM
 seed_read v i = record {
   by = λ f. rw (read_word (slice_index v.cells 0xC0) (slice_index v.cells 0xC1) (low v.r.r6) (i.cells 0xC1) (less_fits v.r.r6)) refl;
 }
 
-seed_made : (v : View) → Rest (RANDL ∷ []) 3 13 (with_seed v) 0x276C (pieces.draw_seed v)
+seed_made : (v : View) → Rest (RANDL ∷ []) 3 13 (with_seed v) RANDM (pieces.draw_seed v)
 seed_made v = record {
   by = λ f.
       let product = product_of 0x6FE5 (word_in v.cells SEED) in

@@ -13,6 +13,7 @@ use Rattle.sim_move.specs.Moves.{source_read, SourceTold, target_in, target_read
 use Rattle.sim_move.proofs.Codes.{has_index, told}
 use Rattle.sim_move.proofs.Arriving.{both, Found, found, missing}
 use Rattle.sim_move.proofs.Numbers.{within_is}
+use Rattle.sim_rows.specs.sim_view.Bounds.{most_of_address, most_to_copy}
 
 -- a MOVE is of some kind
 pub kind_of : (o : Option GplOperation) → is_move o ≡ true → (kind : MoveKind) × (o ≡ Some (Move kind))
@@ -47,7 +48,7 @@ module _ (s : GplState) (x a : MachineState) (t t1 : ℕ) (fits : code_byte s < 
   pub no_length : a.cpu.pc ≡ GSTOP → FindsCopy s x a t t1
   no_length here kind known =
       let m = missing 70 s x a t t1 MOVEL (LengthTold s (length_read s).1) (length_of s (length_read s).0) (λ e. absurd (omega arith)) here one in
-      let P : Result ℕ Reason → Type 0 = λ q. Arrives 190 s x a t t1 MOVEB (AtCopy kind s)
+      let P : Result ℕ Reason → Type 0 = λ q. Arrives most_to_copy s x a t t1 MOVEB (AtCopy kind s)
       (q >>= λ count. (target_in s count (target_read kind s).0 >>= λ found. (origin_of s found.0 (source_read kind s).0 >>= λ from. Ok (found, from)))) in
       subst P (sym m.is) (comes_as 190 _ m.comes (omega arith) (λ w q. q))
 
@@ -66,12 +67,13 @@ module _ (s : GplState) (x a : MachineState) (t t1 : ℕ) (fits : code_byte s < 
 
     -- what is found behind the length
     abbrev Behind : MoveKind → MachineState → ℕ → Result (ℕ × To) Reason → Type 0
-    Behind kind y u q = Arrives 190 s x y t u MOVEB (AtCopy kind s) (q >>= λ found. (origin_of s found.0 (source_read kind s).0 >>= λ from. Ok (found, from)))
+    Behind kind y u q =
+        Arrives most_to_copy s x y t u MOVEB (AtCopy kind s) (q >>= λ found. (origin_of s found.0 (source_read kind s).0 >>= λ from. Ok (found, from)))
 
     behind_length : (kind : MoveKind) (y : MachineState) (u : ℕ) → Behind kind y u (target_in s first.found (target_read kind s).0) →
-        Arrives 190 s x y t u MOVEB (AtCopy kind s) (copy_in kind s)
+        Arrives most_to_copy s x y t u MOVEB (AtCopy kind s) (copy_in kind s)
     behind_length kind y u h =
-        let P : Result ℕ Reason → Type 0 = λ q. Arrives 190 s x y t u MOVEB (AtCopy kind s)
+        let P : Result ℕ Reason → Type 0 = λ q. Arrives most_to_copy s x y t u MOVEB (AtCopy kind s)
         (q >>= λ count. (target_in s count (target_read kind s).0 >>= λ found. (origin_of s found.0 (source_read kind s).0 >>= λ from. Ok (found, from)))) in
         subst P (sym first.is) h
 
@@ -94,9 +96,9 @@ module _ (s : GplState) (x a : MachineState) (t t1 : ℕ) (fits : code_byte s < 
             record { found = f.found; is = f.is; comes = comes_on 70 57 first.comes f.comes refl }
 
         -- what is found behind the target
-        behind_target : (kind : MoveKind) (f : Second kind) (y : MachineState) (u : ℕ) → Arrives 190 s x y t u MOVEB (AtCopy kind s)
+        behind_target : (kind : MoveKind) (f : Second kind) (y : MachineState) (u : ℕ) → Arrives most_to_copy s x y t u MOVEB (AtCopy kind s)
             (origin_of s f.found.0 (source_read kind s).0 >>= λ from. Ok (f.found, from)) →
-            Arrives 190 s x y t u MOVEB (AtCopy kind s) (copy_in kind s)
+            Arrives most_to_copy s x y t u MOVEB (AtCopy kind s) (copy_in kind s)
         behind_target kind f y u h = behind_length kind y u (subst (Behind kind y u) (sym f.is) h)
 
         -- ---- a source in memory
@@ -172,11 +174,12 @@ module _ (s : GplState) (x a : MachineState) (t t1 : ℕ) (fits : code_byte s < 
             then_from (Ok place) = refl
             then_from (Err reason) = refl
 
-            by_place : (r : Result Place Reason) → Finds b y t2 t3 operand.1 r → Arrives 190 s x y t t3 MOVEB (AtCopy MemoryToMemory s) (r >>= from_place)
+            by_place : (r : Result Place Reason) → Finds b y t2 t3 operand.1 r
+                → Arrives most_to_copy s x y t t3 MOVEB (AtCopy MemoryToMemory s) (r >>= from_place)
             by_place (Ok place) g =
                 let to : return_of (view b) ≡ MOVEB = ap even f.comes.holds.link in
-                let g2 : Comes 45 b y t2 t3 MOVEB (Placed (view b) operand.1 place) =
-                subst (λ (p : ℕ). Comes 45 b y t2 t3 p (Placed (view b) operand.1 place)) to g in
+                let g2 : Comes most_of_address b y t2 t3 MOVEB (Placed (view b) operand.1 place) =
+                subst (λ (p : ℕ). Comes most_of_address b y t2 t3 p (Placed (view b) operand.1 place)) to g in
                 comes_as 190 (AtCopy MemoryToMemory s (f.found, FromMemory place)) (comes_on 127 45 f.comes g2 refl) (omega arith) (ready place)
             by_place (Err reason) g =
                 comes_as 190 (StoppedBy s reason) (comes_on 127 45 f.comes g refl) (omega arith)
@@ -184,8 +187,8 @@ module _ (s : GplState) (x a : MachineState) (t t1 : ℕ) (fits : code_byte s < 
 
             pub from_memory : FindsCopy s x y t t3
             from_memory kind known =
-                let Q : Result ((ℕ × To) × From) Reason → Type 0 = Arrives 190 s x y t t3 MOVEB (AtCopy MemoryToMemory s) in
-                let P : MoveKind → Type 0 = λ k. Arrives 190 s x y t t3 MOVEB (AtCopy k s) (copy_in k s) in
+                let Q : Result ((ℕ × To) × From) Reason → Type 0 = Arrives most_to_copy s x y t t3 MOVEB (AtCopy MemoryToMemory s) in
+                let P : MoveKind → Type 0 = λ k. Arrives most_to_copy s x y t t3 MOVEB (AtCopy k s) (copy_in k s) in
                 subst P (sym (only kind known))
                 (behind_target MemoryToMemory f y t3 (subst Q (sym (then_from (place_of s f.found.0 operand.0)))
                 (by_place (place_of s f.found.0 operand.0) finds)))
@@ -247,11 +250,11 @@ module _ (s : GplState) (x a : MachineState) (t t1 : ℕ) (fits : code_byte s < 
                 (sym (bit_is kind known))
 
             whole : (kind : MoveKind) (known : operation_in s ≡ Some (Move kind)) (y : MachineState) (u : ℕ) →
-                Arrives 190 s x y t u MOVEB (AtCopy kind s) (indexed s (index kind).0 (address kind).0 >>= from_address (second kind known).found) →
-                Arrives 190 s x y t u MOVEB (AtCopy kind s) (copy_in kind s)
+                Arrives most_to_copy s x y t u MOVEB (AtCopy kind s) (indexed s (index kind).0 (address kind).0 >>= from_address (second kind known).found) →
+                Arrives most_to_copy s x y t u MOVEB (AtCopy kind s) (copy_in kind s)
             whole kind known y u h =
                 let f = second kind known in
-                let Q : Result ((ℕ × To) × From) Reason → Type 0 = Arrives 190 s x y t u MOVEB (AtCopy kind s) in
+                let Q : Result ((ℕ × To) × From) Reason → Type 0 = Arrives most_to_copy s x y t u MOVEB (AtCopy kind s) in
                 behind_target kind f y u (subst Q (sym (origin_is kind known f.found)) h)
 
             -- its address with the index, or a stop
@@ -271,7 +274,7 @@ module _ (s : GplState) (x a : MachineState) (t t1 : ℕ) (fits : code_byte s < 
             no_source there kind known =
                 let m = missing 39 s b c t2 t3 MOVEX (SourceTold (view b) s.image (index kind).1) (indexed s (index kind).0 (address kind).0)
                 (λ e. absurd (omega arith)) there (indexed_at kind known) in
-                let P : Result ℕ Reason → Type 0 = λ q. Arrives 190 s x c t t3 MOVEB (AtCopy kind s) (q >>= from_address (second kind known).found) in
+                let P : Result ℕ Reason → Type 0 = λ q. Arrives most_to_copy s x c t t3 MOVEB (AtCopy kind s) (q >>= from_address (second kind known).found) in
                 whole kind known c t3 (subst P (sym m.is) (comes_as 190 _ (comes_on 127 39 (to_source kind known) m.comes refl) (omega arith) (λ w q. q)))
 
             module _ (on : c.cpu.pc ≡ GSTOP → ⊥) where
@@ -294,7 +297,7 @@ module _ (s : GplState) (x a : MachineState) (t t1 : ℕ) (fits : code_byte s < 
                   next_fits (index kind).1 (subst (λ (g : GromState). g.counter < 65536) grom (is_view c g.comes.stands.machine).grom.counter) in
                   let turned = turns s.image (index kind).1 small grom in
                   let r2 : (view c).r.r2 ≡ g.found = ap (λ (u : View). u.r.r2) at in
-                  let P : Result ℕ Reason → Type 0 = λ q. Arrives 190 s x y t t4 MOVEB (AtCopy kind s) (q >>= from_address f.found) in
+                  let P : Result ℕ Reason → Type 0 = λ q. Arrives most_to_copy s x y t t4 MOVEB (AtCopy kind s) (q >>= from_address f.found) in
                   whole kind known y t4 (subst P (sym g.is)
                   (comes_as 190 (AtCopy kind s (f.found, FromGrom g.found)) (comes_on 166 22 (comes_on 127 39 (to_source kind known) g.comes refl) turned
                   refl) (omega arith)

@@ -10,6 +10,7 @@ use Rattle.sim_move.proofs.Arriving.{Found, found, Missing, missing}
 use Rattle.sim_move.proofs.Copies.{kind_of}
 use Rattle.sim_move.proofs.Lies.{FromLies, registers_there, source_lies, source_visible, target_lies, target_visible, ToLies}
 use Rattle.sim_move.proofs.Moving.{bound_is, made, no_exit, parts, step_copies, step_stops}
+use Rattle.sim_rows.specs.interp_defs.Interpreter.{most_to_dispatch}
 
 -- where GROM stands before the first byte
 abbrev place_in_grom : Changes → From → ℕ
@@ -43,12 +44,12 @@ module _ (s : GplState) (x a : MachineState) (t t1 : ℕ) (stands : Stands x GOM
       pub workspace : a.cpu.wp ≡ WORKSPACE
       workspace = m.comes.stands.wp
 
-      pub stopped : (told : Reason) → ((reason : Reason) → (view a).r.r0 ≡ number_of reason → told ≡ reason) → Turned s 29 x a t t1 (Stopped told)
+      pub stopped : (told : Reason) → ((reason : Reason) → (view a).r.r0 ≡ number_of reason → told ≡ reason) → Turned s most_to_dispatch x a t t1 (Stopped told)
       stopped told is =
           let e = step_stops s kind known m.reason m.is in
           let b = bound_stop s m.reason e in
           let same : told ≡ m.reason = is m.reason m.comes.holds.reason_is in
-          let P : Reason → Type 0 = λ r. Turned s 29 x a t t1 (Stopped r) in
+          let P : Reason → Type 0 = λ r. Turned s most_to_dispatch x a t t1 (Stopped r) in
           subst P (sym same)
           (turned_by x a t t1 29 (Stopped m.reason) s (Err m.reason) e
           (refl, reaches 29 (bound s) m.comes start refl (omega arith), stops s m.reason a (no_exit s kind m.reason m.is) m.comes.stands m.comes.holds))
@@ -82,7 +83,7 @@ module _ (s : GplState) (x a : MachineState) (t t1 : ℕ) (stands : Stands x GOM
       pub registers_copy : 1 < (view a).r.r8 → (view a).r.r7 + (view a).r.r12 ≤ 8
       registers_copy = let h = g.comes.holds in registers_there g.found.0.0 g.found.0.1 (view a) h.stands_to h.left to_lies
 
-      pub turned : (y : MachineState) (t2 : ℕ) → CopiesBytes a y t1 t2 → Turned s 29 x y t t2 Stepped
+      pub turned : (y : MachineState) (t2 : ℕ) → CopiesBytes a y t1 t2 → Turned s most_to_dispatch x y t t2 Stepped
       turned y t2 copies =
           let bytes = g.found.0.0 in
           let next = finished (made s kind g.found) in

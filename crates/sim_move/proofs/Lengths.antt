@@ -10,6 +10,7 @@ use Rattle.sim_move.specs.Moves.{Arrives, AtPlace, FindsLength, Follows, LengthT
 use Rattle.sim_move.proofs.Numbers.{odd_bit}
 use Rattle.sim_move.proofs.Ways.{first_way, second_way}
 use Rattle.sim_move.specs.Pieces as pieces
+use Rattle.sim_rows.specs.sim_view.Bounds.{most_of_load}
 
 -- what is found, by whether the length is in the bytes that follow
 abbrev FindsBy : GplState → MachineState → MachineState → ℕ → ℕ → Bool → Type 0
@@ -108,7 +109,7 @@ module _ {y z : MachineState} {u w : ℕ} (e : Exits y z u w (pieces.load_length
         let v : View = view z in
         let number = value_at (state_of v) (width_in v.r.r3) (place_in v.r.r5 v.r.r2) in
         let to : return_of v ≡ MOVEL = ap even h.link in
-        let l2 : Comes 17 z q w k MOVEL (Loaded v number) = subst (λ (p : ℕ). Comes 17 z q w k p (Loaded v number)) to l in
+        let l2 : Comes most_of_load z q w k MOVEL (Loaded v number) = subst (λ (p : ℕ). Comes most_of_load z q w k p (Loaded v number)) to l in
         let number_is : number ≡ value_at s Word place =
         ap (λ (n : ℕ). value_at (state_of v) (width_in n) (place_in v.r.r5 v.r.r2)) h.holds.bytes_are
         ∙ ap (λ (n : ℕ). value_at (state_of v) Word (place_in n v.r.r2)) h.from.space

@@ -4,6 +4,7 @@ use Rattle.sim_rows.proofs.Common.{ADDR, GOMOVE, INDEX, IsView, last_out, Leads,
 use Rattle.sim_rows.proofs.Common.{MOVEX, not_above, not_limit, Part, part_then, past, pick, Rest, SEEK, SRL, STREAM, sum_of, View, WHERE, Word}
 use Rattle.sim_move.proofs.Numbers.{below_or_equal, byte_down}
 use Rattle.sim_move.specs.Pieces as pieces
+use Rattle.sim_rows.specs.native_interp.declared.addresses.TheConstants.{MOVERC}
 
 pub ask_length : (v : View) → Leads (ADDR ∷ MOVEN ∷ []) v GOMOVE (pieces.ask_length v)
 ask_length v = record {
@@ -38,10 +39,10 @@ keep_target v = record {
 abbrev with_number : View → View
 with_number v = record v { r = record v.r { r7 = v.grom.fetched }; grom = past v.grom }
 
-number_read : (v : View) → IsView v → Part (MOVES ∷ []) 3 v MOVER (with_number v) 0x2800
+number_read : (v : View) → IsView v → Part (MOVES ∷ []) 3 v MOVER (with_number v) MOVERC
 number_read v i = record { by = λ f. rw (byte_down v.grom.fetched i.grom.fetched) refl }
 
-registers_counted : (v : View) → Rest (MOVES ∷ []) 3 13 (with_number v) 0x2800 (pieces.count_registers v)
+registers_counted : (v : View) → Rest (MOVES ∷ []) 3 13 (with_number v) MOVERC (pieces.count_registers v)
 registers_counted v = record {
   by = λ f.
       pick (nat_lt 8 (sum_of Word v.grom.fetched v.r.r6))

@@ -13,6 +13,7 @@ use Rattle.sim_move.specs.Moves.{Arrives, FindsTarget, length_read, LengthTold, 
 use Rattle.sim_move.proofs.Codes.{is_low, to_memory, told}
 use Rattle.sim_move.proofs.Ways.{first_way, second_way}
 use Rattle.sim_move.specs.Pieces as pieces
+use Rattle.sim_rows.specs.sim_view.Bounds.{most_of_address}
 
 fetched_again : (m n : Memory) → (view_of n).grom ≡ (view_of m).grom → IsFetched m.grom → IsFetched n.grom
 unfolding view_of
@@ -274,8 +275,8 @@ module _ {x a : MachineState} {t t1 : ℕ} (stands : Stands x MOVEL) (e : Exits 
             placed s count place h g =
                 let c = asks s count h in
                 let to : return_of (view a) ≡ MOVED = ap even c.holds.0.link in
-                let g2 : Comes 45 a b t1 t2 MOVED (Placed (view a) (operand s).1 place) =
-                subst (λ (p : ℕ). Comes 45 a b t1 t2 p (Placed (view a) (operand s).1 place)) to g in
+                let g2 : Comes most_of_address a b t1 t2 MOVED (Placed (view a) (operand s).1 place) =
+                subst (λ (p : ℕ). Comes most_of_address a b t1 t2 p (Placed (view a) (operand s).1 place)) to g in
                 comes_as 52 (Placed_at s count place) (comes_on 7 45 c g2 refl) (omega arith)
                 (λ w k. record {
                   holds = holds_addressed s count (length_read s).1 (operand s).1 (view a) w c.holds.0.holds k;

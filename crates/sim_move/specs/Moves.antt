@@ -7,6 +7,7 @@ use Rattle.sim_rows.specs.Prelude.{MoveSource, MoveTarget, MOVEX, operation_in, 
 use Rattle.sim_rows.specs.Prelude.{target_at, target_of, To, unchanged, value_at, View, view, within_limit, Word}
 use Rattle.sim_rows.specs.Prelude.{word_at}
 use Rattle.sim_copy.specs.Copying.{Copying, StandsTo}
+use Rattle.sim_rows.specs.sim_view.Bounds.{most_to_copy}
 
 -- What the bytes behind the code byte say, each part with the address behind it.
 abbrev pub length_read : GplState → MoveLength × ℕ
@@ -133,4 +134,4 @@ AtCopy kind s found w = Copying (begun kind s) found.1 found.0.1 found.0.0 w
 abbrev pub FindsCopy : GplState → MachineState → MachineState → ℕ → ℕ → Type 0
 FindsCopy s x y before after =
     (kind : MoveKind) → operation_in s ≡ Some (Move kind)
-    → Arrives 190 s x y before after MOVEB (AtCopy kind s) (copy_in kind s)
+    → Arrives most_to_copy s x y before after MOVEB (AtCopy kind s) (copy_in kind s)

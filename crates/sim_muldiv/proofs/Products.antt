@@ -9,6 +9,7 @@ use Rattle.sim_muldiv.specs.Family.{is_muldiv, IsReady}
 use Rattle.sim_muldiv.proofs.Numbers.{byte_product, high_of}
 use Rattle.sim_muldiv.proofs.Turning.{as_byte, as_word, byte_fits_at, exits_by, first_visible, loaded_is, second_visible, width_there, word_visible}
 use Rattle.sim_muldiv.specs.Pieces as pieces
+use Rattle.sim_rows.specs.sim_view.Bounds.{most_of_product_row, most_of_store}
 
 is_mul : (s : GplState) → operation_in s ≡ Some (Two MUL) → is_muldiv (operation_in s) ≡ true
 is_mul s e = ap is_muldiv e
@@ -54,7 +55,7 @@ module _ {x a : MachineState} {t u : ℕ} (ready : IsReady x) (byte : width_in (
             ∙ ap (λ (n : ℕ). n * source.number) more;
       }
 
-  pub byte_runs : (y : MachineState) (w : ℕ) → StoresResult a y u w → RunsRow (Two MUL) 70 x y t w
+  pub byte_runs : (y : MachineState) (w : ℕ) → StoresResult a y u w → RunsRow (Two MUL) most_of_product_row x y t w
   byte_runs y w finish s place source is row operands =
       let width : row_width s ≡ Byte = sym (width_there s place source v row) ∙ byte in
       let c = unchanged (gone_on s) in
@@ -122,7 +123,7 @@ module _ {x a : MachineState} {t u : ℕ} (ready : IsReady x) (word : width_in (
           subst (λ (w : View). IsVisible w.r.r8 w.r.r7 w.r.r3) (sym second.shows)
           (rw (kept_8, kept_7, kept_3) (second_visible p.r.r8 p.r.r7 p.r.r3 word ready.visible))
 
-      pub word_runs : (y : MachineState) (w : ℕ) → StoresResult d y u3 w → RunsRow (Two MUL) 70 x y t w
+      pub word_runs : (y : MachineState) (w : ℕ) → StoresResult d y u3 w → RunsRow (Two MUL) most_of_product_row x y t w
       word_runs y w finish s place source is row operands =
           let width : row_width s ≡ Word = sym (width_there s place source p row) ∙ word in
           let c = unchanged (gone_on s) in
@@ -142,7 +143,8 @@ module _ {x a : MachineState} {t u : ℕ} (ready : IsReady x) (word : width_in (
           let there = subst (λ (q : View). Storing c Word place (number / 65536) q) (sym c1.holds) at_store in
           let half = with_value Word place (number / 65536) c in
           let s1 = store_then c Word place (number / 65536) a b u u2 there stored in
-          let s2 : Comes 16 a b u u2 MULB (ChangedFrom half (view a)) = subst (λ (q : ℕ). Comes 16 a b u u2 q (ChangedFrom half (view a))) back_is s1 in
+          let s2 : Comes most_of_store a b u u2 MULB (ChangedFrom half (view a)) =
+              subst (λ (q : ℕ). Comes most_of_store a b u u2 q (ChangedFrom half (view a))) back_is s1 in
           let c2 = comes_on 4 16 c1 s2 refl in
           let m = view b in
           let ten : m.r.r10 ≡ number % 65536 = c2.holds.keeps.r10 ∙ ap (λ (q : View). q.r.r10) asked.shows ∙ ap (λ (n : ℕ). n % 65536) product in

@@ -14,6 +14,7 @@ use Rattle.sim_muldiv.proofs.Numbers.{byte_divides, byte_fits, divisor_down, hig
 use Rattle.sim_muldiv.proofs.Numbers.{word_divides}
 use Rattle.sim_muldiv.proofs.Turning.{loaded_is, ready_again, second_visible, width_if, width_there, word_fits_at, word_visible}
 use Rattle.sim_muldiv.specs.Pieces as pieces
+use Rattle.sim_rows.specs.sim_view.Bounds.{most_of_load, most_of_quotient_row, most_of_store}
 
 is_div : (s : GplState) → operation_in s ≡ Some (Two DIV) → is_muldiv (operation_in s) ≡ true
 is_div s e = ap is_muldiv e
@@ -62,7 +63,8 @@ module _ {x a : MachineState} {t u : ℕ} (idle : PortsAreIdle x.cpu.memory) (sp
           refl refl refl refl refl refl refl) in
           let done = with_value width place number c in
           let s1 = store_then c width place number a b u u2 there stored in
-          let s2 : Comes 16 a b u u2 DIVE (ChangedFrom done (view a)) = subst (λ (q : ℕ). Comes 16 a b u u2 q (ChangedFrom done (view a))) last_back s1 in
+          let s2 : Comes most_of_store a b u u2 DIVE (ChangedFrom done (view a)) =
+              subst (λ (q : ℕ). Comes most_of_store a b u u2 q (ChangedFrom done (view a))) last_back s1 in
           let c2 = comes_on 1 16 c1 s2 refl in
           let c3 : Comes 20 x d t u3 SHOW (Changed (with_overflow false done)) = comes_then 17 3 c2 second
           (record { within = omega arith; to_is = refl; holds = cleared done (view b) c2.holds.changed }) refl in
@@ -161,11 +163,11 @@ module _ {x a : MachineState} {t u : ℕ} (ready : IsReady x) (word : width_in (
     abbrev value_of : View → Width → ℕ
     value_of w k = value_at (state_of w) k (place_in w.r.r5 w.r.r2)
 
-    loaded_there : Comes 17 a b u u2 DIVL (Loaded asking (second_in p))
+    loaded_there : Comes most_of_load a b u u2 DIVL (Loaded asking (second_in p))
     loaded_there =
-        let l1 : Comes 17 a b u u2 (return_of asking) (Loaded asking (value_of asking (width_in asking.r.r3))) =
-        subst (λ (w : View). Comes 17 a b u u2 (return_of w) (Loaded w (value_of w (width_in w.r.r3)))) first.shows loaded in
-        subst (λ (k : Width). Comes 17 a b u u2 DIVL (Loaded asking (value_of asking k))) word l1
+        let l1 : Comes most_of_load a b u u2 (return_of asking) (Loaded asking (value_of asking (width_in asking.r.r3))) =
+        subst (λ (w : View). Comes most_of_load a b u u2 (return_of w) (Loaded w (value_of w (width_in w.r.r3)))) first.shows loaded in
+        subst (λ (k : Width). Comes most_of_load a b u u2 DIVL (Loaded asking (value_of asking k))) word l1
 
     pub divides_there : (y : MachineState) (u3 : ℕ) → Exits b y u2 u3 (pieces.divide_words (view b)) → Comes 25 x y t u3 STORE (Divided p)
     divides_there y u3 second =
@@ -218,7 +220,7 @@ module _ {x b : MachineState} {t u : ℕ} (idle : PortsAreIdle x.cpu.memory) (sp
     ends_quotient y w ends c place quotient h =
         let half = with_value Word place quotient c in
         let s1 = store_then c Word place quotient x b t u h stored in
-        let c1 : Comes 16 x b t u DIVQ (ChangedFrom half o) = subst (λ (q : ℕ). Comes 16 x b t u q (ChangedFrom half o)) link s1 in
+        let c1 : Comes most_of_store x b t u DIVQ (ChangedFrom half o) = subst (λ (q : ℕ). Comes most_of_store x b t u q (ChangedFrom half o)) link s1 in
         let m = view b in
         let k = c1.holds.keeps in
         let at_rest : Storing half Word (behind 2 place) o.r.r10 (pieces.take_remainder m).left = record {
@@ -409,7 +411,7 @@ module _ {x a : MachineState} {t u : ℕ} (ready : IsReady x) (stands : Stands x
     holds = rw none (record { cells = ap (status_set (λ k. ones_set k 0x08)) h.cells; vdp = h.vdp; registers = h.registers; held = h.held; grom = h.grom });
   }
 
-  pub over_runs : to ≡ OVER → (y : MachineState) (w : ℕ) → Exits a y u w (pieces.set_overflow (view a)) → RunsRow (Two DIV) 96 x y t w
+  pub over_runs : to ≡ OVER → (y : MachineState) (w : ℕ) → Exits a y u w (pieces.set_overflow (view a)) → RunsRow (Two DIV) most_of_quotient_row x y t w
   over_runs e y w second s place source is row operands =
       let has = sym (fits_is s place source is row) ∙ over_is fits byte z e in
       let c = unchanged (gone_on s) in
@@ -417,16 +419,17 @@ module _ {x a : MachineState} {t u : ℕ} (ready : IsReady x) (stands : Stands x
       let done = comes_then 4 3 (came OVER e) second (overflows c (view a) there refl) refl in
       ends_as s place source y w false has (comes_as 96 (SeesFinished (with_overflow true c)) done (omega arith) (λ q h. h))
 
-  quotient_runs : fits ≡ true → (p : ℕ) → to ≡ p → is_end p ≡ false → (y : MachineState) (w : ℕ) → Divides a y u w → RunsRow (Two DIV) 96 x y t w
+  quotient_runs : fits ≡ true → (p : ℕ) → to ≡ p → is_end p ≡ false → (y : MachineState) (w : ℕ) → Divides a y u w
+      → RunsRow (Two DIV) most_of_quotient_row x y t w
   quotient_runs below p e goes y w divides s place source is row operands =
       let has = sym (fits_is s place source is row) ∙ below in
       let there = subst (λ (q : View). AtRow s place source q) (sym same) row in
       ends_as s place source y w true has (comes_on 4 92 (came p e) (divides s place source is there operands has) goes)
 
-  pub byte_quotient_runs : to ≡ DIVBY → (y : MachineState) (w : ℕ) → Divides a y u w → RunsRow (Two DIV) 96 x y t w
+  pub byte_quotient_runs : to ≡ DIVBY → (y : MachineState) (w : ℕ) → Divides a y u w → RunsRow (Two DIV) most_of_quotient_row x y t w
   byte_quotient_runs e = quotient_runs (byte_is fits byte z e).0 DIVBY e refl
 
-  pub word_quotient_runs : (to ≡ OVER → ⊥) → (to ≡ DIVBY → ⊥) → (y : MachineState) (w : ℕ) → Divides a y u w → RunsRow (Two DIV) 96 x y t w
+  pub word_quotient_runs : (to ≡ OVER → ⊥) → (to ≡ DIVBY → ⊥) → (y : MachineState) (w : ℕ) → Divides a y u w → RunsRow (Two DIV) most_of_quotient_row x y t w
   word_quotient_runs e f =
       let b = word_is fits byte z e f in
       quotient_runs b.0 DIVW (ap (λ (k : Bool). way k byte z) b.0 ∙ ap (λ (k : Bool). way true k z) b.1) refl

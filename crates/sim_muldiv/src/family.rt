@@ -4,6 +4,7 @@ ghost use Rattle.std.specs.Prelude.{◌≡◌, Some, true};
 ghost use Rattle.sim_rows.specs.Prelude.{AtDispatch, AtEntry, most_to_dispatch, row_entry, RunsRow, Stands};
 ghost use Rattle.sim_rows.specs.Prelude.{state_at_dispatch, Turned, Two, view};
 ghost use Rattle.sim_muldiv.specs.Family.{is_muldiv, IsReady};
+ghost use Rattle.sim_rows.specs.sim_view.Bounds.{most_of_quotient_row};
 
 use crate::product::run_product;
 use crate::quotient::run_quotient;
@@ -17,7 +18,7 @@ fn run_row_of_two<L: Ledger>(machine: &mut Machine, steps: &mut Steps<L>, name: 
     requires stands { Stands machine.old (row_entry (Some (Two name))) }
     requires family { is_muldiv (Some (Two name)) ≡ true }
     requires ready { IsReady machine.old }
-    ensures { RunsRow (Two name) 96 machine.old machine.new steps.old steps.new }
+    ensures { RunsRow (Two name) most_of_quotient_row machine.old machine.new steps.old steps.new }
 {
     match name {
         TwoName::MUL => run_product(machine, steps),
@@ -30,7 +31,7 @@ fn run_row_of_two<L: Ledger>(machine: &mut Machine, steps: &mut Steps<L>, name: 
 fn run_row<L: Ledger>(machine: &mut Machine, steps: &mut Steps<L>, operation: GplOperation)
     requires entry { AtEntry is_muldiv operation machine.old }
     requires ready { IsReady machine.old }
-    ensures { RunsRow operation 96 machine.old machine.new steps.old steps.new }
+    ensures { RunsRow operation most_of_quotient_row machine.old machine.new steps.old steps.new }
 {
     match operation {
         GplOperation::Two(name) => run_row_of_two(machine, steps, name),

@@ -1,10 +1,11 @@
-//! DIV.
+//! DIV: the quotient and the remainder of numbers without sign.
 
 ghost use Rattle.std.specs.Prelude.{◌<◌, ◌≡◌, ◌≤◌};
 ghost use Rattle.sim_rows.specs.Prelude.{Byte, Comes, DIV, IsVisible, PortsAreIdle, return_of, RunsRow, Stands, Two};
 ghost use Rattle.sim_rows.specs.Prelude.{view, width_in, Word};
 ghost use Rattle.sim_muldiv.specs.Family.{AreVisible, Divided, Divides, EndsDivision, EndsQuotient, IsReady};
 ghost use Rattle.sim_rows.specs.native_interp.declared.addresses.TheConstants as address;
+ghost use Rattle.sim_rows.specs.sim_view.Bounds.{most_of_quotient_row};
 
 use crate::pieces::{
     clear_overflow, compare_divisor, divide_bytes, divide_words, load_low_word, set_overflow,
@@ -86,7 +87,7 @@ fn run_word_quotient<L: Ledger>(machine: &mut Machine, steps: &mut Steps<L>)
 pub fn run_quotient<L: Ledger>(machine: &mut Machine, steps: &mut Steps<L>)
     requires stands { Stands machine.old address.DIVV }
     requires ready { IsReady machine.old }
-    ensures { RunsRow (Two DIV) 96 machine.old machine.new steps.old steps.new }
+    ensures { RunsRow (Two DIV) most_of_quotient_row machine.old machine.new steps.old steps.new }
 {
     compare_divisor(machine, steps);
     if machine.pc() == OVER {

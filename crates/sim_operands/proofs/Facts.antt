@@ -4,6 +4,7 @@ use Rattle.std.proofs.Common.{refl, sym, true}
 use Rattle.std.proofs.lemmas.Bool.{eq-eqb, le-leb, le-ltb, lt-leb, lt-ltb, ltb-false, ltb-true, ne_eqb}
 use Rattle.sim_view.proofs.Common.{Byte, Cell, even, high, join, low, plus, shifted, size_of, spot, Spot, SRL, swapped, Width, Word, WORKSPACE}
 use Rattle.sim_operands.specs.Values.{IsVisible, width_in}
+use Rattle.sim_view.specs.native_interp.declared.addresses.TheConstants.{BEHIND, ORIGIN}
 
 -- a byte that comes down
 pub down : (byte less : ℕ) → byte < 256 → less < 256 → shifted SRL (join byte less) 8 ≡ byte
@@ -14,8 +15,8 @@ pub spot_cell : (address offset : ℕ) → address ≡ 0x8300 + offset → offse
 spot_cell address offset e h =
     rw (
       lt-leb WORKSPACE address (omega arith),
-      le-leb 0x2000 address (omega arith),
-      le-ltb address 0x287E (omega arith),
+      le-leb ORIGIN address (omega arith),
+      le-ltb address BEHIND (omega arith),
       le-leb 0x8300 address
           (omega arith),
       lt-ltb address 0x83C2 (omega arith),

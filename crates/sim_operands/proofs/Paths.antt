@@ -10,6 +10,7 @@ use Rattle.sim_operands.proofs.Facts.{at_most, down, first_fits, no_other, not_l
 use Rattle.sim_operands.proofs.Facts.{word_down, word_up}
 use Rattle.sim_operands.specs.Values.{IsVisible}
 use Rattle.sim_operands.specs.Pieces as pieces
+use Rattle.sim_view.specs.native_interp.declared.addresses.TheConstants.{AHIGH, ALONG, ALOW, INDEXR, INDEXW, LVSET, SCELL, SVSET}
 
 pub fetch : (v : View) → Leads [] v FETCH (pieces.fetch v)
 fetch v = record { by = λ f q. refl }
@@ -46,19 +47,19 @@ with_first v = record v { r = record v.r { r2 = shifted SLA (first_of v) 1; r5 =
 abbrev with_base : View → View
 with_base v = record v { r = record v.r { r2 = base_of v; r5 = first_of v }; grom = past v.grom }
 
-address_long : (v : View) → last_out SLA (first_of v) 1 ≡ true → Part (APTR ∷ []) 5 v ADDR (with_first v) 0x22FE
+address_long : (v : View) → last_out SLA (first_of v) 1 ≡ true → Part (APTR ∷ []) 5 v ADDR (with_first v) ALONG
 address_long v c = record { by = λ f. rw c refl }
 
-address_twelve : (v : View) → (base_of v == 0x0F00) ≡ false → Part (APTR ∷ []) 4 (with_first v) 0x22FE (with_base v) 0x230C
+address_twelve : (v : View) → (base_of v == 0x0F00) ≡ false → Part (APTR ∷ []) 4 (with_first v) ALONG (with_base v) ALOW
 address_twelve v d = record { by = λ f. rw d refl }
 
-address_sixteen : (v : View) → (base_of v == 0x0F00) ≡ true → Part (APTR ∷ []) 4 (with_first v) 0x22FE (with_base v) 0x2308
+address_sixteen : (v : View) → (base_of v == 0x0F00) ≡ true → Part (APTR ∷ []) 4 (with_first v) ALONG (with_base v) AHIGH
 address_sixteen v d = record { by = λ f. rw d refl }
 
-twelve_low : (v : View) → IsView v → Rest (APTR ∷ []) 9 7 (with_base v) 0x230C (pieces.twelve_bit_address (first_of v) (base_of v) v)
+twelve_low : (v : View) → IsView v → Rest (APTR ∷ []) 9 7 (with_base v) ALOW (pieces.twelve_bit_address (first_of v) (base_of v) v)
 twelve_low v i = record { by = λ f. rw (down (past v.grom).fetched (low v.r.r4) (i.grom.image.fits v.grom.counter) (omega arith)) refl }
 
-sixteen_low : (v : View) → IsView v → Rest (APTR ∷ []) 9 7 (with_base v) 0x2308 (pieces.sixteen_bit_address (first_of v) (base_of v) v)
+sixteen_low : (v : View) → IsView v → Rest (APTR ∷ []) 9 7 (with_base v) AHIGH (pieces.sixteen_bit_address (first_of v) (base_of v) v)
 sixteen_low v i = record { by = λ f. rw (down (past (past v.grom)).fetched (low v.r.r4) (i.grom.image.fits (past v.grom).counter) (omega arith)) refl }
 
 address_short : (v : View) → last_out SLA (first_of v) 1 ≡ false → Rest (APTR ∷ []) 0 16 v ADDR (pieces.one_byte_address (first_of v) v)
@@ -105,16 +106,16 @@ with_form v = record v { r = record v.r { r4 = shifted SRL v.r.r5 2 } }
 abbrev with_offset : View → View
 with_offset v = record v { r = record v.r { r4 = v.grom.fetched }; grom = past v.grom }
 
-index_some : (v : View) → last_out SRL v.r.r5 2 ≡ true → Part (ASPACE ∷ []) 3 v INDEX (with_form v) 0x2336
+index_some : (v : View) → last_out SRL v.r.r5 2 ≡ true → Part (ASPACE ∷ []) 3 v INDEX (with_form v) INDEXR
 index_some v c = record { by = λ f. rw c refl }
 
-index_near : (v : View) → IsView v → nat_lt 0xC0 v.grom.fetched ≡ false → Part (ASPACE ∷ []) 4 (with_form v) 0x2336 (with_offset v) 0x2342
+index_near : (v : View) → IsView v → nat_lt 0xC0 v.grom.fetched ≡ false → Part (ASPACE ∷ []) 4 (with_form v) INDEXR (with_offset v) INDEXW
 index_near v i d = record { by = λ f. rw (down v.grom.fetched (low (shifted SRL v.r.r5 2)) i.grom.fetched (omega arith), d) refl }
 
 abbrev index_barred : View → Exit
 index_barred v = pieces.barred 8 (with_offset v)
 
-index_far : (v : View) → IsView v → nat_lt 0xC0 v.grom.fetched ≡ true → Rest (ASPACE ∷ []) 3 13 (with_form v) 0x2336 (index_barred v)
+index_far : (v : View) → IsView v → nat_lt 0xC0 v.grom.fetched ≡ true → Rest (ASPACE ∷ []) 3 13 (with_form v) INDEXR (index_barred v)
 index_far v i d =
     record { by = λ f. rw (down v.grom.fetched (low (shifted SRL v.r.r5 2)) i.grom.fetched (omega arith), d, not_limit 0xC0 v.grom.fetched d) refl }
 
@@ -130,7 +131,7 @@ index_added v =
       grom = past v.grom;
     })
 
-index_word : (v : View) → IsView v → nat_lt 0xC0 v.grom.fetched ≡ false → Rest (ASPACE ∷ []) 7 9 (with_offset v) 0x2342 (index_added v)
+index_word : (v : View) → IsView v → nat_lt 0xC0 v.grom.fetched ≡ false → Rest (ASPACE ∷ []) 7 9 (with_offset v) INDEXW (index_added v)
 index_word v i d = record {
   by = λ f.
       let offset = v.grom.fetched in
@@ -168,10 +169,10 @@ load_ends = LDATA ∷ STREAM ∷ []
 abbrev load_at : View → View
 load_at v = record v { r = record v.r { r4 = video_at v.r.r2 } }
 
-load_video_at : (v : View) → (v.r.r5 == 1) ≡ true → Part load_ends 5 v LOAD (load_at v) 0x238A
+load_video_at : (v : View) → (v.r.r5 == 1) ≡ true → Part load_ends 5 v LOAD (load_at v) LVSET
 load_video_at v c = record { by = λ f. rw c refl }
 
-load_sets : (v : View) → v.r.r4 < 65536 → Rest load_ends 5 11 v 0x238A (pieces.exit 9 LDATA (record v { vdp = set_video_to v.r.r4 v.vdp }))
+load_sets : (v : View) → v.r.r4 < 65536 → Rest load_ends 5 11 v LVSET (pieces.exit 9 LDATA (record v { vdp = set_video_to v.r.r4 v.vdp }))
 load_sets v h = record { by = λ f. rw (swapped_back v.r.r4 h, swapped_high v.r.r4 h) refl }
 
 load_set : (v : View) → (v.r.r5 == 1) ≡ true → Leads load_ends v LOAD (pieces.load v)
@@ -202,10 +203,10 @@ store_ends = SDATA ∷ SREG ∷ []
 abbrev store_at : View → View
 store_at v = record v { r = record v.r { r4 = sum_of Word (video_at v.r.r7) 0x4000 } }
 
-store_video_at : (v : View) → (v.r.r8 == 1) ≡ true → Part store_ends 6 v STORE (store_at v) 0x23F6
+store_video_at : (v : View) → (v.r.r8 == 1) ≡ true → Part store_ends 6 v STORE (store_at v) SVSET
 store_video_at v c = record { by = λ f. rw c refl }
 
-store_sets : (v : View) → v.r.r4 < 65536 → Rest store_ends 6 10 v 0x23F6 (pieces.exit 10 SDATA (record v { vdp = set_video_to v.r.r4 v.vdp }))
+store_sets : (v : View) → v.r.r4 < 65536 → Rest store_ends 6 10 v SVSET (pieces.exit 10 SDATA (record v { vdp = set_video_to v.r.r4 v.vdp }))
 store_sets v h = record { by = λ f. rw (swapped_back v.r.r4 h, swapped_high v.r.r4 h) refl }
 
 store_set : (v : View) → (v.r.r8 == 1) ≡ true → Leads store_ends v STORE (pieces.store v)
@@ -220,11 +221,11 @@ abbrev with_unmarked : View → View
 with_unmarked v = record v { cells = slice_set v.cells v.r.r7 (high v.r.r9) }
 
 store_first : (v : View) → v.r.r7 < 194 → (v.r.r8 == 1) ≡ false → nat_lt 1 v.r.r8 ≡ false → (v.r.r7 == 0x7D) ≡ false →
-    Part store_ends 6 v STORE (with_one v) 0x23D6
+    Part store_ends 6 v STORE (with_one v) SCELL
 store_first v h c d e = record { by = λ f. rw (c, d, spot_cell (plus 0x8300 v.r.r7) v.r.r7 (omega arith) h, e) refl }
 
 store_mark : (v : View) → v.r.r7 < 194 → (v.r.r8 == 1) ≡ false → nat_lt 1 v.r.r8 ≡ false → (v.r.r7 == 0x7D) ≡ true →
-    Part store_ends 7 v STORE (with_one v) 0x23D6
+    Part store_ends 7 v STORE (with_one v) SCELL
 store_mark v h c d e = record { by = λ f. rw (c, d, spot_cell (plus 0x8300 v.r.r7) v.r.r7 (omega arith) h, e) refl }
 
 -- the rest behind it
@@ -235,22 +236,22 @@ with_two v =
       cells = slice_set (slice_set v.cells v.r.r7 (high v.r.r9)) (v.r.r7 + 1) (low v.r.r9);
     }
 
-byte_rest : (v : View) → (v.r.r3 == 1) ≡ true → Rest store_ends 6 10 (with_one v) 0x23D6 (pieces.exit 9 (pieces.return_of v) (with_one v))
+byte_rest : (v : View) → (v.r.r3 == 1) ≡ true → Rest store_ends 6 10 (with_one v) SCELL (pieces.exit 9 (pieces.return_of v) (with_one v))
 byte_rest v c = record { by = λ f. rw c refl }
 
-byte_rest_marked : (v : View) → (v.r.r3 == 1) ≡ true → Rest store_ends 7 9 (with_one v) 0x23D6 (pieces.exit 10 (pieces.return_of v) (with_one v))
+byte_rest_marked : (v : View) → (v.r.r3 == 1) ≡ true → Rest store_ends 7 9 (with_one v) SCELL (pieces.exit 10 (pieces.return_of v) (with_one v))
 byte_rest_marked v c = record { by = λ f. rw c refl }
 
 word_rest : (v : View) → IsView v → v.r.r7 + 1 < 194 → (v.r.r3 == 1) ≡ false → (v.r.r7 == 0x7C) ≡ false →
-    Rest store_ends 6 10 (with_one v) 0x23D6 (pieces.exit 13 (pieces.return_of v) (with_two v))
+    Rest store_ends 6 10 (with_one v) SCELL (pieces.exit 13 (pieces.return_of v) (with_two v))
 word_rest v i h c d = record { by = λ f. rw (c, spot_cell (plus 0x8301 v.r.r7) (v.r.r7 + 1) (omega arith) h, swapped_high v.r.r9 (i.r 9), d) refl }
 
 word_rest_marked : (v : View) → IsView v → v.r.r7 + 1 < 194 → (v.r.r3 == 1) ≡ false → (v.r.r7 == 0x7C) ≡ false →
-    Rest store_ends 7 9 (with_one v) 0x23D6 (pieces.exit 14 (pieces.return_of v) (with_two v))
+    Rest store_ends 7 9 (with_one v) SCELL (pieces.exit 14 (pieces.return_of v) (with_two v))
 word_rest_marked v i h c d = record { by = λ f. rw (c, spot_cell (plus 0x8301 v.r.r7) (v.r.r7 + 1) (omega arith) h, swapped_high v.r.r9 (i.r 9), d) refl }
 
 word_rest_second : (v : View) → IsView v → v.r.r7 + 1 < 194 → (v.r.r3 == 1) ≡ false → (v.r.r7 == 0x7C) ≡ true →
-    Rest store_ends 6 10 (with_one v) 0x23D6 (pieces.exit 14 (pieces.return_of v) (with_two v))
+    Rest store_ends 6 10 (with_one v) SCELL (pieces.exit 14 (pieces.return_of v) (with_two v))
 word_rest_second v i h c d = record { by = λ f. rw (c, spot_cell (plus 0x8301 v.r.r7) (v.r.r7 + 1) (omega arith) h, swapped_high v.r.r9 (i.r 9), d) refl }
 
 apart : (n : ℕ) → (n == 0x7D) ≡ true → (n == 0x7C) ≡ false

@@ -8,13 +8,16 @@ use Rattle.sim_rows.specs.Prelude.{WHERE, Word}
 use Rattle.sim_operands.proofs.Ready.{set_is}
 use Rattle.sim_operands.specs.Pieces as operands
 use Rattle.sim_rows.specs.Pieces as pieces
+use Rattle.sim_view.specs.native_interp.declared.addresses.TheConstants.{GBYTE, GCODE, GKEEP}
+use Rattle.sim_view.specs.interp_defs.Interpreter.{most_to_dispatch}
 
 -- the first table's word for each code byte is the address of its instruction, and even
 abbrev leads : ℕ → Bool
-leads code = eqb (even (slice_index INTERP (4 + code))) (operation_entry (operation_at code))
+leads code = eqb (even (slice_index INTERP (pieces.first_entry + code))) (operation_entry (operation_at code))
 
-entry_is : (code : ℕ) → code < 256 → even (slice_index INTERP (4 + code)) ≡ operation_entry (operation_at code)
-entry_is code h = eqb-true (even (slice_index INTERP (4 + code))) (operation_entry (operation_at code)) (agree_below_at leads (λ _. true) 256 code refl h)
+entry_is : (code : ℕ) → code < 256 → even (slice_index INTERP (pieces.first_entry + code)) ≡ operation_entry (operation_at code)
+entry_is code h =
+    eqb-true (even (slice_index INTERP (pieces.first_entry + code))) (operation_entry (operation_at code)) (agree_below_at leads (λ _. true) 256 code refl h)
 
 -- the address before the counter
 back_is : (at : ℕ) → at < 65536 →
@@ -65,12 +68,12 @@ module _ (s : GplState) (v : View) (sees : Sees s s.pc v) (fits : s.pc < 65536) 
   abbrev located : View
   located =
       record v {
-        r = record v.r { r4 = shifted SRL (shifted SLA (difference_of Word (next_in_grom s.pc) 1) 3) 3; r6 = s.pc; r11 = 0x2290 };
+        r = record v.r { r4 = shifted SRL (shifted SLA (difference_of Word (next_in_grom s.pc) 1) 3) 3; r6 = s.pc; r11 = GKEEP };
         grom =
             lost s.image s.pc;
       }
 
-  where_is : pieces.where_next asked ≡ exit 12 0x2290 located
+  where_is : pieces.where_next asked ≡ exit 12 GKEEP located
   where_is = where_found asked s.image s.pc sees.grom fits
 
   abbrev kept : View
@@ -79,9 +82,9 @@ module _ (s : GplState) (v : View) (sees : Sees s s.pc v) (fits : s.pc < 65536) 
   abbrev sought : View
   sought = record kept { r = record kept.r { r6 = (operands.seek kept).left.r.r6 }; grom = grom_at s.image s.pc }
 
-  seek_is : operands.seek kept ≡ exit 4 0x2296 sought
+  seek_is : operands.seek kept ≡ exit 4 GBYTE sought
   seek_is =
-      let at : GromState → Exit = λ g. exit 4 0x2296 (record kept { r = record kept.r { r6 = (operands.seek kept).left.r.r6 }; grom = g }) in
+      let at : GromState → Exit = λ g. exit 4 GBYTE (record kept { r = record kept.r { r6 = (operands.seek kept).left.r.r6 }; grom = g }) in
       ap at (set_is (lost s.image s.pc) s.pc refl fits)
 
   abbrev bid : View
@@ -107,12 +110,12 @@ module _ (s : GplState) (v : View) (sees : Sees s s.pc v) (fits : s.pc < 65536) 
   pub begins : (x a b c d e f y : MachineState) (t t1 t2 t3 t4 t5 t6 t7 : ℕ) → view x ≡ v →
       Exits x a t t1 (pieces.ask_address (view x)) → Exits a b t1 t2 (pieces.where_next (view a)) → Exits b c t2 t3 (pieces.keep_address (view b)) →
       Exits c d t3 t4 (operands.seek (view c)) → Exits d e t4 t5 (pieces.ask_byte (view d)) → Exits e f t5 t6 (operands.fetch (view e)) →
-      Exits f y t6 t7 (pieces.dispatch (view f)) → Comes 29 x y t t7 (operation_entry (operation_at code)) (Dispatched s)
+      Exits f y t6 t7 (pieces.dispatch (view f)) → Comes most_to_dispatch x y t t7 (operation_entry (operation_at code)) (Dispatched s)
   begins x a b c d e f y t t1 t2 t3 t4 t5 t6 t7 is e1 e2 e3 e4 e5 e6 e7 =
       let c1 = comes e1 (from pieces.ask_address is (just (pieces.ask_address v) 1 WHERE (omega arith) refl)) in
-      let c2 = comes_then 1 12 c1 e2 (from pieces.where_next c1.holds (known where_is (just (exit 12 0x2290 located) 12 0x2290 (omega arith) refl))) refl in
+      let c2 = comes_then 1 12 c1 e2 (from pieces.where_next c1.holds (known where_is (just (exit 12 GKEEP located) 12 GKEEP (omega arith) refl))) refl in
       let c3 = comes_then 13 2 c2 e3 (from pieces.keep_address c2.holds (just (pieces.keep_address located) 2 SEEK (omega arith) refl)) refl in
-      let c4 = comes_then 15 4 c3 e4 (from operands.seek c3.holds (known seek_is (just (exit 4 0x2296 sought) 4 0x2296 (omega arith) refl))) refl in
+      let c4 = comes_then 15 4 c3 e4 (from operands.seek c3.holds (known seek_is (just (exit 4 GBYTE sought) 4 GBYTE (omega arith) refl))) refl in
       let c5 = comes_then 19 1 c4 e5 (from pieces.ask_byte c4.holds (just (pieces.ask_byte sought) 1 FETCH (omega arith) refl)) refl in
-      let c6 = comes_then 20 3 c5 e6 (from operands.fetch c5.holds (just (operands.fetch bid) 3 0x229A (omega arith) refl)) refl in
+      let c6 = comes_then 20 3 c5 e6 (from operands.fetch c5.holds (just (operands.fetch bid) 3 GCODE (omega arith) refl)) refl in
       comes_then 23 6 c6 e7 (from pieces.dispatch c6.holds begun) refl

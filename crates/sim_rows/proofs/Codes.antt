@@ -3,6 +3,7 @@ use Rattle.std.proofs.Common.{ℕ, ◌&&◌, ◌+◌, ◌-◌, ◌/◌, ◌<◌,
 use Rattle.std.proofs.Common.{Some, true}
 use Rattle.std.proofs.lemmas.Bool.{agree_below_at, and_parts, eqb-true, leb-true, ltb-true}
 use Rattle.sim_rows.specs.Prelude.{even, GplOperation, INTERP, is_row, OneName, operation_at, row_entry, TwoName}
+use Rattle.sim_rows.specs.Pieces.{first_row}
 use Rattle.sim_view.specs.gpl_defs.declared.instruction.GplOperation.TheVariants as operation
 
 if_true : (b c : Bool) → b ≡ true → (if b then c else true) ≡ true → c ≡ true
@@ -23,14 +24,14 @@ row_code code h e =
     (leb-true 0x80 code b.0, ltb-true code 0xEC b.1)
 
 abbrev leads : ℕ → Bool
-leads code = eqb (even (slice_index INTERP (260 + (code - 0x80) / 2))) (row_entry (operation_at code))
+leads code = eqb (even (slice_index INTERP (first_row + (code - 0x80) / 2))) (row_entry (operation_at code))
 
 abbrev rows_lead : ℕ → Bool
 rows_lead code = if is_row (operation_at code) then leads code else true
 
-pub row_is : (code : ℕ) → code < 256 → is_row (operation_at code) ≡ true → even (slice_index INTERP (260 + (code - 0x80) / 2)) ≡ row_entry (operation_at code)
+pub row_is : (code : ℕ) → code < 256 → is_row (operation_at code) ≡ true → even (slice_index INTERP (first_row + (code - 0x80) / 2)) ≡ row_entry (operation_at code)
 row_is code h e =
-    eqb-true (even (slice_index INTERP (260 + (code - 0x80) / 2))) (row_entry (operation_at code))
+    eqb-true (even (slice_index INTERP (first_row + (code - 0x80) / 2))) (row_entry (operation_at code))
     (if_true (is_row (operation_at code)) (leads code) e (agree_below_at rows_lead (λ _. true) 256 code refl h))
 
 -- ---- one operand or two

@@ -7,6 +7,7 @@ use Rattle.sim_rows.specs.Prelude.{IsFetched, IsHalted, Length, MachineState, Ma
 use Rattle.sim_rows.specs.Prelude.{previous_in_grom, Reaches, Reason, Register, Runs, Sees, shown_by, Stack, Stands, StandsBy, state_at_dispatch, state_of}
 use Rattle.sim_rows.specs.Prelude.{step, StoppedBy, Turn, Turned, TurnedBy, VdpState, View, view, view_of}
 use Rattle.sim_view.specs.gpl_step_defs.declared.reason.Reason.TheVariants.{Exit}
+use Rattle.sim_view.specs.interp_defs.Interpreter.{most_to_dispatch}
 
 -- a state of parts
 abbrev pub made : List ℕ → List ℕ → List ℕ → ℕ → List ℕ → GplState
@@ -124,7 +125,7 @@ reaches {x = x} {y = y} led bound c start end fits =
     }
 
 -- the beginning of a step before a turn from its dispatch
-pub reaches_from : {x y z : MachineState} {before middle after to bound : ℕ} {Q : View → Type 0} → Comes 29 x y before middle to Q →
+pub reaches_from : {x y z : MachineState} {before middle after to bound : ℕ} {Q : View → Type 0} → Comes most_to_dispatch x y before middle to Q →
     Reaches 29 bound y z middle after → is_end to ≡ false → Reaches 0 bound x z before after
 reaches_from {x = x} {y = y} {z = z} c r start =
     let w = c.within in
@@ -140,14 +141,14 @@ reaches_from {x = x} {y = y} {z = z} c r start =
     }
 
 from_by : {x y : MachineState} {before middle to : ℕ} {Q : View → Type 0} (z : MachineState) (after : ℕ) (s : GplState) (r : Result GplState Reason)
-    (turn : Turn) → Comes 29 x y before middle to Q → is_end to ≡ false →
+    (turn : Turn) → Comes most_to_dispatch x y before middle to Q → is_end to ≡ false →
     TurnedBy r s 29 y z middle after turn → TurnedBy r s 0 x z before after turn
 from_by z after s (Ok next) turn c e t = (t.0, reaches_from c t.1 e, t.2)
 from_by z after s (Err reason) turn c e t = (t.0, reaches_from c t.1 e, t.2)
 
 pub turned_from : {x y : MachineState} {before middle to : ℕ} {Q : View → Type 0} (z : MachineState) (after : ℕ) (s : GplState) (turn : Turn) →
-    Comes 29 x y before middle to Q → is_end to ≡ false →
-    Turned s 29 y z middle after turn → Turned s 0 x z before after turn
+    Comes most_to_dispatch x y before middle to Q → is_end to ≡ false →
+    Turned s most_to_dispatch y z middle after turn → Turned s 0 x z before after turn
 turned_from z after s turn c e t = from_by z after s (step s) turn c e t
 
 -- a turn by what the step is

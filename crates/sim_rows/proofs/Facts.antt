@@ -2,27 +2,29 @@
 use Rattle.std.proofs.Common.{ℕ, ◌%◌, ◌&&◌, ◌*◌, ◌+◌, ◌-◌, ◌/◌, ◌<◌, ◌==◌, ◌≡◌, ◌≤◌, ap, arith, Bool, false, nat_lt, not, refl, true}
 use Rattle.std.proofs.lemmas.Bool.{eq-eqb, le-leb, le-ltb, lt-leb, lt-ltb, ltb-false, ltb-true, ne_eqb}
 use Rattle.sim_view.proofs.Common.{Code, spot}
+use Rattle.sim_rows.specs.Pieces.{first_entry, first_row}
 use Rattle.sim_rows.specs.Prelude.{even, high, join, low, plus, shifted, SRL, swapped, TABLE, WORKSPACE}
+use Rattle.sim_view.specs.native_interp.declared.addresses.TheConstants.{BEHIND, OPTAB, ORIGIN, WORD_COUNT}
 
 -- a word of the interpreter at an address
-pub spot_code : (address number : ℕ) → address ≡ 0x2000 + 2 * number → number < 1087 → spot address ≡ Code number
+pub spot_code : (address number : ℕ) → address ≡ ORIGIN + 2 * number → number < WORD_COUNT → spot address ≡ Code number
 spot_code address number e h =
     rw (
       lt-leb WORKSPACE address (omega arith),
-      le-leb 0x2000 address (omega arith),
-      lt-ltb address 0x287E (omega arith),
+      le-leb ORIGIN address (omega arith),
+      lt-ltb address BEHIND (omega arith),
       eq-eqb (address % 2) 0
           (omega arith),
       spot,
     ) (ap Code (omega arith))
 
 -- the first table's word for a code byte
-pub spot_table : (code : ℕ) → code < 256 → spot (even (plus TABLE ((code + code) % 65536))) ≡ Code (4 + code)
-spot_table code h = spot_code (even (plus TABLE ((code + code) % 65536))) (4 + code) (omega arith) (omega arith)
+pub spot_table : (code : ℕ) → code < 256 → spot (even (plus TABLE ((code + code) % 65536))) ≡ Code (first_entry + code)
+spot_table code h = spot_code (even (plus TABLE ((code + code) % 65536))) (first_entry + code) (omega arith) (omega arith)
 
 -- the second table's word
-pub spot_rows : (code : ℕ) → 0x80 ≤ code → code < 0xEC → spot (even (plus 0x2188 code)) ≡ Code (260 + (code - 0x80) / 2)
-spot_rows code l h = spot_code (even (plus 0x2188 code)) (260 + (code - 0x80) / 2) (omega arith) (omega arith)
+pub spot_rows : (code : ℕ) → 0x80 ≤ code → code < 0xEC → spot (even (plus (OPTAB - 0x80) code)) ≡ Code (first_row + (code - 0x80) / 2)
+spot_rows code l h = spot_code (even (plus (OPTAB - 0x80) code)) (first_row + (code - 0x80) / 2) (omega arith) (omega arith)
 
 -- the word of two reads of the counter
 abbrev pub counter_in : ℕ → ℕ → ℕ

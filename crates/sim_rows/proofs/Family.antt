@@ -13,6 +13,7 @@ use Rattle.sim_rows.proofs.Rowing.{destination_visible, Started, started, stoppe
 use Rattle.sim_view.specs.gpl_defs.declared.instruction.OneName.TheVariants as one
 use Rattle.sim_view.specs.gpl_defs.declared.instruction.TwoName.TheVariants as two
 use Rattle.sim_view.specs.gpl_defs.declared.instruction.GplOperation.TheVariants as operation
+use Rattle.sim_view.specs.interp_defs.Interpreter.{most_to_dispatch}
 
 -- ---- the operations of rows
 
@@ -85,7 +86,7 @@ module _ {belongs : Option GplOperation → Bool} (rows : (o : Option GplOperati
 
   -- an operand is not visible
   pub stopped : {y : MachineState} {t u : ℕ} {told : Option GplOperation} → told ≡ None →
-      HasStarted s x y t u told → Turned s 29 x y t u (Stopped Cell)
+      HasStarted s x y t u told → Turned s most_to_dispatch x y t u (Stopped Cell)
   stopped {y = y} {t = t} {u = u} {told = told} none l = stopped_row s x t fits start row y u told none l.starts
 
   -- the operands are loaded, and the operation is told
@@ -121,11 +122,11 @@ module _ {belongs : Option GplOperation → Bool} (rows : (o : Option GplOperati
       visible = visible;
     }
 
-    pub turned : (most : ℕ) {z : MachineState} {v : ℕ} → most ≤ 260 → RunsRow op most y z u v → Turned s 29 x z t v Stepped
+    pub turned : (most : ℕ) {z : MachineState} {v : ℕ} → most ≤ 260 → RunsRow op most y z u v → Turned s most_to_dispatch x z t v Stepped
     turned most {z = z} {v = v} le r = turned_row s x t fits start row op y z u v most begun of.goes r le
 
     -- the same of a row that may stop, but not as EXIT does
     pub turned_or : (most : ℕ) (z : MachineState) (v : ℕ) (turn : Turn) →
         ((reason : Reason) → row_result op s begun.place begun.source ≡ Err reason → reason ≡ Exit → ⊥) → most ≤ 220 →
-        TurnsRow op most y z u v turn → Turned s 29 x z t v turn
+        TurnsRow op most y z u v turn → Turned s most_to_dispatch x z t v turn
     turned_or most z v turn other le r = turned_or_stopped s x t fits start row op y z u v most turn begun of.goes other r le

@@ -8,6 +8,8 @@ use Rattle.sim_rows.specs.Prelude.{operand_at, OPS, Place, place_in, place_of, P
 use Rattle.sim_rows.specs.Prelude.{SLA, Space, SRL, state_of, StoppedBy, sum_of, Vdp, VdpState, View, view, width_in, Word, word_or_byte}
 use Rattle.sim_rows.proofs.Steps.{place_same}
 use Rattle.sim_rows.specs.Pieces as pieces
+use Rattle.sim_view.specs.native_interp.declared.addresses.TheConstants.{OPSDST}
+use Rattle.sim_view.specs.Bounds.{most_of_address}
 
 -- ---- numbers
 
@@ -175,7 +177,7 @@ pub record Asking (s : GplState) (bytes at to : ℕ) (w : View) : Type 0 where
   pub holds : Holds s bytes at w
   pub link : w.r.r11 ≡ to
 
-pub asks : (s : GplState) (v : View) → AtOperands s v → Goes (pieces.ask_first v) 2 ADDR (Asking s (destination_bytes s) (behind_code s) 0x2434)
+pub asks : (s : GplState) (v : View) → AtOperands s v → Goes (pieces.ask_first v) 2 ADDR (Asking s (destination_bytes s) (behind_code s) OPSDST)
 asks s v d = record {
   within = omega arith;
   to_is = refl;
@@ -203,15 +205,17 @@ link_is s bytes at to w e a = ap even a.link ∙ e
 
 pub located : (s : GplState) (bytes at next to most : ℕ) (x y z : MachineState) (t u w : ℕ) (place : Place) → even to ≡ to →
     Comes most x y t u ADDR (Asking s bytes at to) →
-    Comes 45 y z u w (return_of (view y)) (Placed (view y) next place) → Comes (most + 45) x z t w to (Located s bytes place next)
+    Comes most_of_address y z u w (return_of (view y)) (Placed (view y) next place) → Comes (most + most_of_address) x z t w to (Located s bytes place next)
 located s bytes at next to most x y z t u w place even_to c d =
     let e : return_of (view y) ≡ to = link_is s bytes at to (view y) even_to c.holds in
-    let d2 : Comes 45 y z u w to (Placed (view y) next place) = subst (λ (p : ℕ). Comes 45 y z u w p (Placed (view y) next place)) e d in
-    comes_as (most + 45) (Located s bytes place next) (comes_on most 45 c d2 refl) (omega arith)
+    let d2 : Comes most_of_address y z u w to (Placed (view y) next place) =
+        subst (λ (p : ℕ). Comes most_of_address y z u w p (Placed (view y) next place)) e d in
+    comes_as (most + most_of_address) (Located s bytes place next) (comes_on most 45 c d2 refl) (omega arith)
     (λ v a. record { holds = holds_addressed s bytes at next (view y) v c.holds.holds a; from = from_placed next place (view y) v a })
 
 pub barred : (s : GplState) (bytes at to most : ℕ) (reason : Reason) (x y z : MachineState) (t u w : ℕ) → Comes most x y t u ADDR (Asking s bytes at to) →
-    Comes 45 y z u w GSTOP (Barred (view y) reason) →
-    Comes (most + 45) x z t w GSTOP (StoppedBy s reason)
+    Comes most_of_address y z u w GSTOP (Barred (view y) reason) →
+    Comes (most + most_of_address) x z t w GSTOP (StoppedBy s reason)
 barred s bytes at to most reason x y z t u w c d =
-    comes_as (most + 45) (StoppedBy s reason) (comes_on most 45 c d refl) (omega arith) (λ v a. barred_stops s bytes at reason (view y) v c.holds.holds a)
+    comes_as (most + most_of_address) (StoppedBy s reason)
+        (comes_on most 45 c d refl) (omega arith) (λ v a. barred_stops s bytes at reason (view y) v c.holds.holds a)

@@ -16,6 +16,7 @@ use Rattle.sim_rows.proofs.Fronting.{Asking, asks, barred, finds_of, Located, lo
 use Rattle.sim_rows.proofs.Operands.{asks_first, bars_second, finds_second, goes_to_row, immediates, Loading, loads, Operand, operands, units, value_same}
 use Rattle.sim_rows.proofs.Operands.{visible_of}
 use Rattle.sim_rows.specs.Pieces as pieces
+use Rattle.sim_view.specs.native_interp.declared.addresses.TheConstants.{OPSDST, OPSVAL}
 
 -- ---- how many bytes a destination takes
 
@@ -46,44 +47,44 @@ module _ (s : GplState) (x : MachineState) (t : ℕ) (d : AtOperands s (view x))
   pub record Destination (y : MachineState) (u : ℕ) : Type 0 where
     pub place : Place
     pub is_place : first_of s ≡ Ok place
-    pub comes : Comes 47 x y t u 0x2434 (Located s (destination_bytes s) place (behind_first s))
+    pub comes : Comes 47 x y t u OPSDST (Located s (destination_bytes s) place (behind_first s))
 
   pub asking : (b : MachineState) (t2 : ℕ) → Exits x b t t2 (pieces.ask_first (view x)) → Comes 2 x b t t2 ADDR
-      (Asking s (destination_bytes s) (behind_code s) 0x2434)
+      (Asking s (destination_bytes s) (behind_code s) OPSDST)
   asking b t2 e = comes e (asks s (view x) d)
 
-  found_by : (b y : MachineState) (t2 u : ℕ) → Comes 2 x b t t2 ADDR (Asking s (destination_bytes s) (behind_code s) 0x2434) → (y.cpu.pc ≡ GSTOP → ⊥) →
+  found_by : (b y : MachineState) (t2 u : ℕ) → Comes 2 x b t t2 ADDR (Asking s (destination_bytes s) (behind_code s) OPSDST) → (y.cpu.pc ≡ GSTOP → ⊥) →
       (r : Result Place Reason) → first_of s ≡ r → Finds b y t2 u (behind_first s) r → Destination y u
   found_by b y t2 u c n (Ok place) e f =
-      record { place = place; is_place = e; comes = located s (destination_bytes s) (behind_code s) (behind_first s) 0x2434 2 x b y t t2 u place refl c f }
+      record { place = place; is_place = e; comes = located s (destination_bytes s) (behind_code s) (behind_first s) OPSDST 2 x b y t t2 u place refl c f }
   found_by b y t2 u c n (Err reason) e f = absurd (n f.stands.pc)
 
-  pub found : (b y : MachineState) (t2 u : ℕ) → Comes 2 x b t t2 ADDR (Asking s (destination_bytes s) (behind_code s) 0x2434) → (y.cpu.pc ≡ GSTOP → ⊥) →
+  pub found : (b y : MachineState) (t2 u : ℕ) → Comes 2 x b t t2 ADDR (Asking s (destination_bytes s) (behind_code s) OPSDST) → (y.cpu.pc ≡ GSTOP → ⊥) →
       FindsOperand b y t2 u → Destination y u
   found b y t2 u c n f = found_by b y t2 u c n (first_of s) refl (finds_of s (gone_on s) (destination_bytes s) (behind_code s) b y t2 u c.holds.holds refl f)
 
-  stops_by : (b y : MachineState) (t2 u : ℕ) → Comes 2 x b t t2 ADDR (Asking s (destination_bytes s) (behind_code s) 0x2434) → y.cpu.pc ≡ GSTOP →
+  stops_by : (b y : MachineState) (t2 u : ℕ) → Comes 2 x b t t2 ADDR (Asking s (destination_bytes s) (behind_code s) OPSDST) → y.cpu.pc ≡ GSTOP →
       (r : Result Place Reason) → Finds b y t2 u (behind_first s) r → LoadsDestination s x y t u false r
   stops_by b y t2 u c e (Ok place) f =
-      let there = (located s (destination_bytes s) (behind_code s) (behind_first s) 0x2434 2 x b y t t2 u place refl c f).stands.pc in absurd (omega arith)
-  stops_by b y t2 u c e (Err reason) f = (refl, barred s (destination_bytes s) (behind_code s) 0x2434 2 reason x b y t t2 u c f)
+      let there = (located s (destination_bytes s) (behind_code s) (behind_first s) OPSDST 2 x b y t t2 u place refl c f).stands.pc in absurd (omega arith)
+  stops_by b y t2 u c e (Err reason) f = (refl, barred s (destination_bytes s) (behind_code s) OPSDST 2 reason x b y t t2 u c f)
 
-  pub stops : (b y : MachineState) (t2 u : ℕ) → Comes 2 x b t t2 ADDR (Asking s (destination_bytes s) (behind_code s) 0x2434) → y.cpu.pc ≡ GSTOP →
+  pub stops : (b y : MachineState) (t2 u : ℕ) → Comes 2 x b t t2 ADDR (Asking s (destination_bytes s) (behind_code s) OPSDST) → y.cpu.pc ≡ GSTOP →
       FindsOperand b y t2 u → LoadsDestination s x y t u false (first_of s)
   stops b y t2 u c e f = stops_by b y t2 u c e (first_of s) (finds_of s (gone_on s) (destination_bytes s) (behind_code s) b y t2 u c.holds.holds refl f)
 
   -- its value is asked for
   pub loading : (y z : MachineState) (u v : ℕ) (f : Destination y u) → Exits y z u v (pieces.load_first (view y)) →
-      Comes 50 x z t v LOAD (Loading s (destination_bytes s) f.place f.place (behind_first s) 0x243C)
+      Comes 50 x z t v LOAD (Loading s (destination_bytes s) f.place f.place (behind_first s) OPSVAL)
   loading y z u v f e = asks_first s (destination_bytes s) f.place (behind_first s) 47 x y z t u v f.comes e
 
   pub loaded : (y z q : MachineState) (u v w : ℕ) (f : Destination y u) → Comes 50 x z t v LOAD
-      (Loading s (destination_bytes s) f.place f.place (behind_first s) 0x243C) → ((view z).r.r5 < 2 → LoadsValue z q v w) →
+      (Loading s (destination_bytes s) f.place f.place (behind_first s) OPSVAL) → ((view z).r.r5 < 2 → LoadsValue z q v w) →
       LoadsDestination s x q t w true (first_of s)
   loaded y z q u v w f c l =
       let value = l (space_small f.place.space (view z).r.r5 c.holds.from.space) in
       let P : Result Place Reason → Type 0 = λ r. LoadsDestination s x q t w true r in
-      let run = loads s (destination_bytes s) f.place f.place (behind_first s) 0x243C 50 x z q t v w refl c value in
+      let run = loads s (destination_bytes s) f.place f.place (behind_first s) OPSVAL 50 x z q t v w refl c value in
       subst P (sym f.is_place) (
         refl,
         comes_as 67 (Valued s f.place) run (omega arith) (λ k a. record {
@@ -110,7 +111,7 @@ module _ (s : GplState) (x : MachineState) (t : ℕ) (fits : code_byte s < 256) 
   pub record Begun (y : MachineState) (u : ℕ) : Type 0 where
     pub place : Place
     pub is_place : first_of s ≡ Ok place
-    pub comes : Comes 67 x y t u 0x243C (Valued s place)
+    pub comes : Comes 67 x y t u OPSVAL (Valued s place)
 
   begun_by : (y : MachineState) (u : ℕ) (r : Result Place Reason) → first_of s ≡ r → LoadsDestination s x y t u true r → Begun y u
   begun_by y u (Ok place) e l = record { place = place; is_place = e; comes = l.1 }

@@ -11,6 +11,8 @@ use Rattle.sim_rows.specs.Prelude.{Valued, Vdp, View, view, Width, width_in, Wor
 use Rattle.sim_rows.proofs.Codes.{row_is}
 use Rattle.sim_rows.proofs.Fronting.{barred_stops, from_placed, holds_addressed, holds_again, holds_loaded, Located, place_is, size_is, width_is}
 use Rattle.sim_rows.specs.Pieces as pieces
+use Rattle.sim_view.specs.native_interp.declared.addresses.TheConstants.{OPSDST, OPSVAL}
+use Rattle.sim_view.specs.Bounds.{most_of_address, most_of_load}
 
 -- ---- a value is one of cells and video memory alone
 
@@ -81,7 +83,7 @@ loads s bytes place kept next to most x y z t u w even_to c d =
     let h = c.holds.holds in
     let e : return_of v ≡ to = ap even c.holds.link ∙ even_to in
     let number = value_at (state_of v) (width_in v.r.r3) (place_in v.r.r5 v.r.r2) in
-    let d2 : Comes 17 y z u w to (Loaded v number) = subst (λ (p : ℕ). Comes 17 y z u w p (Loaded v number)) e d in
+    let d2 : Comes most_of_load y z u w to (Loaded v number) = subst (λ (p : ℕ). Comes most_of_load y z u w p (Loaded v number)) e d in
     comes_as (most + 17) _ (comes_on most 17 c d2 refl) (omega arith) (λ q a. record {
       holds = holds_loaded s bytes next number v q h a;
       from = record { address = ap (λ (u : View). u.r.r2) a.is ∙ c.holds.from.address; space = ap (λ (u : View). u.r.r5) a.is ∙ c.holds.from.space };
@@ -94,8 +96,8 @@ loads s bytes place kept next to most x y z t u w even_to c d =
 
 -- the first operand's place is asked for, and kept
 pub asks_first : (s : GplState) (bytes : ℕ) (place : Place) (next most : ℕ) (x y z : MachineState) (t u w : ℕ) →
-    Comes most x y t u 0x2434 (Located s bytes place next) → Exits y z u w (pieces.load_first (view y)) →
-    Comes (most + 3) x z t w LOAD (Loading s bytes place place next 0x243C)
+    Comes most x y t u OPSDST (Located s bytes place next) → Exits y z u w (pieces.load_first (view y)) →
+    Comes (most + 3) x z t w LOAD (Loading s bytes place place next OPSVAL)
 asks_first s bytes place next most x y z t u w c e =
     let h = c.holds.holds in
     let f = c.holds.from in
@@ -137,7 +139,7 @@ sourced k f v = record { holds = k.holds; to_place = k.to_place; destination = k
 
 -- a row of one operand
 units_by : (s : GplState) (kept : Place) (most : ℕ) (x y z : MachineState) (t u w : ℕ) → code_byte s < 256 → nat_lt (code_byte s) 0xA0 ≡ true →
-    Comes most x y t u 0x243C (Valued s kept) → Exits y z u w (pieces.second_operand (view y)) → (b : Bool) → word_of s ≡ b →
+    Comes most x y t u OPSVAL (Valued s kept) → Exits y z u w (pieces.second_operand (view y)) → (b : Bool) → word_of s ≡ b →
     Comes (most + 11) x z t w GO (Sourced s kept unit (behind_first s))
 units_by s kept most x y z t u w fits one c e b is =
     let v : View = view y in
@@ -171,14 +173,14 @@ units_by s kept most x y z t u w fits one c e b is =
         })) refl
 
 pub units : (s : GplState) (kept : Place) (most : ℕ) (x y z : MachineState) (t u w : ℕ) → code_byte s < 256 → nat_lt (code_byte s) 0xA0 ≡ true →
-    Comes most x y t u 0x243C (Valued s kept) → Exits y z u w (pieces.second_operand (view y)) →
+    Comes most x y t u OPSVAL (Valued s kept) → Exits y z u w (pieces.second_operand (view y)) →
     Comes (most + 11) x z t w GO (Sourced s kept unit (behind_first s))
 units s kept most x y z t u w fits one c e = units_by s kept most x y z t u w fits one c e (word_of s) refl
 
 -- an immediate source
 pub immediates : (s : GplState) (kept : Place) (most : ℕ) (x y z : MachineState) (t u w : ℕ) → code_byte s < 256 → nat_lt (code_byte s) 0xA0 ≡ false →
     (code_byte s / 2 % 2 == 1) ≡ true →
-    Comes most x y t u 0x243C (Valued s kept) → Exits y z u w (pieces.second_operand (view y)) →
+    Comes most x y t u OPSVAL (Valued s kept) → Exits y z u w (pieces.second_operand (view y)) →
     Comes (most + 12) x z t w OPVAL (Immediate s kept (behind_first s))
 immediates s kept most x y z t u w fits two is c e =
     let v : View = view y in
@@ -198,7 +200,7 @@ pub record Operand (s : GplState) (place : Place) (next : ℕ) (w : View) : Type
 
 pub operands : (s : GplState) (kept : Place) (most : ℕ) (x y z : MachineState) (t u w : ℕ) → code_byte s < 256 → nat_lt (code_byte s) 0xA0 ≡ false →
     (code_byte s / 2 % 2 == 1) ≡ false →
-    Comes most x y t u 0x243C (Valued s kept) → Exits y z u w (pieces.second_operand (view y)) →
+    Comes most x y t u OPSVAL (Valued s kept) → Exits y z u w (pieces.second_operand (view y)) →
     Comes (most + 12) x z t w ADDR (Operand s kept (behind_first s))
 operands s kept most x y z t u w fits two is c e =
     let v : View = view y in
@@ -223,19 +225,20 @@ kept_addressed s kept at next v w q a = record {
 }
 
 pub finds_second : (s : GplState) (kept place : Place) (at next most : ℕ) (x y z : MachineState) (t u w : ℕ) → Comes most x y t u ADDR (Operand s kept at) →
-    Comes 45 y z u w (return_of (view y)) (Placed (view y) next place) →
-    Comes (most + 45) x z t w OPVAL (Found s kept place next)
+    Comes most_of_address y z u w (return_of (view y)) (Placed (view y) next place) →
+    Comes (most + most_of_address) x z t w OPVAL (Found s kept place next)
 finds_second s kept place at next most x y z t u w c d =
     let e : return_of (view y) ≡ OPVAL = ap even c.holds.link in
-    let d2 : Comes 45 y z u w OPVAL (Placed (view y) next place) = subst (λ (p : ℕ). Comes 45 y z u w p (Placed (view y) next place)) e d in
-    comes_as (most + 45) (Found s kept place next) (comes_on most 45 c d2 refl) (omega arith)
+    let d2 : Comes most_of_address y z u w OPVAL (Placed (view y) next place) =
+        subst (λ (p : ℕ). Comes most_of_address y z u w p (Placed (view y) next place)) e d in
+    comes_as (most + most_of_address) (Found s kept place next) (comes_on most 45 c d2 refl) (omega arith)
     (λ v a. record { kept = kept_addressed s kept at next (view y) v c.holds.kept a; from = from_placed next place (view y) v a })
 
 pub bars_second : (s : GplState) (kept : Place) (at most : ℕ) (reason : Reason) (x y z : MachineState) (t u w : ℕ) →
-    Comes most x y t u ADDR (Operand s kept at) → Comes 45 y z u w GSTOP (Barred (view y) reason) →
-    Comes (most + 45) x z t w GSTOP (StoppedBy s reason)
+    Comes most x y t u ADDR (Operand s kept at) → Comes most_of_address y z u w GSTOP (Barred (view y) reason) →
+    Comes (most + most_of_address) x z t w GSTOP (StoppedBy s reason)
 bars_second s kept at most reason x y z t u w c d =
-    comes_as (most + 45) (StoppedBy s reason) (comes_on most 45 c d refl) (omega arith) (λ v a. barred_stops s (size_of (row_width s)) at reason
+    comes_as (most + most_of_address) (StoppedBy s reason) (comes_on most 45 c d refl) (omega arith) (λ v a. barred_stops s (size_of (row_width s)) at reason
     (view y) v c.holds.kept.holds a)
 
 -- ---- the second dispatch
@@ -249,7 +252,7 @@ goes_to_row s kept source next most x y z t u w fits row c e =
     let v : View = view y in
     comes_then most 3 c e (record {
       within = omega arith;
-      to_is = ap (λ (n : ℕ). even (slice_index INTERP (260 + (n - 0x80) / 2))) q.holds.code ∙ row_is (code_byte s) fits row;
+      to_is = ap (λ (n : ℕ). even (slice_index INTERP (pieces.first_row + (n - 0x80) / 2))) q.holds.code ∙ row_is (code_byte s) fits row;
       holds = record {
         holds = holds_again s (size_of (row_width s)) (size_of (row_width s)) next v (pieces.go_to_row v).left q.holds refl refl refl refl refl refl
             q.holds.bytes_are;

@@ -5,14 +5,15 @@ use Rattle.sim_rows.specs.Prelude.{ADDR, Exit, exit, FETCH, GO, GSTEP, last_out,
 use Rattle.sim_rows.specs.Prelude.{WHERE, WIDE}
 use Rattle.sim_rows.proofs.Facts.{counter_is, not_above, spot_rows, spot_table}
 use Rattle.sim_rows.specs.Pieces as pieces
+use Rattle.sim_view.specs.native_interp.declared.addresses.TheConstants.{GBYTE, GCODE, GKEEP, OPSDST, OPSTWO, OPSVAL}
 
 pub ask_address : (v : View) → Leads (WHERE ∷ []) v GSTEP (pieces.ask_address v)
 ask_address v = record { by = λ f q. refl }
 
-pub keep_address : (v : View) → Leads (SEEK ∷ []) v 0x2290 (pieces.keep_address v)
+pub keep_address : (v : View) → Leads (SEEK ∷ []) v GKEEP (pieces.keep_address v)
 keep_address v = record { by = λ f q. refl }
 
-pub ask_byte : (v : View) → Leads (FETCH ∷ []) v 0x2296 (pieces.ask_byte v)
+pub ask_byte : (v : View) → Leads (FETCH ∷ []) v GBYTE (pieces.ask_byte v)
 ask_byte v = record { by = λ f q. refl }
 
 pub row_width : (v : View) → Leads (OPS ∷ []) v ROW (pieces.row_width v)
@@ -24,7 +25,7 @@ wide_width v = record { by = λ f q. refl }
 pub ask_first : (v : View) → Leads (ADDR ∷ []) v OPS (pieces.ask_first v)
 ask_first v = record { by = λ f q. refl }
 
-pub load_first : (v : View) → Leads (LOAD ∷ []) v 0x2434 (pieces.load_first v)
+pub load_first : (v : View) → Leads (LOAD ∷ []) v OPSDST (pieces.load_first v)
 load_first v = record { by = λ f q. refl }
 
 pub load_second : (v : View) → Leads (LOAD ∷ []) v OPVAL (pieces.load_second v)
@@ -36,7 +37,7 @@ store_result v = record { by = λ f q. refl }
 pub where_next : (v : View) → IsView v → Leads [] v WHERE (pieces.where_next v)
 where_next v i = record { by = λ f q. rw (counter_is v.r.r6 v.grom.counter i.grom.counter) refl }
 
-pub dispatch : (v : View) → IsView v → Leads [] v 0x229A (pieces.dispatch v)
+pub dispatch : (v : View) → IsView v → Leads [] v GCODE (pieces.dispatch v)
 dispatch v i = record { by = λ f q. let fits = i.r 6 in rw (spot_table (shifted SRL v.r.r6 8) (omega arith)) refl }
 
 pub go_to_row : (v : View) → 0x80 ≤ v.r.r0 → v.r.r0 < 0xEC → Leads [] v GO (pieces.go_to_row v)
@@ -57,10 +58,10 @@ told v = record v { r = record v.r { r3 = pieces.width_of_code v.r.r0; r9 = v.r.
 abbrev ends : List ℕ
 ends = ADDR ∷ OPVAL ∷ GO ∷ []
 
-unit_row : (v : View) → nat_lt v.r.r0 0xA0 ≡ true → Part ends 7 v 0x243C (told v) UNIT
+unit_row : (v : View) → nat_lt v.r.r0 0xA0 ≡ true → Part ends 7 v OPSVAL (told v) UNIT
 unit_row v c = record { by = λ f. rw (not_above 0xA0 v.r.r0 true c) refl }
 
-two_rows : (v : View) → nat_lt v.r.r0 0xA0 ≡ false → Part ends 7 v 0x243C (told v) 0x244C
+two_rows : (v : View) → nat_lt v.r.r0 0xA0 ≡ false → Part ends 7 v OPSVAL (told v) OPSTWO
 two_rows v c = record { by = λ f. rw (not_above 0xA0 v.r.r0 false c) refl }
 
 unit_byte : (v : View) → (v.r.r3 == 1) ≡ true → Rest ends 7 9 v UNIT (exit 10 GO (record v { r = record v.r { r6 = 0x0100 } }))
@@ -72,17 +73,17 @@ unit_word v c = record { by = λ f. rw c refl }
 abbrev form : View → View
 form v = record v { r = record v.r { r4 = shifted SRL v.r.r0 2 } }
 
-immediate : (v : View) → last_out SRL v.r.r0 2 ≡ true → Rest ends 7 9 v 0x244C (exit 12 OPVAL (record (form v) { r = record (form v).r { r5 = 2 } }))
+immediate : (v : View) → last_out SRL v.r.r0 2 ≡ true → Rest ends 7 9 v OPSTWO (exit 12 OPVAL (record (form v) { r = record (form v).r { r5 = 2 } }))
 immediate v c = record { by = λ f. rw c refl }
 
-operand : (v : View) → last_out SRL v.r.r0 2 ≡ false → Rest ends 7 9 v 0x244C (exit 11 ADDR (record (form v) { r = record (form v).r { r11 = OPVAL } }))
+operand : (v : View) → last_out SRL v.r.r0 2 ≡ false → Rest ends 7 9 v OPSTWO (exit 11 ADDR (record (form v) { r = record (form v).r { r11 = OPVAL } }))
 operand v c = record { by = λ f. rw c refl }
 
 -- an exit by its cases
 rest_is : {made most : ℕ} {v : View} {p : ℕ} {e d : Exit} → d ≡ e → Rest ends made most v p e → Rest ends made most v p d
 rest_is {made = made} {most = most} {v = v} {p = p} is rest = subst (λ (e : Exit). Rest ends made most v p e) (sym is) rest
 
-pub second_operand : (v : View) → Leads ends v 0x243C (pieces.second_operand v)
+pub second_operand : (v : View) → Leads ends v OPSVAL (pieces.second_operand v)
 second_operand v =
     leads ends
     (pick (nat_lt v.r.r0 0xA0)

@@ -14,6 +14,8 @@ use Rattle.sim_rows.proofs.Steps.{bound_made, bound_stop, row_after, step_row}
 use Rattle.sim_rows.proofs.Ends.{matches, reaches, stops, turned_by}
 use Rattle.sim_rows.proofs.Loading.{first_visible}
 use Rattle.sim_rows.proofs.Operands.{value_same}
+use Rattle.sim_view.specs.Bounds.{most_to_row, most_to_row_stop}
+use Rattle.sim_view.specs.interp_defs.Interpreter.{most_to_dispatch}
 
 -- ---- at the entry of a row
 
@@ -137,7 +139,7 @@ module _ (s : GplState) (x : MachineState) (t : ℕ) (fits : code_byte s < 256) 
     pub source : Source
     pub is_both : operands_of s ≡ Ok (place, source)
     pub is_operation : operation_in s ≡ Some op
-    pub comes : Comes 151 x y t u (row_entry (Some op)) (AtRow s place source)
+    pub comes : Comes most_to_row x y t u (row_entry (Some op)) (AtRow s place source)
 
   started_by : (op : GplOperation) (y : MachineState) (u : ℕ) (told : Option GplOperation) → told ≡ Some op → (r : Result (Place × Source) Reason) →
       operands_of s ≡ r → StartsRow s x y t u told r → Started op y u
@@ -149,7 +151,7 @@ module _ (s : GplState) (x : MachineState) (t : ℕ) (fits : code_byte s < 256) 
         is_both = is;
         is_operation = same;
         comes =
-            subst (λ (p : Option GplOperation). Comes 151 x y t u (row_entry p) (AtRow s o.0 o.1)) same l.1;
+            subst (λ (p : Option GplOperation). Comes most_to_row x y t u (row_entry p) (AtRow s o.0 o.1)) same l.1;
       }
   started_by op y u told e (Err reason) is l = absurd (none_some op (sym l.0 ∙ e))
 
@@ -159,12 +161,13 @@ module _ (s : GplState) (x : MachineState) (t : ℕ) (fits : code_byte s < 256) 
 
   -- an operand that is not visible
   stopped_by : (y : MachineState) (u : ℕ) (told : Option GplOperation) → told ≡ None → (r : Result (Place × Source) Reason) → operands_of s ≡ r →
-      StartsRow s x y t u told r → Turned s 29 x y t u (Stopped Cell)
+      StartsRow s x y t u told r → Turned s most_to_dispatch x y t u (Stopped Cell)
   stopped_by y u told none (Ok o) e l = let op = some_is (operation_in s) row in absurd (none_some op.0 (sym none ∙ l.0 ∙ op.1))
   stopped_by y u told none (Err reason) e l =
       let op = some_is (operation_in s) row in
       let cell : reason ≡ Cell = reason_is (operands_of s) reason (operands_alone s) e in
-      let run : Comes 129 x y t u GSTOP (StoppedBy s Cell) = subst (λ (r : Reason). Comes 129 x y t u GSTOP (StoppedBy s r)) cell l.1 in
+      let run : Comes most_to_row_stop x y t u GSTOP (StoppedBy s Cell) =
+          subst (λ (r : Reason). Comes most_to_row_stop x y t u GSTOP (StoppedBy s r)) cell l.1 in
       let is : step s ≡ Err Cell = step_row s op.0 fits op.1 (subst (λ (o : Option GplOperation). is_row o ≡ true) op.1 row)
       ∙ ap (λ (r : Result (Place × Source) Reason). r >>= row_after s op.0) (e ∙ ap Err cell) in
       let b = bound_stop s Cell is in
@@ -172,13 +175,13 @@ module _ (s : GplState) (x : MachineState) (t : ℕ) (fits : code_byte s < 256) 
       (refl, reaches 29 (bound s) run start refl (omega arith), stops s Cell y (λ e. cc) run.stands run.holds)
 
   pub stopped_row : (y : MachineState) (u : ℕ) (told : Option GplOperation) → told ≡ None → StartsRow s x y t u told (operands_of s) →
-      Turned s 29 x y t u (Stopped Cell)
+      Turned s most_to_dispatch x y t u (Stopped Cell)
   stopped_row y u told none l = stopped_by y u told none (operands_of s) refl l
 
   -- what was made of the operands is the step
   made : (y : MachineState) (u most : ℕ) (place : Place) (source : Source) (op : GplOperation) → operation_in s ≡ Some op → operands_of s ≡ Ok (place, source)
       → most ≤ 411 →
-      (r : Result Changes Reason) → row_result op s place source ≡ r → Comes most x y t u GSTEP (SeesResult r) → Turned s 29 x y t u Stepped
+      (r : Result Changes Reason) → row_result op s place source ≡ r → Comes most x y t u GSTEP (SeesResult r) → Turned s most_to_dispatch x y t u Stepped
   made y u most place source op e is le (Ok c) f run =
       let same : value_at (gone_on s) (row_width s) place ≡ value_at s (row_width s) place = value_same (gone_on s) s (row_width s) place refl refl in
       let after : row_after s op (place, source) ≡ Ok (finished c) =
@@ -195,9 +198,9 @@ module _ (s : GplState) (x : MachineState) (t : ℕ) (fits : code_byte s < 256) 
   turned_as : (y : MachineState) (u most : ℕ) (place : Place) (source : Source) (op : GplOperation) (turn : Turn) → operation_in s ≡ Some op →
       operands_of s ≡ Ok (place, source) → most ≤ 371 →
       (r : Result Changes Reason) → row_result op s place source ≡ r → ((reason : Reason) → r ≡ Err reason → reason ≡ Exit → ⊥) →
-      TurnsBy most s x y t u turn r → Turned s 29 x y t u turn
+      TurnsBy most s x y t u turn r → Turned s most_to_dispatch x y t u turn
   turned_as y u most place source op turn e is le (Ok c) f other run =
-      subst (λ (a : Turn). Turned s 29 x y t u a) (sym run.0) (made y u most place source op e is (omega arith) (Ok c) f run.1)
+      subst (λ (a : Turn). Turned s most_to_dispatch x y t u a) (sym run.0) (made y u most place source op e is (omega arith) (Ok c) f run.1)
   turned_as y u most place source op turn e is le (Err reason) f other run =
       let same : value_at (gone_on s) (row_width s) place ≡ value_at s (row_width s) place = value_same (gone_on s) s (row_width s) place refl refl in
       let after : row_after s op (place, source) ≡ Err reason =
@@ -210,21 +213,21 @@ module _ (s : GplState) (x : MachineState) (t : ℕ) (fits : code_byte s < 256) 
       (run.0, reaches 29 (bound s) run.1 start refl (omega arith), stops s reason y (other reason refl) run.1.stands run.1.holds)
 
   ends_as : (op : GplOperation) (y z : MachineState) (u v most : ℕ) (place : Place) (source : Source) (turn : Turn) →
-      Comes 151 x y t u (row_entry (Some op)) (AtRow s place source) →
+      Comes most_to_row x y t u (row_entry (Some op)) (AtRow s place source) →
       is_end (row_entry (Some op)) ≡ false → (r : Result Changes Reason) → TurnsBy most s y z u v turn r → TurnsBy (151 + most) s x z t v turn r
   ends_as op y z u v most place source turn c entry (Ok d) h = (h.0, comes_on 151 most c h.1 entry)
   ends_as op y z u v most place source turn c entry (Err reason) h = (h.0, comes_on 151 most c h.1 entry)
 
   pub turned_or_stopped : (op : GplOperation) (y z : MachineState) (u v most : ℕ) (turn : Turn) (b : Started op y u) → is_end (row_entry (Some op)) ≡ false →
       ((reason : Reason) → row_result op s b.place b.source ≡ Err reason → reason ≡ Exit → ⊥) → TurnsRow op most y z u v turn → most ≤ 220 →
-      Turned s 29 x z t v turn
+      Turned s most_to_dispatch x z t v turn
   turned_or_stopped op y z u v most turn b entry other r le =
       turned_as z v (151 + most) b.place b.source op turn b.is_operation b.is_both (omega arith) (row_result op s b.place b.source) refl other
       (ends_as op y z u v most b.place b.source turn b.comes entry (row_result op s b.place b.source)
       (r s b.place b.source b.is_operation b.comes.holds b.is_both))
 
   pub turned_row : (op : GplOperation) (y z : MachineState) (u v most : ℕ) (b : Started op y u) → is_end (row_entry (Some op)) ≡ false →
-      RunsRow op most y z u v → most ≤ 260 → Turned s 29 x z t v Stepped
+      RunsRow op most y z u v → most ≤ 260 → Turned s most_to_dispatch x z t v Stepped
   turned_row op y z u v most b entry r le =
       made z v (151 + most) b.place b.source op b.is_operation b.is_both (omega arith) (row_result op s b.place b.source) refl
       (comes_on 151 most b.comes (r s b.place b.source b.is_operation b.comes.holds b.is_both) entry)

@@ -11,6 +11,7 @@ use Rattle.sim_rows.proofs.Again.{idle_told}
 use Rattle.sim_rows.proofs.Fronting.{place_is}
 use Rattle.sim_rows.proofs.Ends.{same_state}
 use Rattle.sim_rows.specs.Pieces as pieces
+use Rattle.sim_view.specs.Bounds.{most_of_show, most_of_store}
 
 -- ---- the changes that STORE makes
 
@@ -99,12 +100,12 @@ pub record ChangedFrom (c : Changes) (v w : View) : Type 0 where
 -- A number is stored after some changes.
 pub store_then : (c : Changes) (width : Width) (place : Place) (number : ℕ) (x y : MachineState) (t u : ℕ) → Storing c width place number (view x) →
     StoresValue x y t u →
-    Comes 16 x y t u (return_of (view x)) (ChangedFrom (with_value width place number c) (view x))
+    Comes most_of_store x y t u (return_of (view x)) (ChangedFrom (with_value width place number c) (view x))
 store_then c width place number x y t u h l =
     let v : View = view x in
     let alone : Changes = with_value width place number (unchanged c.state) in
     let both : Changes = with_value width place number c in
-    let l1 : Comes 16 x y t u (return_of v) (Stored v alone) = subst (λ (k : Changes). Comes 16 x y t u (return_of v) (Stored v k))
+    let l1 : Comes most_of_store x y t u (return_of v) (Stored v alone) = subst (λ (k : Changes). Comes most_of_store x y t u (return_of v) (Stored v k))
     (changes_are c width place number v h) l in
     let splits = value_splits width place number c in
     let keeps = value_keeps width place number c in
@@ -208,7 +209,8 @@ ends_plain x y t u none_marked e c h =
       to_is = refl;
       holds = record { cells = h.cells; vdp = h.vdp; registers = h.registers; held = h.held; grom = h.grom };
     }) in
-    subst (λ (g : GplState). Comes 29 x y t u GSTEP (Sees g g.pc)) (sym same) (comes_as 29 (Sees c.state c.state.pc) run (omega arith) (λ w a. a))
+    subst (λ (g : GplState). Comes most_of_show x y t u GSTEP (Sees g g.pc)) (sym same)
+        (comes_as most_of_show (Sees c.state c.state.pc) run (omega arith) (λ w a. a))
 
 pub drawing : (x y : MachineState) (t u : ℕ) → ((view x).r.r13 ≡ 0 → ⊥) → Exits x y t u (pieces.show (view x)) → Stands y STORE × (view y ≡ drawn (view x))
 drawing x y t u some e = let e2 = exits_by (pieces.show (view x)) (exit 13 STORE (drawn (view x))) (draws_by (view x) some) e in (e2.stands, e2.shows)
@@ -243,8 +245,8 @@ ends_drawn x y z t u w i some e store c h =
     let c1 : Comes 13 x y t u STORE (λ q. q ≡ drawn v) = comes e2 (record { within = omega arith; to_is = refl; holds = refl }) in
     let r8 : (view y).r.r8 ≡ 1 = ap (λ (q : View). q.r.r8) c1.holds in
     let s1 = store (omega arith) in
-    let s2 : Comes 16 y z u w GSTEP (Stored (drawn v) (with_byte_in Vdp (drawn v).r.r7 (high (drawn v).r.r9) (unchanged (state_of (drawn v))))) =
-    subst (λ (q : View). Comes 16 y z u w (return_of q)
+    let s2 : Comes most_of_store y z u w GSTEP (Stored (drawn v) (with_byte_in Vdp (drawn v).r.r7 (high (drawn v).r.r9) (unchanged (state_of (drawn v))))) =
+    subst (λ (q : View). Comes most_of_store y z u w (return_of q)
     (Stored q (with_value (width_in q.r.r3) (place_in q.r.r8 q.r.r7) (of_register (width_in q.r.r3) q.r.r9) (unchanged (state_of q))))) c1.holds s1 in
     let memory : slice_set v.vdp.memory ((drawn v).r.r7 % 16384) (high (drawn v).r.r9) ≡ slice_set c.state.vdp at (slice_index c.state.cells 0x7D) =
     ap (λ n. slice_set v.vdp.memory (n % 16384) (high (drawn v).r.r9)) address
@@ -253,8 +255,8 @@ ends_drawn x y z t u w i some e store c h =
     ∙ ap (λ (l : List ℕ). slice_set l at (slice_index c.state.cells 0x7D)) h.vdp in
     let final : GplState = shown true c.state in
     let same : finished c ≡ final = ap (λ b. shown b c.state) one in
-    subst (λ (g : GplState). Comes 29 x z t w GSTEP (Sees g g.pc)) (sym same)
-    (comes_as 29 (Sees final final.pc) (comes_on 13 16 c1 s2 refl) (omega arith) (λ q b. record {
+    subst (λ (g : GplState). Comes most_of_show x z t w GSTEP (Sees g g.pc)) (sym same)
+    (comes_as most_of_show (Sees final final.pc) (comes_on 13 16 c1 s2 refl) (omega arith) (λ q b. record {
       cells = ap (λ (u : View). u.cells) b.is ∙ h.cells;
       vdp = ap (λ (u : View). u.vdp.memory) b.is ∙ memory;
       registers = ap (λ (u : View). u.vdp.registers) b.is ∙ h.registers;
@@ -277,7 +279,7 @@ finishes x a b y t t1 t2 t3 e l r c width place number h =
     (storing_again c width place number v u h refl refl refl refl refl refl refl refl) in
     let s1 = store_then c width place number a b t1 t2 there l in
     let to : return_of (view a) ≡ SHOW = ap (λ (w : View). even w.r.r11) c1.holds in
-    let s2 : Comes 16 a b t1 t2 SHOW (ChangedFrom (with_value width place number c) (view a)) =
-    subst (λ (p : ℕ). Comes 16 a b t1 t2 p (ChangedFrom (with_value width place number c) (view a))) to s1 in
+    let s2 : Comes most_of_store a b t1 t2 SHOW (ChangedFrom (with_value width place number c) (view a)) =
+    subst (λ (p : ℕ). Comes most_of_store a b t1 t2 p (ChangedFrom (with_value width place number c) (view a))) to s1 in
     let c2 = comes_on 2 16 c1 s2 refl in
     comes_on 18 29 c2 (r (with_value width place number c) c2.holds.changed) refl

@@ -7,6 +7,7 @@ use Rattle.sim_view.specs.Prelude.{GromState, GSTEP, INTERP, join, last_out, LOA
 use Rattle.sim_view.specs.Prelude.{SEEK, shifted, SHOW, SLA, SRL, STORE, sum_of, TABLE, View, WHERE, Word}
 use Rattle.sim_view.specs.gpl_step_defs.declared.cells.TheConstants.{ROW}
 use Rattle.sim_operands.specs.Pieces.{exit, return_of}
+use Rattle.sim_view.specs.native_interp.declared.addresses.TheConstants.{GBYTE, GCODE, GKEEP, OPSDST, OPSVAL}
 
 -- the numbers of the first words of both tables, among the words of the interpreter
 abbrev pub first_entry : ℕ
@@ -17,7 +18,7 @@ first_row = (OPTAB - origin) / 2
 
 -- GSTEP: the address of the next byte is asked for.
 abbrev pub ask_address : View → Exit
-ask_address v = exit 1 WHERE (record v { r = record v.r { r11 = GSTEP + 4 } })
+ask_address v = exit 1 WHERE (record v { r = record v.r { r11 = GKEEP } })
 
 -- WHERE: two reads of the address port give the counter, and the address before it in its GROM comes into
 -- register 6. The counter is lost.
@@ -35,11 +36,11 @@ where_next v =
 
 -- GSTEP, behind WHERE: the address is kept, and GROM is set to it again.
 abbrev pub keep_address : View → Exit
-keep_address v = exit 2 SEEK (record v { r = record v.r { r1 = v.r.r6; r11 = GSTEP + 10 } })
+keep_address v = exit 2 SEEK (record v { r = record v.r { r1 = v.r.r6; r11 = GBYTE } })
 
 -- GSTEP, behind SEEK: the byte is asked for.
 abbrev pub ask_byte : View → Exit
-ask_byte v = exit 1 FETCH (record v { r = record v.r { r11 = GSTEP + 14 } })
+ask_byte v = exit 1 FETCH (record v { r = record v.r { r11 = GCODE } })
 
 -- GSTEP, behind FETCH: the first table leads on by the byte.
 abbrev pub dispatch : View → Exit
@@ -62,11 +63,11 @@ wide_width v =
 
 -- OPS: the place of the first operand is asked for; nothing was stored yet.
 abbrev pub ask_first : View → Exit
-ask_first v = exit 2 ADDR (record v { r = record v.r { r13 = 0; r11 = OPS + 6 } })
+ask_first v = exit 2 ADDR (record v { r = record v.r { r13 = 0; r11 = OPSDST } })
 
 -- OPS, behind ADDR: the value there is asked for, and the place is kept as the destination.
 abbrev pub load_first : View → Exit
-load_first v = exit 3 LOAD (record v { r = record v.r { r7 = v.r.r2; r8 = v.r.r5; r11 = OPS + 14 } })
+load_first v = exit 3 LOAD (record v { r = record v.r { r7 = v.r.r2; r8 = v.r.r5; r11 = OPSVAL } })
 
 -- OPS, behind LOAD: the second operand is an immediate value, or its place is asked for; a row of one operand has 1.
 abbrev pub second_operand : View → Exit

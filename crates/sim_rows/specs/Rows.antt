@@ -8,6 +8,7 @@ use Rattle.sim_view.specs.Prelude.{View, view, Width, word_or_byte}
 use Rattle.sim_view.specs.gpl_defs.Reading.{value_at as value_in}
 use Rattle.sim_operands.specs.Values.{in_register, IsVisible, number_of_space, width_in}
 use Rattle.sim_rows.specs.States.{behind_code, code_byte, operation_in, Sees, StoppedBy}
+use Rattle.sim_view.specs.native_interp.declared.addresses.TheConstants.{OPSVAL}
 
 -- The operations whose operands are loaded in one way, before a second table leads on to the row of each.
 abbrev pub is_row : Option GplOperation → Bool
@@ -142,7 +143,7 @@ pub record Valued (s : GplState) (place : Place) (w : View) : Type 0 where
 -- The destination is found and its value loaded, or the program stops.
 abbrev pub LoadsDestination : GplState → MachineState → MachineState → ℕ → ℕ → Bool → Result Place Reason → Type 0
 LoadsDestination s x y before after went (Ok place) =
-    (went ≡ true) × Comes 67 x y before after (OPS + 14) (Valued s place)
+    (went ≡ true) × Comes 67 x y before after OPSVAL (Valued s place)
 LoadsDestination s x y before after went (Err reason) =
     (went ≡ false) × Comes 47 x y before after GSTOP (StoppedBy s reason)
 

@@ -41,7 +41,7 @@ pub fn ask_first<L: Ledger>(machine: &mut Machine, steps: &mut Steps<L>)
 
 /// The piece of a row that keeps the place as the destination and asks LOAD for its value.
 pub fn load_first<L: Ledger>(machine: &mut Machine, steps: &mut Steps<L>)
-    requires { Stands machine.old (address.OPS + 6) }
+    requires { Stands machine.old address.OPSDST }
     ensures { Exits machine.old machine.new steps.old steps.new (piece.load_first (view machine.old)) }
 {
     run_piece(machine, steps, &[LOAD]);
@@ -49,7 +49,7 @@ pub fn load_first<L: Ledger>(machine: &mut Machine, steps: &mut Steps<L>)
 
 /// The piece of a row that keeps the value and looks at the second operand.
 pub fn second_operand<L: Ledger>(machine: &mut Machine, steps: &mut Steps<L>)
-    requires { Stands machine.old (address.OPS + 14) }
+    requires { Stands machine.old address.OPSVAL }
     ensures { Exits machine.old machine.new steps.old steps.new (piece.second_operand (view machine.old)) }
 {
     run_piece(machine, steps, &[ADDR, OPVAL, GO]);

@@ -31,7 +31,7 @@ pub fn where_next<L: Ledger>(machine: &mut Machine, steps: &mut Steps<L>)
 
 /// The piece of a step that keeps the address and asks SEEK for it.
 pub fn keep_address<L: Ledger>(machine: &mut Machine, steps: &mut Steps<L>)
-    requires { Stands machine.old (address.GSTEP + 4) }
+    requires { Stands machine.old address.GKEEP }
     ensures { Exits machine.old machine.new steps.old steps.new (piece.keep_address (view machine.old)) }
 {
     run_piece(machine, steps, &[SEEK]);
@@ -39,7 +39,7 @@ pub fn keep_address<L: Ledger>(machine: &mut Machine, steps: &mut Steps<L>)
 
 /// The piece of a step that asks FETCH for the code byte.
 pub fn ask_byte<L: Ledger>(machine: &mut Machine, steps: &mut Steps<L>)
-    requires { Stands machine.old (address.GSTEP + 10) }
+    requires { Stands machine.old address.GBYTE }
     ensures { Exits machine.old machine.new steps.old steps.new (piece.ask_byte (view machine.old)) }
 {
     run_piece(machine, steps, &[FETCH]);
@@ -47,7 +47,7 @@ pub fn ask_byte<L: Ledger>(machine: &mut Machine, steps: &mut Steps<L>)
 
 /// The piece of a step that goes where the first table leads.
 pub fn dispatch<L: Ledger>(machine: &mut Machine, steps: &mut Steps<L>)
-    requires { Stands machine.old (address.GSTEP + 14) }
+    requires { Stands machine.old address.GCODE }
     ensures { Exits machine.old machine.new steps.old steps.new (piece.dispatch (view machine.old)) }
 {
     run_piece(machine, steps, &[]);

@@ -5,6 +5,7 @@ ghost use Rattle.sim_rows.specs.Prelude.{AtDispatch, AtEntry, Exits, IsVisible, 
 ghost use Rattle.sim_rows.specs.Prelude.{RunsRow, Stands, state_at_dispatch, Turned, Two, view};
 ghost use Rattle.sim_shift.specs.Pieces.{asking, shifts};
 ghost use Rattle.sim_shift.specs.Family as family;
+ghost use Rattle.sim_rows.specs.sim_view.Bounds.{most_of_shift_row};
 
 use crate::pieces::{
     ask_arithmetic_count, ask_left_count, ask_right_count, ask_turn_count, shift_arithmetic,
@@ -62,7 +63,7 @@ fn run_named<L: Ledger>(machine: &mut Machine, steps: &mut Steps<L>, op: ShiftOp
     requires idle { PortsAreIdle machine.old.cpu.memory }
     requires space { (view machine.old).r.r8 < 2 }
     requires visible { let r = (view machine.old).r in IsVisible r.r8 r.r7 r.r3 }
-    ensures { RunsRow (Two (family.name_of op)) 63 machine.old machine.new steps.old steps.new }
+    ensures { RunsRow (Two (family.name_of op)) most_of_shift_row machine.old machine.new steps.old steps.new }
 {
     ask_count(machine, steps, op);
     if !take_count(machine, steps) {
@@ -76,7 +77,7 @@ fn run_named<L: Ledger>(machine: &mut Machine, steps: &mut Steps<L>, op: ShiftOp
 /// Runs a shift from its row to the end of the step.
 fn run_row<L: Ledger>(machine: &mut Machine, steps: &mut Steps<L>, operation: GplOperation)
     requires { AtEntry family.is_shift operation machine.old }
-    ensures { RunsRow operation 63 machine.old machine.new steps.old steps.new }
+    ensures { RunsRow operation most_of_shift_row machine.old machine.new steps.old steps.new }
 {
     run_named(machine, steps, shift_of(operation));
 }

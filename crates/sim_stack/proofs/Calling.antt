@@ -14,6 +14,8 @@ use Rattle.sim_stack.specs.Stacks.{Called, EndsCall, gone_to, Located, Locates, 
 use Rattle.sim_stack.proofs.Room.{goes_full, goes_on, no_room, stop_turned, two_more, two_stored, with_room}
 use Rattle.sim_stack.proofs.Locating.{next_fits}
 use Rattle.sim_stack.specs.Pieces as pieces
+use Rattle.sim_rows.specs.sim_view.Bounds.{most_of_store}
+use Rattle.sim_rows.specs.interp_defs.Interpreter.{most_to_dispatch}
 
 -- ---- the address that follows
 
@@ -79,8 +81,8 @@ module _ {x a : MachineState} {t t1 : ℕ} (e1 : Exits x a t t1 (pieces.store_ne
         }) in
         let c1 : Comes 4 x a t t1 STORE (λ v. v ≡ (pieces.store_next (view x)).left) =
         comes e1 (record { within = omega arith; to_is = refl; holds = refl }) in
-        let c2 : Comes 16 a b t1 t2 RESUME (ChangedFrom after (view a)) =
-        subst (λ (n : ℕ). Comes 16 a b t1 t2 n (ChangedFrom after (view a))) (ap return_of e1.shows)
+        let c2 : Comes most_of_store a b t1 t2 RESUME (ChangedFrom after (view a)) =
+        subst (λ (n : ℕ). Comes most_of_store a b t1 t2 n (ChangedFrom after (view a))) (ap return_of e1.shows)
         (store_then before Word (cells_at top) s.pc a b t1 t2 storing stored) in
         let back : (view b).r.r14 ≡ target = ap (λ (v : View). v.r.r14) stored.holds.is ∙ ap (λ (v : View). v.r.r14) e1.shows ∙ h.target_is in
         let c3 : Comes 20 x b t t2 RESUME (ChangedFrom after (view a)) = comes_on 4 16 c1 c2 refl in
@@ -141,7 +143,7 @@ module _ (s : GplState) {x a b : MachineState} {t t1 t2 : ℕ} (stands : Stands 
   start : is_end x.cpu.pc ≡ false
   start = ap is_end stands.pc
 
-  pub stopped : b.cpu.pc ≡ GSTOP → Turned s 29 x b t t2 (Stopped Stack)
+  pub stopped : b.cpu.pc ≡ GSTOP → Turned s most_to_dispatch x b t t2 (Stopped Stack)
   stopped here =
       let k = goes_full a b t1 t2 (nat_lt 0xC0 offset) (pieces.full 11 told) (exit 9 WHERE placed) e (λ q. absurd (omega arith)) here in
       let full : on_stack 2 (top_in s) ≡ Err Stack = no_room 0xC0 2 (top_in s) refl (ap (nat_lt 0xC0) (sym offset_top) ∙ k.0) in
@@ -215,7 +217,7 @@ module _ (s : GplState) {x a b : MachineState} {t t1 t2 : ℕ} (stands : Stands 
             target_is = ap (λ (v : View). v.r.r14) is ∙ ap (λ (v : View). v.r.r14) shows ∙ h.target;
           }
 
-      pub turned : (y : MachineState) (t4 : ℕ) → EndsCall c y t3 t4 → Turned s 29 x y t t4 Stepped
+      pub turned : (y : MachineState) (t4 : ℕ) → EndsCall c y t3 t4 → Turned s most_to_dispatch x y t t4 Stepped
       turned y t4 ends_call =
           let room : on_stack 2 (top_in s) ≡ Ok (top_in s) = with_room 0xC0 2 (top_in s) refl (ap (nat_lt 0xC0) (sym offset_top) ∙ went.0) in
           let is = step_by s (Ok (top_in s)) family room in

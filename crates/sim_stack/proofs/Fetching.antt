@@ -11,6 +11,7 @@ use Rattle.sim_rows.specs.sim_operands.Pieces as operands
 use Rattle.sim_stack.specs.Stacks.{EndsFetch, FetchesStacked, LoadsStacked}
 use Rattle.sim_stack.proofs.Room.{byte_back, stacked_is}
 use Rattle.sim_stack.specs.Pieces as pieces
+use Rattle.sim_rows.specs.sim_view.Bounds.{most_of_load, most_of_store}
 
 -- ---- the word on the stack
 
@@ -25,8 +26,8 @@ module _ {x a : MachineState} {t t1 : ℕ} (e : Exits x a t t1 (pieces.ask_stack
   loads y t2 visible may =
       let v : View = view x in
       let asked : View = (pieces.ask_stacked v).left in
-      let by : View → Type 0 = λ w. Comes 17 a y t1 t2 (return_of w) (Loaded w (value_at (state_of w) (width_in w.r.r3) (place_in w.r.r5 w.r.r2))) in
-      let l : Comes 17 a y t1 t2 FETCHA (Loaded asked (value_at (state_of asked) Word (place_in 0 v.r.r2))) = subst by e.shows (may near_loading) in
+      let by : View → Type 0 = λ w. Comes most_of_load a y t1 t2 (return_of w) (Loaded w (value_at (state_of w) (width_in w.r.r3) (place_in w.r.r5 w.r.r2))) in
+      let l : Comes most_of_load a y t1 t2 FETCHA (Loaded asked (value_at (state_of asked) Word (place_in 0 v.r.r2))) = subst by e.shows (may near_loading) in
       let near : v.r.r2 + 2 ≤ 0xC2 = visible refl in
       let number : value_at (state_of asked) Word (place_in 0 v.r.r2) ≡ word_in v.cells v.r.r2 = stacked_is (state_of asked) v.r.r2 v.r.r2 refl (omega arith) in
       let c : Comes 4 x a t t1 LOAD (λ w. w ≡ asked) = comes e (record { within = omega arith; to_is = refl; holds = refl }) in
@@ -106,8 +107,8 @@ module _ {x a : MachineState} {t t1 : ℕ} (e1 : Exits x a t t1 (pieces.store_st
           }) in
           let c1 : Comes 2 x a t t1 STORE (λ v. v ≡ (pieces.store_stacked (view x)).left) =
           comes e1 (record { within = omega arith; to_is = refl; holds = refl }) in
-          let c2 : Comes 16 a b t1 t2 FETCHD (ChangedFrom between (view a)) =
-          subst (λ (n : ℕ). Comes 16 a b t1 t2 n (ChangedFrom between (view a))) (ap return_of e1.shows)
+          let c2 : Comes most_of_store a b t1 t2 FETCHD (ChangedFrom between (view a)) =
+          subst (λ (n : ℕ). Comes most_of_store a b t1 t2 n (ChangedFrom between (view a))) (ap return_of e1.shows)
           (store_then base Word (cells_at top) number a b t1 t2 storing1 stored1) in
           let k = c2.holds.keeps in
           let storing2 : Storing between Byte place byte (view c) = subst (λ (v : View). Storing between Byte place byte v) (sym e2.shows) (record {
@@ -121,8 +122,8 @@ module _ {x a : MachineState} {t t1 : ℕ} (e1 : Exits x a t t1 (pieces.store_st
           }) in
           let c3 : Comes 24 x c t t3 STORE (λ v. v ≡ (pieces.store_byte (view b)).left) =
           comes_then 18 6 (comes_on 2 16 c1 c2 refl) e2 (record { within = omega arith; to_is = refl; holds = refl }) refl in
-          let c4 : Comes 16 c d t3 t4 RESUME (ChangedFrom (with_value Byte place byte between) (view c)) =
-          subst (λ (n : ℕ). Comes 16 c d t3 t4 n (ChangedFrom (with_value Byte place byte between) (view c))) (ap return_of e2.shows)
+          let c4 : Comes most_of_store c d t3 t4 RESUME (ChangedFrom (with_value Byte place byte between) (view c)) =
+          subst (λ (n : ℕ). Comes most_of_store c d t3 t4 n (ChangedFrom (with_value Byte place byte between) (view c))) (ap return_of e2.shows)
           (store_then between Byte place byte c d t3 t4 storing2 stored2) in
           let changed : Changed (with_pc next after) (view d) =
           subst (λ (g : Changes). Changed g (view d)) (pc_aside place.space place.address byte next stacked) c4.holds.changed in

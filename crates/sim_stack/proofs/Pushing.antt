@@ -8,6 +8,7 @@ use Rattle.sim_rows.proofs.Common.{with_cell, Word}
 use Rattle.sim_stack.specs.Pieces.{offset_of, pointer_at}
 use Rattle.sim_stack.proofs.Room.{byte_back, goes_full, goes_on, no_room, one_more, one_stored, with_room}
 use Rattle.sim_stack.specs.Pieces as pieces
+use Rattle.sim_rows.specs.sim_view.Bounds.{most_of_stack_row}
 
 -- ---- the byte
 
@@ -53,7 +54,7 @@ module _ {x a : MachineState} {t u : ℕ} (stands : Stands x PUSHV) (e : Exits x
   pointer_top : (s : GplState) → (view x).cells ≡ s.cells → high pointer ≡ top_in s
   pointer_top s c = one_stored (slice_index (view x).cells 0x72) small ∙ ap (λ (l : List ℕ). grown_by 1 (slice_index l 0x72)) c
 
-  pub stopped : a.cpu.pc ≡ GSTOP → TurnsRow (One PUSH) 160 x a t u (Stopped Stack)
+  pub stopped : a.cpu.pc ≡ GSTOP → TurnsRow (One PUSH) most_of_stack_row x a t u (Stopped Stack)
   stopped here s place source known at is =
       let k = goes_full x a t u (nat_lt 0xC1 offset) (pieces.full 10 told) (exit 10 STO placed) e (λ q. absurd (omega arith)) here in
       let h = at.holds in
@@ -73,7 +74,7 @@ module _ {x a : MachineState} {t u : ℕ} (stands : Stands x PUSHV) (e : Exits x
     pub idle_pushed : PortsAreIdle x.cpu.memory → PortsAreIdle a.cpu.memory
     idle_pushed i = idle_again x.cpu.memory a.cpu.memory (ap (λ (v : View). v.vdp) went.1.shows) (ap (λ (v : View). v.grom) went.1.shows) i
 
-    pub pushes : (y : MachineState) (w : ℕ) → (view x).r.r3 ≡ 1 → StoresResult a y u w → TurnsRow (One PUSH) 160 x y t w Stepped
+    pub pushes : (y : MachineState) (w : ℕ) → (view x).r.r3 ≡ 1 → StoresResult a y u w → TurnsRow (One PUSH) most_of_stack_row x y t w Stepped
     pushes y w one stores s place source known at is =
         let h = at.holds in
         let top = top_in s in

@@ -11,6 +11,7 @@ use Rattle.sim_stack.specs.Stacks.{EndsFetch, fetched_at, FetchesStacked, Fetchi
 use Rattle.sim_stack.proofs.Room.{goes_full, goes_on, no_room, offset_above, with_room}
 use Rattle.sim_stack.proofs.Locating.{later_fits, next_fits}
 use Rattle.sim_stack.specs.Pieces as pieces
+use Rattle.sim_rows.specs.sim_view.Bounds.{most_of_stack_row}
 
 low_fits : (n : ℕ) → low n < 256
 low_fits n = omega arith
@@ -36,7 +37,7 @@ module _ {x a : MachineState} {t t1 : ℕ} (stands : Stands x FETCHV) (e : Exits
       offset_above (slice_index (view x).cells 0x73) (low (view x).r.r2) ((is_view x stands.machine).cells 0x73) (low_fits (view x).r.r2)
       ∙ ap (λ (l : List ℕ). slice_index l 0x73) c
 
-  pub stopped : a.cpu.pc ≡ GSTOP → TurnsRow (One FETCH) 160 x a t t1 (Stopped Stack)
+  pub stopped : a.cpu.pc ≡ GSTOP → TurnsRow (One FETCH) most_of_stack_row x a t t1 (Stopped Stack)
   stopped here s place source known at is =
       let k = goes_full x a t t1 (nat_lt 0xC0 offset) (pieces.full 7 told) (exit 7 WHERE placed) e (λ q. absurd (omega arith)) here in
       let h = at.holds in
@@ -180,7 +181,7 @@ module _ {x a : MachineState} {t t1 : ℕ} (stands : Stands x FETCHV) (e : Exits
 
     -- the row ends with what FETCH changes
     pub reads : (b c d f y : MachineState) (t2 t3 t4 t5 t6 : ℕ) → SetsAside a b t1 t2 → LoadsStacked b c t2 t3 → FetchesStacked c d t3 t4 →
-        Locates FETCHS d f t4 t5 → EndsFetch f y t5 t6 → TurnsRow (One FETCH) 160 x y t t6 Stepped
+        Locates FETCHS d f t4 t5 → EndsFetch f y t5 t6 → TurnsRow (One FETCH) most_of_stack_row x y t t6 Stepped
     reads b c d f y t2 t3 t4 t5 t6 sets loads fetches locates ends s place source known at is =
         let h = at.holds in
         let image : List ℕ = s.image in

@@ -14,6 +14,8 @@ use Rattle.sim_stack.specs.Family.{is_return}
 use Rattle.sim_stack.specs.Stacks.{EndsReturn, gone_back, returned_by, Returning}
 use Rattle.sim_stack.proofs.Room.{goes_full, goes_on, no_room, offset_is, sees_loaded, stacked_is, stop_turned, two_less, with_room}
 use Rattle.sim_stack.specs.Pieces as pieces
+use Rattle.sim_rows.specs.sim_view.Bounds.{most_of_load}
+use Rattle.sim_rows.specs.interp_defs.Interpreter.{most_to_dispatch}
 
 -- ---- the code bytes
 
@@ -174,7 +176,7 @@ module _ (s : GplState) {x a : MachineState} {t u : ℕ} (stands : Stands x GORT
   start : is_end x.cpu.pc ≡ false
   start = ap is_end stands.pc
 
-  pub stopped : a.cpu.pc ≡ GSTOP → Turned s 29 x a t u (Stopped Stack)
+  pub stopped : a.cpu.pc ≡ GSTOP → Turned s most_to_dispatch x a t u (Stopped Stack)
   stopped here =
       let k = goes_full x a t u (nat_lt 0xC0 offset) (pieces.full 9 told) (exit 9 LOAD asked) e (λ q. absurd (omega arith)) here in
       let full : on_stack 2 (top_in s) ≡ Err Stack = no_room 0xC0 2 (top_in s) refl (ap (nat_lt 0xC0) (sym offset_top) ∙ k.0) in
@@ -199,9 +201,9 @@ module _ (s : GplState) {x a : MachineState} {t u : ℕ} (stands : Stands x GORT
 
     module _ {b : MachineState} {w : ℕ} (may : (view a).r.r5 < 2 → LoadsValue a b u w) where
       abbrev Loads : View → Type 0
-      Loads v = Comes 17 a b u w (return_of v) (Loaded v (value_at (state_of v) (width_in v.r.r3) (place_in v.r.r5 v.r.r2)))
+      Loads v = Comes most_of_load a b u w (return_of v) (Loaded v (value_at (state_of v) (width_in v.r.r3) (place_in v.r.r5 v.r.r2)))
 
-      loads : Comes 17 a b u w RTNP (Loaded asked (value_at (state_of asked) Word (place_in 0 offset)))
+      loads : Comes most_of_load a b u w RTNP (Loaded asked (value_at (state_of asked) Word (place_in 0 offset)))
       loads = subst Loads went.1.shows (may space_load)
 
       pub stands_taking : Stands b RTNP
@@ -226,7 +228,7 @@ module _ (s : GplState) {x a : MachineState} {t u : ℕ} (stands : Stands x GORT
             word = ap (λ (k : View). k.r.r6) q.is ∙ word_is;
           })
 
-      pub turned : (y : MachineState) (z : ℕ) → EndsReturn b y w z → Turned s 29 x y t z Stepped
+      pub turned : (y : MachineState) (z : ℕ) → EndsReturn b y w z → Turned s most_to_dispatch x y t z Stepped
       turned y z ends =
           let fits = code_fits s (behind_code s) (view x) (is_view x stands.machine) d.sees in
           let room : on_stack 2 (top_in s) ≡ Ok (top_in s) = with_room 0xC0 2 (top_in s) refl (ap (nat_lt 0xC0) (sym offset_top) ∙ went.0) in

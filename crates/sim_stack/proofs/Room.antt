@@ -7,6 +7,7 @@ use Rattle.sim_rows.proofs.Common.{place_in, plus, reaches, Reason, Sees, Stack,
 use Rattle.sim_rows.proofs.Common.{Word}
 use Rattle.sim_rows.specs.gpl_step_defs.Place.{word_at}
 use Rattle.sim_stack.specs.Pieces.{offset_of}
+use Rattle.sim_rows.specs.interp_defs.Interpreter.{most_to_dispatch}
 
 -- ---- numbers
 
@@ -87,7 +88,7 @@ goes_on x a t u false stop go e is elsewhere = (refl, e)
 
 pub stop_turned : (s : GplState) (x a : MachineState) (t u most : ℕ) → is_end x.cpu.pc ≡ false → step s ≡ Err Stack →
     Comes most x a t u GSTOP (StoppedBy s Stack) → most ≤ 371 →
-    Turned s 29 x a t u (Stopped Stack)
+    Turned s most_to_dispatch x a t u (Stopped Stack)
 stop_turned s x a t u most start is c le =
     let b = bound_stop s Stack is in
     turned_by x a t u 29 (Stopped Stack) s (Err Stack) is (refl, reaches 29 (bound s) c start refl (omega arith), stops s Stack a (λ e. cc) c.stands c.holds)

@@ -13,6 +13,8 @@ use Rattle.sim_stack.proofs.Room.{OnlyStack, stack_alone}
 use Rattle.sim_stack.proofs.Pushing.{top_in}
 use Rattle.sim_stack.proofs.Reading.{top_in as return_top}
 use Rattle.sim_rows.proofs.Family as family
+use Rattle.sim_rows.specs.sim_view.Bounds.{most_of_stack_row}
+use Rattle.sim_rows.specs.interp_defs.Interpreter.{most_to_dispatch}
 
 -- ---- they have the form of bytes alone
 
@@ -56,7 +58,8 @@ module _ {x y : MachineState} {t u : ℕ} {op : GplOperation} {told : Option Gpl
   pub byte_row : (view y).r.r3 ≡ 1
   byte_row = (family.begun rows at is l).comes.holds.holds.bytes_are ∙ ap size_of (narrow (state_at_dispatch (view x)) (family.fits rows at) at.family)
 
-  pub turned : (z : MachineState) (v : ℕ) (turn : Turn) → TurnsRow op 160 y z u v turn → Turned (state_at_dispatch (view x)) 29 x z t v turn
+  pub turned : (z : MachineState) (v : ℕ) (turn : Turn) → TurnsRow op most_of_stack_row y z u v turn
+      → Turned (state_at_dispatch (view x)) most_to_dispatch x z t v turn
   turned z v turn r =
       family.turned_or rows at is l 160 z v turn
       (λ reason e f. never_leaves (row_result op (state_at_dispatch (view x)) (family.begun rows at is l).place (family.begun rows at is l).source) reason

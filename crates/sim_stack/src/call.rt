@@ -1,4 +1,4 @@
-//! CALL.
+//! CALL: the address behind the call goes on the stack of return addresses.
 
 ghost use Rattle.std.specs.Prelude.{◌≡◌, true};
 ghost use Rattle.sim_rows.specs.Prelude.{Dispatched, IsVisible, most_to_dispatch, operation_seen, PortsAreIdle};

@@ -4,6 +4,7 @@ ghost use Rattle.std.specs.Prelude.{◌≡◌};
 ghost use Rattle.sim_rows.specs.Prelude.{AtDispatch, AtEntry, most_to_dispatch, state_at_dispatch, Turned, TurnsRow};
 ghost use Rattle.sim_rows.specs.Prelude.{view};
 ghost use Rattle.sim_stack.specs.Family.{is_stack, is_stack_row};
+ghost use Rattle.sim_rows.specs.sim_view.Bounds.{most_of_stack_row};
 
 use crate::call::run_call;
 use crate::fetch::run_fetched;
@@ -18,7 +19,7 @@ use std::sync::ledger::Ledger;
 fn run_row<L: Ledger>(machine: &mut Machine, steps: &mut Steps<L>, operation: GplOperation) -> Turn
     requires entry { AtEntry is_stack_row operation machine.old }
     requires byte { (view machine.old).r.r3 ≡ 1 }
-    ensures { TurnsRow operation 160 machine.old machine.new steps.old steps.new result }
+    ensures { TurnsRow operation most_of_stack_row machine.old machine.new steps.old steps.new result }
 {
     match operation {
         GplOperation::One(OneName::FETCH) => run_fetched(machine, steps),

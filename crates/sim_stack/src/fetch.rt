@@ -1,10 +1,11 @@
-//! FETCH.
+//! FETCH: the byte at the return address is stored, and that address goes on.
 
 ghost use Rattle.std.specs.Prelude.{◌<◌, ◌≡◌};
 ghost use Rattle.sim_rows.specs.Prelude.{IsFetched, IsVisible, One, PortsAreIdle, Stands, TurnsRow, view};
 ghost use Rattle.sim_stack.specs.Stacks.{EndsFetch, FetchesStacked, LoadsStacked, Locates, SetsAside};
 ghost use Rattle.sim_rows.specs.gpl_defs.declared.instruction.OneName.TheVariants as name;
 ghost use Rattle.sim_rows.specs.native_interp.declared.addresses.TheConstants as address;
+ghost use Rattle.sim_rows.specs.sim_view.Bounds.{most_of_stack_row};
 
 use crate::pieces::{
     ask_byte, ask_stacked, keep_back, keep_byte, keep_place, keep_stacked_next, seek_stacked,
@@ -87,7 +88,7 @@ pub fn run_fetched<L: Ledger>(machine: &mut Machine, steps: &mut Steps<L>) -> Tu
     requires space { (view machine.old).r.r8 < 2 }
     requires byte { (view machine.old).r.r3 ≡ 1 }
     requires visible { let r = (view machine.old).r in IsVisible r.r8 r.r7 r.r3 }
-    ensures { TurnsRow (One name.FETCH) 160 machine.old machine.new steps.old steps.new result }
+    ensures { TurnsRow (One name.FETCH) most_of_stack_row machine.old machine.new steps.old steps.new result }
 {
     keep_place(machine, steps);
     if machine.pc() == GSTOP {

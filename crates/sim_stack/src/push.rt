@@ -1,8 +1,9 @@
-//! PUSH.
+//! PUSH: a byte goes on the data stack.
 
 ghost use Rattle.std.specs.Prelude.{◌≡◌};
 ghost use Rattle.sim_rows.specs.Prelude.{One, PortsAreIdle, PUSH, Stands, TurnsRow, view};
 ghost use Rattle.sim_rows.specs.native_interp.declared.addresses.TheConstants as address;
+ghost use Rattle.sim_rows.specs.sim_view.Bounds.{most_of_stack_row};
 
 use crate::pieces::push_pointer;
 use sim_rows::labels::GSTOP;
@@ -15,7 +16,7 @@ pub fn run_push<L: Ledger>(machine: &mut Machine, steps: &mut Steps<L>) -> Turn
     requires stands { Stands machine.old address.PUSHV }
     requires idle { PortsAreIdle machine.old.cpu.memory }
     requires byte { (view machine.old).r.r3 ≡ 1 }
-    ensures { TurnsRow (One PUSH) 160 machine.old machine.new steps.old steps.new result }
+    ensures { TurnsRow (One PUSH) most_of_stack_row machine.old machine.new steps.old steps.new result }
 {
     push_pointer(machine, steps);
     if machine.pc() == GSTOP {

@@ -1,4 +1,4 @@
-//! RTN and RTNC.
+//! RTN and RTNC: the program goes on at the return address that was stored last.
 
 ghost use Rattle.std.specs.Prelude.{◌≡◌, true};
 ghost use Rattle.sim_rows.specs.Prelude.{Dispatched, most_to_dispatch, operation_seen, Stands, state_at_dispatch};

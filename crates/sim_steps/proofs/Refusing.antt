@@ -3,10 +3,11 @@ use Rattle.std.proofs.Common.{ℕ, ◌≡◌, ap, arith, Err, refl}
 use Rattle.sim_rows.proofs.Common.{bound, bound_stop, comes, Dispatched, Exits, Goes, GplState, GSTOP, is_end, MachineState, Opcode, reaches, Stands, step}
 use Rattle.sim_rows.proofs.Common.{Stopped, StoppedBy, stops, Turned, turned_by, UNKN, view}
 use Rattle.sim_steps.specs.Pieces as pieces
+use Rattle.sim_rows.specs.interp_defs.Interpreter.{most_to_dispatch}
 
 module _ (s : GplState) (x y : MachineState) (t u : ℕ) (d : Dispatched s (view x)) where
   -- a code byte that is no instruction's
-  pub refuses : step s ≡ Err Opcode → Stands x UNKN → Exits x y t u (pieces.stop_code (view x)) → Turned s 29 x y t u (Stopped Opcode)
+  pub refuses : step s ≡ Err Opcode → Stands x UNKN → Exits x y t u (pieces.stop_code (view x)) → Turned s most_to_dispatch x y t u (Stopped Opcode)
   refuses is stands run =
       let h = d.sees in
       let ended : Goes (pieces.stop_code (view x)) 2 GSTOP (StoppedBy s Opcode) =

@@ -8,8 +8,9 @@ use Rattle.sim_steps.specs.Families.{belongs}
 use Rattle.sim_steps.proofs.Refusing.{refuses}
 use Rattle.sim_steps.specs.Pieces as pieces
 use Rattle.sim_steps.proofs.Families as families
+use Rattle.sim_rows.specs.interp_defs.Interpreter.{most_to_dispatch}
 
-module _ (s : GplState) (x y : MachineState) (t u : ℕ) (c : Comes 29 x y t u (operation_entry (operation_at (code_byte s))) (Dispatched s)) where
+module _ (s : GplState) (x y : MachineState) (t u : ℕ) (c : Comes most_to_dispatch x y t u (operation_entry (operation_at (code_byte s))) (Dispatched s)) where
   seen : state_at_dispatch (view y) ≡ s
   seen = state_at (view y) s c.holds
 
@@ -22,9 +23,10 @@ module _ (s : GplState) (x y : MachineState) (t u : ℕ) (c : Comes 29 x y t u (
   pub at_dispatch : (is_one : Option GplOperation → Bool) → is_one (operation_seen (view y)) ≡ true → AtDispatch is_one y
   at_dispatch is_one family = record { stands = stands; dispatched = dispatched; family = family }
 
-  pub turned : (z : MachineState) (after : ℕ) (turn : Turn) → Turned (state_at_dispatch (view y)) 29 y z u after turn → Turned s 0 x z t after turn
+  pub turned : (z : MachineState) (after : ℕ) (turn : Turn) → Turned (state_at_dispatch (view y)) most_to_dispatch y z u after turn
+      → Turned s 0 x z t after turn
   turned z after turn h =
-      turned_from z after s turn c (families.enters (operation_at (code_byte s))) (subst (λ (q : GplState). Turned q 29 y z u after turn) seen h)
+      turned_from z after s turn c (families.enters (operation_at (code_byte s))) (subst (λ (q : GplState). Turned q most_to_dispatch y z u after turn) seen h)
 
 none_of : (o : Option GplOperation) → belongs Refused o ≡ true → o ≡ None
 none_of None e = refl
@@ -34,7 +36,7 @@ pub stands_stop : (y : MachineState) → AtDispatch (belongs Refused) y → Stan
 stands_stop y at = subst (λ (o : Option GplOperation). Stands y (operation_entry o)) (none_of (operation_seen (view y)) at.family) at.stands
 
 pub refused : (y z : MachineState) (u after : ℕ) → AtDispatch (belongs Refused) y → Exits y z u after (pieces.stop_code (view y)) →
-    Turned (state_at_dispatch (view y)) 29 y z u after (Stopped Opcode)
+    Turned (state_at_dispatch (view y)) most_to_dispatch y z u after (Stopped Opcode)
 refused y z u after at run =
     let s = state_at_dispatch (view y) in
     refuses s y z u after at.dispatched (step_none s (none_of (operation_seen (view y)) at.family)) (stands_stop y at) run

@@ -1,4 +1,4 @@
-//! A turn.
+//! A turn of the interpreter, which makes one step of GPL.
 
 ghost use Rattle.sim_rows.specs.Prelude.{AtDispatch, IsMatching, most_to_dispatch, shown_by, state_at_dispatch};
 ghost use Rattle.sim_rows.specs.Prelude.{Turned, view};

@@ -4,12 +4,12 @@ use Rattle.std.specs.Prelude.{◌&&◌, nat_lt, nat_le}
 use Rattle.std.proofs.lemmas.Bool.{leb-true, ltb-true, eqb-true, and_parts}
 use Rattle.console_defs.specs.Memory.{Port, Region, Rom, LowExpansion, HighExpansion, Scratchpad, PortOf, Unmapped, region, port_at, port_region}
 use Rattle.console_defs.proofs.MemoryLaws.{region_low, region_scratchpad, region_ports}
-use Rattle.native_interp.specs.declared.addresses.TheConstants.{WORKSPACE}
+use Rattle.native_interp.specs.declared.addresses.TheConstants.{BEHIND, ORIGIN, WORD_COUNT, WORKSPACE}
 use Rattle.sim_view.proofs.Seen.{Spot, spot, Reg, Code, Cell, Spare, AtThePort, Unknown, port_spot}
 
 abbrev pub Agrees : Spot → Region → Type 0
 Agrees (Reg k) r = (k < 16) × (r ≡ Scratchpad (224 + 2 * k))
-Agrees (Code k) r = (k < 1087) × (r ≡ LowExpansion (2 * k))
+Agrees (Code k) r = (k < WORD_COUNT) × (r ≡ LowExpansion (2 * k))
 Agrees (Cell i) r = (i < 194) × (r ≡ Scratchpad i)
 Agrees (Spare k) r = (k < 15) × (r ≡ Scratchpad (194 + 2 * k))
 Agrees (AtThePort p) r = r ≡ PortOf p
@@ -33,8 +33,8 @@ agrees a =
     let below : a < 0x8400 = ltb-true a 0x8400 h.1 in
     pick (eqb (a % 2) 0) (λ p. let q : a % 2 ≡ 0 = eqb-true (a % 2) 0 p in rw (e, p, region_scratchpad a (omega arith) below, spot)
     (omega arith, ap Scratchpad (omega arith))) (λ p. rw (e, p, spot) tt))
-    (λ n1. pick (nat_le 0x2000 a && nat_lt a 0x287E) (λ e. let h = and_parts _ _ e in let from : 0x2000 ≤ a = leb-true 0x2000 a h.0 in
-    let below : a < 0x287E = ltb-true a 0x287E h.1 in
+    (λ n1. pick (nat_le ORIGIN a && nat_lt a BEHIND) (λ e. let h = and_parts _ _ e in let from : ORIGIN ≤ a = leb-true ORIGIN a h.0 in
+    let below : a < BEHIND = ltb-true a BEHIND h.1 in
     pick (eqb (a % 2) 0) (λ p. let q : a % 2 ≡ 0 = eqb-true (a % 2) 0 p in rw (n1, e, p, region_low a from (omega arith), spot)
     (omega arith, ap LowExpansion (omega arith))) (λ p. rw (n1, e, p, spot) tt))
     (λ n2. pick (nat_le 0x8300 a && nat_lt a 0x83C2) (λ e. let h = and_parts _ _ e in let from : 0x8300 ≤ a = leb-true 0x8300 a h.0 in

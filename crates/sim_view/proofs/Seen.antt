@@ -9,7 +9,7 @@ use Rattle.tms_defs.specs.Operand.{Cpu}
 use Rattle.tms_defs.specs.Step.{execution}
 use Rattle.console_defs.specs.Memory.{Port, VdpDataRead, VdpStatusRead, VdpDataWrite, VdpAddressWrite, GromDataRead, GromAddressRead, GromDataWrite}
 use Rattle.console_defs.specs.Memory.{GromAddressWrite, Region, Rom, LowExpansion, HighExpansion, Scratchpad, PortOf, Unmapped, port_at, port_region}
-use Rattle.native_interp.specs.declared.addresses.TheConstants.{WORKSPACE}
+use Rattle.native_interp.specs.declared.addresses.TheConstants.{BEHIND, ORIGIN, WORKSPACE}
 use Rattle.sim_view.specs.View.{View, Registers, listed, relisted}
 use Rattle.sim_view.specs.Running.{ends_piece}
 use Rattle.native_interp.specs.declared.words.TheConstants.{INTERP}
@@ -41,8 +41,8 @@ spot a =
     elim (nat_le WORKSPACE a && nat_lt a 0x8400) [
       | true ↦ elim (eqb (a % 2) 0) [ true ↦ Reg ((a - WORKSPACE) / 2) | false ↦ Unknown ]
       | false ↦
-          elim (nat_le 0x2000 a && nat_lt a 0x287E) [
-            | true ↦ elim (eqb (a % 2) 0) [ true ↦ Code ((a - 0x2000) / 2) | false ↦ Unknown ]
+          elim (nat_le ORIGIN a && nat_lt a BEHIND) [
+            | true ↦ elim (eqb (a % 2) 0) [ true ↦ Code ((a - ORIGIN) / 2) | false ↦ Unknown ]
             | false ↦
                 elim (nat_le 0x8300 a && nat_lt a 0x83C2) [
                   | true ↦ Cell (a - 0x8300)

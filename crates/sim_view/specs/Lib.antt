@@ -8,4 +8,5 @@ pub use Rattle.interp_defs.specs as interp_defs
 pub mod View
 pub mod Exits
 pub mod Running
+pub mod Bounds
 pub mod Prelude

@@ -6,7 +6,7 @@ ghost use Rattle.interp_defs.specs.Interpreter.{HoldsInterpreter};
 ghost use Rattle.sim_view.specs.View.{Stands};
 
 use console_bus::Bus;
-use native_interp::{INTERP, WORKSPACE};
+use native_interp::{INTERP, ORIGIN, WORKSPACE};
 use tms_step::Machine;
 
 /// Does the machine stand at an address, with the interpreter's words and its workspace?
@@ -18,7 +18,7 @@ pub fn is_ready(machine: &Machine, address: u16) -> bool
     machine.pc() == address && machine.wp() == WORKSPACE && holds_interpreter(machine.bus())
 }
 
-/// Do the interpreter's words stand from >2000 on?
+/// Do the interpreter's words stand from its origin on?
 fn holds_interpreter(bus: &Bus) -> bool
     ensures holds { result ≡ true → HoldsInterpreter bus.now.low_expansion }
     ensures lacks { result ≡ false → HoldsInterpreter bus.now.low_expansion → ⊥ }
@@ -37,7 +37,7 @@ fn holds_word(bus: &Bus, number: u16, word: u16) -> bool
     ensures holds { result ≡ true → word_in bus.now.low_expansion (2 * number) ≡ word }
     ensures lacks { result ≡ false → word_in bus.now.low_expansion (2 * number) ≡ word → ⊥ }
 {
-    match bus.word_at(0x2000 + 2 * number) {
+    match bus.word_at(ORIGIN + 2 * number) {
         Ok(found) => found == word,
         Err(_) => false,
     }

@@ -1,3 +1,4 @@
+// Written by tools/interpreter from crates/native_interp/src/source.
 //! The rows of the lines of branches, the stacks and RAND.
 
 use super::Row;

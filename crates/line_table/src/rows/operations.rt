@@ -1,3 +1,4 @@
+// Written by tools/interpreter from crates/native_interp/src/source.
 //! The rows of the lines of the operations on operands and the tests of the status.
 
 use super::Row;

@@ -1,3 +1,4 @@
+// Written by tools/interpreter from crates/native_interp/src/source.
 //! The rows of the lines of boot, the step, the routines, the operands of a row, the end of a row, ST, B and EXIT.
 
 use super::Row;

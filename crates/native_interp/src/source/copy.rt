@@ -58,7 +58,7 @@ pub const COPY_LINES: [&str; 102] = [
     "MOVER  CLR R7",
     "       MOVB @GRMRD,R7",
     "       SRL R7,8",
-    "       MOV R7,R4",
+    "MOVERC MOV R7,R4",
     "       A R6,R4",
     "       CI R4,8",
     "       JH NOREG",

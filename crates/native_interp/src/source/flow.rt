@@ -146,7 +146,7 @@ pub const FLOW_LINES: [&str; 158] = [
     "GORAND MOVB @PAD+>C1,R6",
     "       SWPB R6",
     "       MOVB @PAD+>C0,R6",
-    "       LI R9,>6FE5",
+    "RANDM  LI R9,>6FE5",
     "       MPY R6,R9",
     "       AI R10,>7AB9",
     "       MOVB R10,@PAD+>C0",

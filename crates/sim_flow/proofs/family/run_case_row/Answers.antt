@@ -3,6 +3,7 @@ use Rattle.sim_rows.proofs.Common.{GplOperation, row_entry, RunsRow, Stands}
 use Rattle.sim_rows.proofs.Family.{at_row, entry, stopped, turned}
 use Rattle.sim_flow.proofs.Dispatch.{case_alone, rows}
 use Rattle.sim_flow.proofs.family.run_case_row.Goals as goal
+use Rattle.sim_rows.specs.sim_view.Bounds.{most_of_case_row}
 
 pub start_row-requires : goal.start_row-requires
 start_row-requires g c = at_row rows c.requires
@@ -19,5 +20,5 @@ pub returns : goal.returns
 returns g c =
     let at = entry rows c.requires c.in-Some.is c.start_row.ensures in
     turned rows c.requires c.in-Some.is c.start_row.ensures 34 (omega arith)
-    (subst (λ (op : GplOperation). RunsRow op 34 c.start_row.new.machine c.run_case.new.machine c.start_row.new.steps c.run_case.new.steps)
+    (subst (λ (op : GplOperation). RunsRow op most_of_case_row c.start_row.new.machine c.run_case.new.machine c.start_row.new.steps c.run_case.new.steps)
     (sym (case_alone _ at.family)) c.run_case.ensures)

@@ -3,6 +3,7 @@ use Rattle.sim_rows.specs.Prelude.{behind_code, behind_first, destination_bytes,
 use Rattle.sim_rows.proofs.Ends.{fetched_of, idle_of}
 use Rattle.sim_rows.proofs.Loading
 use Rattle.sim_rows.proofs.row.load_destination.Goals as goal
+use Rattle.sim_view.specs.native_interp.declared.addresses.TheConstants.{OPSVAL}
 
 pub run_address-requires-clause-idle : goal.run_address-requires-clause-idle
 run_address-requires-clause-idle g c =
@@ -71,7 +72,7 @@ run_load-requires-clause-visible g c =
     c.run_address.new.steps one elsewhere c.run_address.ensures in
     let three = Loading.loading s x c.args.steps.now c.requires.operands c.run_address.new.machine c.load_first.new.machine c.run_address.new.steps
     c.load_first.new.steps two c.load_first.ensures in
-    Loading.visible_at s (destination_bytes s) two.place two.place (behind_first s) 0x243C (view c.load_first.new.machine) three.holds
+    Loading.visible_at s (destination_bytes s) two.place two.place (behind_first s) OPSVAL (view c.load_first.new.machine) three.holds
     (Loading.some_bytes (operation_in s) (word_of s)).0 (Loading.first_visible s two.place two.is_place)
 
 pub returns : goal.returns

@@ -3,6 +3,7 @@ use Rattle.sim_rows.proofs.Common.{GplOperation, RunsRow, ShiftOp, Stands, Two}
 use Rattle.sim_shift.specs.Family.{count_entry, name_of}
 use Rattle.sim_shift.proofs.Dispatch.{counts, named}
 use Rattle.sim_shift.proofs.family.run_row.Goals as goal
+use Rattle.sim_rows.specs.sim_view.Bounds.{most_of_shift_row}
 
 pub run_named-requires-clause-stands : goal.run_named-requires-clause-stands
 run_named-requires-clause-stands g c =
@@ -10,5 +11,5 @@ run_named-requires-clause-stands g c =
 
 pub returns : goal.returns
 returns g c =
-    subst (λ (o : GplOperation). RunsRow o 63 c.args.machine.now c.run_named.new.machine c.args.steps.now c.run_named.new.steps)
+    subst (λ (o : GplOperation). RunsRow o most_of_shift_row c.args.machine.now c.run_named.new.machine c.args.steps.now c.run_named.new.steps)
     (sym (named c.args.operation c.requires.family ∙ ap (λ (op : ShiftOp). Two (name_of op)) (sym c.shift_of.ensures))) c.run_named.ensures

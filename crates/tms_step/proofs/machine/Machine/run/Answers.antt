@@ -1,4 +1,4 @@
-use Rattle.std.proofs.Common.{◌≡◌, ◌+◌, ◌-◌, ℕ, Bool, true, false, refl, sym, ap, ◌∙◌, arith, Option, None}
+use Rattle.std.proofs.Common.{◌≡◌, ◌+◌, ◌-◌, ◌≤◌, ◌<◌, ℕ, Bool, true, false, refl, sym, ap, ◌∙◌, arith, Option, None}
 use Rattle.console_defs.specs.Machine.{machine_step}
 use Rattle.console_defs.specs.Runs.{is_reached}
 use Rattle.tms_defs.specs.declared.step_end.StepEnd.{StepEnd}
@@ -12,6 +12,15 @@ one_tick : (end : StepEnd) → end_of_turn end ≡ None → executed_by end ≡ 
 one_tick (Done word) none = refl
 one_tick (Refused address) none = absurd (cc)
 one_tick (Port address) none = absurd (cc)
+
+-- a step executes one instruction at most
+one_at_most : (end : StepEnd) → executed_by end ≤ 1
+one_at_most (Done word) = omega arith
+one_at_most (Refused address) = omega arith
+one_at_most (Port address) = omega arith
+
+within : (spent made ticks limit : ℕ) → spent ≡ made + ticks → ticks ≤ 1 → made < limit → spent ≤ limit
+within spent made ticks limit is few below = omega arith
 
 steps_more : (start now new made ticks : ℕ) → now ≡ start + made → new ≡ now + ticks → ticks ≡ 1 → new
     ≡ start + (made + 1)
@@ -66,3 +75,10 @@ returns-clause-run g c =
     c.end_at_limit.ensures ∙ ap (end_at_limit c.args.stop) c.pc-2.ensures.value in
     rw (number, told)
     (run_at_limit c.args.stop c.args.limit c.loop-made._made c.args.self.now at c.loop-made.invariant.0 all)
+
+pub returns-in-Some-clause-limit : goal.returns-in-Some-clause-limit
+returns-in-Some-clause-limit g c =
+    within (c.turn.new.steps - c.args.steps.now) c.loop-made._made (executed_by (machine_step c.loop-made.self).0) c.args.limit
+    (risen c.args.steps.now c.loop-made.steps c.turn.new.steps c.loop-made._made
+    (executed_by (machine_step c.loop-made.self).0) c.loop-made.invariant.1 c.turn.ensures.ticks)
+    (one_at_most (machine_step c.loop-made.self).0) c.loop-made-test.true

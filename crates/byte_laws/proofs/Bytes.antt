@@ -1,8 +1,10 @@
 -- What word instructions make of bytes in the high halves of registers, by trying all bytes.
 use Rattle.std.proofs.Common.{ℕ, ◌<◌, ◌≡◌, Bool, eqb, refl, true}
 use Rattle.std.proofs.lemmas.Bool.{agree_below, agree_below_at, eqb-true}
-use Rattle.sim_rows.proofs.Common.{absolute_flags, absolute_of, Byte, complement_of, conjunction_of, difference_flags, exclusive_or_of, high, join}
-use Rattle.sim_rows.proofs.Common.{negation_flags, ones_cleared, ones_set, status_byte, sum_flags, Word}
+use Rattle.tms_defs.specs.Words.{high, join}
+use Rattle.tms_defs.specs.Flags.{absolute_flags, absolute_of, Byte, difference_flags, negation_flags, sum_flags, Word}
+use Rattle.tms_defs.specs.Logic.{complement_of, conjunction_of, exclusive_or_of, ones_cleared, ones_set}
+use Rattle.gpl_step_defs.specs.Changes.{status_byte}
 
 -- a test that holds of all bytes, and of all pairs of bytes
 abbrev of_all : (ℕ → Bool) → Bool

@@ -1,0 +1,15 @@
+-- Written by tools/interpreter from crates/native_interp/src/source.
+-- How many lines and names the source has.
+use Rattle.std.proofs.Common.{ℕ}
+
+-- the lines
+abbrev pub line_count : ℕ
+line_count = 835
+
+-- the lines before the last
+abbrev pub most : ℕ
+most = 834
+
+-- the names
+abbrev pub name_count : ℕ
+name_count = 167

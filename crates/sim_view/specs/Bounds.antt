@@ -1,0 +1,75 @@
+-- How many instructions the parts of a step take at most, as their contracts say. A bound stands here alone. That of
+-- a step up to its dispatch is `most_to_dispatch`, beside what the interpreter is.
+use Rattle.std.specs.Prelude.{ℕ}
+
+-- ADDR, from its entry to its return or to the stop
+abbrev pub most_of_address : ℕ
+most_of_address = 45
+
+-- LOAD, from any place
+abbrev pub most_of_load : ℕ
+most_of_load = 17
+
+-- LOAD, from the bytes that follow in GROM
+abbrev pub most_of_stream : ℕ
+most_of_stream = 11
+
+-- STORE, to the cells or video memory
+abbrev pub most_of_store : ℕ
+most_of_store = 16
+
+-- STORE, to a register of the video processor
+abbrev pub most_of_register_store : ℕ
+most_of_register_store = 9
+
+-- the operands of a row, from the dispatch to the entry of the row, or to the stop
+abbrev pub most_to_row : ℕ
+most_to_row = 151
+
+abbrev pub most_to_row_stop : ℕ
+most_to_row_stop = 129
+
+-- SHOW, from its entry to the next step
+abbrev pub most_of_show : ℕ
+most_of_show = 29
+
+-- STO, from its entry to the next step
+abbrev pub most_of_result : ℕ
+most_of_result = 47
+
+-- the store of a result with its status, from STORE to the next step
+abbrev pub most_of_status : ℕ
+most_of_status = 47
+
+-- from the entry of a row to the end of its step
+abbrev pub most_of_alu_row : ℕ
+most_of_alu_row = 54
+
+abbrev pub most_of_shift_row : ℕ
+most_of_shift_row = 63
+
+abbrev pub most_of_product_row : ℕ
+most_of_product_row = 70
+
+abbrev pub most_of_quotient_row : ℕ
+most_of_quotient_row = 96
+
+abbrev pub most_of_exchange_row : ℕ
+most_of_exchange_row = 70
+
+abbrev pub most_of_case_row : ℕ
+most_of_case_row = 34
+
+abbrev pub most_of_stack_row : ℕ
+most_of_stack_row = 160
+
+-- MOVE, from the dispatch to its copy or its stop
+abbrev pub most_to_copy : ℕ
+most_to_copy = 190
+
+-- MOVE, from one byte to the next, and from behind the last to the next step
+abbrev pub most_of_byte : ℕ
+most_of_byte = 42
+
+abbrev pub most_behind_copy : ℕ
+most_behind_copy = 42
