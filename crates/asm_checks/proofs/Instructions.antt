@@ -1,21 +1,26 @@
--- What an instruction comes to, by the fields of its line.
-use Rattle.std.proofs.Common.{ℕ, List}
+-- What an instruction comes to, by what the first checks left of it.
+use Rattle.std.proofs.Common.{◌≡◌, ℕ, List, sym, ap, subst}
 use Rattle.std.specs.Prelude.{Option, Result}
+use Rattle.source_defs.specs.Refusals.{◌>>=◌}
 use Rattle.source_defs.specs.Expression.{Value}
-use Rattle.asm_text.specs.declared.line_fields.Fields.{Fields}
-use Rattle.asm_forms.specs.Lines.{operation_in, operands_in}
+use Rattle.instruction_defs.specs.SecondChecks.{second_checks}
+use Rattle.asm_forms.specs.Skeletons.{defined_skeleton}
+use Rattle.asm_forms.specs.declared.first_checks.Skeleton.{Skeleton}
 use Rattle.asm_defs.specs.declared.location.Location.{Location}
+use Rattle.asm_defs.specs.Locations.{value_of}
 use Rattle.asm_defs.specs.Statements as said
 use Rattle.asm_defs.specs.SecondChecks as spec
 use Rattle.asm_checks.specs.Answers.{Gives}
-use Rattle.asm_checks.specs.Defined.{HasSize}
-use Rattle.asm_checks.specs.Outcomes.{defined_outcome}
+use Rattle.asm_checks.specs.Defined.{IsLeftOf}
+use Rattle.asm_checks.specs.Outcomes.{defined_outcome, words_by}
 use Rattle.asm_checks.specs.declared.failure.Failure.{Failure}
 use Rattle.asm_checks.specs.declared.second_checks.Outcome.{Outcome}
 
-module _ (look : List ℕ → Option Value) (at : Location) (line : List ℕ) (found : Fields) (result : Result Outcome Failure) where
-  pub instruction_given : (size : ℕ) (operation field : List ℕ) → HasSize line found size operation field
-      → Gives defined_outcome result (spec.instruction_outcome look at (operation_in line found) (operands_in line found))
-      → Gives defined_outcome result (spec.outcome look at (said.Instruction size operation field))
+module _ (look : List ℕ → Option Value) (at : Location) (size : ℕ) (operation field : List ℕ) (skeleton : Skeleton) (is : IsLeftOf operation field size skeleton) where
+  comes : spec.outcome look at (said.Instruction size operation field) ≡ words_by (second_checks look (value_of at) (defined_skeleton skeleton))
   unfolding spec.outcome
-  instruction_given size operation field h given = rw (h.is_operation, h.is_field) given
+  comes = ap (λ skeleton. words_by (skeleton >>= λ skeleton. second_checks look (value_of at) skeleton)) is.checked
+
+  pub instruction_given : (result : Result Outcome Failure) → Gives defined_outcome result (words_by (second_checks look (value_of at) (defined_skeleton skeleton)))
+      → Gives defined_outcome result (spec.outcome look at (said.Instruction size operation field))
+  instruction_given result given = subst (Gives defined_outcome result) (sym comes) given

@@ -1,10 +1,8 @@
 -- What the first checks of the code find, as the definitions have it.
-use Rattle.std.specs.Prelude.{◌≡◌, ◌≤◌, ℕ, true, List, [], Ok}
+use Rattle.std.specs.Prelude.{◌≡◌, ◌≤◌, ℕ, true, List, []}
 use Rattle.asm_defs.specs.Locations.{is_in_part}
 use Rattle.asm_defs.specs.FirstChecks as spec
-use Rattle.source_defs.specs.Fields.{fields}
-use Rattle.asm_text.specs.GivenFields.{defined_fields}
-use Rattle.asm_checks.specs.Defined.{defined_statement, IsInstructionOf, NamesOnly}
+use Rattle.asm_checks.specs.Defined.{defined_statement, KeepsSkeleton, NamesOnly}
 use Rattle.asm_checks.specs.Moves.{defined_move, MovesLittle}
 use Rattle.asm_defs.specs.Statements.{upper_names}
 use Rattle.source_defs.specs.Operands.{operand_texts}
@@ -25,12 +23,12 @@ defined_before before =
     }
 
 abbrev pub defined_said : Said → spec.Said
-defined_said said = record { label = said.fields.label; statement = defined_statement said.statement }
+defined_said said = record { label = said.label; statement = defined_statement said.statement }
 
 abbrev pub defined_checked : Checked → spec.Checked
 defined_checked checked =
     record {
-      label = checked.said.fields.label;
+      label = checked.said.label;
       statement = defined_statement checked.said.statement;
       move = defined_move checked.moved;
     }
@@ -44,10 +42,9 @@ listed_in _ = []
 abbrev pub ListsNames : Said → Type 0
 ListsNames said = said.listed.items ≡ listed_in said.statement
 
--- what a line says, with its fields
-pub record IsSaidOf (line : List ℕ) (said : Said) : Type 0 where
-  pub read : fields line ≡ Ok (defined_fields said.fields)
-  pub instruction : IsInstructionOf line said.fields said.statement
+-- what the code keeps of what a line says
+pub record IsSaid (said : Said) : Type 0 where
+  pub instruction : KeepsSkeleton said.statement
   pub names : NamesOnly said.statement
   pub little : MovesLittle said.statement
 

@@ -1,10 +1,10 @@
 -- What the code finds in a line, as the definitions have it.
-use Rattle.std.specs.Prelude.{ℕ, List, Ok, IsSome, true, ⊤, ◌≡◌}
+use Rattle.std.specs.Prelude.{ℕ, List, Ok, true, ⊤, ◌≡◌}
 use Rattle.std.specs.Option.{option_map}
 use Rattle.source_defs.specs.Operands.{operand_texts}
-use Rattle.instruction_defs.specs.FirstChecks.{line_size}
-use Rattle.asm_forms.specs.Lines.{operation_in, operands_in}
-use Rattle.asm_text.specs.declared.line_fields.Fields.{Fields}
+use Rattle.instruction_defs.specs.FirstChecks.{first_checks, size_of}
+use Rattle.asm_forms.specs.Skeletons.{defined_skeleton}
+use Rattle.asm_forms.specs.declared.first_checks.Skeleton.{Skeleton}
 use Rattle.asm_defs.specs.Statements as spec
 use Rattle.asm_checks.specs.declared.statement.Statement.{Statement}
 use Rattle.asm_checks.specs.declared.statement.Statement.TheVariants.{
@@ -29,7 +29,7 @@ use Rattle.asm_checks.specs.declared.statement.Statement.TheVariants.{
 
 abbrev pub defined_statement : Statement → spec.Statement
 defined_statement Nothing = spec.Nothing
-defined_statement (Instruction size operation field) = spec.Instruction size operation.now field.now
+defined_statement (Instruction size operation field skeleton) = spec.Instruction size operation.now field.now
 defined_statement (Aorg text) = spec.Aorg text.now
 defined_statement (Rorg text) = spec.Rorg (option_map (λ found. found.now) text)
 defined_statement (Dorg text) = spec.Dorg text.now
@@ -54,16 +54,15 @@ NamesOnly _ = ⊤
 
 -- a statement that is no instruction
 abbrev pub IsDirective : Statement → Type 0
-IsDirective (Instruction size operation field) = ⊥
+IsDirective (Instruction size operation field skeleton) = ⊥
 IsDirective _ = ⊤
 
--- an instruction has the fields of its line, and the first checks find its size
-pub record HasSize (line : List ℕ) (found : Fields) (size : ℕ) (operation field : List ℕ) : Type 0 where
-  pub some : IsSome found.operation
-  pub sized : line_size (operation_in line found) (operands_in line found) ≡ Ok size
-  pub is_operation : operation ≡ operation_in line found
-  pub is_field : field ≡ operands_in line found
+-- what the first checks of the code leave of an operation field and an operand field is what they leave of them
+pub record IsLeftOf (operation field : List ℕ) (size : ℕ) (skeleton : Skeleton) : Type 0 where
+  pub checked : first_checks operation field ≡ Ok (defined_skeleton skeleton)
+  pub sized : size_of (defined_skeleton skeleton) ≡ size
 
-abbrev pub IsInstructionOf : List ℕ → Fields → Statement → Type 0
-IsInstructionOf line found (Instruction size operation field) = HasSize line found size operation.now field.now
-IsInstructionOf line found _ = ⊤
+-- an instruction keeps what the first checks leave of its fields
+abbrev pub KeepsSkeleton : Statement → Type 0
+KeepsSkeleton (Instruction size operation field skeleton) = IsLeftOf operation.now field.now size skeleton
+KeepsSkeleton _ = ⊤

@@ -1,26 +1,33 @@
 -- What a line of the code comes to, as the definitions have it.
-use Rattle.std.specs.Prelude.{ℕ, Option, Some, None, Result, Ok, Err}
+use Rattle.std.specs.Prelude.{ℕ, List, Option, Some, None, Result, Ok, Err}
 use Rattle.source_defs.specs.Refusals.{◌>>=◌}
 use Rattle.source_defs.specs.Expression.{Value, known_value}
+use Rattle.instruction_defs.specs.declared.causes.FormError.{FormError}
 use Rattle.instruction_defs.specs.declared.causes.FormError.TheVariants.{BadOperand}
+use Rattle.asm_defs.specs.Statements.{as_form}
 use Rattle.std.specs.Option.{option_map}
 use Rattle.object_defs.specs.declared.spot.Spot.{Spot}
 use Rattle.asm_text.specs.declared.values.Value.{Value as CodeValue}
 use Rattle.asm_text.specs.GivenValues.{defined_value}
 use Rattle.asm_defs.specs.Modules.{spot_of}
-use Rattle.asm_forms.specs.Placed.{defined_words}
+use Rattle.asm_forms.specs.Placed.{defined_words, words_in}
 use Rattle.asm_defs.specs.declared.causes.AsmCause.{AsmCause}
 use Rattle.asm_defs.specs.declared.causes.AsmCause.TheVariants.{Form}
 use Rattle.asm_defs.specs.FirstChecks.{as_expr}
 use Rattle.asm_defs.specs.SecondChecks as spec
 use Rattle.asm_checks.specs.declared.second_checks.Outcome.{Outcome}
-use Rattle.asm_checks.specs.declared.second_checks.Outcome.TheVariants.{Nothing, Words, Bytes, Entry}
+use Rattle.asm_checks.specs.declared.second_checks.Outcome.TheVariants.{Nothing, Instruction, Words, Bytes, Entry}
 
 abbrev pub defined_outcome : Outcome → spec.Outcome
 defined_outcome Nothing = spec.Nothing
+defined_outcome (Instruction placed) = spec.Words (words_in placed)
 defined_outcome (Words words) = spec.Words (defined_words words.items)
 defined_outcome (Bytes bytes) = spec.Bytes bytes.items
 defined_outcome (Entry entry) = spec.Entry entry
+
+-- what the words of an instruction are for its line
+abbrev pub words_by : Result (List Value) FormError → Result spec.Outcome AsmCause
+words_by words = as_form words >>= λ words. Ok (spec.Words words)
 
 abbrev pub byte_answer : Option ℕ → Result ℕ AsmCause
 byte_answer (Some byte) = Ok byte

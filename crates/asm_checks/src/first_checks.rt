@@ -7,7 +7,7 @@ ghost use Rattle.asm_defs.specs.FirstChecks as spec;
 ghost use Rattle.asm_checks.specs.Answers.{Gives};
 ghost use Rattle.asm_checks.specs.Defined.{defined_statement, NamesOnly};
 ghost use Rattle.asm_checks.specs.Moves.{defined_move, MovesLittle};
-ghost use Rattle.asm_checks.specs.Checks.{defined_before, defined_said, defined_checked, IsSaidOf, KnowsPlaces};
+ghost use Rattle.asm_checks.specs.Checks.{defined_before, defined_said, defined_checked, IsSaid, KnowsPlaces};
 ghost use Rattle.asm_checks.specs.Checks.{ListsNames, listed_in};
 ghost use Rattle.asm_checks.specs.Moves.{MovesWithin};
 
@@ -18,7 +18,7 @@ use crate::statement::{Statement, statement_in};
 use crate::titles::title_in;
 use crate::values::Scope;
 use asm_defs::{AsmCause, Location, Part};
-use asm_text::{Fields, Name, Symbols, fields, is_quoted};
+use asm_text::{Name, Symbols, fields, is_quoted};
 use object_tags::MOST_NAMES;
 use std::alloc::{AllocError, Global};
 
@@ -42,8 +42,8 @@ pub struct Before<'a> {
 /// What a line says.
 #[derive(Drop)]
 pub struct Said<'a> {
-    /// Its fields.
-    pub fields: Fields,
+    /// Its label.
+    pub label: Option<Name>,
     /// What stands in them.
     pub statement: Statement<'a>,
     /// The names that DEF or REF lists.
@@ -64,7 +64,7 @@ impl Before<'_> {
     pub fn checked<'b>(&self, text: &'b [u8]) -> Result<Checked<'b>, Failure>
         requires { KnowsPlaces self.now }
         ensures checked { Gives defined_checked result (spec.checked (defined_before self.now) text.now) }
-        ensures line { IfOk result (λ checked. IsSaidOf text.now checked.said) }
+        ensures line { IfOk result (λ checked. IsSaid checked.said) }
         ensures listed { IfOk result (λ checked. ListsNames checked.said) }
         ensures within { IfOk result (λ checked. MovesWithin checked.moved) }
     {
@@ -76,7 +76,7 @@ impl Before<'_> {
     #[tactic(auto, unfolding(asm_defs::specs::FirstChecks::said))]
     fn said<'b>(&self, text: &'b [u8]) -> Result<Said<'b>, Failure>
         ensures said { Gives defined_said result (spec.said (defined_before self.now) text.now) }
-        ensures line { IfOk result (IsSaidOf text.now) }
+        ensures line { IfOk result IsSaid }
         ensures listed { IfOk result ListsNames }
     {
         let found = match fields(text) {
@@ -86,13 +86,13 @@ impl Before<'_> {
         if self.knows_label(&found.label) {
             return Err(Failure::Refused(AsmCause::DuplicateLabel));
         }
-        let statement = statement_in(self.alloc, text, &found)?;
+        let statement = statement_in(text, &found)?;
         let listed = listed_names(self.alloc, &statement)?;
         if self.takes_known(found.label, &statement, listed.as_slice()) {
             return Err(Failure::Refused(AsmCause::DuplicateLabel));
         }
         Ok(Said {
-            fields: found,
+            label: found.label,
             statement,
             listed,
         })
@@ -169,10 +169,10 @@ impl Before<'_> {
     fn is_bad(&self, said: &Said<'_>) -> bool
         requires { ListsNames said.now }
         ensures { result
-            ≡ spec.is_bad (defined_before self.now) said.now.fields.label (defined_statement said.now.statement) }
+            ≡ spec.is_bad (defined_before self.now) said.now.label (defined_statement said.now.statement) }
     {
         match said.statement {
-            Statement::Equ(_) => said.fields.label.is_none(),
+            Statement::Equ(_) => said.label.is_none(),
             Statement::Idt(text) => !(is_quoted(text) && title_in(text).is_some()),
             Statement::Titl(text) => !is_quoted(text),
             Statement::Def(_) => repeats(self.defs, said.listed.as_slice()),

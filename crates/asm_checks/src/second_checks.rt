@@ -1,14 +1,12 @@
 //! The second checks of a line, and what it places.
 
 ghost use Rattle.std.specs.Prelude.{◌≡◌, ◌≤◌, Ok, IsSome, IsOk, map, IfOk, true, length};
-ghost use Rattle.source_defs.specs.Fields as lines;
 ghost use Rattle.source_defs.specs.Symbols.{look_up};
-ghost use Rattle.asm_text.specs.GivenFields.{defined_fields, FieldsLieInside};
 ghost use Rattle.asm_text.specs.GivenValues.{defined_value};
 ghost use Rattle.source_defs.specs.Operands.{operand_texts};
-ghost use Rattle.instruction_defs.specs.FirstChecks.{line_size};
-ghost use Rattle.asm_forms.specs.Lines.{operation_in, operands_in, line_words};
-ghost use Rattle.asm_forms.specs.Placed.{defined_word, defined_words};
+ghost use Rattle.instruction_defs.specs.SecondChecks.{second_checks};
+ghost use Rattle.asm_forms.specs.Placed.{defined_word, defined_words, words_in};
+ghost use Rattle.asm_forms.specs.Skeletons.{defined_skeleton};
 ghost use Rattle.asm_defs.specs.Locations as places;
 ghost use Rattle.asm_defs.specs.Statements as said;
 ghost use Rattle.asm_defs.specs.FirstChecks as first;
@@ -18,9 +16,9 @@ ghost use Rattle.std.specs.List.{list_all};
 ghost use Rattle.source_defs.specs.Refusals.{seen};
 ghost use Rattle.asm_text.specs.Yielded.{Yields};
 ghost use Rattle.asm_checks.specs.Answers.{Gives};
-ghost use Rattle.asm_checks.specs.Defined.{defined_statement, IsInstructionOf, NamesOnly};
+ghost use Rattle.asm_checks.specs.Defined.{defined_statement, KeepsSkeleton, NamesOnly};
 ghost use Rattle.asm_checks.specs.Moves.{MovesLittle};
-ghost use Rattle.asm_checks.specs.Outcomes.{defined_outcome, byte_answer, known_answer};
+ghost use Rattle.asm_checks.specs.Outcomes.{defined_outcome, byte_answer, known_answer, words_by};
 
 use crate::failure::Failure;
 use crate::moves::behind;
@@ -28,8 +26,8 @@ use crate::names::names_in;
 use crate::statement::Statement;
 use crate::values::{Scope, value_at};
 use asm_defs::{AsmCause, Location, Part};
-use asm_forms::{Word, parse_instr};
-use asm_text::{ExprError, Fields, Name, Symbols, Value, operands, quoted_characters};
+use asm_forms::{Placed, Skeleton, Word, words_of};
+use asm_text::{ExprError, Name, Symbols, Value, operands, quoted_characters};
 use instruction_defs::FormError;
 use object_defs::Spot;
 
@@ -38,7 +36,9 @@ use object_defs::Spot;
 pub enum Outcome {
     /// Nothing that is placed.
     Nothing,
-    /// Words.
+    /// The words of an instruction.
+    Instruction(Placed),
+    /// The words of DATA.
     Words(Vec<Word>),
     /// Bytes.
     Bytes(Vec<u8>),
@@ -52,6 +52,7 @@ impl Outcome {
         ensures { result ≡ growing.stands (defined_outcome self.now) }
     {
         match self {
+            Outcome::Instruction(placed) => all_own(placed.words.as_slice()),
             Outcome::Words(words) => all_own(words.as_slice()),
             Outcome::Nothing | Outcome::Bytes(_) => true,
             Outcome::Entry(_) => false,
@@ -60,16 +61,10 @@ impl Outcome {
 }
 
 impl Scope<'_> {
-    /// What a line with its fields comes to, of which the first checks found what it says.
+    /// What a line comes to, of which the first checks found what it says.
     #[tactic(auto, using(crate::proofs::Failures::expr_fails), unfolding(asm_defs::specs::SecondChecks::outcome))]
-    pub fn outcome(
-        &self,
-        line: &[u8],
-        fields: &Fields,
-        statement: &Statement<'_>,
-    ) -> Result<Outcome, Failure>
-        requires read { lines.fields line.now ≡ Ok (defined_fields fields.now) }
-        requires instruction { IsInstructionOf line.now fields.now statement.now }
+    pub fn outcome(&self, statement: &Statement<'_>) -> Result<Outcome, Failure>
+        requires instruction { KeepsSkeleton statement.now }
         requires names { NamesOnly statement.now }
         requires little { MovesLittle statement.now }
         requires at { self.now.at.number ≤ 65536 }
@@ -77,7 +72,7 @@ impl Scope<'_> {
             (spec.outcome (look_up self.now.symbols.now) self.now.at (defined_statement statement.now)) }
     {
         match statement {
-            Statement::Instruction(..) => self.instruction_outcome(line, fields),
+            Statement::Instruction(_, _, _, skeleton) => self.instruction_outcome(skeleton),
             Statement::Data(field) => {
                 let words = self.data_words(field)?;
                 Ok(Outcome::Words(words))
@@ -103,20 +98,15 @@ impl Scope<'_> {
         }
     }
 
-    /// The words of an instruction.
+    /// The words of an instruction, of which the first checks left this.
+    #[inline(never)]
     #[tactic(auto, using(crate::proofs::Failures::form_fails))]
-    fn instruction_outcome(&self, line: &[u8], fields: &Fields) -> Result<Outcome, Failure>
-        requires read { lines.fields line.now ≡ Ok (defined_fields fields.now) }
-        requires operation { IsSome fields.now.operation }
-        requires sized { IsOk (line_size (operation_in line.now fields.now) (operands_in line.now fields.now)) }
+    fn instruction_outcome(&self, skeleton: &Skeleton<'_>) -> Result<Outcome, Failure>
         ensures { Gives defined_outcome result
-            (spec.instruction_outcome (look_up self.now.symbols.now) self.now.at (operation_in line.now fields.now)
-            (operands_in line.now fields.now)) }
+            (words_by (second_checks (look_up self.now.symbols.now) (places.value_of self.now.at) (defined_skeleton skeleton.now))) }
     {
-        let placed = parse_instr(self.alloc, line, fields, self.symbols, value_at(self.at))?;
-        let mut words = Vec::new(self.alloc);
-        words.extend_from_slice(placed.words.as_slice())?;
-        Ok(Outcome::Words(words))
+        let placed = words_of(self.alloc, skeleton, self.symbols, value_at(self.at))?;
+        Ok(Outcome::Instruction(placed))
     }
 
     /// The words of DATA.

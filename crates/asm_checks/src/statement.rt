@@ -7,24 +7,24 @@ ghost use Rattle.source_defs.specs.Operands.{operand_texts};
 ghost use Rattle.asm_defs.specs.Statements as spec;
 ghost use Rattle.source_defs.specs.Refusals.{seen};
 ghost use Rattle.asm_checks.specs.Answers.{Gives};
-ghost use Rattle.asm_checks.specs.Defined.{defined_statement, IsDirective, IsInstructionOf, NamesOnly};
+ghost use Rattle.asm_checks.specs.Defined.{defined_statement, IsDirective, KeepsSkeleton, NamesOnly};
 ghost use Rattle.asm_checks.specs.Moves.{MovesLittle};
 
 use crate::directives::directive;
 use crate::failure::Failure;
 use crate::name_lists::names_of;
 use asm_defs::Directive;
-use asm_forms::size_of;
+use asm_forms::{Skeleton, size_in, skeleton_of};
 use asm_text::{Fields, OperandError, at_most_one_of, one_of, part, quoted, some_of};
-use std::alloc::Global;
+use instruction_defs::FormError;
 
 /// What a line says: an instruction, or a directive with its operands. A field stands for the operands in it.
 #[derive(Clone, Copy)]
 pub enum Statement<'a> {
     /// Nothing, or nothing that has an effect.
     Nothing,
-    /// An instruction by its size, its operation field and its operand field.
-    Instruction(u16, &'a [u8], &'a [u8]),
+    /// An instruction by its size, its operation field, its operand field, and what the first checks leave of them.
+    Instruction(u16, &'a [u8], &'a [u8], Skeleton<'a>),
     /// The expression of an absolute origin.
     Aorg(&'a [u8]),
     /// The expression of a relocatable origin, where it has one.
@@ -60,7 +60,6 @@ pub enum Statement<'a> {
 /// What a line with its fields says.
 #[tactic(auto, using(crate::proofs::Failures::form_fails), unfolding(asm_defs::specs::Statements::statement_in))]
 pub fn statement_in<'a>(
-    alloc: Global,
     line: &'a [u8],
     fields: &Fields,
 ) -> Result<Statement<'a>, Failure>
@@ -70,7 +69,7 @@ pub fn statement_in<'a>(
     ensures said { Gives defined_statement result (spec.statement_in line.now (defined_fields fields.now)) }
     ensures little { IfOk result MovesLittle }
     ensures names { IfOk result NamesOnly }
-    ensures instruction { IfOk result (IsInstructionOf line.now fields.now) }
+    ensures instruction { IfOk result KeepsSkeleton }
 {
     match fields.operation {
         None => Ok(Statement::Nothing),
@@ -78,13 +77,26 @@ pub fn statement_in<'a>(
             let field = part(line, fields.operands);
             match directive(part(line, operation)) {
                 Some(found) => Ok(directive_statement(found, field)?),
-                None => {
-                    let size = size_of(alloc, line, fields)?;
-                    Ok(Statement::Instruction(size, part(line, operation), field))
-                }
+                None => Ok(instruction_statement(part(line, operation), field)?),
             }
         }
     }
+}
+
+/// An instruction with its operands.
+#[inline(never)]
+fn instruction_statement<'a>(
+    operation: &'a [u8],
+    field: &'a [u8],
+) -> Result<Statement<'a>, FormError>
+    ensures said { seen defined_statement result ≡ spec.instruction_statement operation.now field.now }
+    ensures skeleton { IfOk result KeepsSkeleton }
+    ensures little { IfOk result MovesLittle }
+    ensures names { IfOk result NamesOnly }
+{
+    let skeleton = skeleton_of(operation, field)?;
+    let size = size_in(&skeleton);
+    Ok(Statement::Instruction(size, operation, field, skeleton))
 }
 
 /// A directive with its operands.

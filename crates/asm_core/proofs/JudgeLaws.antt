@@ -3,7 +3,6 @@ use Rattle.std.proofs.Common.{◌≡◌, ℕ, ◌+◌, ◌≤◌, true, List, []
 use Rattle.std.specs.Prelude.{Option, nat_le}
 use Rattle.std.proofs.lemmas.Bool.Decides.{nat_tests}
 use Rattle.source_defs.specs.Expression.{Value}
-use Rattle.asm_text.specs.declared.line_fields.Fields.{Fields}
 use Rattle.asm_defs.specs.declared.location.Location.{Location}
 use Rattle.asm_defs.specs.Statements as said
 use Rattle.asm_defs.specs.SecondChecks.{Outcome, outcome}
@@ -11,7 +10,7 @@ use Rattle.asm_defs.specs.declared.content.Content.{Content}
 use Rattle.asm_defs.specs.Memory.{bytes_in, contents_by}
 use Rattle.asm_defs.specs.Growing.{size_said}
 use Rattle.asm_defs.proofs.OutcomeSizes.{IsSized, outcome_size}
-use Rattle.asm_checks.specs.Defined.{defined_statement, IsInstructionOf}
+use Rattle.asm_checks.specs.Defined.{defined_statement, KeepsSkeleton}
 use Rattle.asm_checks.specs.declared.statement.Statement.{Statement}
 use Rattle.asm_checks.specs.declared.statement.Statement.TheVariants.{
   Nothing,
@@ -32,36 +31,37 @@ use Rattle.asm_checks.specs.declared.statement.Statement.TheVariants.{
   Titl,
   End,
 }
-use Rattle.instruction_defs.specs.FirstChecks.{line_size}
+use Rattle.source_defs.specs.Refusals.{◌>>=◌}
+use Rattle.instruction_defs.specs.FirstChecks.{size_of}
 use Rattle.module_image.proofs.HoldingLaws.{contents_length}
 use Rattle.asm_core.specs.Held.{has_room, has_room_by}
 use Rattle.asm_core.specs.Judging.{GivesBytes}
 
 -- an instruction has the size that the first checks find
-pub sized : (line : List ℕ) (found : Fields) (statement : Statement) → IsInstructionOf line found statement → IsSized (defined_statement statement)
-sized line found (Instruction size operation field) is =
-    ap (λ text. line_size text field.now) is.is_operation ∙ (ap (line_size _) is.is_field ∙ is.sized)
-sized line found Nothing is = tt
-sized line found (Aorg text) is = tt
-sized line found (Rorg text) is = tt
-sized line found (Dorg text) is = tt
-sized line found (Bss text) is = tt
-sized line found (Bes text) is = tt
-sized line found Even is = tt
-sized line found (Equ text) is = tt
-sized line found (Data field) is = tt
-sized line found (Byte field) is = tt
-sized line found (Text text) is = tt
-sized line found (Def field) is = tt
-sized line found (Ref field) is = tt
-sized line found (Idt text) is = tt
-sized line found (Titl text) is = tt
-sized line found (End text) is = tt
+pub sized : (statement : Statement) → KeepsSkeleton statement → IsSized (defined_statement statement)
+sized (Instruction size operation field skeleton) is =
+    ap (λ skeleton. skeleton >>= λ skeleton. Ok (size_of skeleton)) is.checked ∙ ap Ok is.sized
+sized Nothing is = tt
+sized (Aorg text) is = tt
+sized (Rorg text) is = tt
+sized (Dorg text) is = tt
+sized (Bss text) is = tt
+sized (Bes text) is = tt
+sized Even is = tt
+sized (Equ text) is = tt
+sized (Data field) is = tt
+sized (Byte field) is = tt
+sized (Text text) is = tt
+sized (Def field) is = tt
+sized (Ref field) is = tt
+sized (Idt text) is = tt
+sized (Titl text) is = tt
+sized (End text) is = tt
 
-pub comes_within : (look : List ℕ → Option Value) (at : Location) (line : List ℕ) (fields : Fields) (statement : Statement) (found : Outcome) → IsInstructionOf line fields statement
+pub comes_within : (look : List ℕ → Option Value) (at : Location) (statement : Statement) (found : Outcome) → KeepsSkeleton statement
     → outcome look at (defined_statement statement) ≡ Ok found → bytes_in found ≡ size_said (defined_statement statement)
-comes_within look at line fields statement found is e =
-    outcome_size look at (defined_statement statement) found (sized line fields statement is) e
+comes_within look at statement found is e =
+    outcome_size look at (defined_statement statement) found (sized statement is) e
 
 pub gives : (at : Location) (found : Outcome) (given : List Content) → at.number + bytes_in found ≤ 65536 → given ≡ contents_by at [] found → GivesBytes at found given
 gives at found given within is =

@@ -4,7 +4,9 @@ pub mod HeldLaws
 pub mod JudgeLaws
 pub mod LineLaws
 pub mod KnownLaws
+pub mod BlankLaws
 pub mod WorkedLaws
+pub mod CountLaws
 pub mod DraftLaws
 pub mod WorkLaws
 pub mod SettleLaws

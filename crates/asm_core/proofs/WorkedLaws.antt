@@ -11,6 +11,7 @@ use Rattle.asm_defs.specs.declared.causes.AsmCause.TheVariants.{Overflow, Overla
 use Rattle.asm_defs.specs.declared.content.Content.{Content}
 use Rattle.asm_defs.specs.declared.location.Location.{Location}
 use Rattle.asm_defs.specs.Locations.{Line, place}
+use Rattle.asm_defs.specs.Statements as said
 use Rattle.asm_defs.specs.Statements.{Statement, said_of}
 use Rattle.asm_defs.specs.SecondChecks.{Outcome, outcome}
 use Rattle.asm_defs.specs.Memory.{Settled, contents_by, references_of, is_placed_in}
@@ -29,6 +30,7 @@ use Rattle.asm_core.specs.declared.judge.Claim.TheVariants as claim
 use Rattle.asm_core.specs.Building.{IsOf, IsKnown, IsWaiting, AreKnown, ImageOf, IsGoing, Refuses, IsStopped, IsWorked}
 use Rattle.asm_core.specs.Judging.{GivesBytes, ComesTo, IsHeld, IsPending, IsRefused, JudgesBy}
 use Rattle.asm_core.specs.Claiming.{AreContents, Stops, ByRoom, Claims}
+use Rattle.asm_core.proofs.BlankLaws.{nothing_placed, nothing_comes, still_room}
 use Rattle.asm_core.proofs.KnownLaws.{onto_more, stand_more, known_more, held_more, known_still, refuses_still, comes_still}
 
 -- a line without room is refused for a cause that is no want of memory
@@ -78,6 +80,19 @@ module _ (known more : Names) (grows : Grows known more) (lines : List Line) (li
       stand = stand_more [] going.founds found going.stand stand;
       image = subst (λ lines. ImageOf lines image') (sym (onto_more [] going.founds found)) placed;
     }
+
+    -- a line that says nothing
+    pub nothing_more : (image' : Option Image) → line.statement ≡ said.Nothing → (ImageOf earlier image → ImageOf (nothing_placed (place lines line) ∷ earlier) image')
+        → IsGoing (line ∷ lines) more image' waiting
+    nothing_more image' says made =
+        let found = nothing_placed (place lines line) in
+        let comes : outcome (look_up more) (place lines line) line.statement ≡ Ok found.outcome =
+        ap (outcome (look_up more) (place lines line)) says ∙ nothing_comes (look_up more) (place lines line) in
+        goes_on image' waiting found
+        (known_more more [] going.order going.founds waiting line found still
+        (subst (λ before. IsKnown more before line found) going.all (record { at = refl; comes = comes })))
+        (record { room = still_room (place lines line) going.founds going.stand; stands = refl })
+        (made going.image)
 
     stops : (cause : AsmCause) (held : Option Pending) (number : ℕ) → number ≡ line.number → Refuses known lines earlier line cause held
         → IsStopped (record { line = number; cause = cause; waiting = held }) (line ∷ lines) more waiting

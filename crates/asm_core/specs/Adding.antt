@@ -1,14 +1,15 @@
 -- What a builder adds of a line.
-use Rattle.std.specs.Prelude.{◌≡◌, ℕ, ◌+◌, ◌++◌, List, ◌∷◌, Ok}
+use Rattle.std.specs.Prelude.{◌≡◌, ℕ, ◌+◌, ◌++◌, List, ◌∷◌, Ok, IsSome}
 use Rattle.source_defs.specs.Growing.{Grows}
 use Rattle.asm_defs.specs.Locations.{Line, place, behind}
 use Rattle.asm_defs.specs.Statements.{said_of}
 use Rattle.asm_defs.specs.FirstChecks.{defs_in, refs_in}
+use Rattle.asm_defs.specs.Memory.{Settled}
 use Rattle.asm_checks.specs.Defined.{defined_statement}
 use Rattle.asm_checks.specs.declared.first_checks.Checked.{Checked}
 use Rattle.asm_core.specs.declared.lines.AsmLines.{AsmLines}
 use Rattle.asm_core.specs.Keeping.{names_with, SameNames}
-use Rattle.asm_core.specs.Building.{IsWorked}
+use Rattle.asm_core.specs.Building.{ImageOf, IsWorked}
 
 -- a line is the next, behind others
 pub record IsNext (builder : AsmLines) (text : List ℕ) (checked : Checked) (lines : List Line) (line : Line) : Type 0 where
@@ -31,3 +32,16 @@ pub record Adds (old : AsmLines) (text : List ℕ) (checked : Checked) (new : As
 pub record IsAsBefore (old new : AsmLines) : Type 0 where
   pub names : SameNames old new
   pub worked : (lines : List Line) → WorksIn lines old → WorksIn lines new
+
+-- a line that says nothing is counted, and the image is ready for the next
+pub record Counts (old new : AsmLines) : Type 0 where
+  pub taken : new.taken ≡ old.taken + 1
+  pub names : SameNames old new
+  pub location : new.location ≡ old.location
+  pub reached : new.reached ≡ old.reached
+  pub title : new.title ≡ old.title
+  pub ended : new.ended ≡ old.ended
+  pub waiting : new.waiting.items ≡ old.waiting.items
+  pub refused : new.refused ≡ old.refused
+  pub ready : IsSome new.image
+  pub image : (founds : List Settled) → ImageOf founds old.image → ImageOf founds new.image

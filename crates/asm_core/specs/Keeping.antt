@@ -24,7 +24,7 @@ known_in builder =
 -- names with those of a line
 abbrev pub names_with : Names → Checked → Names
 names_with names checked =
-    with_names (with_names names (label_entry checked.said.fields.label (defined_value checked.moved.label)))
+    with_names (with_names names (label_entry checked.said.label (defined_value checked.moved.label)))
     (external_entries (refs_in (defined_statement checked.said.statement)))
 
 -- the line is kept with its names

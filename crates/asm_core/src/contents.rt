@@ -31,6 +31,9 @@ pub(crate) fn contents(
         ≡ spec.behind_by at (map defined_ref references.old.items) (defined_outcome outcome.now)) }
 {
     match outcome {
+        Outcome::Instruction(placed) => {
+            word_contents(alloc, references, at, placed.words.as_slice())
+        }
         Outcome::Words(words) => word_contents(alloc, references, at, words.as_slice()),
         Outcome::Bytes(bytes) => byte_contents(alloc, bytes.as_slice()),
         Outcome::Nothing | Outcome::Entry(_) => Ok(Vec::new(alloc)),

@@ -6,7 +6,7 @@ ghost use Rattle.asm_defs.specs.Growing.{size_said, held_place};
 ghost use Rattle.asm_checks.specs.Defined.{defined_statement};
 ghost use Rattle.asm_checks.specs.Moves.{MovesLittle};
 ghost use Rattle.asm_checks.specs.Outcomes.{defined_outcome};
-ghost use Rattle.asm_checks.specs.Checks.{IsSaidOf};
+ghost use Rattle.asm_checks.specs.Checks.{IsSaid};
 ghost use Rattle.asm_core.specs.Held.{has_room};
 ghost use Rattle.asm_core.specs.Judging.{Judges, HasRoom, GivesBytes, IsPending};
 
@@ -47,7 +47,7 @@ pub(crate) struct Judge<'a> {
 impl Judge<'_> {
     /// What is known of a line.
     pub(crate) fn judge(&self, text: &[u8], said: &Said<'_>) -> Result<Judged, AllocError>
-        requires line { IsSaidOf text.now said.now }
+        requires line { IsSaid said.now }
         requires room { HasRoom self.now.at text.now (defined_statement said.now.statement) }
         ensures { IfOk result
             (Judges self.now.symbols.now self.now.number self.now.at text.now (defined_statement said.now.statement)) }
@@ -57,7 +57,7 @@ impl Judge<'_> {
             symbols: self.symbols,
             at: self.at,
         };
-        match scope.outcome(text, &said.fields, &said.statement) {
+        match scope.outcome(&said.statement) {
             Ok(outcome) => {
                 if outcome.stands() {
                     let bytes = self.bytes_of(&outcome)?;

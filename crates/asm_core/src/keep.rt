@@ -101,7 +101,7 @@ impl AsmLines {
         };
         define_line(
             &mut self.symbols,
-            checked.said.fields.label,
+            checked.said.label,
             checked.moved.label,
             refs,
         )

@@ -5,7 +5,7 @@ ghost use Rattle.asm_defs.specs.Locations as places;
 ghost use Rattle.asm_defs.specs.Memory.{Settled};
 ghost use Rattle.asm_checks.specs.Defined.{defined_statement};
 ghost use Rattle.asm_checks.specs.Moves.{MovesWithin};
-ghost use Rattle.asm_checks.specs.Checks.{IsSaidOf};
+ghost use Rattle.asm_checks.specs.Checks.{IsSaid};
 ghost use Rattle.asm_core.specs.Judging.{Judges, HasRoom, ClaimFits};
 ghost use Rattle.asm_core.specs.Building.{ImageOf};
 ghost use Rattle.asm_core.specs.Claiming.{SameKnown, SameLines, AreContents, Places, Stops, Claims};
@@ -35,7 +35,7 @@ impl AsmLines {
     /// What is known of the next line.
     pub(crate) fn judge(&self, text: &[u8], checked: &Checked<'_>) -> Result<Judged, AllocError>
         requires taken { self.now.taken < 2 ^ 32 - 1 }
-        requires line { IsSaidOf text.now checked.now.said }
+        requires line { IsSaid checked.now.said }
         requires within { MovesWithin checked.now.moved }
         requires room { HasRoom (places.behind self.now.location checked.now.moved.gap) text.now (defined_statement checked.now.said.statement) }
         ensures { IfOk result (Judges self.now.symbols (self.now.taken + 1) (places.behind self.now.location checked.now.moved.gap)

@@ -7,10 +7,10 @@ ghost use Rattle.asm_defs.specs.FirstChecks as spec;
 ghost use Rattle.asm_defs.proofs.CheckLaws.{IsTitled};
 ghost use Rattle.asm_checks.specs.Defined.{defined_statement};
 ghost use Rattle.asm_checks.specs.Moves.{defined_move, MovesWithin};
-ghost use Rattle.asm_checks.specs.Checks.{IsSaidOf, ListsNames};
+ghost use Rattle.asm_checks.specs.Checks.{IsSaid, ListsNames};
 ghost use Rattle.asm_core.specs.Judging.{HasRoom};
 ghost use Rattle.asm_core.specs.Keeping.{IsUnchanged, SameWork, StandsStill};
-ghost use Rattle.asm_core.specs.Adding.{Adds, IsAsBefore};
+ghost use Rattle.asm_core.specs.Adding.{Adds, Counts, IsAsBefore};
 ghost use Rattle.asm_core.specs.Building.{IsBehind, Takes, refusal_at};
 
 use crate::error::AsmError;
@@ -18,6 +18,7 @@ use crate::judge::Judged;
 use crate::lines::AsmLines;
 use asm_checks::{Checked, Failure, Statement, behind, location_behind, title_in};
 use asm_defs::{Location, Part};
+use asm_text::is_comment_line;
 use object_tags::ModuleName;
 use std::alloc::AllocError;
 
@@ -27,6 +28,9 @@ impl AsmLines {
         requires { self.old.taken < 2 ^ 32 - 1 }
         ensures { (lines : List places.Line) → IsBehind lines self.old → Takes lines text.now result self.new }
     {
+        if is_comment_line(text) {
+            return Ok(self.count()?);
+        }
         let checked = match self.known().checked(text) {
             Ok(checked) => checked,
             Err(failure) => return Err(self.refusal(failure)),
@@ -36,10 +40,22 @@ impl AsmLines {
         Ok(())
     }
 
+    /// Counts a line that says nothing.
+    fn count(&mut self) -> Result<(), AllocError>
+        requires { self.old.taken < 2 ^ 32 - 1 }
+        ensures counted { OnOk result (Counts self.old self.new) }
+        ensures unchanged { OnErr result (IsAsBefore self.old self.new) }
+        ensures still { OnErr result (StandsStill self.old self.new) }
+    {
+        self.prepare()?;
+        self.taken += 1;
+        Ok(())
+    }
+
     /// Adds a line: its names, and what is known of it. Behind a line that is refused only the names count.
     fn work(&mut self, text: &[u8], checked: &Checked<'_>) -> Result<(), AllocError>
         requires taken { self.old.taken < 2 ^ 32 - 1 }
-        requires line { IsSaidOf text.now checked.now.said }
+        requires line { IsSaid checked.now.said }
         requires listed { ListsNames checked.now.said }
         requires within { MovesWithin checked.now.moved }
         requires room { HasRoom (places.behind self.old.location checked.now.moved.gap) text.now (defined_statement checked.now.said.statement) }

@@ -16,18 +16,22 @@ use instruction_defs::{FormError, Mnemonic, Slot};
 use source_defs::Span;
 use tms_defs::Operation;
 
-/// What the first checks leave of a line.
+/// What the first checks leave of an instruction line. Its operands are still texts.
 #[derive(Clone, Copy)]
-pub(crate) enum Skeleton<'a> {
+pub enum Skeleton<'a> {
     /// A word that has a name of its own.
     Word(u16),
     /// An operation with the forms of its operands.
     Instruction(Operation, UpToTwo<Form<'a>>),
 }
 
-/// The first checks of an operation field and an operand field.
+/// The first checks of an operation field and an operand field. They want no memory.
+///
+/// # Errors
+/// `UnknownOperation`, then `OperandCount`, then `BadOperand` for the first operand that is empty or has a form that its
+/// place does not allow (Editor/Assembler manual, "Assembly Language Instructions").
 #[tactic(auto, unfolding(instruction_defs::specs::FirstChecks::first_checks))]
-pub(crate) fn first_checks<'a>(operation: &[u8], field: &'a [u8]) -> Result<Skeleton<'a>, FormError>
+pub fn skeleton_of<'a>(operation: &[u8], field: &'a [u8]) -> Result<Skeleton<'a>, FormError>
     ensures { skeleton_answer result ≡ spec.first_checks operation.now field.now }
 {
     match mnemonic(operation) {
@@ -121,8 +125,8 @@ fn is_mode_sign(byte: u8) -> bool
     byte == b'*' || byte == b'@'
 }
 
-/// How many bytes the words of a line take.
-pub(crate) fn size_in(skeleton: &Skeleton<'_>) -> u16
+/// How many bytes the words of a line take: 2, 4 or 6.
+pub fn size_in(skeleton: &Skeleton<'_>) -> u16
     ensures { result ≡ spec.size_of (defined_skeleton skeleton.now) }
 {
     match skeleton {

@@ -8,7 +8,7 @@ use asm_text::parentheses_at;
 
 /// How an operand is written, by the texts of its expressions (Editor/Assembler manual, "Addressing Modes").
 #[derive(Clone, Copy)]
-pub(crate) enum Form<'a> {
+pub enum Form<'a> {
     /// An expression alone.
     Plain(&'a [u8]),
     /// `*R`.

@@ -17,7 +17,10 @@ mod text;
 mod up_to_two;
 mod values;
 
+pub use first_checks::{Skeleton, size_in, skeleton_of};
+pub use forms::Form;
 pub use instruction_defs::FormError;
-pub use parse::{parse_instr, size_of};
+pub use parse::{parse_instr, size_of, words_of};
 pub use placed::{Placed, Word};
 pub use print::print_instr;
+pub use up_to_two::UpToTwo;

@@ -12,7 +12,7 @@ ghost use Rattle.asm_forms.specs.Lines.{operation_in, operands_in, line_words};
 ghost use Rattle.asm_forms.specs.Placed.{words_in};
 ghost use Rattle.asm_forms.specs.Skeletons.{defined_skeleton, skeleton_answer};
 
-use crate::first_checks::{Skeleton, first_checks, size_in};
+use crate::first_checks::{Skeleton, size_in, skeleton_of};
 use crate::placed::{Placed, in_range_words, one_word};
 use crate::slots::slots_of;
 use crate::values::Scope;
@@ -72,12 +72,29 @@ pub fn parse_instr(
         (line_words (look_up symbols.now) (defined_value here) (operation_in line.now fields.now) (operands_in line.now fields.now)) }
 {
     let skeleton = line_checks(line, fields)?;
+    words_of(alloc, &skeleton, symbols, here)
+}
+
+/// The words of an instruction line at the place `here`, of which the first checks left this.
+///
+/// # Errors
+/// The second checks, as of `parse_instr`.
+pub fn words_of(
+    alloc: Global,
+    skeleton: &Skeleton<'_>,
+    symbols: &Symbols,
+    here: Value,
+) -> Result<Placed, FormError>
+    requires { IsNotExternal here }
+    ensures { Gives words_in result
+        (second.second_checks (look_up symbols.now) (defined_value here) (defined_skeleton skeleton.now)) }
+{
     let scope = Scope {
         alloc,
         symbols,
         here,
     };
-    second_checks(&scope, skeleton)
+    second_checks(&scope, *skeleton)
 }
 
 /// The first checks of a line with an operation.
@@ -89,5 +106,5 @@ fn line_checks<'a>(line: &'a [u8], fields: &Fields) -> Result<Skeleton<'a>, Form
 {
     let operation = fields.operation.unwrap();
     let field = part(line, fields.operands);
-    first_checks(part(line, operation), field)
+    skeleton_of(part(line, operation), field)
 }

@@ -1,6 +1,6 @@
 -- A text of one token, and one whose first is none.
 use Rattle.std.proofs.Common.{◌≡◌, ℕ, zero, suc, ◌-◌, ◌<◌, true, false, List, [], ◌∷◌, length, Ok, Err, refl, sym, ap, ◌∙◌, arith}
-use Rattle.std.specs.Prelude.{nat_lt, Result, Option}
+use Rattle.std.specs.Prelude.{Bool, nat_lt, Result, Option, if◌then◌else◌}
 use Rattle.std.proofs.lemmas.Bool.Decides.{nat_tests}
 use Rattle.source_defs.specs.declared.causes.ExprError.{ExprError}
 use Rattle.source_defs.specs.declared.causes.ExprError.TheVariants.{BadToken, UnknownName, BadRelocation, DivideByZero, TooLarge, Memory}
@@ -9,7 +9,8 @@ use Rattle.source_defs.specs.Expression as defined
 use Rattle.asm_text.specs.declared.values.Value.{Value}
 use Rattle.asm_text.specs.GivenValues.{defined_value, defined_value_answer}
 use Rattle.asm_text.specs.Yielded.{Yields}
-use Rattle.source_defs.specs.Tokens.{Token, token_at, tokens_from, tokens}
+use Rattle.source_defs.specs.Tokens.{Token, Kind, Number, Name, Here, Text, Sign, token_at, tokens_from, tokens}
+use Rattle.source_defs.specs.Lines.{part}
 
 -- nothing is left at the end
 none_left : (left : ℕ) (text : List ℕ) (at : ℕ) → at ≡ length text → tokens_from left text at ≡ Ok []
@@ -42,11 +43,32 @@ no_token : (text : List ℕ) (cause : ExprError) → 0 < length text → Err cau
 unfolding first_of
 no_token text cause some is = begins text some ∙ ap (first_of text) (sym is)
 
+-- a token's value is that of the tokens that it is alone, where a minus sign has none in either way
+alone : (look : List ℕ → Option defined.Value) (here : defined.Value) (text : List ℕ) (token : Token)
+    → defined.term_value look here text token ≡ defined.value look here text (token ∷ [])
+alone look here text token = by token.kind (part text token.span)
+  where
+    kept : (answer : Result defined.Value ExprError) → answer ≡ (answer >>= λ total. defined.value_with look here text total [])
+    kept (Ok value) = refl
+    kept (Err cause) = refl
+
+    signed : (b : Bool) → Err BadToken ≡ (if b then defined.minus_value look here text [] else (Err BadToken >>= λ total. defined.value_with look here text total []))
+    signed true = refl
+    signed false = refl
+
+    by : (kind : Kind) (written : List ℕ) → defined.kind_value look here text kind written
+        ≡ (if defined.is_minus kind then defined.minus_value look here text [] else (defined.kind_value look here text kind written >>= λ total. defined.value_with look here text total []))
+    by (Number number) written = refl
+    by (Name name) written = kept (defined.known_value (look name))
+    by Here written = refl
+    by Text written = kept (defined.characters_value (defined.characters written))
+    by (Sign operator) written = signed (defined.is_minus (Sign operator))
+
 -- the value of one token is the text's, and so is its refusal
 module _ (look : List ℕ → Option defined.Value) (here : defined.Value) (text : List ℕ) (some : 0 < length text) where
   pub value_is : (token : Token) → Ok token ≡ token_at text 0 → token.span.end ≡ length text
-      → defined.value look here text (token ∷ []) ≡ defined.expression look here text
-  value_is token is end = sym (ap (λ (found : Result (List Token) ExprError). found >>= λ found. defined.value look here text found) (one_token text token some is end))
+      → defined.term_value look here text token ≡ defined.expression look here text
+  value_is token is end = alone look here text token ∙ sym (ap (λ (found : Result (List Token) ExprError). found >>= λ found. defined.value look here text found) (one_token text token some is end))
 
   pub refusal_is : (cause : ExprError) → Err cause ≡ token_at text 0 → Err cause ≡ defined.expression look here text
   refusal_is cause is = sym (ap (λ (found : Result (List Token) ExprError). found >>= λ found. defined.value look here text found) (no_token text cause some is))

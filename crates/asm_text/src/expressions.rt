@@ -5,6 +5,7 @@ ghost use Rattle.source_defs.specs.Symbols.{look_up};
 ghost use Rattle.asm_text.specs.GivenValues.{defined_value, IsNotExternal};
 ghost use Rattle.asm_text.specs.Yielded.{Yields};
 
+use crate::evaluate::term_value;
 use crate::fold::value;
 use crate::scan::{token_at, tokens};
 use crate::symbols::Symbols;
@@ -31,7 +32,7 @@ pub fn expression_value(
             Err(error) => return Err(error),
         };
         if first.span.end == text.len() {
-            return value(&[first], text, symbols, here);
+            return term_value(&first, text, symbols, &here);
         }
     }
     let found = tokens(alloc, text)?;

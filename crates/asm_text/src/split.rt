@@ -1,7 +1,7 @@
 //! A line as fields.
 
 ghost use Rattle.std.specs.Prelude.{◌≡◌, ◌≤◌, ◌<◌, ◌-◌, ◌++◌, ◌↔◌, Some, None, length, take, map, replicate, slice_range};
-ghost use Rattle.std.specs.Prelude.{IfOk, IfSome, if◌then◌else◌};
+ghost use Rattle.std.specs.Prelude.{IfOk, IfSome, if◌then◌else◌, true, nat_le, ◌&&◌, Ok};
 ghost use Rattle.source_defs.specs.Fields as spec;
 ghost use Rattle.source_defs.specs.Characters.{upper_case};
 ghost use Rattle.source_defs.specs.Names.{is_name, IsUpperCaseName};
@@ -60,6 +60,15 @@ pub fn operation_text(line: &[u8]) -> &[u8]
 {
     let start = word_start(line, word_end(line, 0));
     &line[start..word_end(line, start)]
+}
+
+/// Whether a line is a comment of at most 256 bytes: blank, or with an asterisk in column 1. It has no fields then.
+#[tactic(auto, unfolding(source_defs::specs::Fields::fields))]
+pub fn is_comment_line(line: &[u8]) -> bool
+    ensures told { result ≡ (nat_le (length line.now) spec.longest_line && spec.is_comment line.now) }
+    ensures fields { (result ≡ true) → spec.fields line.now ≡ Ok spec.no_fields }
+{
+    line.len() <= LONGEST_LINE && is_comment(line)
 }
 
 /// Whether a line is blank or has an asterisk in column 1.

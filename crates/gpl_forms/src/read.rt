@@ -93,7 +93,7 @@ fn read_operands(operation: GplOperation, code: u8, image: &[u8], at: u16) -> (G
             (GplInstr::Jump { op, to }, next)
         }
         GplOperation::Branch(on) => {
-            let offset = 256 * u16::from(code % 32) + u16::from(image[usize::from(at)]);
+            let offset = u16::from_be_bytes([code % 32, image[usize::from(at)]]);
             (GplInstr::Branch { on, offset }, next_in_grom(at))
         }
         GplOperation::One(op) => {
@@ -240,7 +240,7 @@ fn read_address(first: u8, image: &[u8], at: u16) -> (u16, u16)
     if first % 16 == 15 {
         return read_word(image, at);
     }
-    let address = 256 * u16::from(first % 16) + u16::from(image[usize::from(at)]);
+    let address = u16::from_be_bytes([first % 16, image[usize::from(at)]]);
     (address, next_in_grom(at))
 }
 
@@ -262,6 +262,6 @@ fn read_word(image: &[u8], at: u16) -> (u16, u16)
     ensures { result ≡ spec.word_at image.now at }
 {
     let behind = next_in_grom(at);
-    let word = 256 * u16::from(image[usize::from(at)]) + u16::from(image[usize::from(behind)]);
+    let word = u16::from_be_bytes([image[usize::from(at)], image[usize::from(behind)]]);
     (word, next_in_grom(behind))
 }

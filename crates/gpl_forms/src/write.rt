@@ -74,7 +74,10 @@ fn variant_of(instr: &GplInstr) -> u8
 {
     match instr {
         GplInstr::Plain(_) | GplInstr::Byte { .. } | GplInstr::Jump { .. } => 0,
-        GplInstr::Branch { offset, .. } => (*offset / 256) as u8,
+        GplInstr::Branch { offset, .. } => {
+            let [high, _] = offset.to_be_bytes();
+            high
+        }
         GplInstr::One { word, .. } => u8::from(*word),
         GplInstr::Two { word, src, .. } => 2 * u8::from(is_immediate(src)) + u8::from(*word),
         GplInstr::Move { length, .. } => u8::from(is_counted(length)),
@@ -105,7 +108,10 @@ fn push_operands(bytes: &mut Bytes, instr: &GplInstr)
         GplInstr::Plain(_) => {}
         GplInstr::Byte { value, .. } => bytes.push(*value),
         GplInstr::Jump { to, .. } => push_word(bytes, *to),
-        GplInstr::Branch { offset, .. } => bytes.push((*offset % 256) as u8),
+        GplInstr::Branch { offset, .. } => {
+            let [_, low] = offset.to_be_bytes();
+            bytes.push(low);
+        }
         GplInstr::One { at, .. } => push_operand(bytes, at),
         GplInstr::Two { word, dst, src, .. } => {
             push_operand(bytes, dst);
@@ -189,8 +195,9 @@ fn push_operand(bytes: &mut Bytes, operand: &GplOperand)
     if fits_one_byte(operand) {
         bytes.push(operand.address as u8);
     } else if fits_twelve_bits(operand) {
-        bytes.push(form_bits(operand) + (operand.address / 256) as u8);
-        bytes.push((operand.address % 256) as u8);
+        let [high, low] = operand.address.to_be_bytes();
+        bytes.push(form_bits(operand) + high);
+        bytes.push(low);
         push_index(bytes, operand.index);
     } else {
         bytes.push(form_bits(operand) + 15);
@@ -247,6 +254,7 @@ fn push_word(bytes: &mut Bytes, word: u16)
     ensures items { bytes.new.items ≡ bytes.old.items ++ spec.word_bytes word }
     ensures size { array_vec_len bytes.new ≡ array_vec_len bytes.old + 2 }
 {
-    bytes.push((word / 256) as u8);
-    bytes.push((word % 256) as u8);
+    let [high, low] = word.to_be_bytes();
+    bytes.push(high);
+    bytes.push(low);
 }

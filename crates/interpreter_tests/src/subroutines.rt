@@ -32,10 +32,12 @@ const FETCHED: &[(u16, u16)] = &[
 /// A machine at SEEK, with an address in register 6 and FETCH in register 11.
 fn seeking(alloc: Global, at: u16) -> Result<Machine, AllocError> {
     let mut bus = console(alloc, BYTES)?;
-    bus.set_cell(0xEC, (at / 256) as u8);
-    bus.set_cell(0xED, (at % 256) as u8);
-    bus.set_cell(0xF6, (FETCH / 256) as u8);
-    bus.set_cell(0xF7, (FETCH % 256) as u8);
+    let [high, low] = at.to_be_bytes();
+    bus.set_cell(0xEC, high);
+    bus.set_cell(0xED, low);
+    let [high, low] = FETCH.to_be_bytes();
+    bus.set_cell(0xF6, high);
+    bus.set_cell(0xF7, low);
     Ok(Machine::new(bus, WORKSPACE, SEEK))
 }
 

@@ -1,9 +1,11 @@
 pub mod Reading
+pub mod Counts
 pub mod Blocks
 pub mod FirstBlocks
 pub mod SecondBlocks
 pub mod ThirdBlocks
 pub mod Fronts
+pub mod Chain
 pub mod Known
 pub mod Joined
 pub mod Places

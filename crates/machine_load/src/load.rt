@@ -48,8 +48,9 @@ fn load_memory(alloc: Global, linked: &Linked, grom: &[u8], first: u16) -> Resul
 fn set_first_word(bus: &mut Bus, word: u16)
     ensures { bus.new ≡ with_first_word word bus.old }
 {
-    bus.set_cell(0xE0, (word / 256) as u8);
-    bus.set_cell(0xE1, (word % 256) as u8);
+    let [high, low] = word.to_be_bytes();
+    bus.set_cell(0xE0, high);
+    bus.set_cell(0xE1, low);
 }
 
 /// Puts the linked words at their addresses.

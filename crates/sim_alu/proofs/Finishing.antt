@@ -38,7 +38,7 @@ pub with_status_stored : (x y z q : MachineState) (t u w p : ℕ) → (view x).r
 with_status_stored x y z q t u w p link d e f c width place number status h r12 =
     let done : Changes = with_value width place number c in
     let a : Comes most_of_store x y t u STATB (ChangedFrom done (view x)) =
-        subst (λ (n : ℕ). Comes most_of_store x y t u n (ChangedFrom done (view x))) (ap even link)
+    subst (λ (n : ℕ). Comes most_of_store x y t u n (ChangedFrom done (view x))) (ap even link)
     (store_then c width place number x y t u h d) in
     let b = comes_then 16 2 a e (status_stored done status (view y) a.holds.changed (a.holds.keeps.r12 ∙ r12)) refl in
     comes_on 18 29 b (f (with_status status done) b.holds) refl

@@ -44,7 +44,7 @@ stream_read v w one e =
 
 loads : (a b : MachineState) (t u : ℕ) → (view a).r.r3 ≡ 1 → IsFetched a.cpu.memory.grom → ((view a).r.r5 < 2 → LoadsValue a b t u) →
     (1 < (view a).r.r5 → IsFetched a.cpu.memory.grom → LoadsStream a b t u)
-        → Comes most_of_load a b t u (return_of (view a)) (ReadFrom (view a) (source_in (view a)))
+    → Comes most_of_load a b t u (return_of (view a)) (ReadFrom (view a) (source_in (view a)))
 loads a b t u one fetched near far =
     let v : View = view a in
     let place : Place = place_in v.r.r5 v.r.r2 in

@@ -144,7 +144,7 @@ module _ {x a : MachineState} {t u : ℕ} (ready : IsReady x) (word : width_in (
           let half = with_value Word place (number / 65536) c in
           let s1 = store_then c Word place (number / 65536) a b u u2 there stored in
           let s2 : Comes most_of_store a b u u2 MULB (ChangedFrom half (view a)) =
-              subst (λ (q : ℕ). Comes most_of_store a b u u2 q (ChangedFrom half (view a))) back_is s1 in
+          subst (λ (q : ℕ). Comes most_of_store a b u u2 q (ChangedFrom half (view a))) back_is s1 in
           let c2 = comes_on 4 16 c1 s2 refl in
           let m = view b in
           let ten : m.r.r10 ≡ number % 65536 = c2.holds.keeps.r10 ∙ ap (λ (q : View). q.r.r10) asked.shows ∙ ap (λ (n : ℕ). n % 65536) product in

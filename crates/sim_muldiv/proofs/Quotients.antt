@@ -64,7 +64,7 @@ module _ {x a : MachineState} {t u : ℕ} (idle : PortsAreIdle x.cpu.memory) (sp
           let done = with_value width place number c in
           let s1 = store_then c width place number a b u u2 there stored in
           let s2 : Comes most_of_store a b u u2 DIVE (ChangedFrom done (view a)) =
-              subst (λ (q : ℕ). Comes most_of_store a b u u2 q (ChangedFrom done (view a))) last_back s1 in
+          subst (λ (q : ℕ). Comes most_of_store a b u u2 q (ChangedFrom done (view a))) last_back s1 in
           let c2 = comes_on 1 16 c1 s2 refl in
           let c3 : Comes 20 x d t u3 SHOW (Changed (with_overflow false done)) = comes_then 17 3 c2 second
           (record { within = omega arith; to_is = refl; holds = cleared done (view b) c2.holds.changed }) refl in

@@ -230,7 +230,7 @@ pub finds_second : (s : GplState) (kept place : Place) (at next most : ℕ) (x y
 finds_second s kept place at next most x y z t u w c d =
     let e : return_of (view y) ≡ OPVAL = ap even c.holds.link in
     let d2 : Comes most_of_address y z u w OPVAL (Placed (view y) next place) =
-        subst (λ (p : ℕ). Comes most_of_address y z u w p (Placed (view y) next place)) e d in
+    subst (λ (p : ℕ). Comes most_of_address y z u w p (Placed (view y) next place)) e d in
     comes_as (most + most_of_address) (Found s kept place next) (comes_on most 45 c d2 refl) (omega arith)
     (λ v a. record { kept = kept_addressed s kept at next (view y) v c.holds.kept a; from = from_placed next place (view y) v a })
 

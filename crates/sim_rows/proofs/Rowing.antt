@@ -167,7 +167,7 @@ module _ (s : GplState) (x : MachineState) (t : ℕ) (fits : code_byte s < 256) 
       let op = some_is (operation_in s) row in
       let cell : reason ≡ Cell = reason_is (operands_of s) reason (operands_alone s) e in
       let run : Comes most_to_row_stop x y t u GSTOP (StoppedBy s Cell) =
-          subst (λ (r : Reason). Comes most_to_row_stop x y t u GSTOP (StoppedBy s r)) cell l.1 in
+      subst (λ (r : Reason). Comes most_to_row_stop x y t u GSTOP (StoppedBy s r)) cell l.1 in
       let is : step s ≡ Err Cell = step_row s op.0 fits op.1 (subst (λ (o : Option GplOperation). is_row o ≡ true) op.1 row)
       ∙ ap (λ (r : Result (Place × Source) Reason). r >>= row_after s op.0) (e ∙ ap Err cell) in
       let b = bound_stop s Cell is in

@@ -210,7 +210,7 @@ ends_plain x y t u none_marked e c h =
       holds = record { cells = h.cells; vdp = h.vdp; registers = h.registers; held = h.held; grom = h.grom };
     }) in
     subst (λ (g : GplState). Comes most_of_show x y t u GSTEP (Sees g g.pc)) (sym same)
-        (comes_as most_of_show (Sees c.state c.state.pc) run (omega arith) (λ w a. a))
+    (comes_as most_of_show (Sees c.state c.state.pc) run (omega arith) (λ w a. a))
 
 pub drawing : (x y : MachineState) (t u : ℕ) → ((view x).r.r13 ≡ 0 → ⊥) → Exits x y t u (pieces.show (view x)) → Stands y STORE × (view y ≡ drawn (view x))
 drawing x y t u some e = let e2 = exits_by (pieces.show (view x)) (exit 13 STORE (drawn (view x))) (draws_by (view x) some) e in (e2.stands, e2.shows)

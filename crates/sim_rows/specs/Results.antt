@@ -60,7 +60,7 @@ abbrev pub StartsRow : GplState → MachineState → MachineState → ℕ → �
     → Result (Place × Source) Reason → Type 0
 StartsRow s x y before after told (Ok operands) =
     (told ≡ operation_in s)
-        × Comes most_to_row x y before after (row_entry (operation_in s)) (AtRow s operands.0 operands.1)
+    × Comes most_to_row x y before after (row_entry (operation_in s)) (AtRow s operands.0 operands.1)
 StartsRow s x y before after told (Err reason) =
     (told ≡ None) × Comes most_to_row_stop x y before after GSTOP (StoppedBy s reason)
 

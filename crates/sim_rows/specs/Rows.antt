@@ -2,7 +2,7 @@
 use Rattle.std.specs.Prelude.{ℕ, ◌%◌, ◌+◌, ◌/◌, ◌==◌, ◌≡◌, Bool, Err, false, if◌then◌else◌, nat_lt, ◌<◌, None, not, Ok}
 use Rattle.std.specs.Prelude.{Option, Result, Some, true}
 use Rattle.sim_view.specs.Prelude.{◌>>=◌, Comes, destination_size, GplOperation, GplSource, GplState, GSTOP}
-use Rattle.sim_view.specs.Prelude.{IsFetched, MachineState, One, operand_at, OPS, Place, place_of, PortsAreIdle}
+use Rattle.sim_view.specs.Prelude.{IsFetched, MachineState, One, operand_at, Place, place_of, PortsAreIdle}
 use Rattle.sim_view.specs.Prelude.{Reason, row_entry, size_of, Source, source_at, source_of, Stands, Two, value_at}
 use Rattle.sim_view.specs.Prelude.{View, view, Width, word_or_byte}
 use Rattle.sim_view.specs.gpl_defs.Reading.{value_at as value_in}

@@ -4,7 +4,6 @@ use Rattle.asm_checks.proofs.values.Scope.outcome.Goals as goal
 
 pub returns-in-Instruction : goal.returns-in-Instruction
 returns-in-Instruction c =
-    let h = rw c.in-Instruction.is at c.requires.instruction in
+    let is = rw c.in-Instruction.is at c.requires.instruction in
     rw c.in-Instruction.is
-    (instruction_given (look_up c.args.self.now.symbols.now) c.args.self.now.at c.args.line.now c.args.fields.now
-    c.instruction_outcome.result _ _ _ h c.instruction_outcome.ensures)
+    (instruction_given (look_up c.args.self.now.symbols.now) c.args.self.now.at _ _ _ _ is c.instruction_outcome.result c.instruction_outcome.ensures)

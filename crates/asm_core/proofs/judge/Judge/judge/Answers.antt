@@ -8,5 +8,5 @@ bytes_of-requires c =
     omega (
       arith,
       c.requires.room.fits,
-      comes_within (look_up c.args.self.now.symbols.now) c.args.self.now.at c.args.text.now c.args.said.now.fields c.args.said.now.statement _ c.requires.line.instruction c.in-Ok.ensures,
+      comes_within (look_up c.args.self.now.symbols.now) c.args.self.now.at c.args.said.now.statement _ c.requires.line.instruction c.in-Ok.ensures,
     )

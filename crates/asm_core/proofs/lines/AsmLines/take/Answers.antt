@@ -12,10 +12,21 @@ use Rattle.asm_checks.specs.Checks.{defined_checked}
 use Rattle.asm_core.specs.Keeping.{known_in, names_with}
 use Rattle.asm_core.specs.Building.{IsBehind}
 use Rattle.asm_core.specs.Adding.{IsNext, WorksIn}
+use Rattle.asm_core.proofs.CountLaws.{counted}
 use Rattle.asm_core.proofs.HeldLaws.{has_room}
 use Rattle.asm_core.proofs.LineLaws.{location_more, names_more, known_same}
 use Rattle.asm_core.proofs.WorkLaws.{works_same, still_behind, takes_none}
 use Rattle.asm_core.proofs.lines.AsmLines.take.Goals as goal
+
+pub returns-in_err-count : goal.returns-in_err-count
+returns-in_err-count c = λ lines is.
+    takes_none lines c.args.text.now c.from_residual.result c.count.new.self c.from_residual.ensures.1
+    (still_behind lines c.args.self.now c.count.new.self c.in_err-count.ensures.unchanged c.in_err-count.ensures.still is)
+
+pub returns-then-is_comment_line : goal.returns-then-is_comment_line
+returns-then-is_comment_line c = λ lines is.
+    counted lines c.args.text.now c.args.self.now c.count.new.self (c.is_comment_line.ensures.fields c.if-is_comment_line.true)
+    c.in_ok-count.ensures.counted is {A = Unit {0}} tt
 
 pub work-requires-clause-room : goal.work-requires-clause-room
 work-requires-clause-room c =
@@ -29,7 +40,7 @@ work-requires-clause-room c =
 
 pub returns-in_err-work : goal.returns-in_err-work
 returns-in_err-work c = λ lines is.
-    takes_none lines c.args.text.now c.from_residual.result c.work.new.self c.from_residual.ensures.1
+    takes_none lines c.args.text.now c.from_residual-in_err-work.result c.work.new.self c.from_residual-in_err-work.ensures.1
     (still_behind lines c.args.self.now c.work.new.self c.in_err-work.ensures.unchanged c.in_err-work.ensures.still is)
 
 pub advance-requires-clause-place : goal.advance-requires-clause-place
