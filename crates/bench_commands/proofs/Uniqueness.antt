@@ -12,7 +12,10 @@ use Rattle.report_defs.specs.declared.status.Status.{Status}
 use Rattle.report_defs.specs.declared.status.Status.TheVariants as status
 use Rattle.report_defs.specs.Commands.{command_of, reads}
 use Rattle.report_defs.specs.Report.{Report, Whole, Faulty, Rejected, status_of, largest_input, AcceptedReport, OnInput, ReportOn}
+use Rattle.interp_defs.proofs.MachinesOfRuns.{machines_match_steps}
+use Rattle.line_table.proofs.Joined.{source_gives_words}
 use Rattle.report_defs.proofs.OneReport.{one_report}
+use Rattle.report_defs.proofs.Fronts.{fronts_begin_reports}
 use Rattle.report_defs.proofs.ListedInputs.{listed_inputs_come_back}
 use Rattle.report_defs.proofs.ListedWords.{listed_words_come_back}
 use Rattle.word_listings.proofs.LinkLaw.{entered_listings_link}
@@ -71,13 +74,17 @@ reported run status.Memory nothing none some = absurd (some refl)
 reported run status.Stopped (report, reports, (is, wrote)) none some = (report, reports, sym is, wrote)
 
 pub completeness : Completeness
-completeness run command input report s is told none on ends some =
+completeness run command input s is told none ends some =
     let r = reported run s ends none some in
     let P : Option Command → Type 0 = λ found. ReportsOn found run r.0 in
-    let found : ReportOn command (read_of command input) r.0 = on_input run command input r.0 told (subst P is r.1) in
-    let same : r.0 ≡ report = one_report command (read_of command input) r.0 report found on in
-    let W : Report → Type 0 = λ x. WroteReport run.outputs x in
-    (r.2 ∙ ap status_of same, subst W same r.3)
+    let on : ReportOn command (read_of command input) r.0 = on_input run command input r.0 told (subst P is r.1) in
+    record {
+      report = r.0;
+      reported = on;
+      only = λ other also. one_report command (read_of command input) other r.0 also on;
+      status_is = r.2;
+      wrote = r.3;
+    }
 
 -- two runs that begin alike have one report
 alike : (a b : Run) (found : Option Command) (x y : Report) (begin : BeginAlike a b) → command_of a.words ≡ found → ReportsOn found a x → ReportsOn found b y → x ≡ y
@@ -99,8 +106,11 @@ pub laws : LawsOfRuns
 laws =
     record {
       one_report = one_report;
+      fronts = fronts_begin_reports;
       completeness = completeness;
       one_answer = one_answer;
+      interpreter = source_gives_words;
+      machines = machines_match_steps;
       listed_inputs = listed_inputs_come_back;
       listed_words = listed_words_come_back;
       linked_words = entered_listings_link;

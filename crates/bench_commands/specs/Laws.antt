@@ -3,13 +3,15 @@ use Rattle.std.specs.Prelude.{◌≡◌, ◌≢◌, ℕ, if◌then◌else◌, tr
 use Rattle.count_defs.specs.Counts.{Rose}
 use Rattle.bench_io.specs.Stream.{SourceState}
 use Rattle.word_listings.specs.Linking.{EnteredListingsLink}
+use Rattle.interp_build_defs.specs.Interpreter.{SourceGivesWords}
+use Rattle.interp_defs.specs.Machines.{MachinesMatchSteps}
 use Rattle.report_defs.specs.declared.command.Command.{Command}
 use Rattle.report_defs.specs.declared.status.Status.{Status}
 use Rattle.report_defs.specs.declared.status.Status.TheVariants.{Memory}
 use Rattle.report_defs.specs.Commands.{command_of, reads}
 use Rattle.report_defs.specs.Report.{Report, status_of, ReportOn}
-use Rattle.report_defs.specs.Laws.{OneReport, ListedInputsComeBack, ListedWordsComeBack}
-use Rattle.bench_commands.specs.Run.{Run, EndsBy, WroteReport}
+use Rattle.report_defs.specs.Laws.{OneReport, FrontsBeginReports, ListedInputsComeBack, ListedWordsComeBack}
+use Rattle.bench_commands.specs.Run.{Outputs, Run, EndsBy, WroteReport}
 
 -- no count of faults rose in a run
 pub record HasNoFault (run : Run) : Type 0 where
@@ -25,15 +27,22 @@ read_of command input = if reads command then input else []
 abbrev pub TellsInput : Command → SourceState → List ℕ → Type 0
 TellsInput command source input = reads command ≡ true → source.left ≡ Some input
 
+-- There is a report, and it is the only one; it was written whole, and the status is its own.
+pub record WroteTheReport (Reports : Report → Type 0) (outputs : Outputs) (status : Status) : Type 0 where
+  pub report : Report
+  pub reported : Reports report
+  pub only : (other : Report) → Reports other → other ≡ report
+  pub status_is : status ≡ status_of report
+  pub wrote : WroteReport outputs report
+
 -- The law, which is proved: where the words are a command, the source tells the bytes that it reads and no count rose,
--- the answer is the status of the report on these bytes, and the whole report was written; or memory was wanting.
+-- there is one report on these bytes, it was written whole, and the answer is its status; or memory was wanting.
 abbrev pub Completeness : Type 0
 Completeness =
-    (run : Run) (command : Command) (input : List ℕ) (report : Report) (status : Status)
+    (run : Run) (command : Command) (input : List ℕ) (status : Status)
     → command_of run.words ≡ Some command → TellsInput command run.input input → HasNoFault run
-    → ReportOn command (read_of command input) report
     → EndsBy run status → status ≢ Memory
-    → (status ≡ status_of report) × WroteReport run.outputs report
+    → WroteTheReport (ReportOn command (read_of command input)) run.outputs status
 
 -- two runs begin with the same words, and the bytes that their command reads are told and are the same
 pub record BeginAlike (first second : Run) : Type 0 where
@@ -50,12 +59,17 @@ OneAnswer =
     → EndsBy first one → EndsBy second other → one ≢ Memory → other ≢ Memory
     → one ≡ other
 
--- The laws of all runs; and that what gdis and dis list is assembled to what was listed, and a listing of dis with an
--- entry is linked to it.
+-- The laws of all runs. What is written before the end of a report is known begins the report. The words that the machine
+-- holds are the linked memory of the interpreter's source, and the machine after the first i turns of a program that is
+-- run matches its state after i steps, for each i up to the last. What gdis and dis list is assembled to what was
+-- listed, and a listing of dis with an entry is linked to it.
 pub record LawsOfRuns : Type 0 where
   pub one_report : OneReport
+  pub fronts : FrontsBeginReports
   pub completeness : Completeness
   pub one_answer : OneAnswer
+  pub interpreter : SourceGivesWords
+  pub machines : MachinesMatchSteps
   pub listed_inputs : ListedInputsComeBack
   pub listed_words : ListedWordsComeBack
   pub linked_words : EnteredListingsLink

@@ -65,5 +65,6 @@ pub once_then : (a b c : Copying) (s t u : ShelfState) → ReadsOnce a b s t →
 once_then a b c s t u first next = record {
   copies = omega (arith, first.copies, next.copies);
   most = next.most;
+  opens = omega (arith, first.copies, next.copies, first.opens, next.opens);
   bytes = omega (arith, first.copies, next.copies, first.bytes, next.bytes);
 }

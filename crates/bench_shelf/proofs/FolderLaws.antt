@@ -1,6 +1,7 @@
 -- What opening a file of the current folder tells, as of any shelf.
 use Rattle.std.proofs.Common.{◌≡◌, ◌≤◌, ℕ, List, Result, Ok, Err, refl, ap, ◌∙◌, arith}
 use Rattle.std.specs.Prelude.{⊤, IfErr, OnErr, OnOk}
+use Rattle.count_defs.specs.Counts.{raised}
 use Rattle.bench_shelf.specs.declared.error.OpenError.{OpenError}
 use Rattle.bench_shelf.specs.declared.error.OpenError.TheVariants.{Failed, Missing}
 use Rattle.bench_shelf.specs.Opening.{Refuses, SameCounts, StartsAnew}
@@ -23,10 +24,10 @@ same_counts before after f is calls taken empty =
       empty = ap (λ (g : Folder). g.empty) is ∙ empty;
     }
 
-anew : (before after f : Folder) → after ≡ f → f.given ≡ 0 → f.largest ≡ before.largest
-    → StartsAnew (untold before) (untold after)
-anew before after f is given largest =
-    record { given = ap (λ (g : Folder). g.given) is ∙ given; largest = ap (λ (g : Folder). g.largest) is ∙ largest }
+anew : (before after f : Folder) → after ≡ f → f.opens ≡ raised before.opens 1 → f.given ≡ 0
+    → f.largest ≡ before.largest → StartsAnew (untold before) (untold after)
+anew before after f is opens given largest =
+    record { opens = ap (λ (g : Folder). g.opens) is ∙ opens; given = ap (λ (g : Folder). g.given) is ∙ given; largest = ap (λ (g : Folder). g.largest) is ∙ largest }
 
 module _ {A : Type 0} (before after : Folder) where
   pub tells_refused : (name : List ℕ) (r : Result A OpenError) → OpensFrom before r after
@@ -42,9 +43,9 @@ module _ {A : Type 0} (before after : Folder) where
   tells_counts (Err Missing) opens = same_counts before after _ opens.1 refl refl refl
 
   pub tells_anew : (r : Result A OpenError) → OpensFrom before r after → StartsAnew (untold before) (untold after)
-  tells_anew (Ok value) opens = anew before after _ opens refl refl
-  tells_anew (Err Failed) opens = anew before after _ opens.1 refl refl
-  tells_anew (Err Missing) opens = anew before after _ opens.1 refl refl
+  tells_anew (Ok value) opens = anew before after _ opens refl refl refl
+  tells_anew (Err Failed) opens = anew before after _ opens.1 refl refl refl
+  tells_anew (Err Missing) opens = anew before after _ opens.1 refl refl refl
 
   pub tells_faults : (r : Result A OpenError) → OpensFrom before r after → before.faults ≤ after.faults
   tells_faults (Ok value) opens = let same = ap (λ (f : Folder). f.faults) opens in omega (arith, same)

@@ -7,7 +7,7 @@ use Rattle.bench_shelf.specs.Reading.{SameFiles, GaveMore, GaveNoMore, GaveInAll
 use Rattle.bench_shelf.specs.Causes.{TookNoMore}
 
 pub same_then : (a b c : ShelfState) → SameFiles a b → SameFiles b c → SameFiles a c
-same_then a b c first then = record { files = then.files ∙ first.files; misses = then.misses ∙ first.misses }
+same_then a b c first then = record { files = then.files ∙ first.files; opens = then.opens ∙ first.opens; misses = then.misses ∙ first.misses }
 
 pub within_then : (limit : ℕ) (a b c : ShelfState) → TookNoMore limit a b → TookNoMore limit b c → TookNoMore limit a c
 within_then limit a b c first then = omega (arith, first, then)

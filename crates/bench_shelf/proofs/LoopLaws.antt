@@ -1,7 +1,10 @@
 -- Lines of a file that are taken one after the other.
 use Rattle.std.proofs.Common.{◌≡◌, ℕ, ◌+◌, ◌*◌, ◌≤◌, List, [], ◌∷◌, Some, None, length, refl, sym, ap, ◌∙◌, subst, arith}
 use Rattle.std.specs.Prelude.{Option, IfSome}
+use Rattle.std.specs.FinMap.{empty}
 use Rattle.shelf_defs.specs.Files.{Files}
+use Rattle.shelf_defs.specs.CopyLines.{asked}
+use Rattle.shelf_defs.specs.Alone.{IsNoFile, CopiesNone}
 use Rattle.shelf_defs.specs.Copied.{Place, lines_in, copy_line, one_line}
 use Rattle.asm_core.specs.Building.{IsOpen}
 use Rattle.bench_shelf.specs.States.{ShelfState}
@@ -10,7 +13,7 @@ use Rattle.bench_shelf.specs.declared.copy_error.CopyError.{CopyError}
 use Rattle.source_defs.specs.declared.text.Line.{Line as TextLine}
 use Rattle.source_defs.specs.Lines.{lines}
 use Rattle.shelf_defs.specs.Copied.{most_bytes}
-use Rattle.bench_shelf.specs.Leading.{Leads, IsHeld, HasRoom, Grows, count}
+use Rattle.bench_shelf.specs.Leading.{Leads, LeadsAlone, IsHeld, HasRoom, Grows, count}
 use Rattle.bench_shelf.specs.Causes.{Later, ReadsOnce}
 use Rattle.bench_shelf.proofs.CountLaws.{few_lines}
 use Rattle.bench_shelf.proofs.LeadingLaws.{leads_none, leads_then, leads_ended, leads_refused}
@@ -74,11 +77,66 @@ module _ (levels : ℕ) (file : Option (List ℕ)) where
         (leads_refused now mid mid (one_line (copy_line files levels) (place_in number) now.copies text)
         (λ copies. lines_in (copy_line files levels) file copies rest) error one)
 
+-- what lines without COPY lead to: none is left that asks for a file, and the shelf is as it was
+pub record FollowsAlone (levels : ℕ) (file : Option (List ℕ)) (old : Copying) (all : List (ℕ × List ℕ)) (now : Copying)
+    (left : List (ℕ × List ℕ)) (before after : ShelfState) : Type 0 where
+  pub none : CopiesNone left
+  pub shelf : after ≡ before
+  pub follows : Follows levels file old all now left empty
+
+pub alone_first : (levels : ℕ) (file : Option (List ℕ)) (old : Copying) (all left : List (ℕ × List ℕ)) (s : ShelfState) → left ≡ all → CopiesNone all
+    → FollowsAlone levels file old all old left s s
+alone_first levels file old all left s is none =
+    subst (λ lines. FollowsAlone levels file old all old lines s s) (sym is)
+    (record { none = none; shelf = refl; follows = λ error last leads. leads })
+
+module _ (levels : ℕ) (file : Option (List ℕ)) (old now mid : Copying) (all rest left : List (ℕ × List ℕ)) (number : ℕ) (text : List ℕ)
+    (first : left ≡ (number, text) ∷ rest) (a b c : ShelfState) (alone : FollowsAlone levels file old all now left a b) where
+  none_first : IsNoFile (asked text) × CopiesNone rest
+  none_first = subst CopiesNone first alone.none
+
+  abbrev OneAlone : Option CopyError → Type 0
+  OneAlone error = IsNoFile (asked text) → LeadsAlone now (one_line (copy_line empty levels) (place_in levels file number) now.copies text) error mid b c
+
+  pub alone_more : IsOpen mid.builder → OneAlone None → FollowsAlone levels file old all mid rest a c
+  alone_more going one =
+      let found = one none_first.0 in
+      record {
+        none = none_first.1;
+        shelf = found.shelf ∙ alone.shelf;
+        follows = follows_more levels file old now mid all rest left number text first (Some empty) (Some empty) refl going alone.follows found.leads;
+      }
+
+  pub alone_end : (IsOpen mid.builder → ⊥) → OneAlone None
+      → LeadsAlone old (lines_in (copy_line empty levels) file old.copies all) None mid a c
+  alone_end closed one =
+      let found = one none_first.0 in
+      record {
+        shelf = found.shelf ∙ alone.shelf;
+        leads = follows_end levels file old now mid all rest left number text first (Some empty) (Some empty) refl closed alone.follows found.leads;
+      }
+
+  pub alone_refused : (error : CopyError) → OneAlone (Some error)
+      → LeadsAlone old (lines_in (copy_line empty levels) file old.copies all) (Some error) mid a c
+  alone_refused error one =
+      let found = one none_first.0 in
+      record {
+        shelf = found.shelf ∙ alone.shelf;
+        leads = follows_refused levels file old now mid all rest left number text first (Some empty) (Some empty) error refl alone.follows found.leads;
+      }
+
+pub alone_taken : (levels : ℕ) (file : Option (List ℕ)) (old now : Copying) (all left : List (ℕ × List ℕ)) (a b : ShelfState)
+    → left ≡ [] → IsOpen now.builder → FollowsAlone levels file old all now left a b
+    → LeadsAlone old (lines_in (copy_line empty levels) file old.copies all) None now a b
+alone_taken levels file old now all left a b none going alone =
+    record { shelf = alone.shelf; leads = all_taken levels file old now all left (Some empty) none going alone.follows }
+
 -- what is later than a later shelf
 pub later_then : (a b c : ShelfState) → Later a b → Later b c → Later a c
 later_then a b c first then = record {
   files = then.files ∙ first.files;
   faults = omega (arith, first.faults, then.faults);
+  opens = omega (arith, first.opens, then.opens);
   misses = omega (arith, first.misses, then.misses);
   taken = omega (arith, first.taken, then.taken);
   calls = omega (arith, first.calls, then.calls);
@@ -95,7 +153,7 @@ pub counts_first : (text : List ℕ) (old : Copying) (left : List TextLine) → 
 counts_first text old left room is = record { held = room.held; few = omega (arith, few_lines text, ap length is) }
 
 pub once_first : (text : List ℕ) (old : Copying) (s : ShelfState) → HasRoom (length text) old → ReadsOnce old old s s
-once_first text old s room = record { copies = omega arith; most = room.copies; bytes = omega arith }
+once_first text old s room = record { copies = omega arith; most = room.copies; opens = omega arith; bytes = omega arith }
 
 pub room_left : (text : List ℕ) (old now : Copying) (s t : ShelfState) (left rest : List TextLine) (line : TextLine) → HasRoom (length text) old
     → Counts text old now left → ReadsOnce old now s t → left ≡ line ∷ rest → HasRoom 1 now
@@ -115,6 +173,7 @@ pub later_first : (a : ShelfState) → Later a a
 later_first a = record {
   files = refl;
   faults = omega arith;
+  opens = omega arith;
   misses = omega arith;
   taken = omega arith;
   calls = omega arith;

@@ -1,6 +1,7 @@
 -- The module of the lines that were taken.
-use Rattle.std.proofs.Common.{◌≡◌, ℕ, List, [], Some, None, Ok, Err, refl, sym, ap, ◌∙◌, subst}
-use Rattle.std.specs.Prelude.{Option, Result, IfSome, IfOk}
+use Rattle.std.proofs.Common.{◌≡◌, ℕ, List, [], Some, None, Ok, Err, refl, sym, ap, ◌∙◌, subst, arith}
+use Rattle.std.specs.Prelude.{Option, Result, IfSome, IfOk, OnOk}
+use Rattle.count_defs.specs.Counts.{raised}
 use Rattle.source_defs.specs.Refusals.{Refusal, ◌>>=◌}
 use Rattle.source_defs.specs.Layout.{laid, numbered, line_texts}
 use Rattle.object_defs.specs.Modules as object
@@ -18,6 +19,8 @@ use Rattle.asm_core.proofs.EndedLines.{lines_make_texts}
 use Rattle.asm_core.specs.declared.lines.AsmLines.{AsmLines}
 use Rattle.bench_shelf.specs.declared.copying.Copying.{Copying}
 use Rattle.bench_shelf.specs.declared.copy_error.CopyError.{CopyError}
+use Rattle.bench_shelf.specs.States.{ShelfState}
+use Rattle.bench_shelf.specs.Causes.{ReadsOnce}
 use Rattle.bench_shelf.specs.CopyAnswers.{GivesCopied, CopyRefuses}
 use Rattle.bench_shelf.specs.Leading.{Holds, EndsAs, GoesOn, Leads}
 use Rattle.bench_shelf.proofs.LeadingLaws.{refuses_by}
@@ -52,6 +55,20 @@ all_taken (Some files) source old new answer none first leads gives =
     let here : GivesCopied answer (module_of_copied found) =
     subst (GivesCopied answer) (module_is found new goes) (gives found.lines goes.holds) in
     subst (λ copies. GivesCopied answer (module_of_copied (lines_in (copy_line files 4) None copies (line_texts source)))) first here
+
+-- as many files were asked for as are copied
+pub all_opened : {A : Type 0} (told : Option Files) (source : List ℕ) (old new : Copying) (answer : Result A CopyError) (before after : ShelfState)
+    → Holds [] old → old.copies ≡ 0
+    → IfSome told (λ files. Leads old (lines_in (copy_line files 4) None old.copies (line_texts source)) None new)
+    → ReadsOnce old new before after
+    → IfSome told (λ files. OnOk answer (after.opens ≡ raised before.opens (copied files source).copies))
+all_opened None source old new answer before after none first leads once = tt
+all_opened (Some files) source old new (Err error) before after none first leads once = tt
+all_opened (Some files) source old new (Ok value) before after none first leads once =
+    let goes = leads [] none in
+    let all : new.copies ≡ (copied files source).copies =
+    goes.copies ∙ ap (λ copies. (lines_in (copy_line files 4) None copies (line_texts source)).copies) first in
+    once.opens ∙ ap (raised before.opens) (omega (arith, first, all))
 
 -- a refusal before that
 pub one_refused : (told : Option Files) (source : List ℕ) (old new : Copying) (error : CopyError) → Holds [] old → old.copies ≡ 0

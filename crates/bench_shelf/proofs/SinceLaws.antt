@@ -12,10 +12,10 @@ use Rattle.bench_shelf.proofs.Keeping.{within_then}
 
 module _ (a b c : ShelfState) (later : Later a b) (within : TookNoMore most_bytes a b) where
   pub causes_since : (error : CopyError) → ShelfCauses error b c → ShelfCauses error a c
-  causes_since (At file line (Asm cause)) causes = within_then most_bytes a b c within causes
-  causes_since (At file line BadCopy) causes = within_then most_bytes a b c within causes
-  causes_since (At file line TooDeep) causes = within_then most_bytes a b c within causes
-  causes_since (At file line TooMany) causes = within_then most_bytes a b c within causes
+  causes_since (At file line (Asm cause)) causes = (causes.0, within_then most_bytes a b c within causes.1)
+  causes_since (At file line BadCopy) causes = (tt, within_then most_bytes a b c within causes.1)
+  causes_since (At file line TooDeep) causes = (tt, within_then most_bytes a b c within causes.1)
+  causes_since (At file line TooMany) causes = (tt, within_then most_bytes a b c within causes.1)
   causes_since (At file line (Missing name)) causes =
       (rose_since _ _ _ later.misses causes.0, within_then most_bytes a b c within causes.1)
   causes_since TooLarge causes =

@@ -12,12 +12,13 @@ use Rattle.bench_shelf.specs.declared.place.Place.{Place}
 use Rattle.bench_shelf.specs.declared.copy_error.CopyCause.TheVariants.{Asm, Missing}
 use Rattle.bench_shelf.specs.declared.copy_error.CopyError.{CopyError}
 use Rattle.bench_shelf.specs.declared.copy_error.CopyError.TheVariants.{At, TooLarge, Fault, Memory}
-use Rattle.bench_shelf.specs.CopyAnswers.{refused_at}
+use Rattle.bench_shelf.specs.CopyAnswers.{IsNoMemory, refused_at}
 
 -- a shelf behind some calls: it has the same files, and none of its counts fell, but for that of the file opened last
 pub record Later (before after : ShelfState) : Type 0 where
   pub files : after.files ≡ before.files
   pub faults : before.source.faults ≤ after.source.faults
+  pub opens : before.opens ≤ after.opens
   pub misses : before.misses ≤ after.misses
   pub taken : before.source.taken ≤ after.source.taken
   pub calls : before.source.calls ≤ after.source.calls
@@ -42,11 +43,11 @@ FileCauses limit unread.TooLarge before after = TookMore limit before after
 FileCauses limit unread.Fault before after = Rose before.source.faults after.source.faults × TookNoMore limit before after
 FileCauses limit unread.Memory before after = TookNoMore limit before after
 
--- the same of what a line is refused for
+-- The same of what a line is refused for. No line is refused because memory was wanting.
 abbrev pub ShelfCauses : CopyError → ShelfState → ShelfState → Type 0
 ShelfCauses (At file line (Missing name)) before after =
     Rose before.misses after.misses × TookNoMore most_bytes before after
-ShelfCauses (At file line cause) before after = TookNoMore most_bytes before after
+ShelfCauses (At file line cause) before after = IsNoMemory cause × TookNoMore most_bytes before after
 ShelfCauses TooLarge before after = TookMore most_bytes before after
 ShelfCauses Fault before after =
     Rose before.source.faults after.source.faults × TookNoMore most_bytes before after
@@ -75,12 +76,14 @@ Reads files place name (Err error) = NotRead files place name error
 
 -- an answer that tells nothing of a shelf: the assembler refuses a line, or memory was wanting
 abbrev pub IsOfLine : CopyError → Type 0
-IsOfLine (At file line (Asm cause)) = ⊤
+IsOfLine (At file line (Asm cause)) = IsNoMemory (Asm cause)
 IsOfLine Memory = ⊤
 IsOfLine error = ⊥
 
--- for each file that is copied no more is taken than one byte past its limit, and at most 64 files are copied
+-- each file that is copied is asked for once, and no other; for each no more is taken than one byte past its limit; and at
+-- most 64 files are copied
 pub record ReadsOnce (old new : Copying) (before after : ShelfState) : Type 0 where
   pub copies : old.copies ≤ new.copies
   pub most : new.copies ≤ most_copies
+  pub opens : after.opens ≡ raised before.opens (new.copies - old.copies)
   pub bytes : after.source.taken ≤ raised before.source.taken ((most_bytes + 1) * (new.copies - old.copies))

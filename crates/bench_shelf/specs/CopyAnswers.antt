@@ -5,6 +5,7 @@ use Rattle.shelf_defs.specs.Copied.{CopyRefusal}
 use Rattle.object_defs.specs.Modules as object
 use Rattle.object_tags.specs.Seen.{defined_module}
 use Rattle.object_tags.specs.declared.parts.Module.{Module}
+use Rattle.asm_defs.specs.declared.causes.AsmCause.{AsmCause}
 use Rattle.asm_checks.specs.Answers.{Causes}
 use Rattle.bench_shelf.specs.declared.place.Place.{Place}
 use Rattle.bench_shelf.specs.declared.copy_error.CopyCause.{CopyCause}
@@ -26,9 +27,13 @@ defined_cause (Missing name) = spec.Missing name
 abbrev pub refused_at : Place → CopyCause → CopyError
 refused_at place cause = At place.file place.line cause
 
+-- a cause of the assembler that does not stand for want of memory
+abbrev pub IsOwnCause : AsmCause → Type 0
+IsOwnCause cause = Causes {B = ⊤} cause (Err cause)
+
 -- no cause of the assembler stands for want of memory
 abbrev pub IsNoMemory : CopyCause → Type 0
-IsNoMemory (Asm cause) = Causes {B = ⊤} cause (Err cause)
+IsNoMemory (Asm cause) = IsOwnCause cause
 IsNoMemory cause = ⊤
 
 -- The definitions refuse a source for this cause. Of a shelf that failed and of want of memory they say nothing.

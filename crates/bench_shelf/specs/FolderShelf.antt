@@ -14,6 +14,7 @@ pub record Folder : Type 0 where
   pub largest : ℕ
   pub empty : ℕ
   pub faults : ℕ
+  pub opens : ℕ
   pub misses : ℕ
 
 -- it as a shelf
@@ -30,15 +31,20 @@ untold folder =
           };
       given = folder.given;
       largest = folder.largest;
+      opens = folder.opens;
       misses = folder.misses;
       files = None;
     }
 
+-- a folder that was asked for a file: none is open, and the call is counted
+abbrev pub asked : Folder → Folder
+asked before = record before { is_open = false; given = 0; opens = raised before.opens 1 }
+
 -- Behind Ok a file is open. Where opening one is refused, none is, and the count of faults or that of misses has risen
 -- by one. Nothing was given yet of what was opened last.
 abbrev pub OpensFrom : {A : Type 0} → Folder → Result A OpenError → Folder → Type 0
-OpensFrom before (Ok _) after = after ≡ record before { is_open = true; given = 0 }
+OpensFrom before (Ok _) after = after ≡ record (asked before) { is_open = true }
 OpensFrom before (Err Failed) after =
-    Rose before.faults after.faults × (after ≡ record before { is_open = false; given = 0; faults = raised before.faults 1 })
+    Rose before.faults after.faults × (after ≡ record (asked before) { faults = raised before.faults 1 })
 OpensFrom before (Err Missing) after =
-    Rose before.misses after.misses × (after ≡ record before { is_open = false; given = 0; misses = raised before.misses 1 })
+    Rose before.misses after.misses × (after ≡ record (asked before) { misses = raised before.misses 1 })

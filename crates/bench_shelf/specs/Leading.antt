@@ -8,6 +8,7 @@ use Rattle.bench_shelf.specs.declared.copying.Copying.{Copying}
 use Rattle.bench_shelf.specs.declared.copy_error.CopyError.{CopyError}
 use Rattle.bench_shelf.specs.CopyAnswers.{CopyRefuses}
 use Rattle.bench_shelf.specs.Runs.{places_of}
+use Rattle.bench_shelf.specs.States.{ShelfState}
 
 -- these lines were taken, and their places are kept
 pub record Holds (done : List PlacedLine) (state : Copying) : Type 0 where
@@ -39,6 +40,12 @@ LeadsTo (Some error) done found new = CopyRefuses error (laid_copied (prepend do
 -- the same, whatever lines were taken before
 abbrev pub Leads : Copying → Copied → Option CopyError → Copying → Type 0
 Leads old found error new = (done : List PlacedLine) → Holds done old → LeadsTo error done found new
+
+-- lines that copy no file lead to what they lead to without files, and the shelf is left as it was
+pub record LeadsAlone (old : Copying) (found : Copied) (error : Option CopyError) (new : Copying)
+    (before after : ShelfState) : Type 0 where
+  pub shelf : after ≡ before
+  pub leads : Leads old found error new
 
 -- how many lines were taken
 abbrev pub count : Copying → ℕ

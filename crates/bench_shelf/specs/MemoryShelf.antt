@@ -30,14 +30,19 @@ abbrev pub IsWithin : ℕ → Option (List ℕ) → Type 0
 IsWithin rest (Some bytes) = rest ≤ length bytes
 IsWithin rest None = ⊥
 
+-- a shelf that was asked for a file: none is open, and the call is counted
+abbrev pub asked : Shelved → Shelved
+asked before =
+    record before { left = []; given = 0; requests = raised before.requests 1; opens = raised before.opens 1 }
+
 -- a shelf whose next call opens a file of this name, or finds that it fails, or that the name is missing
 abbrev pub OpensIn : {A : Type 0} → Shelved → List ℕ → Result A OpenError → Shelved → Type 0
 OpensIn before name (Ok _) after =
     (bytes : List ℕ) × (bytes_of before.files name ≡ Some bytes) × (Contains before.fails before.requests → ⊥)
-    × (after ≡ record before { left = bytes; given = 0; requests = raised before.requests 1 })
+    × (after ≡ record (asked before) { left = bytes })
 OpensIn before name (Err Failed) after =
     Contains before.fails before.requests × Rose before.faults after.faults
-    × (after ≡ record before { left = []; given = 0; requests = raised before.requests 1; faults = raised before.faults 1 })
+    × (after ≡ record (asked before) { faults = raised before.faults 1 })
 OpensIn before name (Err Missing) after =
     (bytes_of before.files name ≡ None) × (Contains before.fails before.requests → ⊥) × Rose before.misses after.misses
-    × (after ≡ record before { left = []; given = 0; requests = raised before.requests 1; misses = raised before.misses 1 })
+    × (after ≡ record (asked before) { misses = raised before.misses 1 })

@@ -1,7 +1,7 @@
 -- What opening a file does to a shelf.
 use Rattle.std.specs.Prelude.{◌≡◌, ℕ, List, Option, Some, None, IfSome}
 use Rattle.std.specs.FinMap.{get}
-use Rattle.count_defs.specs.Counts.{Rose}
+use Rattle.count_defs.specs.Counts.{raised, Rose}
 use Rattle.bench_io.specs.Stream.{SourceState}
 use Rattle.shelf_defs.specs.Files.{Files}
 use Rattle.bench_shelf.specs.States.{ShelfState}
@@ -21,8 +21,9 @@ abbrev pub Refuses : OpenError → ShelfState → ShelfState → List ℕ → Ty
 Refuses Failed before after name = Rose before.source.faults after.source.faults
 Refuses Missing before after name = Rose before.misses after.misses × IsMissing before.files name
 
--- of the file that was opened no bytes were given yet, nor were any of one that was refused
+-- the call is counted, and of the file that was opened no bytes were given yet, nor were any of one that was refused
 pub record StartsAnew (before after : ShelfState) : Type 0 where
+  pub opens : after.opens ≡ raised before.opens 1
   pub given : after.given ≡ 0
   pub largest : after.largest ≡ before.largest
 

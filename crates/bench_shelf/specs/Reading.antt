@@ -5,9 +5,10 @@ use Rattle.bench_io.specs.declared.whole.ReadError.{ReadError}
 use Rattle.bench_io.specs.declared.whole.ReadError.TheVariants.{Fault, TooLarge, Memory}
 use Rattle.bench_shelf.specs.States.{ShelfState}
 
--- the files and the count of misses stand as before
+-- the files stand as before, and so do the counts of files that were asked for and of misses
 pub record SameFiles (before after : ShelfState) : Type 0 where
   pub files : after.files ≡ before.files
+  pub opens : after.opens ≡ before.opens
   pub misses : after.misses ≡ before.misses
 
 -- so many bytes more were given of the open file

@@ -5,19 +5,21 @@ use Rattle.bench_io.specs.Stream.{SourceState}
 use Rattle.shelf_defs.specs.Files.{Files}
 
 -- A shelf: what is left of the open file, with the counts of a source; how many bytes were given of the file that was
--- opened last, since then, which are 0 where none was; the most bytes that were given of one opening; how often a name
--- was not among the files; and the files, where the shelf tells them.
+-- opened last, since then, which are 0 where none was; the most bytes that were given of one opening; how often a file
+-- was asked for by its name, and how often the name was not among the files; and the files, where the shelf tells them.
 pub record ShelfState : Type 0 where
   pub source : SourceState
   pub given : ℕ
   pub largest : ℕ
+  pub opens : ℕ
   pub misses : ℕ
   pub files : Option Files
 
 -- A shelf in memory: its files by name, where the first of equal names counts; what is left of the open one; the number
 -- of calls of `open_file` and `take` together, and of calls of `take` alone; the bytes given in all, those given of the
 -- file that was opened last, and the most that were given of one opening; the calls of `take` that gave none; the
--- numbers from 0 of the calls that fail; and how many have failed, and how many names were missing.
+-- numbers from 0 of the calls that fail; how many have failed; and how many calls of `open_file` were made, and how many
+-- names were missing.
 pub record Shelved : Type 0 where
   pub files : List (List ℕ × List ℕ)
   pub left : List ℕ
@@ -29,6 +31,7 @@ pub record Shelved : Type 0 where
   pub empty : ℕ
   pub fails : List ℕ
   pub faults : ℕ
+  pub opens : ℕ
   pub misses : ℕ
 
 -- files by their names; the first of equal names counts
@@ -49,6 +52,7 @@ told shelf =
           };
       given = shelf.given;
       largest = shelf.largest;
+      opens = shelf.opens;
       misses = shelf.misses;
       files = Some (by_name shelf.files);
     }

@@ -26,7 +26,8 @@ pub(crate) fn read_copied<F: Shelf>(
     ensures ok { IfOk result (λ bytes.
         IfSome (F.state shelf.old).files (λ files. Reads files place name.now (Ok bytes.items))) }
     ensures size { IfOk result (λ bytes. length bytes.items ≤ most_bytes) }
-    // No more than one byte past its limit is taken.
+    // It is asked for once, and no other; no more than one byte past its limit is taken.
+    ensures opens { (F.state shelf.new).opens ≡ raised (F.state shelf.old).opens 1 }
     ensures taken { (F.state shelf.new).source.taken ≤ raised (F.state shelf.old).source.taken (most_bytes + 1) }
     ensures err { IfErr result (λ error.
         IfSome (F.state shelf.old).files (λ files. NotRead files place name.now error)) }

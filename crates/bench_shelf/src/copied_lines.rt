@@ -1,12 +1,15 @@
 //! Lines with the lines of the files that they copy.
 
 ghost use Rattle.std.specs.Prelude.{◌≡◌, OnOk, IfSome, IfErr, length};
+ghost use Rattle.std.specs.FinMap.{empty};
 ghost use Rattle.source_defs.specs.Layout.{line_texts};
+ghost use Rattle.shelf_defs.specs.Alone.{CopiesNone, IsNoFile};
+ghost use Rattle.shelf_defs.specs.CopyLines.{asked};
 ghost use Rattle.shelf_defs.specs.Copied as spec;
 ghost use Rattle.shelf_defs.specs.Copied.{most_bytes};
 ghost use Rattle.asm_core.specs.Building.{IsOpen};
 ghost use Rattle.bench_shelf.specs.CopyAnswers.{defined_place};
-ghost use Rattle.bench_shelf.specs.Leading.{Leads, HasRoom, Grows, trouble};
+ghost use Rattle.bench_shelf.specs.Leading.{Leads, LeadsAlone, HasRoom, Grows, trouble};
 ghost use Rattle.bench_shelf.specs.Causes.{Later, ShelfCauses, ReadsOnce, TookNoMore};
 ghost use Rattle.bench_shelf.specs.KeptLines.{KeepsLines};
 
@@ -42,6 +45,9 @@ impl Copying {
         ensures leads { IfSome (F.state shelf.old).files (λ files. Leads self.old
             (spec.lines_in (spec.copy_line files levels) file.now self.old.copies (line_texts text.now))
             (trouble result) self.new) }
+        ensures alone { CopiesNone (line_texts text.now) → LeadsAlone self.old
+            (spec.lines_in (spec.copy_line empty levels) file.now self.old.copies (line_texts text.now))
+            (trouble result) self.new (F.state shelf.old) (F.state shelf.new) }
         ensures causes { IfErr result (λ error. ShelfCauses error (F.state shelf.old) (F.state shelf.new)) }
         ensures within { OnOk result (TookNoMore most_bytes (F.state shelf.old) (F.state shelf.new)) }
         ensures later { Later (F.state shelf.old) (F.state shelf.new) }
@@ -79,6 +85,9 @@ impl Copying {
         ensures leads { IfSome (F.state shelf.old).files (λ files. Leads self.old
             (spec.one_line (spec.copy_line files levels) (defined_place place) self.old.copies text.now)
             (trouble result) self.new) }
+        ensures alone { IsNoFile (asked text.now) → LeadsAlone self.old
+            (spec.one_line (spec.copy_line empty levels) (defined_place place) self.old.copies text.now)
+            (trouble result) self.new (F.state shelf.old) (F.state shelf.new) }
         ensures causes { IfErr result (λ error. ShelfCauses error (F.state shelf.old) (F.state shelf.new)) }
         ensures within { OnOk result (TookNoMore most_bytes (F.state shelf.old) (F.state shelf.new)) }
         ensures later { Later (F.state shelf.old) (F.state shelf.new) }

@@ -29,6 +29,7 @@ pub struct DirShelf<'a, R: Files> {
     largest: u64,
     empty: u64,
     faults: u64,
+    opens: u64,
     misses: u64,
 }
 
@@ -46,6 +47,7 @@ impl<'a, R: Files> Model for DirShelf<'a, R> {
       largest = s.largest;
       empty = s.empty;
       faults = s.faults;
+      opens = s.opens;
       misses = s.misses;
     } };
 }
@@ -61,6 +63,7 @@ impl<'a, R: Files> DirShelf<'a, R> {
           largest = 0;
           empty = 0;
           faults = 0;
+          opens = 0;
           misses = 0;
         } }
     {
@@ -73,6 +76,7 @@ impl<'a, R: Files> DirShelf<'a, R> {
             largest: 0,
             empty: 0,
             faults: 0,
+            opens: 0,
             misses: 0,
         }
     }
@@ -117,13 +121,14 @@ impl<'a, R: Files> DirShelf<'a, R> {
 impl<'a, R: Files> Shelf for DirShelf<'a, R> {
     ghost state = { untold };
 
-    /// Opens a file. A call that is refused leaves none open and raises the count of faults or that of misses by one, and
+    /// Opens a file, and counts the call. One that is refused leaves none open and raises the count of faults or that of misses by one, and
     /// no other call does.
     fn open_file(&mut self, name: &FileName) -> Result<(), OpenError>
         ensures { OpensFrom self.old result self.new }
     {
         self.file = None;
         self.given = 0;
+        self.opens = self.opens.saturating_add(1);
         match regular_file(self.folder, name.as_bytes()) {
             Ok(Some(file)) => {
                 self.file = Some(file);

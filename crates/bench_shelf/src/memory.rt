@@ -32,6 +32,8 @@ pub struct MemShelf {
     empty: u64,
     fails: Vec<u64>,
     faults: u64,
+    // The number of calls of `open_file`.
+    opens: u64,
     misses: u64,
 }
 
@@ -52,6 +54,7 @@ impl Model for MemShelf {
       empty = s.empty;
       fails = s.fails.items;
       faults = s.faults;
+      opens = s.opens;
       misses = s.misses;
     } };
 
@@ -73,6 +76,7 @@ impl MemShelf {
           empty = 0;
           fails = fails.items;
           faults = 0;
+          opens = 0;
           misses = 0;
         } }
     {
@@ -88,6 +92,7 @@ impl MemShelf {
             empty: 0,
             fails,
             faults: 0,
+            opens: 0,
             misses: 0,
         }
     }
@@ -116,10 +121,11 @@ impl MemShelf {
         self.fails.contains(&request)
     }
 
-    /// Closes the open file. Of the one that is opened next no bytes were given yet.
-    fn close(&mut self)
-        ensures { self.new ≡ record self.old { left = []; given = 0 } }
+    /// Counts a call of `open_file`, and closes the open file. Of the one that is opened next no bytes were given yet.
+    fn begin_opening(&mut self)
+        ensures { self.new ≡ record self.old { left = []; given = 0; opens = raised self.old.opens 1 } }
     {
+        self.opens = self.opens.saturating_add(1);
         self.current = None;
         self.rest = 0;
         self.given = 0;
@@ -183,7 +189,7 @@ impl Shelf for MemShelf {
         ensures { OpensIn self.old name.now result self.new }
     {
         let fails = self.fails_next();
-        self.close();
+        self.begin_opening();
         if fails {
             self.faults = self.faults.saturating_add(1);
             return Err(OpenError::Failed);

@@ -12,7 +12,8 @@ use crate::whole::read_file;
 use bench_io::ReadError;
 use std::alloc::Global;
 
-/// The bytes of the file of a name, `limit` at most. No more than one byte past the limit is taken.
+/// The bytes of the file of a name, `limit` at most. The file is asked for once, and no other; no more than one byte
+/// past the limit is taken.
 ///
 /// # Errors
 /// `Missing` comes only where the shelf's count of misses rose, and `Fault` only where that of faults rose. `TooLarge`
@@ -33,6 +34,7 @@ pub fn read_named<F: Shelf>(
     ensures causes { IfErr result (λ error. FileCauses limit error (F.state shelf.old) (F.state shelf.new)) }
     ensures within { OnOk result (TookNoMore limit (F.state shelf.old) (F.state shelf.new)) }
     ensures taken { (F.state shelf.new).source.taken ≤ raised (F.state shelf.old).source.taken (limit + 1) }
+    ensures opens { (F.state shelf.new).opens ≡ raised (F.state shelf.old).opens 1 }
     ensures later { Later (F.state shelf.old) (F.state shelf.new) }
 {
     match shelf.open_file(name) {

@@ -65,7 +65,7 @@ impl Copying {
     pub(crate) fn finish(self) -> Result<Module, CopyError>
         ensures module { (done : List PlacedLine) → Holds done self →
             GivesCopied result (in_place done (module_of_lines (texts done))) }
-        ensures causes { IfErr result IsOfLine }
+        ensures causes { HasLines self → IfErr result IsOfLine }
         ensures lines { HasLines self → IfOk result (λ found. IsOfLines (defined_module found)) }
     {
         let Copying { builder, runs, .. } = self;

@@ -1,13 +1,18 @@
 -- The report of a source with the files that it copies.
 use Rattle.std.proofs.Common.{◌≡◌, ℕ, List, Some, None, Ok, Err, sym, ap, subst}
-use Rattle.std.specs.Prelude.{Option, Result, IfSome, IfOk, IfErr}
+use Rattle.std.specs.Prelude.{Option, Result, IfSome, IfOk, IfErr, OnOk}
+use Rattle.std.specs.FinMap.{empty}
+use Rattle.count_defs.specs.Counts.{raised}
 use Rattle.source_defs.specs.Refusals.{seen}
+use Rattle.source_defs.specs.Layout.{line_texts}
+use Rattle.object_defs.specs.Modules as spec
 use Rattle.object_defs.specs.Writing.{written}
 use Rattle.object_tags.specs.Seen.{defined_module}
 use Rattle.object_tags.specs.declared.parts.Module.{Module}
 use Rattle.shelf_defs.specs.Files.{Files}
 use Rattle.shelf_defs.specs.Copied as copied
-use Rattle.shelf_defs.specs.Copied.{most_bytes}
+use Rattle.shelf_defs.specs.Alone.{CopiesNone}
+use Rattle.shelf_defs.specs.Copied.{CopyRefusal, most_bytes}
 use Rattle.shelf_defs.specs.Assembly.{module_of_files}
 use Rattle.bench_shelf.specs.States.{ShelfState}
 use Rattle.bench_shelf.specs.CopyAnswers.{GivesCopied, CopyRefuses, defined_cause}
@@ -37,11 +42,15 @@ module _ (before after : ShelfState) (source : List ℕ) where
 
   pub module_reported : (found : Module) (text : List ℕ)
       → IfSome before.files (λ files. GivesCopied (Ok found) (module_of_files files source))
+      → (CopiesNone (line_texts source) → (after ≡ before) × GivesCopied (Ok found) (module_of_files empty source))
+      → IfSome before.files (λ files. after.opens ≡ raised before.opens (copied.copied files source).copies)
       → IsOfLines (defined_module found) → TookNoMore most_bytes before after → text ≡ written (defined_module found)
       → CopyReported before after source (Whole Done (text_lines text))
-  module_reported found text gives lines within is = record {
+  module_reported found text gives alone opened lines within is = record {
     answer = Ok (defined_module found);
     told = told_module before.files found gives;
+    alone = λ none. (let a = alone none in (a.0, told_module (Some empty) found a.1));
+    opened = opened;
     causes = (lines, within);
     is = ap (λ text. Whole Done (text_lines text)) is;
   }
@@ -55,9 +64,9 @@ module _ (before after : ShelfState) (source : List ℕ) where
   line_causes : (file : Option (List ℕ)) (line : ℕ) (cause : CopyCause) → ShelfCauses (At file line cause) before after
       → CopyCauses (Err (copied.At (record { file = file; line = line }) (defined_cause cause))) before after
   line_causes file line (Asm cause) causes = causes
-  line_causes file line BadCopy causes = causes
-  line_causes file line TooDeep causes = causes
-  line_causes file line TooMany causes = causes
+  line_causes file line BadCopy causes = causes.1
+  line_causes file line TooDeep causes = causes.1
+  line_causes file line TooMany causes = causes.1
   line_causes file line (Missing name) causes = causes
 
   told_large : (told : Option Files) → IfSome told (λ files. CopyRefuses TooLarge (module_of_files files source))
@@ -65,25 +74,39 @@ module _ (before after : ShelfState) (source : List ℕ) where
   told_large None gives = tt
   told_large (Some files) gives = sym gives
 
+  abbrev answer : CopyRefusal → Result spec.Module CopyRefusal
+  answer refusal = Err refusal
+
+  not_opened : (told : Option Files) (refusal : CopyRefusal)
+      → IfSome told (λ files. OnOk (answer refusal) (after.opens ≡ raised before.opens (copied.copied files source).copies))
+  not_opened None refusal = tt
+  not_opened (Some files) refusal = tt
+
   pub error_reported : (error : CopyError) (result : Result FilesReport FilesFailure)
-      → IfSome before.files (λ files. CopyRefuses error (module_of_files files source)) → ShelfCauses error before after
+      → IfSome before.files (λ files. CopyRefuses error (module_of_files files source))
+      → (CopiesNone (line_texts source) → (after ≡ before) × CopyRefuses error (module_of_files empty source))
+      → ShelfCauses error before after
       → seen defined_report result ≡ seen (λ refusal. copy_report (Err refusal)) (copy_refusal error)
       → IfOk result (λ report. CopyReported before after source (defined_report report))
-  error_reported error (Err failure) gives causes is = tt
-  error_reported (At file line cause) (Ok report) gives causes is = record {
+  error_reported error (Err failure) gives alone causes is = tt
+  error_reported (At file line cause) (Ok report) gives alone causes is = record {
     answer = Err (copied.At (record { file = file; line = line }) (defined_cause cause));
     told = told_line before.files file line cause gives;
+    alone = λ none. (let a = alone none in (a.0, told_line (Some empty) file line cause a.1));
+    opened = not_opened before.files (copied.At (record { file = file; line = line }) (defined_cause cause));
     causes = line_causes file line cause causes;
     is = cc is;
   }
-  error_reported TooLarge (Ok report) gives causes is = record {
+  error_reported TooLarge (Ok report) gives alone causes is = record {
     answer = Err copied.TooLarge;
     told = told_large before.files gives;
+    alone = λ none. (let a = alone none in (a.0, told_large (Some empty) a.1));
+    opened = not_opened before.files copied.TooLarge;
     causes = causes;
     is = cc is;
   }
-  error_reported Fault (Ok report) gives causes is = cc is
-  error_reported Memory (Ok report) gives causes is = cc is
+  error_reported Fault (Ok report) gives alone causes is = cc is
+  error_reported Memory (Ok report) gives alone causes is = cc is
 
   -- why nothing is reported
   pub error_failed : (error : CopyError) (result : Result FilesReport FilesFailure) → ShelfCauses error before after

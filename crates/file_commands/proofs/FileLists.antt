@@ -1,9 +1,11 @@
 -- Files that are read one after the other, and their texts.
-use Rattle.std.proofs.Common.{◌≡◌, ℕ, List, [], ◌∷◌, ◌++◌, Some, None}
+use Rattle.std.proofs.Common.{◌≡◌, ℕ, ◌+◌, ◌≤◌, List, [], ◌∷◌, ◌++◌, length, length-append, Some, None, refl, arith}
 use Rattle.std.proofs.Common.{Ok, Err, sym, ap, ◌∙◌, subst, append_assoc, append-nil}
 use Rattle.std.proofs.lemmas.List.{map-append}
-use Rattle.std.specs.Prelude.{Option, Result, IfSome}
+use Rattle.std.specs.Prelude.{Option, Result, IfSome, IsOk}
 use Rattle.std.specs.FinMap.{get}
+use Rattle.count_defs.specs.Counts.{raised}
+use Rattle.bench_shelf.specs.States.{ShelfState}
 use Rattle.source_defs.specs.Refusals.{◌>>=◌}
 use Rattle.object_defs.specs.Modules.{Module}
 use Rattle.object_defs.specs.Reading.{read}
@@ -15,7 +17,7 @@ use Rattle.file_commands.specs.declared.error.ReadingError.{ReadingError}
 use Rattle.file_commands.specs.declared.error.ReadingError.TheVariants as error
 use Rattle.file_commands.specs.declared.modules.ModulesError.{ModulesError}
 use Rattle.file_commands.specs.declared.modules.ModulesError.TheVariants as broken
-use Rattle.file_commands.specs.Reading.{defined_text, defined_texts, Refuses}
+use Rattle.file_commands.specs.Reading.{defined_text, defined_texts, Refuses, IsOfName, StopsAt, StopsBy}
 use Rattle.file_commands.specs.Modules.{RefusesModules}
 
 abbrev Text : Type 0
@@ -89,6 +91,24 @@ read_stops (Some files) then front rest names name texts error same all so_far o
     subst (λ told. IfSome told (λ files. Refuses error (bytes_of name (get files name)))) same one in
     refused_by error (bytes_of name (get files name)) (read_files files names)
     (λ refusal e. ap (read_files files) all ∙ read_stop files front rest name (defined_texts texts) refusal so_far e) here
+
+read_ok : (told : Option Files) (front : List (List ℕ)) (texts : List FileText) → IfSome told (ReadSoFar front texts)
+    → IfSome told (λ files. IsOk (read_files files front))
+read_ok None front texts so_far = tt
+read_ok (Some files) front texts so_far = subst IsOk (sym so_far) refl
+
+-- where the reading ends
+pub stops_by : (before after : ShelfState) (front rest names : List (List ℕ)) (name : List ℕ) (texts : List FileText) (error : ReadingError)
+    → names ≡ front ++ name ∷ rest → after.opens ≡ raised before.opens (length front + 1) → IfSome before.files (ReadSoFar front texts)
+    → IsOfName name error → StopsBy names error before after
+stops_by before after front rest names name texts (error.Missing other) all opens so_far is =
+    record { front = front; rest = rest; are = all ∙ ap (λ n. front ++ n ∷ rest) (sym is); opens = opens; read = read_ok before.files front texts so_far }
+stops_by before after front rest names name texts error.TooLarge all opens so_far is =
+    (name, record { front = front; rest = rest; are = all; opens = opens; read = read_ok before.files front texts so_far })
+stops_by before after front rest names name texts error.Fault all opens so_far is =
+    omega (arith, opens, ap length all, length-append front (name ∷ rest))
+stops_by before after front rest names name texts error.Memory all opens so_far is =
+    omega (arith, opens, ap length all, length-append front (name ∷ rest))
 
 abbrev Modules : Type 0
 Modules = Result (List Module) FilesRefusal

@@ -1,6 +1,6 @@
 -- What is read of files.
-use Rattle.std.specs.Prelude.{◌≡◌, ⊤, ℕ, List, map, Result, Ok, Err}
-use Rattle.count_defs.specs.Counts.{Rose}
+use Rattle.std.specs.Prelude.{◌≡◌, ⊤, ℕ, ◌+◌, ◌≤◌, List, ◌∷◌, ◌++◌, length, map, Result, Ok, Err, IfSome, IsOk}
+use Rattle.count_defs.specs.Counts.{raised, Rose}
 use Rattle.bench_shelf.specs.States.{ShelfState}
 use Rattle.bench_shelf.specs.Causes.{TookMore, TookNoMore}
 use Rattle.report_defs.specs.Report.{largest_input}
@@ -38,6 +38,27 @@ ErrorCauses TooLarge before after = TookMore largest_input before after
 ErrorCauses Fault before after =
     Rose before.source.faults after.source.faults × TookNoMore largest_input before after
 ErrorCauses Memory before after = TookNoMore largest_input before after
+
+-- a name that is missing is the one that was asked for
+abbrev pub IsOfName : List ℕ → ReadingError → Type 0
+IsOfName name (Missing other) = other ≡ name
+IsOfName name error = ⊤
+
+-- Files are asked for one by one, each once, up to this name and no further. Those before it are read, where the shelf
+-- tells its files.
+pub record StopsAt (names : List (List ℕ)) (name : List ℕ) (before after : ShelfState) : Type 0 where
+  pub front : List (List ℕ)
+  pub rest : List (List ℕ)
+  pub are : names ≡ front ++ name ∷ rest
+  pub opens : after.opens ≡ raised before.opens (length front + 1)
+  pub read : IfSome before.files (λ files. IsOk (spec.read_files files front))
+
+-- where the reading of files ends, by its error
+abbrev pub StopsBy : List (List ℕ) → ReadingError → ShelfState → ShelfState → Type 0
+StopsBy names (Missing name) before after = StopsAt names name before after
+StopsBy names TooLarge before after = (name : List ℕ) × StopsAt names name before after
+StopsBy names Fault before after = after.opens ≤ raised before.opens (length names)
+StopsBy names Memory before after = after.opens ≤ raised before.opens (length names)
 
 -- the refusal of the definitions; a shelf that failed and want of memory have none
 abbrev pub refusal_of : ReadingError → Result FilesRefusal FilesFailure

@@ -24,7 +24,8 @@ use std::alloc::{AllocError, Global};
 /// text of its module, or the first line that is refused, or that a file is too large. It is the report of the defined
 /// module where the shelf tells its files. Also where it tells none, a file is reported as too large exactly where more
 /// than 262,144 bytes of one were taken. In all no more bytes are taken than one more than these, for each of the 64
-/// lines that may copy a file.
+/// lines that may copy a file. A source that copies none leaves the shelf as it was, and its report is that of its module,
+/// whatever the shelf tells.
 ///
 /// # Errors
 /// `Fault` comes only where the shelf's count of faults rose, and `Memory` is want of memory. Of no file more bytes were
@@ -39,6 +40,7 @@ pub fn asm_files<F: Shelf>(
         CopyReported (F.state shelf.old) (F.state shelf.new) text.now (defined_report report)) }
     ensures failure { IfErr result (λ failure.
         FailureCauses most_bytes failure (F.state shelf.old) (F.state shelf.new)) }
+    ensures opens { (F.state shelf.new).opens ≤ raised (F.state shelf.old).opens most_copies }
     ensures taken { (F.state shelf.new).source.taken
         ≤ raised (F.state shelf.old).source.taken ((most_bytes + 1) * most_copies) }
     ensures later { Later (F.state shelf.old) (F.state shelf.new) }

@@ -32,7 +32,8 @@ use std::alloc::{AllocError, Global};
 /// All files are read first, in their order, each of at most 1,048,576 bytes; then their texts are read in that order;
 /// then the modules of all are linked. It is the report of the defined linked memory where the shelf tells its files.
 /// Also where it tells none, a file is reported as too large exactly where more than 1,048,576 bytes of one were taken. In
-/// all no more bytes are taken than one more than these, for each of 16 files.
+/// all no more bytes are taken than one more than these, for each of 16 files. Each file is asked for once, and none behind
+/// one that is missing or too large.
 ///
 /// # Errors
 /// `Fault` comes only where the shelf's count of faults rose, and `Memory` is want of memory. Of no file more bytes were
@@ -47,6 +48,7 @@ pub fn link_files<F: Shelf>(
         LinkReported (F.state shelf.old) (F.state shelf.new) names.now (defined_report report)) }
     ensures failure { IfErr result (λ failure.
         FailureCauses largest_input failure (F.state shelf.old) (F.state shelf.new)) }
+    ensures opens { (F.state shelf.new).opens ≤ raised (F.state shelf.old).opens (length names.now) }
     ensures taken { (F.state shelf.new).source.taken
         ≤ raised (F.state shelf.old).source.taken ((largest_input + 1) * most_files) }
     ensures later { Later (F.state shelf.old) (F.state shelf.new) }

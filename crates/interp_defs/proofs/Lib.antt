@@ -1,3 +1,4 @@
 pub mod OneBoot
 pub mod OneMachine
 pub mod AfterTurns
+pub mod MachinesOfRuns

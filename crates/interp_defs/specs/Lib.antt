@@ -5,3 +5,4 @@ pub mod Boot
 pub mod Turns
 pub mod Turned
 pub mod Programs
+pub mod Machines

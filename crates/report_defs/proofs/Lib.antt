@@ -2,3 +2,4 @@ pub mod OneReport
 pub mod GromBytes
 pub mod ListedInputs
 pub mod ListedWords
+pub mod Fronts

@@ -18,7 +18,7 @@ use Rattle.report_defs.specs.Exec.{IsStart, Executes, exec_lines, end_status}
 use Rattle.report_defs.specs.declared.fault.Fault.TheVariants.{TooLarge}
 use Rattle.report_defs.specs.declared.status.Status.TheVariants.{Done}
 use Rattle.report_defs.specs.Report.{Report, Whole, Faulty, ReportsExecution, ExecReport, AcceptedReport, largest_input}
-use Rattle.report_defs.specs.Report.{ReportsInterpreter, ReportsProgram, EnteredReport, ProgramReport, run_lines, trace_lines, demo_lines}
+use Rattle.report_defs.specs.Report.{ReportsInterpreter, ProgramRun, ReportsProgram, EnteredReport, ProgramReport, run_lines, trace_lines, demo_lines}
 use Rattle.report_defs.specs.MemoryListing.{linked_lines}
 use Rattle.report_defs.specs.Program.{program_status}
 use Rattle.report_defs.specs.DemoText.{demo_text}
@@ -28,8 +28,8 @@ use Rattle.gpl_defs.specs.Image.{Image, AreBytesOf}
 use Rattle.gpl_source_defs.specs.declared.causes.GplCause.{GplCause}
 use Rattle.gpl_source_defs.specs.Programs.{Program, program_of_source}
 use Rattle.interp_build_defs.proofs.OneMemory.{one_memory_links}
-use Rattle.gpl_step_defs.specs.State.{GplState, start}
-use Rattle.gpl_step_defs.specs.Run.{GplRun, run}
+use Rattle.gpl_step_defs.specs.State.{start}
+use Rattle.gpl_step_defs.specs.Run.{run}
 use Rattle.interp_defs.specs.Programs.{RunsProgram}
 use Rattle.interp_defs.proofs.OneBoot.{same_list, one_zeros, one_vdp, same_memory}
 use Rattle.interp_defs.proofs.OneMachine.{one_machine_is_left}
@@ -113,13 +113,13 @@ one_bytes image xs ys p q =
     same_list xs ys size (λ at below. p.each at below ∙ sym (q.each at (omega arith)))
 
 -- one report of a program
-one_program : (lines : Image → GplState → GplRun → MachineState → List (List ℕ)) (limit : ℕ) (image : Image) (entry : ℕ) (first second : Report) →
+one_program : (lines : ProgramRun → List (List ℕ)) (limit : ℕ) (image : Image) (entry : ℕ) (first second : Report) →
     ReportsProgram lines limit image entry first → ReportsProgram lines limit image entry second → first ≡ second
 one_program lines limit image entry first second p q =
     let bytes : p.bytes ≡ q.bytes = one_bytes image p.bytes q.bytes p.of_image q.of_image in
     let runs : RunsProgram q.bytes entry limit p.left = subst (λ (b : List ℕ). RunsProgram b entry limit p.left) bytes p.runs in
     let left : p.left ≡ q.left = one_machine_is_left q.bytes entry limit p.left q.left runs q.runs in
-    let by : List ℕ → MachineState → Report = λ b x. let s = start b entry in let r = run limit s in Whole (program_status r.stop) (lines image s r x) in
+    let by : List ℕ → MachineState → Report = λ b x. let s = start b entry in let r = run limit s in Whole (program_status r.stop) (lines (record { image = image; begun = s; made = r; left = x })) in
     p.is ∙ ap (λ (b : List ℕ). by b p.left) bytes ∙ ap (by q.bytes) left ∙ sym q.is
 
 -- two such reports are one

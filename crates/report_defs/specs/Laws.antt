@@ -1,5 +1,5 @@
 -- What holds of all reports.
-use Rattle.std.specs.Prelude.{◌≡◌, ℕ, ◌+◌, ◌%◌, ◌≤◌, ◌<◌, List, length, None, Ok}
+use Rattle.std.specs.Prelude.{◌≡◌, ℕ, ◌+◌, ◌%◌, ◌≤◌, ◌<◌, List, ◌++◌, length, None, Ok}
 use Rattle.std.specs.List.{concat}
 use Rattle.std.specs.FinMap.{empty}
 use Rattle.tms_defs.specs.Bytes.{HoldsBytes}
@@ -9,15 +9,30 @@ use Rattle.gpl_source_defs.specs.Programs.{program_of_source}
 use Rattle.word_listings.specs.Law.{listed_module}
 use Rattle.report_defs.specs.declared.command.Command.{Command}
 use Rattle.report_defs.specs.declared.command.Command.TheVariants.{Asm, Dis}
+use Rattle.report_defs.specs.declared.status.Status.{Status}
 use Rattle.report_defs.specs.declared.status.Status.TheVariants.{Done}
 use Rattle.report_defs.specs.GromListing.{image_listing}
-use Rattle.report_defs.specs.Report.{Report, Whole, asm_report, ReportOn}
+use Rattle.report_defs.specs.Report.{Report, Whole, Faulty, Rejected, asm_report, ReportOn, FrontOn}
 
 -- the law, which is proved: there is at most one report on each command and input
 abbrev pub OneReport : Type 0
 OneReport =
     (command : Command) (input : List ℕ) (first second : Report)
     → ReportOn command input first → ReportOn command input second → first ≡ second
+
+-- One report begins another: its pieces are the first of the other's. The report of an input that is refused begins
+-- itself alone.
+abbrev pub Begins : Report → Report → Type 0
+Begins (Whole status shown) report =
+    (end : Status) × (others : List (List ℕ)) × (report ≡ Whole end (shown ++ others))
+Begins (Faulty fault) report = report ≡ Faulty fault
+Begins (Rejected line) report = report ≡ Rejected line
+
+-- the law, which is proved: what is written before the end of a report is known begins the report
+abbrev pub FrontsBeginReports : Type 0
+FrontsBeginReports =
+    (command : Command) (input : List ℕ) (front report : Report)
+    → FrontOn command input front → ReportOn command input report → Begins front report
 
 -- the text that gdis lists of bytes from an address on
 abbrev pub listed_text : ℕ → List ℕ → List ℕ

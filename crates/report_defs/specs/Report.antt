@@ -106,30 +106,37 @@ pub record ReportsInterpreter (report : Report) : Type 0 where
   pub links : Links source memory
   pub is : report ≡ Whole Done (linked_lines memory)
 
--- What is written of a run of steps from a state, of a program with an image, and of the machine that the interpreter
+-- A program that was run: its image, the state from which it began, its steps, and the machine that the interpreter
 -- left.
-abbrev pub run_lines : Image → GplState → GplRun → MachineState → List (List ℕ)
-run_lines image s r left = program_lines r.stop r.last left
+pub record ProgramRun : Type 0 where
+  pub image : Image
+  pub begun : GplState
+  pub made : GplRun
+  pub left : MachineState
+
+-- what is written of it: how it ended, and the dump
+abbrev pub run_lines : ProgramRun → List (List ℕ)
+run_lines p = program_lines p.made.stop p.made.last p.left
 
 -- `trace` shows each step by its line, and then what `run` writes
-abbrev pub trace_lines : Image → GplState → GplRun → MachineState → List (List ℕ)
-trace_lines image s r left = step_lines s r.done ++ run_lines image s r left
+abbrev pub trace_lines : ProgramRun → List (List ℕ)
+trace_lines p = step_lines p.begun p.made.done ++ run_lines p
 
 -- `demo` writes the summary of the run
-abbrev pub demo_lines : ℕ → Image → GplState → GplRun → MachineState → List (List ℕ)
-demo_lines number image s r left = summary_lines (summary_of number (length (written_bytes image)) r left)
+abbrev pub demo_lines : ℕ → ProgramRun → List (List ℕ)
+demo_lines number p = summary_lines (summary_of number (length (written_bytes p.image)) p.made p.left)
 
 -- The report of a program that the interpreter runs for up to so many steps from its entry, by what is written of such
 -- a run.
-pub record ReportsProgram (lines : Image → GplState → GplRun → MachineState → List (List ℕ)) (limit : ℕ) (image : Image)
-    (entry : ℕ) (report : Report) : Type 0 where
+pub record ReportsProgram (lines : ProgramRun → List (List ℕ)) (limit : ℕ) (image : Image) (entry : ℕ)
+    (report : Report) : Type 0 where
   pub bytes : List ℕ
   pub of_image : AreBytesOf image bytes
   pub left : MachineState
   pub runs : RunsProgram bytes entry limit left
   pub is : let s = start bytes entry in
       let r = run limit s in
-      report ≡ Whole (program_status r.stop) (lines image s r left)
+      report ≡ Whole (program_status r.stop) (lines (record { image = image; begun = s; made = r; left = left }))
 
 -- The lines of a program's steps, without what follows them.
 pub record ShowsSteps (limit : ℕ) (image : Image) (entry : ℕ) (front : Report) : Type 0 where

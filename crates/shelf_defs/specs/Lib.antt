@@ -2,3 +2,4 @@ pub mod Files
 pub mod CopyLines
 pub mod Copied
 pub mod Assembly
+pub mod Alone

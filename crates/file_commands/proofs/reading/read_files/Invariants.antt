@@ -13,6 +13,7 @@ invariant-loop-name g l =
     let state = g.F.Shelf.state in
     record {
       read : IfSome (state l.fn.shelf).files (λ files. read_files files (take l.name-index l.names) ≡ Ok (defined_texts l.texts.items));
+      opens : (state l.shelf).opens ≡ raised (state l.fn.shelf).opens l.name-index;
       names : map (λ text. text.name) l.texts.items ≡ take l.name-index l.names;
       within : TookNoMore largest_input (state l.fn.shelf) (state l.shelf);
       taken : (state l.shelf).source.taken ≤ raised (state l.fn.shelf).source.taken ((largest_input + 1) * l.name-index);

@@ -3,7 +3,7 @@ use Rattle.std.specs.Prelude.{IfSome}
 use Rattle.source_defs.specs.Lines.{LinesLieInside}
 use Rattle.source_defs.specs.Layout.{line_texts}
 use Rattle.source_defs.proofs.LaidLaws.{texts_of}
-use Rattle.bench_shelf.proofs.LoopLaws.{Follows, all_taken, follows_first, later_first, follows_more, follows_end, follows_refused, later_then, counts_first, counts_more, counts_grow, once_first}
+use Rattle.bench_shelf.proofs.LoopLaws.{Follows, all_taken, follows_first, alone_first, alone_more, alone_end, alone_refused, alone_taken, later_first, follows_more, follows_end, follows_refused, later_then, counts_first, counts_more, counts_grow, once_first}
 use Rattle.bench_shelf.proofs.CountLaws.{once_then}
 use Rattle.bench_shelf.proofs.SinceLaws.{causes_since, each_since}
 use Rattle.bench_shelf.proofs.Keeping.{within_then}
@@ -75,6 +75,8 @@ copy_lines-loop-line-preserved g t c =
           line.number c.part.result.now first _ _ i.3.files going i.7 c.in-Ok.ensures.leads,
       λ has. c.copy_one.ensures.kept (i.8 has),
       within_then most_bytes (state c.args.shelf.now) (state c.loop-line.shelf) (state c.copy_one.new.shelf) i.9 c.in-Ok.ensures.within,
+      λ alone. alone_more c.args.levels c.args.file.now c.args.self.now c.loop-line.self c.copy_one.new.self (line_texts text) (texts_of text next) _
+          line.number c.part.result.now first _ _ _ (i.10 alone) going c.in-Ok.ensures.alone,
     )
 
 pub copy_lines-returns-clause-leads : goal.copy_lines-returns-clause-leads
@@ -120,6 +122,7 @@ copy_lines-loop-line-init g t c =
           (follows_first c.args.levels c.args.file.now told old (line_texts text)),
       λ has. has,
       omega arith,
+      λ alone. alone_first c.args.levels c.args.file.now old (line_texts text) _ _ (ap (texts_of text) all) alone,
     )
 
 pub copy_file-returns-clause-causes : goal.copy_file-returns-clause-causes
@@ -129,3 +132,32 @@ copy_file-returns-clause-causes g t c =
 pub copy_lines-returns-in-Err-clause-causes : goal.copy_lines-returns-in-Err-clause-causes
 copy_lines-returns-in-Err-clause-causes g t c =
     causes_since _ _ _ c.loop-line.invariant.3 c.loop-line.invariant.9 c.in-Err.error c.in-Err.ensures.causes
+
+pub copy_lines-returns-in-Err-clause-alone : goal.copy_lines-returns-in-Err-clause-alone
+copy_lines-returns-in-Err-clause-alone g t c alone =
+    let i = c.loop-line.invariant in
+    let text = c.args.text.now in
+    let line = c.in-Some.line in
+    let next = c.next.new.self in
+    let first : texts_of text c.loop-line.line-iterator ≡ (line.number, c.part.result.now) ∷ texts_of text next =
+    ap (texts_of text) c.in-Some.ensures.steps ∙ ap (λ found. (line.number, found) ∷ texts_of text next) (sym c.part.ensures) in
+    alone_refused c.args.levels c.args.file.now c.args.self.now c.loop-line.self c.copy_one.new.self (line_texts text) (texts_of text next) _
+    line.number c.part.result.now first _ _ _ (i.10 alone) c.in-Err.error c.in-Err.ensures.alone
+
+pub copy_lines-returns-then-is_ended-clause-alone : goal.copy_lines-returns-then-is_ended-clause-alone
+copy_lines-returns-then-is_ended-clause-alone g t c alone =
+    let i = c.loop-line.invariant in
+    let text = c.args.text.now in
+    let line = c.in-Some.line in
+    let next = c.next.new.self in
+    let first : texts_of text c.loop-line.line-iterator ≡ (line.number, c.part.result.now) ∷ texts_of text next =
+    ap (texts_of text) c.in-Some.ensures.steps ∙ ap (λ found. (line.number, found) ∷ texts_of text next) (sym c.part.ensures) in
+    alone_end c.args.levels c.args.file.now c.args.self.now c.loop-line.self c.copy_one.new.self (line_texts text) (texts_of text next) _
+    line.number c.part.result.now first _ _ _ (i.10 alone) (λ going. (cc (c.is_ended.ensures.open.1 going, c.if-is_ended.true))) c.in-Ok.ensures.alone
+
+pub copy_lines-returns-clause-alone : goal.copy_lines-returns-clause-alone
+copy_lines-returns-clause-alone g t c alone =
+    let i = c.loop-line.invariant in
+    let text = c.args.text.now in
+    alone_taken c.args.levels c.args.file.now c.args.self.now c.loop-line.self (line_texts text) (texts_of text c.loop-line.line-iterator) _ _
+    (ap (texts_of text) c.in-None.ensures.steps.0) i.2 (i.10 alone)

@@ -3,10 +3,11 @@ use Rattle.std.specs.Prelude.{IfSome}
 use Rattle.source_defs.specs.Lines.{LinesLieInside}
 use Rattle.source_defs.specs.Layout.{line_texts}
 use Rattle.source_defs.proofs.LaidLaws.{texts_of}
+use Rattle.shelf_defs.specs.Alone.{CopiesNone}
 use Rattle.shelf_defs.specs.Copied.{most_bytes}
 use Rattle.asm_core.specs.Building.{IsOpen}
 use Rattle.bench_shelf.specs.Causes.{Later, ReadsOnce, TookNoMore}
-use Rattle.bench_shelf.proofs.LoopLaws.{Follows, Counts}
+use Rattle.bench_shelf.proofs.LoopLaws.{Follows, FollowsAlone, Counts}
 use Rattle.bench_shelf.specs.KeptLines.{KeepsLines}
 use Rattle.bench_shelf.proofs.copying.Copying.+copying.Given as goal
 
@@ -34,3 +35,5 @@ invariant-copy_lines-loop-line g l =
     × IfSome (state l.fn.shelf).files (Follows l.levels l.file l.fn.self (line_texts l.text) l.self (texts_of l.text l.line-iterator))
     × KeepsLines l.fn.self l.self
     × TookNoMore most_bytes (state l.fn.shelf) (state l.shelf)
+    × (CopiesNone (line_texts l.text)
+        → FollowsAlone l.levels l.file l.fn.self (line_texts l.text) l.self (texts_of l.text l.line-iterator) (state l.fn.shelf) (state l.shelf))

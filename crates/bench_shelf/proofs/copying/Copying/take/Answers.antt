@@ -6,6 +6,7 @@ use Rattle.asm_defs.specs.FirstChecks.{check}
 use Rattle.asm_core.specs.Finishing.{RefusesAt}
 use Rattle.bench_shelf.specs.Runs.{places_of}
 use Rattle.bench_shelf.specs.CopyAnswers.{defined_place, CopyRefuses}
+use Rattle.bench_shelf.specs.Causes.{IsOfLine}
 use Rattle.bench_shelf.proofs.TakingLaws.{own_taken, own_refused}
 use Rattle.bench_shelf.proofs.copying.Copying.take.Goals as goal
 
@@ -41,3 +42,11 @@ returns-in-Ok-note_place-clause-kept c has =
 pub returns-in-Err-clause-kept : goal.returns-in-Err-clause-kept
 returns-in-Err-clause-kept c has =
     (has.0 ++ c.args.text.now ∷ [], c.in-Ok.ensures has.0 has.1)
+
+pub returns-in-Err-At-clause-causes : goal.returns-in-Err-At-clause-causes
+returns-in-Err-At-clause-causes c =
+    let held = c.requires.room.held in
+    let refuses = (c.in-Err-At.ensures (texts held.0) held.1.taken).0 in
+    let is = own_refused c.args.self.now c.args.place c.args.text.now held.0 _ c.in-Err-At.cause c.requires.going held.1
+    (subst (λ error. RefusesAt error (laid check (numbered 1 (texts held.0 ++ c.args.text.now ∷ [])))) c.in-Err-At.field-0-is refuses) in
+    subst IsOfLine (sym c.refused.ensures) is.0
