@@ -59,10 +59,7 @@ pub enum Statement<'a> {
 
 /// What a line with its fields says.
 #[tactic(auto, using(crate::proofs::Failures::form_fails), unfolding(asm_defs::specs::Statements::statement_in))]
-pub fn statement_in<'a>(
-    line: &'a [u8],
-    fields: &Fields,
-) -> Result<Statement<'a>, Failure>
+pub fn statement_in<'a>(line: &'a [u8], fields: &Fields) -> Result<Statement<'a>, Failure>
     requires read { lines.fields line.now ≡ Ok (defined_fields fields.now) }
     requires inside { FieldsLieInside line.now fields.now }
     requires length { length line.now ≤ 256 }

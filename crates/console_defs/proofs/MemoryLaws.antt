@@ -91,8 +91,8 @@ region_beside address =
 read_by_region : (place : Region) (m : Memory) (address : ℕ) →
     word_read_in place m address
     ≡ (if is_port_region place
-      then AtPort address
-      else Gives (join (byte_read_in place m).0 (byte_read_in (beside place) m).0))
+    then AtPort address
+    else Gives (join (byte_read_in place m).0 (byte_read_in (beside place) m).0))
 read_by_region (Rom at) m address = refl
 read_by_region (LowExpansion at) m address = refl
 read_by_region (HighExpansion at) m address = refl
@@ -113,8 +113,8 @@ read_is_two_bytes m address =
 write_by_region : (place : Region) (m : Memory) (address word : ℕ) →
     word_written_in place m address word
     ≡ (if is_port_region place
-      then AtPort address
-      else Gives (byte_written_in (beside place) (byte_written_in place m (high word)) (low word)))
+    then AtPort address
+    else Gives (byte_written_in (beside place) (byte_written_in place m (high word)) (low word)))
 write_by_region (Rom at) m address word = refl
 write_by_region (LowExpansion at) m address word = refl
 write_by_region (HighExpansion at) m address word = refl

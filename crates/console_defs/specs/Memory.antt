@@ -107,7 +107,7 @@ region_by false false false false false address = HighExpansion (address - 0xA00
 abbrev pub region : ℕ → Region
 region address =
     region_by (nat_lt address 0x2000) (nat_lt address 0x4000) (nat_lt address 0x8000) (nat_lt address 0x8400)
-        (nat_lt address 0xA000) address
+    (nat_lt address 0xA000) address
 
 -- A port stands at the address.
 abbrev pub is_port_region : Region → Bool

@@ -14,21 +14,21 @@ use Rattle.object_defs.specs.declared.tag.Tag.TheVariants.{Address, Word, EndOfL
 
 -- the character of a tag in plain text
 abbrev pub tag_character : Tag → ℕ
-tag_character Header = 0x30 -- 0
-tag_character (Entry Absolute) = 0x31 -- 1
-tag_character (Entry Relocatable) = 0x32 -- 2
-tag_character (Reference Relocatable) = 0x33 -- 3
-tag_character (Reference Absolute) = 0x34 -- 4
-tag_character (Definition Relocatable) = 0x35 -- 5
-tag_character (Definition Absolute) = 0x36 -- 6
-tag_character Sum = 0x37 -- 7
-tag_character IgnoredSum = 0x38 -- 8
-tag_character (Address Absolute) = 0x39 -- 9
-tag_character (Address Relocatable) = 0x41 -- A
-tag_character (Word Absolute) = 0x42 -- B
-tag_character (Word Relocatable) = 0x43 -- C
-tag_character EndOfLine = 0x46 -- F
-tag_character EndOfModule = 0x3A -- :
+tag_character Header = 0x30  -- 0
+tag_character (Entry Absolute) = 0x31  -- 1
+tag_character (Entry Relocatable) = 0x32  -- 2
+tag_character (Reference Relocatable) = 0x33  -- 3
+tag_character (Reference Absolute) = 0x34  -- 4
+tag_character (Definition Relocatable) = 0x35  -- 5
+tag_character (Definition Absolute) = 0x36  -- 6
+tag_character Sum = 0x37  -- 7
+tag_character IgnoredSum = 0x38  -- 8
+tag_character (Address Absolute) = 0x39  -- 9
+tag_character (Address Relocatable) = 0x41  -- A
+tag_character (Word Absolute) = 0x42  -- B
+tag_character (Word Relocatable) = 0x43  -- C
+tag_character EndOfLine = 0x46  -- F
+tag_character EndOfModule = 0x3A  -- :
 
 -- The tag that a module begins with. Profile: it is >01 in compressed text, and each form has its own alone.
 abbrev pub opening_tag : TextForm → ℕ

@@ -25,15 +25,19 @@ returns-in-Err-clause-text g c =
 
 pub returns-clause-alone : goal.returns-clause-alone
 returns-clause-alone g c alone =
-    let found = c.in_default.ensures.alone alone in
-    (found.shelf, all_taken (Some empty) c.args.text.now c.new-copying.result c.copy_lines.new.self _ c.new-copying.ensures.none
-    c.new-copying.ensures.copies found.leads c.finish.ensures.module)
+    let found = c.in_default.ensures.alone alone in (
+      found.shelf,
+      all_taken (Some empty) c.args.text.now c.new-copying.result c.copy_lines.new.self _ c.new-copying.ensures.none
+          c.new-copying.ensures.copies found.leads c.finish.ensures.module,
+    )
 
 pub returns-in-Err-clause-alone : goal.returns-in-Err-clause-alone
 returns-in-Err-clause-alone g c alone =
-    let found = c.in-Err.ensures.alone alone in
-    (found.shelf, one_refused (Some empty) c.args.text.now c.new-copying.result c.copy_lines.new.self c.in-Err.error c.new-copying.ensures.none
-    c.new-copying.ensures.copies found.leads)
+    let found = c.in-Err.ensures.alone alone in (
+      found.shelf,
+      one_refused (Some empty) c.args.text.now c.new-copying.result c.copy_lines.new.self c.in-Err.error c.new-copying.ensures.none
+          c.new-copying.ensures.copies found.leads,
+    )
 
 pub returns-clause-opened : goal.returns-clause-opened
 returns-clause-opened g c =

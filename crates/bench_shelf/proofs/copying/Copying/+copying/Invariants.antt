@@ -36,4 +36,4 @@ invariant-copy_lines-loop-line g l =
     × KeepsLines l.fn.self l.self
     × TookNoMore most_bytes (state l.fn.shelf) (state l.shelf)
     × (CopiesNone (line_texts l.text)
-        → FollowsAlone l.levels l.file l.fn.self (line_texts l.text) l.self (texts_of l.text l.line-iterator) (state l.fn.shelf) (state l.shelf))
+    → FollowsAlone l.levels l.file l.fn.self (line_texts l.text) l.self (texts_of l.text l.line-iterator) (state l.fn.shelf) (state l.shelf))
