@@ -15,7 +15,7 @@ use Rattle.asm_defs.specs.Locations.{Line, location, reached, relocatable, behin
 use Rattle.asm_defs.specs.Statements.{Nothing, statement_in}
 use Rattle.asm_defs.specs.FirstChecks.{Before, Checked, checked, said, moved, stays_at}
 use Rattle.asm_defs.specs.SecondChecks as second
-use Rattle.asm_defs.specs.Memory.{Settled, covers, is_placed, is_word, words_in, word_count, part_words, content_at, same_part, overlaps}
+use Rattle.asm_defs.specs.Memory.{Settled, covers, is_placed, has_word, words_in, word_count, part_words, content_at, same_part, overlaps}
 use Rattle.asm_defs.specs.Modules.{with_room}
 use Rattle.module_image.specs.Standing.{AllStand}
 use Rattle.module_image.specs.Images.{IsImage}
@@ -62,13 +62,13 @@ module _ (at : Location) where
     placed_same : (part : Part) (p : ℕ) → is_placed (nothing_placed ∷ earlier) part p ≡ is_placed earlier part p
     placed_same part p = ap (λ b. b || is_placed earlier part p) (covers_none part p)
 
-    word_same : (part : Part) (w : ℕ) → is_word (nothing_placed ∷ earlier) part w ≡ is_word earlier part w
+    word_same : (part : Part) (w : ℕ) → has_word (nothing_placed ∷ earlier) part w ≡ has_word earlier part w
     word_same part w =
         ap (λ b. b || is_placed (nothing_placed ∷ earlier) part (2 * w + 1)) (placed_same part (2 * w))
         ∙ ap (λ b. is_placed earlier part (2 * w) || b) (placed_same part (2 * w + 1))
 
     words_same : (part : Part) → words_in (nothing_placed ∷ earlier) part ≡ words_in earlier part
-    words_same part = count_same (is_word earlier part) (is_word (nothing_placed ∷ earlier) part) 0 part_words (λ w le. word_same part w)
+    words_same part = count_same (has_word earlier part) (has_word (nothing_placed ∷ earlier) part) 0 part_words (λ w le. word_same part w)
 
     count_same_here : word_count (nothing_placed ∷ earlier) ≡ word_count earlier
     count_same_here =
@@ -107,8 +107,8 @@ most_words earlier (found ∷ founds) most stand =
 no_words : word_count [] ≤ 32768
 no_words = omega (
   arith,
-  count_none (is_word [] part.Relocatable) 0 part_words (λ w. refl),
-  count_none (is_word [] part.Absolute) 0 part_words (λ w. refl),
+  count_none (has_word [] part.Relocatable) 0 part_words (λ w. refl),
+  count_none (has_word [] part.Absolute) 0 part_words (λ w. refl),
 )
 
 pub still_room : (at : Location) (founds : List Settled) → AllStand [] founds → with_room (onto [] founds) (nothing_placed at) ≡ Ok (nothing_placed at)
