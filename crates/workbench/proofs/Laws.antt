@@ -1,7 +1,7 @@
 -- What holds of all runs with files.
 use Rattle.std.proofs.Common.{◌≡◌, ◌≢◌, ℕ, List, [], ◌∷◌, length, Option, Some, None, Bool, true, false, refl, sym, ap, ◌∙◌}
 use Rattle.std.proofs.Common.{subst, inl, inr}
-use Rattle.std.specs.Prelude.{IfSome, MatchBool, nat_lt, nat_le, ◌&&◌, if◌then◌else◌, codes}
+use Rattle.std.specs.Prelude.{IfSome, MatchBool, nat_lt, if◌then◌else◌, codes}
 use Rattle.std.specs.Option.{option_map, option_and_then}
 use Rattle.source_defs.specs.Refusals.{◌>>=◌}
 use Rattle.watch_defs.specs.declared.item.Item.{Item}
@@ -29,8 +29,8 @@ use Rattle.bench_commands.specs.Laws as plain_laws
 use Rattle.bench_commands.specs.Laws.{TellsInput}
 use Rattle.bench_commands.proofs.Uniqueness as bench
 use Rattle.bench_commands.proofs.Uniqueness.{on_all, on_input, no_miss}
-use Rattle.workbench.specs.FileRun.{FileRun, without_files, AsmOn, Reports, EndsOver, EndsByUsage, EndsAs}
-use Rattle.workbench.specs.Laws.{HasNoFault, input_of, Tells, Completeness, BeginAlike, OneAnswer, LawsOfFileRuns}
+use Rattle.workbench.specs.FileRun.{FileRun, without_files, AsmOn, ReportsWith, ReadFailedWith, EndsOver, EndsByUsage, EndsSaid}
+use Rattle.workbench.specs.Laws.{HasNoFaultWith, input_of, Tells, CompletenessWith, BeginAlikeWith, OneAnswerWith, LawsOfFileRuns}
 
 -- ---- words that say a command without files
 
@@ -103,7 +103,7 @@ asm_on_input run source report files told on = by (nat_lt largest_input (length 
         on.is ∙ ap copy_report is
 
 on_files : (command : ProgramCommand) (run : FileRun) (input : List ℕ) (files : Files) (report : Report)
-    → Tells command run input files → Reports command run report
+    → Tells command run input files → ReportsWith command run report
     → ReportWith command (input_of command input) files report
 on_files AsmFiles run input files report told (source, reading, on) =
     on_all (AsmReport files) run.input run.input' source input report told.0 reading
@@ -118,14 +118,20 @@ on_files (Plain command) run input files report told reports = absurd reports
 
 -- ---- a run in which no count rose wrote its report
 
-over : (command : ProgramCommand) (run : FileRun) (end : Status) → EndsOver command run end → HasNoFault run
+no_failure : (command : ProgramCommand) (run : FileRun) → ReadFailedWith command run → HasNoFaultWith run → ⊥
+no_failure AsmFiles run (inl failed) none = none.input failed.0
+no_failure AsmFiles run (inr failed) none = none.shelf failed.2
+no_failure (LinkFiles names) run failed none = none.shelf failed
+no_failure (Watch limit items) run failed none = none.input failed
+no_failure (Plain command) run failed none = absurd failed
+
+over : (command : ProgramCommand) (run : FileRun) (end : Status) → EndsOver command run end → HasNoFaultWith run
     → end ≢ status.Memory
-    → (report : Report) × Reports command run report × (end ≡ status_of report) × WroteReport run.outputs report
+    → (report : Report) × ReportsWith command run report × (end ≡ status_of report) × WroteReport run.outputs report
 over command run status.Done (report, is, (same, wrote)) none some = (report, is, sym same, wrote)
 over command run status.Refused (report, is, (same, wrote)) none some = (report, is, sym same, wrote)
-over command run status.Usage (report, is, (same, wrote)) none some = (report, is, sym same, wrote)
-over command run status.ReadFault (nothing, inl rose) none some = absurd (none.input rose.0)
-over command run status.ReadFault (nothing, inr rose) none some = absurd (none.shelf rose)
+over command run status.Usage ends none some = absurd ends
+over command run status.ReadFault (nothing, failed) none some = absurd (no_failure command run failed none)
 over command run status.WriteFault (report, is, missed) none some =
     absurd (no_miss run.outputs report none.out none.err missed)
 over command run status.Memory nothing none some = absurd (some refl)
@@ -140,14 +146,14 @@ record Answered (command : ProgramCommand) (input : List ℕ) (files : Files) (r
   wrote : WroteReport run.outputs report
 
 over_answered : (command : ProgramCommand) (input : List ℕ) (files : Files) (run : FileRun) (end : Status)
-    → Tells command run input files → HasNoFault run → end ≢ status.Memory → EndsOver command run end
+    → Tells command run input files → HasNoFaultWith run → end ≢ status.Memory → EndsOver command run end
     → Answered command input files run end
 over_answered command input files run end told none some ends =
     let r = over command run end ends none some in
     record { report = r.0; on = on_files command run input files r.0 told r.1; is = r.2; wrote = r.3 }
 
 plain_answered : (words : List (List ℕ)) (command : Command) (input : List ℕ) (files : Files) (run : FileRun)
-    (end : Status) → program_command words ≡ Some (Plain command) → TellsInput command run.input input → HasNoFault run
+    (end : Status) → program_command words ≡ Some (Plain command) → TellsInput command run.input input → HasNoFaultWith run
     → end ≢ status.Memory → EndsBy (without_files words run) end → Answered (Plain command) input files run end
 plain_answered words command input files run end said left none some ends =
     let same : plain.Run = without_files words run in
@@ -158,8 +164,8 @@ plain_answered words command input files run end said left none some ends =
     record { report = r.0; on = on_input same command input r.0 left reports; is = r.2; wrote = r.3 }
 
 answered : (words : List (List ℕ)) (command : ProgramCommand) (input : List ℕ) (files : Files) (run : FileRun)
-    (end : Status) → program_command words ≡ Some command → Tells command run input files → HasNoFault run
-    → end ≢ status.Memory → EndsAs (Some command) words run end → Answered command input files run end
+    (end : Status) → program_command words ≡ Some command → Tells command run input files → HasNoFaultWith run
+    → end ≢ status.Memory → EndsSaid (Some command) words run end → Answered command input files run end
 answered words AsmFiles input files run end said told none some ends =
     over_answered AsmFiles input files run end told none some ends
 answered words (LinkFiles names) input files run end said told none some ends =
@@ -169,17 +175,21 @@ answered words (Watch limit items) input files run end said told none some ends 
 answered words (Plain command) input files run end said told none some ends =
     plain_answered words command input files run end said told none some ends.0
 
-completeness : Completeness
-completeness words run command input files report end said told none on ends some =
-    let P : Option ProgramCommand → Type 0 = λ found. EndsAs found words run end in
+completeness : CompletenessWith
+completeness words run command input files end said told none ends some =
+    let P : Option ProgramCommand → Type 0 = λ found. EndsSaid found words run end in
     let a = answered words command input files run end said told none some (subst P said ends) in
-    let same : a.report ≡ report = one_report_with command (input_of command input) files a.report report a.on on in
-    let W : Report → Type 0 = λ x. WroteReport run.outputs x in
-    (a.is ∙ ap status_of same, subst W same a.wrote)
+    record {
+      report = a.report;
+      reported = a.on;
+      only = λ other also. one_report_with command (input_of command input) files other a.report also a.on;
+      status_is = a.is;
+      wrote = a.wrote;
+    }
 
 -- ---- two runs that begin alike have one answer
 
-usage_answer : (run : FileRun) (end : Status) → HasNoFault run → EndsByUsage run end → end ≡ status.Usage
+usage_answer : (run : FileRun) (end : Status) → HasNoFaultWith run → EndsByUsage run end → end ≡ status.Usage
 usage_answer run status.Done none (leaves, ends) = absurd ends
 usage_answer run status.Refused none (leaves, ends) = absurd ends
 usage_answer run status.Usage none (leaves, ends) = refl
@@ -189,8 +199,8 @@ usage_answer run status.Memory none (leaves, ends) = absurd ends
 usage_answer run status.Stopped none (leaves, ends) = absurd ends
 
 alike : (words : List (List ℕ)) (found : Option ProgramCommand) (a b : FileRun) (s t : Status)
-    → program_command words ≡ found → BeginAlike words a b → HasNoFault a → HasNoFault b → EndsAs found words a s
-    → EndsAs found words b t → s ≢ status.Memory → t ≢ status.Memory → s ≡ t
+    → program_command words ≡ found → BeginAlikeWith words a b → HasNoFaultWith a → HasNoFaultWith b → EndsSaid found words a s
+    → EndsSaid found words b t → s ≢ status.Memory → t ≢ status.Memory → s ≡ t
 alike words None a b s t said begin none other ends ends' some some' =
     usage_answer a s none ends ∙ sym (usage_answer b t other ends')
 alike words (Some command) a b s t said begin none other ends ends' some some' =
@@ -200,7 +210,7 @@ alike words (Some command) a b s t said begin none other ends ends' some some' =
     one_report_with command (input_of command begin.bytes) begin.files p.report q.report p.on q.on in
     p.is ∙ ap status_of same ∙ sym q.is
 
-one_answer : OneAnswer
+one_answer : OneAnswerWith
 one_answer words a b s t begin none other ends ends' some some' =
     alike words (program_command words) a b s t refl begin none other ends ends' some some'
 

@@ -4,7 +4,7 @@ use Rattle.std.specs.Prelude.{◌≡◌, ◌⊎◌, ℕ, ◌+◌, ◌*◌, ◌�
 use Rattle.std.specs.Prelude.{Option, Some, None}
 use Rattle.count_defs.specs.Counts.{raised, Rose}
 use Rattle.bench_io.specs.Stream.{SourceState, SinkState}
-use Rattle.bench_io.specs.ReadAll.{Took}
+use Rattle.bench_io.specs.ReadAll.{Took, ReadWhole}
 use Rattle.bench_io.specs.Written.{Wrote, Missed}
 use Rattle.report_defs.specs.declared.status.Status.{Status}
 use Rattle.report_defs.specs.declared.status.Status.TheVariants as status
@@ -39,13 +39,13 @@ AsmOn run source report =
 
 -- The report of the run. `asm` takes the input and the files that it copies, `link` with names of files takes these
 -- alone, and `watch` takes the input alone. Each other command is run by `bench`.
-abbrev pub Reports : ProgramCommand → FileRun → Report → Type 0
-Reports AsmFiles run report = (source : List ℕ) × ReadsInput run.input run.input' source × AsmOn run source report
-Reports (LinkFiles names) run report = (run.input' ≡ run.input) × LinkReported run.shelf run.shelf' names report
-Reports (Watch limit items) run report =
+abbrev pub ReportsWith : ProgramCommand → FileRun → Report → Type 0
+ReportsWith AsmFiles run report = (source : List ℕ) × ReadsInput run.input run.input' source × AsmOn run source report
+ReportsWith (LinkFiles names) run report = (run.input' ≡ run.input) × LinkReported run.shelf run.shelf' names report
+ReportsWith (Watch limit items) run report =
     (source : List ℕ) × ReadsInput run.input run.input' source × (run.shelf' ≡ run.shelf)
     × OnInput (WatchReport limit items) source report
-Reports (Plain command) run report = ⊥
+ReportsWith (Plain command) run report = ⊥
 
 -- no more was taken of the input than an input may have, by calls of which one at most gave no byte
 pub record TookWithin (before after : SourceState) : Type 0 where
@@ -63,31 +63,36 @@ Leaves (LinkFiles names) run = (run.input' ≡ run.input) × TookNoMore largest_
 Leaves (Watch limit items) run = TookWithin run.input run.input' × (run.shelf' ≡ run.shelf)
 Leaves (Plain command) run = ⊥
 
-pub record WroteNothing (command : ProgramCommand) (run : FileRun) : Type 0 where
+pub record WroteNothingWith (command : ProgramCommand) (run : FileRun) : Type 0 where
   pub leaves : Leaves command run
   pub out : run.outputs.out' ≡ run.outputs.out
   pub err : run.outputs.err' ≡ run.outputs.err
 
--- the input failed, and then no file was opened; or the shelf failed
-abbrev pub ReadFailed : FileRun → Type 0
-ReadFailed run =
+-- A call failed of what the command reads: of the input, and then no file was opened; or of the shelf, which `asm` asks for
+-- files when the input was taken whole.
+abbrev pub ReadFailedWith : ProgramCommand → FileRun → Type 0
+ReadFailedWith AsmFiles run =
     (Rose run.input.faults run.input'.faults × (run.shelf' ≡ run.shelf))
-    ⊎ Rose run.shelf.source.faults run.shelf'.source.faults
+    ⊎ ((source : List ℕ) × ReadWhole largest_input run.input run.input' source
+    × Rose run.shelf.source.faults run.shelf'.source.faults)
+ReadFailedWith (LinkFiles names) run = Rose run.shelf.source.faults run.shelf'.source.faults
+ReadFailedWith (Watch limit items) run = Rose run.input.faults run.input'.faults
+ReadFailedWith (Plain command) run = ⊥
 
 -- the run ended by the writing of its report, whole or up to where an output failed
-abbrev pub EndsByReport : ProgramCommand → FileRun → Status → Type 0
-EndsByReport command run end = (report : Report) × Reports command run report × EndsWith run.outputs report end
+abbrev pub EndsByReportWith : ProgramCommand → FileRun → Status → Type 0
+EndsByReportWith command run end = (report : Report) × ReportsWith command run report × EndsWith run.outputs report end
 
--- The statuses of these commands, each with its cause. Want of memory has no cause, but it is never answered once
+-- The statuses of these commands, each with its cause. None is the usage line. Want of memory has no cause, but it is never answered once
 -- something was written.
 abbrev pub EndsOver : ProgramCommand → FileRun → Status → Type 0
-EndsOver command run status.Done = EndsByReport command run status.Done
-EndsOver command run status.Refused = EndsByReport command run status.Refused
-EndsOver command run status.Usage = EndsByReport command run status.Usage
-EndsOver command run status.ReadFault = WroteNothing command run × ReadFailed run
-EndsOver command run status.WriteFault = EndsByReport command run status.WriteFault
-EndsOver command run status.Memory = WroteNothing command run
-EndsOver command run status.Stopped = EndsByReport command run status.Stopped
+EndsOver command run status.Done = EndsByReportWith command run status.Done
+EndsOver command run status.Refused = EndsByReportWith command run status.Refused
+EndsOver command run status.Usage = ⊥
+EndsOver command run status.ReadFault = WroteNothingWith command run × ReadFailedWith command run
+EndsOver command run status.WriteFault = EndsByReportWith command run status.WriteFault
+EndsOver command run status.Memory = WroteNothingWith command run
+EndsOver command run status.Stopped = EndsByReportWith command run status.Stopped
 
 -- Words that are no command are answered by how the program is called: nothing is taken of the input, and no file is
 -- opened.
@@ -110,23 +115,26 @@ abbrev pub EndsByUsage : FileRun → Status → Type 0
 EndsByUsage run end = LeavesAll run × UsageEnds run.outputs.err run.outputs.err' end
 
 -- how the run of what the words say ends
-abbrev pub EndsAs : Option ProgramCommand → List (List ℕ) → FileRun → Status → Type 0
-EndsAs None words run end = EndsByUsage run end
-EndsAs (Some AsmFiles) words run end = EndsOver AsmFiles run end
-EndsAs (Some (LinkFiles names)) words run end = EndsOver (LinkFiles names) run end
-EndsAs (Some (Watch limit items)) words run end = EndsOver (Watch limit items) run end
-EndsAs (Some (Plain command)) words run end = EndsBy (without_files words run) end × (run.shelf' ≡ run.shelf)
+abbrev pub EndsSaid : Option ProgramCommand → List (List ℕ) → FileRun → Status → Type 0
+EndsSaid None words run end = EndsByUsage run end
+EndsSaid (Some AsmFiles) words run end = EndsOver AsmFiles run end
+EndsSaid (Some (LinkFiles names)) words run end = EndsOver (LinkFiles names) run end
+EndsSaid (Some (Watch limit items)) words run end = EndsOver (Watch limit items) run end
+EndsSaid (Some (Plain command)) words run end = EndsBy (without_files words run) end × (run.shelf' ≡ run.shelf)
 
 abbrev pub EndsFileRun : List (List ℕ) → FileRun → Status → Type 0
-EndsFileRun words run end = EndsAs (program_command words) words run end
+EndsFileRun words run end = EndsSaid (program_command words) words run end
 
--- What is taken of a shelf at most, whatever the status: one byte more than a file may have, for each COPY line that may
--- be followed and for each file of `link`. Each other command, and words that are no command, leave the shelf as it was.
+-- What is taken of a shelf at most, whatever the status: for each COPY line that may be followed, and for each file of
+-- `link`, one file is asked for, and one byte more is taken than it may have. Each other command, and words that are no
+-- command, leave the shelf as it was, also the count of files that were asked for.
 abbrev pub TakesOfShelf : Option ProgramCommand → ShelfState → ShelfState → Type 0
 TakesOfShelf None before after = after ≡ before
 TakesOfShelf (Some AsmFiles) before after =
-    after.source.taken ≤ raised before.source.taken ((most_bytes + 1) * most_copies)
+    (after.opens ≤ raised before.opens most_copies)
+    × (after.source.taken ≤ raised before.source.taken ((most_bytes + 1) * most_copies))
 TakesOfShelf (Some (LinkFiles names)) before after =
-    after.source.taken ≤ raised before.source.taken ((largest_input + 1) * most_files)
+    (after.opens ≤ raised before.opens (length names))
+    × (after.source.taken ≤ raised before.source.taken ((largest_input + 1) * most_files))
 TakesOfShelf (Some (Watch limit items)) before after = after ≡ before
 TakesOfShelf (Some (Plain command)) before after = after ≡ before

@@ -4,16 +4,14 @@ use Rattle.count_defs.specs.Counts.{Rose}
 use Rattle.shelf_defs.specs.Files.{Files}
 use Rattle.report_defs.specs.declared.status.Status.{Status}
 use Rattle.report_defs.specs.declared.status.Status.TheVariants.{Memory}
-use Rattle.report_defs.specs.Report.{Report, status_of}
 use Rattle.file_report_defs.specs.Words.{ProgramCommand, AsmFiles, LinkFiles, Watch, Plain, program_command}
 use Rattle.file_report_defs.specs.Whole.{ReportWith}
 use Rattle.file_report_defs.specs.Laws.{OneReportWith, ListedWordsComeBackWith}
-use Rattle.bench_commands.specs.Run.{WroteReport}
-use Rattle.bench_commands.specs.Laws.{LawsOfRuns, TellsInput, read_of}
+use Rattle.bench_commands.specs.Laws.{LawsOfRuns, TellsInput, WroteTheReport, read_of}
 use Rattle.workbench.specs.FileRun.{FileRun, EndsFileRun}
 
 -- no count of faults rose in a run
-pub record HasNoFault (run : FileRun) : Type 0 where
+pub record HasNoFaultWith (run : FileRun) : Type 0 where
   pub input : Rose run.input.faults run.input'.faults → ⊥
   pub shelf : Rose run.shelf.source.faults run.shelf'.source.faults → ⊥
   pub out : Rose run.outputs.out.faults run.outputs.out'.faults → ⊥
@@ -31,19 +29,17 @@ Tells (LinkFiles names) run input files = run.shelf.files ≡ Some files
 Tells (Watch limit items) run input files = run.input.left ≡ Some input
 Tells (Plain command) run input files = TellsInput command run.input input
 
--- The law, which is proved: where the words are a command, what it reads is told and no count rose, the answer is the
--- status of the report on this, and the whole report was written; or memory was wanting.
-abbrev pub Completeness : Type 0
-Completeness =
-    (words : List (List ℕ)) (run : FileRun) (command : ProgramCommand) (input : List ℕ) (files : Files)
-    (report : Report) (end : Status)
-    → program_command words ≡ Some command → Tells command run input files → HasNoFault run
-    → ReportWith command (input_of command input) files report
+-- The law, which is proved: where the words are a command, what it reads is told and no count rose, there is one report on
+-- this, it was written whole, and the answer is its status; or memory was wanting.
+abbrev pub CompletenessWith : Type 0
+CompletenessWith =
+    (words : List (List ℕ)) (run : FileRun) (command : ProgramCommand) (input : List ℕ) (files : Files) (end : Status)
+    → program_command words ≡ Some command → Tells command run input files → HasNoFaultWith run
     → EndsFileRun words run end → end ≢ Memory
-    → (end ≡ status_of report) × WroteReport run.outputs report
+    → WroteTheReport (ReportWith command (input_of command input) files) run.outputs end
 
 -- what the command of the words reads is told of two runs, and is the same
-pub record BeginAlike (words : List (List ℕ)) (first second : FileRun) : Type 0 where
+pub record BeginAlikeWith (words : List (List ℕ)) (first second : FileRun) : Type 0 where
   pub bytes : List ℕ
   pub files : Files
   pub one : (command : ProgramCommand) → program_command words ≡ Some command → Tells command first bytes files
@@ -51,10 +47,10 @@ pub record BeginAlike (words : List (List ℕ)) (first second : FileRun) : Type 
 
 -- The law, which is proved: two such runs of the same words in which no count rose have one answer, if neither is want
 -- of memory.
-abbrev pub OneAnswer : Type 0
-OneAnswer =
+abbrev pub OneAnswerWith : Type 0
+OneAnswerWith =
     (words : List (List ℕ)) (first second : FileRun) (one other : Status)
-    → BeginAlike words first second → HasNoFault first → HasNoFault second
+    → BeginAlikeWith words first second → HasNoFaultWith first → HasNoFaultWith second
     → EndsFileRun words first one → EndsFileRun words second other → one ≢ Memory → other ≢ Memory
     → one ≡ other
 
@@ -62,7 +58,7 @@ OneAnswer =
 -- whatever files there are
 pub record LawsOfFileRuns : Type 0 where
   pub one_report : OneReportWith
-  pub completeness : Completeness
-  pub one_answer : OneAnswer
+  pub completeness : CompletenessWith
+  pub one_answer : OneAnswerWith
   pub listed_words : ListedWordsComeBackWith
   pub plain : LawsOfRuns

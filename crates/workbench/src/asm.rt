@@ -35,6 +35,7 @@ pub(crate) fn asm<S: Source, F: Shelf, O: Sink, E: Sink>(
         err' = E.state err.new;
       };
     }) result }
+    ensures opens { (F.state shelf.new).opens ≤ raised (F.state shelf.old).opens most_copies }
     ensures taken { (F.state shelf.new).source.taken
         ≤ raised (F.state shelf.old).source.taken ((most_bytes + 1) * most_copies) }
     ensures later { Later (F.state shelf.old) (F.state shelf.new) }

@@ -1,6 +1,6 @@
 //! `link` with the names of files.
 
-ghost use Rattle.std.specs.Prelude.{◌≡◌, ◌≤◌, ◌+◌, ◌*◌, true, map, IfOk};
+ghost use Rattle.std.specs.Prelude.{◌≡◌, ◌≤◌, ◌+◌, ◌*◌, true, map, length, IfOk};
 ghost use Rattle.count_defs.specs.Counts.{raised};
 ghost use Rattle.report_defs.specs.Report.{largest_input};
 ghost use Rattle.bench_io.specs.Stream.{SourceState};
@@ -37,6 +37,8 @@ pub(crate) fn link<F: Shelf, O: Sink, E: Sink>(
         err' = E.state err.new;
       };
     }) result }
+    ensures opens { (F.state shelf.new).opens ≤ raised (F.state shelf.old).opens
+        (length (map (λ word. word.items) words.now)) }
     ensures taken { (F.state shelf.new).source.taken
         ≤ raised (F.state shelf.old).source.taken ((largest_input + 1) * spec.most_files) }
     ensures later { Later (F.state shelf.old) (F.state shelf.new) }
