@@ -87,3 +87,12 @@ pub written_one : {T E : Type 0} (r : Result T E) (a b : SinkState) (x : List �
     → Written r a b (x ∷ [])
 written_one (Ok done) a b x grew failed puts faults rose = wrote_one a b x grew puts faults
 written_one (Err error) a b x grew failed puts faults rose = missed_one a b x failed puts rose
+
+-- what comes of pieces that are written behind one
+pub written_behind : {T E : Type 0} (r : Result T E) (a b c : SinkState) (x : List ℕ) (ys : List (List ℕ)) → Wrote a b (x ∷ []) → Written r b c ys
+    → Written r a c (x ∷ ys)
+written_behind r a b c x ys p q = written_more r a b c (x ∷ []) ys p q
+
+-- the first of several pieces was missed
+pub missed_at : (a b : SinkState) (x : List ℕ) (ys : List (List ℕ)) → Missed a b (x ∷ []) → Missed a b (x ∷ ys)
+missed_at a b x ys p = missed_early a b (x ∷ []) ys p

@@ -1,8 +1,9 @@
 //! A dump, part by part.
 
-ghost use Rattle.std.specs.Prelude.{◌≡◌, ◌≤◌, ◌+◌, ◌++◌, length};
+ghost use Rattle.std.specs.Prelude.{◌≡◌, ◌≤◌, ◌+◌, [], ◌∷◌, ◌++◌, length};
 ghost use Rattle.arrayvec.specs.ArrayVec.{array_vec_len};
 ghost use Rattle.report_defs.specs.Dump as spec;
+ghost use Rattle.report_defs.specs.Rows.{rows_lines};
 ghost use Rattle.bench_io.specs.Written.{Written};
 
 use crate::rows::put_rows;
@@ -21,18 +22,48 @@ use vdp_ports::Vdp;
 /// # Errors
 /// `Failed` comes where a line could not be written. The sink then got a front of the dump, and its count of faults
 /// rose.
+#[tactic(auto, using(bench_io::proofs::Writing::written_more, bench_io::proofs::Writing::missed_early, std::proofs::Common::append_assoc))]
 pub fn dump<O: Sink>(machine: &Machine, out: &mut O) -> Result<(), Failed>
     ensures { Written result (O.state out.old) (O.state out.new) (spec.dump_lines machine.now) }
 {
+    put_memories(machine, out)?;
+    put_registers(machine, out)
+}
+
+/// Writes the scratchpad and the video memory.
+#[tactic(auto, using(bench_io::proofs::Writing::written_more, bench_io::proofs::Writing::missed_early))]
+fn put_memories<O: Sink>(machine: &Machine, out: &mut O) -> Result<(), Failed>
+    ensures { let memory = machine.now.cpu.memory in
+        Written result (O.state out.old) (O.state out.new)
+        (spec.pad_lines memory.scratchpad ++ spec.vdp_lines memory.vdp) }
+{
     put_pad(machine.bus().pad(), out)?;
-    put_vdp(machine.bus().vdp(), out)?;
+    put_vdp(machine.bus().vdp(), out)
+}
+
+/// Writes the counter of the GROMs, and what the processor counts and holds.
+#[tactic(auto, using(bench_io::proofs::Writing::written_behind, bench_io::proofs::Writing::missed_at))]
+fn put_registers<O: Sink>(machine: &Machine, out: &mut O) -> Result<(), Failed>
+    ensures { Written result (O.state out.old) (O.state out.new)
+        (spec.grom_line machine.now.cpu.memory.grom ∷ spec.count_line machine.now
+        ∷ spec.workspace_lines machine.now.cpu) }
+{
     put_piece(out, grom_line(machine.bus().grom()).as_slice())?;
+    put_processor(machine, out)
+}
+
+/// Writes the count of executed instructions, the processor's own registers and those of its workspace.
+#[tactic(auto, using(bench_io::proofs::Writing::written_behind, bench_io::proofs::Writing::missed_at))]
+fn put_processor<O: Sink>(machine: &Machine, out: &mut O) -> Result<(), Failed>
+    ensures { Written result (O.state out.old) (O.state out.new)
+        (spec.count_line machine.now ∷ spec.workspace_lines machine.now.cpu) }
+{
     put_piece(out, count_line(machine).as_slice())?;
     put_workspace(machine, out)
 }
 
 /// Writes the scratchpad in rows.
-#[tactic(auto, unfolding(report_defs::specs::Dump::pad_lines))]
+#[tactic(auto, unfolding(report_defs::specs::Dump::pad_lines), using(bench_io::proofs::Writing::written_behind, bench_io::proofs::Writing::missed_at))]
 fn put_pad<O: Sink>(scratchpad: &[u8], out: &mut O) -> Result<(), Failed>
     requires { length scratchpad.now ≡ 256 }
     ensures { Written result (O.state out.old) (O.state out.new) (spec.pad_lines scratchpad.now) }
@@ -42,11 +73,20 @@ fn put_pad<O: Sink>(scratchpad: &[u8], out: &mut O) -> Result<(), Failed>
 }
 
 /// Writes the video memory in rows, and the registers of the video processor.
-#[tactic(auto, unfolding(report_defs::specs::Dump::vdp_lines))]
+#[tactic(auto, unfolding(report_defs::specs::Dump::vdp_lines), using(bench_io::proofs::Writing::written_behind, bench_io::proofs::Writing::missed_at))]
 fn put_vdp<O: Sink>(vdp: &Vdp, out: &mut O) -> Result<(), Failed>
     ensures { Written result (O.state out.old) (O.state out.new) (spec.vdp_lines vdp.now) }
 {
     put_piece(out, b"vdp\n")?;
+    put_vdp_state(vdp, out)
+}
+
+/// Writes the video memory in rows, and the line of the registers.
+#[tactic(auto, using(bench_io::proofs::Writing::written_more, bench_io::proofs::Writing::missed_early))]
+fn put_vdp_state<O: Sink>(vdp: &Vdp, out: &mut O) -> Result<(), Failed>
+    ensures { Written result (O.state out.old) (O.state out.new)
+        (rows_lines 0 vdp.now.memory ++ spec.vdp_registers_line vdp.now.registers ∷ []) }
+{
     put_rows(0, vdp.memory(), out)?;
     put_piece(out, vdp_registers_line(vdp).as_slice())
 }
