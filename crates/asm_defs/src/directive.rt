@@ -1,4 +1,4 @@
-//! The directives.
+//! The directives of the assembler.
 
 /// A directive (Editor/Assembler manual, "Assembler Directives").
 #[derive(Clone, Copy, Debug, PartialEq, Eq)]

@@ -1,4 +1,4 @@
-//! Where bytes go.
+//! Where the bytes of a report go.
 
 ghost use Rattle.std.specs.Prelude.{◌≡◌, ◌≤◌, OnOk, OnErr};
 ghost use Rattle.count_defs.specs.Counts.{raised, Rose};

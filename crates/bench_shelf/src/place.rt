@@ -1,4 +1,4 @@
-//! Where lines stand.
+//! Where a line stands: in the source or a file that it copies, with its number there.
 
 ghost use Rattle.std.specs.Prelude.{◌≡◌};
 ghost use Rattle.bench_shelf.specs.CopyAnswers.{refused_at};

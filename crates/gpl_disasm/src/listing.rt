@@ -1,4 +1,4 @@
-//! The whole listing.
+//! The listing of an image of GROM, from its first to its last written byte.
 ghost use Rattle.std.specs.Prelude.{◌≡◌, ◌≤◌, ◌<◌, ◌+◌, ◌-◌, ◌++◌, ℕ, List, [], ◌∷◌, length, map, IfOk};
 ghost use Rattle.arrayvec.specs.ArrayString.{array_string_len};
 ghost use Rattle.bench_io.specs.Written.{Written};

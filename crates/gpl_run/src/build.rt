@@ -1,4 +1,4 @@
-//! Building.
+//! The interpreter, assembled and linked from its source.
 
 ghost use Rattle.std.specs.Prelude.{◌≡◌, ◌<◌, ◌^◌, ◌∷◌, [], length, Ok, IfOk};
 ghost use Rattle.interp_build_defs.specs.Building.{Links};

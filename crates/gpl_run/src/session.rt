@@ -1,4 +1,4 @@
-//! Sessions.
+//! A GPL program that the interpreter runs step by step.
 
 ghost use Rattle.std.specs.Prelude.{◌≡◌, ℕ, None, is_none};
 ghost use Rattle.grom_defs.specs.Addresses.{previous_in_grom};

@@ -1,4 +1,4 @@
-//! The directives.
+//! The directives of a GPL source.
 
 /// A directive of a GPL source.
 #[derive(Clone, Copy, Debug, PartialEq, Eq)]

@@ -1,4 +1,4 @@
-//! Linked memory.
+//! What linking gives: words at their addresses, names and the entry.
 
 ghost use Rattle.std.specs.Prelude.{◌≡◌, ℕ, true, IsSome};
 ghost use Rattle.link_defs.specs.LinkedMemory.{is_loadable};

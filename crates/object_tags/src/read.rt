@@ -1,4 +1,4 @@
-//! Text as modules.
+//! Reads an object text: records or lines, plain or compressed, as modules.
 
 ghost use Rattle.std.specs.Prelude.{◌≡◌, ◌<◌, ◌^◌, ◌*◌, ◌+◌, length, map, slice_range};
 ghost use Rattle.source_defs.specs.Lines.{lines as lines_of};

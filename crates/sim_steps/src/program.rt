@@ -1,4 +1,4 @@
-//! Runs of turns.
+//! Runs a GPL program by turns of the interpreter, up to the step that ends it.
 
 ghost use Rattle.sim_rows.specs.Prelude.{IsMatching, shown_by};
 ghost use Rattle.sim_steps.specs.Running.{RunsTurns};

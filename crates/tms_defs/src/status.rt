@@ -1,4 +1,4 @@
-//! The status register.
+//! The status register, bit by bit.
 
 use crate::flags::Flags;
 

@@ -1,4 +1,4 @@
-//! Jumps.
+//! The jumps: which condition of the status each takes, and where it leads.
 
 ghost use Rattle.std.specs.Prelude.{◌≡◌, ◌≢◌, Some};
 ghost use Rattle.tms_defs.specs.Words.{even};

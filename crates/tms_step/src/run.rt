@@ -1,4 +1,4 @@
-//! Runs of steps.
+//! Runs of steps up to an address, a jump to itself, a limit or a stop.
 
 ghost use Rattle.std.specs.Prelude.{◌≡◌, ◌≤◌, ◌+◌, ◌-◌};
 ghost use Rattle.count_defs.specs.Counts.{raised};
