@@ -1,10 +1,7 @@
 //! Assembler sources and what `asm` makes of them.
 
-use super::rows::failed_rows;
-use std::test::Fail;
-
 /// The runs, by rows.
-const ROWS: &str = r#"
+pub(crate) const ROWS: &str = r#"
 %
 $ asm
 > 00000        7FDD9F                                                         0001
@@ -171,12 +168,3 @@ $ asm
 ? Refused
 e line 4: overlap
 "#;
-
-#[test]
-fn sources_are_assembled_or_refused_by_their_first_refused_line(
-    rt: HostRuntime,
-) -> Result<(), Fail> {
-    let failed = failed_rows(rt.alloc(), ROWS)?;
-    assert!(rt; failed.is_empty(), "{failed}");
-    Ok(())
-}

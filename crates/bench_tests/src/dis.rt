@@ -1,10 +1,7 @@
 //! Raw bytes, and what `dis` lists of them.
 
-use super::rows::failed_rows;
-use std::test::Fail;
-
 /// The runs, by rows.
-const ROWS: &str = r#"
+pub(crate) const ROWS: &str = r#"
 %
 $ dis A000
 <-\x02\x01\x124\x04[\x02\x10
@@ -90,10 +87,3 @@ $ dis FFFE
 ? Refused
 e past the end of memory
 "#;
-
-#[test]
-fn raw_bytes_are_listed_up_to_the_end_of_memory(rt: HostRuntime) -> Result<(), Fail> {
-    let failed = failed_rows(rt.alloc(), ROWS)?;
-    assert!(rt; failed.is_empty(), "{failed}");
-    Ok(())
-}

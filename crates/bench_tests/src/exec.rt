@@ -1,10 +1,7 @@
 //! Object texts and what `exec` reports of them.
 
-use super::rows::failed_rows;
-use std::test::Fail;
-
 /// The runs, by rows.
-const ROWS: &str = r#"
+pub(crate) const ROWS: &str = r#"
 % LI R1,>7FFF; INC R1; JMP $
 $ exec 10
 < 00008        A0000B0201B7FFFB0581B10FF20000F
@@ -220,10 +217,3 @@ $ exec 1
 > end refused >A000
 > pad
 "#;
-
-#[test]
-fn an_object_text_is_executed_and_shown(rt: HostRuntime) -> Result<(), Fail> {
-    let failed = failed_rows(rt.alloc(), ROWS)?;
-    assert!(rt; failed.is_empty(), "{failed}");
-    Ok(())
-}

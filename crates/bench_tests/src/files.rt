@@ -1,6 +1,5 @@
 //! Sources that copy files, and objects that are linked by their names.
 
-use super::rows::failed_rows;
 use super::run::run_with;
 use bench_shelf::{FileName, MemShelf};
 use report_defs::Status;
@@ -8,7 +7,7 @@ use std::alloc::{AllocError, Global};
 use std::test::Fail;
 
 /// The runs, by rows.
-const ROWS: &str = r#"
+pub(crate) const ROWS: &str = r#"
 % a copied file
 $ asm
 <  COPY "A.SRC"
@@ -125,8 +124,6 @@ fn too_large_is_told(
 
 #[test]
 fn files_are_copied_and_linked_by_their_names(rt: HostRuntime) -> Result<(), Fail> {
-    let failed = failed_rows(rt.alloc(), ROWS)?;
-    assert!(rt; failed.is_empty(), "{failed}");
     assert!(rt;
         too_large_is_told(rt.alloc(), &[b"asm"], b" COPY 'BIG'\n", 262145)?
             && too_large_is_told(rt.alloc(), &[b"link", b"BIG"], b"", 1048577)?

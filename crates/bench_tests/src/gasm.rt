@@ -1,13 +1,12 @@
 //! Sources and what `gasm` makes of them.
 
-use super::rows::failed_rows;
 use super::run::answers;
 use report_defs::Status;
 use std::alloc::{AllocError, Global};
 use std::test::Fail;
 
 /// The runs, by rows.
-const ROWS: &str = r#"
+pub(crate) const ROWS: &str = r#"
 %
 $ gasm
 
@@ -470,15 +469,6 @@ fn repeated_gives(
     let out = repeated(alloc, bytes, times)?;
     let source = repeated(alloc, line, count)?;
     gives(alloc, source.as_slice(), out.as_slice(), err)
-}
-
-#[test]
-fn a_source_gives_its_bytes_or_is_refused_by_its_first_refused_line(
-    rt: HostRuntime,
-) -> Result<(), Fail> {
-    let failed = failed_rows(rt.alloc(), ROWS)?;
-    assert!(rt; failed.is_empty(), "{failed}");
-    Ok(())
 }
 
 #[test]

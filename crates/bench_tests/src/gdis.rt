@@ -1,10 +1,7 @@
 //! Bytes of GROM, and what `gdis` lists of them.
 
-use super::rows::failed_rows;
-use std::test::Fail;
-
 /// The runs, by rows.
-const ROWS: &str = r#"
+pub(crate) const ROWS: &str = r#"
 % ABS with an operand in two bytes that one could hold is no line of its own
 $ gdis 6010
 <-\xBE\x00\x05\x80\x80\x00\x0F
@@ -103,10 +100,3 @@ $ gdis FFFF
 ? Refused
 e past the end of memory
 "#;
-
-#[test]
-fn bytes_of_grom_are_listed_and_assembled_again(rt: HostRuntime) -> Result<(), Fail> {
-    let failed = failed_rows(rt.alloc(), ROWS)?;
-    assert!(rt; failed.is_empty(), "{failed}");
-    Ok(())
-}

@@ -1,10 +1,7 @@
 //! GPL programs and what `run` reports of them.
 
-use super::rows::failed_rows;
-use std::test::Fail;
-
 /// The runs, by rows.
-const ROWS: &str = r#"
+pub(crate) const ROWS: &str = r#"
 %
 $ run 3
 < S ST @>8300,5
@@ -214,10 +211,3 @@ $ run 9
 > exit at >6000
 > gpl >6000 S00 D9F R7E
 "#;
-
-#[test]
-fn gpl_programs_are_run_and_shown(rt: HostRuntime) -> Result<(), Fail> {
-    let failed = failed_rows(rt.alloc(), ROWS)?;
-    assert!(rt; failed.is_empty(), "{failed}");
-    Ok(())
-}

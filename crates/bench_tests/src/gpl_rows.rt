@@ -1,10 +1,7 @@
 //! Each instruction on one and two operands through `run`, in both widths, with the status that it leaves.
 
-use super::rows::failed_rows;
-use std::test::Fail;
-
 /// The runs, by rows.
-const ROWS: &str = r#"
+pub(crate) const ROWS: &str = r#"
 % sums of bytes
 $ run 300
 < S
@@ -469,10 +466,3 @@ $ run 300
 > >8300 00 00 00 00 00 00 00 00 00 00 00 00 00 00 00 00
 ...
 "#;
-
-#[test]
-fn the_rows_leave_their_results_and_status(rt: HostRuntime) -> Result<(), Fail> {
-    let failed = failed_rows(rt.alloc(), ROWS)?;
-    assert!(rt; failed.is_empty(), "{failed}");
-    Ok(())
-}

@@ -33,6 +33,8 @@ mod run;
 #[cfg(test)]
 mod statuses;
 #[cfg(test)]
+mod tables;
+#[cfg(test)]
 mod trace;
 #[cfg(test)]
 mod watch;

@@ -3,7 +3,6 @@
 ghost use Rattle.std.specs.Prelude.{◌≡◌, ◌<◌};
 ghost use Rattle.gpl_run.specs.Sessions.{IsNew};
 
-use super::rows::failed_rows;
 use super::run::run;
 use bench_io::MemSink;
 use gpl_asm::gpl_assemble;
@@ -24,7 +23,7 @@ pub(crate) const CARTRIDGE: &[u8] =
 ;ONE ADD @SUM,>7F; RTN;NONE RTN; END START";
 
 /// The runs, by rows.
-const ROWS: &str = r#"
+pub(crate) const ROWS: &str = r#"
 % a subroutine in the last bytes of a GROM
 $ trace 5
 <  EXIT
@@ -312,13 +311,6 @@ $ trace 100
 >      1 >601E S00 D9F R7E MOVE >0008,R@>00,G@>6016 W5 1=E0
 >      2 >6024 S00 D9F R7E ALL >20 V768 >0000=20
 "#;
-
-#[test]
-fn steps_are_shown(rt: HostRuntime) -> Result<(), Fail> {
-    let failed = failed_rows(rt.alloc(), ROWS)?;
-    assert!(rt; failed.is_empty(), "{failed}");
-    Ok(())
-}
 
 /// The source of statements that are apart by semicolons.
 pub(crate) fn source_of(alloc: Global, statements: &[u8]) -> Result<Vec<u8>, AllocError> {

@@ -1,0 +1,29 @@
+//! The tables of rows of all commands.
+
+use super::rows::failed_rows;
+use super::{asm, dis, exec, files, gasm, gdis, gpl_programs, gpl_rows, link, trace, watch};
+use std::test::Fail;
+
+/// The tables. They are run by one test, since each test that calls the program costs its proof as much as a table.
+const TABLES: &[&str] = &[
+    asm::ROWS,
+    dis::ROWS,
+    exec::ROWS,
+    files::ROWS,
+    gasm::ROWS,
+    gdis::ROWS,
+    gpl_programs::ROWS,
+    gpl_rows::ROWS,
+    link::ROWS,
+    trace::ROWS,
+    watch::ROWS,
+];
+
+#[test]
+fn each_row_runs_as_it_says(rt: HostRuntime) -> Result<(), Fail> {
+    for table in TABLES {
+        let failed = failed_rows(rt.alloc(), table)?;
+        assert!(rt; failed.is_empty(), "{failed}");
+    }
+    Ok(())
+}
