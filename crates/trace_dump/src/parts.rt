@@ -24,9 +24,33 @@ use vdp_ports::Vdp;
 pub fn dump<O: Sink>(machine: &Machine, out: &mut O) -> Result<(), Failed>
     ensures { Written result (O.state out.old) (O.state out.new) (spec.dump_lines machine.now) }
 {
-    put_pad(machine.bus().pad(), out)?;
-    put_vdp(machine.bus().vdp(), out)?;
+    put_memories(machine.bus(), out)?;
+    put_registers(machine, out)
+}
+
+/// Writes the scratchpad and the video memory.
+fn put_memories<O: Sink>(bus: &Bus, out: &mut O) -> Result<(), Failed>
+    ensures { Written result (O.state out.old) (O.state out.new)
+        (spec.pad_lines bus.now.scratchpad ++ spec.vdp_lines bus.now.vdp) }
+{
+    put_pad(bus.pad(), out)?;
+    put_vdp(bus.vdp(), out)
+}
+
+/// Writes the counter of the GROMs, and what the processor counts and holds.
+fn put_registers<O: Sink>(machine: &Machine, out: &mut O) -> Result<(), Failed>
+    ensures { Written result (O.state out.old) (O.state out.new)
+        (spec.grom_line machine.now.cpu.memory.grom ∷ spec.count_line machine.now ∷ spec.workspace_lines machine.now.cpu) }
+{
     put_piece(out, grom_line(machine.bus().grom()).as_slice())?;
+    put_processor(machine, out)
+}
+
+/// Writes the count of executed instructions, the processor's own registers and those of its workspace.
+fn put_processor<O: Sink>(machine: &Machine, out: &mut O) -> Result<(), Failed>
+    ensures { Written result (O.state out.old) (O.state out.new)
+        (spec.count_line machine.now ∷ spec.workspace_lines machine.now.cpu) }
+{
     put_piece(out, count_line(machine).as_slice())?;
     put_workspace(machine, out)
 }
@@ -47,6 +71,14 @@ fn put_vdp<O: Sink>(vdp: &Vdp, out: &mut O) -> Result<(), Failed>
     ensures { Written result (O.state out.old) (O.state out.new) (spec.vdp_lines vdp.now) }
 {
     put_piece(out, b"vdp\n")?;
+    put_vdp_state(vdp, out)
+}
+
+/// Writes the video memory in rows, and the line of the registers.
+fn put_vdp_state<O: Sink>(vdp: &Vdp, out: &mut O) -> Result<(), Failed>
+    ensures { Written result (O.state out.old) (O.state out.new)
+        (rows_lines 0 vdp.now.memory ++ spec.vdp_registers_line vdp.now.registers ∷ []) }
+{
     put_rows(0, vdp.memory(), out)?;
     put_piece(out, vdp_registers_line(vdp).as_slice())
 }
