@@ -1,6 +1,6 @@
 //! The summary of the program's run.
 
-ghost use Rattle.std.specs.Prelude.{◌≡◌, ◌≤◌, [], ◌∷◌, length};
+ghost use Rattle.std.specs.Prelude.{◌≡◌, ◌≤◌, length, map};
 ghost use Rattle.bench_io.specs.Written.{Written};
 ghost use Rattle.interp_defs.specs.Match.{shown_by};
 ghost use Rattle.list_defs.specs.Lists as plain;
@@ -51,21 +51,32 @@ fn sum_of_cells(machine: &Machine) -> u64
 pub fn put_summary<O: Sink>(summary: Summary, out: &mut O) -> Result<(), Failed>
     ensures { Written result (O.state out.old) (O.state out.new) (spec.summary_lines summary) }
 {
-    put_counted(b"demo ", u64::from(summary.number), out)?;
-    put_counted(b"image ", summary.image, out)?;
-    put_counted(b"steps ", u64::from(summary.steps), out)?;
-    put_counted(b"pad ", summary.pad, out)?;
-    put_counted(b"vdp ", summary.vdp, out)?;
-    put_piece(out, ended_line(summary.ended))?;
-    put_counted(b"count ", summary.count, out)
+    put_lines(&summary_lines(summary), out)
 }
 
-/// Writes a line of a label and a number.
-fn put_counted<O: Sink>(label: &[u8], count: u64, out: &mut O) -> Result<(), Failed>
-    requires { length label.now ≤ 16 }
-    ensures { Written result (O.state out.old) (O.state out.new) (spec.counted_line label.now count ∷ []) }
+/// Writes lines, each by one call.
+fn put_lines<O: Sink>(lines: &[Line], out: &mut O) -> Result<(), Failed>
+    ensures { Written result (O.state out.old) (O.state out.new) (map (λ line. line.items) lines.now) }
 {
-    put_piece(out, counted_line(label, count).as_slice())
+    for line in lines {
+        put_piece(out, line.as_slice())?;
+    }
+    Ok(())
+}
+
+/// The lines of a summary.
+fn summary_lines(summary: Summary) -> [Line; 7]
+    ensures { map (λ line. line.items) result ≡ spec.summary_lines summary }
+{
+    [
+        counted_line(b"demo ", u64::from(summary.number)),
+        counted_line(b"image ", summary.image),
+        counted_line(b"steps ", u64::from(summary.steps)),
+        counted_line(b"pad ", summary.pad),
+        counted_line(b"vdp ", summary.vdp),
+        ended_line(summary.ended),
+        counted_line(b"count ", summary.count),
+    ]
 }
 
 /// A label, and a number in decimal digits.
@@ -82,8 +93,18 @@ fn counted_line(label: &[u8], count: u64) -> Line
 }
 
 /// The line that says why a program ended.
-fn ended_line(ended: Option<Reason>) -> &'static [u8]
-    ensures { result.now ≡ spec.ended_line ended }
+fn ended_line(ended: Option<Reason>) -> Line
+    ensures { result.items ≡ spec.ended_line ended }
+{
+    let mut line = Line::new();
+    append(&mut line, ended_text(ended));
+    line
+}
+
+/// What is said of why a program ended, with its line feed.
+fn ended_text(ended: Option<Reason>) -> &'static [u8]
+    ensures text { result.now ≡ spec.ended_line ended }
+    ensures short { length result.now ≤ 8 }
 {
     match ended {
         None => b"limit\n",

@@ -3,7 +3,7 @@ use Rattle.std.proofs.Common.{ℕ, ◌+◌, ◌<◌, ◌∙◌, ◌≡◌, ◌�
 use Rattle.std.proofs.lemmas.Bool.{agree_below_at, eqb-true}
 use Rattle.sim_view.proofs.Common.{comes, comes_then, Goes}
 use Rattle.sim_rows.specs.Prelude.{Comes, difference_of, Dispatched, even, Exit, exit, Exits, FETCH, GplState, grom_at, GromState, INTERP, join, MachineState}
-use Rattle.sim_rows.specs.Prelude.{next_in_grom, operation_at, operation_entry, past, return_of, SEEK, Sees, set_to, shifted, SLA, SRL, sum_of, View, view}
+use Rattle.sim_rows.specs.Prelude.{next_in_grom, operation_at, operation_entry, return_of, SEEK, Sees, shifted, SLA, SRL, sum_of, View, view}
 use Rattle.sim_rows.specs.Prelude.{WHERE, Word}
 use Rattle.sim_operands.proofs.Ready.{set_is}
 use Rattle.sim_operands.specs.Pieces as operands
