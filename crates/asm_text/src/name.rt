@@ -127,11 +127,8 @@ impl Ord for Name {
 fn key_of(bytes: &[u8; LONGEST_NAME]) -> u64
     ensures { result ≡ key_of bytes.now }
 {
-    let two = 256 * u64::from(bytes[0]) + u64::from(bytes[1]);
-    let three = 256 * two + u64::from(bytes[2]);
-    let four = 256 * three + u64::from(bytes[3]);
-    let five = 256 * four + u64::from(bytes[4]);
-    256 * five + u64::from(bytes[5])
+    let [first, second, third, fourth, fifth, sixth] = *bytes;
+    u64::from_be_bytes([0, 0, first, second, third, fourth, fifth, sixth])
 }
 
 /// Whether the bytes are one to six printed characters other than the space.
