@@ -1,5 +1,5 @@
 -- How a name lies in six bytes.
-use Rattle.std.specs.Prelude.{◌≡◌, ℕ, zero, suc, ◌+◌, ◌-◌, ◌*◌, ◌≤◌, true, List, [], ◌∷◌, ◌++◌, length, take, replicate}
+use Rattle.std.specs.Prelude.{◌≡◌, ℕ, zero, suc, ◌+◌, ◌-◌, ◌*◌, ◌≤◌, IsTrue, List, [], ◌∷◌, ◌++◌, length, take, replicate}
 use Rattle.std.proofs.Common.{ap, sym, ◌∙◌}
 use Rattle.std.proofs.lemmas.List.{length-take-le}
 use Rattle.source_defs.specs.Names.{is_kept_name}
@@ -19,7 +19,7 @@ pub record IsPadded (bytes : List ℕ) (len key : ℕ) : Type 0 where
   pub six : length bytes ≡ 6
   pub within : len ≤ length bytes
   pub padded : bytes ≡ take len bytes ++ replicate (6 - len) 0
-  pub kept : is_kept_name (take len bytes) ≡ true
+  pub kept : IsTrue (is_kept_name (take len bytes))
   pub tied : key ≡ key_of (take len bytes)
 
 -- the name gives the six bytes, its length and its key back

@@ -1,6 +1,6 @@
 //! Names of places and values.
 
-ghost use Rattle.std.specs.Prelude.{◌≡◌, ◌≤◌, ◌-◌, ◌++◌, Some, None, true, if◌then◌else◌, length, take, replicate};
+ghost use Rattle.std.specs.Prelude.{◌≡◌, ◌≤◌, ◌-◌, ◌++◌, Some, None, IsTrue, if◌then◌else◌, length, take, replicate};
 ghost use Rattle.std.specs.Prelude.{refl, nat_eq};
 ghost use Rattle.std.specs.Ordering.{nat_cmp};
 ghost use Rattle.std.specs.Cmp.{partial_equiv_from_equiv};
@@ -57,7 +57,7 @@ impl Name {
     pub(crate) fn of_padded(bytes: [u8; LONGEST_NAME], len: usize) -> Name
         requires within { len ≤ 6 }
         requires padded { bytes ≡ take len bytes ++ replicate (6 - len) 0 }
-        requires kept { is_kept_name (take len bytes) ≡ true }
+        requires kept { IsTrue (is_kept_name (take len bytes)) }
         ensures { result ≡ take len bytes }
     {
         Name {
@@ -70,7 +70,7 @@ impl Name {
     /// The bytes of the name.
     pub fn as_bytes(&self) -> &[u8]
         ensures value { result.now ≡ self.now }
-        ensures kept { is_kept_name self.now ≡ true }
+        ensures kept { IsTrue (is_kept_name self.now) }
     {
         &self.bytes[..usize::from(self.len)]
     }

@@ -1,5 +1,5 @@
 -- What holds of linked memory and of chains.
-use Rattle.std.specs.Prelude.{◌≡◌, ◌≢◌, ℕ, ◌<◌, eqb, List, [], ◌∷◌, ◌++◌, length, map, slice_index_or, Some, None}
+use Rattle.std.specs.Prelude.{◌≡◌, ◌≢◌, ℕ, ◌<◌, nat_eq, List, [], ◌∷◌, ◌++◌, length, map, slice_index_or, Some, None}
 use Rattle.std.specs.Prelude.{IsSome, Result, Ok, Err}
 use Rattle.std.specs.Option.{option_map}
 use Rattle.std.specs.List.{IsDistinct}
@@ -37,7 +37,7 @@ used name places = map (λ place. (place, name)) places
 
 -- no place is used twice, and each is one of memory but 0
 pub record StandApart (uses : Uses) : Type 0 where
-  pub apart : IsDistinct eqb (map (λ one. one.0) uses)
+  pub apart : IsDistinct nat_eq (map (λ one. one.0) uses)
   pub places : (at : ℕ) → IsSome (find nat_cmp at uses) → (at < most_places) × (at ≢ 0)
 
 -- What comes of a chain. It leads to 0, and then its places are new uses; or to a place that holds no loaded word; or
