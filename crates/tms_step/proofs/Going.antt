@@ -28,10 +28,10 @@ going_start stop limit x = record { left = refl; first = λ before lt. absurd (o
 -- the ends by their tests
 abbrev by_tests : Bool → Bool → Option RunEnd → Option RunEnd
 by_tests reached limited rest =
-    elim reached [ true ↦ Some run.Reached | false ↦ elim limited [ true ↦ Some run.Limit | false ↦ rest ] ]
+    if reached then Some run.Reached else if limited then Some run.Limit else rest
 
 abbrev by_jump : Bool → Option RunEnd → Option RunEnd
-by_jump jumped rest = elim jumped [ true ↦ Some run.SelfJump | false ↦ rest ]
+by_jump jumped rest = if jumped then Some run.SelfJump else rest
 
 end_here : (stop : Option ℕ) (limit made : ℕ) (x y : MachineState) → Going stop limit made x y →
     end_at stop limit made x ≡ by_tests (is_reached stop y.cpu.pc) (eqb made limit) (end_of_step (machine_step y).0)
