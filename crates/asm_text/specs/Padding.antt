@@ -1,5 +1,6 @@
 -- How a name lies in six bytes.
-use Rattle.std.specs.Prelude.{◌≡◌, ℕ, zero, suc, ◌+◌, ◌-◌, ◌*◌, ◌≤◌, IsTrue, List, [], ◌∷◌, ◌++◌, length, take, replicate}
+use Rattle.std.specs.Prelude.{◌≡◌, ℕ, zero, suc, ◌+◌, ◌-◌, ◌*◌, ◌≤◌, IsTrue, List, [], ◌∷◌}
+use Rattle.std.specs.Prelude.{◌++◌, length, take, replicate}
 use Rattle.std.proofs.Common.{ap, sym, ◌∙◌}
 use Rattle.std.proofs.lemmas.List.{length-take-le}
 use Rattle.source_defs.specs.Names.{is_kept_name}
@@ -24,8 +25,10 @@ pub record IsPadded (bytes : List ℕ) (len key : ℕ) : Type 0 where
 
 -- the name gives the six bytes, its length and its key back
 pub padded_again : {R : Type 0} (make : List ℕ → ℕ → ℕ → R) (bytes : List ℕ) (len key : ℕ) → IsPadded bytes len key
-    → make (take len bytes ++ replicate (6 - length (take len bytes)) 0) (length (take len bytes)) (key_of (take len bytes))
+    → make (take len bytes ++ replicate (6 - length (take len bytes)) 0) (length (take len bytes))
+    (key_of (take len bytes))
     ≡ make bytes len key
 padded_again make bytes len key is =
-    ap (λ n. make (take len bytes ++ replicate (6 - n) 0) n (key_of (take len bytes))) (length-take-le len bytes is.within)
+    ap (λ n. make (take len bytes ++ replicate (6 - n) 0) n (key_of (take len bytes)))
+    (length-take-le len bytes is.within)
     ∙ (ap (λ b. make b len (key_of (take len bytes))) (sym is.padded) ∙ ap (make bytes len) (sym is.tied))

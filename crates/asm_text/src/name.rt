@@ -36,9 +36,14 @@ impl Model for Name {
 
     ghost invariant = { λ name. IsPadded name.bytes name.len name.key };
 
-    ghost inverse = { λ name. record { bytes = name ++ replicate (6 - length name) 0; len = length name; key = key_of name } };
+    ghost inverse = { λ name. record {
+      bytes = name ++ replicate (6 - length name) 0;
+      len = length name;
+      key = key_of name;
+    } };
 
-    ghost inverse_ok = { λ a h. padded_again (λ bytes len key. record { bytes = bytes; len = len; key = key }) a.bytes a.len a.key h };
+    ghost inverse_ok = { λ a h.
+        padded_again (λ bytes len key. record { bytes = bytes; len = len; key = key }) a.bytes a.len a.key h };
 }
 
 impl Name {

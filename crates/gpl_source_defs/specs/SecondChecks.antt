@@ -18,7 +18,8 @@ use Rattle.gpl_source_defs.specs.declared.causes.GplCause.{GplCause}
 use Rattle.gpl_source_defs.specs.declared.causes.GplCause.TheVariants.{BadOperand}
 use Rattle.gpl_source_defs.specs.declared.location.Location.{Location}
 use Rattle.gpl_source_defs.specs.Values.{number, numbers, byte_of, bytes_of, index_of}
-use Rattle.gpl_source_defs.specs.Skeletons.{Source, At, Immediate, Route, Within, ToMemory, ToRegisters, Skeleton, Plain}
+use Rattle.gpl_source_defs.specs.Skeletons.{Source, At, Immediate, Route, Within, ToMemory, ToRegisters}
+use Rattle.gpl_source_defs.specs.Skeletons.{Skeleton, Plain}
 use Rattle.gpl_source_defs.specs.Skeletons.{Byte as OneByte, Jump, Branch, One, Two, Move}
 use Rattle.gpl_source_defs.specs.Statements.{Statement, Instruction, Data, Byte, Text, End}
 use Rattle.gpl_source_defs.specs.Locations.{address_of, branch_offset}

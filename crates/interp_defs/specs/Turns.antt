@@ -10,7 +10,8 @@ use Rattle.interp_defs.specs.Runs.{Runs, is_end}
 pub record Boots (count : ℕ) (x y : MachineState) : Type 0 where
   pub leads : steps count x ≡ Gives y
   pub there : y.cpu.pc ≡ GSTEP
-  pub first : (before : ℕ) → before < count → (z : MachineState) → steps before x ≡ Gives z → IsFalse (z.cpu.pc == GSTEP)
+  pub first : (before : ℕ) → before < count → (z : MachineState) → steps before x ≡ Gives z
+      → IsFalse (z.cpu.pc == GSTEP)
 
 -- From an end it comes to the next one: so many instructions, one at least, are the least after which it is there.
 pub record IsTurn (count : ℕ) (x y : MachineState) : Type 0 where

@@ -17,13 +17,16 @@ pub record HoldsPlacedWords (modules : List Module) (memory : LinkedMemory) : Ty
   pub uses : Uses
   pub are_uses : uses_of (words_of (sections modules)) [] (refs_of (sections modules)) ≡ Ok uses
   pub words : (at : ℕ) → get memory.words at
-      ≡ option_map (λ word. word_for (defs_of (sections modules)) word (find nat_cmp at uses)) (find nat_cmp at (words_of (sections modules)))
+      ≡ option_map (λ word. word_for (defs_of (sections modules)) word (find nat_cmp at uses))
+      (find nat_cmp at (words_of (sections modules)))
   pub alone : (k : ℕ) (d : ℕ × ℕ) → k < length (words_of (sections modules))
-      → let word = slice_index_or (words_of (sections modules)) k d in find nat_cmp word.0 (words_of (sections modules)) ≡ Some word.1
+      → let word = slice_index_or (words_of (sections modules)) k d in
+      find nat_cmp word.0 (words_of (sections modules)) ≡ Some word.1
 
 -- the law, which is proved: what is linked holds exactly the words that the modules place
 abbrev pub PlacedWordsAreHeld : Type 0
-PlacedWordsAreHeld = (modules : List Module) (memory : LinkedMemory) → linked modules ≡ Ok memory → HoldsPlacedWords modules memory
+PlacedWordsAreHeld =
+    (modules : List Module) (memory : LinkedMemory) → linked modules ≡ Ok memory → HoldsPlacedWords modules memory
 
 -- a chain leads from a place through some places, each of which holds the next, to a last one
 abbrev pub Leads : List (ℕ × ℕ) → ℕ → List ℕ → ℕ → Type 0

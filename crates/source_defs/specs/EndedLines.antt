@@ -14,4 +14,5 @@ text_of texts = flat_map (λ text. text ++ 0x0D ∷ 0x0A ∷ []) texts
 
 -- The law, which is proved: the lines of that text are these lines, which count from 1.
 abbrev pub TextsHaveTheirLines : Type 0
-TextsHaveTheirLines = (texts : List (List ℕ)) → AllByRecursion IsOneLine texts → line_texts (text_of texts) ≡ numbered 1 texts
+TextsHaveTheirLines =
+    (texts : List (List ℕ)) → AllByRecursion IsOneLine texts → line_texts (text_of texts) ≡ numbered 1 texts

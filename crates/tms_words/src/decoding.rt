@@ -1,9 +1,9 @@
 //! The instruction of a word.
 //!
-//! The row of a word is told by tests in the order in which programs use the rows. They are a chain of `if`, which keeps
-//! its order; a `match` on ranges is compiled in an order of its own. `decode`, `operation_at`, `two_at`, `jump_at` and
-//! `operands_at` are inlined into each of their callers, since a call of them takes long beside the rest of a step; of
-//! the other parts the compiler decides.
+//! The row of a word is told by tests in the order in which programs use the rows. They are a chain of `if`, which
+//! keeps its order; a `match` on ranges is compiled in an order of its own. `decode`, `operation_at`, `two_at`,
+//! `jump_at` and `operands_at` are inlined into each of their callers, since a call of them takes long beside the
+//! rest of a step; of the other parts the compiler decides.
 ghost use Rattle.std.specs.Prelude.{◌≡◌, ◌≢◌, ◌≤◌, ◌<◌, ◌/◌, ◌%◌, ◌*◌, ◌==◌, IfSome, IfNone};
 ghost use Rattle.tms_defs.specs.Instructions.{two_code, reg_code, shift_code, one_code, jump_code, imm_code};
 ghost use Rattle.tms_defs.specs.Instructions.{bare_code, operation_at, operands_at, source_at, destination_at};
