@@ -1,7 +1,7 @@
 //! A line as fields.
 
 ghost use Rattle.std.specs.Prelude.{◌≡◌, ◌≤◌, ◌<◌, ◌-◌, ◌++◌, ◌↔◌, Some, None, length, take, map, replicate, slice_range};
-ghost use Rattle.std.specs.Prelude.{IfOk, IfSome, if◌then◌else◌, IsTrue, nat_le, ◌&&◌, Ok};
+ghost use Rattle.std.specs.Prelude.{IfOk, IfSome, if◌then◌else◌, true, nat_le, ◌&&◌, Ok};
 ghost use Rattle.source_defs.specs.Fields as spec;
 ghost use Rattle.source_defs.specs.Characters.{upper_case};
 ghost use Rattle.source_defs.specs.Names.{is_name, IsUpperCaseName};
@@ -66,7 +66,7 @@ pub fn operation_text(line: &[u8]) -> &[u8]
 #[tactic(auto, unfolding(source_defs::specs::Fields::fields))]
 pub fn is_comment_line(line: &[u8]) -> bool
     ensures told { result ≡ (nat_le (length line.now) spec.longest_line && spec.is_comment line.now) }
-    ensures fields { IsTrue result → spec.fields line.now ≡ Ok spec.no_fields }
+    ensures fields { (result ≡ true) → spec.fields line.now ≡ Ok spec.no_fields }
 {
     line.len() <= LONGEST_LINE && is_comment(line)
 }
