@@ -233,7 +233,7 @@ module _ (before : Before) where
     label ← unless (any_known before.names (label_in found.label)) DuplicateLabel found.label
     statement ← statement_in text found
     unless (is_taken before.names label (refs_in statement)) DuplicateLabel
-      (record { label = label; statement = statement })
+        (record { label = label; statement = statement })
 
   -- where it leads
   unfoldable pub moved : Said → Result Checked AsmCause
