@@ -1,6 +1,6 @@
 -- The second checks of a line, and what it places. Profile: the values of its operands are asked from the left, and all
 -- of them before their ranges.
-use Rattle.std.specs.Prelude.{ℕ, Bool, true, false, nat_le, if◌then◌else◌, List, [], ◌∷◌, Option, Some, None, Result}
+use Rattle.std.specs.Prelude.{ℕ, Bool, true, false, nat_le, if◌then◌else◌, List, [], Option, Some, None, Result}
 use Rattle.std.specs.Prelude.{Ok, Err}
 use Rattle.std.specs.List.{flat_map}
 use Rattle.source_defs.specs.Refusals.{◌>>=◌}

@@ -10,7 +10,7 @@ use Rattle.instruction_defs.specs.declared.slot.Slot.TheVariants.{General, Regis
 use Rattle.instruction_defs.specs.Operands.{slots_of}
 use Rattle.instruction_defs.specs.Forms.{Form, Plain, Indirect, Increment, Symbolic, Indexed}
 use Rattle.instruction_defs.specs.FirstChecks.{Skeleton, Word, Instruction}
-use Rattle.instruction_defs.specs.SecondChecks.{as_form_error, target_in, text_in, value_of, number_of, placed, valued, all_valued, all_ranged, second_checks}
+use Rattle.instruction_defs.specs.SecondChecks.{as_form_error, text_in, value_of, number_of, placed, valued, all_valued, second_checks}
 use Rattle.instruction_defs.specs.Growing.{is_open}
 
 form_stays : {A : Type 0} (first second : Result A ExprError) → Stays expressions.is_open first second → Stays is_open (as_form_error first) (as_form_error second)

@@ -1,5 +1,5 @@
 -- What holds of a source whose lines are known by themselves.
-use Rattle.std.specs.Prelude.{◌≡◌, ℕ, ◌+◌, ◌*◌, ◌≤◌, ◌<◌, true, List, [], ◌∷◌, ◌++◌}
+use Rattle.std.specs.Prelude.{◌≡◌, ℕ, ◌+◌, ◌*◌, ◌≤◌, ◌<◌, List, [], ◌∷◌, ◌++◌}
 use Rattle.std.specs.Prelude.{length, slice_index_or, take, IsTrue}
 use Rattle.std.specs.Prelude.{Option, Some, None, Ok}
 use Rattle.source_defs.specs.Expression.{Value}

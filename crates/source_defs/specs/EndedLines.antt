@@ -1,5 +1,5 @@
 -- The text of lines that are each ended by a carriage return and a line feed.
-use Rattle.std.specs.Prelude.{◌≡◌, ℕ, true, not, List, [], ◌∷◌, ◌++◌, IsTrue}
+use Rattle.std.specs.Prelude.{◌≡◌, ℕ, not, List, [], ◌∷◌, ◌++◌, IsTrue}
 use Rattle.std.specs.List.{flat_map, list_all, AllByRecursion}
 use Rattle.source_defs.specs.Characters.{is_line_feed}
 use Rattle.source_defs.specs.Layout.{line_texts, numbered}
