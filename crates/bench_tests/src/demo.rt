@@ -5,9 +5,9 @@ use report_defs::Status;
 use std::alloc::{AllocError, Global};
 use std::test::Fail;
 
-/// A number, the summary of its program up to the count of instructions, and that count, where it is known by another
-/// way than this program: for 1 it is 11 of boot, 109 of ST and 35 of EXIT, and for 500 another model of the
-/// processor has counted.
+/// A number, the summary of its program up to the count of instructions, and that count, where it is known by another way
+/// than this program: for 1 it is 11 of boot, 109 of ST and 35 of EXIT, and for 500 another model of the processor has
+/// counted.
 const SUMMARIES: &[(&[u8], &[u8], Option<&[u8]>)] = &[
     (
         b"1",
