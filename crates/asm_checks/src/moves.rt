@@ -45,7 +45,7 @@ impl Scope<'_> {
             Statement::Rorg(Some(text)) => {
                 Ok(set_to(
                     Part::Relocatable,
-                    u32::from(number_in(self.value_of(text)?)?),
+                    u32::from(internal_number(self.value_of(text)?)?),
                 ))
             }
             Statement::Bss(text) => Ok(stays_at(self.at, u32::from(self.absolute_of(text)?))),
@@ -166,8 +166,8 @@ fn equals(value: Value) -> Move
 }
 
 /// The number of a value that is not external.
-fn number_in(value: Value) -> Result<u16, ExprError>
-    ensures { result ≡ spec.number_in (defined_value value) }
+fn internal_number(value: Value) -> Result<u16, ExprError>
+    ensures { result ≡ spec.internal_number (defined_value value) }
 {
     match value {
         Value::Absolute(number) | Value::Relocatable(number) => Ok(number),

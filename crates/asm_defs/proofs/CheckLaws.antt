@@ -18,7 +18,7 @@ use Rattle.asm_defs.specs.Statements.{Statement, Nothing, Instruction, Aorg, Ror
 use Rattle.asm_defs.specs.Statements.{said_of, statement_in, as_text}
 use Rattle.asm_defs.specs.Locations.{behind, is_in_part, limit}
 use Rattle.asm_defs.specs.FirstChecks.{Before, Said, Checked, Move, any_known, label_in, is_taken, refs_in, said, moved, checked, move, as_expr}
-use Rattle.asm_defs.specs.FirstChecks.{is_too_far, lists_too_many, is_bad, is_title, location_behind, absolute_in, value, number_in, known_here}
+use Rattle.asm_defs.specs.FirstChecks.{is_too_far, lists_too_many, is_bad, is_title, location_behind, absolute_in, value, internal_number, known_here}
 use Rattle.asm_defs.specs.Growing.{size_said}
 
 -- a value that an answer is made of
@@ -56,7 +56,7 @@ module _ (known : Names) (here : Location) (reached : ℕ) where
   move_fits (Aorg text) found e = fits_by (Aorg text) (absolute_in known here text) _ found e (λ value f. ok_fits (Aorg text) _ found f (inr (refl, refl)))
   move_fits (Rorg None) found e = ok_fits (Rorg None) _ found e (inr (refl, refl))
   move_fits (Rorg (Some text)) found e =
-      fits_by (Rorg (Some text)) (value known here text >>= number_in) _ found e (λ value f. ok_fits (Rorg (Some text)) _ found f (inr (refl, refl)))
+      fits_by (Rorg (Some text)) (value known here text >>= internal_number) _ found e (λ value f. ok_fits (Rorg (Some text)) _ found f (inr (refl, refl)))
   move_fits (Dorg text) found e = fits_by (Dorg text) (absolute_in known here text) _ found e (λ value f. ok_fits (Dorg text) _ found f (inr (refl, refl)))
   move_fits (Bss text) found e = fits_by (Bss text) (absolute_in known here text) _ found e (λ value f. ok_fits (Bss text) _ found f (inl (refl, omega arith)))
   move_fits (Bes text) found e = fits_by (Bes text) (absolute_in known here text) _ found e (λ value f. ok_fits (Bes text) _ found f (inl (refl, omega arith)))

@@ -3,12 +3,12 @@ use Rattle.std.proofs.Common.{◌≡◌, ℕ, List, [], ◌∷◌, Some, None, O
 use Rattle.std.specs.Prelude.{Option, Result}
 use Rattle.source_defs.specs.declared.causes.ExprError.{ExprError}
 use Rattle.source_defs.specs.Refusals.{◌>>=◌}
-use Rattle.source_defs.specs.Expression.{Value, expression, known_value}
+use Rattle.source_defs.specs.Expression.{Value, absolute, known_value}
 use Rattle.source_defs.specs.Growing as expressions
 use Rattle.source_defs.proofs.GrowingLaws.{Stays, stays_same, stays_then, known_stays, expression_stays}
 use Rattle.instruction_defs.specs.declared.causes.FormError.{FormError}
 use Rattle.instruction_defs.specs.FirstChecks.{Skeleton, first_checks}
-use Rattle.instruction_defs.specs.SecondChecks.{absolute, second_checks}
+use Rattle.instruction_defs.specs.SecondChecks.{second_checks}
 use Rattle.instruction_defs.specs.Growing as instructions
 use Rattle.instruction_defs.proofs.GrowingLaws.{words_stay}
 use Rattle.asm_defs.specs.declared.location.Location.{Location}
@@ -16,7 +16,7 @@ use Rattle.asm_defs.specs.Locations.{behind, value_of}
 use Rattle.asm_defs.specs.Statements as said
 use Rattle.asm_defs.specs.Statements.{Statement, Instruction, Aorg, Rorg, Dorg, Bss, Bes, Even, Equ, Data, Byte, Text, Def, Ref, Idt, Titl, End, as_form}
 use Rattle.asm_defs.specs.FirstChecks.{as_expr}
-use Rattle.asm_defs.specs.SecondChecks.{Outcome, Nothing, used_at, entry_at, value, word_in, data_values, absolute_in, byte_values, bytes_of, defined_here}
+use Rattle.asm_defs.specs.SecondChecks.{used_at, entry_at, value, word_in, data_values, absolute_in, byte_values, defined_here}
 use Rattle.asm_defs.specs.SecondChecks.{defs_known, entry_in, instruction_outcome, outcome}
 use Rattle.asm_defs.specs.Growing.{is_open}
 

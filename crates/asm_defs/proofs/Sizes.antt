@@ -11,15 +11,15 @@ use Rattle.instruction_defs.specs.Forms.{Form, Plain, Indirect, Increment, Symbo
 use Rattle.instruction_defs.specs.Operands.{slots_of}
 use Rattle.instruction_defs.specs.FirstChecks as first
 use Rattle.instruction_defs.specs.FirstChecks.{Skeleton, Word, Instruction, following, form_words}
-use Rattle.instruction_defs.specs.SecondChecks.{Operand, InRegister, ByRegister, Growing, AtAddress, AtIndexed, Number, Bit, To, Following, Ready, Located, Displaced}
-use Rattle.instruction_defs.specs.SecondChecks.{value_of, number_of, text_in, as_form, target_in, placed, valued, all_valued, ranged, all_ranged, below_sixteen}
-use Rattle.instruction_defs.specs.SecondChecks.{displaced, displacement_to, number_in, is_index, is_displacement, following_in, all_following, second_checks}
+use Rattle.instruction_defs.specs.SecondChecks.{Operand, InRegister, ByRegister, AutoIncrement, AtAddress, AtIndexed, Number, Bit, To, Following, Ready, Located, Displaced}
+use Rattle.instruction_defs.specs.SecondChecks.{value_of, number_of, text_in, as_form_error, target_in, placed, valued, all_valued, ranged, all_ranged, below_sixteen}
+use Rattle.instruction_defs.specs.SecondChecks.{displaced, displacement_to, place_number, is_index, is_displacement, following_in, all_following, second_checks}
 
 -- how many words follow for an operand
 abbrev operand_words : Operand → ℕ
 operand_words (InRegister number) = 0
 operand_words (ByRegister number) = 0
-operand_words (Growing number) = 0
+operand_words (AutoIncrement number) = 0
 operand_words (AtAddress value) = 1
 operand_words (AtIndexed value number) = 1
 operand_words (Number number) = 0
@@ -68,7 +68,7 @@ module _ (look : List ℕ → Option Value) (here : Value) where
   valued_words Immediate form made e = given operand_words 1 (value_of look here (text_in form)) _ made e (λ value is f. is_ok operand_words 1 _ made f refl)
   valued_words Target form made e =
       given operand_words 0 (value_of look here (text_in form)) _ made e
-      (λ value is f. given operand_words 0 (as_form (target_in here value)) _ made f (λ target was g. is_ok operand_words 0 _ made g refl))
+      (λ value is f. given operand_words 0 (as_form_error (target_in here value)) _ made f (λ target was g. is_ok operand_words 0 _ made g refl))
 
   all_valued_words : (slots : List Slot) (forms : List Form) (made : List Operand) → all_valued look here slots forms ≡ Ok made
       → all_operand_words made ≡ first.all_following slots forms
@@ -99,12 +99,12 @@ module _ (look : List ℕ → Option Value) (here : Value) where
   ranged_words : (operand : Operand) (made : Ready) → ranged here operand ≡ Ok made → ready_words made ≡ operand_words operand
   ranged_words (InRegister number) made e = given ready_words 0 (below_sixteen number) _ made e (λ value is f. is_ok ready_words 0 _ made f refl)
   ranged_words (ByRegister number) made e = given ready_words 0 (below_sixteen number) _ made e (λ value is f. is_ok ready_words 0 _ made f refl)
-  ranged_words (Growing number) made e = given ready_words 0 (below_sixteen number) _ made e (λ value is f. is_ok ready_words 0 _ made f refl)
+  ranged_words (AutoIncrement number) made e = given ready_words 0 (below_sixteen number) _ made e (λ value is f. is_ok ready_words 0 _ made f refl)
   ranged_words (AtAddress value) made e = is_ok ready_words 1 _ made e refl
   ranged_words (AtIndexed value number) made e = indexed_words (is_index number) value number made e
   ranged_words (Number number) made e = given ready_words 0 (below_sixteen number) _ made e (λ value is f. is_ok ready_words 0 _ made f refl)
   ranged_words (Bit number) made e = bit_words (is_displacement number) number made e
-  ranged_words (To target) made e = displaced_words (displacement_to (number_in here + 2) target) made e
+  ranged_words (To target) made e = displaced_words (displacement_to (place_number here + 2) target) made e
   ranged_words (Following value) made e = is_ok ready_words 1 _ made e refl
 
   abbrev all_ready_words : List Ready → ℕ

@@ -3,22 +3,20 @@
 -- Profile: they stand in this order. The line's length and its label; a label that stands for something already; the
 -- operation, the number of its operands and their forms; a name of REF that stands for something already; the values
 -- that move locations; a location past the end of its part, and too many names; a bad directive.
-use Rattle.std.specs.Prelude.{ℕ, ◌+◌, ◌*◌, Bool, true, false, not, ◌&&◌, ◌||◌, nat_le, nat_eq, List, [], ◌∷◌, ◌++◌}
+use Rattle.std.specs.Prelude.{ℕ, ◌+◌, ◌*◌, Bool, true, false, not, ◌&&◌, ◌||◌, nat_le, List, [], ◌∷◌, ◌++◌}
 use Rattle.std.specs.Prelude.{length, map, is_some, Option, Some, None, Result, Ok, Err}
 use Rattle.std.specs.List.{list_any}
-use Rattle.std.specs.Cmp.Lexicographic.{pointwise}
 use Rattle.std.specs.FinMap.{get}
 use Rattle.source_defs.specs.Refusals.{◌>>=◌, unless}
 use Rattle.source_defs.specs.QuotedTexts.{is_quoted}
 use Rattle.source_defs.specs.declared.causes.ExprError.{ExprError}
 use Rattle.source_defs.specs.declared.causes.ExprError.TheVariants.{BadRelocation}
-use Rattle.source_defs.specs.Expression.{Value, Absolute, Relocatable, External, expression, characters}
+use Rattle.source_defs.specs.Expression.{Value, Absolute, Relocatable, External, absolute, expression, characters}
 use Rattle.source_defs.specs.Fields.{fields}
 use Rattle.source_defs.specs.Symbols.{Names, look_up, predefined}
 use Rattle.source_defs.specs.Layout.{names_of, set_or}
 use Rattle.object_defs.specs.Modules.{most_names, is_module_name}
 use Rattle.object_defs.specs.Digits.{padded}
-use Rattle.instruction_defs.specs.SecondChecks.{absolute}
 use Rattle.asm_defs.specs.declared.causes.AsmCause.{AsmCause}
 use Rattle.asm_defs.specs.declared.causes.AsmCause.TheVariants.{Expr, DuplicateLabel, BadDirective, Overflow}
 use Rattle.asm_defs.specs.declared.location.Location.{Location}
@@ -107,10 +105,10 @@ abbrev pub equals : Value → Move
 equals value = record { origin = None; gap = 0; size = 0; label = value }
 
 -- Profile: RORG takes the number of an absolute or a relocatable value.
-abbrev pub number_in : Value → Result ℕ ExprError
-number_in (Absolute number) = Ok number
-number_in (Relocatable number) = Ok number
-number_in (External name) = Err BadRelocation
+abbrev pub internal_number : Value → Result ℕ ExprError
+internal_number (Absolute number) = Ok number
+internal_number (Relocatable number) = Ok number
+internal_number (External name) = Err BadRelocation
 
 -- Profile: EQU takes no external value.
 abbrev pub known_here : Value → Result Value ExprError
@@ -131,10 +129,11 @@ module _ (known : Names) (here : Location) where
   abbrev pub move : ℕ → Statement → Result Move ExprError
   move reached Nothing = Ok (stays_at here 0)
   move reached (Instruction size operation field) = Ok (stays_even here size)
-  move reached (Aorg text) = absolute_in text >>= λ number. Ok (set_to (record { part = part.Absolute; number = number }))
+  move reached (Aorg text) =
+      absolute_in text >>= λ number. Ok (set_to (record { part = part.Absolute; number = number }))
   move reached (Rorg None) = Ok (set_to (record { part = part.Relocatable; number = reached }))
   move reached (Rorg (Some text)) =
-      value text >>= number_in >>= λ number. Ok (set_to (record { part = part.Relocatable; number = number }))
+      value text >>= internal_number >>= λ number. Ok (set_to (record { part = part.Relocatable; number = number }))
   move reached (Dorg text) = absolute_in text >>= λ number. Ok (set_to (record { part = part.Dummy; number = number }))
   move reached (Bss text) = absolute_in text >>= λ size. Ok (stays_at here size)
   move reached (Bes text) = absolute_in text >>= λ size. Ok (ends_block here size)
@@ -232,7 +231,8 @@ module _ (before : Before) where
     found ← as_text (fields text)
     label ← unless (any_known before.names (label_in found.label)) DuplicateLabel found.label
     statement ← statement_in text found
-    unless (is_taken before.names label (refs_in statement)) DuplicateLabel (record { label = label; statement = statement })
+    unless (is_taken before.names label (refs_in statement)) DuplicateLabel
+        (record { label = label; statement = statement })
 
   -- where it leads
   unfoldable pub moved : Said → Result Checked AsmCause

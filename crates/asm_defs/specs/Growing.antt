@@ -1,5 +1,5 @@
 -- What is known of a line while names are still to come.
-use Rattle.std.specs.Prelude.{ℕ, ◌*◌, Bool, true, false, List, length, replicate}
+use Rattle.std.specs.Prelude.{ℕ, ◌*◌, Bool, true, false, length, replicate}
 use Rattle.std.specs.List.{list_all}
 use Rattle.source_defs.specs.Expression.{Value, Absolute, Relocatable, External, characters}
 use Rattle.source_defs.specs.Growing as expressions

@@ -5,12 +5,13 @@ use Rattle.std.specs.Prelude.{Err}
 use Rattle.source_defs.specs.Refusals.{◌>>=◌}
 use Rattle.source_defs.specs.declared.causes.ExprError.{ExprError}
 use Rattle.source_defs.specs.declared.causes.ExprError.TheVariants.{BadRelocation}
-use Rattle.source_defs.specs.Expression.{Value, Absolute, Relocatable, External, expression, known_value, characters}
+use Rattle.source_defs.specs.Expression.{Value, Absolute, Relocatable, External, absolute, expression, known_value}
+use Rattle.source_defs.specs.Expression.{characters}
 use Rattle.object_defs.specs.declared.spot.Spot.{Spot}
 use Rattle.object_defs.specs.declared.spot.Spot.TheVariants as spot
 use Rattle.instruction_defs.specs.declared.causes.FormError.TheVariants.{BadOperand}
 use Rattle.instruction_defs.specs.FirstChecks.{first_checks}
-use Rattle.instruction_defs.specs.SecondChecks.{absolute, second_checks}
+use Rattle.instruction_defs.specs.SecondChecks.{second_checks}
 use Rattle.asm_defs.specs.declared.causes.AsmCause.{AsmCause}
 use Rattle.asm_defs.specs.declared.causes.AsmCause.TheVariants.{Form, BadDirective}
 use Rattle.asm_defs.specs.declared.location.Location.{Location}

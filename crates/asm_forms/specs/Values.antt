@@ -11,7 +11,7 @@ use Rattle.asm_forms.specs.UpToTwo.{items_of}
 use Rattle.asm_forms.specs.declared.up_to_two.UpToTwo.{UpToTwo}
 use Rattle.asm_forms.specs.declared.up_to_two.UpToTwo.TheVariants.{None, One, Two}
 use Rattle.asm_forms.specs.declared.values.Operand.{Operand}
-use Rattle.asm_forms.specs.declared.values.Operand.TheVariants.{InRegister, ByRegister, Growing, AtAddress, AtIndexed}
+use Rattle.asm_forms.specs.declared.values.Operand.TheVariants.{InRegister, ByRegister, AutoIncrement, AtAddress, AtIndexed}
 use Rattle.asm_forms.specs.declared.values.Operand.TheVariants.{Number, Bit, To, Following}
 use Rattle.asm_forms.specs.declared.ranges.Ready.{Ready}
 use Rattle.asm_forms.specs.declared.ranges.Ready.TheVariants.{Located, Addressed, Counted, Displaced, Followed}
@@ -19,7 +19,7 @@ use Rattle.asm_forms.specs.declared.ranges.Ready.TheVariants.{Located, Addressed
 abbrev pub defined_operand : Operand → spec.Operand
 defined_operand (InRegister number) = spec.InRegister number
 defined_operand (ByRegister number) = spec.ByRegister number
-defined_operand (Growing number) = spec.Growing number
+defined_operand (AutoIncrement number) = spec.AutoIncrement number
 defined_operand (AtAddress value) = spec.AtAddress (defined_value value)
 defined_operand (AtIndexed value number) = spec.AtIndexed (defined_value value) number
 defined_operand (Number number) = spec.Number number

@@ -58,7 +58,7 @@ fn ranged(here: &Value, operand: Operand) -> Result<Ready, FormError>
     match operand {
         Operand::InRegister(number) => by_register(0, number),
         Operand::ByRegister(number) => by_register(1, number),
-        Operand::Growing(number) => by_register(3, number),
+        Operand::AutoIncrement(number) => by_register(3, number),
         Operand::AtAddress(value) => Ok(Ready::Addressed(Place { mode: 2, reg: 0 }, value)),
         Operand::AtIndexed(value, number) => indexed(value, number),
         Operand::Number(number) => {
@@ -66,7 +66,7 @@ fn ranged(here: &Value, operand: Operand) -> Result<Ready, FormError>
             Ok(Ready::Counted(count))
         }
         Operand::Bit(number) => bit(number),
-        Operand::To(target) => jump(number_in(here), target),
+        Operand::To(target) => jump(place_number(here), target),
         Operand::Following(value) => Ok(Ready::Followed(value)),
     }
 }
@@ -160,8 +160,8 @@ fn backward(bytes: u32) -> Option<i8>
 }
 
 /// The number of a value that is no external name, without its kind.
-fn number_in(value: &Value) -> u16
-    ensures { result ≡ spec.number_in (defined_value value.now) }
+fn place_number(value: &Value) -> u16
+    ensures { result ≡ spec.place_number (defined_value value.now) }
 {
     match value {
         Value::Absolute(number) | Value::Relocatable(number) => *number,

@@ -25,7 +25,7 @@ pub(crate) enum Operand {
     /// `*R`.
     ByRegister(u16),
     /// `*R+`.
-    Growing(u16),
+    AutoIncrement(u16),
     /// `@e`.
     AtAddress(Value),
     /// `@e(R)`.
@@ -119,7 +119,7 @@ impl Scope<'_> {
             }
             Form::Increment(text) => {
                 let register = self.number_of(text)?;
-                Ok(Operand::Growing(register))
+                Ok(Operand::AutoIncrement(register))
             }
             Form::Symbolic(text) => {
                 let address = self.value_of(text)?;
@@ -176,7 +176,7 @@ fn text_in(form: Form<'_>) -> &[u8]
 
 /// The target of a jump, which is of the kind of the jump's place.
 fn target_in(here: Value, target: Value) -> Result<u16, FormError>
-    ensures { result ≡ spec.as_form (spec.target_in (defined_value here) (defined_value target)) }
+    ensures { result ≡ spec.as_form_error (spec.target_in (defined_value here) (defined_value target)) }
 {
     match (here, target) {
         (Value::Absolute(_), Value::Absolute(target))

@@ -1,5 +1,6 @@
 -- How a name lies in six bytes.
-use Rattle.std.specs.Prelude.{◌≡◌, ℕ, zero, suc, ◌+◌, ◌-◌, ◌*◌, ◌≤◌, true, List, [], ◌∷◌, ◌++◌, length, take, replicate}
+use Rattle.std.specs.Prelude.{◌≡◌, ℕ, zero, suc, ◌+◌, ◌-◌, ◌*◌, ◌≤◌, IsTrue, List, [], ◌∷◌}
+use Rattle.std.specs.Prelude.{◌++◌, length, take, replicate}
 use Rattle.std.proofs.Common.{ap, sym, ◌∙◌}
 use Rattle.std.proofs.lemmas.List.{length-take-le}
 use Rattle.source_defs.specs.Names.{is_kept_name}
@@ -19,13 +20,15 @@ pub record IsPadded (bytes : List ℕ) (len key : ℕ) : Type 0 where
   pub six : length bytes ≡ 6
   pub within : len ≤ length bytes
   pub padded : bytes ≡ take len bytes ++ replicate (6 - len) 0
-  pub kept : is_kept_name (take len bytes) ≡ true
+  pub kept : IsTrue (is_kept_name (take len bytes))
   pub tied : key ≡ key_of (take len bytes)
 
 -- the name gives the six bytes, its length and its key back
 pub padded_again : {R : Type 0} (make : List ℕ → ℕ → ℕ → R) (bytes : List ℕ) (len key : ℕ) → IsPadded bytes len key
-    → make (take len bytes ++ replicate (6 - length (take len bytes)) 0) (length (take len bytes)) (key_of (take len bytes))
+    → make (take len bytes ++ replicate (6 - length (take len bytes)) 0) (length (take len bytes))
+    (key_of (take len bytes))
     ≡ make bytes len key
 padded_again make bytes len key is =
-    ap (λ n. make (take len bytes ++ replicate (6 - n) 0) n (key_of (take len bytes))) (length-take-le len bytes is.within)
+    ap (λ n. make (take len bytes ++ replicate (6 - n) 0) n (key_of (take len bytes)))
+    (length-take-le len bytes is.within)
     ∙ (ap (λ b. make b len (key_of (take len bytes))) (sym is.padded) ∙ ap (make bytes len) (sym is.tied))

@@ -36,7 +36,7 @@ fn text_value(quoted: &[u8]) -> Result<Value, ExprError>
     };
     match first_character(others) {
         None => Ok(Value::Absolute(u16::from(first))),
-        Some((second, [])) => Ok(Value::Absolute(u16::from(first) * 256 + u16::from(second))),
+        Some((second, [])) => Ok(Value::Absolute(u16::from_be_bytes([first, second]))),
         Some(_) => Err(ExprError::BadToken),
     }
 }

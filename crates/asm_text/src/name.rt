@@ -1,6 +1,6 @@
 //! Names of places and values.
 
-ghost use Rattle.std.specs.Prelude.{◌≡◌, ◌≤◌, ◌-◌, ◌++◌, Some, None, true, if◌then◌else◌, length, take, replicate};
+ghost use Rattle.std.specs.Prelude.{◌≡◌, ◌≤◌, ◌-◌, ◌++◌, Some, None, IsTrue, if◌then◌else◌, length, take, replicate};
 ghost use Rattle.std.specs.Prelude.{refl, nat_eq};
 ghost use Rattle.std.specs.Ordering.{nat_cmp};
 ghost use Rattle.std.specs.Cmp.{partial_equiv_from_equiv};
@@ -36,9 +36,14 @@ impl Model for Name {
 
     ghost invariant = { λ name. IsPadded name.bytes name.len name.key };
 
-    ghost inverse = { λ name. record { bytes = name ++ replicate (6 - length name) 0; len = length name; key = key_of name } };
+    ghost inverse = { λ name. record {
+      bytes = name ++ replicate (6 - length name) 0;
+      len = length name;
+      key = key_of name;
+    } };
 
-    ghost inverse_ok = { λ a h. padded_again (λ bytes len key. record { bytes = bytes; len = len; key = key }) a.bytes a.len a.key h };
+    ghost inverse_ok = { λ a h.
+        padded_again (λ bytes len key. record { bytes = bytes; len = len; key = key }) a.bytes a.len a.key h };
 }
 
 impl Name {
@@ -57,7 +62,7 @@ impl Name {
     pub(crate) fn of_padded(bytes: [u8; LONGEST_NAME], len: usize) -> Name
         requires within { len ≤ 6 }
         requires padded { bytes ≡ take len bytes ++ replicate (6 - len) 0 }
-        requires kept { is_kept_name (take len bytes) ≡ true }
+        requires kept { IsTrue (is_kept_name (take len bytes)) }
         ensures { result ≡ take len bytes }
     {
         Name {
@@ -70,7 +75,7 @@ impl Name {
     /// The bytes of the name.
     pub fn as_bytes(&self) -> &[u8]
         ensures value { result.now ≡ self.now }
-        ensures kept { is_kept_name self.now ≡ true }
+        ensures kept { IsTrue (is_kept_name self.now) }
     {
         &self.bytes[..usize::from(self.len)]
     }
@@ -127,11 +132,8 @@ impl Ord for Name {
 fn key_of(bytes: &[u8; LONGEST_NAME]) -> u64
     ensures { result ≡ key_of bytes.now }
 {
-    let two = 256 * u64::from(bytes[0]) + u64::from(bytes[1]);
-    let three = 256 * two + u64::from(bytes[2]);
-    let four = 256 * three + u64::from(bytes[3]);
-    let five = 256 * four + u64::from(bytes[4]);
-    256 * five + u64::from(bytes[5])
+    let [first, second, third, fourth, fifth, sixth] = *bytes;
+    u64::from_be_bytes([0, 0, first, second, third, fourth, fifth, sixth])
 }
 
 /// Whether the bytes are one to six printed characters other than the space.

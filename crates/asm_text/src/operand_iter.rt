@@ -1,6 +1,6 @@
 //! The operands of a field, one after the other.
 
-ghost use Rattle.std.specs.Prelude.{◌≡◌, ◌≤◌, ◌<◌, ◌+◌, false, length};
+ghost use Rattle.std.specs.Prelude.{◌≡◌, ◌≤◌, ◌<◌, ◌+◌, IsFalse, length};
 ghost use Rattle.source_defs.specs.Fields.{in_quotes};
 ghost use Rattle.source_defs.proofs.OperandSteps.{comma_place};
 
@@ -19,7 +19,7 @@ pub struct Operands<'a> {
 }
 
 impl<'a> Model for Operands<'a> {
-    ghost use Rattle.std.specs.Prelude.{◌≡◌, ◌≤◌, false, if◌then◌else◌, List, [], length};
+    ghost use Rattle.std.specs.Prelude.{◌≡◌, ◌≤◌, IsFalse, if◌then◌else◌, List, [], length};
     ghost use Rattle.source_defs.specs.declared.text.Span.{Span};
     ghost use Rattle.source_defs.specs.Fields.{in_quotes};
     ghost use Rattle.source_defs.specs.Operands.{operands_from};
@@ -28,7 +28,7 @@ impl<'a> Model for Operands<'a> {
 
     ghost view = { λ s. (if s.ended then [] else operands_from s.field.now s.at) };
 
-    ghost invariant = { λ s. (s.at ≤ length s.field.now) × (in_quotes s.field.now 0 s.at ≡ false) };
+    ghost invariant = { λ s. (s.at ≤ length s.field.now) × IsFalse (in_quotes s.field.now 0 s.at) };
 }
 
 impl<'a> Iterator for Operands<'a> {
@@ -60,10 +60,10 @@ impl<'a> Iterator for Operands<'a> {
 #[tactic(auto, using(source_defs::proofs::LeastLaws::leasts, source_defs::proofs::Quotes::quoting))]
 fn comma_place(field: &[u8], from: usize) -> usize
     requires within { from ≤ length field.now }
-    requires outside { in_quotes field.now 0 from ≡ false }
+    requires outside { IsFalse (in_quotes field.now 0 from) }
     ensures place { result ≡ comma_place field.now from }
     ensures within { result ≤ length field.now }
-    ensures outside { result < length field.now → in_quotes field.now 0 (result + 1) ≡ false }
+    ensures outside { result < length field.now → IsFalse (in_quotes field.now 0 (result + 1)) }
 {
     let mut quoted = false;
     for at in from..field.len() {

@@ -68,7 +68,7 @@ fn word_at(bytes: &[u8], number: usize) -> u16
     if 2 * number + 1 >= bytes.len() {
         return 0;
     }
-    256 * u16::from(bytes[2 * number]) + u16::from(bytes[2 * number + 1])
+    u16::from_be_bytes([bytes[2 * number], bytes[2 * number + 1]])
 }
 
 /// Writes the line of the last byte where it is an odd one.

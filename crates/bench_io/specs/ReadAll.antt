@@ -24,5 +24,6 @@ pub record ReadWhole (limit : ℕ) (before after : SourceState) (bytes : List �
 -- that failed gave no byte; else each did.
 abbrev pub GaveUp : ReadError → ℕ → SourceState → SourceState → Type 0
 GaveUp TooLarge limit before after = (bytes : List ℕ) × (length bytes ≡ limit + 1) × Took before after bytes 0
-GaveUp Fault limit before after = (bytes : List ℕ) × (length bytes ≤ limit) × Took before after bytes 1 × Rose before.faults after.faults
+GaveUp Fault limit before after =
+    (bytes : List ℕ) × (length bytes ≤ limit) × Took before after bytes 1 × Rose before.faults after.faults
 GaveUp Memory limit before after = (bytes : List ℕ) × (length bytes ≤ limit) × Took before after bytes 0

@@ -64,7 +64,13 @@ impl MemSource {
 }
 
 impl Source for MemSource {
-    ghost state = { λ s. record { left = Some s.left; calls = s.calls; taken = s.taken; empty = s.empty; faults = s.faults } };
+    ghost state = { λ s. record {
+      left = Some s.left;
+      calls = s.calls;
+      taken = s.taken;
+      empty = s.empty;
+      faults = s.faults;
+    } };
 
     fn take(&mut self, buffer: &mut [u8]) -> Result<usize, Failed>
         requires { 0 < length buffer.old }
@@ -126,7 +132,13 @@ impl Model for MemSink {
 
     ghost Value = { Store };
 
-    ghost view = { λ s. record { held = s.bytes.items; room = s.room; calls = s.calls; fails = s.fails.items; faults = s.faults } };
+    ghost view = { λ s. record {
+      held = s.bytes.items;
+      room = s.room;
+      calls = s.calls;
+      fails = s.fails.items;
+      faults = s.faults;
+    } };
 
     ghost invariant = { λ s. (vec_len s.bytes ≤ s.room) × (s.room ≤ vec_capacity s.bytes) };
 }

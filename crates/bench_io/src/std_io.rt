@@ -25,7 +25,13 @@ impl<R: Read + Drop> Model for StdSource<R> {
 
     ghost Value = { SourceState };
 
-    ghost view = { λ s. record { left = R.remaining s.reader; calls = s.calls; taken = s.taken; empty = s.empty; faults = s.faults } };
+    ghost view = { λ s. record {
+      left = R.remaining s.reader;
+      calls = s.calls;
+      taken = s.taken;
+      empty = s.empty;
+      faults = s.faults;
+    } };
 }
 
 impl<R: Read + Drop> StdSource<R> {

@@ -24,7 +24,14 @@ impl Model for SteadySource {
 
     ghost Value = { Supply };
 
-    ghost view = { λ s. record { left = drop s.position s.bytes.items; calls = s.calls; taken = s.position; empty = s.empty; fails = []; faults = 0 } };
+    ghost view = { λ s. record {
+      left = drop s.position s.bytes.items;
+      calls = s.calls;
+      taken = s.position;
+      empty = s.empty;
+      fails = [];
+      faults = 0;
+    } };
 
     ghost invariant = { λ s. s.position ≤ vec_len s.bytes };
 }

@@ -35,12 +35,13 @@ pub record TookMore (limit : ℕ) (before after : ShelfState) : Type 0 where
 abbrev pub TookNoMore : ℕ → ShelfState → ShelfState → Type 0
 TookNoMore limit before after = after.largest ≤ max before.largest limit
 
--- A missing name is counted, and so is a failure. A file is too large exactly where more bytes of one were taken than it
--- may have.
+-- A missing name is counted, and so is a failure. A file is too large exactly where more bytes of one were taken than
+-- it may have.
 abbrev pub FileCauses : ℕ → FileError → ShelfState → ShelfState → Type 0
 FileCauses limit unread.Missing before after = Rose before.misses after.misses × TookNoMore limit before after
 FileCauses limit unread.TooLarge before after = TookMore limit before after
-FileCauses limit unread.Fault before after = Rose before.source.faults after.source.faults × TookNoMore limit before after
+FileCauses limit unread.Fault before after =
+    Rose before.source.faults after.source.faults × TookNoMore limit before after
 FileCauses limit unread.Memory before after = TookNoMore limit before after
 
 -- The same of what a line is refused for. No line is refused because memory was wanting.
@@ -80,8 +81,8 @@ IsOfLine (At file line (Asm cause)) = IsNoMemory (Asm cause)
 IsOfLine Memory = ⊤
 IsOfLine error = ⊥
 
--- each file that is copied is asked for once, and no other; for each no more is taken than one byte past its limit; and at
--- most 64 files are copied
+-- each file that is copied is asked for once, and no other; for each no more is taken than one byte past its limit;
+-- and at most 64 files are copied
 pub record ReadsOnce (old new : Copying) (before after : ShelfState) : Type 0 where
   pub copies : old.copies ≤ new.copies
   pub most : new.copies ≤ most_copies

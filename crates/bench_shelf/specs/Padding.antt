@@ -1,5 +1,5 @@
 -- How the name of a file lies in sixty bytes.
-use Rattle.std.specs.Prelude.{◌≡◌, ℕ, ◌-◌, ◌≤◌, true, List, ◌++◌, length, take, replicate}
+use Rattle.std.specs.Prelude.{◌≡◌, ℕ, ◌-◌, ◌≤◌, IsTrue, List, ◌++◌, length, take, replicate}
 use Rattle.std.proofs.Common.{ap, sym, ◌∙◌}
 use Rattle.std.proofs.lemmas.List.{length-take-le}
 use Rattle.shelf_defs.specs.Files.{is_file_name}
@@ -9,7 +9,7 @@ pub record IsPadded (bytes : List ℕ) (len : ℕ) : Type 0 where
   pub sixty : length bytes ≡ 60
   pub within : len ≤ length bytes
   pub padded : bytes ≡ take len bytes ++ replicate (60 - len) 0
-  pub kept : is_file_name (take len bytes) ≡ true
+  pub kept : IsTrue (is_file_name (take len bytes))
 
 -- the name gives the sixty bytes and its length back
 pub padded_again : {R : Type 0} (make : List ℕ → ℕ → R) (bytes : List ℕ) (len : ℕ) → IsPadded bytes len

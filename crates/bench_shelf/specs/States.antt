@@ -15,11 +15,11 @@ pub record ShelfState : Type 0 where
   pub misses : ℕ
   pub files : Option Files
 
--- A shelf in memory: its files by name, where the first of equal names counts; what is left of the open one; the number
--- of calls of `open_file` and `take` together, and of calls of `take` alone; the bytes given in all, those given of the
--- file that was opened last, and the most that were given of one opening; the calls of `take` that gave none; the
--- numbers from 0 of the calls that fail; how many have failed; and how many calls of `open_file` were made, and how many
--- names were missing.
+-- A shelf in memory: its files by name, where the first of equal names counts; what is left of the open one; the
+-- number of calls of `open_file` and `take` together, and of calls of `take` alone; the bytes given in all, those
+-- given of the file that was opened last, and the most that were given of one opening; the calls of `take` that gave
+-- none; the numbers from 0 of the calls that fail; how many have failed; and how many calls of `open_file` were made,
+-- and how many names were missing.
 pub record Shelved : Type 0 where
   pub files : List (List ℕ × List ℕ)
   pub left : List ℕ

@@ -25,16 +25,17 @@ const DEEPEST: u32 = 4;
 
 /// Assembles a source of at most 1,048,576 bytes with the files of a shelf that it copies. Where the shelf tells its
 /// files, the module is that of the copied lines, each with a carriage return and a line feed behind it. Lines behind
-/// the first END line of any file are not read. In all no more bytes are taken than one more than the 262,144 that a file
-/// may have, for each of the 64 lines that may copy one. A file is asked for as often as it is copied, and no other is.
+/// the first END line of any file are not read. In all no more bytes are taken than one more than the 262,144 that a
+/// file may have, for each of the 64 lines that may copy one. A file is asked for as often as it is copied, and no
+/// other is.
 ///
 /// # Errors
-/// `At` carries the first line that is refused, in the order in which the lines are copied: because it cannot be copied
-/// or by the first checks; else the first that the second checks refuse. Where the shelf tells its files it comes
-/// exactly where there is one. `Missing` comes only where the shelf's count of misses rose. `TooLarge` comes exactly
-/// where more than 262,144 bytes of one file were taken, which is the last that was opened, and where the shelf tells its
-/// files exactly where a file that is copied has more. `Fault` comes only where the shelf's count of faults rose, and
-/// `Memory` is want of memory. What the shelf gave before an error stays taken.
+/// `At` carries the first line that is refused, in the order in which the lines are copied: because it cannot be
+/// copied or by the first checks; else the first that the second checks refuse. Where the shelf tells its files it
+/// comes exactly where there is one. `Missing` comes only where the shelf's count of misses rose. `TooLarge` comes
+/// exactly where more than 262,144 bytes of one file were taken, which is the last that was opened, and where the
+/// shelf tells its files exactly where a file that is copied has more. `Fault` comes only where the shelf's count of
+/// faults rose, and `Memory` is want of memory. What the shelf gave before an error stays taken.
 pub fn copy_assemble<F: Shelf>(
     alloc: Global,
     shelf: &mut F,

@@ -121,8 +121,8 @@ impl<'a, R: Files> DirShelf<'a, R> {
 impl<'a, R: Files> Shelf for DirShelf<'a, R> {
     ghost state = { untold };
 
-    /// Opens a file, and counts the call. One that is refused leaves none open and raises the count of faults or that of misses by one, and
-    /// no other call does.
+    /// Opens a file, and counts the call. One that is refused leaves none open and raises the count of faults or that
+    /// of misses by one, and no other call does.
     fn open_file(&mut self, name: &FileName) -> Result<(), OpenError>
         ensures { OpensFrom self.old result self.new }
     {

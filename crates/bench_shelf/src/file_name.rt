@@ -1,6 +1,6 @@
 //! The names of files.
 
-ghost use Rattle.std.specs.Prelude.{◌≡◌, ◌≤◌, ◌-◌, ◌++◌, Some, None, true, if◌then◌else◌, length, replicate};
+ghost use Rattle.std.specs.Prelude.{◌≡◌, ◌≤◌, ◌-◌, ◌++◌, Some, None, IsTrue, if◌then◌else◌, length, replicate};
 ghost use Rattle.std.specs.Prelude.{refl, nat_eq};
 ghost use Rattle.std.specs.Ordering.{nat_cmp};
 ghost use Rattle.std.specs.Cmp.{partial_equiv_from_equiv};
@@ -56,7 +56,7 @@ impl FileName {
     /// The bytes of the name.
     pub fn as_bytes(&self) -> &[u8]
         ensures value { result.now ≡ self.now }
-        ensures name { is_file_name self.now ≡ true }
+        ensures name { IsTrue (is_file_name self.now) }
     {
         &self.bytes[..self.len]
     }

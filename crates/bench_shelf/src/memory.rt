@@ -1,6 +1,6 @@
 //! A shelf in memory.
 
-ghost use Rattle.std.specs.Prelude.{◌≡◌, ◌↔◌, ◌<◌, ◌≤◌, min, max, [], ◌++◌, length, take, drop, true, false};
+ghost use Rattle.std.specs.Prelude.{◌≡◌, ◌↔◌, ◌<◌, ◌≤◌, min, max, [], ◌++◌, length, take, drop, IsTrue, IsFalse};
 ghost use Rattle.std.specs.Prelude.{IsErr, IfOk, OnOk, OnErr, IfErr, Contains, is_some, Option};
 ghost use Rattle.std.specs.Option.{option_map, unwrap_or};
 ghost use Rattle.count_defs.specs.Counts.{raised, Rose};
@@ -113,7 +113,7 @@ impl MemShelf {
 
     /// Whether the next call fails, which is then counted as made.
     fn fails_next(&mut self) -> bool
-        ensures fails { (result ≡ true) ↔ Contains self.old.fails self.old.requests }
+        ensures fails { IsTrue result ↔ Contains self.old.fails self.old.requests }
         ensures counted { self.new ≡ record self.old { requests = raised self.old.requests 1 } }
     {
         let request = self.requests;
@@ -134,9 +134,9 @@ impl MemShelf {
     /// Opens the file of a name and says whether there is one.
     fn open(&mut self, name: &FileName) -> bool
         ensures there { result ≡ is_some (bytes_of self.old.files name.now) }
-        ensures opened { (result ≡ true) →
+        ensures opened { IsTrue result →
             self.new ≡ record self.old { left = unwrap_or (bytes_of self.old.files name.now) [] } }
-        ensures missing { (result ≡ false) → self.new ≡ self.old }
+        ensures missing { IsFalse result → self.new ≡ self.old }
     {
         match bytes_of(self.files.as_slice(), name) {
             Some(bytes) => {

@@ -1,6 +1,6 @@
 //! The places of lines. Those that stand one behind the other are kept as one run.
 
-ghost use Rattle.std.specs.Prelude.{◌≡◌, ◌++◌, ◌∷◌, [], OnOk, true};
+ghost use Rattle.std.specs.Prelude.{◌≡◌, ◌++◌, ◌∷◌, [], OnOk, IsTrue};
 ghost use Rattle.shelf_defs.specs.Assembly.{place_of};
 ghost use Rattle.bench_shelf.specs.CopyAnswers.{defined_place};
 ghost use Rattle.bench_shelf.specs.Runs.{places_of, ComesNext};
@@ -13,7 +13,7 @@ use std::alloc::AllocError;
 impl Run {
     /// Whether a place comes next behind the lines.
     fn is_next(&self, place: &Place) -> bool
-        ensures { (result ≡ true) → ComesNext self.now place.now }
+        ensures { IsTrue result → ComesNext self.now place.now }
     {
         self.line.checked_add(self.count) == Some(place.line)
             && self.count < u32::MAX
@@ -23,7 +23,7 @@ impl Run {
 
 /// Whether two lines stand in the same file.
 fn is_same(one: &Option<FileName>, other: &Option<FileName>) -> bool
-    ensures { (result ≡ true) → one.now ≡ other.now }
+    ensures { IsTrue result → one.now ≡ other.now }
 {
     match (one, other) {
         (None, None) => true,

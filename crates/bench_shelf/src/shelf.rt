@@ -14,14 +14,14 @@ use bench_io::Failed;
 /// Files by name, of which one at a time is open and read piece by piece.
 pub trait Shelf {
     /// What is left of the open file, where the shelf tells that; the counts of calls of `take`, of bytes given, of
-    /// calls that gave no byte, of faults, of calls of `open_file` and of names that were missing; how many bytes were given of the file that was
-    /// opened last, since then, and the most that were given of one opening; and the files, where the shelf tells them.
-    /// No count falls but that of the bytes of the file opened last, which starts anew where one is opened, and no call
-    /// changes the files.
+    /// calls that gave no byte, of faults, of calls of `open_file` and of names that were missing; how many bytes
+    /// were given of the file that was opened last, since then, and the most that were given of one opening; and the
+    /// files, where the shelf tells them. No count falls but that of the bytes of the file opened last, which starts
+    /// anew where one is opened, and no call changes the files.
     ghost state: { Self → ShelfState };
 
-    /// Opens a file in place of the one that was open. Its bytes are then left for `take`. The call is counted, whatever
-    /// its answer.
+    /// Opens a file in place of the one that was open. Its bytes are then left for `take`. The call is counted,
+    /// whatever its answer.
     ///
     /// # Errors
     /// `Failed` comes only where the count of faults rose in this call, and `Missing` only where that of misses rose,

@@ -169,13 +169,15 @@ e unresolved FOO
 
 % compressed
 $ link
-<-\x01\x00\x02        A\x00\x00B\x10\xFF2\x00\x007\xFD\x02F                                                        :                                                                               
+<-\x01\x00\x02        A\x00\x00B\x10\xFF2\x00\x007\xFD\x02F                                   
+<-                     :                                                                               
 > entry >A000
 > >A000 10FF
 
 % compressed
 $ link
-<-\x01\x00\x02        A\x00\x00B\x10\xFF2\x00\x007\xFD\x03F                                                        :                                                                               
+<-\x01\x00\x02        A\x00\x00B\x10\xFF2\x00\x007\xFD\x03F                                   
+<-                     :                                                                               
 ? Refused
 e line 1: checksum >FD03, computed >FD02
 

@@ -9,7 +9,8 @@ use workbench::bench_with;
 
 /// The usage line.
 pub(crate) const USAGE: &[u8] =
-    b"usage: ti_bench asm|link [NAME ...]|dis ADDR|exec N|gasm|gdis ADDR|interp|run N|trace N|demo K|watch N ITEM ...\n";
+    b"usage: ti_bench asm|link [NAME ...]|dis ADDR|exec N|gasm|gdis ADDR|interp|run N|trace N|demo K|\
+      watch N ITEM ...\n";
 
 /// How a run ended, and what the two sinks hold then.
 #[derive(Drop)]

@@ -1,7 +1,7 @@
 -- Laws about steps in a row, and about runs.
 use Rattle.std.proofs.Common.{◌≡◌, ◌<◌, ℕ, zero, suc, ◌+◌, Bool, true, false, refl, sym, ap, ◌∙◌, arith, Option, Some}
 use Rattle.std.proofs.Common.{None}
-use Rattle.std.specs.Prelude.{eqb}
+use Rattle.std.specs.Prelude.{eqb, if◌then◌else◌}
 use Rattle.count_defs.specs.Counts.{raised}
 use Rattle.tms_defs.specs.Accesses.{Answer, Gives, AtPort, NoInstruction, ◌>>=◌}
 use Rattle.console_defs.specs.Memory.{Memory, IsMemory, console}
@@ -70,14 +70,10 @@ steps-count (suc count) x z led =
 -- A step that ends no run is executed.
 abbrev ends_by : Bool → Bool → Bool → StepEnd → Option RunEnd
 ends_by jumped reached limited end =
-    elim jumped [
-      | true ↦ Some run.SelfJump
-      | false ↦
-          elim reached [
-            | true ↦ Some run.Reached
-            | false ↦ elim limited [ true ↦ Some run.Limit | false ↦ end_of_step end ]
-          ]
-    ]
+    if jumped then Some run.SelfJump
+    else if reached then Some run.Reached
+    else if limited then Some run.Limit
+    else end_of_step end
 
 goes_on : (jumped reached limited : Bool) (end : StepEnd) (left : MachineState) →
     ends_by jumped reached limited end ≡ None → given_by (end, left) ≡ Gives left

@@ -1,5 +1,5 @@
 -- Why a step executes no instruction: what it refuses, and where it meets a port.
-use Rattle.std.specs.Prelude.{◌≡◌, ℕ, Bool, true, Option, Some, None, if◌then◌else◌, IsTrue}
+use Rattle.std.specs.Prelude.{ℕ, Bool, true, Option, Some, None, if◌then◌else◌, IsTrue}
 use Rattle.tms_defs.specs.Instructions.{instr_at}
 use Rattle.tms_defs.specs.Accesses.{Gives, AtPort, NoInstruction}
 use Rattle.tms_defs.specs.Operand.{Cpu}

@@ -1,7 +1,7 @@
 -- Where a run of steps ends.
 -- Profile: a run has five ends: its program counter stands at the address that ends it; as many instructions were
 -- executed as its limit says; a step is refused; a step meets a port; a jump to itself was executed.
-use Rattle.std.specs.Prelude.{◌≡◌, ◌<◌, ℕ, zero, suc, ◌==◌, Bool, true, false, Option, Some, None}
+use Rattle.std.specs.Prelude.{◌≡◌, ◌<◌, ℕ, zero, suc, ◌==◌, Bool, false, if◌then◌else◌, Option, Some, None}
 use Rattle.console_defs.specs.Machine.{MachineState, machine_step}
 use Rattle.tms_defs.specs.declared.step_end.StepEnd.{StepEnd}
 use Rattle.tms_defs.specs.declared.step_end.StepEnd.TheVariants.{Done, Refused, Port}
@@ -39,16 +39,15 @@ self_jumped (suc made) x = is_self_jump (machine_step (after made x)).0
 -- Profile: the end's address is looked at before the limit, and the limit before the step.
 abbrev pub end_before : Option ℕ → ℕ → ℕ → MachineState → Option RunEnd
 end_before stop limit made x =
-    elim (is_reached stop x.cpu.pc) [
-      | true ↦ Some run.Reached
-      | false ↦ elim (made == limit) [ true ↦ Some run.Limit | false ↦ end_of_step (machine_step x).0 ]
-    ]
+    if is_reached stop x.cpu.pc then Some run.Reached
+    else if made == limit then Some run.Limit
+    else end_of_step (machine_step x).0
 
 -- What ends a run from x, if anything does, where so many steps were made.
 -- Profile: a jump to itself that was executed is told before the limit.
 abbrev pub end_at : Option ℕ → ℕ → ℕ → MachineState → Option RunEnd
 end_at stop limit made x =
-    elim (self_jumped made x) [ true ↦ Some run.SelfJump | false ↦ end_before stop limit made (after made x) ]
+    if self_jumped made x then Some run.SelfJump else end_before stop limit made (after made x)
 
 -- A run from x to y, over so many executed instructions: the least number at which something ends it.
 pub record IsRun (stop : Option ℕ) (limit made : ℕ) (x : MachineState) (ending : RunEnd) (y : MachineState) :

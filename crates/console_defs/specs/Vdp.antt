@@ -1,5 +1,6 @@
 -- The video processor as the processor sees it: its memory, its registers and its four ports.
-use Rattle.std.specs.Prelude.{◌≡◌, ◌<◌, ℕ, ◌+◌, ◌/◌, ◌%◌, ◌==◌, Bool, if◌then◌else◌, List, slice_index, slice_set, Option}
+use Rattle.std.specs.Prelude.{◌≡◌, ◌<◌, ℕ, ◌+◌, ◌/◌, ◌%◌, ◌==◌, Bool}
+use Rattle.std.specs.Prelude.{if◌then◌else◌, List, slice_index, slice_set, Option}
 use Rattle.std.specs.Prelude.{Some, None, is_none, IfSome}
 use Rattle.tms_defs.specs.Words.{join}
 use Rattle.tms_defs.specs.Bytes.{HoldsBytes, HoldsZeros}

@@ -1,6 +1,7 @@
 -- Counts.
 --
--- Profile: a count is kept in 64 bits. It never falls, and where a sum would pass 2^64 - 1 it becomes that number and stays there.
+-- Profile: a count is kept in 64 bits. It never falls, and where a sum would pass 2^64 - 1 it becomes that number and
+-- stays there.
 use Rattle.std.specs.Prelude.{◌≢◌, ℕ, ◌+◌, ◌-◌, ◌^◌, ◌<◌, min, max, Bool, true, false}
 
 -- a count that was raised by a number

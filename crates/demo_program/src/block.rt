@@ -33,11 +33,12 @@ fn add_line(number: u16) -> Line
     ensures text { result.items ≡ spec.add_line number }
     ensures size { array_vec_len result ≤ 34 }
 {
+    let [high, _] = number.to_be_bytes();
     let mut line = Line::new();
     append(&mut line, b"       ADD @");
     append_word(&mut line, cell(number));
     append(&mut line, b",>");
-    append(&mut line, &byte_digits((number / 256) as u8));
+    append(&mut line, &byte_digits(high));
     line.push(b'\n');
     line
 }

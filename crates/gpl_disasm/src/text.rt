@@ -107,7 +107,8 @@ fn push_move<const N: usize>(
 )
     requires { array_string_len text.old + 52 ≤ N }
     ensures text { text.new.bytes ≡ text.old.bytes ++ (codes "MOVE "
-        ++ two_texts (spec.length_text length.now) (two_texts (spec.target_text target.now) (spec.from_text source.now))) }
+        ++ two_texts (spec.length_text length.now)
+        (two_texts (spec.target_text target.now) (spec.from_text source.now))) }
     ensures size { array_string_len text.new ≤ array_string_len text.old + 52 }
 {
     text.push_str("MOVE ");

@@ -1,6 +1,6 @@
 -- The tables in which an image is kept: the byte at each address, and whether it was written.
 use Rattle.std.specs.Prelude.{◌≡◌, ℕ, ◌+◌, ◌<◌, ◌≤◌, Bool, false, if◌then◌else◌, List, [], ◌∷◌, length, slice_index}
-use Rattle.std.specs.Prelude.{slice_index_or}
+use Rattle.std.specs.Prelude.{slice_index_or, IsFalse}
 use Rattle.std.specs.FinMap.{empty, insert}
 use Rattle.gpl_defs.specs.Image.{Image, low_of, high_of}
 
@@ -19,7 +19,7 @@ image_of bytes marks = image_from 0 bytes marks
 pub record IsImage (bytes : List ℕ) (marks : List Bool) (low high : ℕ) : Type 0 where
   pub bytes_size : length bytes ≡ 65536
   pub marks_size : length marks ≡ 65536
-  pub zero_elsewhere : (k : ℕ) → slice_index_or marks k false ≡ false → slice_index bytes k ≡ 0
+  pub zero_elsewhere : (k : ℕ) → IsFalse (slice_index_or marks k false) → slice_index bytes k ≡ 0
   pub lowest : low ≡ low_of (image_of bytes marks)
   pub highest : high ≡ high_of (image_of bytes marks)
   pub ordered : low ≤ high

@@ -1,7 +1,7 @@
 //! The image of a GROM, which grows byte by byte.
 
 ghost use Rattle.std.specs.Prelude.{◌≡◌, ℕ, ◌+◌, ◌<◌, ◌≤◌, ◌↔◌, ◌++◌, Bool, false, true, EachIndex, IfOk, IsTrue};
-ghost use Rattle.std.specs.Prelude.{length, take, drop, replicate, slice_index, slice_index_or};
+ghost use Rattle.std.specs.Prelude.{IsFalse, length, take, drop, replicate, slice_index, slice_index_or};
 ghost use Rattle.std.specs.FinMap.{empty, insert, contains_key};
 ghost use Rattle.gpl_defs.specs.Image.{byte_at, low_of, high_of, placed, written_bytes};
 
@@ -150,7 +150,7 @@ fn mark_at(marks: &mut [bool], place: usize, count: usize)
 /// `count` places that are not marked.
 fn no_marks(alloc: Global, count: usize) -> Result<Vec<bool>, AllocError>
     ensures size { IfOk result (λ marks. length marks.items ≡ count) }
-    ensures each { IfOk result (λ marks. EachIndex marks.items (λ k. slice_index_or marks.items k false ≡ false)) }
+    ensures each { IfOk result (λ marks. EachIndex marks.items (λ k. IsFalse (slice_index_or marks.items k false))) }
 {
     vec![in alloc; false; count]
 }

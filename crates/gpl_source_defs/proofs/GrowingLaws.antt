@@ -1,5 +1,5 @@
 -- A line whose values are known says, and comes to, what it does when more names are known.
-use Rattle.std.proofs.Common.{◌≡◌, ℕ, Bool, true, false, List, [], ◌∷◌, Some, None, Ok, Err, refl, ap, ◌∙◌}
+use Rattle.std.proofs.Common.{◌≡◌, ℕ, Bool, true, false, List, [], ◌∷◌, Some, None, Ok, Err, refl, ap}
 use Rattle.std.specs.Prelude.{Option, Result}
 use Rattle.source_defs.specs.declared.causes.ExprError.{ExprError}
 use Rattle.source_defs.specs.declared.text.Span.{Span}
@@ -8,7 +8,7 @@ use Rattle.source_defs.specs.Lines.{part}
 use Rattle.source_defs.specs.Fields.{fields}
 use Rattle.source_defs.specs.Operands.{operand_texts}
 use Rattle.source_defs.specs.OperandLists.{one_of}
-use Rattle.source_defs.specs.Expression.{Value, Absolute, expression}
+use Rattle.source_defs.specs.Expression.{Value, Absolute, absolute, expression}
 use Rattle.source_defs.specs.Symbols.{Names, look_up}
 use Rattle.source_defs.specs.Growing as expressions
 use Rattle.source_defs.specs.Growing.{Grows, is_closed}
@@ -24,7 +24,7 @@ use Rattle.gpl_source_defs.specs.declared.mnemonic.Mnemonic.TheVariants as instr
 use Rattle.gpl_source_defs.specs.Directives.{directive}
 use Rattle.gpl_source_defs.specs.Mnemonics.{mnemonic}
 use Rattle.gpl_source_defs.specs.Forms.{Memory, Form, InMemory, InGrom, Register, Alone, takes_two, takes_move}
-use Rattle.gpl_source_defs.specs.Values.{as_expr, number_in, number, numbers, index_of, index_value, operand, byte_of, bytes_of}
+use Rattle.gpl_source_defs.specs.Values.{as_expr, number, numbers, index_value, operand}
 use Rattle.gpl_source_defs.specs.Skeletons.{Source, At, Immediate, Route, Within, ToMemory, ToRegisters, Skeleton, Plain, Jump, Branch, One, Two, Move, as_operand}
 use Rattle.gpl_source_defs.specs.Skeletons.{one_form, two_forms, move_forms, text_of_one, where_taken, operand_in, source_in, route_in, two_skeleton}
 use Rattle.gpl_source_defs.specs.Skeletons.{move_skeleton, skeleton}
@@ -32,9 +32,9 @@ use Rattle.gpl_source_defs.specs.Skeletons as skeletons
 use Rattle.gpl_source_defs.specs.Statements.{Statement, Nothing, Instruction, Grom, Aorg, Equ, Bss, Data, Text, End, number_of_one, directive_statement}
 use Rattle.gpl_source_defs.specs.Statements.{instruction_statement, statement_by, operation_statement, statement_at}
 use Rattle.gpl_source_defs.specs.Statements as statements
-use Rattle.gpl_source_defs.specs.Locations.{address_of, branch_offset}
+use Rattle.gpl_source_defs.specs.Locations.{address_of}
 use Rattle.gpl_source_defs.specs.FirstChecks.{as_text, said}
-use Rattle.gpl_source_defs.specs.SecondChecks.{Outcome, immediate_of, register_of, value, source_value, length_value, moved, instruction, outcome}
+use Rattle.gpl_source_defs.specs.SecondChecks.{value, source_value, length_value, moved, instruction, outcome}
 use Rattle.gpl_source_defs.specs.Growing.{is_open}
 
 expr_stays : {A : Type 0} (first second : Result A ExprError) → Stays expressions.is_open first second → Stays is_open (as_expr first) (as_expr second)
@@ -58,9 +58,9 @@ module _ (look more : List ℕ → Option Value) (grows : (name : List ℕ) (val
   module _ (here : ℕ) where
     number_stays : (text : List ℕ) → Stays is_open (number look here text) (number more here text)
     number_stays text =
-        expr_stays (expression look (Absolute here) text >>= number_in) (expression more (Absolute here) text >>= number_in)
-        (stays_then expressions.is_open (expression look (Absolute here) text) (expression more (Absolute here) text) number_in number_in
-        (expression_stays look more grows (Absolute here) text) (λ value. stays_same expressions.is_open (number_in value)))
+        expr_stays (expression look (Absolute here) text >>= absolute) (expression more (Absolute here) text >>= absolute)
+        (stays_then expressions.is_open (expression look (Absolute here) text) (expression more (Absolute here) text) absolute absolute
+        (expression_stays look more grows (Absolute here) text) (λ value. stays_same expressions.is_open (absolute value)))
 
     numbers_stays : (texts : List (List ℕ)) → Stays is_open (numbers look here texts) (numbers more here texts)
     numbers_stays [] = stays_same is_open _

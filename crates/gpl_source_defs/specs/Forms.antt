@@ -15,8 +15,8 @@ pub record Memory : Type 0 where
   pub address : List ℕ
   pub index : Option (List ℕ)
 
--- Profile: how an operand is written, by the texts of its expressions: in memory; in GROM, with an index or without; a register
--- of the video processor; and an expression alone.
+-- Profile: how an operand is written, by the texts of its expressions: in memory; in GROM, with an index or without;
+-- a register of the video processor; and an expression alone.
 pub data Form : Type 0 where
   InMemory : Memory → Form
   InGrom : List ℕ → Option (List ℕ) → Form
@@ -67,9 +67,9 @@ signed_form text letter sign rest =
 abbrev pub lettered_form : List ℕ → Form
 lettered_form text = signed_form text (upper_case (slice_index text 0)) (slice_index text 1) (drop 2 text)
 
--- Profile: the form of an operand, by what it begins with: @e and *e lie in the processor's memory, V@e and V*e in the video
--- processor's, of which *e and V*e go by a pointer; G@e lies in GROM, and R@e is a register.
--- Letters are taken as upper case, and V* is no product.
+-- Profile: the form of an operand, by what it begins with: @e and *e lie in the processor's memory, V@e and V*e in
+-- the video processor's, of which *e and V*e go by a pointer; G@e lies in GROM, and R@e is a register. Letters are
+-- taken as upper case, and V* is no product.
 unfoldable pub form_of : List ℕ → Form
 form_of text =
     if is_at (slice_index text 0) then in_memory Cpu false (drop 1 text)

@@ -1,6 +1,6 @@
 -- The second checks of a line, and what it places. Profile: the values of its operands are asked from the left, and all
 -- of them before their ranges.
-use Rattle.std.specs.Prelude.{ℕ, Bool, true, false, nat_le, if◌then◌else◌, List, [], ◌∷◌, Option, Some, None, Result}
+use Rattle.std.specs.Prelude.{ℕ, Bool, true, false, nat_le, if◌then◌else◌, List, [], Option, Some, None, Result}
 use Rattle.std.specs.Prelude.{Ok, Err}
 use Rattle.std.specs.List.{flat_map}
 use Rattle.source_defs.specs.Refusals.{◌>>=◌}
@@ -18,7 +18,8 @@ use Rattle.gpl_source_defs.specs.declared.causes.GplCause.{GplCause}
 use Rattle.gpl_source_defs.specs.declared.causes.GplCause.TheVariants.{BadOperand}
 use Rattle.gpl_source_defs.specs.declared.location.Location.{Location}
 use Rattle.gpl_source_defs.specs.Values.{number, numbers, byte_of, bytes_of, index_of}
-use Rattle.gpl_source_defs.specs.Skeletons.{Source, At, Immediate, Route, Within, ToMemory, ToRegisters, Skeleton, Plain}
+use Rattle.gpl_source_defs.specs.Skeletons.{Source, At, Immediate, Route, Within, ToMemory, ToRegisters}
+use Rattle.gpl_source_defs.specs.Skeletons.{Skeleton, Plain}
 use Rattle.gpl_source_defs.specs.Skeletons.{Byte as OneByte, Jump, Branch, One, Two, Move}
 use Rattle.gpl_source_defs.specs.Statements.{Statement, Instruction, Data, Byte, Text, End}
 use Rattle.gpl_source_defs.specs.Locations.{address_of, branch_offset}

@@ -1,5 +1,5 @@
 -- What the first checks leave of an instruction: its operands in memory by their addresses, all others by their texts.
-use Rattle.std.specs.Prelude.{ℕ, Bool, true, false, if◌then◌else◌, List, [], ◌∷◌, length, Option, Some, None, Result}
+use Rattle.std.specs.Prelude.{ℕ, Bool, true, false, List, [], ◌∷◌, length, Option, Some, None, Result}
 use Rattle.std.specs.Prelude.{Ok, Err}
 use Rattle.source_defs.specs.Refusals.{◌>>=◌}
 use Rattle.source_defs.specs.declared.causes.OperandError.{OperandError}
@@ -26,7 +26,7 @@ use Rattle.gpl_source_defs.specs.declared.causes.GplCause.{GplCause}
 use Rattle.gpl_source_defs.specs.declared.causes.GplCause.TheVariants.{OperandCount, BadOperand}
 use Rattle.gpl_source_defs.specs.declared.mnemonic.Mnemonic.{Mnemonic}
 use Rattle.gpl_source_defs.specs.declared.mnemonic.Mnemonic.TheVariants as named
-use Rattle.gpl_source_defs.specs.Forms.{Form, InMemory, InGrom, Register, Alone, form_of, is_in_memory, is_alone}
+use Rattle.gpl_source_defs.specs.Forms.{Form, InMemory, InGrom, Register, Alone, form_of}
 use Rattle.gpl_source_defs.specs.Forms.{takes_two, takes_move}
 use Rattle.gpl_source_defs.specs.Values.{operand}
 

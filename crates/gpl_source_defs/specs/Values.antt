@@ -2,9 +2,8 @@
 use Rattle.std.specs.Prelude.{ℕ, ◌+◌, ◌-◌, ◌%◌, ◌&&◌, Bool, true, false, nat_le, if◌then◌else◌, List, [], ◌∷◌, Option}
 use Rattle.std.specs.Prelude.{Some, None, Result, Ok, Err}
 use Rattle.source_defs.specs.declared.causes.ExprError.{ExprError}
-use Rattle.source_defs.specs.declared.causes.ExprError.TheVariants.{BadRelocation}
 use Rattle.source_defs.specs.Refusals.{◌>>=◌}
-use Rattle.source_defs.specs.Expression.{Value, Absolute, Relocatable, External, expression}
+use Rattle.source_defs.specs.Expression.{Value, Absolute, absolute, expression}
 use Rattle.gpl_defs.specs.declared.instruction.Space.{Space}
 use Rattle.gpl_defs.specs.declared.instruction.Space.TheVariants.{Cpu, Vdp}
 use Rattle.gpl_defs.specs.declared.instruction.GplOperand.{GplOperand}
@@ -17,12 +16,6 @@ use Rattle.gpl_defs.specs.declared.scratchpad.TheConstants.{SCRATCHPAD}
 abbrev pub as_expr : {A : Type 0} → Result A ExprError → Result A GplCause
 as_expr (Ok value) = Ok value
 as_expr (Err error) = Err (Expr error)
-
--- Profile: every name of a GPL source stands for a number, so other values do not come.
-abbrev pub number_in : Value → Result ℕ ExprError
-number_in (Absolute number) = Ok number
-number_in (Relocatable number) = Err BadRelocation
-number_in (External name) = Err BadRelocation
 
 -- The address that an operand holds. Profile: one of the processor is an offset from >8300, as is that of a pointer.
 abbrev pub held_address : Space → Bool → ℕ → ℕ
@@ -50,9 +43,10 @@ bytes_of (number ∷ numbers) = do
 
 -- by what each name stands for, and the address that $ stands for
 module _ (look : List ℕ → Option Value) (here : ℕ) where
-  -- the number that an expression comes to
+  -- The number that an expression comes to. Profile: every name of a GPL source stands for a number, so other values
+  -- do not come.
   abbrev pub number : List ℕ → Result ℕ GplCause
-  number text = as_expr (expression look (Absolute here) text >>= number_in)
+  number text = as_expr (expression look (Absolute here) text >>= absolute)
 
   -- those of expressions, from the left
   abbrev pub numbers : List (List ℕ) → Result (List ℕ) GplCause

@@ -26,7 +26,8 @@ unchanged s = record { state = s; shows = false }
 abbrev pub with_pc : ℕ → Changes → Changes
 with_pc address c = record c { state = record c.state { pc = address } }
 
--- Profile: stores. A byte that is stored at the character's cell, equal to the old one or not, goes to the screen in the end.
+-- Profile: stores. A byte that is stored at the character's cell, equal to the old one or not, goes to the screen in
+-- the end.
 
 abbrev pub with_cell : ℕ → ℕ → Changes → Changes
 with_cell offset byte c =
@@ -70,7 +71,8 @@ with_status byte c = record c { state = record c.state { cells = slice_set c.sta
 -- Profile: the five status bits of the processor, from the highest bit on; the low three bits are 0.
 abbrev pub status_byte : Flags → ℕ
 status_byte flags =
-    bit_of flags.lgt HIGHER_BIT + bit_of flags.agt GREATER_BIT + bit_of flags.eq CONDITION_BIT + bit_of flags.c CARRY_BIT
+    bit_of flags.lgt HIGHER_BIT + bit_of flags.agt GREATER_BIT + bit_of flags.eq CONDITION_BIT
+    + bit_of flags.c CARRY_BIT
     + bit_of flags.ov OVERFLOW_BIT
 
 abbrev pub with_flags : Flags → Changes → Changes
@@ -95,7 +97,9 @@ abbrev pub shown : Bool → GplState → GplState
 shown false s = s
 shown true s =
     record s {
-      vdp = slice_set s.vdp (SCREEN_WIDTH * slice_index s.cells ROW + slice_index s.cells COLUMN) (slice_index s.cells CHARACTER);
+      vdp =
+          slice_set s.vdp (SCREEN_WIDTH * slice_index s.cells ROW + slice_index s.cells COLUMN)
+          (slice_index s.cells CHARACTER);
     }
 
 -- the state after all changes

@@ -46,7 +46,8 @@ use Rattle.gpl_step_defs.specs.declared.reason.Reason.{Reason}
 use Rattle.gpl_step_defs.specs.declared.reason.Reason.TheVariants.{Exit, Opcode}
 use Rattle.gpl_step_defs.specs.State.{GplState}
 use Rattle.gpl_step_defs.specs.Place.{Place, place_of, value_at}
-use Rattle.gpl_step_defs.specs.Changes.{Changes, unchanged, with_pc, with_register, with_value, with_condition, status_of}
+use Rattle.gpl_step_defs.specs.Changes.{Changes, unchanged, with_pc, with_register, with_value}
+use Rattle.gpl_step_defs.specs.Changes.{with_condition, status_of}
 use Rattle.gpl_step_defs.specs.Changes.{finished}
 use Rattle.gpl_step_defs.specs.Arithmetic.{Source, added, subtracted, negated, made_absolute, two}
 use Rattle.gpl_step_defs.specs.Flow.{branched, selected, called, returned, pushed, fetched, drawn}

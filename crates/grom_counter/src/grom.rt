@@ -56,12 +56,13 @@ impl Grom {
     pub fn write_address(&mut self, byte: u8)
         ensures { self.new ≡ grom_address_written self.old byte }
     {
+        let [high, low] = self.counter.to_be_bytes();
         if self.half_written {
-            self.counter = self.counter / 256 * 256 + byte as u16;
+            self.counter = u16::from_be_bytes([high, byte]);
             self.half_written = false;
             self.fetch_ahead();
         } else {
-            self.counter = 256 * byte as u16 + self.counter % 256;
+            self.counter = u16::from_be_bytes([byte, low]);
             self.half_written = true;
         }
     }
@@ -72,9 +73,8 @@ impl Grom {
     pub fn read_address(&mut self) -> u8
         ensures { (result, self.new) ≡ grom_address_read self.old }
     {
-        let high = (self.counter / 256) as u8;
-        let low = self.counter % 256;
-        self.counter = 256 * low + low;
+        let [high, low] = self.counter.to_be_bytes();
+        self.counter = u16::from_be_bytes([low, low]);
         self.half_written = false;
         high
     }

@@ -2,7 +2,7 @@
 use Rattle.std.proofs.Common.{◌≡◌, ℕ, List, [], ◌∷◌, Some, Ok, Err, ap}
 use Rattle.std.specs.Prelude.{Option, Result}
 use Rattle.source_defs.specs.declared.causes.ExprError.{ExprError}
-use Rattle.source_defs.specs.Expression.{Value, expression}
+use Rattle.source_defs.specs.Expression.{Value, absolute, expression}
 use Rattle.source_defs.specs.Growing as expressions
 use Rattle.source_defs.proofs.GrowingLaws.{Stays, stays_same, stays_then, expression_stays}
 use Rattle.instruction_defs.specs.declared.slot.Slot.{Slot}
@@ -10,12 +10,12 @@ use Rattle.instruction_defs.specs.declared.slot.Slot.TheVariants.{General, Regis
 use Rattle.instruction_defs.specs.Operands.{slots_of}
 use Rattle.instruction_defs.specs.Forms.{Form, Plain, Indirect, Increment, Symbolic, Indexed}
 use Rattle.instruction_defs.specs.FirstChecks.{Skeleton, Word, Instruction}
-use Rattle.instruction_defs.specs.SecondChecks.{as_form, absolute, target_in, text_in, value_of, number_of, placed, valued, all_valued, all_ranged, second_checks}
+use Rattle.instruction_defs.specs.SecondChecks.{as_form_error, text_in, value_of, number_of, placed, valued, all_valued, second_checks}
 use Rattle.instruction_defs.specs.Growing.{is_open}
 
-form_stays : {A : Type 0} (first second : Result A ExprError) → Stays expressions.is_open first second → Stays is_open (as_form first) (as_form second)
-form_stays (Ok value) second same closed = ap as_form (same closed)
-form_stays (Err cause) second same closed = ap as_form (same closed)
+form_stays : {A : Type 0} (first second : Result A ExprError) → Stays expressions.is_open first second → Stays is_open (as_form_error first) (as_form_error second)
+form_stays (Ok value) second same closed = ap as_form_error (same closed)
+form_stays (Err cause) second same closed = ap as_form_error (same closed)
 
 module _ (look more : List ℕ → Option Value) (grows : (name : List ℕ) (value : Value) → look name ≡ Some value → more name ≡ Some value) (here : Value) where
   value_stays : (text : List ℕ) → Stays is_open (value_of look here text) (value_of more here text)
@@ -23,7 +23,7 @@ module _ (look more : List ℕ → Option Value) (grows : (name : List ℕ) (val
 
   number_stays : (text : List ℕ) → Stays is_open (number_of look here text) (number_of more here text)
   number_stays text =
-      stays_then is_open (value_of look here text) (value_of more here text) _ _ (value_stays text) (λ value. stays_same is_open (as_form (absolute value)))
+      stays_then is_open (value_of look here text) (value_of more here text) _ _ (value_stays text) (λ value. stays_same is_open (as_form_error (absolute value)))
 
   placed_stays : (form : Form) → Stays is_open (placed look here form) (placed more here form)
   placed_stays (Plain text) = stays_then is_open (number_of look here text) (number_of more here text) _ _ (number_stays text) (λ number. stays_same is_open _)

@@ -10,7 +10,8 @@ use Rattle.instruction_defs.specs.declared.causes.FormError.TheVariants.{Unknown
 use Rattle.instruction_defs.specs.declared.mnemonic.Mnemonic.{Mnemonic}
 use Rattle.instruction_defs.specs.declared.mnemonic.Mnemonic.TheVariants.{Of, Fixed}
 use Rattle.instruction_defs.specs.declared.slot.Slot.{Slot}
-use Rattle.instruction_defs.specs.declared.slot.Slot.TheVariants.{General, Register, Count, Immediate, Target, Displacement}
+use Rattle.instruction_defs.specs.declared.slot.Slot.TheVariants.{General, Register, Count, Immediate}
+use Rattle.instruction_defs.specs.declared.slot.Slot.TheVariants.{Target, Displacement}
 use Rattle.instruction_defs.specs.Operations.{mnemonic}
 use Rattle.instruction_defs.specs.Operands.{slots_of}
 use Rattle.instruction_defs.specs.Forms.{Form, Plain, Indirect, Increment, Symbolic, Indexed, form_of, is_star, is_at}

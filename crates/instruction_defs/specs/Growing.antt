@@ -2,7 +2,8 @@
 use Rattle.std.specs.Prelude.{Bool, false}
 use Rattle.source_defs.specs.Growing as expressions
 use Rattle.instruction_defs.specs.declared.causes.FormError.{FormError}
-use Rattle.instruction_defs.specs.declared.causes.FormError.TheVariants.{UnknownOperation, OperandCount, BadOperand, JumpTooFar}
+use Rattle.instruction_defs.specs.declared.causes.FormError.TheVariants.{UnknownOperation, OperandCount, BadOperand}
+use Rattle.instruction_defs.specs.declared.causes.FormError.TheVariants.{JumpTooFar}
 use Rattle.instruction_defs.specs.declared.causes.FormError.TheVariants.{Expr, Memory}
 
 -- a refusal that more names may lift

@@ -61,13 +61,16 @@ target_text op next disp = marked_word (jump_target next disp)
 -- order of the operands. None where it has no operand.
 abbrev pub operands_text : Instr → ℕ → List ℕ → Option (List ℕ)
 operands_text (Two op byte dst src) at words =
-    Some (two_texts (operand_text src (slice_index words 1)) (operand_text dst (slice_index words (1 + following_words src))))
-operands_text (Reg op number src) at words = Some (two_texts (operand_text src (slice_index words 1)) (number_text op number))
+    Some (two_texts (operand_text src (slice_index words 1))
+    (operand_text dst (slice_index words (1 + following_words src))))
+operands_text (Reg op number src) at words =
+    Some (two_texts (operand_text src (slice_index words 1)) (number_text op number))
 operands_text (Shift op count number) at words = Some (two_texts (register_text number) (decimal count))
 operands_text (One op place) at words = Some (operand_text place (slice_index words 1))
 operands_text (Jump op disp) at words = Some (target_text op (plus at 2) disp)
 operands_text (Imm op number) at words =
-    Some (if has_immediate op then two_texts (register_text number) (marked_word (slice_index words 1)) else register_text number)
+    Some (if has_immediate op then two_texts (register_text number) (marked_word (slice_index words 1))
+    else register_text number)
 operands_text (Bare op) at words = if has_value op then Some (marked_word (slice_index words 1)) else None
 
 -- an instruction at an address, with the words from its first on

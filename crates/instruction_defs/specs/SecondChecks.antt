@@ -6,7 +6,7 @@ use Rattle.std.specs.Int.{w16, cast_signed}
 use Rattle.source_defs.specs.Refusals.{◌>>=◌}
 use Rattle.source_defs.specs.declared.causes.ExprError.{ExprError}
 use Rattle.source_defs.specs.declared.causes.ExprError.TheVariants.{BadRelocation}
-use Rattle.source_defs.specs.Expression.{Value, Absolute, Relocatable, External, expression}
+use Rattle.source_defs.specs.Expression.{Value, Absolute, Relocatable, External, absolute, expression}
 use Rattle.tms_defs.specs.Instructions.{word_of}
 use Rattle.tms_defs.specs.declared.instruction.Place.{Place}
 use Rattle.tms_defs.specs.declared.instruction.Operation.{Operation}
@@ -16,7 +16,8 @@ use Rattle.tms_defs.specs.declared.instruction.Instr.TheVariants as instr
 use Rattle.instruction_defs.specs.declared.causes.FormError.{FormError}
 use Rattle.instruction_defs.specs.declared.causes.FormError.TheVariants.{BadOperand, JumpTooFar, Expr}
 use Rattle.instruction_defs.specs.declared.slot.Slot.{Slot}
-use Rattle.instruction_defs.specs.declared.slot.Slot.TheVariants.{General, Register, Count, Immediate, Target, Displacement}
+use Rattle.instruction_defs.specs.declared.slot.Slot.TheVariants.{General, Register, Count, Immediate}
+use Rattle.instruction_defs.specs.declared.slot.Slot.TheVariants.{Target, Displacement}
 use Rattle.instruction_defs.specs.Operands.{slots_of}
 use Rattle.instruction_defs.specs.Forms.{Form, Plain, Indirect, Increment, Symbolic, Indexed}
 use Rattle.instruction_defs.specs.FirstChecks.{Skeleton, Word, Instruction}
@@ -26,7 +27,7 @@ use Rattle.instruction_defs.specs.FirstChecks.{Skeleton, Word, Instruction}
 pub data Operand : Type 0 where
   InRegister : ℕ → Operand
   ByRegister : ℕ → Operand
-  Growing : ℕ → Operand
+  AutoIncrement : ℕ → Operand
   AtAddress : Value → Operand
   AtIndexed : Value → ℕ → Operand
   Number : ℕ → Operand
@@ -35,15 +36,9 @@ pub data Operand : Type 0 where
   Following : Value → Operand
 
 -- an expression's refusal is one of the line
-abbrev pub as_form : {A : Type 0} → Result A ExprError → Result A FormError
-as_form (Ok value) = Ok value
-as_form (Err cause) = Err (Expr cause)
-
--- Profile: a value that is not absolute is refused where an absolute one is needed.
-abbrev pub absolute : Value → Result ℕ ExprError
-absolute (Absolute number) = Ok number
-absolute (Relocatable number) = Err BadRelocation
-absolute (External name) = Err BadRelocation
+abbrev pub as_form_error : {A : Type 0} → Result A ExprError → Result A FormError
+as_form_error (Ok value) = Ok value
+as_form_error (Err cause) = Err (Expr cause)
 
 -- Profile: a jump's target is of the kind of the jump's place.
 abbrev pub target_in : Value → Value → Result ℕ ExprError
@@ -62,12 +57,12 @@ text_in (Indexed text index) = text
 -- by what each name stands for, and the place of the line
 module _ (look : List ℕ → Option Value) (here : Value) where
   abbrev pub value_of : List ℕ → Result Value FormError
-  value_of text = as_form (expression look here text)
+  value_of text = as_form_error (expression look here text)
 
   abbrev pub number_of : List ℕ → Result ℕ FormError
   number_of text = do
     value ← value_of text
-    as_form (absolute value)
+    as_form_error (absolute value)
 
   -- The values of an operand in any mode, from the left. Editor/Assembler manual, "Addressing Modes".
   abbrev pub placed : Form → Result Operand FormError
@@ -79,7 +74,7 @@ module _ (look : List ℕ → Option Value) (here : Value) where
     Ok (ByRegister register)
   placed (Increment text) = do
     register ← number_of text
-    Ok (Growing register)
+    Ok (AutoIncrement register)
   placed (Symbolic text) = do
     address ← value_of text
     Ok (AtAddress address)
@@ -104,7 +99,7 @@ module _ (look : List ℕ → Option Value) (here : Value) where
     Ok (Following value)
   valued Target form = do
     value ← value_of (text_in form)
-    target ← as_form (target_in here value)
+    target ← as_form_error (target_in here value)
     Ok (To target)
 
   abbrev pub all_valued : List Slot → List Form → Result (List Operand) FormError
@@ -116,10 +111,10 @@ module _ (look : List ℕ → Option Value) (here : Value) where
     Ok (operand ∷ operands)
 
 -- a value's number, without its kind
-abbrev pub number_in : Value → ℕ
-number_in (Absolute number) = number
-number_in (Relocatable number) = number
-number_in (External name) = 0
+abbrev pub place_number : Value → ℕ
+place_number (Absolute number) = number
+place_number (Relocatable number) = number
+place_number (External name) = 0
 
 -- whole words forward or backward, at most 127 and 128
 abbrev pub forward : ℕ → Option ℤ
@@ -163,7 +158,8 @@ displaced (Some disp) = Ok (Displaced disp)
 displaced None = Err JumpTooFar
 
 abbrev pub indexed : Value → ℕ → Result Ready FormError
-indexed value number = if is_index number then Ok (Located (record { mode = 2; reg = number }) (Some value)) else Err BadOperand
+indexed value number =
+    if is_index number then Ok (Located (record { mode = 2; reg = number }) (Some value)) else Err BadOperand
 
 abbrev pub bit : ℕ → Result Ready FormError
 bit number = if is_displacement number then Ok (Displaced (cast_signed w16 number)) else Err BadOperand
@@ -172,14 +168,14 @@ bit number = if is_displacement number then Ok (Displaced (cast_signed w16 numbe
 abbrev pub ranged : Value → Operand → Result Ready FormError
 ranged here (InRegister number) = by_register 0 number
 ranged here (ByRegister number) = by_register 1 number
-ranged here (Growing number) = by_register 3 number
+ranged here (AutoIncrement number) = by_register 3 number
 ranged here (AtAddress value) = Ok (Located (record { mode = 2; reg = 0 }) (Some value))
 ranged here (AtIndexed value number) = indexed value number
 ranged here (Number number) = do
   count ← below_sixteen number
   Ok (Counted count)
 ranged here (Bit number) = bit number
-ranged here (To target) = displaced (displacement_to (number_in here + 2) target)
+ranged here (To target) = displaced (displacement_to (place_number here + 2) target)
 ranged here (Following value) = Ok (Followed value)
 
 abbrev pub all_ranged : Value → List Operand → Result (List Ready) FormError

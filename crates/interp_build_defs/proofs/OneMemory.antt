@@ -6,14 +6,14 @@ use Rattle.link_defs.specs.LinkedMemory.{LinkedMemory, linked}
 use Rattle.interp_build_defs.specs.Building.{Links}
 
 -- the module of a source gives the memory of the source
-pub module_linked : (text : List ℕ) (part : Module) (memory : LinkedMemory) → Links text memory → module_of_source text ≡ Ok part
-    → linked (part ∷ []) ≡ Ok memory
-module_linked text part memory links is =
-    let parts : Ok links.part ≡ Ok part = sym links.assembled ∙ is in
-    let same : links.part ≡ part = cc in
+pub module_linked : (text : List ℕ) (unit : Module) (memory : LinkedMemory) → Links text memory → module_of_source text ≡ Ok unit
+    → linked (unit ∷ []) ≡ Ok memory
+module_linked text unit memory links is =
+    let units : Ok links.unit ≡ Ok unit = sym links.assembled ∙ is in
+    let same : links.unit ≡ unit = cc in
     ap (λ (m : Module). linked (m ∷ [])) (sym same) ∙ links.linked
 
 pub one_memory_links : (text : List ℕ) (a b : LinkedMemory) → Links text a → Links text b → a ≡ b
 one_memory_links text a b p q =
-    let memories : Ok a ≡ Ok b = sym (module_linked text q.part a p q.assembled) ∙ q.linked in
+    let memories : Ok a ≡ Ok b = sym (module_linked text q.unit a p q.assembled) ∙ q.linked in
     cc

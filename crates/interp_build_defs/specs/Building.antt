@@ -9,9 +9,9 @@ use Rattle.native_interp.specs.Words.{origin}
 
 -- A source has a module, and linked alone the module gives this memory.
 pub record Links (source : List ℕ) (memory : LinkedMemory) : Type 0 where
-  pub part : Module
-  pub assembled : module_of_source source ≡ Ok part
-  pub linked : linked (part ∷ []) ≡ Ok memory
+  pub unit : Module
+  pub assembled : module_of_source source ≡ Ok unit
+  pub linked : linked (unit ∷ []) ≡ Ok memory
 
 -- the word that is shipped at an address, of words that stand one behind the other
 abbrev pub shipped_at : List ℕ → ℕ → Option ℕ

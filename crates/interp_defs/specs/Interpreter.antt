@@ -16,7 +16,8 @@ HoldsInterpreter bytes =
 abbrev pub HoldsRegister : Memory → ℕ → ℕ → Type 0
 HoldsRegister memory number word = word_read memory (register_in WORKSPACE number) ≡ Gives word
 
--- Profile: at the dispatch of a step, where the first table has led, these two registers hold the code byte and its address.
+-- Profile: at the dispatch of a step, where the first table has led, these two registers hold the code byte and its
+-- address.
 abbrev pub code_register : ℕ
 code_register = 0
 

@@ -1,5 +1,5 @@
 -- The match of a machine that runs the interpreter with a state of GPL.
-use Rattle.std.specs.Prelude.{◌≡◌, true, take, slice_index}
+use Rattle.std.specs.Prelude.{◌≡◌, IsTrue, take, slice_index}
 use Rattle.console_defs.specs.Vdp.{is_vdp_idle}
 use Rattle.grom_defs.specs.Addresses.{previous_in_grom}
 use Rattle.console_defs.specs.Grom.{GromState, is_grom_idle}
@@ -26,8 +26,8 @@ shown_by memory =
 
 -- No half of an address is written at either port.
 pub record PortsAreIdle (memory : Memory) : Type 0 where
-  pub vdp : is_vdp_idle memory.vdp ≡ true
-  pub grom : is_grom_idle memory.grom ≡ true
+  pub vdp : IsTrue (is_vdp_idle memory.vdp)
+  pub grom : IsTrue (is_grom_idle memory.grom)
 
 -- The byte that the GROMs give next is the image's byte before their counter.
 abbrev pub IsFetched : GromState → Type 0

@@ -1,5 +1,5 @@
 -- The turns of the interpreter: from the beginning of a step to the next of its ends.
-use Rattle.std.specs.Prelude.{◌≡◌, ◌<◌, ℕ, zero, suc, ◌+◌, true, false, eqb}
+use Rattle.std.specs.Prelude.{◌≡◌, ◌<◌, ℕ, zero, suc, ◌+◌, ◌==◌, IsTrue, IsFalse}
 use Rattle.tms_defs.specs.Accesses.{Gives}
 use Rattle.console_defs.specs.Machine.{MachineState, steps}
 use Rattle.native_interp.specs.declared.addresses.TheConstants.{GSTEP}
@@ -10,13 +10,14 @@ use Rattle.interp_defs.specs.Runs.{Runs, is_end}
 pub record Boots (count : ℕ) (x y : MachineState) : Type 0 where
   pub leads : steps count x ≡ Gives y
   pub there : y.cpu.pc ≡ GSTEP
-  pub first : (before : ℕ) → before < count → (z : MachineState) → steps before x ≡ Gives z → eqb z.cpu.pc GSTEP ≡ false
+  pub first : (before : ℕ) → before < count → (z : MachineState) → steps before x ≡ Gives z
+      → IsFalse (z.cpu.pc == GSTEP)
 
 -- From an end it comes to the next one: so many instructions, one at least, are the least after which it is there.
 pub record IsTurn (count : ℕ) (x y : MachineState) : Type 0 where
   pub some : 0 < count
   pub runs : Runs count x y
-  pub there : is_end y.cpu.pc ≡ true
+  pub there : IsTrue (is_end y.cpu.pc)
 
 -- The machine after so many turns, which so many instructions have led to from the start.
 abbrev pub IsAfter : ℕ → ℕ → MachineState → MachineState → Type 0

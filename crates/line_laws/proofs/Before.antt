@@ -7,7 +7,7 @@ use Rattle.std.specs.FinMap.{empty, get-empty}
 use Rattle.source_defs.specs.Refusals.{◌>>=◌, unless}
 use Rattle.source_defs.specs.Fields.{Fields, fields}
 use Rattle.source_defs.specs.Symbols.{Names, look_up}
-use Rattle.source_defs.specs.Expression.{Value}
+use Rattle.source_defs.specs.Expression.{Value, absolute}
 use Rattle.source_defs.proofs.GrowingLaws.{expression_stays}
 use Rattle.source_defs.specs.declared.causes.ExprError.{ExprError}
 use Rattle.asm_defs.specs.declared.causes.AsmCause.{AsmCause}
@@ -20,7 +20,6 @@ use Rattle.asm_defs.specs.Locations.{value_of}
 use Rattle.asm_defs.specs.FirstChecks.{Before, Said, Checked, Move, any_known, label_in, is_taken, refs_in}
 use Rattle.asm_defs.specs.FirstChecks.{said, moved, move, as_expr}
 use Rattle.asm_defs.specs.FirstChecks.{is_too_far, is_bad, value, known_here}
-use Rattle.instruction_defs.specs.SecondChecks.{absolute}
 use Rattle.asm_defs.proofs.CheckLaws.{bound}
 use Rattle.line_laws.specs.KnownLines.{nothing_before, is_plain_statement}
 

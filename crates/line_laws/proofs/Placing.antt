@@ -15,7 +15,8 @@ use Rattle.asm_defs.specs.declared.location.Part.TheVariants as part
 use Rattle.asm_defs.specs.SecondChecks.{Outcome, Nothing, Words, Bytes, Entry}
 use Rattle.asm_defs.specs.Memory.{Settled, covers, same_part, is_placed, bytes_in, contents_by, word_contents}
 use Rattle.asm_defs.specs.Memory.{content_at, any_from, count_from, has_word, words_in, word_count, part_words}
-use Rattle.line_laws.specs.KnownLines.{numbers_of, words_of, is_at, is_empty, is_absolute}
+use Rattle.line_laws.specs.KnownLines.{numbers_of, words_of, is_at, is_absolute}
+use Rattle.source_defs.specs.OperandLists.{is_empty}
 use Rattle.line_laws.proofs.Small.{both, chosen, map_length, get_past}
 use Rattle.count_defs.specs.Counts.{one_if}
 

@@ -194,7 +194,7 @@ module _ (half : ℕ) (texts : List (List ℕ)) (last : List ℕ) (defined : Lis
 
 pub have_their_words : KnownLinesHaveTheirWords
 have_their_words half texts last defined lines end spot is le = record {
-  part = whole half texts last defined lines end spot is;
+  unit = whole half texts last defined lines end spot is;
   assembled = assembled half texts last defined lines end spot is;
   has = has_words half texts last defined lines end spot is le;
 }

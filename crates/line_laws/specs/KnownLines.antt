@@ -8,6 +8,7 @@ use Rattle.std.specs.Cmp.Lexicographic.{slice_cmp}
 use Rattle.std.specs.FinMap.{empty, find}
 use Rattle.source_defs.specs.Refusals.{◌>>=◌}
 use Rattle.source_defs.specs.Fields.{fields}
+use Rattle.source_defs.specs.OperandLists.{is_empty}
 use Rattle.source_defs.specs.Expression.{Value, Absolute, Relocatable, External}
 use Rattle.object_defs.specs.declared.spot.Spot.TheVariants as spot
 use Rattle.object_defs.specs.declared.spot.Piece.{Piece}
@@ -118,10 +119,6 @@ is_absolute part.Dummy = false
 
 abbrev pub is_at : ℕ → Location → Bool
 is_at number place = is_absolute place.part && place.number == number
-
-abbrev pub is_empty : List ℕ → Bool
-is_empty [] = true
-is_empty (word ∷ words) = false
 
 -- the words of lines stand one behind the other from an absolute place on
 abbrev pub are_close : ℕ → List KnownLine → Bool

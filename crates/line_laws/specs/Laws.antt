@@ -1,5 +1,6 @@
 -- What holds of a source whose lines are known by themselves.
-use Rattle.std.specs.Prelude.{◌≡◌, ℕ, ◌+◌, ◌*◌, ◌≤◌, ◌<◌, true, List, [], ◌∷◌, ◌++◌, length, slice_index_or, take, IsTrue}
+use Rattle.std.specs.Prelude.{◌≡◌, ℕ, ◌+◌, ◌*◌, ◌≤◌, ◌<◌, List, [], ◌∷◌, ◌++◌}
+use Rattle.std.specs.Prelude.{length, slice_index_or, take, IsTrue}
 use Rattle.std.specs.Prelude.{Option, Some, None, Ok}
 use Rattle.source_defs.specs.Expression.{Value}
 use Rattle.source_defs.specs.Symbols.{registers, look_up}
@@ -43,9 +44,9 @@ pub record HasWords (from : ℕ) (words : List ℕ) (entry : Spot) (m : Module) 
 
 -- lines have such a module
 pub record HaveWords (texts : List (List ℕ)) (from : ℕ) (words : List ℕ) (entry : Spot) : Type 0 where
-  pub part : Module
-  pub assembled : module_of_lines texts ≡ Ok part
-  pub has : HasWords from words entry part
+  pub unit : Module
+  pub assembled : module_of_lines texts ≡ Ok unit
+  pub has : HasWords from words entry unit
 
 -- The law, which is proved: the module of such lines has their words from there on, and nothing else.
 abbrev pub KnownLinesHaveTheirWords : Type 0

@@ -1,5 +1,5 @@
 -- The text of lines that are each ended by a line feed alone.
-use Rattle.std.specs.Prelude.{◌≡◌, ℕ, true, nat_le, List, [], ◌∷◌, ◌++◌, IsTrue}
+use Rattle.std.specs.Prelude.{◌≡◌, ℕ, nat_le, List, [], ◌∷◌, ◌++◌, IsTrue}
 use Rattle.std.specs.List.{flat_map, list_all, AllByRecursion}
 use Rattle.source_defs.specs.Layout.{line_texts, numbered}
 

@@ -51,9 +51,9 @@ module _ (text : List ℕ) (texts : List (List ℕ)) (shipped : List ℕ) (entry
   gives numbers have fit few = (
     memory_of (2 * 0x1000) shipped (value_of first_base entry),
     record {
-      part = have.part;
+      unit = have.unit;
       assembled = ap module_of numbers ∙ have.assembled;
-      linked = module_linked have.part 0x1000 shipped entry have.has.pieces have.has.defs have.has.refs have.has.entered fit (omega arith) few;
+      linked = module_linked have.unit 0x1000 shipped entry have.has.pieces have.has.defs have.has.refs have.has.entered fit (omega arith) few;
     },
     has_shipped shipped (value_of first_base entry),
   )

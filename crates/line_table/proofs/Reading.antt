@@ -10,7 +10,8 @@ use Rattle.asm_defs.specs.declared.location.Location.{Location}
 use Rattle.asm_defs.specs.FirstChecks.{location_behind}
 use Rattle.asm_defs.proofs.CheckLaws.{bound}
 use Rattle.line_laws.specs.KnownLines.{KnownLine, known_line, line_laws, words_in, names_in, all_names, all_words}
-use Rattle.line_laws.specs.KnownLines.{end_of, is_plain, are_plain, are_close, is_empty, is_at}
+use Rattle.line_laws.specs.KnownLines.{end_of, is_plain, are_plain, are_close, is_at}
+use Rattle.source_defs.specs.OperandLists.{is_empty}
 use Rattle.native_interp.specs.Source.{lines}
 use Rattle.line_table.specs.declared.line_row.LineRow.{LineRow}
 use Rattle.line_table.specs.Table.{rows, location_of, words_of}

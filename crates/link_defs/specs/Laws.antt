@@ -1,5 +1,5 @@
 -- What holds of linked memory and of chains.
-use Rattle.std.specs.Prelude.{◌≡◌, ◌≢◌, ℕ, ◌<◌, eqb, List, [], ◌∷◌, ◌++◌, length, map, slice_index_or, Some, None}
+use Rattle.std.specs.Prelude.{◌≡◌, ◌≢◌, ℕ, ◌<◌, nat_eq, List, [], ◌∷◌, ◌++◌, length, map, slice_index_or, Some, None}
 use Rattle.std.specs.Prelude.{IsSome, Result, Ok, Err}
 use Rattle.std.specs.Option.{option_map}
 use Rattle.std.specs.List.{IsDistinct}
@@ -17,13 +17,16 @@ pub record HoldsPlacedWords (modules : List Module) (memory : LinkedMemory) : Ty
   pub uses : Uses
   pub are_uses : uses_of (words_of (sections modules)) [] (refs_of (sections modules)) ≡ Ok uses
   pub words : (at : ℕ) → get memory.words at
-      ≡ option_map (λ word. word_for (defs_of (sections modules)) word (find nat_cmp at uses)) (find nat_cmp at (words_of (sections modules)))
+      ≡ option_map (λ word. word_for (defs_of (sections modules)) word (find nat_cmp at uses))
+      (find nat_cmp at (words_of (sections modules)))
   pub alone : (k : ℕ) (d : ℕ × ℕ) → k < length (words_of (sections modules))
-      → let word = slice_index_or (words_of (sections modules)) k d in find nat_cmp word.0 (words_of (sections modules)) ≡ Some word.1
+      → let word = slice_index_or (words_of (sections modules)) k d in
+      find nat_cmp word.0 (words_of (sections modules)) ≡ Some word.1
 
 -- the law, which is proved: what is linked holds exactly the words that the modules place
 abbrev pub PlacedWordsAreHeld : Type 0
-PlacedWordsAreHeld = (modules : List Module) (memory : LinkedMemory) → linked modules ≡ Ok memory → HoldsPlacedWords modules memory
+PlacedWordsAreHeld =
+    (modules : List Module) (memory : LinkedMemory) → linked modules ≡ Ok memory → HoldsPlacedWords modules memory
 
 -- a chain leads from a place through some places, each of which holds the next, to a last one
 abbrev pub Leads : List (ℕ × ℕ) → ℕ → List ℕ → ℕ → Type 0
@@ -37,7 +40,7 @@ used name places = map (λ place. (place, name)) places
 
 -- no place is used twice, and each is one of memory but 0
 pub record StandApart (uses : Uses) : Type 0 where
-  pub apart : IsDistinct eqb (map (λ one. one.0) uses)
+  pub apart : IsDistinct nat_eq (map (λ one. one.0) uses)
   pub places : (at : ℕ) → IsSome (find nat_cmp at uses) → (at < most_places) × (at ≢ 0)
 
 -- What comes of a chain. It leads to 0, and then its places are new uses; or to a place that holds no loaded word; or

@@ -32,7 +32,8 @@ is_defined_again before definition = is_some (value_in before definition.0)
 -- Profile: words are loaded at even addresses from >0002 to >1FFE, from >2000 to >3FFE, and from >A000 to >FFFE.
 abbrev pub is_loadable : ℕ → Bool
 is_loadable address =
-    (address % 2 == 0) && ((nat_le 0x0002 address && nat_le address 0x3FFE) || (nat_le 0xA000 address && nat_le address 0xFFFE))
+    (address % 2 == 0)
+    && ((nat_le 0x0002 address && nat_le address 0x3FFE) || (nat_le 0xA000 address && nat_le address 0xFFFE))
 
 -- a word at an address where no word may be loaded
 abbrev pub is_outside : List (ℕ × ℕ) → ℕ × ℕ → Bool

@@ -38,7 +38,8 @@ HoldsUses defs table uses = (at : ℕ) → cell table at ≡ option_map (value_o
 -- each DEF has a name of its own, and a map keeps them; or the first that has not is refused
 abbrev pub Defines : Result (BTreeMap (List ℕ) ℕ) LinkError → List (List ℕ × ℕ) → Type 0
 Defines (Ok names) defs = (first is_defined_again defs ≡ None) × KeepsNames names defs
-Defines (Err error) defs = Refuses error (unless (λ definition. DuplicateDef definition.0) (first is_defined_again defs))
+Defines (Err error) defs =
+    Refuses error (unless (λ definition. DuplicateDef definition.0) (first is_defined_again defs))
 
 -- each word has an address of its own, and a table holds them; or the first that has not is refused
 abbrev pub Loads : Result Table LinkError → List (ℕ × ℕ) → Type 0

@@ -21,8 +21,8 @@ pub(crate) fn follow(
     names: &BTreeMap<Name, u16>,
     words: &Table,
 ) -> Result<Table, LinkError>
-    ensures { (defs : List (List ℕ × ℕ)) (loaded : List (ℕ × ℕ)) → KeepsNames names.now defs → HoldsWords words.now loaded
-        → FollowsAll result defs (spec.uses_of loaded [] refs.now) }
+    ensures { (defs : List (List ℕ × ℕ)) (loaded : List (ℕ × ℕ)) → KeepsNames names.now defs
+        → HoldsWords words.now loaded → FollowsAll result defs (spec.uses_of loaded [] refs.now) }
 {
     let mut uses = Table::new(alloc)?;
     for reference in refs {

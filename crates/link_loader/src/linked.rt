@@ -1,6 +1,6 @@
 //! What linking gives: words at their addresses, names and the entry.
 
-ghost use Rattle.std.specs.Prelude.{◌≡◌, ℕ, true, IsSome};
+ghost use Rattle.std.specs.Prelude.{◌≡◌, ℕ, IsTrue, IsSome};
 ghost use Rattle.link_defs.specs.LinkedMemory.{is_loadable};
 ghost use Rattle.link_loader.specs.Tables.{pairs_from, word_in};
 
@@ -19,5 +19,5 @@ pub struct Linked {
     /// Where the program is entered.
     pub(crate) entry: u16,
     ghost listed: { pairs.items ≡ pairs_from 0 words.cells.items },
-    ghost loadable: { (at : ℕ) → IsSome (word_in words.cells.items at) → is_loadable at ≡ true },
+    ghost loadable: { (at : ℕ) → IsSome (word_in words.cells.items at) → IsTrue (is_loadable at) },
 }

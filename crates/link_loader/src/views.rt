@@ -1,6 +1,6 @@
 //! What linked memory shows.
 
-ghost use Rattle.std.specs.Prelude.{◌≡◌, ◌<◌, true, Some};
+ghost use Rattle.std.specs.Prelude.{◌≡◌, ◌<◌, IsTrue, Some};
 ghost use Rattle.std.specs.List.{slice_get};
 ghost use Rattle.std.specs.FinMap.{get, len, entries};
 ghost use Rattle.link_defs.specs.LinkedMemory.{is_loadable};
@@ -42,7 +42,7 @@ impl Linked {
     pub fn pair(&self, index: usize) -> (u16, u16)
         requires { index < len (defined_linked self.now).words }
         ensures pair { slice_get (entries (defined_linked self.now).words) index ≡ Some result }
-        ensures loadable { is_loadable result.0 ≡ true }
+        ensures loadable { IsTrue (is_loadable result.0) }
     {
         self.pairs[index]
     }

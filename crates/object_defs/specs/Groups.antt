@@ -77,7 +77,8 @@ group_of form computed character tags.Header behind = do
   size ← number_at form behind
   name ← module_name_at form character behind
   Ok (Header size name)
-group_of form computed character (tags.Entry kind) behind = number_at form behind >>= λ number. Ok (Entry (spot kind number))
+group_of form computed character (tags.Entry kind) behind =
+    number_at form behind >>= λ number. Ok (Entry (spot kind number))
 group_of form computed character (tags.Reference kind) behind = do
   number ← number_at form behind
   name ← symbol_at form character behind
@@ -88,8 +89,10 @@ group_of form computed character (tags.Definition kind) behind = do
   Ok (Defined (record { name = name; value = spot kind number }))
 group_of form computed character tags.Sum behind = number_at form behind >>= λ number. compared computed number
 group_of form computed character tags.IgnoredSum behind = number_at form behind >>= λ number. Ok IgnoredSum
-group_of form computed character (tags.Address kind) behind = number_at form behind >>= λ number. Ok (Address (spot kind number))
-group_of form computed character (tags.Word kind) behind = number_at form behind >>= λ number. Ok (Word (spot kind number))
+group_of form computed character (tags.Address kind) behind =
+    number_at form behind >>= λ number. Ok (Address (spot kind number))
+group_of form computed character (tags.Word kind) behind =
+    number_at form behind >>= λ number. Ok (Word (spot kind number))
 group_of form computed character tags.EndOfLine behind = Ok EndOfLine
 group_of form computed character tags.EndOfModule behind = Ok EndOfModule
 
@@ -101,7 +104,8 @@ found_as character tag (Err cause) = Broken character (Some tag) cause
 -- what stands in the place of a group, by its tag
 unfoldable pub found_with : TextForm → ℕ → ℕ → Option Tag → List ℕ → FoundGroup
 found_with form computed character None behind = Broken character None (BadTag character)
-found_with form computed character (Some tag) behind = found_as character tag (group_of form computed character tag behind)
+found_with form computed character (Some tag) behind =
+    found_as character tag (group_of form computed character tag behind)
 
 -- What stands in the place of a group. The checksum is that of the line's characters from the first through the group's
 -- tag.

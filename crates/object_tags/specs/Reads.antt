@@ -26,5 +26,6 @@ TakesLine (Err error) after defined = Refuses error defined
 
 -- lines of a text of a form were read, and no lines follow, or they are refused
 abbrev pub Reads : {T : Type 0} → TextForm → Result T TagError → Reader → Reader → List NumberedLine → Type 0
-Reads form (Ok _) before after lines = kept_lines form (kept_of before) lines ≡ finished (kept_of after) (kept_of after).current
+Reads form (Ok _) before after lines =
+    kept_lines form (kept_of before) lines ≡ finished (kept_of after) (kept_of after).current
 Reads form (Err error) before after lines = Refuses error (kept_lines form (kept_of before) lines)

@@ -1,6 +1,6 @@
 //! The fields behind a tag.
 
-ghost use Rattle.std.specs.Prelude.{◌≡◌, true, length, take, drop};
+ghost use Rattle.std.specs.Prelude.{◌≡◌, IsTrue, length, take, drop};
 ghost use Rattle.source_defs.specs.Names as names;
 ghost use Rattle.source_defs.specs.Numbers.{all_hexadecimal_digits, value_after};
 ghost use Rattle.source_defs.specs.Numbers as numbers;
@@ -96,7 +96,7 @@ fn is_hexadecimal_digit(byte: u8) -> bool
 
 fn four_digits(digits: &[u8]) -> u16
     requires size { length digits.now ≡ 4 }
-    requires digits { all_hexadecimal_digits digits.now ≡ true }
+    requires digits { IsTrue (all_hexadecimal_digits digits.now) }
     ensures { result ≡ value_after 16 0 digits.now }
 {
     let mut bytes = [0; 2];

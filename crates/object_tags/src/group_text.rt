@@ -1,6 +1,6 @@
 //! The text of the groups.
 
-ghost use Rattle.std.specs.Prelude.{◌≡◌, ◌≤◌, ◌<◌, ◌+◌, ◌++◌, true, length, replicate};
+ghost use Rattle.std.specs.Prelude.{◌≡◌, ◌≤◌, ◌<◌, ◌+◌, ◌++◌, IsTrue, length, replicate};
 ghost use Rattle.object_defs.specs.Digits as digits;
 ghost use Rattle.object_defs.specs.Modules as modules;
 ghost use Rattle.object_defs.specs.Writing as writing;
@@ -55,7 +55,7 @@ fn put_blanks(text: &mut GroupText, count: usize)
 pub(crate) fn header_text(size: u16, name: &ModuleName) -> GroupText
     ensures text { result.items ≡ writing.header_text size name.now }
     ensures size { size < 65536 }
-    ensures name { modules.is_module_name name.now ≡ true }
+    ensures name { IsTrue (modules.is_module_name name.now) }
 {
     let mut text = group(Tag::Header, size);
     text.try_extend_from_slice(name.as_bytes()).unwrap();

@@ -1,6 +1,6 @@
 //! The names of modules.
 
-ghost use Rattle.std.specs.Prelude.{◌≡◌, Some, None, true, if◌then◌else◌, length};
+ghost use Rattle.std.specs.Prelude.{◌≡◌, Some, None, IsTrue, if◌then◌else◌, length};
 ghost use Rattle.object_defs.specs.Modules.{is_module_name, is_name_character, all_name_characters};
 
 use std::marker::Model;
@@ -15,14 +15,14 @@ pub struct ModuleName {
 }
 
 impl Model for ModuleName {
-    ghost use Rattle.std.specs.Prelude.{◌≡◌, ℕ, List, true, refl};
+    ghost use Rattle.std.specs.Prelude.{◌≡◌, ℕ, List, IsTrue, refl};
     ghost use Rattle.object_defs.specs.Modules.{is_module_name};
 
     ghost Value = { List ℕ };
 
     ghost view = { λ name. name.bytes };
 
-    ghost invariant = { λ name. is_module_name name.bytes ≡ true };
+    ghost invariant = { λ name. IsTrue (is_module_name name.bytes) };
 
     ghost inverse = { λ name. record { bytes = name } };
 
@@ -45,7 +45,7 @@ impl ModuleName {
     /// The eight bytes of the name.
     pub fn as_bytes(&self) -> &[u8]
         ensures value { result.now ≡ self.now }
-        ensures name { is_module_name self.now ≡ true }
+        ensures name { IsTrue (is_module_name self.now) }
         ensures size { length result.now ≡ 8 }
     {
         &self.bytes

@@ -1,6 +1,6 @@
 //! The modules of the lines so far.
 
-ghost use Rattle.std.specs.Prelude.{◌≡◌, ◌<◌, ◌^◌, length, [], false, None, Some};
+ghost use Rattle.std.specs.Prelude.{◌≡◌, ◌<◌, ◌^◌, length, [], IsFalse, None, Some};
 ghost use Rattle.object_defs.specs.Groups.{groups_from};
 ghost use Rattle.object_laws.specs.Running as running;
 ghost use Rattle.object_tags.specs.Answers.{Leaves, Gives, defined_modules, defined_open};
@@ -100,7 +100,7 @@ impl Reader {
 
     /// Takes a group of a module that it does not end.
     fn go_on(&mut self, mut begun: OpenModule, found: FoundGroup) -> Result<(), Failure>
-        requires { running.ends_module (defined_found found) ≡ false }
+        requires { IsFalse (running.ends_module (defined_found found)) }
         ensures { Leaves result (kept_of self.new)
             (running.kept_by (Some (defined_open begun)) (kept_of self.old) (defined_found found)) }
     {

@@ -1,5 +1,5 @@
-//! Cases of the processor, its arithmetic and instruction words, the memory map, the ports and the scans of bytes, worked
-//! out by hand. The crate holds tests alone, so that the crates below it are proved once.
+//! Cases of the processor, its arithmetic and instruction words, the memory map, the ports and the scans of bytes,
+//! worked out by hand. The crate holds tests alone, so that the crates below it are proved once.
 #![tactic(auto)]
 
 #[cfg(test)]

@@ -203,7 +203,8 @@ const FROM_A_REGISTER_AT_A_PORT: &[u16] = &[
     0x0202, 0xAB00, 0xD802, 0x8C00, 0x02E0, 0x87FE, 0xD801, 0x83E2, 0x02E0, 0x83E0, 0x10FF,
 ];
 
-/// Whether XOP R5,2 goes on at its entry, in its workspace, with the address of R5 and where to return in its registers.
+/// Whether XOP R5,2 goes on at its entry, in its workspace, with the address of R5 and where to return in its
+/// registers.
 fn keeps_its_return(alloc: Global) -> Result<bool, AllocError> {
     let mut machine = loaded(alloc, &[0x2C85])?;
     let end = machine.step();

@@ -32,7 +32,8 @@ leading_zeros number =
 abbrev pub marked_address : ℕ → List ℕ
 marked_address address =
     if nat_lt address 65536 then marked_word address
-    else 0x3E ∷ (drop (leading_zeros (address / 65536)) (word_digits (address / 65536)) ++ word_digits (address % 65536))
+    else 0x3E ∷ (drop (leading_zeros (address / 65536)) (word_digits (address / 65536))
+    ++ word_digits (address % 65536))
 
 -- words, what they speak of, and a line feed
 abbrev pub said_of : List ℕ → List ℕ → List ℕ

@@ -1,5 +1,6 @@
 -- What a command reports on its input.
-use Rattle.std.specs.Prelude.{◌≡◌, ℕ, ◌+◌, ◌≤◌, nat_lt, if◌then◌else◌, List, [], ◌∷◌, ◌++◌, length, Result, Ok, Err, MatchBool}
+use Rattle.std.specs.Prelude.{◌≡◌, ℕ, ◌+◌, ◌≤◌, nat_lt, if◌then◌else◌, List, [], ◌∷◌, ◌++◌}
+use Rattle.std.specs.Prelude.{length, Result, Ok, Err, MatchBool}
 use Rattle.std.specs.Prelude.{Option, Some, None}
 use Rattle.console_defs.specs.Machine.{MachineState}
 use Rattle.console_defs.specs.declared.run_end.RunEnd.{RunEnd}
@@ -163,7 +164,8 @@ AcceptedReport (Gdis at) input report = report ≡ gdis_report at input
 AcceptedReport Link input report = report ≡ link_report (linked_input input)
 AcceptedReport (Exec limit) input report = ExecReport limit (linked_input input) report
 AcceptedReport Interp input report = ReportsInterpreter report
-AcceptedReport (Run limit) input report = ProgramReport (ReportsProgram run_lines limit) (program_of_source input) report
+AcceptedReport (Run limit) input report =
+    ProgramReport (ReportsProgram run_lines limit) (program_of_source input) report
 AcceptedReport (Trace limit) input report =
     ProgramReport (ReportsProgram trace_lines limit) (program_of_source input) report
 AcceptedReport (Demo number) input report =

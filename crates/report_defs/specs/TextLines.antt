@@ -10,7 +10,8 @@ in_front byte (piece ∷ pieces) = (byte ∷ piece) ∷ pieces
 -- The lines of a text, each with its line feed.
 abbrev pub text_lines : List ℕ → List (List ℕ)
 text_lines [] = []
-text_lines (byte ∷ bytes) = if is_line_feed byte then (byte ∷ []) ∷ text_lines bytes else in_front byte (text_lines bytes)
+text_lines (byte ∷ bytes) =
+    if is_line_feed byte then (byte ∷ []) ∷ text_lines bytes else in_front byte (text_lines bytes)
 
 -- The first line of a text, with its line feed.
 abbrev pub first_line : List ℕ → List ℕ

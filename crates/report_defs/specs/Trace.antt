@@ -17,7 +17,8 @@ number_text number = replicate (6 - length (decimal number)) 0x20 ++ decimal num
 
 -- Profile: the line of a step begins with its number, the state before it, and the instruction there.
 unfoldable pub step_front : ℕ → GplState → List ℕ
-step_front number s = number_text number ++ (codes " " ++ (state_text s ++ (codes " " ++ read_text (reading s.image s.pc) s.pc)))
+step_front number s =
+    number_text number ++ (codes " " ++ (state_text s ++ (codes " " ++ read_text (reading s.image s.pc) s.pc)))
 
 -- Profile: of bytes that changed the line shows how many they are, the place of the first, and the new byte there.
 abbrev pub changed_from : List ℕ → (ℕ → List ℕ) → ℕ → List ℕ → Option ℕ → List ℕ
@@ -58,4 +59,5 @@ step_line number s next = step_front number s ++ (changes_text (seen_state s) (s
 
 -- The lines of so many steps from a state on, numbered from 1.
 unfoldable pub step_lines : GplState → ℕ → List (List ℕ)
-step_lines s count = map (λ made. step_line (made + 1) (run made s).last (run (made + 1) s).last) (range_with_len 0 count)
+step_lines s count =
+    map (λ made. step_line (made + 1) (run made s).last (run (made + 1) s).last) (range_with_len 0 count)

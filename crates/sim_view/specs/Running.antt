@@ -1,5 +1,5 @@
 -- Steps up to the end of a piece.
-use Rattle.std.specs.Prelude.{◌≡◌, ◌+◌, ℕ, zero, suc, ◌/◌, Bool, true, false, ◌||◌, eqb, List, if◌then◌else◌}
+use Rattle.std.specs.Prelude.{◌≡◌, ◌+◌, ℕ, zero, suc, ◌/◌, Bool, true, false, ◌==◌, ◌||◌, List, if◌then◌else◌}
 use Rattle.std.specs.List.{list_any}
 use Rattle.console_defs.specs.Machine.{MachineState, IsMachine, machine_step}
 use Rattle.tms_defs.specs.declared.step_end.StepEnd.{StepEnd}
@@ -10,11 +10,11 @@ use Rattle.sim_view.specs.declared.run.TheConstants.{PIECE}
 
 -- B at the address in a register, which has this code. TMS9900 data manual, "Branch".
 abbrev pub is_branch_by_register : ℕ → Bool
-is_branch_by_register word = eqb (word / 16) 0x045
+is_branch_by_register word = word / 16 == 0x045
 
 -- A piece ends with a branch by a register, at one of the interpreter's three ends, and at the ends of its own.
 abbrev pub ends_piece : List ℕ → ℕ → ℕ → Bool
-ends_piece ends word pc = is_branch_by_register word || (is_end pc || list_any (eqb pc) ends)
+ends_piece ends word pc = is_branch_by_register word || (is_end pc || list_any (λ end. pc == end) ends)
 
 -- The step is the last of a piece: it ends the piece, or executes no instruction.
 abbrev pub is_last : List ℕ → StepEnd → ℕ → Bool

@@ -1,7 +1,6 @@
 -- An expression whose names are known has the value that it has when more are known.
 use Rattle.std.proofs.Common.{◌≡◌, ℕ, Bool, true, false, List, [], ◌∷◌, Some, None, Ok, Err, refl, ap, ◌∙◌}
 use Rattle.std.specs.Prelude.{Option, Result, if◌then◌else◌}
-use Rattle.source_defs.specs.declared.causes.ExprError.{ExprError}
 use Rattle.source_defs.specs.Refusals.{◌>>=◌}
 use Rattle.source_defs.specs.Tokens.{Kind, Number, Name, Here, Text, Sign, Token, tokens}
 use Rattle.source_defs.specs.Expression.{Value, known_value, kind_value, term_value, operator_of, is_minus, joined, minus, value_with, minus_value, value}

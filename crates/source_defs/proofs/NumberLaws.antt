@@ -1,6 +1,6 @@
 -- Numbers, digit by digit and one after the other.
 use Rattle.std.proofs.Common.{◌≡◌, ℕ, ◌+◌, ◌*◌, ◌≤◌, ◌<◌, Bool, true, false, List, [], ◌∷◌, length, drop, get_or, refl, arith}
-use Rattle.std.specs.Prelude.{Some, None, nat_lt, nat_le, ◌&&◌}
+use Rattle.std.specs.Prelude.{None, nat_lt, nat_le, ◌&&◌}
 use Rattle.std.proofs.lemmas.List.{drop_more}
 use Rattle.std.proofs.lemmas.Bool.Decides.{nat_tests}
 use Rattle.source_defs.specs.Numbers.{digit_value, value_after, all_digits, decimal_up_to}

@@ -20,6 +20,12 @@ pub data Value : Type 0 where
   Relocatable : ℕ → Value
   External : List ℕ → Value
 
+-- Profile: a value that is not absolute is refused where an absolute one is needed.
+abbrev pub absolute : Value → Result ℕ ExprError
+absolute (Absolute number) = Ok number
+absolute (Relocatable number) = Err BadRelocation
+absolute (External name) = Err BadRelocation
+
 -- Profile: results keep 16 bits.
 abbrev pub to_word : ℕ → ℕ
 to_word number = number % 0x10000

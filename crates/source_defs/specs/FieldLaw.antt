@@ -1,5 +1,6 @@
 -- What the fields of a line are, in the words of the rule.
-use Rattle.std.specs.Prelude.{◌≡◌, ℕ, ◌<◌, ◌≤◌, true, false, ◌⊎◌, List, length, slice_index, take, map, Option, Some, IsTrue, IsFalse}
+use Rattle.std.specs.Prelude.{◌≡◌, ℕ, ◌<◌, ◌≤◌, ◌⊎◌, List, length, slice_index, take}
+use Rattle.std.specs.Prelude.{map, Option, Some, IsTrue, IsFalse}
 use Rattle.std.specs.Prelude.{None, Ok}
 use Rattle.source_defs.specs.declared.text.Span.{Span}
 use Rattle.source_defs.specs.Characters.{is_blank, is_asterisk, upper_case}

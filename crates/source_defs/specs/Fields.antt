@@ -2,35 +2,9 @@
 --
 -- Editor/Assembler manual, "Source statement format": a label starts in column 1. Then stand, apart by blanks, the
 -- operation, the operand field and a comment. A line with an asterisk in column 1 is a comment.
-use Rattle.std.specs.Prelude.{
-  ◌≡◌,
-  ℕ,
-  ◌<◌,
-  ◌≤◌,
-  ◌%◌,
-  ◌==◌,
-  Bool,
-  false,
-  not,
-  ◌&&◌,
-  ◌||◌,
-  nat_lt,
-  if◌then◌else◌,
-  List,
-  length,
-  slice_index,
-  slice_range,
-  take,
-  map,
-  count_by,
-  Option,
-  Some,
-  None,
-  Result,
-  Ok,
-  Err,
-  IsFalse,
-}
+use Rattle.std.specs.Prelude.{ℕ, ◌<◌, ◌≤◌, ◌%◌, ◌==◌, Bool, not, ◌&&◌, ◌||◌, nat_lt, if◌then◌else◌}
+use Rattle.std.specs.Prelude.{List, length, slice_index, slice_range, take, map, count_by}
+use Rattle.std.specs.Prelude.{Option, Some, None, Result, Ok, Err, IsFalse}
 use Rattle.source_defs.specs.declared.text.Span.{Span}
 use Rattle.source_defs.specs.declared.causes.TextError.{TextError}
 use Rattle.source_defs.specs.declared.causes.TextError.TheVariants.{LineTooLong, BadLabel}

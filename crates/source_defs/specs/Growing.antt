@@ -1,5 +1,5 @@
 -- What is known of an expression while names are still to come.
-use Rattle.std.specs.Prelude.{◌≡◌, ℕ, Bool, true, false, not, List, Option, Some, Result, Ok, Err}
+use Rattle.std.specs.Prelude.{◌≡◌, ℕ, Bool, true, false, not, List, Some, Result, Ok, Err}
 use Rattle.source_defs.specs.declared.causes.ExprError.{ExprError}
 use Rattle.source_defs.specs.declared.causes.ExprError.TheVariants.{BadToken, UnknownName, BadRelocation, TooLarge}
 use Rattle.source_defs.specs.declared.causes.ExprError.TheVariants.{DivideByZero, Memory}

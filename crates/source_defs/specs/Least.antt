@@ -1,5 +1,6 @@
 -- The least place with a property.
-use Rattle.std.specs.Prelude.{◌≡◌, ℕ, zero, suc, ◌+◌, ◌-◌, ◌<◌, ◌≤◌, Bool, true, false, not, if◌then◌else◌, List, length, IsTrue, IsFalse}
+use Rattle.std.specs.Prelude.{ℕ, zero, suc, ◌+◌, ◌-◌, ◌<◌, ◌≤◌, Bool}
+use Rattle.std.specs.Prelude.{not, if◌then◌else◌, List, length, IsTrue, IsFalse}
 use Rattle.std.specs.Prelude.{slice_index}
 
 -- the least of the `count` numbers from `from` on that passes, or the number after them

@@ -1,5 +1,6 @@
 -- Names, and words that are compared with no heed of case.
-use Rattle.std.specs.Prelude.{◌≡◌, ℕ, ◌==◌, Bool, true, ◌&&◌, ◌||◌, nat_lt, nat_le, List, length, slice_index, map, IsTrue, nat_eq}
+use Rattle.std.specs.Prelude.{◌≡◌, ℕ, ◌==◌, Bool, ◌&&◌, ◌||◌, nat_lt, nat_le, List}
+use Rattle.std.specs.Prelude.{length, slice_index, map, IsTrue, nat_eq}
 use Rattle.std.specs.List.{list_all, zip}
 use Rattle.source_defs.specs.Characters.{is_digit, is_letter, upper_case}
 use Rattle.std.specs.Cmp.Lexicographic.{pointwise}

@@ -20,7 +20,8 @@ comma_places field from = filter (parts_operands field) (range_with_len from (le
 -- the operands from a place on: each stands from there or a comma up to the next comma or the field's end
 unfoldable pub operands_from : List ℕ → ℕ → List Span
 operands_from field from =
-    map (λ bounds. record { start = bounds.0; end = bounds.1 }) (bounds_between from (comma_places field from) (length field))
+    map (λ bounds. record { start = bounds.0; end = bounds.1 })
+    (bounds_between from (comma_places field from) (length field))
 
 -- the operands of a field
 abbrev pub operands : List ℕ → List Span

@@ -1,4 +1,5 @@
-//! Other spellings of GPL's instructions, the code bytes that are no instruction's, and the instructions that have no bytes.
+//! Other spellings of GPL's instructions, the code bytes that are no instruction's, and the instructions that have no
+//! bytes.
 
 use crate::gpl_bytes::{CELL, HERE, is_read_as, put_all, stands_short};
 use gpl_forms::{

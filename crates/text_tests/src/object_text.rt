@@ -1,6 +1,6 @@
 //! Modules and texts, worked out by the format's rules.
 
-ghost use Rattle.std.specs.Prelude.{◌≡◌, true};
+ghost use Rattle.std.specs.Prelude.{IsTrue};
 ghost use Rattle.std.specs.List.{AllByRecursion};
 ghost use Rattle.object_defs.specs.Modules.{HasText, StandsEven};
 ghost use Rattle.object_tags.specs.Seen.{defined_module};
@@ -246,7 +246,7 @@ fn writes(alloc: Global, module: &Module, text: &[u8]) -> bool
 
 /// Whether a module passes no limit, and its words stand at even places.
 fn has_text(module: &Module) -> bool
-    ensures { result ≡ true → HasText (defined_module «module».now) }
+    ensures { IsTrue result → HasText (defined_module «module».now) }
 {
     module.defs.as_slice().len() <= 256
         && module.refs.as_slice().len() <= 256
@@ -255,7 +255,7 @@ fn has_text(module: &Module) -> bool
 }
 
 fn stand_even(words: &[Piece]) -> bool
-    ensures { result ≡ true → AllByRecursion StandsEven words.now }
+    ensures { IsTrue result → AllByRecursion StandsEven words.now }
 {
     for word in words {
         let (Spot::Absolute(number) | Spot::Relocatable(number)) = word.at;

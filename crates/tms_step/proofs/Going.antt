@@ -2,7 +2,7 @@
 use Rattle.std.proofs.Common.{◌≡◌, ◌<◌, ℕ, ◌+◌, Bool, true, false, refl, sym, ap, ◌∙◌, arith, add-one, below_more}
 use Rattle.std.proofs.Common.{Option, Some, None}
 use Rattle.std.proofs.lemmas.Bool.Decides.{nat_tests}
-use Rattle.std.specs.Prelude.{eqb}
+use Rattle.std.specs.Prelude.{eqb, if◌then◌else◌}
 use Rattle.tms_defs.specs.Accesses.{Answer, Gives, AtPort, NoInstruction}
 use Rattle.console_defs.specs.Memory.{Memory, console}
 use Rattle.tms_defs.specs.Operand.{Cpu}
@@ -28,10 +28,10 @@ going_start stop limit x = record { left = refl; first = λ before lt. absurd (o
 -- the ends by their tests
 abbrev by_tests : Bool → Bool → Option RunEnd → Option RunEnd
 by_tests reached limited rest =
-    elim reached [ true ↦ Some run.Reached | false ↦ elim limited [ true ↦ Some run.Limit | false ↦ rest ] ]
+    if reached then Some run.Reached else if limited then Some run.Limit else rest
 
 abbrev by_jump : Bool → Option RunEnd → Option RunEnd
-by_jump jumped rest = elim jumped [ true ↦ Some run.SelfJump | false ↦ rest ]
+by_jump jumped rest = if jumped then Some run.SelfJump else rest
 
 end_here : (stop : Option ℕ) (limit made : ℕ) (x y : MachineState) → Going stop limit made x y →
     end_at stop limit made x ≡ by_tests (is_reached stop y.cpu.pc) (eqb made limit) (end_of_step (machine_step y).0)
@@ -75,7 +75,7 @@ pub run_at_limit : (stop : Option ℕ) (limit made : ℕ) (x y : MachineState) �
 run_at_limit stop limit made x y going all = by (is_reached stop y.cpu.pc) refl
   where
     by : (reached : Bool) → is_reached stop y.cpu.pc ≡ reached →
-        IsRun stop limit made x (elim reached as (λ _. RunEnd) [ true ↦ run.Reached | false ↦ run.Limit ]) y
+        IsRun stop limit made x (if reached then run.Reached else run.Limit) y
     by true e = run_reached stop limit made x y going e
     by false e = run_limit stop limit made x y going all e
 
@@ -104,7 +104,7 @@ first_more stop limit made word x y going lt reached e =
     (end_step stop limit made x y going lt reached ∙ ap end_of_step e)
 
 goes_on : (word : ℕ) (test : Bool) → eqb word 0x10FF ≡ test →
-    (elim test as (λ _. Option RunEnd) [ true ↦ Some run.SelfJump | false ↦ None ]) ≡ None → test ≡ false
+    (if test then Some run.SelfJump else None) ≡ None → test ≡ false
 goes_on word true e ends = absurd (cc)
 goes_on word false e ends = refl
 
@@ -160,7 +160,7 @@ port_same y address e =
     (ap (λ (end : StepEnd). counted end y.count) e)
 
 jumps : (word : ℕ) (ending : RunEnd) (test : Bool) →
-    (elim test as (λ _. Option RunEnd) [ true ↦ Some run.SelfJump | false ↦ None ]) ≡ Some ending →
+    (if test then Some run.SelfJump else None) ≡ Some ending →
     (test ≡ true) × (Some run.SelfJump ≡ Some ending)
 jumps word ending true ends = (refl, ends)
 jumps word ending false ends = absurd (cc)

@@ -1,5 +1,5 @@
 -- One turn of a run, a step; and the end of a run at its limit.
-use Rattle.std.specs.Prelude.{ℕ, true, false, eqb, Option, Some, None}
+use Rattle.std.specs.Prelude.{ℕ, ◌==◌, Option, Some, None, if◌then◌else◌}
 use Rattle.console_defs.specs.Runs.{is_reached}
 use Rattle.tms_defs.specs.declared.step_end.StepEnd.{StepEnd}
 use Rattle.tms_defs.specs.declared.step_end.StepEnd.TheVariants.{Done, Refused, Port}
@@ -14,10 +14,10 @@ executed_by (Port address) = 0
 
 -- The end of a run that a step is.
 abbrev pub end_of_turn : StepEnd → Option RunEnd
-end_of_turn (Done word) = elim (eqb word 0x10FF) [ true ↦ Some run.SelfJump | false ↦ None ]
+end_of_turn (Done word) = if word == 0x10FF then Some run.SelfJump else None
 end_of_turn (Refused address) = Some (run.Refused address)
 end_of_turn (Port address) = Some (run.Port address)
 
 -- The end of a run that executed as many instructions as its limit says.
 abbrev pub end_at_limit : Option ℕ → ℕ → RunEnd
-end_at_limit stop pc = elim (is_reached stop pc) [ true ↦ run.Reached | false ↦ run.Limit ]
+end_at_limit stop pc = if is_reached stop pc then run.Reached else run.Limit

@@ -1,6 +1,6 @@
 //! Instructions without an operand but a word that may follow.
 
-ghost use Rattle.std.specs.Prelude.{◌≡◌, OnErr, false};
+ghost use Rattle.std.specs.Prelude.{◌≡◌, OnErr, IsFalse};
 ghost use Rattle.console_defs.specs.Memory.{Memory, console};
 ghost use Rattle.tms_defs.specs.Step.{is_stopping};
 ghost use Rattle.tms_defs.specs.forms.Bare.{bare};
@@ -18,7 +18,7 @@ impl Cpu {
     /// manual, "Internal register load immediate instructions", "Return workspace pointer (RTWP) instruction").
     #[inline(never)]
     pub(crate) fn bare(&mut self, op: BareOp) -> Result<(), PortStop>
-        requires { is_stopping (Bare op) ≡ false }
+        requires { IsFalse (is_stopping (Bare op)) }
         ensures value { left_by result (λ _. self.new) ≡ bare Memory console op self.old }
         ensures stopped { OnErr result (SameButPc self.old self.new) }
     {

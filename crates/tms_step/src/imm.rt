@@ -1,6 +1,6 @@
 //! Instructions on a register, most with a word that follows.
 
-ghost use Rattle.std.specs.Prelude.{◌≡◌, ◌<◌, OnErr, true};
+ghost use Rattle.std.specs.Prelude.{◌≡◌, ◌<◌, OnErr, IsTrue};
 ghost use Rattle.console_defs.specs.Memory.{Memory, console};
 ghost use Rattle.tms_defs.specs.forms.Imm.{immediate, imm};
 ghost use Rattle.tms_step.specs.Parts.{reads_both};
@@ -37,7 +37,7 @@ impl Cpu {
     #[inline(never)]
     fn with_immediate(&mut self, op: ImmOp, number: u8) -> Result<(), PortStop>
         requires number { number < 16 }
-        requires op { reads_both op ≡ true }
+        requires op { IsTrue (reads_both op) }
         ensures value { left_by result (λ _. self.new) ≡ imm Memory console op number self.old }
         ensures stopped { OnErr result (SameButPc self.old self.new) }
     {

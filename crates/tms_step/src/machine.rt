@@ -1,6 +1,6 @@
 //! The machine: the processor over the console's memory, with a count of its instructions.
 
-ghost use Rattle.std.specs.Prelude.{◌≡◌, ◌<◌, true};
+ghost use Rattle.std.specs.Prelude.{◌≡◌, ◌<◌, IsTrue};
 ghost use Rattle.tms_defs.specs.Words.{even};
 ghost use Rattle.tms_defs.specs.Accesses.{Gives};
 ghost use Rattle.console_defs.specs.Memory.{Memory, console, word_read};
@@ -119,7 +119,7 @@ impl Machine {
     /// The workspace register with a number below 16 (TMS9900 data manual, "Registers and memory").
     pub fn register(&self, number: u8) -> u16
         requires number { number < 16 }
-        requires workspace { has_workspace self.now.cpu.wp ≡ true }
+        requires workspace { IsTrue (has_workspace self.now.cpu.wp) }
         ensures { Gives result ≡ word_read self.now.cpu.memory (register_address Memory console self.now.cpu number) }
     {
         match self.cpu.word_at(self.cpu.register_address(number)) {

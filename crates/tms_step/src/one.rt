@@ -1,6 +1,6 @@
 //! Instructions with one operand in any mode.
 
-ghost use Rattle.std.specs.Prelude.{◌≡◌, ◌≢◌, ◌<◌, OnErr, true, false};
+ghost use Rattle.std.specs.Prelude.{◌≡◌, ◌≢◌, ◌<◌, OnErr, IsTrue, IsFalse};
 ghost use Rattle.tms_defs.specs.Instructions.{IsPlace};
 ghost use Rattle.tms_defs.specs.Accesses.{Gives};
 ghost use Rattle.console_defs.specs.Memory.{Memory, console};
@@ -54,7 +54,7 @@ impl Cpu {
     /// INC, INCT, DEC or DECT: the word at an address is increased or decreased.
     #[inline(never)]
     fn incremented(&mut self, op: OneOp, address: u16) -> Result<(), PortStop>
-        requires { is_increment op ≡ true }
+        requires { IsTrue (is_increment op) }
         ensures value { left_by result (λ _. self.new) ≡ one Memory console op address self.old }
         ensures stopped { OnErr result (self.new ≡ self.old) }
     {
@@ -73,7 +73,7 @@ impl Cpu {
     /// One of the other operations on the operand at an address.
     #[inline(never)]
     fn other_one(&mut self, op: OneOp, address: u16) -> Result<(), PortStop>
-        requires increment { is_increment op ≡ false }
+        requires increment { IsFalse (is_increment op) }
         requires clear { op ≢ CLR }
         requires branch { op ≢ B }
         requires link { op ≢ BL }

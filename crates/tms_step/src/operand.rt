@@ -1,6 +1,6 @@
 //! Operands: where they stand, what they are, and the growth of a register.
 
-ghost use Rattle.std.specs.Prelude.{◌≡◌, ◌<◌, IfOk, IsOk, OnErr, Some, true, false};
+ghost use Rattle.std.specs.Prelude.{◌≡◌, ◌<◌, IfOk, IsOk, OnErr, Some, IsTrue, IsFalse};
 ghost use Rattle.tms_defs.specs.Flags.{Word, modulus, byte_or_word};
 ghost use Rattle.console_defs.specs.Memory.{Memory, console};
 ghost use Rattle.tms_defs.specs.Operand.{mode_of, index_of, operand, value_at, with_value};
@@ -110,7 +110,7 @@ impl Cpu {
             ≡ value_at Memory console (byte_or_word byte) at self.old }
         ensures fits { IfOk result (λ value. value < modulus (byte_or_word byte)) }
         ensures stopped { OnErr result (self.new ≡ self.old) }
-        ensures word { byte ≡ false → self.new ≡ self.old }
+        ensures word { IsFalse byte → self.new ≡ self.old }
     {
         if byte {
             return Ok(self.bus.read_byte(at) as u16);
@@ -125,7 +125,7 @@ impl Cpu {
         ensures value { left_by result (λ _. self.new)
             ≡ with_value Memory console (byte_or_word byte) at value self.old }
         ensures stopped { OnErr result (self.new ≡ self.old) }
-        ensures byte { byte ≡ true → IsOk result }
+        ensures byte { IsTrue byte → IsOk result }
     {
         if byte {
             self.bus.write_byte(at, value as u8);

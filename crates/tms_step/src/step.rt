@@ -4,7 +4,7 @@
 //! which is compiled into a table of jumps: on the machines where this was measured, a jump through a table takes half
 //! as long as a whole step. What is told so stands in functions that are not inlined into each other.
 
-ghost use Rattle.std.specs.Prelude.{◌≡◌, OnErr, false};
+ghost use Rattle.std.specs.Prelude.{◌≡◌, OnErr, IsFalse};
 ghost use Rattle.tms_defs.specs.Instructions.{HasRoom};
 ghost use Rattle.console_defs.specs.Machine.{WhereStopped};
 ghost use Rattle.console_defs.specs.Memory.{Memory, console};
@@ -51,7 +51,7 @@ impl Cpu {
     #[inline(always)]
     pub(crate) fn executed(&mut self, instr: Instr) -> Result<(), PortStop>
         requires room { HasRoom instr }
-        requires executes { is_stopping instr ≡ false }
+        requires executes { IsFalse (is_stopping instr) }
         ensures value { left_by result (λ _. self.new) ≡ executed Memory console instr self.old }
         ensures stopped { OnErr result (SameButPc self.old self.new) }
     {

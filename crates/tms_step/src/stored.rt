@@ -1,6 +1,6 @@
 //! Results that are stored with their status bits.
 
-ghost use Rattle.std.specs.Prelude.{◌≡◌, ◌<◌, IsOk, OnErr, true};
+ghost use Rattle.std.specs.Prelude.{◌≡◌, ◌<◌, IsOk, OnErr, IsTrue};
 ghost use Rattle.tms_defs.specs.Flags.{Word, modulus, byte_or_word};
 ghost use Rattle.console_defs.specs.Memory.{Memory, console};
 ghost use Rattle.tms_defs.specs.Status.{with_order};
@@ -26,7 +26,7 @@ impl Cpu {
         ensures value { left_by result (λ _. self.new)
             ≡ stored Memory console (byte_or_word byte) address value flags self.old }
         ensures stopped { OnErr result (self.new ≡ self.old) }
-        ensures byte { byte ≡ true → IsOk result }
+        ensures byte { IsTrue byte → IsOk result }
     {
         self.write_value(byte, address, value)?;
         self.status.flags.lgt = flags.lgt;
@@ -62,7 +62,7 @@ impl Cpu {
         ensures value { left_by result (λ _. self.new)
             ≡ stored_by_result Memory console (byte_or_word byte) address value self.old }
         ensures stopped { OnErr result (self.new ≡ self.old) }
-        ensures byte { byte ≡ true → IsOk result }
+        ensures byte { IsTrue byte → IsOk result }
     {
         self.write_value(byte, address, value)?;
         let flags = result_flags(byte, value, self.status.flags);

@@ -1,6 +1,6 @@
 //! Instructions with two operands in any mode.
 
-ghost use Rattle.std.specs.Prelude.{◌≡◌, ◌<◌, OnErr, true, false};
+ghost use Rattle.std.specs.Prelude.{◌≡◌, ◌<◌, OnErr, IsTrue, IsFalse};
 ghost use Rattle.tms_defs.specs.Flags.{modulus, byte_or_word};
 ghost use Rattle.tms_defs.specs.Instructions.{IsPlace};
 ghost use Rattle.console_defs.specs.Memory.{Memory, console, is_port_address};
@@ -68,7 +68,7 @@ impl Cpu {
         dst: Place,
     ) -> Result<(), PortStop>
         requires dst { IsPlace dst }
-        requires memory { byte ≡ true → is_port_address source ≡ false }
+        requires memory { IsTrue byte → IsFalse (is_port_address source) }
         ensures value { left_by result (λ _. self.new) ≡ from_source op (byte_or_word byte) source dst self.old }
         ensures stopped { OnErr result (SameButPc self.old self.new) }
     {
@@ -146,7 +146,7 @@ impl Cpu {
         address: u16,
     ) -> Result<(), PortStop>
         requires source { source < modulus (byte_or_word byte) }
-        requires op { is_arithmetic op ≡ true }
+        requires op { IsTrue (is_arithmetic op) }
         ensures value { left_by result (λ _. self.new)
             ≡ two Memory console op (byte_or_word byte) source address self.old }
         ensures stopped { OnErr result (self.new ≡ self.old) }
@@ -168,7 +168,7 @@ impl Cpu {
     #[inline(always)]
     fn bitwise(&mut self, op: TwoOp, byte: bool, source: u16, address: u16) -> Result<(), PortStop>
         requires source { source < modulus (byte_or_word byte) }
-        requires op { is_bitwise op ≡ true }
+        requires op { IsTrue (is_bitwise op) }
         ensures value { left_by result (λ _. self.new)
             ≡ two Memory console op (byte_or_word byte) source address self.old }
         ensures stopped { OnErr result (self.new ≡ self.old) }

@@ -1,10 +1,10 @@
 //! The instruction of a word.
 //!
-//! The row of a word is told by tests in the order in which programs use the rows. They are a chain of `if`, which keeps
-//! its order; a `match` on ranges is compiled in an order of its own. `decode`, `operation_at`, `two_at`, `jump_at` and
-//! `operands_at` are inlined into each of their callers, since a call of them takes long beside the rest of a step; of
-//! the other parts the compiler decides.
-ghost use Rattle.std.specs.Prelude.{◌≡◌, ◌≢◌, ◌≤◌, ◌<◌, ◌/◌, ◌%◌, ◌*◌, eqb, IfSome, IfNone};
+//! The row of a word is told by tests in the order in which programs use the rows. They are a chain of `if`, which
+//! keeps its order; a `match` on ranges is compiled in an order of its own. `decode`, `operation_at`, `two_at`,
+//! `jump_at` and `operands_at` are inlined into each of their callers, since a call of them takes long beside the
+//! rest of a step; of the other parts the compiler decides.
+ghost use Rattle.std.specs.Prelude.{◌≡◌, ◌≢◌, ◌≤◌, ◌<◌, ◌/◌, ◌%◌, ◌*◌, ◌==◌, IfSome, IfNone};
 ghost use Rattle.tms_defs.specs.Instructions.{two_code, reg_code, shift_code, one_code, jump_code, imm_code};
 ghost use Rattle.tms_defs.specs.Instructions.{bare_code, operation_at, operands_at, source_at, destination_at};
 ghost use Rattle.tms_defs.specs.Instructions.{instr_at, word_of, HasRoom};
@@ -64,7 +64,7 @@ fn control_at(word: u16) -> Option<Operation>
 #[inline(always)]
 fn two_at(word: u16) -> TwoOp
     requires { 0x4000 ≤ word }
-    ensures { two_code result (eqb (word / 4096 % 2) 1) ≡ word / 4096 * 4096 }
+    ensures { two_code result (word / 4096 % 2 == 1) ≡ word / 4096 * 4096 }
 {
     match word >> 13 {
         2 => TwoOp::SZC,

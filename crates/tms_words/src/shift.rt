@@ -1,5 +1,5 @@
 //! Shifts with their status bits.
-ghost use Rattle.std.specs.Prelude.{◌≡◌, ◌≤◌, ◌<◌, ◌-◌, ◌/◌, ◌%◌, ◌^◌, eqb, false};
+ghost use Rattle.std.specs.Prelude.{◌≡◌, ◌≤◌, ◌<◌, ◌-◌, ◌/◌, ◌%◌, ◌^◌, ◌==◌, false};
 ghost use Rattle.tms_defs.specs.Flags.{Word, result_flags};
 ghost use Rattle.tms_defs.specs.Shifts.{shifted, shift_flags, shift_overflows, sign_changes, long_word};
 ghost use Rattle.tms_defs.specs.declared.instruction.ShiftOp.TheVariants.{SLA};
@@ -32,7 +32,7 @@ fn shift_right(long: u32, count: u8) -> Out16
     requires { (1 ≤ count) × (count ≤ 16) }
     ensures value { result.value ≡ long / 2 ^ count % 65536 }
     ensures flags { result.flags
-        ≡ result_flags Word (long / 2 ^ count % 65536) (eqb (long / 2 ^ (count - 1) % 2) 1) false }
+        ≡ result_flags Word (long / 2 ^ count % 65536) (long / 2 ^ (count - 1) % 2 == 1) false }
 {
     let value = (long >> count & 0xFFFF) as u16;
     let last_out = long >> (count - 1) & 1 == 1;

@@ -1,6 +1,6 @@
 //! The sixteen registers of a workspace.
 
-ghost use Rattle.std.specs.Prelude.{◌≡◌, ◌<◌, ◌≤◌, ◌+◌, ◌++◌, true, length};
+ghost use Rattle.std.specs.Prelude.{◌≡◌, ◌<◌, ◌≤◌, ◌+◌, ◌++◌, IsTrue, length};
 ghost use Rattle.arrayvec.specs.ArrayVec.{array_vec_len};
 ghost use Rattle.console_defs.specs.Machine.{has_workspace};
 ghost use Rattle.report_defs.specs.Dump as spec;
@@ -25,7 +25,7 @@ pub(crate) fn put_workspace<O: Sink>(machine: &Machine, out: &mut O) -> Result<(
 /// Eight registers from a number on, each after a blank, behind the name of the first.
 #[tactic(auto, using(std::proofs::Common::append_assoc), unfolding(report_defs::specs::Dump::registers_line))]
 fn registers_line(name: &[u8], machine: &Machine, first: u8) -> Line
-    requires workspace { has_workspace machine.now.cpu.wp ≡ true }
+    requires workspace { IsTrue (has_workspace machine.now.cpu.wp) }
     requires first { first ≤ 8 }
     requires name { length name.now ≤ 2 }
     ensures { result.items ≡ spec.registers_line name.now machine.now.cpu first }
@@ -39,7 +39,7 @@ fn registers_line(name: &[u8], machine: &Machine, first: u8) -> Line
 
 /// Appends eight registers.
 fn append_registers(line: &mut Line, machine: &Machine, first: u8)
-    requires workspace { has_workspace machine.now.cpu.wp ≡ true }
+    requires workspace { IsTrue (has_workspace machine.now.cpu.wp) }
     requires first { first ≤ 8 }
     requires room { array_vec_len line.old ≤ 2 }
     ensures bytes { line.new.items ≡ line.old.items ++ spec.eight_registers machine.now.cpu first }
@@ -52,7 +52,7 @@ fn append_registers(line: &mut Line, machine: &Machine, first: u8)
 
 /// Appends a register, behind a blank.
 fn append_register(line: &mut Line, machine: &Machine, number: u8)
-    requires workspace { has_workspace machine.now.cpu.wp ≡ true }
+    requires workspace { IsTrue (has_workspace machine.now.cpu.wp) }
     requires number { number < 16 }
     requires room { array_vec_len line.old + 6 ≤ 128 }
     ensures bytes { line.new.items ≡ line.old.items ++ spec.register_text machine.now.cpu number }

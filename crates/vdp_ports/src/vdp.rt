@@ -189,7 +189,7 @@ fn pair_address(first: u8, second: u8) -> u16
     ensures address { result ≡ pair_address first second }
     ensures limit { result < 16384 }
 {
-    256 * (second as u16 % 64) + first as u16
+    u16::from_be_bytes([second % 64, first])
 }
 
 /// The address after an address; it wraps at 16,384.

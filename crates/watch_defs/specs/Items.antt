@@ -49,8 +49,8 @@ abbrev pub bytes_of : Item → GplState → List ℕ
 bytes_of (Range space at len) s = slice_range (bytes_in space s) (at - base_of space) (at - base_of space + len)
 bytes_of (Pc at) s = []
 
--- Profile: whether an item holds at a step that leads from bytes of its range to a state: a byte of the range differs, or the
--- address is that of the next instruction.
+-- Profile: whether an item holds at a step that leads from bytes of its range to a state: a byte of the range
+-- differs, or the address is that of the next instruction.
 abbrev pub holds_since : Item → List ℕ → GplState → Bool
 holds_since (Range space at len) before s = is_some (first_difference before (bytes_of (Range space at len) s))
 holds_since (Pc at) before s = s.pc == at

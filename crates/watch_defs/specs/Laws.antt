@@ -1,5 +1,5 @@
 -- What the definitions say of what is found.
-use Rattle.std.specs.Prelude.{◌≡◌, ◌<◌, ◌≤◌, ℕ, ◌-◌, List, slice_get, true, false, Option, Some, IsTrue}
+use Rattle.std.specs.Prelude.{◌≡◌, ◌<◌, ◌≤◌, ℕ, ◌-◌, List, slice_get, Option, Some, IsTrue, IsFalse}
 use Rattle.gpl_step_defs.specs.State.{GplState}
 use Rattle.gpl_step_defs.specs.Run.{run}
 use Rattle.watch_defs.specs.declared.item.Item.{Item}
@@ -11,12 +11,12 @@ use Rattle.watch_defs.specs.Hits.{behind, found}
 -- No item of a list that stands before a place holds at the step from one state to the next.
 abbrev pub NoneHoldsBefore : List Item → ℕ → GplState → GplState → Type 0
 NoneHoldsBefore list end before next =
-    (place : ℕ) (item : Item) → place < end → slice_get list place ≡ Some item → items.holds item before next ≡ false
+    (place : ℕ) (item : Item) → place < end → slice_get list place ≡ Some item → IsFalse (items.holds item before next)
 
 -- no item of the list holds
 abbrev pub NoneHolds : List Item → GplState → GplState → Type 0
 NoneHolds list before next =
-    (place : ℕ) (item : Item) → slice_get list place ≡ Some item → items.holds item before next ≡ false
+    (place : ℕ) (item : Item) → slice_get list place ≡ Some item → IsFalse (items.holds item before next)
 
 -- A step of a run of up to so many steps is the first at which an item holds. The item is the first that holds there,
 -- and its change is shown.

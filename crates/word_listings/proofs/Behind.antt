@@ -21,7 +21,8 @@ use Rattle.asm_defs.specs.FirstChecks.{Before, Checked, said, moved, checked, ch
 use Rattle.asm_defs.specs.SecondChecks.{Outcome, Words}
 use Rattle.asm_defs.specs.Memory.{Settled}
 use Rattle.asm_defs.specs.Modules.{settle, settle_at, with_room, module_by, title, entry}
-use Rattle.line_laws.specs.KnownLines.{numbers_of, is_empty, is_at}
+use Rattle.line_laws.specs.KnownLines.{numbers_of, is_at}
+use Rattle.source_defs.specs.OperandLists.{is_empty}
 use Rattle.line_laws.proofs.Placing.{HoldWords, ComesNext, hold_more}
 use Rattle.line_laws.proofs.Settling.{has_room}
 use Rattle.line_laws.proofs.Small.{chosen}

@@ -17,7 +17,7 @@ use Rattle.instruction_defs.specs.declared.slot.Slot.TheVariants.{General}
 use Rattle.instruction_defs.specs.Forms.{Form, Plain, Indirect, Increment, Symbolic, Indexed, form_of}
 use Rattle.instruction_defs.specs.Operands.{following_words}
 use Rattle.instruction_defs.specs.FirstChecks.{form_in, following}
-use Rattle.instruction_defs.specs.SecondChecks.{Operand, InRegister, ByRegister, Growing, AtAddress, AtIndexed}
+use Rattle.instruction_defs.specs.SecondChecks.{Operand, InRegister, ByRegister, AutoIncrement, AtAddress, AtIndexed}
 use Rattle.instruction_defs.specs.SecondChecks.{Ready, Located, valued, ranged}
 use Rattle.instruction_defs.specs.Printed.{register_text, operand_text}
 use Rattle.line_laws.proofs.Small.{both}
@@ -196,7 +196,7 @@ module _ (here : Value) (w : ℕ) (word : w < 65536) where
   unfolding operand_text
   growing r lt = record {
     form = Increment (register_text r);
-    operand = Growing r;
+    operand = AutoIncrement r;
     form_is = ap Ok (increment_form r lt);
     value_is = rw (register_value here r lt) refl;
     range_is = rw (fits r lt) refl;
