@@ -18,6 +18,7 @@ use crate::statement::{Statement, statement_in};
 use crate::titles::title_in;
 use crate::values::Scope;
 use asm_defs::{AsmCause, Location, Part};
+use asm_forms::Skeleton;
 use asm_text::{Name, Symbols, fields, is_quoted};
 use object_tags::MOST_NAMES;
 use std::alloc::{AllocError, Global};
@@ -46,6 +47,8 @@ pub struct Said<'a> {
     pub label: Option<Name>,
     /// What stands in them.
     pub statement: Statement<'a>,
+    /// What the first checks leave of an instruction.
+    pub skeleton: Option<Skeleton<'a>>,
     /// The names that DEF or REF lists.
     pub listed: Vec<Name>,
 }
@@ -86,7 +89,7 @@ impl Before<'_> {
         if self.knows_label(&found.label) {
             return Err(Failure::Refused(AsmCause::DuplicateLabel));
         }
-        let statement = statement_in(text, &found)?;
+        let (statement, skeleton) = statement_in(text, &found)?;
         let listed = listed_names(self.alloc, &statement)?;
         if self.takes_known(found.label, &statement, listed.as_slice()) {
             return Err(Failure::Refused(AsmCause::DuplicateLabel));
@@ -94,6 +97,7 @@ impl Before<'_> {
         Ok(Said {
             label: found.label,
             statement,
+            skeleton,
             listed,
         })
     }

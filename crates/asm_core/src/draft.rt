@@ -38,13 +38,13 @@ impl Draft {
             Ok(found) => found,
             Err(error) => return Err(Failure::Refused(AsmCause::Text(error))),
         };
-        let statement = statement_in(text, &found)?;
+        let (statement, skeleton) = statement_in(text, &found)?;
         let scope = Scope {
             alloc: self.alloc,
             symbols,
             at: pending.at,
         };
-        let outcome = scope.outcome(&statement)?;
+        let outcome = scope.outcome(&statement, &skeleton)?;
         self.fill(pending.at, &outcome)?;
         Ok(())
     }

@@ -57,7 +57,7 @@ impl Judge<'_> {
             symbols: self.symbols,
             at: self.at,
         };
-        match scope.outcome(&said.statement) {
+        match scope.outcome(&said.statement, &said.skeleton) {
             Ok(outcome) => {
                 if outcome.stands() {
                     let bytes = self.bytes_of(&outcome)?;

@@ -1,17 +1,16 @@
 //! A line as fields.
 
 ghost use Rattle.std.specs.Prelude.{◌≡◌, ◌≤◌, ◌<◌, ◌-◌, ◌++◌, ◌↔◌, ℕ, Some, None, length, take, map, replicate, slice_range};
-ghost use Rattle.std.specs.Prelude.{IfOk, IfSome, if◌then◌else◌, true, nat_le, ◌&&◌, Ok};
+ghost use Rattle.std.specs.Prelude.{is_some, IfOk, IfSome, if◌then◌else◌, true, nat_le, ◌&&◌, Ok};
 ghost use Rattle.source_defs.specs.Fields as spec;
 ghost use Rattle.source_defs.specs.Characters.{upper_case};
-ghost use Rattle.source_defs.specs.Names.{is_name, IsUpperCaseName};
+ghost use Rattle.source_defs.specs.Names.{all_letters_or_digits, is_name, IsUpperCaseName};
 ghost use Rattle.asm_text.specs.GivenFields.{defined_fields, defined_answer, FieldsLieInside};
 
-use crate::characters::{is_asterisk, is_blank, upper_case};
+use crate::characters::{is_asterisk, is_blank, is_letter, is_letter_or_digit, upper_case};
 use crate::line_fields::Fields;
 use crate::name::{LONGEST_NAME, Name};
 use crate::places::{operand_end, word_end, word_start};
-use crate::words::is_name;
 use source_defs::{Span, TextError};
 
 /// The most bytes that a line has.
@@ -110,21 +109,27 @@ pub fn upper_case_name(field: &[u8]) -> Option<Name>
     ensures value { result ≡ (if is_name field.now then Some (map upper_case field.now) else None) }
     ensures names { IfSome result IsUpperCaseName }
 {
-    if !is_name(field) {
+    if field.is_empty() || field.len() > LONGEST_NAME || !is_letter(field[0]) {
         return None;
     }
-    Some(Name::of_padded(in_upper_case(field), field.len()))
+    let letters = in_upper_case(field)?;
+    Some(Name::of_padded(letters, field.len()))
 }
 
-/// The letters of a label field in upper case, followed by zeros.
-fn in_upper_case(field: &[u8]) -> [u8; LONGEST_NAME]
+/// The letters and digits of a label field in upper case, followed by zeros; none where another character stands there.
+fn in_upper_case(field: &[u8]) -> Option<[u8; LONGEST_NAME]>
     requires { length field.now ≤ 6 }
-    ensures upper { take (length field.now) result ≡ map upper_case field.now }
-    ensures padded { result ≡ take (length field.now) result ++ replicate (6 - length field.now) 0 }
+    ensures all { is_some result ≡ all_letters_or_digits field.now }
+    ensures upper { IfSome result (λ letters. take (length field.now) letters ≡ map upper_case field.now) }
+    ensures padded { IfSome result (λ letters. letters
+        ≡ take (length field.now) letters ++ replicate (6 - length field.now) 0) }
 {
     let mut letters = [0; LONGEST_NAME];
     for (at, &byte) in field.iter().enumerate() {
+        if !is_letter_or_digit(byte) {
+            return None;
+        }
         letters[at] = upper_case(byte);
     }
-    letters
+    Some(letters)
 }
