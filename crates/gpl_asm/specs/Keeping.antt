@@ -19,3 +19,10 @@ pub record StandsStill (old new : GplLines) : Type 0 where
   pub location : new.location ≡ old.location
   pub taken : new.taken ≡ old.taken
   pub ended : new.ended ≡ old.ended
+
+-- a line that says nothing is counted
+pub record Counts (old new : GplLines) : Type 0 where
+  pub taken : new.taken ≡ old.taken + 1
+  pub lists : SameLists old new
+  pub location : new.location ≡ old.location
+  pub ended : new.ended ≡ old.ended

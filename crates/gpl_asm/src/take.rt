@@ -5,12 +5,13 @@ ghost use Rattle.source_defs.specs.Layout.{set_or};
 ghost use Rattle.gpl_source_defs.specs.Locations.{Line, behind, IsInGrom};
 ghost use Rattle.gpl_source_defs.specs.FirstChecks.{is_end};
 ghost use Rattle.gpl_lines.specs.Defined.{defined_statement};
-ghost use Rattle.gpl_asm.specs.Keeping.{SameLists};
+ghost use Rattle.gpl_asm.specs.Keeping.{Counts, SameLists};
 ghost use Rattle.gpl_asm.specs.Building.{IsBehind, Takes};
 
 use crate::error::{GplError, refusal_at};
 use crate::keep::rest_of;
 use crate::lines::GplLines;
+use asm_text::is_comment_line;
 use gpl_lines::{Checked, Scope};
 use gpl_source_defs::Location;
 
@@ -20,6 +21,10 @@ impl GplLines {
         requires { self.old.taken < 2 ^ 32 - 1 }
         ensures { (lines : List Line) → IsBehind lines self.old → Takes lines text.now result self.new }
     {
+        if is_comment_line(text) {
+            self.count();
+            return Ok(());
+        }
         let scope = self.scope();
         let checked = match scope.checked(text) {
             Ok(checked) => checked,
@@ -30,6 +35,14 @@ impl GplLines {
         self.keep(rest, checked.label, checked.label_value(self.location))?;
         self.advance(origin, &checked);
         Ok(())
+    }
+
+    /// Counts a line that says nothing.
+    fn count(&mut self)
+        requires { self.old.taken < 2 ^ 32 - 1 }
+        ensures { Counts self.old self.new }
+    {
+        self.taken += 1;
     }
 
     /// What a line behind those that were taken sees.

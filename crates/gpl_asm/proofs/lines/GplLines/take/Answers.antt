@@ -12,8 +12,14 @@ use Rattle.gpl_source_defs.specs.SecondChecks.{outcome}
 use Rattle.gpl_lines.specs.Defined.{defined_checked, defined_statement}
 use Rattle.gpl_source_defs.proofs.CheckLaws.{is_let_through}
 use Rattle.gpl_asm.specs.Replay.{answer}
+use Rattle.gpl_asm.proofs.CountLaws.{counted}
 use Rattle.gpl_asm.proofs.TakeLaws.{leads_on, reaches, is_behind}
 use Rattle.gpl_asm.proofs.lines.GplLines.take.Goals as goal
+
+pub returns-then-is_comment_line : goal.returns-then-is_comment_line
+returns-then-is_comment_line c = λ lines is.
+    counted lines c.args.self.now c.count.new.self is c.args.text.now (c.is_comment_line.ensures.fields c.if-is_comment_line.true)
+    c.count.ensures {A = Unit {0}} tt
 
 pub rest_of-requires-clause-said : goal.rest_of-requires-clause-said
 rest_of-requires-clause-said c =
