@@ -72,7 +72,8 @@ impl Before<'_> {
         ensures within { IfOk result (λ checked. MovesWithin checked.moved) }
     {
         let said = self.said(text)?;
-        self.moved(said)
+        let moved = self.moved(&said)?;
+        Ok(Checked { said, moved })
     }
 
     /// What a line says, whose names are new.
@@ -122,15 +123,13 @@ impl Before<'_> {
 
     /// Where a line leads.
     #[tactic(auto, using(crate::proofs::Failures::expr_fails), unfolding(asm_defs::specs::FirstChecks::moved))]
-    fn moved<'b>(&self, said: Said<'b>) -> Result<Checked<'b>, Failure>
+    fn moved(&self, said: &Said<'_>) -> Result<Move, Failure>
         requires places { KnowsPlaces self.now }
-        requires listed { ListsNames said }
-        requires little { MovesLittle said.statement }
-        ensures checked { Gives defined_checked result
-            (spec.moved (defined_before self.now) (defined_said said.entry)) }
-        ensures same { IfOk result (λ checked. checked.said ≡ said.entry) }
-        ensures listed { IfOk result (λ checked. ListsNames checked.said) }
-        ensures within { IfOk result (λ checked. MovesWithin checked.moved) }
+        requires listed { ListsNames said.now }
+        requires little { MovesLittle said.now.statement }
+        ensures checked { Gives (λ moved. defined_checked (record { said = said.now; moved = moved })) result
+            (spec.moved (defined_before self.now) (defined_said said.now)) }
+        ensures within { IfOk result MovesWithin }
     {
         let scope = Scope {
             alloc: self.alloc,
@@ -138,13 +137,13 @@ impl Before<'_> {
             at: self.location,
         };
         let moved = scope.move_by(self.reached, &said.statement)?;
-        if self.is_too_far(&said, &moved) {
+        if self.is_too_far(said, &moved) {
             return Err(Failure::Refused(AsmCause::Overflow));
         }
-        if self.is_bad(&said) {
+        if self.is_bad(said) {
             return Err(Failure::Refused(AsmCause::BadDirective));
         }
-        Ok(Checked { said, moved })
+        Ok(moved)
     }
 
     /// Whether a line leads past the end of its part, or lists too many names.
