@@ -4,16 +4,16 @@
 mod calls;
 mod contents;
 mod define;
-mod draft;
+mod second_pass;
 mod error;
 mod finish;
-mod judge;
+mod first_pass;
 mod keep;
 mod laws;
 mod lines;
 mod pending;
 mod references;
-mod settle;
+mod emit;
 mod source;
 mod take;
 

@@ -44,7 +44,7 @@ module _ (lines : List Line) (builder new : GplLines) (is : IsBehind lines build
         line_of (location lines) (length lines + 1) nothing_checked,
         ap (λ answer. answer >>= λ found. Ok (line_of (location lines) (length lines + 1) found)) (nothing_said (names lines) (location lines) text none there),
         is_behind lines builder is nothing_checked None new nothing_comes tt refl (reaches builder.location Nothing builder.placed fits) (record {
-          kept = counts.lists.kept ∙ sym (append-nil builder.kept.items);
+          waiting = counts.lists.waiting ∙ sym (append-nil builder.waiting.items);
           names = counts.lists.names;
           location = counts.location ∙ ap (λ number. record { grom = builder.location.grom; number = number }) (sym here);
           taken = counts.taken;

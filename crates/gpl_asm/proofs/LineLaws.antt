@@ -17,11 +17,11 @@ use Rattle.gpl_source_defs.specs.FirstChecks.{Checked, line_of, names, label_ent
 use Rattle.gpl_source_defs.specs.SecondChecks.{Outcome, Bytes, Entry, outcome}
 use Rattle.gpl_source_defs.specs.Programs.{Settled, settle, image, entry, bytes_in, entry_by, overlaps, with_room}
 use Rattle.gpl_source_defs.proofs.Sizes.{outcome_size}
-use Rattle.gpl_asm.specs.declared.kept.Kept.{Kept}
-use Rattle.gpl_asm.specs.declared.kept.Rest.{Rest}
+use Rattle.gpl_asm.specs.declared.pending.Pending.{Pending}
+use Rattle.gpl_asm.specs.declared.pending.Rest.{Rest}
 use Rattle.gpl_asm.specs.declared.lines.GplLines.{GplLines}
 use Rattle.gpl_asm.specs.Replay.{Built, put, answer, answer_by, step, replay, nothing, HasRoom, WaitsForSome}
-use Rattle.gpl_asm.specs.Keeping.{kept_of}
+use Rattle.gpl_asm.specs.Keeping.{pending_of}
 use Rattle.gpl_asm.specs.Building.{built_of, whole}
 use Rattle.std.proofs.lemmas.List.{append-nil}
 use Rattle.gpl_asm.proofs.ReplayLaws.{replay_more}
@@ -90,7 +90,7 @@ module _ (later : Names) where
 
   -- one that was kept, or comes to nothing
   pub kept_more : (builder : GplLines) (rest : Option Rest)
-      → replay later nothing (builder.kept.items ++ kept_of builder rest)
-      ≡ (replay later nothing builder.kept.items >>= λ built. at_line (builder.taken + 1) (answer later builder.location rest >>= λ found. put builder.location found built))
-  kept_more builder None = ap (replay later nothing) (append-nil builder.kept.items) ∙ sym (nothing_put (builder.taken + 1) builder.location (replay later nothing builder.kept.items))
-  kept_more builder (Some rest) = replay_more later nothing builder.kept.items (record { number = builder.taken + 1; at = builder.location; rest = rest })
+      → replay later nothing (builder.waiting.items ++ pending_of builder rest)
+      ≡ (replay later nothing builder.waiting.items >>= λ built. at_line (builder.taken + 1) (answer later builder.location rest >>= λ found. put builder.location found built))
+  kept_more builder None = ap (replay later nothing) (append-nil builder.waiting.items) ∙ sym (nothing_put (builder.taken + 1) builder.location (replay later nothing builder.waiting.items))
+  kept_more builder (Some rest) = replay_more later nothing builder.waiting.items (record { number = builder.taken + 1; at = builder.location; rest = rest })

@@ -20,11 +20,11 @@ use Rattle.gpl_source_defs.specs.SecondChecks.{Outcome, outcome}
 use Rattle.gpl_source_defs.specs.Programs.{bytes_in}
 use Rattle.gpl_source_defs.proofs.Sizes.{outcome_size}
 use Rattle.gpl_source_defs.proofs.CheckLaws.{is_let_through, leads}
-use Rattle.gpl_asm.specs.declared.kept.Kept.{Kept}
-use Rattle.gpl_asm.specs.declared.kept.Rest.{Rest}
+use Rattle.gpl_asm.specs.declared.pending.Pending.{Pending}
+use Rattle.gpl_asm.specs.declared.pending.Rest.{Rest}
 use Rattle.gpl_asm.specs.declared.lines.GplLines.{GplLines}
 use Rattle.gpl_asm.specs.Replay.{Built, put, answer, answer_by, replay, nothing, HasRoom, WaitsForSome}
-use Rattle.gpl_asm.specs.Keeping.{kept_of}
+use Rattle.gpl_asm.specs.Keeping.{pending_of}
 use Rattle.gpl_asm.specs.Building.{IsBehind, whole}
 use Rattle.gpl_asm.proofs.LineLaws.{location_more, place_is, whole_more, kept_more}
 use Rattle.grom_defs.specs.declared.size.TheConstants.{GROM_SIZE}
@@ -59,9 +59,9 @@ module _ (lines : List Line) (builder : GplLines) (is : IsBehind lines builder) 
 
     abbrev of_answer : ℕ → Result Outcome GplCause → Result Built (Refusal GplCause)
     of_answer number came =
-        replay later nothing builder.kept.items >>= λ built. at_line number (came >>= λ came. put builder.location came built)
+        replay later nothing builder.waiting.items >>= λ built. at_line number (came >>= λ came. put builder.location came built)
 
-    pub replays_more : whole later (line ∷ lines) ≡ replay later nothing (builder.kept.items ++ kept_of builder rest)
+    pub replays_more : whole later (line ∷ lines) ≡ replay later nothing (builder.waiting.items ++ pending_of builder rest)
     replays_more =
         whole_more later lines line
         ∙ (ap at_place (place_is (length lines + 1) found lines ∙ sym is.location)
@@ -71,7 +71,7 @@ module _ (lines : List Line) (builder : GplLines) (is : IsBehind lines builder) 
         ∙ sym (kept_more later builder rest)))))
 
     room_of : (left : Option Rest) → answer later builder.location left ≡ outcome (look_up later) builder.location found.statement → WaitsForSome left
-        → builder.location.number + size_said found.statement ≤ 65536 → AllByRecursion (HasRoom later) (kept_of builder left)
+        → builder.location.number + size_said found.statement ≤ 65536 → AllByRecursion (HasRoom later) (pending_of builder left)
     room_of None same waits le = tt
     room_of (Some left) same waits le = (
       record {
@@ -84,13 +84,13 @@ module _ (lines : List Line) (builder : GplLines) (is : IsBehind lines builder) 
     )
 
     pub room_more : WaitsForSome rest → builder.location.number + size_said found.statement ≤ 65536
-        → AllByRecursion (HasRoom later) (builder.kept.items ++ kept_of builder rest)
+        → AllByRecursion (HasRoom later) (builder.waiting.items ++ pending_of builder rest)
     room_more waits le =
-        all_append (HasRoom later) builder.kept.items (kept_of builder rest) (is.room later grows) (room_of rest (answers later grows) waits le)
+        all_append (HasRoom later) builder.waiting.items (pending_of builder rest) (is.room later grows) (room_of rest (answers later grows) waits le)
 
   -- the builder that has taken it
   pub record TakesOne (new : GplLines) : Type 0 where
-    pub kept : new.kept.items ≡ builder.kept.items ++ kept_of builder rest
+    pub waiting : new.waiting.items ≡ builder.waiting.items ++ pending_of builder rest
     pub names : new.symbols ≡ with_names builder.symbols (label_entry found.label (label_value builder.location found.statement))
     pub location : new.location ≡ behind (set_or (origin_of builder.location found.statement) builder.location) (size_said found.statement)
     pub taken : new.taken ≡ builder.taken + 1
@@ -111,9 +111,9 @@ module _ (lines : List Line) (builder : GplLines) (is : IsBehind lines builder) 
         taken = takes.taken ∙ (ap (λ taken. taken + 1) is.taken ∙ omega arith);
         ended = takes.ended ∙ ap (λ ended. is_end found.statement || ended) is.ended;
         replays = λ later more.
-            replays_more answers later (grown_on builder.symbols new.symbols later grows more) ∙ ap (replay later nothing) (sym takes.kept);
+            replays_more answers later (grown_on builder.symbols new.symbols later grows more) ∙ ap (replay later nothing) (sym takes.waiting);
         room = λ later more.
-            subst (AllByRecursion (HasRoom later)) (sym takes.kept) (room_more answers later (grown_on builder.symbols new.symbols later grows more) waits le);
+            subst (AllByRecursion (HasRoom later)) (sym takes.waiting) (room_more answers later (grown_on builder.symbols new.symbols later grows more) waits le);
       }
 
 -- where the builder goes on

@@ -29,9 +29,9 @@ pub record IsBehind (lines : List Line) (builder : GplLines) : Type 0 where
   pub location : builder.location ≡ location lines
   pub taken : builder.taken ≡ length lines
   pub ended : builder.ended ≡ has_ended lines
-  -- whatever names are still to come, the lines that were kept come to what all lines come to
-  pub replays : (later : Names) → Grows builder.symbols later → whole later lines ≡ replay later nothing builder.kept.items
-  pub room : (later : Names) → Grows builder.symbols later → AllByRecursion (HasRoom later) builder.kept.items
+  -- whatever names are still to come, the lines that wait come to what all lines come to
+  pub replays : (later : Names) → Grows builder.symbols later → whole later lines ≡ replay later nothing builder.waiting.items
+  pub room : (later : Names) → Grows builder.symbols later → AllByRecursion (HasRoom later) builder.waiting.items
 
 -- a line was taken behind others, or why it is refused there
 abbrev pub Takes : {A : Type 0} → List Line → List ℕ → Result A GplError → GplLines → Type 0

@@ -5,7 +5,7 @@ mod calls;
 mod error;
 mod finish;
 mod keep;
-mod kept;
+mod pending;
 mod lines;
 mod place;
 mod source;

@@ -9,7 +9,7 @@ ghost use Rattle.gpl_asm.specs.Keeping.{Counts, SameLists};
 ghost use Rattle.gpl_asm.specs.Building.{IsBehind, Takes};
 
 use crate::error::{GplError, refusal_at};
-use crate::keep::rest_of;
+use crate::keep::assemble_line;
 use crate::lines::GplLines;
 use asm_text::is_comment_line;
 use gpl_lines::{Checked, Scope};
@@ -30,7 +30,7 @@ impl GplLines {
             Ok(checked) => checked,
             Err(failure) => return Err(refusal_at(self.taken + 1, failure)),
         };
-        let rest = rest_of(&scope, text, &checked.statement)?;
+        let rest = assemble_line(&scope, text, &checked.statement)?;
         let origin = checked.origin(self.location);
         self.keep(rest, checked.label, checked.label_value(self.location))?;
         self.advance(origin, &checked);
@@ -66,7 +66,7 @@ impl GplLines {
         ensures location { self.new.location ≡ behind (set_or origin self.old.location) checked.now.size }
         ensures taken { self.new.taken ≡ self.old.taken + 1 }
         ensures ended { self.new.ended ≡ (is_end (defined_statement checked.now.statement) || self.old.ended) }
-        ensures kept { SameLists self.old self.new }
+        ensures waiting { SameLists self.old self.new }
     {
         let from = match origin {
             Some(origin) => origin,
