@@ -103,8 +103,7 @@ impl FirstPass<'_> {
         requires fits { self.now.at.number + size_said (defined_statement said.now.statement) ≤ 65536 }
         ensures { IfOk result (λ zeros. GivesBytes self.now.at (held_place self.now.at (defined_statement said.now.statement)).outcome zeros.items) }
     {
-        let zeros = vec![in self.alloc; 0; size_said(&said.statement) as usize]?;
-        self.bytes_of(&Outcome::Bytes(zeros))
+        vec![in self.alloc; Content::Byte(0); size_said(&said.statement) as usize]
     }
 
     /// The bytes of what a line comes to. There are none in the part of dummy lines.
