@@ -1,15 +1,15 @@
 -- What a builder ends with.
-use Rattle.std.proofs.Common.{◌≡◌, [], ◌∷◌, Ok, Err, Some, None, List, refl, sym, ap, subst, ◌∙◌, Vec, Global}
-use Rattle.std.specs.Prelude.{Option, Result, map}
-use Rattle.source_defs.specs.Refusals.{Refusal, ◌>>=◌}
+use Rattle.std.proofs.Common.{◌≡◌, [], ◌∷◌, Ok, Some, None, List, sym, ap, subst, ◌∙◌, Vec, Global}
+use Rattle.std.specs.Prelude.{Option}
+use Rattle.source_defs.specs.Refusals.{◌>>=◌}
 use Rattle.source_defs.specs.Orders.{onto}
 use Rattle.source_defs.specs.Symbols.{Names}
 use Rattle.source_defs.specs.Layout.{settled}
 use Rattle.object_defs.specs.Modules.{Module, Reference}
 use Rattle.asm_defs.specs.Locations.{Line}
-use Rattle.asm_defs.specs.FirstChecks.{names, refs}
+use Rattle.asm_defs.specs.FirstChecks.{names}
 use Rattle.asm_defs.specs.Memory.{Settled}
-use Rattle.asm_defs.specs.Modules.{settle, unused, module_by, module_behind}
+use Rattle.asm_defs.specs.Modules.{settle, module_by, module_behind}
 use Rattle.module_image.specs.Standing.{AllStand}
 use Rattle.module_image.specs.declared.image.Image.{Image}
 use Rattle.asm_core.specs.declared.second_pass.Output.{Output}

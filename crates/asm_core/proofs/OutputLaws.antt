@@ -1,5 +1,5 @@
 -- A line that comes to the place that was held for it.
-use Rattle.std.proofs.Common.{◌≡◌, ◌+◌, ◌≤◌, Bool, true, false, List, [], ◌∷◌, Some, None, Ok, Err, length, refl, sym, ap, subst, ◌∙◌, arith}
+use Rattle.std.proofs.Common.{◌≡◌, ◌+◌, ◌≤◌, Bool, true, false, List, [], Some, None, Ok, Err, length, refl, sym, ap, subst, ◌∙◌, arith}
 use Rattle.std.specs.Prelude.{Option, Result, map, OnOk, OnErr, if◌then◌else◌}
 use Rattle.object_defs.specs.Modules.{Reference}
 use Rattle.object_tags.specs.Seen.{defined_ref}
@@ -7,14 +7,13 @@ use Rattle.asm_defs.specs.declared.content.Content.{Content}
 use Rattle.asm_defs.specs.declared.location.Part.TheVariants as part
 use Rattle.asm_defs.specs.declared.location.Location.{Location}
 use Rattle.asm_defs.specs.SecondChecks.{Outcome, Nothing, Words, Bytes, Entry}
-use Rattle.asm_defs.specs.Memory.{Settled, bytes_in, same_part, is_placed_in, contents_by, references_of, behind_by, behind_words, content_at}
+use Rattle.asm_defs.specs.Memory.{Settled, bytes_in, same_part, is_placed_in, contents_by, references_of, behind_by, behind_words}
 use Rattle.module_image.specs.Images.{IsEmpty, IsImage, IsLaid}
-use Rattle.module_image.specs.Standing.{AllStand, FillsPlace}
 use Rattle.module_image.specs.declared.image.Image.{Image}
 use Rattle.module_image.proofs.HoldingLaws.{contents_length}
 use Rattle.module_image.proofs.SwapLaws.{image_filled}
 use Rattle.asm_core.specs.Building.{ImageOf}
-use Rattle.asm_core.specs.Resolving.{HoldsBytes, FillsBytes}
+use Rattle.asm_core.specs.Resolving.{FillsBytes}
 use Rattle.asm_core.specs.declared.second_pass.Output.{Output}
 
 -- no word is a use in the part of dummy lines

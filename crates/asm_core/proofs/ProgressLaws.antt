@@ -1,14 +1,11 @@
 -- The lines that wait, settled one after the other.
 use Rattle.std.proofs.Common.{◌≡◌, ℕ, suc, ◌+◌, ◌<◌, List, [], ◌∷◌, Ok, Err, length, get_or, drop, refl, sym, ap, subst, ◌∙◌, arith}
 use Rattle.std.proofs.Math.Seq.{drop-cons}
-use Rattle.std.specs.Prelude.{Result}
-use Rattle.source_defs.specs.Refusals.{Refusal, ◌>>=◌}
+use Rattle.source_defs.specs.Refusals.{◌>>=◌}
 use Rattle.source_defs.specs.Orders.{onto}
 use Rattle.source_defs.specs.Symbols.{Names}
 use Rattle.source_defs.specs.Layout.{settled}
 use Rattle.object_defs.specs.Modules.{Reference}
-use Rattle.object_tags.specs.Seen.{defined_ref}
-use Rattle.asm_defs.specs.declared.causes.AsmCause.{AsmCause}
 use Rattle.asm_defs.specs.Locations.{Line, place}
 use Rattle.asm_defs.specs.Memory.{Settled, is_placed, references_of}
 use Rattle.asm_defs.specs.Modules.{settle, entry}
@@ -21,7 +18,7 @@ use Rattle.module_image.proofs.SwapLaws.{places_same, onto_same, stand_same}
 use Rattle.asm_core.specs.declared.second_pass.Output.{Output}
 use Rattle.asm_core.specs.declared.pending.Pending.{Pending}
 use Rattle.asm_core.specs.Building.{IsOf, AreKnown, refusal_at}
-use Rattle.asm_core.specs.Resolving.{HoldsBytes, IsOutput, IsResolved, answer_to}
+use Rattle.asm_core.specs.Resolving.{IsOutput, IsResolved, answer_to}
 use Rattle.asm_core.specs.Finishing.{RefusesAt, AreResolved}
 use Rattle.asm_core.proofs.KnownLaws.{NextHeld, next_held, none_held}
 use Rattle.asm_core.proofs.ResolveLaws.{settled_more, settled_stops, settled_stopped, answer_is, settle_by, settle_filled, fills_place, fills_held, refuses_by}

@@ -1,7 +1,6 @@
 -- The line that is refused, behind those that are settled.
-use Rattle.std.proofs.Common.{◌≡◌, ℕ, ◌∷◌, [], Ok, Err, Some, None, List, sym, ap, subst, ◌∙◌}
-use Rattle.std.specs.Prelude.{Option, Result}
-use Rattle.source_defs.specs.Refusals.{Refusal, ◌>>=◌}
+use Rattle.std.proofs.Common.{◌≡◌, ◌∷◌, [], Ok, Err, Some, None, List, sym, ap, subst, ◌∙◌}
+use Rattle.source_defs.specs.Refusals.{◌>>=◌}
 use Rattle.source_defs.specs.Orders.{onto}
 use Rattle.source_defs.specs.Symbols.{Names}
 use Rattle.source_defs.specs.Layout.{settled}
@@ -20,7 +19,7 @@ use Rattle.module_image.proofs.SwapLaws.{room_same}
 use Rattle.asm_core.specs.declared.second_pass.Output.{Output}
 use Rattle.asm_core.specs.declared.pending.Pending.{Pending}
 use Rattle.asm_core.specs.declared.pending.Refused.{Refused}
-use Rattle.asm_core.specs.Building.{IsOf, Refuses, IsStopped, refusal_at}
+use Rattle.asm_core.specs.Building.{Refuses, IsStopped, refusal_at}
 use Rattle.asm_core.specs.Resolving.{IsResolved, answer_to}
 use Rattle.asm_core.specs.Finishing.{RefusesAt}
 use Rattle.asm_core.proofs.ResolveLaws.{settled_stops, settled_stopped, answer_is, settle_by, settle_same, settle_filled, refuses_by, real}

@@ -1,12 +1,12 @@
 -- A builder with one line more.
-use Rattle.std.proofs.Common.{◌≡◌, ◌+◌, ◌++◌, ◌∷◌, List, ℕ, Ok, Err, true, false, Some, None, Bool, refl, sym, ap, subst, ◌∙◌, append-nil}
-use Rattle.std.specs.Prelude.{Result, Option, OnOk, IsErrAnd, is_some, option_to_list}
+use Rattle.std.proofs.Common.{◌≡◌, ◌+◌, ◌++◌, List, ℕ, Ok, Err, true, false, Some, None, refl, sym, ap, subst, ◌∙◌, append-nil}
+use Rattle.std.specs.Prelude.{Result, Option, OnOk, IsErrAnd, is_some}
 use Rattle.std.proofs.Common.{Vec, Global}
 use Rattle.asm_defs.specs.FirstChecks.{defs_in, refs_in}
 use Rattle.source_defs.specs.Symbols.{Names}
 use Rattle.source_defs.specs.Growing.{Grows}
 use Rattle.asm_defs.specs.declared.location.Location.{Location}
-use Rattle.asm_defs.specs.Locations.{Line, behind, place}
+use Rattle.asm_defs.specs.Locations.{Line, behind}
 use Rattle.asm_defs.specs.Memory.{Settled}
 use Rattle.module_image.specs.declared.image.Image.{Image}
 use Rattle.asm_checks.specs.Defined.{defined_statement}
@@ -19,9 +19,9 @@ use Rattle.asm_core.specs.Assembling.{AssemblesBy}
 use Rattle.asm_core.specs.declared.error.AsmError.{AsmError}
 use Rattle.asm_core.specs.declared.error.AsmError.TheVariants.{Memory}
 use Rattle.asm_core.specs.Building.{IsWorked, ImageOf, IsGoing, IsBehind, Takes}
-use Rattle.asm_core.specs.Keeping.{names_with, Keeps, IsUnchanged, SameNames, SameWork, StandsStill}
+use Rattle.asm_core.specs.Keeping.{names_with, Keeps, IsUnchanged, SameWork, StandsStill}
 use Rattle.asm_core.specs.Emitting.{SameLines, SameKnown, Emits}
-use Rattle.asm_core.specs.Adding.{Adds, IsAsBefore, IsNext, WorksIn}
+use Rattle.asm_core.specs.Adding.{Adds, IsAsBefore, WorksIn}
 use Rattle.asm_core.proofs.WorkedLaws.{worked_stopped, emits_worked}
 
 -- a builder by what it works in

@@ -1,5 +1,5 @@
 -- A builder that has worked one line more.
-use Rattle.std.proofs.Common.{◌≡◌, ℕ, ◌+◌, Bool, true, false, not, List, [], ◌∷◌, ◌++◌, Some, None, Ok, Err, refl, sym, ap, subst, ◌∙◌, inl, inr, append-nil}
+use Rattle.std.proofs.Common.{◌≡◌, ℕ, ◌+◌, true, false, not, List, [], ◌∷◌, ◌++◌, Some, None, Ok, Err, refl, sym, ap, subst, ◌∙◌, inl, inr, append-nil}
 use Rattle.std.specs.Prelude.{Option, Result, is_some, option_to_list, ◌⊎◌}
 use Rattle.source_defs.specs.Refusals.{◌>>=◌}
 use Rattle.source_defs.specs.Orders.{onto}
@@ -13,13 +13,13 @@ use Rattle.asm_defs.specs.declared.location.Location.{Location}
 use Rattle.asm_defs.specs.Locations.{Line, place}
 use Rattle.asm_defs.specs.Statements as said
 use Rattle.asm_defs.specs.Statements.{Statement, said_of}
-use Rattle.asm_defs.specs.SecondChecks.{Outcome, outcome}
-use Rattle.asm_defs.specs.Memory.{Settled, contents_by, references_of, is_placed_in}
+use Rattle.asm_defs.specs.SecondChecks.{outcome}
+use Rattle.asm_defs.specs.Memory.{Settled, contents_by, references_of}
 use Rattle.asm_defs.specs.Modules.{settle, with_room}
-use Rattle.asm_defs.specs.Growing.{is_open, stands, held_place}
+use Rattle.asm_defs.specs.Growing.{is_open, held_place}
 use Rattle.asm_checks.specs.Answers.{Causes}
 use Rattle.asm_checks.proofs.Failures.{caused, causes_on}
-use Rattle.module_image.specs.Standing.{StandsBehind, AllStand}
+use Rattle.module_image.specs.Standing.{StandsBehind}
 use Rattle.module_image.specs.declared.image.Image.{Image}
 use Rattle.module_image.proofs.SwapLaws.{stands_alone, no_room, has_own_room, are_causes}
 use Rattle.asm_core.specs.declared.pending.Pending.{Pending}
@@ -28,7 +28,7 @@ use Rattle.asm_core.specs.declared.lines.AsmLines.{AsmLines}
 use Rattle.asm_core.specs.declared.first_pass.Emitted.{Emitted}
 use Rattle.asm_core.specs.declared.first_pass.Emitted.TheVariants as emitted
 use Rattle.asm_core.specs.Building.{IsOf, IsKnown, IsWaiting, AreKnown, ImageOf, IsGoing, Refuses, IsStopped, IsWorked}
-use Rattle.asm_core.specs.Assembling.{GivesBytes, ComesTo, IsHeld, IsPending, IsRefused, AssemblesBy}
+use Rattle.asm_core.specs.Assembling.{ComesTo, IsHeld, IsRefused, AssemblesBy}
 use Rattle.asm_core.specs.Emitting.{AreContents, Stops, ByRoom, Emits}
 use Rattle.asm_core.proofs.BlankLaws.{nothing_placed, nothing_comes, still_room}
 use Rattle.asm_core.proofs.KnownLaws.{onto_more, stand_more, known_more, held_more, known_still, refuses_still, comes_still}

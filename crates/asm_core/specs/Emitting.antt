@@ -14,7 +14,6 @@ use Rattle.asm_core.specs.declared.lines.AsmLines.{AsmLines}
 use Rattle.asm_core.specs.declared.first_pass.Emitted.{Emitted}
 use Rattle.asm_core.specs.declared.first_pass.Emitted.TheVariants as emitted
 use Rattle.asm_core.specs.declared.pending.Pending.{Pending}
-use Rattle.asm_core.specs.declared.pending.Refused.{Refused}
 
 -- all but the image, the lines that wait and the one that is refused are as before
 pub record SameKnown (old new : AsmLines) : Type 0 where

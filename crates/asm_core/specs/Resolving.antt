@@ -11,7 +11,7 @@ use Rattle.asm_defs.specs.Statements.{Statement, said_of}
 use Rattle.asm_defs.specs.SecondChecks.{Outcome, outcome}
 use Rattle.asm_defs.specs.Memory.{Settled, bytes_in, references_of}
 use Rattle.asm_defs.specs.Modules.{entry}
-use Rattle.asm_defs.specs.Growing.{size_said, held_place}
+use Rattle.asm_defs.specs.Growing.{size_said}
 use Rattle.asm_checks.specs.Answers.{Fails}
 use Rattle.asm_checks.specs.declared.failure.Failure.{Failure}
 use Rattle.module_image.specs.Images.{IsImage}

@@ -10,7 +10,7 @@ ghost use Rattle.asm_core.specs.Assembling.{Assembles, HasRoom, EmittedFits};
 ghost use Rattle.asm_core.specs.Building.{ImageOf};
 ghost use Rattle.asm_core.specs.Emitting.{SameKnown, SameLines, AreContents, Places, Stops, Emits};
 
-use crate::first_pass::{Emitted, FirstPass, Assembled};
+use crate::first_pass::{Assembled, Emitted, FirstPass};
 use crate::lines::AsmLines;
 use crate::pending::Refused;
 use asm_checks::{Checked, behind};
@@ -33,7 +33,11 @@ impl AsmLines {
     }
 
     /// Assembles the next line by the names that are known.
-    pub(crate) fn assemble_line(&self, text: &[u8], checked: &Checked<'_>) -> Result<Assembled, AllocError>
+    pub(crate) fn assemble_line(
+        &self,
+        text: &[u8],
+        checked: &Checked<'_>,
+    ) -> Result<Assembled, AllocError>
         requires taken { self.now.taken < 2 ^ 32 - 1 }
         requires line { IsSaid checked.now.said }
         requires within { MovesWithin checked.now.moved }

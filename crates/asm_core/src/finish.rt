@@ -15,10 +15,10 @@ ghost use Rattle.asm_core.specs.Building.{AreKnown, ImageOf, IsStopped, IsBehind
 ghost use Rattle.asm_core.specs.Resolving.{IsOutput};
 ghost use Rattle.asm_core.specs.Finishing.{GivesModule, Knows, SameEnd, ResolvesAll, StopsBehind};
 
-use crate::second_pass::{Output, unused_references};
 use crate::error::AsmError;
 use crate::lines::AsmLines;
 use crate::pending::Refused;
+use crate::second_pass::{Output, unused_references};
 use asm_checks::Failure;
 use asm_text::{Name, Symbols, Value};
 use module_image::{Image, pieces};

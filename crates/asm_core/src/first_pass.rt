@@ -46,7 +46,11 @@ pub(crate) struct FirstPass<'a> {
 
 impl FirstPass<'_> {
     /// Assembles a line by the names that are known.
-    pub(crate) fn assemble_line(&self, text: &[u8], said: &Said<'_>) -> Result<Assembled, AllocError>
+    pub(crate) fn assemble_line(
+        &self,
+        text: &[u8],
+        said: &Said<'_>,
+    ) -> Result<Assembled, AllocError>
         requires line { IsSaid said.now }
         requires room { HasRoom self.now.at text.now (defined_statement said.now.statement) }
         ensures { IfOk result

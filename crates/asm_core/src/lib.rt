@@ -4,7 +4,7 @@
 mod calls;
 mod contents;
 mod define;
-mod second_pass;
+mod emit;
 mod error;
 mod finish;
 mod first_pass;
@@ -13,7 +13,7 @@ mod laws;
 mod lines;
 mod pending;
 mod references;
-mod emit;
+mod second_pass;
 mod source;
 mod take;
 

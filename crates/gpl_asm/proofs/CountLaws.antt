@@ -1,17 +1,15 @@
 -- A builder behind a line that says nothing.
-use Rattle.std.proofs.Common.{◌≡◌, ℕ, ◌+◌, ◌≤◌, false, List, [], ◌∷◌, None, Ok, length, refl, sym, ap, ◌∙◌, arith}
-use Rattle.std.specs.Prelude.{Result}
+use Rattle.std.proofs.Common.{◌≡◌, ℕ, ◌+◌, false, List, None, Ok, length, refl, sym, ap, ◌∙◌, arith}
 use Rattle.std.proofs.lemmas.List.{append-nil}
 use Rattle.std.proofs.lemmas.Bool.Decides.{nat_tests}
 use Rattle.source_defs.specs.Refusals.{◌>>=◌}
 use Rattle.source_defs.specs.Fields.{fields, no_fields}
-use Rattle.source_defs.specs.Symbols.{Names, look_up}
+use Rattle.source_defs.specs.Symbols.{Names}
 use Rattle.gpl_source_defs.specs.declared.location.Location.{Location}
 use Rattle.gpl_source_defs.specs.Statements.{Nothing}
-use Rattle.gpl_source_defs.specs.Locations.{Line, location, behind, IsInGrom}
+use Rattle.gpl_source_defs.specs.Locations.{Line, location, IsInGrom}
 use Rattle.gpl_source_defs.specs.FirstChecks.{Checked, checked, line_of, names, is_full}
 use Rattle.gpl_source_defs.specs.SecondChecks.{outcome}
-use Rattle.gpl_asm.specs.declared.error.GplError.{GplError}
 use Rattle.gpl_asm.specs.declared.lines.GplLines.{GplLines}
 use Rattle.gpl_asm.specs.Building.{IsBehind, Takes}
 use Rattle.gpl_asm.specs.Keeping.{Counts}

@@ -1,5 +1,5 @@
 -- What a builder ends with, by what its lines come to.
-use Rattle.std.proofs.Common.{◌≡◌, ◌∷◌, List, Ok, Err, refl, sym, ap, ◌∙◌}
+use Rattle.std.proofs.Common.{◌≡◌, List, Ok, Err, sym, ap, ◌∙◌}
 use Rattle.std.specs.Prelude.{Result}
 use Rattle.source_defs.specs.Refusals.{Refusal, ◌>>=◌}
 use Rattle.source_defs.specs.Symbols.{Names}
@@ -8,7 +8,7 @@ use Rattle.source_defs.proofs.DefinedNames.{grown_not}
 use Rattle.gpl_source_defs.specs.declared.causes.GplCause.{GplCause}
 use Rattle.gpl_source_defs.specs.Locations.{Line}
 use Rattle.gpl_source_defs.specs.FirstChecks.{names}
-use Rattle.gpl_source_defs.specs.Programs.{Program, Settled, settle, program_by, program_behind}
+use Rattle.gpl_source_defs.specs.Programs.{Settled, settle, program_by, program_behind}
 use Rattle.gpl_asm.specs.declared.error.GplError.{GplError}
 use Rattle.gpl_asm.specs.declared.error.GplError.TheVariants.{At, Memory}
 use Rattle.gpl_asm.specs.declared.lines.GplLines.{GplLines}

@@ -1,5 +1,5 @@
 -- Lines that are replayed one after the other.
-use Rattle.std.proofs.Common.{◌≡◌, ℕ, List, [], ◌∷◌, ◌++◌, Ok, Err, refl, ap, ◌∙◌}
+use Rattle.std.proofs.Common.{◌≡◌, List, [], ◌∷◌, ◌++◌, Ok, Err, refl}
 use Rattle.std.specs.Prelude.{Result}
 use Rattle.source_defs.specs.Refusals.{Refusal, ◌>>=◌}
 use Rattle.source_defs.specs.Symbols.{Names}

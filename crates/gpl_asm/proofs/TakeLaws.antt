@@ -1,29 +1,26 @@
 -- A builder that has taken one line more.
-use Rattle.std.proofs.Common.{◌≡◌, ℕ, ◌+◌, ◌≤◌, Bool, true, false, ◌||◌, List, [], ◌∷◌, ◌++◌, Some, None, Ok, Err, length, refl, sym, ap, subst, ◌∙◌, arith}
+use Rattle.std.proofs.Common.{◌≡◌, ℕ, ◌+◌, ◌≤◌, false, ◌||◌, List, [], ◌∷◌, ◌++◌, Some, None, Ok, length, refl, sym, ap, subst, ◌∙◌, arith}
 use Rattle.std.specs.Prelude.{Option, Result, IfSome, is_some}
 use Rattle.std.proofs.lemmas.Bool.Decides.{nat_tests}
 use Rattle.std.specs.List.{AllByRecursion}
 use Rattle.std.specs.FinMap.{get}
-use Rattle.std.proofs.lemmas.List.{append-nil}
 use Rattle.source_defs.specs.Refusals.{Refusal, ◌>>=◌, at_line}
-use Rattle.source_defs.specs.Expression.{Value, Absolute}
+use Rattle.source_defs.specs.Expression.{Absolute}
 use Rattle.source_defs.specs.Symbols.{Names, look_up}
 use Rattle.source_defs.specs.Growing.{Grows}
-use Rattle.source_defs.specs.Layout.{with_names, has_ended, set_or}
+use Rattle.source_defs.specs.Layout.{with_names, set_or}
 use Rattle.source_defs.proofs.DefinedNames.{grown, grown_on, grown_not}
 use Rattle.gpl_source_defs.specs.declared.causes.GplCause.{GplCause}
 use Rattle.gpl_source_defs.specs.declared.location.Location.{Location}
 use Rattle.gpl_source_defs.specs.Statements.{Statement, size_said}
-use Rattle.gpl_source_defs.specs.Locations.{Line, location, place, behind, origin_of, IsInGrom}
+use Rattle.gpl_source_defs.specs.Locations.{Line, location, behind, origin_of, IsInGrom}
 use Rattle.gpl_source_defs.specs.FirstChecks.{Checked, checked, line_of, names, label_entry, label_value, is_taken, is_end, is_full}
 use Rattle.gpl_source_defs.specs.SecondChecks.{Outcome, outcome}
-use Rattle.gpl_source_defs.specs.Programs.{bytes_in}
 use Rattle.gpl_source_defs.proofs.Sizes.{outcome_size}
 use Rattle.gpl_source_defs.proofs.CheckLaws.{is_let_through, leads}
-use Rattle.gpl_asm.specs.declared.pending.Pending.{Pending}
 use Rattle.gpl_asm.specs.declared.pending.Rest.{Rest}
 use Rattle.gpl_asm.specs.declared.lines.GplLines.{GplLines}
-use Rattle.gpl_asm.specs.Replay.{Built, put, answer, answer_by, replay, nothing, HasRoom, WaitsForSome}
+use Rattle.gpl_asm.specs.Replay.{Built, put, answer, replay, nothing, HasRoom, WaitsForSome}
 use Rattle.gpl_asm.specs.Keeping.{pending_of}
 use Rattle.gpl_asm.specs.Building.{IsBehind, whole}
 use Rattle.gpl_asm.proofs.LineLaws.{location_more, place_is, whole_more, kept_more}

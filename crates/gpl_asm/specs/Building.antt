@@ -12,7 +12,6 @@ use Rattle.gpl_source_defs.specs.Programs.{Settled, settle, image, entry}
 use Rattle.gpl_asm.specs.declared.lines.GplLines.{GplLines}
 use Rattle.gpl_asm.specs.declared.error.GplError.{GplError}
 use Rattle.gpl_asm.specs.declared.error.GplError.TheVariants as error
-use Rattle.gpl_asm.specs.Errors.{RefusesAt}
 use Rattle.gpl_asm.specs.Replay.{Built, nothing, replay, HasRoom}
 use Rattle.gpl_lines.specs.Answers.{NoMemory}
 

@@ -9,8 +9,8 @@ ghost use Rattle.gpl_asm.specs.Building.{IsBehind};
 ghost use Rattle.gpl_asm.specs.Finishing.{GivesProgram};
 
 use crate::error::{GplError, refusal_at};
-use crate::pending::{Pending, Rest};
 use crate::lines::GplLines;
+use crate::pending::{Pending, Rest};
 use crate::place::put;
 use asm_text::Symbols;
 use gpl_forms::GromImage;

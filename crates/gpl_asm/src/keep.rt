@@ -13,8 +13,8 @@ ghost use Rattle.gpl_lines.specs.Validity.{IsValid};
 ghost use Rattle.gpl_asm.specs.Replay.{answer, WaitsForSome};
 ghost use Rattle.gpl_asm.specs.Keeping.{pending_of, StandsStill};
 
-use crate::pending::{Pending, Rest};
 use crate::lines::GplLines;
+use crate::pending::{Pending, Rest};
 use asm_text::{ExprError, Name, Symbols, Value};
 use gpl_lines::{Failure, Outcome, Scope, Statement};
 use gpl_source_defs::GplCause;

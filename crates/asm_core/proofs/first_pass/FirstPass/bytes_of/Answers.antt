@@ -1,4 +1,4 @@
-use Rattle.std.proofs.Common.{List, [], Ok, Err, ap, ◌∙◌}
+use Rattle.std.proofs.Common.{List, Ok, Err, ap, ◌∙◌}
 use Rattle.std.specs.Prelude.{Result, map, OnOk, IfOk}
 use Rattle.object_tags.specs.Seen.{defined_ref}
 use Rattle.object_tags.specs.declared.parts.Ref.{Ref}

@@ -1,7 +1,6 @@
-use Rattle.std.proofs.Common.{◌≡◌, ◌+◌, ◌≤◌, ℕ, zero, suc, ◌∷◌, Ok, Err, length, refl, sym, ap, ◌∙◌, arith}
+use Rattle.std.proofs.Common.{◌≡◌, ◌+◌, ◌≤◌, ℕ, zero, suc, ◌∷◌, Ok, Err, length, refl, ap, ◌∙◌, arith}
 use Rattle.std.specs.Prelude.{Result, IfOk, map, replicate}
 use Rattle.std.proofs.lemmas.List.{length-replicate}
-use Rattle.asm_defs.specs.declared.content.Content.{Content}
 use Rattle.asm_defs.specs.declared.content.Content.TheVariants.{Byte}
 use Rattle.asm_defs.specs.SecondChecks.{Bytes}
 use Rattle.asm_defs.specs.Growing.{size_said}

@@ -1,4 +1,4 @@
-use Rattle.std.proofs.Common.{◌≡◌, ℕ, [], List, sym, ap, subst}
+use Rattle.std.proofs.Common.{ℕ, [], List, subst}
 use Rattle.std.specs.Prelude.{map}
 use Rattle.std.proofs.lemmas.Result.{err_from_is_err_and}
 use Rattle.object_tags.specs.Seen.{defined_module}

@@ -1,8 +1,6 @@
-use Rattle.std.proofs.Common.{◌≡◌, [], Some, None, List, refl, sym, ap, subst, ◌∙◌}
+use Rattle.std.proofs.Common.{[], Some, None, refl, sym, ap, subst, ◌∙◌}
 use Rattle.std.specs.Prelude.{Option, map}
 use Rattle.source_defs.specs.Orders.{onto}
-use Rattle.object_tags.specs.Seen.{defined_ref}
-use Rattle.asm_defs.specs.Memory.{Settled}
 use Rattle.asm_defs.specs.Modules.{unused}
 use Rattle.module_image.specs.declared.image.Image.{Image}
 use Rattle.asm_core.specs.Building.{ImageOf}

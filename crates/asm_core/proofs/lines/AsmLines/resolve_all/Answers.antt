@@ -1,10 +1,9 @@
-use Rattle.std.proofs.Common.{◌≡◌, ◌+◌, [], ◌∷◌, List, length, drop, sym, ap, subst, arith}
+use Rattle.std.proofs.Common.{◌≡◌, ◌+◌, [], length, drop, sym, ap, subst, arith}
 use Rattle.std.proofs.lemmas.List.{drop_all}
 use Rattle.source_defs.specs.Orders.{onto}
 use Rattle.source_defs.specs.Layout.{settled}
 use Rattle.asm_defs.specs.Modules.{settle}
 use Rattle.asm_core.specs.declared.error.AsmError.{AsmError}
-use Rattle.asm_core.specs.declared.pending.Pending.{Pending}
 use Rattle.asm_core.specs.Finishing.{RefusesAt}
 use Rattle.asm_core.proofs.ProgressLaws.{IsSoFar, first_so_far, next_so_far, so_far_refused, all_settled, first_waits}
 use Rattle.asm_core.proofs.lines.AsmLines.resolve_all.Goals as goal

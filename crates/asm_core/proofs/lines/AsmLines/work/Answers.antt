@@ -1,20 +1,9 @@
-use Rattle.std.proofs.Common.{◌≡◌, ◌+◌, ◌∷◌, List, Ok, Err, true, false, Some, None, refl, sym, ap, subst, ◌∙◌}
-use Rattle.std.specs.Prelude.{Result, Option, OnOk, is_some}
-use Rattle.source_defs.specs.Symbols.{Names}
-use Rattle.asm_defs.specs.Locations.{Line}
-use Rattle.module_image.specs.declared.image.Image.{Image}
+use Rattle.std.proofs.Common.{◌+◌, sym, subst, ◌∙◌}
 use Rattle.asm_checks.specs.Defined.{defined_statement}
-use Rattle.asm_checks.specs.declared.first_checks.Checked.{Checked}
-use Rattle.asm_core.specs.declared.pending.Refused.{Refused}
-use Rattle.asm_core.specs.declared.pending.Pending.{Pending}
-use Rattle.asm_core.specs.declared.lines.AsmLines.{AsmLines}
-use Rattle.asm_core.specs.Building.{IsWorked, ImageOf, IsGoing}
-use Rattle.asm_core.specs.Keeping.{Keeps, IsUnchanged, SameNames, SameWork}
 use Rattle.asm_defs.specs.declared.location.Location.{Location}
 use Rattle.asm_core.specs.Assembling.{AssemblesBy}
-use Rattle.asm_core.specs.Emitting.{SameLines, Emits}
-use Rattle.asm_core.specs.Adding.{Adds, IsAsBefore, WorksIn}
-use Rattle.asm_core.proofs.OutputLaws.{on_err, on_ok}
+use Rattle.asm_core.specs.Emitting.{Emits}
+use Rattle.asm_core.proofs.OutputLaws.{on_err}
 use Rattle.asm_core.proofs.WorkLaws.{kept_stopped, prepared, unkept, worked}
 use Rattle.asm_core.proofs.lines.AsmLines.work.Goals as goal
 

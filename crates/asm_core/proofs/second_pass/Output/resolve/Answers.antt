@@ -1,4 +1,4 @@
-use Rattle.std.proofs.Common.{◌≡◌, Ok, ap, ◌∙◌, sym, arith, subst}
+use Rattle.std.proofs.Common.{◌≡◌, Ok, ap, ◌∙◌, sym, arith}
 use Rattle.source_defs.specs.Symbols.{look_up}
 use Rattle.source_defs.specs.Refusals.{◌>>=◌}
 use Rattle.asm_defs.specs.Statements.{said_of, statement_in, as_text}

@@ -1,15 +1,15 @@
-use Rattle.std.proofs.Common.{◌≡◌, ◌+◌, ◌∷◌, ◌||◌, false, Ok, Err, List, length, refl, sym, ap, subst, ◌∙◌}
+use Rattle.std.proofs.Common.{◌≡◌, ◌+◌, ◌||◌, false, Ok, length, sym, ap, subst, ◌∙◌}
 use Rattle.std.specs.Prelude.{Option}
 use Rattle.source_defs.specs.Refusals.{◌>>=◌}
 use Rattle.source_defs.specs.Symbols.{Names, look_up}
 use Rattle.source_defs.specs.Layout.{with_names}
 use Rattle.gpl_source_defs.specs.declared.location.Location.{Location}
 use Rattle.source_defs.specs.Growing.{Grows}
-use Rattle.gpl_source_defs.specs.Locations.{Line, location, behind, origin_of}
+use Rattle.gpl_source_defs.specs.Locations.{location, behind, origin_of}
 use Rattle.source_defs.specs.Layout.{set_or}
-use Rattle.gpl_source_defs.specs.FirstChecks.{Checked, checked, line_of, names, label_entry, is_taken, is_full, is_end}
+use Rattle.gpl_source_defs.specs.FirstChecks.{checked, line_of, names, label_entry, is_taken, is_full, is_end}
 use Rattle.gpl_source_defs.specs.SecondChecks.{outcome}
-use Rattle.gpl_lines.specs.Defined.{defined_checked, defined_statement}
+use Rattle.gpl_lines.specs.Defined.{defined_checked}
 use Rattle.gpl_source_defs.proofs.CheckLaws.{is_let_through}
 use Rattle.gpl_asm.specs.Replay.{answer}
 use Rattle.gpl_asm.proofs.CountLaws.{counted}
