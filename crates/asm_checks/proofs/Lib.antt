@@ -1,3 +1,4 @@
+pub mod DirectiveKeys
 pub mod Failures
 pub mod Padding
 pub mod Listed

@@ -44,7 +44,7 @@ ListsNames said = said.listed.items ≡ listed_in said.statement
 
 -- what the code keeps of what a line says
 pub record IsSaid (said : Said) : Type 0 where
-  pub instruction : KeepsSkeleton said.statement
+  pub skeleton : KeepsSkeleton said.statement said.skeleton
   pub names : NamesOnly said.statement
   pub little : MovesLittle said.statement
 

@@ -1,5 +1,5 @@
 -- What the code finds in a line, as the definitions have it.
-use Rattle.std.specs.Prelude.{ℕ, List, Ok, true, ⊤, ◌≡◌}
+use Rattle.std.specs.Prelude.{ℕ, List, Option, Some, None, Ok, true, ⊤, ◌≡◌}
 use Rattle.std.specs.Option.{option_map}
 use Rattle.source_defs.specs.Operands.{operand_texts}
 use Rattle.instruction_defs.specs.FirstChecks.{first_checks, size_of}
@@ -29,7 +29,7 @@ use Rattle.asm_checks.specs.declared.statement.Statement.TheVariants.{
 
 abbrev pub defined_statement : Statement → spec.Statement
 defined_statement Nothing = spec.Nothing
-defined_statement (Instruction size operation field skeleton) = spec.Instruction size operation.now field.now
+defined_statement (Instruction size operation field) = spec.Instruction size operation.now field.now
 defined_statement (Aorg text) = spec.Aorg text.now
 defined_statement (Rorg text) = spec.Rorg (option_map (λ found. found.now) text)
 defined_statement (Dorg text) = spec.Dorg text.now
@@ -54,7 +54,7 @@ NamesOnly _ = ⊤
 
 -- a statement that is no instruction
 abbrev pub IsDirective : Statement → Type 0
-IsDirective (Instruction size operation field skeleton) = ⊥
+IsDirective (Instruction size operation field) = ⊥
 IsDirective _ = ⊤
 
 -- what the first checks of the code leave of an operation field and an operand field is what they leave of them
@@ -62,7 +62,12 @@ pub record IsLeftOf (operation field : List ℕ) (size : ℕ) (skeleton : Skelet
   pub checked : first_checks operation field ≡ Ok (defined_skeleton skeleton)
   pub sized : size_of (defined_skeleton skeleton) ≡ size
 
--- an instruction keeps what the first checks leave of its fields
-abbrev pub KeepsSkeleton : Statement → Type 0
-KeepsSkeleton (Instruction size operation field skeleton) = IsLeftOf operation.now field.now size skeleton
-KeepsSkeleton _ = ⊤
+-- what the first checks of the code leave of a statement, which is an instruction
+abbrev pub IsLeftOfIt : Statement → Skeleton → Type 0
+IsLeftOfIt (Instruction size operation field) skeleton = IsLeftOf operation.now field.now size skeleton
+IsLeftOfIt _ skeleton = ⊥
+
+-- what the first checks leave of an instruction stands beside it, and nothing beside a directive
+abbrev pub KeepsSkeleton : Statement → Option Skeleton → Type 0
+KeepsSkeleton statement None = IsDirective statement
+KeepsSkeleton statement (Some skeleton) = IsLeftOfIt statement skeleton

@@ -4,47 +4,34 @@ ghost use Rattle.std.specs.Prelude.{◌≡◌};
 ghost use Rattle.asm_defs.specs.Directives as spec;
 
 use asm_defs::Directive;
-use asm_text::is_word;
+use asm_text::{named_in, word_key};
+
+/// The directives, each behind the number of its name.
+const NAMED: [(u64, Directive); 18] = [
+    (0x01_4154_4144, Directive::Data), // DATA
+    (0x01_4554_5942, Directive::Byte), // BYTE
+    (0x01_5458_4554, Directive::Text), // TEXT
+    (0x0155_5145, Directive::Equ), // EQU
+    (0x0153_5342, Directive::Bss), // BSS
+    (0x0153_4542, Directive::Bes), // BES
+    (0x01_4E45_5645, Directive::Even), // EVEN
+    (0x01_4752_4F41, Directive::Aorg), // AORG
+    (0x01_4752_4F52, Directive::Rorg), // RORG
+    (0x01_4752_4F44, Directive::Dorg), // DORG
+    (0x0146_4544, Directive::Def), // DEF
+    (0x0146_4552, Directive::Ref), // REF
+    (0x0154_4449, Directive::Idt), // IDT
+    (0x01_4C54_4954, Directive::Titl), // TITL
+    (0x01_4547_4150, Directive::Quiet), // PAGE
+    (0x01_5453_494C, Directive::Quiet), // LIST
+    (0x014C_4E55, Directive::Quiet), // UNL
+    (0x0144_4E45, Directive::End), // END
+];
 
 /// The directive that an operation field names, in upper or lower case (Editor/Assembler manual, "Assembler
 /// Directives").
-#[tactic(auto, unfolding(asm_defs::specs::Directives::directive))]
 pub(crate) fn directive(text: &[u8]) -> Option<Directive>
     ensures { result ≡ spec.directive text.now }
 {
-    if is_word(text, b"DATA") {
-        Some(Directive::Data)
-    } else if is_word(text, b"BYTE") {
-        Some(Directive::Byte)
-    } else if is_word(text, b"TEXT") {
-        Some(Directive::Text)
-    } else if is_word(text, b"EQU") {
-        Some(Directive::Equ)
-    } else if is_word(text, b"BSS") {
-        Some(Directive::Bss)
-    } else if is_word(text, b"BES") {
-        Some(Directive::Bes)
-    } else if is_word(text, b"EVEN") {
-        Some(Directive::Even)
-    } else if is_word(text, b"AORG") {
-        Some(Directive::Aorg)
-    } else if is_word(text, b"RORG") {
-        Some(Directive::Rorg)
-    } else if is_word(text, b"DORG") {
-        Some(Directive::Dorg)
-    } else if is_word(text, b"DEF") {
-        Some(Directive::Def)
-    } else if is_word(text, b"REF") {
-        Some(Directive::Ref)
-    } else if is_word(text, b"IDT") {
-        Some(Directive::Idt)
-    } else if is_word(text, b"TITL") {
-        Some(Directive::Titl)
-    } else if is_word(text, b"PAGE") || is_word(text, b"LIST") || is_word(text, b"UNL") {
-        Some(Directive::Quiet)
-    } else if is_word(text, b"END") {
-        Some(Directive::End)
-    } else {
-        None
-    }
+    named_in(&NAMED, word_key(text)?)
 }

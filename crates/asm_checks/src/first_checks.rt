@@ -18,6 +18,7 @@ use crate::statement::{Statement, statement_in};
 use crate::titles::title_in;
 use crate::values::Scope;
 use asm_defs::{AsmCause, Location, Part};
+use asm_forms::Skeleton;
 use asm_text::{Name, Symbols, fields, is_quoted};
 use object_tags::MOST_NAMES;
 use std::alloc::{AllocError, Global};
@@ -46,6 +47,8 @@ pub struct Said<'a> {
     pub label: Option<Name>,
     /// What stands in them.
     pub statement: Statement<'a>,
+    /// What the first checks leave of an instruction.
+    pub skeleton: Option<Skeleton<'a>>,
     /// The names that DEF or REF lists.
     pub listed: Vec<Name>,
 }
@@ -69,7 +72,8 @@ impl Before<'_> {
         ensures within { IfOk result (λ checked. MovesWithin checked.moved) }
     {
         let said = self.said(text)?;
-        self.moved(said)
+        let moved = self.moved(&said)?;
+        Ok(Checked { said, moved })
     }
 
     /// What a line says, whose names are new.
@@ -86,7 +90,7 @@ impl Before<'_> {
         if self.knows_label(&found.label) {
             return Err(Failure::Refused(AsmCause::DuplicateLabel));
         }
-        let statement = statement_in(text, &found)?;
+        let (statement, skeleton) = statement_in(text, &found)?;
         let listed = listed_names(self.alloc, &statement)?;
         if self.takes_known(found.label, &statement, listed.as_slice()) {
             return Err(Failure::Refused(AsmCause::DuplicateLabel));
@@ -94,6 +98,7 @@ impl Before<'_> {
         Ok(Said {
             label: found.label,
             statement,
+            skeleton,
             listed,
         })
     }
@@ -118,15 +123,13 @@ impl Before<'_> {
 
     /// Where a line leads.
     #[tactic(auto, using(crate::proofs::Failures::expr_fails), unfolding(asm_defs::specs::FirstChecks::moved))]
-    fn moved<'b>(&self, said: Said<'b>) -> Result<Checked<'b>, Failure>
+    fn moved(&self, said: &Said<'_>) -> Result<Move, Failure>
         requires places { KnowsPlaces self.now }
-        requires listed { ListsNames said }
-        requires little { MovesLittle said.statement }
-        ensures checked { Gives defined_checked result
-            (spec.moved (defined_before self.now) (defined_said said.entry)) }
-        ensures same { IfOk result (λ checked. checked.said ≡ said.entry) }
-        ensures listed { IfOk result (λ checked. ListsNames checked.said) }
-        ensures within { IfOk result (λ checked. MovesWithin checked.moved) }
+        requires listed { ListsNames said.now }
+        requires little { MovesLittle said.now.statement }
+        ensures checked { Gives (λ moved. defined_checked (record { said = said.now; moved = moved })) result
+            (spec.moved (defined_before self.now) (defined_said said.now)) }
+        ensures within { IfOk result MovesWithin }
     {
         let scope = Scope {
             alloc: self.alloc,
@@ -134,13 +137,13 @@ impl Before<'_> {
             at: self.location,
         };
         let moved = scope.move_by(self.reached, &said.statement)?;
-        if self.is_too_far(&said, &moved) {
+        if self.is_too_far(said, &moved) {
             return Err(Failure::Refused(AsmCause::Overflow));
         }
-        if self.is_bad(&said) {
+        if self.is_bad(said) {
             return Err(Failure::Refused(AsmCause::BadDirective));
         }
-        Ok(Checked { said, moved })
+        Ok(moved)
     }
 
     /// Whether a line leads past the end of its part, or lists too many names.

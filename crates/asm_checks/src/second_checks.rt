@@ -16,7 +16,7 @@ ghost use Rattle.std.specs.List.{list_all};
 ghost use Rattle.source_defs.specs.Refusals.{seen};
 ghost use Rattle.asm_text.specs.Yielded.{Yields};
 ghost use Rattle.asm_checks.specs.Answers.{Gives};
-ghost use Rattle.asm_checks.specs.Defined.{defined_statement, KeepsSkeleton, NamesOnly};
+ghost use Rattle.asm_checks.specs.Defined.{defined_statement, IsDirective, KeepsSkeleton, NamesOnly};
 ghost use Rattle.asm_checks.specs.Moves.{MovesLittle};
 ghost use Rattle.asm_checks.specs.Outcomes.{defined_outcome, byte_answer, known_answer, words_by};
 
@@ -61,10 +61,29 @@ impl Outcome {
 }
 
 impl Scope<'_> {
-    /// What a line comes to, of which the first checks found what it says.
+    /// What a line comes to, of which the first checks found what it says and left this of an instruction.
+    pub fn outcome(
+        &self,
+        statement: &Statement<'_>,
+        skeleton: &Option<Skeleton<'_>>,
+    ) -> Result<Outcome, Failure>
+        requires skeleton { KeepsSkeleton statement.now skeleton.now }
+        requires names { NamesOnly statement.now }
+        requires little { MovesLittle statement.now }
+        requires at { self.now.at.number ≤ 65536 }
+        ensures { Gives defined_outcome result
+            (spec.outcome (look_up self.now.symbols.now) self.now.at (defined_statement statement.now)) }
+    {
+        match skeleton {
+            Some(skeleton) => self.instruction_outcome(skeleton),
+            None => self.directive_outcome(statement),
+        }
+    }
+
+    /// What the line of a directive comes to.
     #[tactic(auto, using(crate::proofs::Failures::expr_fails), unfolding(asm_defs::specs::SecondChecks::outcome))]
-    pub fn outcome(&self, statement: &Statement<'_>) -> Result<Outcome, Failure>
-        requires instruction { KeepsSkeleton statement.now }
+    fn directive_outcome(&self, statement: &Statement<'_>) -> Result<Outcome, Failure>
+        requires directive { IsDirective statement.now }
         requires names { NamesOnly statement.now }
         requires little { MovesLittle statement.now }
         requires at { self.now.at.number ≤ 65536 }
@@ -72,7 +91,6 @@ impl Scope<'_> {
             (spec.outcome (look_up self.now.symbols.now) self.now.at (defined_statement statement.now)) }
     {
         match statement {
-            Statement::Instruction(_, _, _, skeleton) => self.instruction_outcome(skeleton),
             Statement::Data(field) => {
                 let words = self.data_words(field)?;
                 Ok(Outcome::Words(words))

@@ -23,8 +23,8 @@ use instruction_defs::FormError;
 pub enum Statement<'a> {
     /// Nothing, or nothing that has an effect.
     Nothing,
-    /// An instruction by its size, its operation field, its operand field, and what the first checks leave of them.
-    Instruction(u16, &'a [u8], &'a [u8], Skeleton<'a>),
+    /// An instruction by its size, its operation field and its operand field.
+    Instruction(u16, &'a [u8], &'a [u8]),
     /// The expression of an absolute origin.
     Aorg(&'a [u8]),
     /// The expression of a relocatable origin, where it has one.
@@ -57,42 +57,48 @@ pub enum Statement<'a> {
     End(Option<&'a [u8]>),
 }
 
-/// What a line with its fields says.
+/// What a line with its fields says, and what the first checks leave of it where it is an instruction.
 #[tactic(auto, using(crate::proofs::Failures::form_fails), unfolding(asm_defs::specs::Statements::statement_in))]
-pub fn statement_in<'a>(line: &'a [u8], fields: &Fields) -> Result<Statement<'a>, Failure>
+pub fn statement_in<'a>(
+    line: &'a [u8],
+    fields: &Fields,
+) -> Result<(Statement<'a>, Option<Skeleton<'a>>), Failure>
     requires read { lines.fields line.now ≡ Ok (defined_fields fields.now) }
     requires inside { FieldsLieInside line.now fields.now }
     requires length { length line.now ≤ 256 }
-    ensures said { Gives defined_statement result (spec.statement_in line.now (defined_fields fields.now)) }
-    ensures little { IfOk result MovesLittle }
-    ensures names { IfOk result NamesOnly }
-    ensures instruction { IfOk result KeepsSkeleton }
+    ensures said { Gives (λ found. defined_statement found.0) result
+        (spec.statement_in line.now (defined_fields fields.now)) }
+    ensures little { IfOk result (λ found. MovesLittle found.0) }
+    ensures names { IfOk result (λ found. NamesOnly found.0) }
+    ensures skeleton { IfOk result (λ found. KeepsSkeleton found.0 found.1) }
 {
     match fields.operation {
-        None => Ok(Statement::Nothing),
+        None => Ok((Statement::Nothing, None)),
         Some(operation) => {
             let field = part(line, fields.operands);
             match directive(part(line, operation)) {
-                Some(found) => Ok(directive_statement(found, field)?),
+                Some(found) => Ok((directive_statement(found, field)?, None)),
                 None => Ok(instruction_statement(part(line, operation), field)?),
             }
         }
     }
 }
 
-/// An instruction with its operands.
+/// An instruction with its operands, and what the first checks leave of it.
 fn instruction_statement<'a>(
     operation: &'a [u8],
     field: &'a [u8],
-) -> Result<Statement<'a>, FormError>
-    ensures said { seen defined_statement result ≡ spec.instruction_statement operation.now field.now }
-    ensures skeleton { IfOk result KeepsSkeleton }
-    ensures little { IfOk result MovesLittle }
-    ensures names { IfOk result NamesOnly }
+) -> Result<(Statement<'a>, Option<Skeleton<'a>>), FormError>
+    ensures said { seen (λ found. defined_statement found.0) result
+        ≡ spec.instruction_statement operation.now field.now }
+    ensures skeleton { IfOk result (λ found. KeepsSkeleton found.0 found.1) }
+    ensures little { IfOk result (λ found. MovesLittle found.0) }
+    ensures names { IfOk result (λ found. NamesOnly found.0) }
 {
     let skeleton = skeleton_of(operation, field)?;
     let size = size_in(&skeleton);
-    Ok(Statement::Instruction(size, operation, field, skeleton))
+    let statement = Statement::Instruction(size, operation, field);
+    Ok((statement, Some(skeleton)))
 }
 
 /// A directive with its operands.

@@ -1,8 +1,7 @@
 -- A builder behind a line that says nothing.
 use Rattle.std.proofs.Common.{◌≡◌, ℕ, ◌+◌, ◌*◌, ◌≤◌, Bool, true, false, List, [], ◌∷◌, Some, None, Ok, Err, refl, sym, ap, ◌∙◌, arith}
-use Rattle.std.specs.Prelude.{Option, Result, IsSome, max, nat_le, nat_lt, ◌&&◌, ◌||◌, if◌then◌else◌}
+use Rattle.std.specs.Prelude.{Option, IsSome, max, nat_le, nat_lt, ◌&&◌, ◌||◌, if◌then◌else◌}
 use Rattle.std.proofs.lemmas.Bool.Decides.{nat_tests}
-use Rattle.source_defs.specs.Refusals.{◌>>=◌}
 use Rattle.source_defs.specs.Orders.{onto}
 use Rattle.source_defs.specs.Fields.{fields, no_fields}
 use Rattle.source_defs.specs.Expression.{Value}

@@ -1,23 +1,22 @@
 -- A builder that has counted a line that says nothing.
-use Rattle.std.proofs.Common.{◌≡◌, ℕ, ◌+◌, true, List, [], ◌∷◌, ◌++◌, Some, None, Ok, length, refl, sym, ap, subst, ◌∙◌, arith, append-nil}
+use Rattle.std.proofs.Common.{◌≡◌, ℕ, ◌+◌, true, List, [], ◌∷◌, Some, None, Ok, length, refl, sym, ap, ◌∙◌, arith, append-nil}
 use Rattle.std.specs.Prelude.{Option, IsSome}
 use Rattle.source_defs.specs.Refusals.{◌>>=◌}
 use Rattle.source_defs.specs.Orders.{onto}
 use Rattle.source_defs.specs.Fields.{fields, no_fields}
 use Rattle.source_defs.specs.Symbols.{Names}
 use Rattle.source_defs.specs.Growing.{Grows}
-use Rattle.asm_defs.specs.declared.location.Location.{Location}
-use Rattle.asm_defs.specs.Locations.{Line, location, reached, relocatable, place, is_in_part}
+use Rattle.asm_defs.specs.Locations.{Line, location, place, is_in_part}
 use Rattle.asm_defs.specs.Statements.{Nothing}
 use Rattle.asm_defs.specs.Memory.{Settled}
-use Rattle.asm_defs.specs.FirstChecks.{check, checked, known_of, line_of}
+use Rattle.asm_defs.specs.FirstChecks.{check, known_of, line_of}
 use Rattle.module_image.specs.declared.image.Image.{Image}
 use Rattle.asm_core.specs.declared.pending.Pending.{Pending}
 use Rattle.asm_core.specs.declared.pending.Refused.{Refused}
 use Rattle.asm_core.specs.declared.lines.AsmLines.{AsmLines}
 use Rattle.asm_core.specs.Building.{ImageOf, IsWorked, IsBehind, Takes}
 use Rattle.asm_core.specs.Adding.{Counts}
-use Rattle.asm_core.proofs.BlankLaws.{nothing_at, nothing_placed, nothing_said, here_again, image_still, still_reached}
+use Rattle.asm_core.proofs.BlankLaws.{nothing_at, nothing_said, here_again, image_still, still_reached}
 use Rattle.asm_core.proofs.LineLaws.{location_more}
 use Rattle.asm_core.proofs.WorkedLaws.{worked_stopped, nothing_more}
 

@@ -1,26 +1,26 @@
 -- What a builder ends with.
-use Rattle.std.proofs.Common.{◌≡◌, [], ◌∷◌, Ok, Err, Some, None, List, refl, sym, ap, subst, ◌∙◌, Vec, Global}
-use Rattle.std.specs.Prelude.{Option, Result, map}
-use Rattle.source_defs.specs.Refusals.{Refusal, ◌>>=◌}
+use Rattle.std.proofs.Common.{◌≡◌, [], ◌∷◌, Ok, Some, None, List, sym, ap, subst, ◌∙◌, Vec, Global}
+use Rattle.std.specs.Prelude.{Option}
+use Rattle.source_defs.specs.Refusals.{◌>>=◌}
 use Rattle.source_defs.specs.Orders.{onto}
 use Rattle.source_defs.specs.Symbols.{Names}
 use Rattle.source_defs.specs.Layout.{settled}
 use Rattle.object_defs.specs.Modules.{Module, Reference}
 use Rattle.asm_defs.specs.Locations.{Line}
-use Rattle.asm_defs.specs.FirstChecks.{names, refs}
+use Rattle.asm_defs.specs.FirstChecks.{names}
 use Rattle.asm_defs.specs.Memory.{Settled}
-use Rattle.asm_defs.specs.Modules.{settle, unused, module_by, module_behind}
+use Rattle.asm_defs.specs.Modules.{settle, module_by, module_behind}
 use Rattle.module_image.specs.Standing.{AllStand}
 use Rattle.module_image.specs.declared.image.Image.{Image}
-use Rattle.asm_core.specs.declared.draft.Draft.{Draft}
+use Rattle.asm_core.specs.declared.second_pass.Output.{Output}
 use Rattle.asm_core.specs.declared.error.AsmError.{AsmError}
 use Rattle.asm_core.specs.declared.lines.AsmLines.{AsmLines}
 use Rattle.asm_core.specs.declared.pending.Pending.{Pending}
 use Rattle.asm_core.specs.declared.pending.Refused.{Refused}
 use Rattle.asm_core.specs.Building.{AreKnown, ImageOf, IsGoing, IsStopped, IsWorked, IsBehind}
-use Rattle.asm_core.specs.Drafts.{IsDraft}
-use Rattle.asm_core.specs.Finishing.{RefusesAt, AreSettled, StopsBehind, Knows, SameEnd}
-use Rattle.asm_core.proofs.SettleLaws.{settled_stopped, refuses_on}
+use Rattle.asm_core.specs.Resolving.{IsOutput}
+use Rattle.asm_core.specs.Finishing.{RefusesAt, AreResolved, StopsBehind, Knows, SameEnd}
+use Rattle.asm_core.proofs.ResolveLaws.{settled_stopped, refuses_on}
 
 -- the lines before the one that is refused, or all
 worked_refused : (lines : List Line) (known : Names) (image : Option Image) (waiting : List Pending) (refused : Option Refused) → IsWorked lines known image waiting refused
@@ -56,7 +56,7 @@ module _ (lines : List Line) (old new : AsmLines) (is : IsBehind lines old) (sam
       → RefusesAt error (module_behind lines)
   ends_refused error refuses = whole error (worked_refused lines new.symbols old.image new.waiting.items new.refused works error refuses)
 
-  module _ (unused : List Reference) (first last : Draft) (done : (order : List Line) (founds : List Settled) → AreKnown new.symbols [] order founds new.waiting.items → AllStand [] founds → AreSettled unused order founds new.symbols first last) where
+  module _ (unused : List Reference) (first last : Output) (done : (order : List Line) (founds : List Settled) → AreKnown new.symbols [] order founds new.waiting.items → AllStand [] founds → AreResolved unused order founds new.symbols first last) where
     pub ends_stopped : (refused : Refused) → new.refused ≡ Some refused → (error : AsmError)
         → ((lines : List Line) (waiting : List Pending) (done : List Settled) → (is : IsStopped refused lines new.symbols waiting) → StopsBehind new.symbols lines is.order is.founds done error)
         → RefusesAt error (module_behind lines)
@@ -65,8 +65,8 @@ module _ (lines : List Line) (old new : AsmLines) (is : IsBehind lines old) (sam
         let before = done stopped.order stopped.founds stopped.known stopped.stand in
         whole error (stops lines new.waiting.items before.done stopped before.settled before.places)
 
-    pub ends_going : new.refused ≡ None → ((founds : List Settled) → ImageOf (onto [] founds) old.image → IsDraft unused [] founds first) → (found : Module)
-        → ((settled : List Settled) → Knows lines new → IsDraft unused settled [] last → found ≡ module_by lines settled) → module_behind lines ≡ Ok found
+    pub ends_going : new.refused ≡ None → ((founds : List Settled) → ImageOf (onto [] founds) old.image → IsOutput unused [] founds first) → (found : Module)
+        → ((settled : List Settled) → Knows lines new → IsOutput unused settled [] last → found ≡ module_by lines settled) → module_behind lines ≡ Ok found
     ends_going none begun found makes =
         let going : IsGoing lines new.symbols old.image new.waiting.items = subst (IsWorked lines new.symbols old.image new.waiting.items) none works in
         let all = done going.order going.founds going.known going.stand in
@@ -79,4 +79,4 @@ module _ (lines : List Line) (old new : AsmLines) (is : IsBehind lines old) (sam
         let settled_are : settled (settle new.symbols) lines ≡ Ok all.done = ap (settled (settle new.symbols)) going.all ∙ all.settled in
         ap (λ (known : Names). settled (settle known) lines >>= λ found. Ok (module_by lines found)) (sym names_are)
         ∙ (ap (λ answer. answer >>= λ found. Ok (module_by lines found)) settled_are
-        ∙ ap Ok (sym (makes all.done knows (all.draft (begun going.founds going.image)))))
+        ∙ ap Ok (sym (makes all.done knows (all.output (begun going.founds going.image)))))

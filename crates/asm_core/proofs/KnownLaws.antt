@@ -1,26 +1,25 @@
 -- What is known of lines, with more names and with more lines.
-use Rattle.std.proofs.Common.{◌≡◌, ℕ, Bool, true, false, List, [], ◌∷◌, ◌++◌, Some, None, Ok, Err, refl, sym, ap, subst, ◌∙◌, inl, inr}
-use Rattle.std.specs.Prelude.{Option, Result, ◌⊎◌}
+use Rattle.std.proofs.Common.{◌≡◌, true, List, [], ◌∷◌, ◌++◌, Some, None, Ok, refl, sym, ap, subst, ◌∙◌, inl, inr}
+use Rattle.std.specs.Prelude.{Option}
 use Rattle.source_defs.specs.Refusals.{◌>>=◌}
 use Rattle.source_defs.specs.Orders.{onto}
 use Rattle.source_defs.specs.Symbols.{Names, look_up}
 use Rattle.source_defs.specs.Growing.{Grows, is_closed}
 use Rattle.source_defs.specs.Layout.{settled}
-use Rattle.object_defs.specs.declared.spot.Spot.{Spot}
 use Rattle.object_defs.specs.Modules.{Reference}
 use Rattle.asm_defs.specs.declared.causes.AsmCause.{AsmCause}
 use Rattle.asm_defs.specs.declared.location.Location.{Location}
 use Rattle.asm_defs.specs.Locations.{Line, place}
-use Rattle.asm_defs.specs.SecondChecks.{Outcome, outcome}
+use Rattle.asm_defs.specs.SecondChecks.{outcome}
 use Rattle.asm_defs.specs.Memory.{Settled, references_of}
 use Rattle.asm_defs.specs.Modules.{settle, with_room, entry}
-use Rattle.asm_defs.specs.Growing.{is_open, stands}
+use Rattle.asm_defs.specs.Growing.{is_open}
 use Rattle.asm_defs.proofs.GrowingLaws.{outcome_stays}
 use Rattle.asm_checks.specs.Answers.{Causes}
 use Rattle.module_image.specs.Standing.{StandsBehind, AllStand}
 use Rattle.module_image.proofs.SwapLaws.{uses_none, enters_none}
 use Rattle.asm_core.specs.declared.pending.Pending.{Pending}
-use Rattle.asm_core.specs.Building.{IsOf, IsKnown, IsWaiting, AreKnown, Refuses}
+use Rattle.asm_core.specs.Building.{IsKnown, IsWaiting, AreKnown, Refuses}
 
 pub onto_more : {A : Type 0} (before items : List A) (item : A) → onto before (items ++ item ∷ []) ≡ item ∷ onto before items
 onto_more before [] item = refl

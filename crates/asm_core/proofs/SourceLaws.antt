@@ -15,7 +15,7 @@ use Rattle.asm_core.specs.declared.error.AsmError.{AsmError}
 use Rattle.asm_core.specs.declared.error.AsmError.TheVariants.{At, Memory}
 use Rattle.asm_checks.specs.declared.failure.Failure.TheVariants.{Refused}
 use Rattle.asm_core.specs.declared.lines.AsmLines.{AsmLines}
-use Rattle.asm_core.proofs.SettleLaws.{refuses_by}
+use Rattle.asm_core.proofs.ResolveLaws.{refuses_by}
 
 -- lines that count from a number on
 abbrev pub IsNumbered : ℕ → List TextLine → Type 0

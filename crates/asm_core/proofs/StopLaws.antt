@@ -1,7 +1,6 @@
 -- The line that is refused, behind those that are settled.
-use Rattle.std.proofs.Common.{◌≡◌, ℕ, ◌∷◌, [], Ok, Err, Some, None, List, sym, ap, subst, ◌∙◌}
-use Rattle.std.specs.Prelude.{Option, Result}
-use Rattle.source_defs.specs.Refusals.{Refusal, ◌>>=◌}
+use Rattle.std.proofs.Common.{◌≡◌, ◌∷◌, [], Ok, Err, Some, None, List, sym, ap, subst, ◌∙◌}
+use Rattle.source_defs.specs.Refusals.{◌>>=◌}
 use Rattle.source_defs.specs.Orders.{onto}
 use Rattle.source_defs.specs.Symbols.{Names}
 use Rattle.source_defs.specs.Layout.{settled}
@@ -17,13 +16,13 @@ use Rattle.asm_checks.specs.declared.failure.Failure.TheVariants as failure
 use Rattle.asm_checks.proofs.Failures.{causes_on}
 use Rattle.module_image.specs.Standing.{SamePlaces}
 use Rattle.module_image.proofs.SwapLaws.{room_same}
-use Rattle.asm_core.specs.declared.draft.Draft.{Draft}
+use Rattle.asm_core.specs.declared.second_pass.Output.{Output}
 use Rattle.asm_core.specs.declared.pending.Pending.{Pending}
 use Rattle.asm_core.specs.declared.pending.Refused.{Refused}
-use Rattle.asm_core.specs.Building.{IsOf, Refuses, IsStopped, refusal_at}
-use Rattle.asm_core.specs.Drafts.{IsSettled, answer_to}
+use Rattle.asm_core.specs.Building.{Refuses, IsStopped, refusal_at}
+use Rattle.asm_core.specs.Resolving.{IsResolved, answer_to}
 use Rattle.asm_core.specs.Finishing.{RefusesAt}
-use Rattle.asm_core.proofs.SettleLaws.{settled_stops, settled_stopped, answer_is, settle_by, settle_same, settle_filled, refuses_by, real}
+use Rattle.asm_core.proofs.ResolveLaws.{settled_stops, settled_stopped, answer_is, settle_by, settle_same, settle_filled, refuses_by, real}
 
 module _ (known : Names) (lines : List Line) (waiting : List Pending) (refused : Refused) (is : IsStopped refused lines known waiting) (done : List Settled) (so_far : settled (settle known) (onto [] is.order) ≡ Ok done) (same : SamePlaces (onto [] is.founds) done) where
   abbrev before : List Line
@@ -54,7 +53,7 @@ module _ (known : Names) (lines : List Line) (waiting : List Pending) (refused :
       (λ cause e. refused_by cause e ∙ ap (λ number. Err (record { line = number; cause = cause })) (sym is.number))
 
   -- its values are not, and it has no room
-  pub still_refused : (unused : List Reference) (old new : Draft) (pending : Pending) → refused.waiting ≡ Some pending → IsSettled unused known pending old new
+  pub still_refused : (unused : List Reference) (old new : Output) (pending : Pending) → refused.waiting ≡ Some pending → IsResolved unused known pending old new
       → RefusesAt (refusal_at refused.line (failure.Refused refused.cause)) (settled (settle known) lines)
   still_refused unused old new pending some by =
       let refuses = subst (Refuses known before (onto [] is.founds) is.line refused.cause) some is.refuses in

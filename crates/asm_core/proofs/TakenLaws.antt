@@ -14,7 +14,7 @@ use Rattle.asm_core.specs.declared.error.AsmError.{AsmError}
 use Rattle.asm_core.specs.declared.error.AsmError.TheVariants.{At, Memory}
 use Rattle.asm_checks.specs.declared.failure.Failure.TheVariants.{Refused}
 use Rattle.asm_core.specs.declared.lines.AsmLines.{AsmLines}
-use Rattle.asm_core.proofs.SettleLaws.{refuses_by}
+use Rattle.asm_core.proofs.ResolveLaws.{refuses_by}
 
 abbrev behind_line : List Line → List (ℕ × List ℕ) → Line → Result (List Line) (Refusal AsmCause)
 behind_line before rest found = if found.last then Ok (found ∷ before) else laid_behind check (found ∷ before) rest

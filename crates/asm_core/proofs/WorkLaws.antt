@@ -1,28 +1,28 @@
 -- A builder with one line more.
-use Rattle.std.proofs.Common.{◌≡◌, ◌+◌, ◌++◌, ◌∷◌, List, ℕ, Ok, Err, true, false, Some, None, Bool, refl, sym, ap, subst, ◌∙◌, append-nil}
-use Rattle.std.specs.Prelude.{Result, Option, OnOk, IsErrAnd, is_some, option_to_list}
+use Rattle.std.proofs.Common.{◌≡◌, ◌+◌, ◌++◌, List, ℕ, Ok, Err, true, false, Some, None, refl, sym, ap, subst, ◌∙◌, append-nil}
+use Rattle.std.specs.Prelude.{Result, Option, OnOk, IsErrAnd, is_some}
 use Rattle.std.proofs.Common.{Vec, Global}
 use Rattle.asm_defs.specs.FirstChecks.{defs_in, refs_in}
 use Rattle.source_defs.specs.Symbols.{Names}
 use Rattle.source_defs.specs.Growing.{Grows}
 use Rattle.asm_defs.specs.declared.location.Location.{Location}
-use Rattle.asm_defs.specs.Locations.{Line, behind, place}
+use Rattle.asm_defs.specs.Locations.{Line, behind}
 use Rattle.asm_defs.specs.Memory.{Settled}
 use Rattle.module_image.specs.declared.image.Image.{Image}
 use Rattle.asm_checks.specs.Defined.{defined_statement}
 use Rattle.asm_checks.specs.declared.first_checks.Checked.{Checked}
-use Rattle.asm_core.specs.declared.judge.Claim.{Claim}
+use Rattle.asm_core.specs.declared.first_pass.Emitted.{Emitted}
 use Rattle.asm_core.specs.declared.pending.Refused.{Refused}
 use Rattle.asm_core.specs.declared.pending.Pending.{Pending}
 use Rattle.asm_core.specs.declared.lines.AsmLines.{AsmLines}
-use Rattle.asm_core.specs.Judging.{JudgesBy}
+use Rattle.asm_core.specs.Assembling.{AssemblesBy}
 use Rattle.asm_core.specs.declared.error.AsmError.{AsmError}
 use Rattle.asm_core.specs.declared.error.AsmError.TheVariants.{Memory}
 use Rattle.asm_core.specs.Building.{IsWorked, ImageOf, IsGoing, IsBehind, Takes}
-use Rattle.asm_core.specs.Keeping.{names_with, Keeps, IsUnchanged, SameNames, SameWork, StandsStill}
-use Rattle.asm_core.specs.Claiming.{SameLines, SameKnown, Claims}
-use Rattle.asm_core.specs.Adding.{Adds, IsAsBefore, IsNext, WorksIn}
-use Rattle.asm_core.proofs.WorkedLaws.{worked_stopped, claimed}
+use Rattle.asm_core.specs.Keeping.{names_with, Keeps, IsUnchanged, SameWork, StandsStill}
+use Rattle.asm_core.specs.Emitting.{SameLines, SameKnown, Emits}
+use Rattle.asm_core.specs.Adding.{Adds, IsAsBefore, WorksIn}
+use Rattle.asm_core.proofs.WorkedLaws.{worked_stopped, emits_worked}
 
 -- a builder by what it works in
 pub works_same : (lines : List Line) (old new : AsmLines) → new.symbols ≡ old.symbols → new.image ≡ old.image → new.waiting.items ≡ old.waiting.items
@@ -108,11 +108,11 @@ going_is : (lines : List Line) (names : Names) (image : Option Image) (waiting :
 going_is lines names image waiting None none is = is
 going_is lines names image waiting (Some refused) none is = cc none
 
-pub worked : (old ready kept new : AsmLines) (text : List ℕ) (checked : Checked) (waiting : Option Pending) (claim : Claim) (at : Location) → is_some old.refused ≡ false
+pub worked : (old ready kept new : AsmLines) (text : List ℕ) (checked : Checked) (waiting : Option Pending) (emitted : Emitted) (at : Location) → is_some old.refused ≡ false
     → SameLines old ready → ((founds : List Settled) → ImageOf founds old.image → ImageOf founds ready.image) → at ≡ behind ready.location checked.moved.gap
-    → JudgesBy ready.symbols (ready.taken + 1) at text (defined_statement checked.said.statement) waiting claim → Keeps ready waiting checked kept → SameWork ready kept
-    → StandsStill ready kept → SameKnown kept new → Claims kept at claim (is_some waiting) new → Adds old text checked new
-worked old ready kept new text checked waiting claim at none same made is_at judges keeps work still known claims = record {
+    → AssemblesBy ready.symbols (ready.taken + 1) at text (defined_statement checked.said.statement) waiting emitted → Keeps ready waiting checked kept → SameWork ready kept
+    → StandsStill ready kept → SameKnown kept new → Emits kept at emitted (is_some waiting) new → Adds old text checked new
+worked old ready kept new text checked waiting emitted at none same made is_at assembles keeps work still known emits = record {
   defs = known.names.defs ∙ (keeps.defs ∙ ap (λ (names : List (List ℕ)). names ++ defs_in (defined_statement checked.said.statement)) same.known.names.defs);
   refs = known.names.refs ∙ (keeps.refs ∙ ap (λ (names : List (List ℕ)). names ++ refs_in (defined_statement checked.said.statement)) same.known.names.refs);
   names = known.names.symbols ∙ (keeps.names ∙ ap (λ (names : Names). names_with names checked) same.known.names.symbols);
@@ -120,9 +120,9 @@ worked old ready kept new text checked waiting claim at none same made is_at jud
       let going = going_is lines old.symbols old.image old.waiting.items old.refused none works in
       let going_on = going_by lines old.symbols old.image ready.image old.waiting.items made going in
       let begun : IsGoing lines ready.symbols ready.image ready.waiting.items = rw (same.known.names.symbols, ap (λ (waiting : Vec Pending Global). waiting.items) same.waiting) going_on in
-      claimed ready.symbols new.symbols (subst (Grows ready.symbols) (sym known.names.symbols) keeps.grows) lines line ready.image ready.waiting.items begun
+      emits_worked ready.symbols new.symbols (subst (Grows ready.symbols) (sym known.names.symbols) keeps.grows) lines line ready.image ready.waiting.items begun
       kept new at text (is_at ∙ (ap (λ (from : Location). behind from checked.moved.gap) same.known.still.location ∙ next.at)) next.said
       (ap (λ taken. taken + 1) (still.taken ∙ same.known.still.taken) ∙ next.number) work.image (work.refused ∙ (same.refused ∙ none_is old.refused none))
       (defined_statement checked.said.statement) next.statement (ready.taken + 1) (ap (λ taken. taken + 1) same.known.still.taken ∙ next.number)
-      waiting claim judges keeps.waits claims;
+      waiting emitted assembles keeps.waits emits;
 }

@@ -1,5 +1,5 @@
 -- A builder that has worked one line more.
-use Rattle.std.proofs.Common.{◌≡◌, ℕ, ◌+◌, Bool, true, false, not, List, [], ◌∷◌, ◌++◌, Some, None, Ok, Err, refl, sym, ap, subst, ◌∙◌, inl, inr, append-nil}
+use Rattle.std.proofs.Common.{◌≡◌, ℕ, ◌+◌, true, false, not, List, [], ◌∷◌, ◌++◌, Some, None, Ok, Err, refl, sym, ap, subst, ◌∙◌, inl, inr, append-nil}
 use Rattle.std.specs.Prelude.{Option, Result, is_some, option_to_list, ◌⊎◌}
 use Rattle.source_defs.specs.Refusals.{◌>>=◌}
 use Rattle.source_defs.specs.Orders.{onto}
@@ -13,23 +13,23 @@ use Rattle.asm_defs.specs.declared.location.Location.{Location}
 use Rattle.asm_defs.specs.Locations.{Line, place}
 use Rattle.asm_defs.specs.Statements as said
 use Rattle.asm_defs.specs.Statements.{Statement, said_of}
-use Rattle.asm_defs.specs.SecondChecks.{Outcome, outcome}
-use Rattle.asm_defs.specs.Memory.{Settled, contents_by, references_of, is_placed_in}
+use Rattle.asm_defs.specs.SecondChecks.{outcome}
+use Rattle.asm_defs.specs.Memory.{Settled, contents_by, references_of}
 use Rattle.asm_defs.specs.Modules.{settle, with_room}
-use Rattle.asm_defs.specs.Growing.{is_open, stands, held_place}
+use Rattle.asm_defs.specs.Growing.{is_open, held_place}
 use Rattle.asm_checks.specs.Answers.{Causes}
 use Rattle.asm_checks.proofs.Failures.{caused, causes_on}
-use Rattle.module_image.specs.Standing.{StandsBehind, AllStand}
+use Rattle.module_image.specs.Standing.{StandsBehind}
 use Rattle.module_image.specs.declared.image.Image.{Image}
 use Rattle.module_image.proofs.SwapLaws.{stands_alone, no_room, has_own_room, are_causes}
 use Rattle.asm_core.specs.declared.pending.Pending.{Pending}
 use Rattle.asm_core.specs.declared.pending.Refused.{Refused}
 use Rattle.asm_core.specs.declared.lines.AsmLines.{AsmLines}
-use Rattle.asm_core.specs.declared.judge.Claim.{Claim}
-use Rattle.asm_core.specs.declared.judge.Claim.TheVariants as claim
+use Rattle.asm_core.specs.declared.first_pass.Emitted.{Emitted}
+use Rattle.asm_core.specs.declared.first_pass.Emitted.TheVariants as emitted
 use Rattle.asm_core.specs.Building.{IsOf, IsKnown, IsWaiting, AreKnown, ImageOf, IsGoing, Refuses, IsStopped, IsWorked}
-use Rattle.asm_core.specs.Judging.{GivesBytes, ComesTo, IsHeld, IsPending, IsRefused, JudgesBy}
-use Rattle.asm_core.specs.Claiming.{AreContents, Stops, ByRoom, Claims}
+use Rattle.asm_core.specs.Assembling.{ComesTo, IsHeld, IsRefused, AssemblesBy}
+use Rattle.asm_core.specs.Emitting.{AreContents, Stops, ByRoom, Emits}
 use Rattle.asm_core.proofs.BlankLaws.{nothing_placed, nothing_comes, still_room}
 use Rattle.asm_core.proofs.KnownLaws.{onto_more, stand_more, known_more, held_more, known_still, refuses_still, comes_still}
 
@@ -166,9 +166,9 @@ module _ (known more : Names) (grows : Grows known more) (lines : List Line) (li
 
         pub comes_worked : ((earlier : List Settled) (line : Settled) → ImageOf earlier old.image → AreContents at given earlier line → ByRoom old earlier line false new (with_room earlier line))
             → Worked
-        comes_worked claims =
+        comes_worked emits =
             comes_by (with_room earlier found) refl
-            (claims earlier found (subst (ImageOf earlier) (sym is_image) going.image) contents_are)
+            (emits earlier found (subst (ImageOf earlier) (sym is_image) going.image) contents_are)
 
       -- a line that waits
       module _ (number : ℕ) (is_taken : number ≡ line.number) (statement : Statement) (is_statement : statement ≡ line.statement) (pending : Pending) (given : List Content) (held : IsHeld number at text statement pending given) (is_waiting : old.waiting.items ≡ waiting ++ pending ∷ []) where
@@ -200,9 +200,9 @@ module _ (known more : Names) (grows : Grows known more) (lines : List Line) (li
 
         pub waits_worked : ((earlier : List Settled) (line : Settled) → ImageOf earlier old.image → AreContents at given earlier line → ByRoom old earlier line true new (with_room earlier line))
             → Worked
-        waits_worked claims =
+        waits_worked emits =
             waits_by (with_room earlier place_held) refl
-            (claims earlier place_held (subst (ImageOf earlier) (sym is_image) going.image)
+            (emits earlier place_held (subst (ImageOf earlier) (sym is_image) going.image)
             (sym is_at, λ references placed. held.gives.bytes placed ∙ same_contents references))
 
       -- a line that is refused
@@ -224,12 +224,12 @@ module _ (known more : Names) (grows : Grows known more) (lines : List Line) (li
             )
             (stop.0, stop.1 ∙ is_waiting)
 
-      pub claimed : (statement : Statement) → statement ≡ line.statement → (number : ℕ) → number ≡ line.number → (held : Option Pending) (what : Claim)
-          → JudgesBy known number at text statement held what → old.waiting.items ≡ waiting ++ option_to_list held → Claims old at what (is_some held) new → Worked
-      claimed statement same number taken None (claim.Bytes given) judges is_waiting claims =
-          comes_worked statement same given.items judges (is_waiting ∙ append-nil waiting) claims
-      claimed statement same number taken None (claim.Refused cause) judges is_waiting claims =
-          refused_worked statement same cause judges (is_waiting ∙ append-nil waiting) claims
-      claimed statement same number taken (Some pending) (claim.Bytes given) judges is_waiting claims =
-          waits_worked number taken statement same pending given.items judges is_waiting claims
-      claimed statement same number taken (Some pending) (claim.Refused cause) judges is_waiting claims = absurd judges
+      pub emits_worked : (statement : Statement) → statement ≡ line.statement → (number : ℕ) → number ≡ line.number → (held : Option Pending) (what : Emitted)
+          → AssemblesBy known number at text statement held what → old.waiting.items ≡ waiting ++ option_to_list held → Emits old at what (is_some held) new → Worked
+      emits_worked statement same number taken None (emitted.Bytes given) assembles is_waiting emits =
+          comes_worked statement same given.items assembles (is_waiting ∙ append-nil waiting) emits
+      emits_worked statement same number taken None (emitted.Refused cause) assembles is_waiting emits =
+          refused_worked statement same cause assembles (is_waiting ∙ append-nil waiting) emits
+      emits_worked statement same number taken (Some pending) (emitted.Bytes given) assembles is_waiting emits =
+          waits_worked number taken statement same pending given.items assembles is_waiting emits
+      emits_worked statement same number taken (Some pending) (emitted.Refused cause) assembles is_waiting emits = absurd assembles

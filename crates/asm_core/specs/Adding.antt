@@ -1,6 +1,5 @@
 -- What a builder adds of a line.
 use Rattle.std.specs.Prelude.{◌≡◌, ℕ, ◌+◌, ◌++◌, List, ◌∷◌, Ok, IsSome}
-use Rattle.source_defs.specs.Growing.{Grows}
 use Rattle.asm_defs.specs.Locations.{Line, place, behind}
 use Rattle.asm_defs.specs.Statements.{said_of}
 use Rattle.asm_defs.specs.FirstChecks.{defs_in, refs_in}

@@ -21,8 +21,8 @@ use Rattle.asm_core.specs.Building.{HasTaken}
 use Rattle.asm_core.specs.declared.lines.AsmLines.{AsmLines}
 use Rattle.asm_core.specs.declared.error.AsmError.{AsmError}
 use Rattle.asm_core.specs.declared.error.AsmError.TheVariants.{At, Memory}
-use Rattle.asm_core.specs.declared.draft.Draft.{Draft}
-use Rattle.asm_core.specs.Drafts.{IsDraft}
+use Rattle.asm_core.specs.declared.second_pass.Output.{Output}
+use Rattle.asm_core.specs.Resolving.{IsOutput}
 
 -- the definitions refuse a line; no cause stands for want of memory
 abbrev pub RefusesAt : {B : Type 0} → AsmError → Result B (Refusal AsmCause) → Type 0
@@ -33,16 +33,16 @@ RefusesAt (At line (cause.Form (form.Expr expr.Memory))) defined = ⊥
 RefusesAt (At line refused) defined = defined ≡ Err (record { line = line; cause = refused })
 
 -- the lines were settled, and what was known of each takes as much room
-pub record AreSettled (unused : List Reference) (order : List Line) (founds : List Settled) (known : Names) (old new : Draft) : Type 0 where
+pub record AreResolved (unused : List Reference) (order : List Line) (founds : List Settled) (known : Names) (old new : Output) : Type 0 where
   pub done : List Settled
   pub settled : settled (settle known) (onto [] order) ≡ Ok done
   pub places : SamePlaces (onto [] founds) done
-  pub draft : IsDraft unused [] founds old → IsDraft unused done [] new
+  pub output : IsOutput unused [] founds old → IsOutput unused done [] new
 
 -- or one is refused
-abbrev pub SettlesAll : {A : Type 0} → List Reference → List Line → List Settled → Names → Result A AsmError → Draft → Draft → Type 0
-SettlesAll unused order founds known (Ok _) old new = AreSettled unused order founds known old new
-SettlesAll unused order founds known (Err error) old new = RefusesAt error (settled (settle known) (onto [] order))
+abbrev pub ResolvesAll : {A : Type 0} → List Reference → List Line → List Settled → Names → Result A AsmError → Output → Output → Type 0
+ResolvesAll unused order founds known (Ok _) old new = AreResolved unused order founds known old new
+ResolvesAll unused order founds known (Err error) old new = RefusesAt error (settled (settle known) (onto [] order))
 
 -- lines are refused where those before the refused one are settled
 abbrev pub StopsBehind : Names → List Line → List Line → List Settled → List Settled → AsmError → Type 0

@@ -7,11 +7,11 @@ pub use Rattle.asm_defs.specs.SecondChecks
 pub use Rattle.asm_defs.specs.Memory
 pub use Rattle.asm_defs.specs.Modules
 pub mod Held
-pub mod Judging
+pub mod Assembling
 pub mod Keeping
 pub mod Building
-pub mod Claiming
+pub mod Emitting
 pub mod Adding
-pub mod Drafts
+pub mod Resolving
 pub mod Finishing
 pub mod Laws

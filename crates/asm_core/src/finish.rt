@@ -12,13 +12,13 @@ ghost use Rattle.asm_checks.specs.Outcomes.{defined_spot};
 ghost use Rattle.asm_core.specs.declared.pending.Pending.{Pending};
 ghost use Rattle.module_image.specs.Standing.{AllStand};
 ghost use Rattle.asm_core.specs.Building.{AreKnown, ImageOf, IsStopped, IsBehind, refusal_at, error_of};
-ghost use Rattle.asm_core.specs.Drafts.{IsDraft};
-ghost use Rattle.asm_core.specs.Finishing.{GivesModule, Knows, SameEnd, SettlesAll, StopsBehind};
+ghost use Rattle.asm_core.specs.Resolving.{IsOutput};
+ghost use Rattle.asm_core.specs.Finishing.{GivesModule, Knows, SameEnd, ResolvesAll, StopsBehind};
 
-use crate::draft::{Draft, unused_references};
 use crate::error::AsmError;
 use crate::lines::AsmLines;
 use crate::pending::Refused;
+use crate::second_pass::{Output, unused_references};
 use asm_checks::Failure;
 use asm_text::{Name, Symbols, Value};
 use module_image::{Image, pieces};
@@ -31,19 +31,19 @@ impl AsmLines {
     pub(crate) fn module(&mut self) -> Result<Module, AsmError>
         ensures { (lines : List Line) → IsBehind lines self.old → GivesModule result (module_behind lines) }
     {
-        let mut draft = self.draft()?;
-        self.settle_all(&mut draft)?;
+        let mut output = self.output()?;
+        self.resolve_all(&mut output)?;
         if let Some(refused) = &self.refused {
-            return Err(stopped(&self.symbols, &mut draft, refused));
+            return Err(stopped(&self.symbols, &mut output, refused));
         }
-        let module = self.module_of(&draft)?;
+        let module = self.module_of(&output)?;
         Ok(module)
     }
 
-    /// What is known of the lines so far. The builder gives up its image.
-    fn draft(&mut self) -> Result<Draft, AllocError>
-        ensures draft { IfOk result (λ draft. (founds : List Settled) → ImageOf (onto [] founds) self.old.image →
-            IsDraft (map unused self.old.refs.items) [] founds draft) }
+    /// The output of the first pass. The builder gives up its image.
+    fn output(&mut self) -> Result<Output, AllocError>
+        ensures output { IfOk result (λ output. (founds : List Settled) → ImageOf (onto [] founds) self.old.image →
+            IsOutput (map unused self.old.refs.items) [] founds output) }
         ensures same { SameEnd self.old self.new }
     {
         let references = unused_references(self.alloc, self.refs.as_slice())?;
@@ -51,7 +51,7 @@ impl AsmLines {
             Some(image) => image,
             None => Image::new(self.alloc)?,
         };
-        Ok(Draft {
+        Ok(Output {
             alloc: self.alloc,
             image,
             references,
@@ -59,14 +59,14 @@ impl AsmLines {
         })
     }
 
-    /// Settles the lines that wait in their order, up to the first that is refused.
-    fn settle_all(&self, draft: &mut Draft) -> Result<(), AsmError>
+    /// Resolves the lines that wait in their order, up to the first that is refused.
+    fn resolve_all(&self, output: &mut Output) -> Result<(), AsmError>
         ensures { (unused : List Reference) (order : List Line) (founds : List Settled) →
             AreKnown self.now.symbols [] order founds self.now.waiting.items → AllStand [] founds →
-            SettlesAll unused order founds self.now.symbols result draft.old draft.new }
+            ResolvesAll unused order founds self.now.symbols result output.old output.new }
     {
         for pending in self.waiting.as_slice() {
-            match draft.settle(&self.symbols, pending) {
+            match output.resolve(&self.symbols, pending) {
                 Ok(()) => {}
                 Err(failure) => return Err(refusal(pending.number, failure)),
             }
@@ -74,32 +74,32 @@ impl AsmLines {
         Ok(())
     }
 
-    /// The module of settled lines.
-    fn module_of(&self, draft: &Draft) -> Result<Module, AllocError>
+    /// The module of lines that are all resolved.
+    fn module_of(&self, output: &Output) -> Result<Module, AllocError>
         ensures { (lines : List Line) (settled : List Settled) → Knows lines self.now →
-            IsDraft (map unused (first.refs lines)) settled [] draft.now →
+            IsOutput (map unused (first.refs lines)) settled [] output.now →
             IfOk result (λ found. defined_module found ≡ module_by lines settled) }
     {
         Ok(Module {
             name: self.title,
             size: self.reached as u16,
-            pieces: pieces(self.alloc, &draft.image)?,
+            pieces: pieces(self.alloc, &output.image)?,
             defs: defs(self.alloc, &self.symbols, self.defs.as_slice())?,
-            refs: refs(self.alloc, draft.references.as_slice())?,
-            entry: draft.entry,
+            refs: refs(self.alloc, output.references.as_slice())?,
+            entry: output.entry,
         })
     }
 }
 
-/// Why a line is refused where those before it are settled: a value of it, else what was known when it was taken.
-fn stopped(symbols: &Symbols, draft: &mut Draft, refused: &Refused) -> AsmError
+/// Why a line is refused where those before it are resolved: a value of it, else what was known when it was taken.
+fn stopped(symbols: &Symbols, output: &mut Output, refused: &Refused) -> AsmError
     ensures { (lines : List Line) (waiting : List Pending) (done : List Settled) → (is : IsStopped refused.now lines symbols.now waiting) →
         StopsBehind symbols.now lines is.order is.founds done result }
 {
     let Some(pending) = &refused.waiting else {
         return refused_at(refused);
     };
-    match draft.settle(symbols, pending) {
+    match output.resolve(symbols, pending) {
         Ok(()) => {}
         Err(failure) => return refusal(pending.number, failure),
     }

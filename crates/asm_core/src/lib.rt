@@ -4,16 +4,16 @@
 mod calls;
 mod contents;
 mod define;
-mod draft;
+mod emit;
 mod error;
 mod finish;
-mod judge;
+mod first_pass;
 mod keep;
 mod laws;
 mod lines;
 mod pending;
 mod references;
-mod settle;
+mod second_pass;
 mod source;
 mod take;
 

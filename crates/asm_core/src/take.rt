@@ -8,13 +8,13 @@ ghost use Rattle.asm_defs.proofs.CheckLaws.{IsTitled};
 ghost use Rattle.asm_checks.specs.Defined.{defined_statement};
 ghost use Rattle.asm_checks.specs.Moves.{defined_move, MovesWithin};
 ghost use Rattle.asm_checks.specs.Checks.{IsSaid, ListsNames};
-ghost use Rattle.asm_core.specs.Judging.{HasRoom};
+ghost use Rattle.asm_core.specs.Assembling.{HasRoom};
 ghost use Rattle.asm_core.specs.Keeping.{IsUnchanged, SameWork, StandsStill};
 ghost use Rattle.asm_core.specs.Adding.{Adds, Counts, IsAsBefore};
 ghost use Rattle.asm_core.specs.Building.{IsBehind, Takes, refusal_at};
 
 use crate::error::AsmError;
-use crate::judge::Judged;
+use crate::first_pass::Assembled;
 use crate::lines::AsmLines;
 use asm_checks::{Checked, Failure, Statement, behind, location_behind, title_in};
 use asm_defs::{Location, Part};
@@ -68,10 +68,10 @@ impl AsmLines {
         }
         self.prepare()?;
         let at = behind(self.location, checked.moved.gap);
-        let Judged { waiting, claim } = self.judge(text, checked)?;
+        let Assembled { waiting, emitted } = self.assemble_line(text, checked)?;
         let waits = waiting.is_some();
         self.keep(waiting, checked)?;
-        self.claim(at, claim, waits);
+        self.emit(at, emitted, waits);
         Ok(())
     }
 

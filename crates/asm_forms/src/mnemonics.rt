@@ -1,10 +1,9 @@
 //! What an operation field names.
 
-ghost use Rattle.std.specs.Prelude.{◌≡◌, Some};
+ghost use Rattle.std.specs.Prelude.{◌≡◌};
 ghost use Rattle.instruction_defs.specs.Operations as spec;
-ghost use Rattle.asm_text.specs.WordKeys.{with_key};
 
-use asm_text::word_key;
+use asm_text::{named_in, word_key};
 use instruction_defs::Mnemonic;
 use tms_defs::{BareOp, ImmOp, JumpOp, OneOp, Operation, RegOp, ShiftOp, TwoOp};
 
@@ -106,17 +105,4 @@ pub(crate) fn mnemonic(text: &[u8]) -> Option<Mnemonic>
         return Some(Mnemonic::Fixed(RT));
     }
     named_in(&NAMED, key).map(Mnemonic::Of)
-}
-
-/// The first of some operations behind a number.
-fn named_in(table: &[(u64, Operation)], key: u64) -> Option<Operation>
-    ensures { result ≡ with_key (Some key) table.now }
-{
-    for row in table {
-        let (known, operation) = *row;
-        if key == known {
-            return Some(operation);
-        }
-    }
-    None
 }

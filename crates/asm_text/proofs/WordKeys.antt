@@ -106,6 +106,41 @@ words_found {A} name text things p short = told things short ∙ rows (word_key 
     rows (Some key) [] = refl
     rows (Some key) (thing ∷ others) = either (key == key_of (name thing)) thing others key _ (rows (Some key) others)
 
+-- the first of some words that a text is stands for something
+abbrev pub first_word : {A : Type 0} → List ℕ → List (List ℕ × A) → Option A
+first_word text [] = None
+first_word text (row ∷ rows) = cond (is_word text row.0) (Some row.1) (first_word text rows)
+
+-- and so does its number in the table of their numbers
+pub first_by_key : {A : Type 0} (text : List ℕ) (rows : List (List ℕ × A)) → AreBytes text → list_all (λ (row : List ℕ × A). is_short row.0) rows ≡ true
+    → first_word text rows ≡ with_key (word_key text) (map (λ (row : List ℕ × A). (key_of row.0, row.1)) rows)
+first_by_key {A} text rows p short = told rows short
+  where
+    keyed : List (List ℕ × A) → List (ℕ × A)
+    keyed some = map (λ (row : List ℕ × A). (key_of row.0, row.1)) some
+
+    none : (key : Option ℕ) → None ≡ with_key key (keyed [])
+    none None = refl
+    none (Some key) = refl
+
+    more : (key : Option ℕ) (row : List ℕ × A) (others : List (List ℕ × A))
+        → cond (is_of_key key row.0) (Some row.1) (with_key key (keyed others)) ≡ with_key key (keyed (row ∷ others))
+    more None row others = refl
+    more (Some key) row others = by (key == key_of row.0)
+      where
+        by : (b : Bool) → cond b (Some row.1) (with_key (Some key) (keyed others))
+            ≡ option_map (λ (row : ℕ × A). row.1) (cond b (Some (key_of row.0, row.1)) (find (λ (row : ℕ × A). key == row.0) (keyed others)))
+        by true = refl
+        by false = refl
+
+    told : (some : List (List ℕ × A)) → list_all (λ (row : List ℕ × A). is_short row.0) some ≡ true → first_word text some ≡ with_key (word_key text) (keyed some)
+    told [] q = none (word_key text)
+    told (row ∷ others) q =
+        let here = first_so (is_short row.0) (list_all (λ (it : List ℕ × A). is_short it.0) others) q in
+        let there = second_so (is_short row.0) (list_all (λ (it : List ℕ × A). is_short it.0) others) q in
+        ap (λ found. cond found (Some row.1) (first_word text others)) (word_told text row.0 p here)
+        ∙ (ap (cond (is_of_key (word_key text) row.0) (Some row.1)) (told others there) ∙ more (word_key text) row others)
+
 -- a row of a table that has the key, and one that has another
 module _ {A : Type 0} (rows : List (ℕ × A)) (at key : ℕ) (none : ℕ × A) (within : at < length rows) where
   abbrev row : ℕ × A

@@ -48,5 +48,5 @@ pub use crate::symbols::{DefineError, Symbols};
 pub use crate::text::{lines, part};
 pub use crate::token::{Token, TokenKind};
 pub use crate::values::Value;
-pub use crate::words::{is_name, is_word, word_key};
+pub use crate::words::{is_name, is_word, named_in, word_key};
 pub use source_defs::{ExprError, Line, OperandError, Span, TextError};

@@ -60,7 +60,7 @@ pub fn some_of(field: &[u8]) -> Result<&[u8], OperandError>
     ensures texts { seen (λ found. operand_texts found.now) result ≡ spec.some_of (operand_texts field.now) }
     ensures same { IfOk result (λ found. found.now ≡ field.now) }
 {
-    if operands(field).next().is_none() {
+    if field.is_empty() {
         return Err(OperandError::Count);
     }
     if all_written(field) {

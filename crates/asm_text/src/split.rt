@@ -1,17 +1,16 @@
 //! A line as fields.
 
-ghost use Rattle.std.specs.Prelude.{◌≡◌, ◌≤◌, ◌<◌, ◌-◌, ◌++◌, ◌↔◌, Some, None, length, take, map, replicate, slice_range};
-ghost use Rattle.std.specs.Prelude.{IfOk, IfSome, if◌then◌else◌, true, nat_le, ◌&&◌, Ok};
+ghost use Rattle.std.specs.Prelude.{◌≡◌, ◌≤◌, ◌<◌, ◌-◌, ◌++◌, ◌↔◌, ℕ, Some, None, length, take, map, replicate, slice_range};
+ghost use Rattle.std.specs.Prelude.{is_some, IfOk, IfSome, if◌then◌else◌, true, nat_le, ◌&&◌, Ok};
 ghost use Rattle.source_defs.specs.Fields as spec;
 ghost use Rattle.source_defs.specs.Characters.{upper_case};
-ghost use Rattle.source_defs.specs.Names.{is_name, IsUpperCaseName};
+ghost use Rattle.source_defs.specs.Names.{all_letters_or_digits, is_name, IsUpperCaseName};
 ghost use Rattle.asm_text.specs.GivenFields.{defined_fields, defined_answer, FieldsLieInside};
 
-use crate::characters::{is_asterisk, is_blank, upper_case};
+use crate::characters::{is_asterisk, is_blank, is_letter, is_letter_or_digit, upper_case};
 use crate::line_fields::Fields;
 use crate::name::{LONGEST_NAME, Name};
 use crate::places::{operand_end, word_end, word_start};
-use crate::words::is_name;
 use source_defs::{Span, TextError};
 
 /// The most bytes that a line has.
@@ -23,7 +22,7 @@ const LONGEST_LINE: usize = 256;
 ///
 /// `LineTooLong` comes for more than 256 bytes, and only then. `BadLabel` comes where column 1 holds
 /// neither a blank nor an asterisk and what stands there up to a blank is no name, and only then.
-#[tactic(auto, using(source_defs::proofs::FieldLaws::no_comment), unfolding(source_defs::specs::Fields::fields))]
+#[tactic(auto, using(source_defs::proofs::FieldLaws::no_comment, source_defs::proofs::LeastLaws::least_bounds), unfolding(source_defs::specs::Fields::fields))]
 pub fn fields(line: &[u8]) -> Result<Fields, TextError>
     ensures value { defined_answer result ≡ spec.fields line.now }
     ensures too_long { (result ≡ Err TextError.LineTooLong) ↔ (spec.longest_line < length line.now) }
@@ -34,7 +33,8 @@ pub fn fields(line: &[u8]) -> Result<Fields, TextError>
     if line.len() > LONGEST_LINE {
         return Err(TextError::LineTooLong);
     }
-    if is_comment(line) {
+    let start = word_start(line, 0);
+    if is_comment(line, start) {
         return Ok(Fields {
             label: None,
             operation: None,
@@ -42,11 +42,11 @@ pub fn fields(line: &[u8]) -> Result<Fields, TextError>
         });
     }
     if is_blank(line[0]) {
-        return Ok(fields_after(line, None, 0));
+        return Ok(fields_at(line, None, start));
     }
     let end = word_end(line, 0);
     match upper_case_name(&line[..end]) {
-        Some(name) => Ok(fields_after(line, Some(name), end)),
+        Some(name) => Ok(fields_at(line, Some(name), word_start(line, end))),
         None => Err(TextError::BadLabel),
     }
 }
@@ -68,24 +68,25 @@ pub fn is_comment_line(line: &[u8]) -> bool
     ensures told { result ≡ (nat_le (length line.now) spec.longest_line && spec.is_comment line.now) }
     ensures fields { (result ≡ true) → spec.fields line.now ≡ Ok spec.no_fields }
 {
-    line.len() <= LONGEST_LINE && is_comment(line)
+    line.len() <= LONGEST_LINE && is_comment(line, word_start(line, 0))
 }
 
-/// Whether a line is blank or has an asterisk in column 1.
-fn is_comment(line: &[u8]) -> bool
+/// Whether a line is blank or has an asterisk in column 1, by the place of its first byte that is no blank.
+fn is_comment(line: &[u8], start: usize) -> bool
+    requires { start ≡ spec.word_start line.now 0 }
     ensures { result ≡ spec.is_comment line.now }
 {
-    word_start(line, 0) == line.len() || is_asterisk(line[0])
+    start == line.len() || is_asterisk(line[0])
 }
 
-/// The fields of a line whose label, if it has one, ends at a place.
+/// The fields of a line whose operation, if it has one, begins at a place, the first behind its label that is no blank.
 #[tactic(auto, using(source_defs::proofs::LeastLaws::least_bounds))]
-fn fields_after(line: &[u8], label: Option<Name>, from: usize) -> Fields
-    requires { from ≤ length line.now }
-    ensures value { defined_fields result ≡ spec.fields_after line.now label from }
+fn fields_at(line: &[u8], label: Option<Name>, start: usize) -> Fields
+    requires { start ≤ length line.now }
+    ensures value { (from : ℕ) → start ≡ spec.word_start line.now from →
+        defined_fields result ≡ spec.fields_after line.now label from }
     ensures inside { FieldsLieInside line.now result }
 {
-    let start = word_start(line, from);
     let end = word_end(line, start);
     let operands = word_start(line, end);
     Fields {
@@ -108,21 +109,27 @@ pub fn upper_case_name(field: &[u8]) -> Option<Name>
     ensures value { result ≡ (if is_name field.now then Some (map upper_case field.now) else None) }
     ensures names { IfSome result IsUpperCaseName }
 {
-    if !is_name(field) {
+    if field.is_empty() || field.len() > LONGEST_NAME || !is_letter(field[0]) {
         return None;
     }
-    Some(Name::of_padded(in_upper_case(field), field.len()))
+    let letters = in_upper_case(field)?;
+    Some(Name::of_padded(letters, field.len()))
 }
 
-/// The letters of a label field in upper case, followed by zeros.
-fn in_upper_case(field: &[u8]) -> [u8; LONGEST_NAME]
+/// The letters and digits of a label field in upper case, followed by zeros; none where another character stands there.
+fn in_upper_case(field: &[u8]) -> Option<[u8; LONGEST_NAME]>
     requires { length field.now ≤ 6 }
-    ensures upper { take (length field.now) result ≡ map upper_case field.now }
-    ensures padded { result ≡ take (length field.now) result ++ replicate (6 - length field.now) 0 }
+    ensures all { is_some result ≡ all_letters_or_digits field.now }
+    ensures upper { IfSome result (λ letters. take (length field.now) letters ≡ map upper_case field.now) }
+    ensures padded { IfSome result (λ letters. letters
+        ≡ take (length field.now) letters ++ replicate (6 - length field.now) 0) }
 {
     let mut letters = [0; LONGEST_NAME];
     for (at, &byte) in field.iter().enumerate() {
+        if !is_letter_or_digit(byte) {
+            return None;
+        }
         letters[at] = upper_case(byte);
     }
-    letters
+    Some(letters)
 }

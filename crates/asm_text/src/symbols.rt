@@ -156,9 +156,11 @@ fn is_register(name: &[u8], number: u16) -> bool
     requires { number < 16 }
     ensures { result ≡ pointwise nat_eq name.now (spec.register_name number) }
 {
-    if number < 10 {
-        name == [b'R', b'0' + number as u8].as_slice()
-    } else {
-        name == [b'R', b'1', b'0' + (number - 10) as u8].as_slice()
+    match name {
+        [letter, digit] => *letter == b'R' && number < 10 && *digit == b'0' + number as u8,
+        [letter, one, digit] => {
+            *letter == b'R' && *one == b'1' && number >= 10 && *digit == b'0' + (number - 10) as u8
+        }
+        _ => false,
     }
 }

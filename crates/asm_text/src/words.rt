@@ -1,6 +1,6 @@
 //! Words of a text: names, and words that are compared with no heed of case.
 
-ghost use Rattle.std.specs.Prelude.{◌≡◌, ◌+◌, ◌*◌, ◌^◌, ◌<◌};
+ghost use Rattle.std.specs.Prelude.{◌≡◌, ◌+◌, ◌*◌, ◌^◌, ◌<◌, Some};
 ghost use Rattle.source_defs.specs.Characters.{upper_case};
 ghost use Rattle.source_defs.specs.Names as spec;
 ghost use Rattle.asm_text.specs.WordKeys as keys;
@@ -62,4 +62,17 @@ fn all_letters_or_digits(text: &[u8]) -> bool
     ensures { result ≡ spec.all_letters_or_digits text.now }
 {
     text.iter().all(|&byte| is_letter_or_digit(byte))
+}
+
+/// The first of some things in a table that stands behind a number, as behind the number of its name.
+pub fn named_in<T: Copy>(table: &[(u64, T)], key: u64) -> Option<T>
+    ensures { result ≡ keys.with_key (Some key) table.now }
+{
+    for row in table {
+        let (known, named) = *row;
+        if key == known {
+            return Some(named);
+        }
+    }
+    None
 }

@@ -1,5 +1,5 @@
 -- What a builder ends with, by what its lines come to.
-use Rattle.std.proofs.Common.{◌≡◌, ◌∷◌, List, Ok, Err, refl, sym, ap, ◌∙◌}
+use Rattle.std.proofs.Common.{◌≡◌, List, Ok, Err, sym, ap, ◌∙◌}
 use Rattle.std.specs.Prelude.{Result}
 use Rattle.source_defs.specs.Refusals.{Refusal, ◌>>=◌}
 use Rattle.source_defs.specs.Symbols.{Names}
@@ -8,7 +8,7 @@ use Rattle.source_defs.proofs.DefinedNames.{grown_not}
 use Rattle.gpl_source_defs.specs.declared.causes.GplCause.{GplCause}
 use Rattle.gpl_source_defs.specs.Locations.{Line}
 use Rattle.gpl_source_defs.specs.FirstChecks.{names}
-use Rattle.gpl_source_defs.specs.Programs.{Program, Settled, settle, program_by, program_behind}
+use Rattle.gpl_source_defs.specs.Programs.{Settled, settle, program_by, program_behind}
 use Rattle.gpl_asm.specs.declared.error.GplError.{GplError}
 use Rattle.gpl_asm.specs.declared.error.GplError.TheVariants.{At, Memory}
 use Rattle.gpl_asm.specs.declared.lines.GplLines.{GplLines}
@@ -35,16 +35,16 @@ built_by lines (Ok found) built e =
 built_by lines (Err refusal) built e = cc e
 
 module _ (lines : List Line) (builder : GplLines) (is : IsBehind lines builder) where
-  whole_is : whole (names lines) lines ≡ replay builder.symbols nothing builder.kept.items
+  whole_is : whole (names lines) lines ≡ replay builder.symbols nothing builder.waiting.items
   whole_is = ap (λ (known : Names). whole known lines) (sym is.names) ∙ is.replays builder.symbols (grown_not builder.symbols)
 
-  pub program_is : (built : Built) → replay builder.symbols nothing builder.kept.items ≡ Ok built
+  pub program_is : (built : Built) → replay builder.symbols nothing builder.waiting.items ≡ Ok built
       → program_behind lines ≡ Ok (record { image = built.image; entry = built.entry; names = builder.symbols })
   program_is built e =
       built_by lines (settled (settle (names lines)) lines) built (whole_is ∙ e)
       ∙ ap (λ (known : Names). Ok (record { image = built.image; entry = built.entry; names = known })) (sym is.names)
 
-  pub program_refused : (error : GplError) → RefusesAt error (replay builder.symbols nothing builder.kept.items) → RefusesAt error (program_behind lines)
+  pub program_refused : (error : GplError) → RefusesAt error (replay builder.symbols nothing builder.waiting.items) → RefusesAt error (program_behind lines)
   program_refused Memory refuses = tt
   program_refused (At line cause) refuses = (
     refused_by lines (settled (settle (names lines)) lines) (record { line = line; cause = cause }) (whole_is ∙ refuses.0),

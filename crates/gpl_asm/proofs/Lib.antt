@@ -2,6 +2,7 @@ pub mod RestLaws
 pub mod ReplayLaws
 pub mod LineLaws
 pub mod TakeLaws
+pub mod CountLaws
 pub mod FinishLaws
 pub mod TakenLaws
 pub mod EndedLines

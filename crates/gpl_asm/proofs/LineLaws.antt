@@ -1,27 +1,21 @@
 -- A builder behind one line more.
-use Rattle.std.proofs.Common.{◌≡◌, ℕ, ◌+◌, ◌≤◌, Bool, true, false, List, [], ◌∷◌, ◌++◌, Some, None, Ok, Err, length, refl, sym, ap, subst, ◌∙◌, arith}
-use Rattle.std.specs.Prelude.{Option, Result, if◌then◌else◌, is_some}
-use Rattle.std.specs.List.{AllByRecursion}
+use Rattle.std.proofs.Common.{◌≡◌, ℕ, ◌+◌, Bool, true, false, List, [], ◌∷◌, ◌++◌, Some, None, Ok, Err, refl, sym, ap, ◌∙◌, arith}
+use Rattle.std.specs.Prelude.{Option, Result, if◌then◌else◌}
 use Rattle.source_defs.specs.Refusals.{Refusal, ◌>>=◌, at_line}
-use Rattle.source_defs.specs.Expression.{Value}
 use Rattle.source_defs.specs.Symbols.{Names, look_up}
-use Rattle.source_defs.specs.Growing.{Grows}
-use Rattle.source_defs.specs.Layout.{settled, with_names, set_or, none_or, origin, since}
-use Rattle.gpl_defs.specs.Image.{placed}
+use Rattle.source_defs.specs.Layout.{settled, set_or, none_or, origin, since}
 use Rattle.gpl_source_defs.specs.declared.causes.GplCause.{GplCause}
 use Rattle.gpl_source_defs.specs.declared.causes.GplCause.TheVariants.{Overlap}
 use Rattle.gpl_source_defs.specs.declared.location.Location.{Location}
-use Rattle.gpl_source_defs.specs.Statements.{Statement, size_said}
-use Rattle.gpl_source_defs.specs.Locations.{Line, location, place, behind, start, origin_of, IsInGrom}
-use Rattle.gpl_source_defs.specs.FirstChecks.{Checked, line_of, names, label_entry, label_value, is_taken}
-use Rattle.gpl_source_defs.specs.SecondChecks.{Outcome, Bytes, Entry, outcome}
-use Rattle.gpl_source_defs.specs.Programs.{Settled, settle, image, entry, bytes_in, entry_by, overlaps, with_room}
-use Rattle.gpl_source_defs.proofs.Sizes.{outcome_size}
-use Rattle.gpl_asm.specs.declared.kept.Kept.{Kept}
-use Rattle.gpl_asm.specs.declared.kept.Rest.{Rest}
+use Rattle.gpl_source_defs.specs.Statements.{size_said}
+use Rattle.gpl_source_defs.specs.Locations.{Line, location, place, behind, start, origin_of}
+use Rattle.gpl_source_defs.specs.FirstChecks.{Checked, line_of}
+use Rattle.gpl_source_defs.specs.SecondChecks.{Outcome, Bytes, outcome}
+use Rattle.gpl_source_defs.specs.Programs.{Settled, settle, image, bytes_in, overlaps, with_room}
+use Rattle.gpl_asm.specs.declared.pending.Rest.{Rest}
 use Rattle.gpl_asm.specs.declared.lines.GplLines.{GplLines}
-use Rattle.gpl_asm.specs.Replay.{Built, put, answer, answer_by, step, replay, nothing, HasRoom, WaitsForSome}
-use Rattle.gpl_asm.specs.Keeping.{kept_of}
+use Rattle.gpl_asm.specs.Replay.{Built, put, answer, replay, nothing}
+use Rattle.gpl_asm.specs.Keeping.{pending_of}
 use Rattle.gpl_asm.specs.Building.{built_of, whole}
 use Rattle.std.proofs.lemmas.List.{append-nil}
 use Rattle.gpl_asm.proofs.ReplayLaws.{replay_more}
@@ -90,7 +84,7 @@ module _ (later : Names) where
 
   -- one that was kept, or comes to nothing
   pub kept_more : (builder : GplLines) (rest : Option Rest)
-      → replay later nothing (builder.kept.items ++ kept_of builder rest)
-      ≡ (replay later nothing builder.kept.items >>= λ built. at_line (builder.taken + 1) (answer later builder.location rest >>= λ found. put builder.location found built))
-  kept_more builder None = ap (replay later nothing) (append-nil builder.kept.items) ∙ sym (nothing_put (builder.taken + 1) builder.location (replay later nothing builder.kept.items))
-  kept_more builder (Some rest) = replay_more later nothing builder.kept.items (record { number = builder.taken + 1; at = builder.location; rest = rest })
+      → replay later nothing (builder.waiting.items ++ pending_of builder rest)
+      ≡ (replay later nothing builder.waiting.items >>= λ built. at_line (builder.taken + 1) (answer later builder.location rest >>= λ found. put builder.location found built))
+  kept_more builder None = ap (replay later nothing) (append-nil builder.waiting.items) ∙ sym (nothing_put (builder.taken + 1) builder.location (replay later nothing builder.waiting.items))
+  kept_more builder (Some rest) = replay_more later nothing builder.waiting.items (record { number = builder.taken + 1; at = builder.location; rest = rest })

@@ -1,30 +1,27 @@
 -- A builder that has taken one line more.
-use Rattle.std.proofs.Common.{◌≡◌, ℕ, ◌+◌, ◌≤◌, Bool, true, false, ◌||◌, List, [], ◌∷◌, ◌++◌, Some, None, Ok, Err, length, refl, sym, ap, subst, ◌∙◌, arith}
+use Rattle.std.proofs.Common.{◌≡◌, ℕ, ◌+◌, ◌≤◌, false, ◌||◌, List, [], ◌∷◌, ◌++◌, Some, None, Ok, length, refl, sym, ap, subst, ◌∙◌, arith}
 use Rattle.std.specs.Prelude.{Option, Result, IfSome, is_some}
 use Rattle.std.proofs.lemmas.Bool.Decides.{nat_tests}
 use Rattle.std.specs.List.{AllByRecursion}
 use Rattle.std.specs.FinMap.{get}
-use Rattle.std.proofs.lemmas.List.{append-nil}
 use Rattle.source_defs.specs.Refusals.{Refusal, ◌>>=◌, at_line}
-use Rattle.source_defs.specs.Expression.{Value, Absolute}
+use Rattle.source_defs.specs.Expression.{Absolute}
 use Rattle.source_defs.specs.Symbols.{Names, look_up}
 use Rattle.source_defs.specs.Growing.{Grows}
-use Rattle.source_defs.specs.Layout.{with_names, has_ended, set_or}
+use Rattle.source_defs.specs.Layout.{with_names, set_or}
 use Rattle.source_defs.proofs.DefinedNames.{grown, grown_on, grown_not}
 use Rattle.gpl_source_defs.specs.declared.causes.GplCause.{GplCause}
 use Rattle.gpl_source_defs.specs.declared.location.Location.{Location}
 use Rattle.gpl_source_defs.specs.Statements.{Statement, size_said}
-use Rattle.gpl_source_defs.specs.Locations.{Line, location, place, behind, origin_of, IsInGrom}
+use Rattle.gpl_source_defs.specs.Locations.{Line, location, behind, origin_of, IsInGrom}
 use Rattle.gpl_source_defs.specs.FirstChecks.{Checked, checked, line_of, names, label_entry, label_value, is_taken, is_end, is_full}
 use Rattle.gpl_source_defs.specs.SecondChecks.{Outcome, outcome}
-use Rattle.gpl_source_defs.specs.Programs.{bytes_in}
 use Rattle.gpl_source_defs.proofs.Sizes.{outcome_size}
 use Rattle.gpl_source_defs.proofs.CheckLaws.{is_let_through, leads}
-use Rattle.gpl_asm.specs.declared.kept.Kept.{Kept}
-use Rattle.gpl_asm.specs.declared.kept.Rest.{Rest}
+use Rattle.gpl_asm.specs.declared.pending.Rest.{Rest}
 use Rattle.gpl_asm.specs.declared.lines.GplLines.{GplLines}
-use Rattle.gpl_asm.specs.Replay.{Built, put, answer, answer_by, replay, nothing, HasRoom, WaitsForSome}
-use Rattle.gpl_asm.specs.Keeping.{kept_of}
+use Rattle.gpl_asm.specs.Replay.{Built, put, answer, replay, nothing, HasRoom, WaitsForSome}
+use Rattle.gpl_asm.specs.Keeping.{pending_of}
 use Rattle.gpl_asm.specs.Building.{IsBehind, whole}
 use Rattle.gpl_asm.proofs.LineLaws.{location_more, place_is, whole_more, kept_more}
 use Rattle.grom_defs.specs.declared.size.TheConstants.{GROM_SIZE}
@@ -59,9 +56,9 @@ module _ (lines : List Line) (builder : GplLines) (is : IsBehind lines builder) 
 
     abbrev of_answer : ℕ → Result Outcome GplCause → Result Built (Refusal GplCause)
     of_answer number came =
-        replay later nothing builder.kept.items >>= λ built. at_line number (came >>= λ came. put builder.location came built)
+        replay later nothing builder.waiting.items >>= λ built. at_line number (came >>= λ came. put builder.location came built)
 
-    pub replays_more : whole later (line ∷ lines) ≡ replay later nothing (builder.kept.items ++ kept_of builder rest)
+    pub replays_more : whole later (line ∷ lines) ≡ replay later nothing (builder.waiting.items ++ pending_of builder rest)
     replays_more =
         whole_more later lines line
         ∙ (ap at_place (place_is (length lines + 1) found lines ∙ sym is.location)
@@ -71,7 +68,7 @@ module _ (lines : List Line) (builder : GplLines) (is : IsBehind lines builder) 
         ∙ sym (kept_more later builder rest)))))
 
     room_of : (left : Option Rest) → answer later builder.location left ≡ outcome (look_up later) builder.location found.statement → WaitsForSome left
-        → builder.location.number + size_said found.statement ≤ 65536 → AllByRecursion (HasRoom later) (kept_of builder left)
+        → builder.location.number + size_said found.statement ≤ 65536 → AllByRecursion (HasRoom later) (pending_of builder left)
     room_of None same waits le = tt
     room_of (Some left) same waits le = (
       record {
@@ -84,13 +81,13 @@ module _ (lines : List Line) (builder : GplLines) (is : IsBehind lines builder) 
     )
 
     pub room_more : WaitsForSome rest → builder.location.number + size_said found.statement ≤ 65536
-        → AllByRecursion (HasRoom later) (builder.kept.items ++ kept_of builder rest)
+        → AllByRecursion (HasRoom later) (builder.waiting.items ++ pending_of builder rest)
     room_more waits le =
-        all_append (HasRoom later) builder.kept.items (kept_of builder rest) (is.room later grows) (room_of rest (answers later grows) waits le)
+        all_append (HasRoom later) builder.waiting.items (pending_of builder rest) (is.room later grows) (room_of rest (answers later grows) waits le)
 
   -- the builder that has taken it
   pub record TakesOne (new : GplLines) : Type 0 where
-    pub kept : new.kept.items ≡ builder.kept.items ++ kept_of builder rest
+    pub waiting : new.waiting.items ≡ builder.waiting.items ++ pending_of builder rest
     pub names : new.symbols ≡ with_names builder.symbols (label_entry found.label (label_value builder.location found.statement))
     pub location : new.location ≡ behind (set_or (origin_of builder.location found.statement) builder.location) (size_said found.statement)
     pub taken : new.taken ≡ builder.taken + 1
@@ -111,9 +108,9 @@ module _ (lines : List Line) (builder : GplLines) (is : IsBehind lines builder) 
         taken = takes.taken ∙ (ap (λ taken. taken + 1) is.taken ∙ omega arith);
         ended = takes.ended ∙ ap (λ ended. is_end found.statement || ended) is.ended;
         replays = λ later more.
-            replays_more answers later (grown_on builder.symbols new.symbols later grows more) ∙ ap (replay later nothing) (sym takes.kept);
+            replays_more answers later (grown_on builder.symbols new.symbols later grows more) ∙ ap (replay later nothing) (sym takes.waiting);
         room = λ later more.
-            subst (AllByRecursion (HasRoom later)) (sym takes.kept) (room_more answers later (grown_on builder.symbols new.symbols later grows more) waits le);
+            subst (AllByRecursion (HasRoom later)) (sym takes.waiting) (room_more answers later (grown_on builder.symbols new.symbols later grows more) waits le);
       }
 
 -- where the builder goes on

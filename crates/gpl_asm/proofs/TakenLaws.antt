@@ -1,7 +1,7 @@
 -- Lines that are taken one after the other.
 use Rattle.std.proofs.Common.{◌≡◌, ℕ, ◌+◌, false, List, [], ◌∷◌, ◌++◌, Ok, Err, length, sym, ap, ◌∙◌, arith, length-append}
 use Rattle.std.specs.Prelude.{Result}
-use Rattle.source_defs.specs.Refusals.{Refusal, ◌>>=◌, at_line}
+use Rattle.source_defs.specs.Refusals.{◌>>=◌, at_line}
 use Rattle.source_defs.specs.Layout.{laid, numbered, has_ended}
 use Rattle.source_defs.proofs.LaidLaws.{last_line, laid_more}
 use Rattle.gpl_source_defs.specs.FirstChecks.{check}

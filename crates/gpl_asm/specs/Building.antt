@@ -12,7 +12,6 @@ use Rattle.gpl_source_defs.specs.Programs.{Settled, settle, image, entry}
 use Rattle.gpl_asm.specs.declared.lines.GplLines.{GplLines}
 use Rattle.gpl_asm.specs.declared.error.GplError.{GplError}
 use Rattle.gpl_asm.specs.declared.error.GplError.TheVariants as error
-use Rattle.gpl_asm.specs.Errors.{RefusesAt}
 use Rattle.gpl_asm.specs.Replay.{Built, nothing, replay, HasRoom}
 use Rattle.gpl_lines.specs.Answers.{NoMemory}
 
@@ -29,9 +28,9 @@ pub record IsBehind (lines : List Line) (builder : GplLines) : Type 0 where
   pub location : builder.location ≡ location lines
   pub taken : builder.taken ≡ length lines
   pub ended : builder.ended ≡ has_ended lines
-  -- whatever names are still to come, the lines that were kept come to what all lines come to
-  pub replays : (later : Names) → Grows builder.symbols later → whole later lines ≡ replay later nothing builder.kept.items
-  pub room : (later : Names) → Grows builder.symbols later → AllByRecursion (HasRoom later) builder.kept.items
+  -- whatever names are still to come, the lines that wait come to what all lines come to
+  pub replays : (later : Names) → Grows builder.symbols later → whole later lines ≡ replay later nothing builder.waiting.items
+  pub room : (later : Names) → Grows builder.symbols later → AllByRecursion (HasRoom later) builder.waiting.items
 
 -- a line was taken behind others, or why it is refused there
 abbrev pub Takes : {A : Type 0} → List Line → List ℕ → Result A GplError → GplLines → Type 0

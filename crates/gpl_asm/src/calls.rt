@@ -33,7 +33,7 @@ impl GplLines {
                 grom: FIRST_GROM,
                 number: FIRST_GROM,
             },
-            kept: Vec::new(alloc),
+            waiting: Vec::new(alloc),
             image: GromImage::new(alloc)?,
             taken: 0,
             ended: false,

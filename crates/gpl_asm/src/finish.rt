@@ -4,13 +4,13 @@ ghost use Rattle.std.specs.Prelude.{◌≡◌, List, None};
 ghost use Rattle.std.specs.List.{AllByRecursion};
 ghost use Rattle.gpl_source_defs.specs.Locations.{Line};
 ghost use Rattle.gpl_source_defs.specs.Programs.{program_behind};
-ghost use Rattle.gpl_asm.specs.Replay.{HasRoom, Replays, Settles};
+ghost use Rattle.gpl_asm.specs.Replay.{HasRoom, Replays, Resolves};
 ghost use Rattle.gpl_asm.specs.Building.{IsBehind};
 ghost use Rattle.gpl_asm.specs.Finishing.{GivesProgram};
 
 use crate::error::{GplError, refusal_at};
-use crate::kept::{Kept, Rest};
 use crate::lines::GplLines;
+use crate::pending::{Pending, Rest};
 use crate::place::put;
 use asm_text::Symbols;
 use gpl_forms::GromImage;
@@ -36,11 +36,11 @@ impl GplLines {
         let GplLines {
             alloc,
             symbols,
-            kept,
+            waiting,
             mut image,
             ..
         } = self;
-        match settle_all(alloc, &symbols, kept.as_slice(), &mut image) {
+        match resolve_all(alloc, &symbols, waiting.as_slice(), &mut image) {
             Ok(entry) => Ok(GplProgram {
                 image,
                 entry,
@@ -51,20 +51,20 @@ impl GplLines {
     }
 }
 
-/// Settles the lines that were kept in their order, up to the first that is refused, and gives the entry.
-fn settle_all(
+/// Resolves the lines that wait in their order, up to the first that is refused, and gives the entry.
+fn resolve_all(
     alloc: Global,
     symbols: &Symbols,
-    kept: &[Kept],
+    waiting: &[Pending],
     image: &mut GromImage,
 ) -> Result<Option<u16>, GplError>
-    ensures { AllByRecursion (HasRoom symbols.now) kept.now →
-        Replays symbols.now (record { image = image.old; entry = None }) kept.now result image.new }
+    ensures { AllByRecursion (HasRoom symbols.now) waiting.now →
+        Replays symbols.now (record { image = image.old; entry = None }) waiting.now result image.new }
 {
     let mut entry = None;
-    let mut rest = kept;
+    let mut rest = waiting;
     while let [line, others @ ..] = rest {
-        entry = match settle(alloc, symbols, line, image, entry) {
+        entry = match resolve(alloc, symbols, line, image, entry) {
             Ok(entry) => entry,
             Err(failure) => return Err(refusal_at(line.number, failure)),
         };
@@ -73,21 +73,21 @@ fn settle_all(
     Ok(entry)
 }
 
-/// Settles a line that was kept behind others by all names, and gives the entry behind it.
-fn settle(
+/// Resolves a line that waits, behind others, by all names, and gives the entry behind it.
+fn resolve(
     alloc: Global,
     symbols: &Symbols,
-    line: &Kept,
+    line: &Pending,
     image: &mut GromImage,
     entry: Option<u16>,
 ) -> Result<Option<u16>, Failure>
     ensures { HasRoom symbols.now line.now →
-        Settles symbols.now (record { image = image.old; entry = entry }) line.now result image.new }
+        Resolves symbols.now (record { image = image.old; entry = entry }) line.now result image.new }
 {
     match &line.rest {
-        Rest::Settled(outcome) => Ok(put(image, entry, line.at, outcome)?),
+        Rest::Resolved(outcome) => Ok(put(image, entry, line.at, outcome)?),
         Rest::Refused(cause) => Err(Failure::Refused(*cause)),
-        Rest::Open(text) => {
+        Rest::Unresolved(text) => {
             let scope = Scope {
                 alloc,
                 symbols,

@@ -1,4 +1,4 @@
-//! How a builder keeps a line.
+//! The first pass over a line, and how a builder keeps it.
 
 ghost use Rattle.std.specs.Prelude.{◌≡◌, ◌<◌, ◌+◌, ◌-◌, ◌^◌, ◌++◌, Ok, ℕ, OnOk, OnErr, IfOk};
 ghost use Rattle.source_defs.specs.Layout.{with_names};
@@ -11,18 +11,19 @@ ghost use Rattle.gpl_source_defs.specs.Growing as growing;
 ghost use Rattle.gpl_lines.specs.Defined.{defined_statement};
 ghost use Rattle.gpl_lines.specs.Validity.{IsValid};
 ghost use Rattle.gpl_asm.specs.Replay.{answer, WaitsForSome};
-ghost use Rattle.gpl_asm.specs.Keeping.{kept_of, StandsStill};
+ghost use Rattle.gpl_asm.specs.Keeping.{pending_of, StandsStill};
 
-use crate::kept::{Kept, Rest};
 use crate::lines::GplLines;
+use crate::pending::{Pending, Rest};
 use asm_text::{ExprError, Name, Symbols, Value};
 use gpl_lines::{Failure, Outcome, Scope, Statement};
 use gpl_source_defs::GplCause;
 use std::alloc::AllocError;
 
-/// What is left of a line that the first checks let through; none where it comes to nothing.
+/// Assembles a line that the first checks let through by the names that are known: what is left of it for the second
+/// pass; none where it comes to nothing.
 #[tactic(auto, using(crate::proofs::RestLaws::open_again, crate::proofs::RestLaws::closed_again))]
-pub(crate) fn rest_of(
+pub(crate) fn assemble_line(
     scope: &Scope<'_>,
     text: &[u8],
     statement: &Statement<'_>,
@@ -34,12 +35,12 @@ pub(crate) fn rest_of(
         answer later scope.now.at rest ≡ outcome (look_up later) scope.now.at (defined_statement statement.now)) }
 {
     match scope.outcome(statement) {
-        Ok(Outcome::Bytes(bytes)) => Ok(rest_of_bytes(bytes)),
-        Ok(Outcome::Entry(address)) => Ok(Some(Rest::Settled(Outcome::Entry(address)))),
+        Ok(Outcome::Bytes(bytes)) => Ok(assembled_bytes(bytes)),
+        Ok(Outcome::Entry(address)) => Ok(Some(Rest::Resolved(Outcome::Entry(address)))),
         Err(Failure::Refused(cause)) => {
             if is_open(cause) {
                 let text = Vec::from_slice(scope.alloc, text)?;
-                return Ok(Some(Rest::Open(text)));
+                return Ok(Some(Rest::Unresolved(text)));
             }
             Ok(Some(Rest::Refused(cause)))
         }
@@ -48,14 +49,14 @@ pub(crate) fn rest_of(
 }
 
 /// What is left of a line that places bytes; none where it places none.
-fn rest_of_bytes(bytes: Vec<u8>) -> Option<Rest>
+fn assembled_bytes(bytes: Vec<u8>) -> Option<Rest>
     ensures waits { WaitsForSome result }
     ensures answers { (later : Names) (at : Location) → answer later at result ≡ Ok (Bytes bytes.items) }
 {
     if bytes.is_empty() {
         return None;
     }
-    Some(Rest::Settled(Outcome::Bytes(bytes)))
+    Some(Rest::Resolved(Outcome::Bytes(bytes)))
 }
 
 /// Whether a refusal may be lifted by names that are still to come.
@@ -74,33 +75,33 @@ impl GplLines {
         number: u16,
     ) -> Result<(), AllocError>
         requires { self.old.taken < 2 ^ 32 - 1 }
-        ensures kept { OnOk result (self.new.kept.items ≡ self.old.kept.items ++ kept_of self.old rest) }
+        ensures waiting { OnOk result (self.new.waiting.items ≡ self.old.waiting.items ++ pending_of self.old rest) }
         ensures defined { OnOk result (self.new.symbols ≡ with_names self.old.symbols (label_entry label number)) }
-        ensures same { OnErr result (self.new.kept.items ≡ self.old.kept.items) }
+        ensures same { OnErr result (self.new.waiting.items ≡ self.old.waiting.items) }
         ensures names { OnErr result (self.new.symbols ≡ self.old.symbols) }
         ensures still { StandsStill self.old self.new }
     {
-        let waiting = self.kept.len();
-        self.hold(rest)?;
+        let waiting = self.waiting.len();
+        self.wait(rest)?;
         let defined = define(&mut self.symbols, label, number);
         if defined.is_err() {
-            self.kept.truncate(waiting);
+            self.waiting.truncate(waiting);
         }
         defined
     }
 
     /// Keeps what is left of the next line, where something is.
-    fn hold(&mut self, rest: Option<Rest>) -> Result<(), AllocError>
+    fn wait(&mut self, rest: Option<Rest>) -> Result<(), AllocError>
         requires { self.old.taken < 2 ^ 32 - 1 }
-        ensures kept { OnOk result (self.new.kept.items ≡ self.old.kept.items ++ kept_of self.old rest) }
-        ensures same { OnErr result (self.new.kept.items ≡ self.old.kept.items) }
+        ensures waiting { OnOk result (self.new.waiting.items ≡ self.old.waiting.items ++ pending_of self.old rest) }
+        ensures same { OnErr result (self.new.waiting.items ≡ self.old.waiting.items) }
         ensures names { self.new.symbols ≡ self.old.symbols }
         ensures still { StandsStill self.old self.new }
     {
         let Some(rest) = rest else {
             return Ok(());
         };
-        self.kept.push(Kept {
+        self.waiting.push(Pending {
             number: self.taken + 1,
             at: self.location,
             rest,

@@ -4,14 +4,14 @@ ghost use Rattle.std.specs.Prelude.{◌≡◌};
 ghost use Rattle.std.specs.FinMap.{empty};
 ghost use Rattle.gpl_source_defs.specs.Locations.{IsInGrom};
 
-use crate::kept::Kept;
+use crate::pending::Pending;
 use asm_text::Symbols;
 use gpl_forms::GromImage;
 use gpl_source_defs::Location;
 use std::alloc::Global;
 
-/// A GPL source, line by line. A line is kept by what it comes to; its text is kept only where a value of it is still
-/// open.
+/// A GPL source, line by line. A line waits for the second pass by what it comes to; its text is kept only where a value
+/// of it is still open.
 ///
 /// Contracts see it by the lines that it has taken (`HasTaken`).
 #[derive(Drop)]
@@ -19,7 +19,7 @@ pub struct GplLines {
     pub(crate) alloc: Global,
     pub(crate) symbols: Symbols,
     pub(crate) location: Location,
-    pub(crate) kept: Vec<Kept>,
+    pub(crate) waiting: Vec<Pending>,
     // Nothing is written in it before the lines are finished.
     pub(crate) image: GromImage,
     pub(crate) taken: u32,

@@ -5,12 +5,13 @@ ghost use Rattle.source_defs.specs.Layout.{set_or};
 ghost use Rattle.gpl_source_defs.specs.Locations.{Line, behind, IsInGrom};
 ghost use Rattle.gpl_source_defs.specs.FirstChecks.{is_end};
 ghost use Rattle.gpl_lines.specs.Defined.{defined_statement};
-ghost use Rattle.gpl_asm.specs.Keeping.{SameLists};
+ghost use Rattle.gpl_asm.specs.Keeping.{Counts, SameLists};
 ghost use Rattle.gpl_asm.specs.Building.{IsBehind, Takes};
 
 use crate::error::{GplError, refusal_at};
-use crate::keep::rest_of;
+use crate::keep::assemble_line;
 use crate::lines::GplLines;
+use asm_text::is_comment_line;
 use gpl_lines::{Checked, Scope};
 use gpl_source_defs::Location;
 
@@ -20,16 +21,28 @@ impl GplLines {
         requires { self.old.taken < 2 ^ 32 - 1 }
         ensures { (lines : List Line) → IsBehind lines self.old → Takes lines text.now result self.new }
     {
+        if is_comment_line(text) {
+            self.count();
+            return Ok(());
+        }
         let scope = self.scope();
         let checked = match scope.checked(text) {
             Ok(checked) => checked,
             Err(failure) => return Err(refusal_at(self.taken + 1, failure)),
         };
-        let rest = rest_of(&scope, text, &checked.statement)?;
+        let rest = assemble_line(&scope, text, &checked.statement)?;
         let origin = checked.origin(self.location);
         self.keep(rest, checked.label, checked.label_value(self.location))?;
         self.advance(origin, &checked);
         Ok(())
+    }
+
+    /// Counts a line that says nothing.
+    fn count(&mut self)
+        requires { self.old.taken < 2 ^ 32 - 1 }
+        ensures { Counts self.old self.new }
+    {
+        self.taken += 1;
     }
 
     /// What a line behind those that were taken sees.
@@ -53,7 +66,7 @@ impl GplLines {
         ensures location { self.new.location ≡ behind (set_or origin self.old.location) checked.now.size }
         ensures taken { self.new.taken ≡ self.old.taken + 1 }
         ensures ended { self.new.ended ≡ (is_end (defined_statement checked.now.statement) || self.old.ended) }
-        ensures kept { SameLists self.old self.new }
+        ensures waiting { SameLists self.old self.new }
     {
         let from = match origin {
             Some(origin) => origin,

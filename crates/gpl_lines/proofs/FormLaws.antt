@@ -1,6 +1,6 @@
 -- An instruction that has a name has a form in the table of codes.
-use Rattle.std.proofs.Common.{◌≡◌, ℕ, Bool, true, false, List, [], ◌∷◌, Some, None, refl, sym, subst, ◌∙◌}
-use Rattle.std.specs.Prelude.{Option, find, ◌&&◌, if◌then◌else◌}
+use Rattle.std.proofs.Common.{◌≡◌, ℕ, Bool, true, false, List, [], ◌∷◌, Some, refl, sym, subst, ◌∙◌}
+use Rattle.std.specs.Prelude.{find, ◌&&◌}
 use Rattle.std.specs.List.{list_all}
 use Rattle.source_defs.specs.Names.{is_word}
 use Rattle.gpl_source_defs.specs.declared.mnemonic.Mnemonic.{Mnemonic}

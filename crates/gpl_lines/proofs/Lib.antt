@@ -1,3 +1,4 @@
+pub mod DirectiveKeys
 pub mod NameLaws
 pub mod Failures
 pub mod FormLaws

@@ -1,5 +1,5 @@
 -- What the code finds in a line has bytes, and is as short as a line.
-use Rattle.std.specs.Prelude.{⊤, Bool, ◌≡◌, ◌≤◌, ◌||◌, not, true, length, IsTrue}
+use Rattle.std.specs.Prelude.{⊤, Bool, ◌≤◌, ◌||◌, not, true, length, IsTrue}
 use Rattle.gpl_defs.specs.Valid.{has_words, is_valid}
 use Rattle.gpl_source_defs.specs.Skeletons.{instr_by_zero}
 use Rattle.gpl_source_defs.specs.declared.mnemonic.Mnemonic.{Mnemonic}

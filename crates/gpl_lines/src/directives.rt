@@ -3,31 +3,24 @@
 ghost use Rattle.std.specs.Prelude.{◌≡◌};
 ghost use Rattle.gpl_source_defs.specs.Directives as spec;
 
-use asm_text::is_word;
+use asm_text::{named_in, word_key};
 use gpl_source_defs::Directive;
 
+/// The directives, each behind the number of its name.
+const NAMED: [(u64, Directive); 8] = [
+    (0x01_4154_4144, Directive::Data), // DATA
+    (0x01_4554_5942, Directive::Byte), // BYTE
+    (0x01_5458_4554, Directive::Text), // TEXT
+    (0x0155_5145, Directive::Equ), // EQU
+    (0x0153_5342, Directive::Bss), // BSS
+    (0x01_4752_4F41, Directive::Aorg), // AORG
+    (0x01_4D4F_5247, Directive::Grom), // GROM
+    (0x0144_4E45, Directive::End), // END
+];
+
 /// The directive that an operation field names, in upper or lower case.
-#[tactic(auto, unfolding(gpl_source_defs::specs::Directives::directive))]
 pub(crate) fn directive(text: &[u8]) -> Option<Directive>
     ensures { result ≡ spec.directive text.now }
 {
-    if is_word(text, b"DATA") {
-        Some(Directive::Data)
-    } else if is_word(text, b"BYTE") {
-        Some(Directive::Byte)
-    } else if is_word(text, b"TEXT") {
-        Some(Directive::Text)
-    } else if is_word(text, b"EQU") {
-        Some(Directive::Equ)
-    } else if is_word(text, b"BSS") {
-        Some(Directive::Bss)
-    } else if is_word(text, b"AORG") {
-        Some(Directive::Aorg)
-    } else if is_word(text, b"GROM") {
-        Some(Directive::Grom)
-    } else if is_word(text, b"END") {
-        Some(Directive::End)
-    } else {
-        None
-    }
+    named_in(&NAMED, word_key(text)?)
 }

@@ -1,10 +1,9 @@
 //! The instructions by their names.
 
-ghost use Rattle.std.specs.Prelude.{◌≡◌, Some};
+ghost use Rattle.std.specs.Prelude.{◌≡◌};
 ghost use Rattle.gpl_source_defs.specs.Mnemonics as spec;
-ghost use Rattle.asm_text.specs.WordKeys.{with_key};
 
-use asm_text::word_key;
+use asm_text::{named_in, word_key};
 use gpl_defs::{ByteOp, GoOp, OneName, PlainOp, TwoName};
 use gpl_source_defs::Mnemonic;
 
@@ -92,17 +91,4 @@ pub(crate) fn mnemonic(text: &[u8]) -> Option<Mnemonic>
     ensures { result ≡ spec.mnemonic text.now }
 {
     named_in(&NAMED, word_key(text)?)
-}
-
-/// The first of some instructions behind a number.
-fn named_in(table: &[(u64, Mnemonic)], key: u64) -> Option<Mnemonic>
-    ensures { result ≡ with_key (Some key) table.now }
-{
-    for row in table {
-        let (known, named) = *row;
-        if key == known {
-            return Some(named);
-        }
-    }
-    None
 }

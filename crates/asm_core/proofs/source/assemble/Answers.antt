@@ -13,7 +13,7 @@ use Rattle.asm_defs.specs.declared.causes.AsmCause.{AsmCause}
 use Rattle.source_defs.specs.Layout.{has_ended}
 use Rattle.asm_core.specs.Building.{IsBehind}
 use Rattle.asm_core.specs.Finishing.{GivesModule}
-use Rattle.asm_core.proofs.SettleLaws.{refuses_on}
+use Rattle.asm_core.proofs.ResolveLaws.{refuses_on}
 use Rattle.asm_core.proofs.SourceLaws.{IsNumbered, lines_numbered, texts_of, refused_there, ends_there, goes_on, first_of_two, none_of_two}
 use Rattle.asm_core.proofs.source.assemble.Goals as goal
 use Rattle.asm_core.proofs.source.assemble.Goals.{in-None, in-Some+in_ok-take+then-builder}

@@ -1,8 +1,7 @@
-use Rattle.std.proofs.Common.{◌≡◌, sym, ap, ◌∙◌, Some, None, rules}
+use Rattle.std.proofs.Common.{◌≡◌, ap, ◌∙◌, Some, None, rules}
 use Rattle.std.specs.Option.{option_map}
 use Rattle.instruction_defs.specs.declared.mnemonic.Mnemonic.TheVariants.{Of}
-use Rattle.asm_text.specs.WordKeys.{with_key}
-use Rattle.asm_forms.proofs.MnemonicKeys.{named, named_by, by_number, is_nop, is_rt, is_named}
+use Rattle.asm_forms.proofs.MnemonicKeys.{by_number, is_nop, is_rt, is_named}
 use Rattle.asm_forms.proofs.mnemonics.mnemonic.Goals as goal
 
 pub returns-in_err-key : goal.returns-in_err-key

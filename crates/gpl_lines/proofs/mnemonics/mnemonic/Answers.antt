@@ -1,4 +1,4 @@
-use Rattle.std.proofs.Common.{◌≡◌, sym, ap, ◌∙◌, Some, None}
+use Rattle.std.proofs.Common.{◌∙◌, Some, None}
 use Rattle.gpl_lines.proofs.NameLaws.{by_number}
 use Rattle.gpl_lines.proofs.mnemonics.mnemonic.Goals as goal
 

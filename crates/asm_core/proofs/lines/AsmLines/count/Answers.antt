@@ -1,4 +1,4 @@
-use Rattle.asm_core.proofs.DraftLaws.{on_err}
+use Rattle.asm_core.proofs.OutputLaws.{on_err}
 use Rattle.asm_core.proofs.WorkLaws.{prepared}
 use Rattle.asm_core.proofs.lines.AsmLines.count.Goals as goal
 

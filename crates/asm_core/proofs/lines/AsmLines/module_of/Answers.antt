@@ -17,11 +17,11 @@ unfolding part_words
 all_same f g at same = pieces_same f g at 0 32768 same
 
 pub returns : goal.returns
-returns c = λ lines settled is draft.
+returns c = λ lines settled is output.
     let references = map unused (refs lines) in
-    let image = c.args.draft.now.image in
-    let relocatable = all_same _ (content_at references settled part.Relocatable) part.Relocatable draft.bytes.image.relocatable in
-    let absolute = all_same _ (content_at references settled part.Absolute) part.Absolute draft.bytes.image.absolute in
+    let image = c.args.output.now.image in
+    let relocatable = all_same _ (content_at references settled part.Relocatable) part.Relocatable output.bytes.image.relocatable in
+    let absolute = all_same _ (content_at references settled part.Absolute) part.Absolute output.bytes.image.absolute in
     let pieces =
     c.in_ok-pieces.ensures
     ∙ (ap (λ pieces. pieces ++ pieces_in (cell image.absolute.cells.items) part.Absolute) relocatable
@@ -30,5 +30,5 @@ returns c = λ lines settled is draft.
     c.in_ok-defs.ensures
     ∙ (ap (map (definition_in c.args.self.now.symbols)) (c.as_slice.ensures.value ∙ is.defs)
     ∙ ap (λ (known : Names). map (definition_in known) (defs lines)) is.names) in
-    let last = c.in_ok-refs.ensures ∙ (ap (map defined_ref) c.as_slice-2.ensures.value ∙ draft.bytes.references) in
-    rw (is.title, is.reached, pieces, listed, last, draft.entry) refl
+    let last = c.in_ok-refs.ensures ∙ (ap (map defined_ref) c.as_slice-2.ensures.value ∙ output.bytes.references) in
+    rw (is.title, is.reached, pieces, listed, last, output.entry) refl

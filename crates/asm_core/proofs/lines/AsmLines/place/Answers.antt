@@ -1,4 +1,4 @@
-use Rattle.std.proofs.Common.{[], Some, subst}
+use Rattle.std.proofs.Common.{[], subst}
 use Rattle.std.specs.Prelude.{Option}
 use Rattle.module_image.specs.declared.image.Image.{Image}
 use Rattle.asm_core.specs.Building.{ImageOf}

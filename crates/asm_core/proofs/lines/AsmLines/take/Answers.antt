@@ -10,8 +10,7 @@ use Rattle.asm_defs.specs.Modules.{title_by}
 use Rattle.asm_defs.proofs.CheckLaws.{checked_within, checked_titled, checked_said, checked_room}
 use Rattle.asm_checks.specs.Checks.{defined_checked}
 use Rattle.asm_core.specs.Keeping.{known_in, names_with}
-use Rattle.asm_core.specs.Building.{IsBehind}
-use Rattle.asm_core.specs.Adding.{IsNext, WorksIn}
+use Rattle.asm_core.specs.Adding.{IsNext}
 use Rattle.asm_core.proofs.CountLaws.{counted}
 use Rattle.asm_core.proofs.HeldLaws.{has_room}
 use Rattle.asm_core.proofs.LineLaws.{location_more, names_more, known_same}

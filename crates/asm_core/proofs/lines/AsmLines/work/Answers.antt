@@ -1,20 +1,9 @@
-use Rattle.std.proofs.Common.{◌≡◌, ◌+◌, ◌∷◌, List, Ok, Err, true, false, Some, None, refl, sym, ap, subst, ◌∙◌}
-use Rattle.std.specs.Prelude.{Result, Option, OnOk, is_some}
-use Rattle.source_defs.specs.Symbols.{Names}
-use Rattle.asm_defs.specs.Locations.{Line}
-use Rattle.module_image.specs.declared.image.Image.{Image}
+use Rattle.std.proofs.Common.{◌+◌, sym, subst, ◌∙◌}
 use Rattle.asm_checks.specs.Defined.{defined_statement}
-use Rattle.asm_checks.specs.declared.first_checks.Checked.{Checked}
-use Rattle.asm_core.specs.declared.pending.Refused.{Refused}
-use Rattle.asm_core.specs.declared.pending.Pending.{Pending}
-use Rattle.asm_core.specs.declared.lines.AsmLines.{AsmLines}
-use Rattle.asm_core.specs.Building.{IsWorked, ImageOf, IsGoing}
-use Rattle.asm_core.specs.Keeping.{Keeps, IsUnchanged, SameNames, SameWork}
 use Rattle.asm_defs.specs.declared.location.Location.{Location}
-use Rattle.asm_core.specs.Judging.{JudgesBy}
-use Rattle.asm_core.specs.Claiming.{SameLines, Claims}
-use Rattle.asm_core.specs.Adding.{Adds, IsAsBefore, WorksIn}
-use Rattle.asm_core.proofs.DraftLaws.{on_err, on_ok}
+use Rattle.asm_core.specs.Assembling.{AssemblesBy}
+use Rattle.asm_core.specs.Emitting.{Emits}
+use Rattle.asm_core.proofs.OutputLaws.{on_err}
 use Rattle.asm_core.proofs.WorkLaws.{kept_stopped, prepared, unkept, worked}
 use Rattle.asm_core.proofs.lines.AsmLines.work.Goals as goal
 
@@ -37,10 +26,10 @@ returns-in_err-keep-clause-unchanged c =
 
 pub returns-clause-added : goal.returns-clause-added
 returns-clause-added c =
-    worked c.args.self.now c.prepare.new.self c.keep-2.new.self c.claim.new.self c.args.text.now c.args.checked.now
-    c.in_ok-waiting.field-0.waiting c.in_ok-waiting.field-0.claim c.behind-at.result
+    worked c.args.self.now c.prepare.new.self c.keep-2.new.self c.emit.new.self c.args.text.now c.args.checked.now
+    c.in_ok-waiting.field-0.waiting c.in_ok-waiting.field-0.emitted c.behind-at.result
     (sym c.is_some.ensures ∙ c.if-is_some.false) c.prepare.ensures.lines c.prepare.ensures.image c.behind-at.ensures
-    (subst (λ (at : Location). JudgesBy c.prepare.new.self.symbols (c.prepare.new.self.taken + 1) at c.args.text.now
-    (defined_statement c.args.checked.now.said.statement) c.in_ok-waiting.field-0.waiting c.in_ok-waiting.field-0.claim) (sym c.behind-at.ensures) c.in_ok-waiting.ensures)
-    c.in_ok-keep.ensures.kept c.keep-2.ensures.work c.keep-2.ensures.still c.claim.ensures.known
-    (subst (λ waits. Claims c.keep-2.new.self c.behind-at.result c.in_ok-waiting.field-0.claim waits c.claim.new.self) c.is_some-waits.ensures c.claim.ensures.claims)
+    (subst (λ (at : Location). AssemblesBy c.prepare.new.self.symbols (c.prepare.new.self.taken + 1) at c.args.text.now
+    (defined_statement c.args.checked.now.said.statement) c.in_ok-waiting.field-0.waiting c.in_ok-waiting.field-0.emitted) (sym c.behind-at.ensures) c.in_ok-waiting.ensures)
+    c.in_ok-keep.ensures.kept c.keep-2.ensures.work c.keep-2.ensures.still c.emit.ensures.known
+    (subst (λ waits. Emits c.keep-2.new.self c.behind-at.result c.in_ok-waiting.field-0.emitted waits c.emit.new.self) c.is_some-waits.ensures c.emit.ensures.emits)

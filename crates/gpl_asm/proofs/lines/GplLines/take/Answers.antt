@@ -1,22 +1,28 @@
-use Rattle.std.proofs.Common.{◌≡◌, ◌+◌, ◌∷◌, ◌||◌, false, Ok, Err, List, length, refl, sym, ap, subst, ◌∙◌}
+use Rattle.std.proofs.Common.{◌≡◌, ◌+◌, ◌||◌, false, Ok, length, sym, ap, subst, ◌∙◌}
 use Rattle.std.specs.Prelude.{Option}
 use Rattle.source_defs.specs.Refusals.{◌>>=◌}
 use Rattle.source_defs.specs.Symbols.{Names, look_up}
 use Rattle.source_defs.specs.Layout.{with_names}
 use Rattle.gpl_source_defs.specs.declared.location.Location.{Location}
 use Rattle.source_defs.specs.Growing.{Grows}
-use Rattle.gpl_source_defs.specs.Locations.{Line, location, behind, origin_of}
+use Rattle.gpl_source_defs.specs.Locations.{location, behind, origin_of}
 use Rattle.source_defs.specs.Layout.{set_or}
-use Rattle.gpl_source_defs.specs.FirstChecks.{Checked, checked, line_of, names, label_entry, is_taken, is_full, is_end}
+use Rattle.gpl_source_defs.specs.FirstChecks.{checked, line_of, names, label_entry, is_taken, is_full, is_end}
 use Rattle.gpl_source_defs.specs.SecondChecks.{outcome}
-use Rattle.gpl_lines.specs.Defined.{defined_checked, defined_statement}
+use Rattle.gpl_lines.specs.Defined.{defined_checked}
 use Rattle.gpl_source_defs.proofs.CheckLaws.{is_let_through}
 use Rattle.gpl_asm.specs.Replay.{answer}
+use Rattle.gpl_asm.proofs.CountLaws.{counted}
 use Rattle.gpl_asm.proofs.TakeLaws.{leads_on, reaches, is_behind}
 use Rattle.gpl_asm.proofs.lines.GplLines.take.Goals as goal
 
-pub rest_of-requires-clause-said : goal.rest_of-requires-clause-said
-rest_of-requires-clause-said c =
+pub returns-then-is_comment_line : goal.returns-then-is_comment_line
+returns-then-is_comment_line c = λ lines is.
+    counted lines c.args.self.now c.count.new.self is c.args.text.now (c.is_comment_line.ensures.fields c.if-is_comment_line.true)
+    c.count.ensures {A = Unit {0}} tt
+
+pub assemble_line-requires-clause-said : goal.assemble_line-requires-clause-said
+assemble_line-requires-clause-said c =
     (is_let_through c.scope-scope.result.symbols.now c.scope-scope.result.at c.args.text.now (defined_checked c.in-Ok.checked) c.in-Ok.ensures.checked).said
 
 pub advance-requires-clause-place : goal.advance-requires-clause-place
@@ -47,8 +53,8 @@ returns c = λ lines is.
           ∙ (c.in_ok-rest.ensures.answers later (subst (λ (known : Names). Grows known later) (sym known) grows) ∙ ap (λ (at : Location). outcome (look_up later) at found.statement) at))
           c.in_ok-rest.ensures.waits fresh (reaches builder.location found.statement builder.placed fits)
           (record {
-            kept = went.kept.kept ∙ keeps.kept;
-            names = went.kept.names ∙ (keeps.defined ∙ ap (λ number. with_names builder.symbols (label_entry found.label number)) c.label_value.ensures);
+            waiting = went.waiting.waiting ∙ keeps.waiting;
+            names = went.waiting.names ∙ (keeps.defined ∙ ap (λ number. with_names builder.symbols (label_entry found.label number)) c.label_value.ensures);
             location = went.location
                 ∙ (ap (λ (origin : Option Location). behind (set_or origin c.keep.new.self.location) c.in-Ok.checked.size) c.origin-origin.ensures.origin
                 ∙ (ap (λ (at : Location). behind (set_or (origin_of builder.location found.statement) at) c.in-Ok.checked.size) keeps.still.location

@@ -1,0 +1,10 @@
+use Rattle.std.proofs.Common.{◌∙◌, Some, None}
+use Rattle.asm_checks.proofs.DirectiveKeys.{by_number}
+use Rattle.asm_checks.proofs.directives.directive.Goals as goal
+
+pub returns-in_err-word_key : goal.returns-in_err-word_key
+returns-in_err-word_key c = c.from_residual.ensures ∙ by_number c.args.text.now None c.type_inv.text c.in_err-word_key.ensures
+
+pub returns : goal.returns
+returns c =
+    c.named_in.ensures ∙ by_number c.args.text.now (Some c.in_ok-word_key.field-0) c.type_inv.text c.in_ok-word_key.ensures

@@ -1,0 +1,157 @@
+-- Lines that are settled one after the other.
+use Rattle.std.proofs.Common.{◌≡◌, ℕ, List, [], ◌∷◌, Ok, Err, refl, sym, ap, subst, ◌∙◌}
+use Rattle.std.specs.Prelude.{Result}
+use Rattle.std.proofs.lemmas.List.{length-replicate}
+use Rattle.source_defs.specs.declared.causes.ExprError.TheVariants as expr
+use Rattle.source_defs.specs.Refusals.{Refusal, ◌>>=◌}
+use Rattle.source_defs.specs.Orders.{onto}
+use Rattle.source_defs.specs.Symbols.{Names, look_up}
+use Rattle.source_defs.specs.Layout.{settled}
+use Rattle.object_defs.specs.Modules.{Reference}
+use Rattle.instruction_defs.specs.declared.causes.FormError.TheVariants as form
+use Rattle.asm_defs.specs.declared.causes.AsmCause.{AsmCause}
+use Rattle.asm_defs.specs.declared.causes.AsmCause.TheVariants as cause
+use Rattle.asm_defs.specs.declared.location.Location.{Location}
+use Rattle.asm_defs.specs.Locations.{Line, place}
+use Rattle.asm_defs.specs.Statements.{Statement}
+use Rattle.asm_defs.specs.SecondChecks.{Outcome, outcome}
+use Rattle.asm_defs.specs.Memory.{Settled}
+use Rattle.asm_defs.specs.Modules.{settle, with_room}
+use Rattle.asm_defs.specs.Growing.{size_said, held_place}
+use Rattle.asm_checks.specs.Answers.{Fails}
+use Rattle.asm_checks.specs.declared.failure.Failure.{Failure}
+use Rattle.asm_checks.specs.declared.failure.Failure.TheVariants.{Refused, Memory}
+use Rattle.module_image.specs.Standing.{AllStand, FillsPlace, SamePlaces}
+use Rattle.module_image.proofs.SwapLaws.{room_same, room_filled}
+use Rattle.asm_core.specs.Building.{IsOf, refusal_at}
+use Rattle.asm_core.specs.Resolving.{IsOutput, IsResolved, answer_to}
+use Rattle.asm_core.specs.Finishing.{RefusesAt}
+use Rattle.asm_core.specs.declared.second_pass.Output.{Output}
+use Rattle.asm_core.specs.declared.error.AsmError.{AsmError}
+use Rattle.asm_core.specs.declared.error.AsmError.TheVariants as error
+use Rattle.asm_core.specs.declared.pending.Pending.{Pending}
+
+module _ (known : Names) where
+  pub settled_more : (before : List Line) (line : Line) (done : List Settled) (found : Settled) → settled (settle known) before ≡ Ok done
+      → settle known before done line ≡ Ok found → settled (settle known) (line ∷ before) ≡ Ok (found ∷ done)
+  settled_more before line done found e f = rw e (rw f refl)
+
+  pub settled_stops : (before : List Line) (line : Line) (done : List Settled) (cause : AsmCause) → settled (settle known) before ≡ Ok done
+      → settle known before done line ≡ Err cause → settled (settle known) (line ∷ before) ≡ Err (record { line = line.number; cause = cause })
+  settled_stops before line done cause e f = rw e (rw f refl)
+
+  pub settled_stopped : (rest before : List Line) (refusal : Refusal AsmCause) → settled (settle known) before ≡ Err refusal
+      → settled (settle known) (onto before rest) ≡ Err refusal
+  settled_stopped [] before refusal e = e
+  settled_stopped (line ∷ rest) before refusal e = settled_stopped rest (line ∷ before) refusal (rw e refl)
+
+  -- what the second checks say of a line that waits
+  pub answer_is : (before : List Line) (line : Line) (pending : Pending) → IsOf before line pending
+      → answer_to known pending ≡ outcome (look_up known) (place before line) line.statement
+  answer_is before line pending is =
+      ap (λ said. said >>= outcome (look_up known) pending.at) is.said
+      ∙ ap (λ (at : Location). outcome (look_up known) at line.statement) is.at
+
+  pub settle_by : (before : List Line) (line : Line) (done : List Settled) (answer : Result Outcome AsmCause)
+      → outcome (look_up known) (place before line) line.statement ≡ answer
+      → settle known before done line ≡ (answer >>= λ found. with_room done (record { at = place before line; outcome = found }))
+  settle_by before line done answer e = ap (λ answer. answer >>= λ found. with_room done (record { at = place before line; outcome = found })) e
+
+  room_by : (before : List Line) (line : Line) (first second : List Settled) → SamePlaces first second → (answer : Result Outcome AsmCause)
+      → (answer >>= λ found. with_room first (record { at = place before line; outcome = found }))
+      ≡ (answer >>= λ found. with_room second (record { at = place before line; outcome = found }))
+  room_by before line first second same (Ok found) = room_same first second same (record { at = place before line; outcome = found })
+  room_by before line first second same (Err cause) = refl
+
+  -- only the places of the lines before count
+  pub settle_same : (before : List Line) (line : Line) (first second : List Settled) → SamePlaces first second
+      → settle known before first line ≡ settle known before second line
+  settle_same before line first second same = room_by before line first second same (outcome (look_up known) (place before line) line.statement)
+
+  -- a line that waited, at the place that was held for it
+  module _ (unused : List Reference) (before : List Line) (line : Line) (pending : Pending) (is : IsOf before line pending) (old new : Output) (settled_by : IsResolved unused known pending old new) where
+    abbrev pub real : Settled
+    real = record { at = pending.at; outcome = settled_by.found }
+
+    abbrev are_statements : Statement → Statement → Type 0
+    are_statements a b = a ≡ b
+
+    same_said : are_statements settled_by.statement line.statement
+    same_said = let both : Ok settled_by.statement ≡ Ok line.statement = sym settled_by.said ∙ is.said in cc both
+
+    pub fills_place : FillsPlace (held_place (place before line) line.statement) real
+    fills_place = record {
+      at = is.at;
+      size = settled_by.size ∙ (ap size_said same_said ∙ sym (length-replicate (size_said line.statement) 0));
+    }
+
+    pub comes_there : outcome (look_up known) (place before line) line.statement ≡ Ok settled_by.found
+    comes_there =
+        sym (answer_is before line pending is)
+        ∙ (ap (λ said. said >>= outcome (look_up known) pending.at) settled_by.said ∙ settled_by.comes)
+
+    pub settle_filled : (done : List Settled)
+        → settle known before done line ≡ (with_room done (held_place (place before line) line.statement) >>= λ held. Ok real)
+    settle_filled done =
+        settle_by before line done (Ok settled_by.found) comes_there
+        ∙ (ap (λ (at : Location). with_room done (record { at = at; outcome = settled_by.found })) (sym is.at)
+        ∙ room_filled done (held_place (place before line) line.statement) real fills_place)
+
+    pub fills_held : (done others : List Settled) (held : Settled) → held ≡ held_place (place before line) line.statement → AllStand (held ∷ done) others
+        → IsOutput unused done (held ∷ others) old → IsOutput unused (real ∷ done) others new
+    fills_held done others held same stand output =
+        settled_by.fills done others held stand (subst (λ (held : Settled). FillsPlace held real) (sym same) fills_place) output
+
+-- a failure at a line refuses the whole
+pub refuses_by : {A B : Type 0} (failure : Failure) (number : ℕ) (answer : Result A AsmCause) (whole : Result B (Refusal AsmCause)) → Fails failure answer
+    → ((refused : AsmCause) → answer ≡ Err refused → whole ≡ Err (record { line = number; cause = refused })) → RefusesAt (refusal_at number failure) whole
+refuses_by Memory number answer whole fails goes = tt
+refuses_by (Refused (cause.Text error)) number answer whole fails goes = goes (cause.Text error) fails
+refuses_by (Refused (cause.Expr expr.BadToken)) number answer whole fails goes = goes _ fails
+refuses_by (Refused (cause.Expr expr.UnknownName)) number answer whole fails goes = goes _ fails
+refuses_by (Refused (cause.Expr expr.BadRelocation)) number answer whole fails goes = goes _ fails
+refuses_by (Refused (cause.Expr expr.TooLarge)) number answer whole fails goes = goes _ fails
+refuses_by (Refused (cause.Expr expr.DivideByZero)) number answer whole fails goes = goes _ fails
+refuses_by (Refused (cause.Expr expr.Memory)) number answer whole fails goes = absurd fails
+refuses_by (Refused (cause.Form form.UnknownOperation)) number answer whole fails goes = goes _ fails
+refuses_by (Refused (cause.Form form.OperandCount)) number answer whole fails goes = goes _ fails
+refuses_by (Refused (cause.Form form.BadOperand)) number answer whole fails goes = goes _ fails
+refuses_by (Refused (cause.Form form.JumpTooFar)) number answer whole fails goes = goes _ fails
+refuses_by (Refused (cause.Form form.Memory)) number answer whole fails goes = absurd fails
+refuses_by (Refused (cause.Form (form.Expr expr.BadToken))) number answer whole fails goes = goes _ fails
+refuses_by (Refused (cause.Form (form.Expr expr.UnknownName))) number answer whole fails goes = goes _ fails
+refuses_by (Refused (cause.Form (form.Expr expr.BadRelocation))) number answer whole fails goes = goes _ fails
+refuses_by (Refused (cause.Form (form.Expr expr.TooLarge))) number answer whole fails goes = goes _ fails
+refuses_by (Refused (cause.Form (form.Expr expr.DivideByZero))) number answer whole fails goes = goes _ fails
+refuses_by (Refused (cause.Form (form.Expr expr.Memory))) number answer whole fails goes = absurd fails
+refuses_by (Refused cause.DuplicateLabel) number answer whole fails goes = goes _ fails
+refuses_by (Refused cause.BadDirective) number answer whole fails goes = goes _ fails
+refuses_by (Refused cause.Overflow) number answer whole fails goes = goes _ fails
+refuses_by (Refused cause.Overlap) number answer whole fails goes = goes _ fails
+
+-- a refusal goes on
+pub refuses_on : {A B : Type 0} (refused : AsmError) (defined : Result A (Refusal AsmCause)) (whole : Result B (Refusal AsmCause))
+    → ((refusal : Refusal AsmCause) → defined ≡ Err refusal → whole ≡ Err refusal) → RefusesAt refused defined → RefusesAt refused whole
+refuses_on error.Memory defined whole goes refuses = tt
+refuses_on (error.At line (cause.Text error)) defined whole goes refuses = goes _ refuses
+refuses_on (error.At line (cause.Expr expr.BadToken)) defined whole goes refuses = goes _ refuses
+refuses_on (error.At line (cause.Expr expr.UnknownName)) defined whole goes refuses = goes _ refuses
+refuses_on (error.At line (cause.Expr expr.BadRelocation)) defined whole goes refuses = goes _ refuses
+refuses_on (error.At line (cause.Expr expr.TooLarge)) defined whole goes refuses = goes _ refuses
+refuses_on (error.At line (cause.Expr expr.DivideByZero)) defined whole goes refuses = goes _ refuses
+refuses_on (error.At line (cause.Form form.UnknownOperation)) defined whole goes refuses = goes _ refuses
+refuses_on (error.At line (cause.Form form.OperandCount)) defined whole goes refuses = goes _ refuses
+refuses_on (error.At line (cause.Form form.BadOperand)) defined whole goes refuses = goes _ refuses
+refuses_on (error.At line (cause.Form form.JumpTooFar)) defined whole goes refuses = goes _ refuses
+refuses_on (error.At line (cause.Form (form.Expr expr.BadToken))) defined whole goes refuses = goes _ refuses
+refuses_on (error.At line (cause.Form (form.Expr expr.UnknownName))) defined whole goes refuses = goes _ refuses
+refuses_on (error.At line (cause.Form (form.Expr expr.BadRelocation))) defined whole goes refuses = goes _ refuses
+refuses_on (error.At line (cause.Form (form.Expr expr.TooLarge))) defined whole goes refuses = goes _ refuses
+refuses_on (error.At line (cause.Form (form.Expr expr.DivideByZero))) defined whole goes refuses = goes _ refuses
+refuses_on (error.At line cause.DuplicateLabel) defined whole goes refuses = goes _ refuses
+refuses_on (error.At line cause.BadDirective) defined whole goes refuses = goes _ refuses
+refuses_on (error.At line cause.Overflow) defined whole goes refuses = goes _ refuses
+refuses_on (error.At line cause.Overlap) defined whole goes refuses = goes _ refuses
+refuses_on (error.At line (cause.Expr expr.Memory)) defined whole goes refuses = absurd refuses
+refuses_on (error.At line (cause.Form form.Memory)) defined whole goes refuses = absurd refuses
+refuses_on (error.At line (cause.Form (form.Expr expr.Memory))) defined whole goes refuses = absurd refuses

@@ -1,0 +1,39 @@
+use Rattle.std.proofs.Common.{◌≡◌, Ok, ap, ◌∙◌, sym, arith}
+use Rattle.source_defs.specs.Symbols.{look_up}
+use Rattle.source_defs.specs.Refusals.{◌>>=◌}
+use Rattle.asm_defs.specs.Statements.{said_of, statement_in, as_text}
+use Rattle.asm_checks.specs.Defined.{defined_statement}
+use Rattle.asm_checks.specs.Outcomes.{defined_outcome}
+use Rattle.asm_core.proofs.AssembleLaws.{comes_within, fits_there}
+use Rattle.asm_core.proofs.second_pass.Output.resolve.Goals as goal
+
+pub fill-requires : goal.fill-requires
+fill-requires c =
+    let text = c.as_slice-text.result.now in
+    let statement = c.in_ok-statement.statement in
+    let pending = c.args.pending.now in
+    let said : said_of text ≡ Ok (defined_statement statement) =
+    ap (λ answer. as_text answer >>= statement_in text) (sym c.in-Ok.ensures.value) ∙ c.in_ok-statement.ensures.said in
+    let whole : said_of pending.text.items ≡ Ok (defined_statement statement) = ap said_of (sym c.as_slice-text.ensures.value) ∙ said in
+    omega (
+      arith,
+      fits_there pending.at pending.text.items (defined_statement statement) pending.room whole,
+      comes_within (look_up c.args.symbols.now) pending.at statement c.in_ok-statement.skeleton (defined_outcome c.in_ok-outcome.outcome) c.in_ok-statement.ensures.skeleton c.in_ok-outcome.ensures,
+    )
+
+pub returns : goal.returns
+returns c = λ unused.
+    let text = c.as_slice-text.result.now in
+    let statement = c.in_ok-statement.statement in
+    let pending = c.args.pending.now in
+    let said : said_of text ≡ Ok (defined_statement statement) =
+    ap (λ answer. as_text answer >>= statement_in text) (sym c.in-Ok.ensures.value) ∙ c.in_ok-statement.ensures.said in
+    record {
+      statement = defined_statement statement;
+      found = defined_outcome c.in_ok-outcome.outcome;
+      said = ap said_of (sym c.as_slice-text.ensures.value) ∙ said;
+      comes = c.in_ok-outcome.ensures;
+      size = comes_within (look_up c.args.symbols.now) pending.at statement c.in_ok-statement.skeleton (defined_outcome c.in_ok-outcome.outcome)
+          c.in_ok-statement.ensures.skeleton c.in_ok-outcome.ensures;
+      fills = c.in_ok-fill.ensures unused;
+    }

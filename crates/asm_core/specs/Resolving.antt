@@ -1,0 +1,60 @@
+-- What the second pass makes of the lines that wait.
+use Rattle.std.specs.Prelude.{◌≡◌, List, ◌∷◌, map, Result, Ok, Err}
+use Rattle.source_defs.specs.Orders.{onto}
+use Rattle.source_defs.specs.Refusals.{◌>>=◌}
+use Rattle.source_defs.specs.Symbols.{Names, look_up}
+use Rattle.object_defs.specs.Modules.{Reference}
+use Rattle.object_tags.specs.Seen.{defined_ref}
+use Rattle.asm_defs.specs.declared.causes.AsmCause.{AsmCause}
+use Rattle.asm_defs.specs.declared.location.Location.{Location}
+use Rattle.asm_defs.specs.Statements.{Statement, said_of}
+use Rattle.asm_defs.specs.SecondChecks.{Outcome, outcome}
+use Rattle.asm_defs.specs.Memory.{Settled, bytes_in, references_of}
+use Rattle.asm_defs.specs.Modules.{entry}
+use Rattle.asm_defs.specs.Growing.{size_said}
+use Rattle.asm_checks.specs.Answers.{Fails}
+use Rattle.asm_checks.specs.declared.failure.Failure.{Failure}
+use Rattle.module_image.specs.Images.{IsImage}
+use Rattle.module_image.specs.Standing.{AllStand, FillsPlace}
+use Rattle.asm_core.specs.declared.second_pass.Output.{Output}
+use Rattle.asm_core.specs.declared.pending.Pending.{Pending}
+
+-- the bytes of lines, of which some are done and others stand behind them; and the last uses in those that are done
+pub record HoldsBytes (unused : List Reference) (done others : List Settled) (output : Output) : Type 0 where
+  pub image : IsImage unused (onto done others) output.image
+  pub references : map defined_ref output.references.items ≡ references_of unused done
+
+-- and the entry
+pub record IsOutput (unused : List Reference) (done others : List Settled) (output : Output) : Type 0 where
+  pub bytes : HoldsBytes unused done others output
+  pub entry : output.entry ≡ entry done
+
+-- a line comes to the place that was held for it
+abbrev pub FillsBytes : List Reference → Location → Outcome → Output → Output → Type 0
+FillsBytes unused at found old new =
+    (done others : List Settled) (held : Settled) → AllStand (held ∷ done) others → FillsPlace held (record { at = at; outcome = found })
+    → HoldsBytes unused done (held ∷ others) old → HoldsBytes unused (record { at = at; outcome = found } ∷ done) others new
+
+abbrev pub Fills : List Reference → Location → Outcome → Output → Output → Type 0
+Fills unused at found old new =
+    (done others : List Settled) (held : Settled) → AllStand (held ∷ done) others → FillsPlace held (record { at = at; outcome = found })
+    → IsOutput unused done (held ∷ others) old → IsOutput unused (record { at = at; outcome = found } ∷ done) others new
+
+-- what a line that waited comes to
+pub record IsResolved (unused : List Reference) (known : Names) (pending : Pending) (old new : Output) : Type 0 where
+  pub statement : Statement
+  pub found : Outcome
+  pub said : said_of pending.text.items ≡ Ok statement
+  pub comes : outcome (look_up known) pending.at statement ≡ Ok found
+  pub size : bytes_in found ≡ size_said statement
+  pub fills : Fills unused pending.at found old new
+
+-- or why it is refused
+abbrev pub answer_to : Names → Pending → Result Outcome AsmCause
+answer_to known pending = do
+  statement ← said_of pending.text.items
+  outcome (look_up known) pending.at statement
+
+abbrev pub Resolves : {A : Type 0} → List Reference → Names → Pending → Result A Failure → Output → Output → Type 0
+Resolves unused known pending (Ok _) old new = IsResolved unused known pending old new
+Resolves unused known pending (Err failure) old new = Fails failure (answer_to known pending)

@@ -1,0 +1,131 @@
+//! The first pass over a line: what it comes to by the names that are known.
+
+ghost use Rattle.std.specs.Prelude.{◌≡◌, ◌≤◌, ◌+◌, IfOk, true, not};
+ghost use Rattle.asm_defs.specs.Memory as memory;
+ghost use Rattle.asm_defs.specs.Growing.{size_said, held_place};
+ghost use Rattle.asm_checks.specs.Defined.{defined_statement};
+ghost use Rattle.asm_checks.specs.Moves.{MovesLittle};
+ghost use Rattle.asm_checks.specs.Outcomes.{defined_outcome};
+ghost use Rattle.asm_checks.specs.Checks.{IsSaid};
+ghost use Rattle.asm_core.specs.Held.{has_room};
+ghost use Rattle.asm_core.specs.Assembling.{Assembles, HasRoom, GivesBytes, IsPending};
+
+use crate::contents::contents;
+use crate::pending::Pending;
+use asm_checks::{Failure, Outcome, Said, Scope, is_open, size_said};
+use asm_defs::{AsmCause, Content, Location, Part};
+use asm_text::Symbols;
+use std::alloc::{AllocError, Global};
+
+/// What the first pass emits of a line.
+#[derive(Drop)]
+pub(crate) enum Emitted {
+    /// These bytes are placed there.
+    Bytes(Vec<Content>),
+    /// The second checks refuse the line.
+    Refused(AsmCause),
+}
+
+/// What the first pass makes of a line.
+#[derive(Drop)]
+pub(crate) struct Assembled {
+    /// The line, where a value of it is open, so that it waits for the second pass. Zeros hold its places then.
+    pub(crate) waiting: Option<Pending>,
+    pub(crate) emitted: Emitted,
+}
+
+/// The first pass at a line that the first checks let through, with its number and its place.
+#[derive(Clone, Copy)]
+pub(crate) struct FirstPass<'a> {
+    pub(crate) alloc: Global,
+    /// The names that are known.
+    pub(crate) symbols: &'a Symbols,
+    pub(crate) number: u32,
+    pub(crate) at: Location,
+}
+
+impl FirstPass<'_> {
+    /// Assembles a line by the names that are known.
+    pub(crate) fn assemble_line(
+        &self,
+        text: &[u8],
+        said: &Said<'_>,
+    ) -> Result<Assembled, AllocError>
+        requires line { IsSaid said.now }
+        requires room { HasRoom self.now.at text.now (defined_statement said.now.statement) }
+        ensures { IfOk result
+            (Assembles self.now.symbols.now self.now.number self.now.at text.now (defined_statement said.now.statement)) }
+    {
+        let scope = Scope {
+            alloc: self.alloc,
+            symbols: self.symbols,
+            at: self.at,
+        };
+        match scope.outcome(&said.statement, &said.skeleton) {
+            Ok(outcome) => {
+                if outcome.stands() {
+                    let bytes = self.bytes_of(&outcome)?;
+                    return Ok(Assembled {
+                        waiting: None,
+                        emitted: Emitted::Bytes(bytes),
+                    });
+                }
+            }
+            Err(Failure::Refused(cause)) => {
+                if !is_open(cause) {
+                    return Ok(Assembled {
+                        waiting: None,
+                        emitted: Emitted::Refused(cause),
+                    });
+                }
+            }
+            Err(Failure::Memory) => return Err(AllocError),
+        }
+        let zeros = self.zeros(said)?;
+        let waiting = self.pending(text)?;
+        Ok(Assembled {
+            waiting: Some(waiting),
+            emitted: Emitted::Bytes(zeros),
+        })
+    }
+
+    /// The line, as it waits for names.
+    fn pending(&self, text: &[u8]) -> Result<Pending, AllocError>
+        requires { has_room self.now.at text.now ≡ true }
+        ensures { IfOk result (IsPending self.now.number self.now.at text.now) }
+    {
+        Ok(Pending {
+            number: self.number,
+            at: self.at,
+            text: Vec::from_slice(self.alloc, text)?,
+        })
+    }
+
+    /// Zeros that hold the places of a line.
+    fn zeros(&self, said: &Said<'_>) -> Result<Vec<Content>, AllocError>
+        requires little { MovesLittle said.now.statement }
+        requires fits { self.now.at.number + size_said (defined_statement said.now.statement) ≤ 65536 }
+        ensures { IfOk result (λ zeros. GivesBytes self.now.at (held_place self.now.at (defined_statement said.now.statement)).outcome zeros.items) }
+    {
+        vec![in self.alloc; Content::Byte(0); size_said(&said.statement) as usize]
+    }
+
+    /// The bytes of what a line comes to. There are none in the part of dummy lines.
+    fn bytes_of(&self, outcome: &Outcome) -> Result<Vec<Content>, AllocError>
+        requires { self.now.at.number + memory.bytes_in (defined_outcome outcome.now) ≤ 65536 }
+        ensures { IfOk result (λ bytes. GivesBytes self.now.at (defined_outcome outcome.now) bytes.items) }
+    {
+        if is_dummy(self.at.part) {
+            return Ok(Vec::new(self.alloc));
+        }
+        let mut unused = Vec::new(self.alloc);
+        contents(self.alloc, &mut unused, self.at, outcome)
+    }
+}
+
+/// Whether nothing is placed in a part.
+pub(crate) fn is_dummy(part: Part) -> bool
+    ensures { memory.is_placed_in part ≡ not result }
+{
+    matches!(part, Part::Dummy)
+}

@@ -1,0 +1,51 @@
+-- A builder behind a line that says nothing.
+use Rattle.std.proofs.Common.{◌≡◌, ℕ, ◌+◌, false, List, None, Ok, length, refl, sym, ap, ◌∙◌, arith}
+use Rattle.std.proofs.lemmas.List.{append-nil}
+use Rattle.std.proofs.lemmas.Bool.Decides.{nat_tests}
+use Rattle.source_defs.specs.Refusals.{◌>>=◌}
+use Rattle.source_defs.specs.Fields.{fields, no_fields}
+use Rattle.source_defs.specs.Symbols.{Names}
+use Rattle.gpl_source_defs.specs.declared.location.Location.{Location}
+use Rattle.gpl_source_defs.specs.Statements.{Nothing}
+use Rattle.gpl_source_defs.specs.Locations.{Line, location, IsInGrom}
+use Rattle.gpl_source_defs.specs.FirstChecks.{Checked, checked, line_of, names, is_full}
+use Rattle.gpl_source_defs.specs.SecondChecks.{outcome}
+use Rattle.gpl_asm.specs.declared.lines.GplLines.{GplLines}
+use Rattle.gpl_asm.specs.Building.{IsBehind, Takes}
+use Rattle.gpl_asm.specs.Keeping.{Counts}
+use Rattle.gpl_asm.proofs.TakeLaws.{Answers, is_behind, reaches}
+
+-- what the first checks leave of a line that says nothing
+abbrev pub nothing_checked : Checked
+nothing_checked = record { label = None; statement = Nothing }
+
+not_full : (here : Location) → IsInGrom here → is_full here Nothing ≡ false
+not_full here is = let le = is.within in grind (arith, nat_tests, le)
+
+nothing_said : (known : Names) (here : Location) (text : List ℕ) → fields text ≡ Ok no_fields → is_full here Nothing ≡ false
+    → checked known here text ≡ Ok nothing_checked
+unfolding checked
+nothing_said known here text none fits = rw (none, fits) refl
+
+module _ (lines : List Line) (builder new : GplLines) (is : IsBehind lines builder) where
+  nothing_comes : Answers lines builder is nothing_checked None
+  unfolding outcome
+  nothing_comes = λ later grows. refl
+
+  fits : is_full builder.location Nothing ≡ false
+  fits = not_full builder.location builder.placed
+
+  pub counted : (text : List ℕ) → fields text ≡ Ok no_fields → Counts builder new → {A : Type 0} (value : A) → Takes lines text (Ok value) new
+  counted text none counts {A} value =
+      let there : is_full (location lines) Nothing ≡ false = ap (λ (at : Location). is_full at Nothing) (sym is.location) ∙ fits in
+      let here : builder.location.number + 0 ≡ builder.location.number = omega arith in (
+        line_of (location lines) (length lines + 1) nothing_checked,
+        ap (λ answer. answer >>= λ found. Ok (line_of (location lines) (length lines + 1) found)) (nothing_said (names lines) (location lines) text none there),
+        is_behind lines builder is nothing_checked None new nothing_comes tt refl (reaches builder.location Nothing builder.placed fits) (record {
+          waiting = counts.lists.waiting ∙ sym (append-nil builder.waiting.items);
+          names = counts.lists.names;
+          location = counts.location ∙ ap (λ number. record { grom = builder.location.grom; number = number }) (sym here);
+          taken = counts.taken;
+          ended = counts.ended;
+        }),
+      )

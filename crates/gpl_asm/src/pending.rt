@@ -1,0 +1,26 @@
+//! Lines that wait for the second pass.
+
+use gpl_lines::Outcome;
+use gpl_source_defs::{GplCause, Location};
+
+/// A line that waits for the second pass: it comes to something, or the second checks refuse it.
+#[derive(Drop)]
+pub(crate) struct Pending {
+    /// The number of the line, from 1.
+    pub(crate) number: u32,
+    /// Its place.
+    pub(crate) at: Location,
+    /// What is left of it.
+    pub(crate) rest: Rest,
+}
+
+/// What is left of a line.
+#[derive(Drop)]
+pub(crate) enum Rest {
+    /// What it comes to, whatever names are still to come.
+    Resolved(Outcome),
+    /// Why it is refused, whatever names are still to come.
+    Refused(GplCause),
+    /// Its text, of which a value is still open.
+    Unresolved(Vec<u8>),
+}
