@@ -1,48 +1,68 @@
 -- Words that are names of files.
-use Rattle.std.proofs.Common.{◌≡◌, ◌<◌, ◌≤◌, ℕ, zero, suc, List, [], ◌∷◌, Vec, Global, map, drop, length, Bool, true, false}
-use Rattle.std.proofs.Common.{refl, sym, ap, subst, arith}
-use Rattle.std.specs.Prelude.{◌&&◌, nat_le}
+use Rattle.std.proofs.Common.{◌≡◌, ◌<◌, ◌≤◌, ℕ, suc, List, [], ◌∷◌, ◌++◌, Vec, Global, map, length, Bool, true, false, Some, None}
+use Rattle.std.proofs.Common.{refl, sym, ap, ◌∙◌, subst, append_assoc, arith}
+use Rattle.std.specs.Prelude.{◌&&◌, nat_le, if◌then◌else◌}
 use Rattle.std.proofs.lemmas.Bool.Decides.{nat_tests}
 use Rattle.std.specs.List.{list_all}
 use Rattle.shelf_defs.specs.Files.{is_file_name}
-use Rattle.file_report_defs.specs.Words.{are_file_names, input_command, program_command}
+use Rattle.file_report_defs.specs.Words.{LinkFiles, are_file_names, link_command, input_command, program_command}
 
 abbrev pub texts : List (Vec ℕ Global) → List (List ℕ)
 texts words = map (λ (word : Vec ℕ Global). word.items) words
 
-pub all_texts : (words : List (Vec ℕ Global))
-    → list_all (λ (word : Vec ℕ Global). is_file_name word.items) words ≡ list_all is_file_name (texts words)
-all_texts [] = refl
-all_texts (word ∷ words) = ap (λ (rest : Bool). is_file_name word.items && rest) (all_texts words)
+-- what is read of a word
+pub named : (word name : List ℕ) → Some name ≡ (if is_file_name word then Some word else None)
+    → (is_file_name word ≡ true) × (name ≡ word)
+named word name is = by (is_file_name word) refl is
+  where
+    by : (test : Bool) → is_file_name word ≡ test → Some name ≡ (if test then Some word else None)
+        → (is_file_name word ≡ true) × (name ≡ word)
+    by true test is = (test, cc is)
+    by false test is = absurd (cc is)
 
-pub both : (a b : Bool) → (a && b) ≡ true → (a ≡ true) × (b ≡ true)
-both true b e = (refl, e)
-both false b e = absurd cc
+pub not_named : (word : List ℕ) → None ≡ (if is_file_name word then Some word else None) → is_file_name word ≡ false
+not_named word is = by (is_file_name word) refl is
+  where
+    by : (test : Bool) → is_file_name word ≡ test → None ≡ (if test then Some word else None) → is_file_name word ≡ false
+    by true test is = absurd (cc is)
+    by false test is = test
 
--- a word among such words
-pub name_at : (words : List (Vec ℕ Global)) (index : ℕ) (word : Vec ℕ Global) (rest : List (Vec ℕ Global))
-    → list_all is_file_name (texts words) ≡ true → drop index words ≡ word ∷ rest → is_file_name word.items ≡ true
-name_at [] zero word rest all e = absurd cc
-name_at [] (suc index) word rest all e = absurd cc
-name_at (first ∷ words) zero word rest all e =
-    let same : first ≡ word = cc in
-    let here = both (is_file_name first.items) (list_all is_file_name (texts words)) all in
-    subst (λ (w : Vec ℕ Global). is_file_name w.items ≡ true) same here.0
-name_at (first ∷ words) (suc index) word rest all e =
-    let here = both (is_file_name first.items) (list_all is_file_name (texts words)) all in
-    name_at words index word rest here.1 e
+-- words of which those before the next are names
+module _ (words : List (Vec ℕ Global)) (names : List (List ℕ)) (left rest : List (Vec ℕ Global)) (word : Vec ℕ Global)
+    (next : left ≡ word ∷ rest) where
+  abbrev all_names : List (Vec ℕ Global) → Bool
+  all_names words = list_all is_file_name (texts words)
+
+  pub names_more : (name : List ℕ) → name ≡ word.items → names ++ texts left ≡ texts words
+      → (names ++ name ∷ []) ++ texts rest ≡ texts words
+  names_more name is so_far =
+      append_assoc names (name ∷ []) (texts rest)
+      ∙ (ap (λ n. names ++ n ∷ texts rest) is ∙ (ap (λ l. names ++ texts l) (sym next) ∙ so_far))
+
+  pub all_more : is_file_name word.items ≡ true → all_names words ≡ all_names left → all_names words ≡ all_names rest
+  all_more is all = all ∙ (ap all_names next ∙ ap (λ (test : Bool). test && all_names rest) is)
+
+  pub not_all : is_file_name word.items ≡ false → all_names words ≡ all_names left → all_names words ≡ false
+  not_all is all = all ∙ (ap all_names next ∙ ap (λ (test : Bool). test && all_names rest) is)
 
 texts_length : (words : List (Vec ℕ Global)) → length (texts words) ≡ length words
 texts_length [] = refl
 texts_length (word ∷ words) = ap suc (texts_length words)
 
--- words of which each is a name, by their number
-pub few_names : (words : List (Vec ℕ Global)) → length words ≤ 16
-    → are_file_names (texts words) ≡ list_all (λ (word : Vec ℕ Global). is_file_name word.items) words
-few_names words few =
+-- what words say, by whether each is a name
+pub says_names : (words : List (Vec ℕ Global)) (names : List (List ℕ)) → length words ≤ 16 → names ≡ texts words
+    → list_all is_file_name (texts words) ≡ true → Some (LinkFiles names) ≡ link_command (texts words)
+says_names words names few is all =
     let size = texts_length words in
     let within : nat_le (length (texts words)) 16 ≡ true = grind (arith, nat_tests) in
-    rw within (sym (all_texts words))
+    rw (within, all) (ap (λ n. Some (LinkFiles n)) is)
+
+pub says_none : (words : List (Vec ℕ Global)) → list_all is_file_name (texts words) ≡ false → None ≡ link_command (texts words)
+says_none words all = rw all (by (nat_le (length (texts words)) 16))
+  where
+    by : (few : Bool) → None ≡ (if few && false then Some (LinkFiles (texts words)) else None)
+    by true = refl
+    by false = refl
 
 pub many_names : (words : List (Vec ℕ Global)) → 16 < length words → are_file_names (texts words) ≡ false
 many_names words many =

@@ -3,8 +3,7 @@
 
 mod asm;
 mod command;
-mod finish;
-mod link;
+mod over_files;
 mod running;
 mod usage;
 mod watch;

@@ -1,8 +1,8 @@
 use Rattle.gpl_source_defs.specs.Programs.{program_of_source}
 use Rattle.report_defs.specs.Report.{ReportsProgram, run_lines}
 use Rattle.bench_commands.specs.declared.commands.program.LoadedProgram.{LoadedProgram}
-use Rattle.bench_commands.specs.declared.report.Report.TheVariants as made
-use Rattle.bench_commands.specs.Made.{defined_report}
+use Rattle.reports.specs.declared.report.Report.TheVariants as made
+use Rattle.reports.specs.Made.{defined_report}
 use Rattle.bench_commands.specs.Loaded.{LoadsProgram}
 use Rattle.bench_commands.proofs.Loading.{of_program, program_none}
 use Rattle.bench_commands.proofs.Programs.{reports_program}
