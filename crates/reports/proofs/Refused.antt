@@ -25,8 +25,8 @@ use Rattle.reports.specs.Answers.{IsMemory, Reported, gpl_told, line_told, tag_t
 -- what is reported is reported as something else
 pub reported_as : (First Other : Report → Type 0) (Fails : Status → Type 0) (answer : Result Report Status)
     → ((report : Report) → First report → Other report) → Reported First Fails answer → Reported Other Fails answer
-reported_as First Other Fails (Ok report) as is = as report is
-reported_as First Other Fails (Err end) as is = is
+reported_as First Other Fails (Ok report) more is = more report is
+reported_as First Other Fails (Err end) more is = is
 
 module _ {A : Type 0} (unreported : Unreported) where
   pub gpl_refused : (Reports : Result A (Refusal GplCause) → Report → Type 0) (found : Result A (Refusal GplCause)) (error : GplError)

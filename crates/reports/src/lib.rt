@@ -3,16 +3,16 @@
 
 mod execution;
 mod faults;
-mod finish;
 mod hit;
 mod listing;
 mod listing_lines;
+mod outcome;
 mod report;
 mod unreported;
 mod watched;
 
-pub use crate::finish::finish;
 pub use crate::listing::Listing;
+pub use crate::outcome::finish;
 pub use crate::report::Report;
 pub use crate::unreported::Unreported;
 pub use crate::watched::Watched;
