@@ -1,6 +1,6 @@
 -- How a run ends by its report.
 use Rattle.std.proofs.Common.{◌≡◌, List, length, Option, Some, None, Bool, true, false, [], refl, sym, ap, ◌∙◌, subst, inl, inr, arith, rules}
-use Rattle.std.proofs.Common.{ℕ}
+use Rattle.std.proofs.Common.{ℕ, ◌≤◌}
 use Rattle.std.specs.Prelude.{nat_lt, IsSome, unwrap_or}
 use Rattle.std.proofs.lemmas.Bool.Decides.{nat_tests}
 use Rattle.bench_io.specs.Stream.{SourceState}
@@ -60,11 +60,10 @@ begins_by run command front is begins =
     subst P is begins
 
 -- words that are no command
-pub reports_usage : (run : Run) (found : Option Command) → ((command : Command) → found ≡ Some command → ⊥) → found ≡ command_of run.words → run.input' ≡ run.input → Reports run (spec.Faulty fault.Usage)
-reports_usage run None none is same =
+pub reports_usage : (run : Run) → None ≡ command_of run.words → run.input' ≡ run.input → Reports run (spec.Faulty fault.Usage)
+reports_usage run is same =
     let P : Option Command → Type 0 = λ found. ReportsOn found run (spec.Faulty fault.Usage) in
     subst P is (refl, same)
-reports_usage run (Some command) none is same = absurd (none command refl)
 
 -- a command is the one that the words say
 one_command : (words : List (List ℕ)) (a b : Command) → Some a ≡ command_of words → command_of words ≡ Some b → reads a ≡ reads b

@@ -31,7 +31,7 @@ use Rattle.bench_commands.specs.declared.prepared.Prepared.{Prepared}
 use Rattle.bench_commands.specs.declared.prepared.Prepared.TheVariants as prepared
 use Rattle.reports.specs.Made.{defined_report}
 use Rattle.reports.specs.Outputs.{Outputs, EndsWith}
-use Rattle.reports.specs.Answers.{Ends, IsMemory, Reported}
+use Rattle.reports.specs.Answers.{Ends, WantsMemory, Reported}
 use Rattle.bench_commands.specs.Run.{Run, Reads, TakesWhole, EndsBy}
 use Rattle.bench_commands.specs.Loaded.{LoadsEntered}
 use Rattle.bench_commands.specs.Traced.{Started, TracesSource, TracesWhole, EndsTrace, Prepares, Finishes}
@@ -109,7 +109,7 @@ module _ (run : Run) (command : Command) (bytes : List ℕ) (said : Some command
   within : length bytes ≤ spec.largest_input
   within = takes_within (reads command) run.input run.input' bytes takes
 
-  pub by_answer : (answer : Result spec.Report Status) (st : Status) → Reported (spec.AcceptedReport command bytes) IsMemory answer → Ends run.outputs answer st → EndsBy run st
+  pub by_answer : (answer : Result spec.Report Status) (st : Status) → Reported (spec.AcceptedReport command bytes) WantsMemory answer → Ends run.outputs answer st → EndsBy run st
   by_answer (Ok report) st accepted ends = by_report run report st (reports_by run command report said (bytes, reading, on_accepted command bytes report within accepted)) ends
   by_answer (Err own) st memory (is, out, err) = subst (EndsBy run) (sym (is ∙ memory)) (wrote_nothing run command bytes said takes out err)
 

@@ -19,7 +19,7 @@ use Rattle.file_commands.specs.Reading.{defined_text, defined_texts, Refuses, Is
 use Rattle.file_commands.specs.Modules.{ReportsRefused}
 use Rattle.report_defs.specs.declared.status.Status.{Status}
 use Rattle.report_defs.specs.Report.{Report}
-use Rattle.reports.specs.Answers.{IsMemory, Reported}
+use Rattle.reports.specs.Answers.{WantsMemory, Reported}
 
 abbrev Text : Type 0
 Text = List ℕ × List ℕ
@@ -154,8 +154,8 @@ modules_next front texts text found more all is longer so_far one =
 
 pub modules_end : (front rest texts : List FileText) (text : FileText) (found : List Module) (told : Result Report Status)
     → texts ≡ front ++ text ∷ rest → modules_of (defined_texts front) ≡ Ok found
-    → Reported (ReportsRefused (in_file text.name (read text.bytes.items))) IsMemory told
-    → Reported (ReportsRefused (modules_of (defined_texts texts))) IsMemory told
+    → Reported (ReportsRefused (in_file text.name (read text.bytes.items))) WantsMemory told
+    → Reported (ReportsRefused (modules_of (defined_texts texts))) WantsMemory told
 modules_end front rest texts text found (Ok report) is so_far (refusal, refused, same) = (
   refusal,
   ap (λ texts. modules_of (defined_texts texts)) is

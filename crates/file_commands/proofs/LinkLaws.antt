@@ -18,7 +18,7 @@ use Rattle.file_commands.specs.declared.error.ReadingError.{ReadingError}
 use Rattle.file_commands.specs.declared.error.ReadingError.TheVariants.{Missing, TooLarge, Fault, Memory}
 use Rattle.file_commands.specs.Modules.{ReportsRefused}
 use Rattle.reports.specs.declared.unreported.Unreported.{Unreported}
-use Rattle.reports.specs.Answers.{IsMemory, Reported, told}
+use Rattle.reports.specs.Answers.{WantsMemory, Reported, told}
 use Rattle.file_commands.specs.Reading.{defined_texts, Refuses, ErrorCauses, StopsBy, refusal_of}
 use Rattle.file_commands.specs.Reported.{LinkReported, FailureCauses}
 
@@ -36,7 +36,7 @@ module _ (before after : ShelfState) (names : List (List ℕ)) where
       → IfSome before.files (λ files. read_files files names ≡ Ok (defined_texts texts))
       → map (λ text. text.name) texts ≡ names → TookNoMore largest_input before after
       → after.opens ≡ raised before.opens (length names)
-      → linked ≡ texts → Reported (λ report. report ≡ files_report (linked_texts (defined_texts linked))) IsMemory answer
+      → linked ≡ texts → Reported (λ report. report ≡ files_report (linked_texts (defined_texts linked))) WantsMemory answer
       → Reported (LinkReported before after names) (FailureCauses largest_input before after) answer
   texts_reported texts linked (Ok report) gives named within opens same is = record {
     texts = Ok (defined_texts texts);
@@ -72,14 +72,14 @@ module _ (texts : List FileText) where
   abbrev ReportsTexts : Report → Type 0
   ReportsTexts report = report ≡ files_report (linked_texts (defined_texts texts))
 
-  pub bad_place : (answer : Result Report Status) → Reported (ReportsRefused (modules_of (defined_texts texts))) IsMemory answer
-      → Reported ReportsTexts IsMemory answer
+  pub bad_place : (answer : Result Report Status) → Reported (ReportsRefused (modules_of (defined_texts texts))) WantsMemory answer
+      → Reported ReportsTexts WantsMemory answer
   bad_place (Ok report) (refusal, refused, same) =
       same ∙ ap (λ (found : Result (List Module) FilesRefusal). files_report (found >>= λ modules. as_linked (linked modules))) (sym refused)
   bad_place (Err end) memory = memory
 
   pub texts_linked : (modules : List Module) (answer : Result Report Status) → modules_of (defined_texts texts) ≡ Ok modules
-      → Reported (λ report. report ≡ files_report (as_linked (linked modules))) IsMemory answer → Reported ReportsTexts IsMemory answer
+      → Reported (λ report. report ≡ files_report (as_linked (linked modules))) WantsMemory answer → Reported ReportsTexts WantsMemory answer
   texts_linked modules (Ok report) found same =
       same ∙ ap (λ (found : Result (List Module) FilesRefusal). files_report (found >>= λ modules. as_linked (linked modules))) (sym found)
   texts_linked modules (Err end) found memory = memory

@@ -10,7 +10,7 @@ ghost use Rattle.file_report_defs.specs.LinkedFiles.{linked_texts};
 ghost use Rattle.file_report_defs.specs.Reports.{files_report};
 ghost use Rattle.file_commands.specs.Reading.{defined_texts, refusal_of};
 ghost use Rattle.file_commands.specs.Reported.{LinkReported, FailureCauses};
-ghost use Rattle.reports.specs.Answers.{answer, IsMemory, Reported, told};
+ghost use Rattle.reports.specs.Answers.{answer, WantsMemory, Reported, told};
 
 use crate::causes::missing_line;
 use crate::error::ReadingError;
@@ -68,7 +68,7 @@ fn unread(error: ReadingError) -> Unreported
 /// What is to be reported of files that were read.
 fn link_texts(alloc: Global, texts: &[FileText]) -> Result<Report, Unreported>
     requires { length texts.now ≤ most_files }
-    ensures { Reported (λ report. report ≡ files_report (linked_texts (defined_texts texts.now))) IsMemory (answer result) }
+    ensures { Reported (λ report. report ≡ files_report (linked_texts (defined_texts texts.now))) WantsMemory (answer result) }
 {
     let modules = modules_of(alloc, texts)?;
     Ok(Report::Memory(link(alloc, &modules)?))

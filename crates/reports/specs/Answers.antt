@@ -38,8 +38,8 @@ Reported Reports Fails (Ok report) = Reports report
 Reported Reports Fails (Err end) = Fails end
 
 -- memory alone was wanting
-abbrev pub IsMemory : Status → Type 0
-IsMemory end = end ≡ status.Memory
+abbrev pub WantsMemory : Status → Type 0
+WantsMemory end = end ≡ status.Memory
 
 -- how a run ends by its answer
 abbrev pub Ends : Outputs → Result Report Status → Status → Type 0

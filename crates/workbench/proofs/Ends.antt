@@ -43,7 +43,7 @@ use Rattle.reports.specs.Outputs.{EndsWith}
 use Rattle.bench_commands.specs.Run.{ReadsInput}
 use Rattle.bench_commands.proofs.Ends.{reads_whole}
 use Rattle.reports.specs.declared.unreported.Unreported.{Unreported}
-use Rattle.reports.specs.Answers.{Ends, IsMemory, Reported, read_told, told}
+use Rattle.reports.specs.Answers.{Ends, WantsMemory, Reported, read_told, told}
 use Rattle.workbench.specs.FileRun.{FileRun, ReportsWith, TookWithin, EndsOver, EndsSaid, EndsFileRun}
 use Rattle.workbench.specs.Answered.{FailsWith, AnswersWith}
 
@@ -232,7 +232,7 @@ module _ (run : FileRun) (source : List ℕ) (whole : ReadWhole largest_input ru
   )
 
   pub watch_answered : (limit : ℕ) (items : List Item) (answer : Result Report Status) → run.shelf' ≡ run.shelf
-      → Reported (WatchReport limit items source) IsMemory answer → AnswersWith (Watch limit items) run answer
+      → Reported (WatchReport limit items source) WantsMemory answer → AnswersWith (Watch limit items) run answer
   watch_answered limit items (Ok report) same reported = watch_reported limit items report same reported
   watch_answered limit items (Err end) same memory =
       subst (FailsWith (Watch limit items) run) (sym memory) (whole_within run.input run.input' source whole, same)

@@ -5,7 +5,7 @@ ghost use Rattle.report_defs.specs.Report.{largest_input};
 ghost use Rattle.file_report_defs.specs.Whole as whole;
 ghost use Rattle.file_report_defs.specs.Words as spec;
 ghost use Rattle.bench_shelf.specs.States.{ShelfState};
-ghost use Rattle.reports.specs.Answers.{answer, IsMemory, Reported};
+ghost use Rattle.reports.specs.Answers.{answer, WantsMemory, Reported};
 ghost use Rattle.reports.specs.Outputs.{Outputs};
 ghost use Rattle.workbench.specs.Answered.{AnswersWith};
 
@@ -44,7 +44,7 @@ fn watch_source(
     source: &[u8],
 ) -> Result<Report, Unreported>
     requires { length source.now ≤ largest_input }
-    ensures { Reported (whole.WatchReport limit items.now source.now) IsMemory (answer result) }
+    ensures { Reported (whole.WatchReport limit items.now source.now) WantsMemory (answer result) }
 {
     let program = load_program(alloc, source)?;
     Ok(Report::Watched(watch_program(

@@ -5,7 +5,7 @@ ghost use Rattle.object_defs.specs.Writing.{written};
 ghost use Rattle.object_tags.specs.Seen.{defined_module};
 ghost use Rattle.asm_defs.specs.Modules.{module_of_source};
 ghost use Rattle.report_defs.specs.Report as spec;
-ghost use Rattle.reports.specs.Answers.{answer, IsMemory, Reported};
+ghost use Rattle.reports.specs.Answers.{answer, WantsMemory, Reported};
 
 use asm_core::{AsmError, assemble, modules_have_texts};
 use object_tags::{Module, write_module};
@@ -17,7 +17,7 @@ use std::alloc::{AllocError, Global};
 /// The object text of the module of an assembler source, or its first refused line.
 pub(crate) fn asm(alloc: Global, input: &[u8]) -> Result<Report, Unreported>
     requires { length input.now ≤ spec.largest_input }
-    ensures { Reported (spec.AcceptedReport Command.Asm input.now) IsMemory (answer result) }
+    ensures { Reported (spec.AcceptedReport Command.Asm input.now) WantsMemory (answer result) }
 {
     match assemble(alloc, input) {
         Ok(module) => Ok(Report::Text(text_of(alloc, input, &module)?)),

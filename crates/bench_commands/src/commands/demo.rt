@@ -4,7 +4,7 @@ ghost use Rattle.std.specs.Prelude.{◌≤◌, [], length};
 ghost use Rattle.gpl_source_defs.specs.Programs.{program_of_source};
 ghost use Rattle.report_defs.specs.Commands.{most_blocks, most_steps};
 ghost use Rattle.report_defs.specs.Report as spec;
-ghost use Rattle.reports.specs.Answers.{answer, IsMemory, Reported};
+ghost use Rattle.reports.specs.Answers.{answer, WantsMemory, Reported};
 
 use crate::commands::program::{load_program, run_session};
 use command_words::MOST_STEPS;
@@ -18,7 +18,7 @@ use std::sync::ledger::Blank;
 /// The summary of the program that is made from a number, which runs from its entry; or why the program is refused.
 pub(crate) fn demo(alloc: Global, number: u32) -> Result<Report, Unreported>
     requires { number ≤ most_blocks }
-    ensures { Reported (spec.AcceptedReport (Command.Demo number) []) IsMemory (answer result) }
+    ensures { Reported (spec.AcceptedReport (Command.Demo number) []) WantsMemory (answer result) }
 {
     let text = demo_text(alloc, number)?;
     run_source(alloc, number, text.as_slice())
@@ -28,7 +28,7 @@ pub(crate) fn demo(alloc: Global, number: u32) -> Result<Report, Unreported>
 fn run_source(alloc: Global, number: u32, source: &[u8]) -> Result<Report, Unreported>
     requires { length source.now ≤ spec.largest_input }
     ensures { Reported (spec.ProgramReport (spec.ReportsProgram (spec.demo_lines number) most_steps)
-        (program_of_source source.now)) IsMemory (answer result) }
+        (program_of_source source.now)) WantsMemory (answer result) }
 {
     let program = load_program(alloc, source)?;
     let (session, made) = run_session::<Brand>(program.machine, MOST_STEPS, Blank::new(1));

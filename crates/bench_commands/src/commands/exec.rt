@@ -5,7 +5,7 @@ ghost use Rattle.console_defs.specs.Runs.{IsRun};
 ghost use Rattle.link_loader.specs.View.{defined_linked};
 ghost use Rattle.report_defs.specs.Exec as runs;
 ghost use Rattle.report_defs.specs.Report as spec;
-ghost use Rattle.reports.specs.Answers.{answer, IsMemory, Reported};
+ghost use Rattle.reports.specs.Answers.{answer, WantsMemory, Reported};
 
 use crate::object_input::link_input;
 use byte_lists::zeros;
@@ -28,7 +28,7 @@ const ALL_GROMS: usize = 65536;
 /// The report of up to `limit` instructions of the linked memory of an object text, from its entry on.
 pub(crate) fn exec(alloc: Global, limit: u32, input: &[u8]) -> Result<Report, Unreported>
     requires { length input.now ≤ spec.largest_input }
-    ensures { Reported (spec.AcceptedReport (Command.Exec limit) input.now) IsMemory (answer result) }
+    ensures { Reported (spec.AcceptedReport (Command.Exec limit) input.now) WantsMemory (answer result) }
 {
     let linked = link_input(alloc, input)?;
     execute(alloc, limit, &linked)
@@ -36,7 +36,7 @@ pub(crate) fn exec(alloc: Global, limit: u32, input: &[u8]) -> Result<Report, Un
 
 /// The report of up to `limit` instructions of linked memory, from its entry on.
 fn execute(alloc: Global, limit: u32, linked: &Linked) -> Result<Report, Unreported>
-    ensures { Reported (spec.ReportsExecution limit (defined_linked linked.now)) IsMemory (answer result) }
+    ensures { Reported (spec.ReportsExecution limit (defined_linked linked.now)) WantsMemory (answer result) }
 {
     let mut machine = start(alloc, linked)?;
     let ending = run::<Brand>(&mut machine, u64::from(limit), Blank::new(1));

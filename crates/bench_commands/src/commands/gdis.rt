@@ -4,7 +4,7 @@ ghost use Rattle.std.specs.Prelude.{◌≡◌, ◌≤◌, ◌+◌, length, IfOk}
 ghost use Rattle.std.specs.FinMap.{empty};
 ghost use Rattle.gpl_defs.specs.Image.{placed};
 ghost use Rattle.report_defs.specs.Report as spec;
-ghost use Rattle.reports.specs.Answers.{answer, IsMemory, Reported};
+ghost use Rattle.reports.specs.Answers.{answer, WantsMemory, Reported};
 
 use gpl_forms::GromImage;
 use report_defs::{Command, Fault};
@@ -14,7 +14,7 @@ use std::alloc::{AllocError, Global};
 /// The listing of bytes of GROM that stand from an address on, unless they run past >FFFF.
 pub(crate) fn gdis(alloc: Global, at: u16, input: &[u8]) -> Result<Report, Unreported>
     requires { length input.now ≤ spec.largest_input }
-    ensures { Reported (spec.AcceptedReport (Command.Gdis at) input.now) IsMemory (answer result) }
+    ensures { Reported (spec.AcceptedReport (Command.Gdis at) input.now) WantsMemory (answer result) }
 {
     if usize::from(at) + input.len() > 65536 {
         return Err(Unreported::Fault(Fault::PastEnd));

@@ -2,7 +2,7 @@
 
 ghost use Rattle.std.specs.Prelude.{◌≤◌, length};
 ghost use Rattle.report_defs.specs.Report as spec;
-ghost use Rattle.reports.specs.Answers.{answer, IsMemory, Reported};
+ghost use Rattle.reports.specs.Answers.{answer, WantsMemory, Reported};
 
 use crate::object_input::link_input;
 use report_defs::Command;
@@ -12,7 +12,7 @@ use std::alloc::Global;
 /// The listing of the linked memory of an object text, or the line that says why there is none.
 pub(crate) fn link(alloc: Global, input: &[u8]) -> Result<Report, Unreported>
     requires { length input.now ≤ spec.largest_input }
-    ensures { Reported (spec.AcceptedReport Command.Link input.now) IsMemory (answer result) }
+    ensures { Reported (spec.AcceptedReport Command.Link input.now) WantsMemory (answer result) }
 {
     Ok(Report::Memory(link_input(alloc, input)?))
 }

@@ -2,7 +2,7 @@
 
 ghost use Rattle.std.specs.Prelude.{◌≤◌, length};
 ghost use Rattle.report_defs.specs.Report as spec;
-ghost use Rattle.reports.specs.Answers.{answer, IsMemory, Reported};
+ghost use Rattle.reports.specs.Answers.{answer, WantsMemory, Reported};
 
 use crate::commands::program::{load_program, run_session};
 use report_defs::Command;
@@ -15,7 +15,7 @@ use std::sync::ledger::Blank;
 /// refused line, or that it names no entry.
 pub(crate) fn run(alloc: Global, limit: u32, input: &[u8]) -> Result<Report, Unreported>
     requires { length input.now ≤ spec.largest_input }
-    ensures { Reported (spec.AcceptedReport (Command.Run limit) input.now) IsMemory (answer result) }
+    ensures { Reported (spec.AcceptedReport (Command.Run limit) input.now) WantsMemory (answer result) }
 {
     let program = load_program(alloc, input)?;
     let (session, _) = run_session::<Brand>(program.machine, limit, Blank::new(1));

@@ -19,4 +19,4 @@ returns-in-None-clause-ends g c =
       input' = source c.args.input.now;
       outputs = record { out = out c.args.out.now; out' = out c.finish.new.out; err = err c.args.err.now; err' = err c.finish.new.err };
     } in
-    by_report run (Faulty fault.Usage) c.finish.result (refl, refl) c.finish.ensures
+    by_report run (Faulty fault.Usage) c.finish.result (reports_usage run c.in-None.ensures.command refl) c.finish.ensures

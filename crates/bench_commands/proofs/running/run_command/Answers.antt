@@ -1,4 +1,4 @@
-use Rattle.std.proofs.Common.{refl, sym}
+use Rattle.std.proofs.Common.{sym}
 use Rattle.bench_io.specs.ReadAll.{GaveUp}
 use Rattle.bench_io.specs.declared.whole.ReadError.TheVariants as error
 use Rattle.report_defs.specs.declared.fault.Fault.TheVariants as fault
@@ -14,7 +14,7 @@ returns-in-Err-TooLarge g c words said =
     let source = g.S.Source.state in
     let out = g.O.Sink.state in
     let err = g.E.Sink.state in
-    let finish = c.finish-in-Err-TooLarge in
+    let finish = c.finish in
     let run : Run = record {
       words = words;
       input = source c.args.input.now;
@@ -44,7 +44,7 @@ returns-in-Err g c words said =
     let source = g.S.Source.state in
     let out = g.O.Sink.state in
     let err = g.E.Sink.state in
-    let finish = c.finish in
+    let finish = c.finish-in-Err in
     let run : Run = record {
       words = words;
       input = source c.args.input.now;
