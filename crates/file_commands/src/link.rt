@@ -66,6 +66,7 @@ fn unread(error: ReadingError) -> Unreported
 }
 
 /// What is to be reported of files that were read.
+#[tactic(auto, using(crate::proofs::LinkLaws::bad_place, crate::proofs::LinkLaws::texts_linked))]
 fn link_texts(alloc: Global, texts: &[FileText]) -> Result<Report, Unreported>
     requires { length texts.now ≤ most_files }
     ensures { Reported (λ report. report ≡ files_report (linked_texts (defined_texts texts.now))) WantsMemory (answer result) }
