@@ -9,7 +9,7 @@ use Rattle.workbench.specs.declared.command.ProgramCommand.TheVariants.{OverFile
 
 abbrev pub defined_over : FileCommand → spec.FileCommand
 defined_over AsmFiles = spec.AsmFiles
-defined_over (LinkFiles names) = spec.LinkFiles names.items
+defined_over (LinkFiles names) = spec.LinkFiles names
 defined_over (Watch limit items) = spec.Watch limit items
 
 abbrev pub defined_command : ProgramCommand → spec.ProgramCommand

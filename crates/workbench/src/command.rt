@@ -1,18 +1,15 @@
 //! Which command the words say, those over files among them.
 
-ghost use Rattle.std.specs.Prelude.{◌≡◌, map, option_map, IfSome};
+ghost use Rattle.std.specs.Prelude.{◌≡◌, ◌∷◌, map, option_map, IfSome};
 ghost use Rattle.report_defs.specs.Commands.{same_word};
 ghost use Rattle.file_report_defs.specs.Words as spec;
 ghost use Rattle.workbench.specs.Asked.{defined_command, defined_over, IsWithin};
 
-use arrayvec::ArrayVec;
+use crate::names::{MOST_FILES, Names};
 use bench_shelf::FileName;
 use command_words::{Words, read_command};
 use report_defs::Command;
 use watch_command::{Items, watch_words};
-
-/// The most files that `link` takes.
-const MOST_FILES: usize = 16;
 
 /// What only the program with files has.
 #[derive(Drop)]
@@ -20,7 +17,7 @@ pub(crate) enum FileCommand {
     /// `asm`, whose source may copy files.
     AsmFiles,
     /// `link` with the names of files.
-    LinkFiles(ArrayVec<FileName, MOST_FILES>),
+    LinkFiles(Names),
     /// `watch` with the most steps and what is watched.
     Watch {
         /// The most steps.
@@ -46,8 +43,8 @@ pub(crate) fn read_program_command(words: &Words) -> Option<ProgramCommand>
 {
     match words.as_slice() {
         [] | [_] => input_command(words),
-        [name, others @ ..] if is_word(name, b"link") => {
-            Some(ProgramCommand::OverFiles(link_command(others)?))
+        [name, first, others @ ..] if is_word(name, b"link") => {
+            Some(ProgramCommand::OverFiles(link_command(first, others)?))
         }
         [name, others @ ..] if is_word(name, b"watch") => {
             Some(ProgramCommand::OverFiles(watch_command(others)?))
@@ -63,15 +60,15 @@ fn is_word(word: &Vec<u8>, name: &[u8]) -> bool
     word.as_slice() == name
 }
 
-/// `link` with the names that the words say, where each says one and they are not too many.
-#[tactic(auto, using(crate::proofs::Names::many_names))]
-fn link_command(words: &[Vec<u8>]) -> Option<FileCommand>
-    ensures { option_map defined_over result ≡ spec.link_command (map (λ word. word.items) words.now) }
+/// `link` with the names that a word and those behind it say, where each says one and they are not too many.
+#[tactic(auto, using(crate::proofs::NameLaws::many_names))]
+fn link_command(first: &Vec<u8>, words: &[Vec<u8>]) -> Option<FileCommand>
+    ensures { option_map defined_over result ≡ spec.link_command (first.now.items ∷ map (λ word. word.items) words.now) }
 {
-    if words.len() > MOST_FILES {
+    if words.len() >= MOST_FILES {
         return None;
     }
-    let mut names = ArrayVec::new();
+    let mut names = Names::one(FileName::read(first.as_slice())?);
     for word in words {
         names.push(FileName::read(word.as_slice())?);
     }

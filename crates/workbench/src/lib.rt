@@ -3,6 +3,7 @@
 
 mod asm;
 mod command;
+mod names;
 mod over_files;
 mod running;
 mod usage;

@@ -28,46 +28,39 @@ not_named word is = by (is_file_name word) refl is
     by false test is = test
 
 -- words of which those before the next are names
-module _ (words : List (Vec ℕ Global)) (names : List (List ℕ)) (left rest : List (Vec ℕ Global)) (word : Vec ℕ Global)
-    (next : left ≡ word ∷ rest) where
-  abbrev all_names : List (Vec ℕ Global) → Bool
-  all_names words = list_all is_file_name (texts words)
-
-  pub names_more : (name : List ℕ) → name ≡ word.items → names ++ texts left ≡ texts words
-      → (names ++ name ∷ []) ++ texts rest ≡ texts words
+module _ (all names : List (List ℕ)) (left rest : List (Vec ℕ Global)) (word : Vec ℕ Global) (next : left ≡ word ∷ rest) where
+  pub names_more : (name : List ℕ) → name ≡ word.items → names ++ texts left ≡ all → (names ++ name ∷ []) ++ texts rest ≡ all
   names_more name is so_far =
       append_assoc names (name ∷ []) (texts rest)
       ∙ (ap (λ n. names ++ n ∷ texts rest) is ∙ (ap (λ l. names ++ texts l) (sym next) ∙ so_far))
 
-  pub all_more : is_file_name word.items ≡ true → all_names words ≡ all_names left → all_names words ≡ all_names rest
-  all_more is all = all ∙ (ap all_names next ∙ ap (λ (test : Bool). test && all_names rest) is)
-
-  pub not_all : is_file_name word.items ≡ false → all_names words ≡ all_names left → all_names words ≡ false
-  not_all is all = all ∙ (ap all_names next ∙ ap (λ (test : Bool). test && all_names rest) is)
+  pub test_more : (test : Bool) → is_file_name word.items ≡ test → list_all is_file_name all ≡ list_all is_file_name (texts left)
+      → list_all is_file_name all ≡ (test && list_all is_file_name (texts rest))
+  test_more test is so_far =
+      so_far ∙ (ap (λ l. list_all is_file_name (texts l)) next ∙ ap (λ (test : Bool). test && list_all is_file_name (texts rest)) is)
 
 texts_length : (words : List (Vec ℕ Global)) → length (texts words) ≡ length words
 texts_length [] = refl
 texts_length (word ∷ words) = ap suc (texts_length words)
 
 -- what words say, by whether each is a name
-pub says_names : (words : List (Vec ℕ Global)) (names : List (List ℕ)) → length words ≤ 16 → names ≡ texts words
-    → list_all is_file_name (texts words) ≡ true → Some (LinkFiles names) ≡ link_command (texts words)
-says_names words names few is all =
-    let size = texts_length words in
-    let within : nat_le (length (texts words)) 16 ≡ true = grind (arith, nat_tests) in
-    rw (within, all) (ap (λ n. Some (LinkFiles n)) is)
+pub says_names : (all names : List (List ℕ)) → length all ≤ 16 → names ≡ all → list_all is_file_name all ≡ true
+    → Some (LinkFiles names) ≡ link_command all
+says_names all names few is each =
+    let within : nat_le (length all) 16 ≡ true = grind (arith, nat_tests) in
+    rw (within, each) (ap (λ n. Some (LinkFiles n)) is)
 
-pub says_none : (words : List (Vec ℕ Global)) → list_all is_file_name (texts words) ≡ false → None ≡ link_command (texts words)
-says_none words all = rw all (by (nat_le (length (texts words)) 16))
+pub says_none : (all : List (List ℕ)) → list_all is_file_name all ≡ false → None ≡ link_command all
+says_none all each = rw each (by (nat_le (length all) 16))
   where
-    by : (few : Bool) → None ≡ (if few && false then Some (LinkFiles (texts words)) else None)
+    by : (few : Bool) → None ≡ (if few && false then Some (LinkFiles all) else None)
     by true = refl
     by false = refl
 
-pub many_names : (words : List (Vec ℕ Global)) → 16 < length words → are_file_names (texts words) ≡ false
-many_names words many =
+pub many_names : (first : List ℕ) (words : List (Vec ℕ Global)) → 16 ≤ length words → are_file_names (first ∷ texts words) ≡ false
+many_names first words many =
     let size = texts_length words in
-    let past : nat_le (length (texts words)) 16 ≡ false = grind (arith, nat_tests) in
+    let past : nat_le (suc (length (texts words))) 16 ≡ false = grind (arith, nat_tests) in
     rw past refl
 
 -- one word says a command over an input, or none
