@@ -19,9 +19,10 @@ abbrev pub spell : List ℕ → List ℕ
 spell [] = []
 spell (w ∷ ws) = high w ∷ low w ∷ spell ws
 
--- Where an address leads in the view.
+-- Where an address leads in the view; RegLow is the low byte of a register.
 pub data Spot : Type 0 where
   Reg : ℕ → Spot
+  RegLow : ℕ → Spot
   Code : ℕ → Spot
   Cell : ℕ → Spot
   Spare : ℕ → Spot
@@ -39,7 +40,7 @@ port_spot Unmapped = Unknown
 abbrev pub spot : ℕ → Spot
 spot a =
     elim (nat_le WORKSPACE a && nat_lt a 0x8400) [
-      | true ↦ elim (eqb (a % 2) 0) [ true ↦ Reg ((a - WORKSPACE) / 2) | false ↦ Unknown ]
+      | true ↦ elim (eqb (a % 2) 0) [ true ↦ Reg ((a - WORKSPACE) / 2) | false ↦ RegLow ((a - WORKSPACE) / 2) ]
       | false ↦
           elim (nat_le ORIGIN a && nat_lt a BEHIND) [
             | true ↦ elim (eqb (a % 2) 0) [ true ↦ Code ((a - ORIGIN) / 2) | false ↦ Unknown ]
@@ -57,6 +58,7 @@ spot a =
 
 abbrev pub word_on : Spot → View → Answer ℕ
 word_on (Reg k) v = Gives (slice_index (listed v.r) k)
+word_on (RegLow k) v = NoInstruction
 word_on (Code k) v = Gives (slice_index INTERP k)
 word_on (Cell i) v = NoInstruction
 word_on (Spare k) v = Gives (slice_index v.spare k)
@@ -65,6 +67,7 @@ word_on Unknown v = NoInstruction
 
 abbrev pub with_word_on : Spot → View → ℕ → Answer View
 with_word_on (Reg k) v w = Gives (record v { r = relisted (slice_set (listed v.r) k w) })
+with_word_on (RegLow k) v w = NoInstruction
 with_word_on (Code k) v w = NoInstruction
 with_word_on (Cell i) v w = NoInstruction
 with_word_on (Spare k) v w = Gives (record v { spare = slice_set v.spare k w })
@@ -93,6 +96,7 @@ port_put GromAddressWrite v byte = record v { grom = grom_address_written v.grom
 
 abbrev pub byte_on : Spot → View → Answer (ℕ × View)
 byte_on (Reg k) v = Gives (high (slice_index (listed v.r) k), v)
+byte_on (RegLow k) v = Gives (low (slice_index (listed v.r) k), v)
 byte_on (Code k) v = NoInstruction
 byte_on (Cell i) v = Gives (slice_index v.cells i, v)
 byte_on (Spare k) v = Gives (high (slice_index v.spare k), v)
@@ -102,6 +106,11 @@ byte_on Unknown v = NoInstruction
 abbrev pub with_byte_on : Spot → View → ℕ → Answer View
 with_byte_on (Reg k) v b =
     Gives (record v { r = relisted (slice_set (listed v.r) k (join b (low (slice_index (listed v.r) k)))) })
+with_byte_on (RegLow k) v b =
+    elim (nat_lt b 256) [
+      | true ↦ Gives (record v { r = relisted (slice_set (listed v.r) k (join (high (slice_index (listed v.r) k)) b)) })
+      | false ↦ NoInstruction
+    ]
 with_byte_on (Code k) v b = NoInstruction
 with_byte_on (Cell i) v b = Gives (record v { cells = slice_set v.cells i b })
 with_byte_on (Spare k) v b = Gives (record v { spare = slice_set v.spare k (join b (low (slice_index v.spare k))) })
