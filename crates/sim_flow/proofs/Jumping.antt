@@ -43,7 +43,7 @@ module _ (s : GplState) (v : View) (d : Dispatched s v) where
   abbrev streamed : View
   streamed = record asked { r = record asked.r { r6 = target }; grom = grom_at s.image behind }
 
-  stream_is : operands.stream asked ≡ exit 8 GOTO streamed
+  stream_is : operands.stream asked ≡ exit 6 GOTO streamed
   stream_is =
       let at : GromState → Ending = λ g. operands.stream (record asked { grom = g }) in
       ap at d.sees.grom
@@ -60,7 +60,7 @@ module _ (s : GplState) (v : View) (d : Dispatched s v) where
       Exits x a t t1 (pieces.ask_target (view x)) → Exits a b t1 t2 (operands.stream (view a)) → GoesOn b y t2 t3 → Turned s most_to_dispatch x y t t3 Stepped
   jumps x a b y t t1 t2 t3 is e stands e1 e2 goes =
       let c1 = comes e1 (from pieces.ask_target is (just (pieces.ask_target v) 2 STREAM (omega arith) refl)) in
-      let at : Goes (exit 8 GOTO streamed) 8 GOTO AtTarget = record { within = omega arith; to_is = refl; holds = record { sees = seen; to = refl } } in
+      let at : Goes (exit 6 GOTO streamed) 8 GOTO AtTarget = record { within = omega arith; to_is = refl; holds = record { sees = seen; to = refl } } in
       let c2 = comes_then 2 8 c1 e2 (from operands.stream c1.holds (known stream_is at)) refl in
       let c3 = comes_on 10 6 c2 (goes next behind c2.holds.sees c2.holds.to) refl in
       let step_is = step_jump s B e in

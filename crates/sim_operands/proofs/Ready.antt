@@ -47,5 +47,5 @@ set_is g word h k =
 
 pub seeks : (v : View) → v.grom.half_written ≡ false → v.r.r6 < 65536 → pieces.seek v ≡ sought v
 seeks v h k =
-    let left : GromState → Exit = λ g. pieces.exit 4 (pieces.return_of v) (record v { r = record v.r { r6 = (sought v).left.r.r6 }; grom = g }) in
+    let left : GromState → Exit = λ g. pieces.exit 3 (pieces.return_of v) (record v { grom = g }) in
     ap left (set_is v.grom v.r.r6 h k)

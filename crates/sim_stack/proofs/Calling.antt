@@ -27,8 +27,8 @@ reads x a y t t1 t2 e1 e2 s d =
     let read = word_in_grom s.image (behind_code s) in
     let streamed : View = record asked { r = record asked.r { r6 = read.0 }; grom = grom_at s.image read.1 } in
     let stream_by : GromState → Exit = λ g. operands.stream (record asked { grom = g }) in
-    let stream_is : operands.stream asked ≡ exit 8 CALLT streamed = ap stream_by d.sees.grom in
-    let read_well : Goes (exit 8 CALLT streamed) 8 CALLT (Called s) = record {
+    let stream_is : operands.stream asked ≡ exit 6 CALLT streamed = ap stream_by d.sees.grom in
+    let read_well : Goes (exit 6 CALLT streamed) 8 CALLT (Called s) = record {
       within = omega arith;
       to_is = refl;
       holds = record {

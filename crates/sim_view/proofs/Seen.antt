@@ -103,14 +103,16 @@ byte_on (Spare k) v = Gives (high (slice_index v.spare k), v)
 byte_on (AtThePort p) v = Gives (port_seen p v)
 byte_on Unknown v = NoInstruction
 
+-- the low byte of a register is set to a byte
+abbrev pub with_low_on : Bool → ℕ → View → ℕ → Answer View
+with_low_on true k v b =
+    Gives (record v { r = relisted (slice_set (listed v.r) k (join (high (slice_index (listed v.r) k)) b)) })
+with_low_on false k v b = NoInstruction
+
 abbrev pub with_byte_on : Spot → View → ℕ → Answer View
 with_byte_on (Reg k) v b =
     Gives (record v { r = relisted (slice_set (listed v.r) k (join b (low (slice_index (listed v.r) k)))) })
-with_byte_on (RegLow k) v b =
-    elim (nat_lt b 256) [
-      | true ↦ Gives (record v { r = relisted (slice_set (listed v.r) k (join (high (slice_index (listed v.r) k)) b)) })
-      | false ↦ NoInstruction
-    ]
+with_byte_on (RegLow k) v b = with_low_on (nat_lt b 256) k v b
 with_byte_on (Code k) v b = NoInstruction
 with_byte_on (Cell i) v b = Gives (record v { cells = slice_set v.cells i b })
 with_byte_on (Spare k) v b = Gives (record v { spare = slice_set v.spare k (join b (low (slice_index v.spare k))) })

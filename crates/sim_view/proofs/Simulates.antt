@@ -369,9 +369,9 @@ module _ (m : Memory) (v : View) (h : Shows m v) where
   with_byte_sim (RegLow k) r b g =
       let w = join (high (get_or (listed v.r) k 0)) b in
       pick (nat_lt b 256)
-      (λ c. rw (c, with_byte_on, g.1, low_to_reg k b (ltb-true b 256 c)) (sim_gives _ (record v { r = relisted (set (listed v.r) k w) })
+      (λ c. rw (c, g.1, low_to_reg k b (ltb-true b 256 c)) (sim_gives _ (record v { r = relisted (set (listed v.r) k w) })
       (reg_shows (set (listed v.r) k w) (length-set (listed v.r) k _))))
-      (λ c. rw (c, with_byte_on) (record { by = λ n e. absurd (cc) }))
+      (λ c. rw c (record { by = λ n e. absurd (cc) }))
   with_byte_sim (Code k) r b g = record { by = λ n e. absurd (cc) }
   with_byte_sim (Cell i) r b g =
       let c = h.cells in
