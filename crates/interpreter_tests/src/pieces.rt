@@ -5,11 +5,11 @@ ghost use Rattle.interp_defs.specs.Match.{PortsAreIdle};
 
 use crate::machines::{Program, booting};
 use native_interp::{
-    GBOOT, GEXIT, GOB, GOEXIT, GOTO, GSTEP, GSTOP, SEEK, STREAM, UNKN,
+    GBOOT, GEXIT, GOB, GOEXIT, GOTO, GSTEP, GSTOP, SEEK, UNKN,
 };
-use sim_flow::{ask_target, leave};
+use sim_flow::{leave, read_target};
 use sim_jumps::go_on;
-use sim_operands::{run_seek, stream_value};
+use sim_operands::run_seek;
 use sim_rows::dispatch;
 use sim_steps::{boot, stop_code};
 use sim_view::{is_ready, register};
@@ -80,8 +80,7 @@ fn run_piece<L: Ledger>(machine: &mut Machine, steps: &mut Steps<L>) {
         GSTEP => dispatch(machine, steps),
         UNKN => stop_code(machine, steps),
         SEEK if is_idle(machine) => run_seek(machine, steps),
-        STREAM => stream_value(machine, steps),
-        GOB => ask_target(machine, steps),
+        GOB => read_target(machine, steps),
         GOTO => go_on(machine, steps),
         GOEXIT => leave(machine, steps),
         _ => {}

@@ -4,12 +4,12 @@ use Rattle.std.proofs.Common.{ℕ}
 
 -- the lines
 abbrev pub line_count : ℕ
-line_count = 829
+line_count = 828
 
 -- the lines before the last
 abbrev pub most : ℕ
-most = 828
+most = 827
 
 -- the names
 abbrev pub name_count : ℕ
-name_count = 174
+name_count = 175

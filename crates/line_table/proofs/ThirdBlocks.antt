@@ -15,30 +15,30 @@ use Rattle.asm_defs.specs.FirstChecks.{said, moved}
 use Rattle.asm_defs.specs.SecondChecks.{outcome}
 use Rattle.line_table.proofs.Blocks.{Block}
 
-pub lines_560 : Block 560 40 121 6
+pub lines_560 : Block 560 40 122 6
 unfolding mnemonic form_of first_checks second_checks token_at tokens_from in_quotes operands_from fields registers directive statement_in said moved outcome
 lines_560 = refl
 
-pub lines_600 : Block 600 40 127 8
+pub lines_600 : Block 600 40 128 8
 unfolding mnemonic form_of first_checks second_checks token_at tokens_from in_quotes operands_from fields registers directive statement_in said moved outcome
 lines_600 = refl
 
-pub lines_640 : Block 640 40 135 5
+pub lines_640 : Block 640 40 136 6
 unfolding mnemonic form_of first_checks second_checks token_at tokens_from in_quotes operands_from fields registers directive statement_in said moved outcome
 lines_640 = refl
 
-pub lines_680 : Block 680 40 140 12
+pub lines_680 : Block 680 40 142 11
 unfolding mnemonic form_of first_checks second_checks token_at tokens_from in_quotes operands_from fields registers directive statement_in said moved outcome
 lines_680 = refl
 
-pub lines_720 : Block 720 40 152 6
+pub lines_720 : Block 720 40 153 6
 unfolding mnemonic form_of first_checks second_checks token_at tokens_from in_quotes operands_from fields registers directive statement_in said moved outcome
 lines_720 = refl
 
-pub lines_760 : Block 760 40 158 10
+pub lines_760 : Block 760 40 159 10
 unfolding mnemonic form_of first_checks second_checks token_at tokens_from in_quotes operands_from fields registers directive statement_in said moved outcome
 lines_760 = refl
 
-pub lines_800 : Block 800 28 168 6
+pub lines_800 : Block 800 27 169 6
 unfolding mnemonic form_of first_checks second_checks token_at tokens_from in_quotes operands_from fields registers directive statement_in said moved outcome
 lines_800 = refl

@@ -2,7 +2,7 @@
 -- The words of MOVE, ALL and BACK.
 use Rattle.std.specs.Prelude.{ℕ, List, [], ◌∷◌}
 
--- >27A2: GOMOVE
+-- >27B0: GOMOVE
 --     GOMOVE CLR R13
 --            LI R3,2
 --            LI R5,2
@@ -15,13 +15,13 @@ move =
     0x04CD ∷ 0x0203 ∷ 0x0002 ∷ 0x0205 ∷ 0x0002 ∷ 0xC100 ∷ 0x0914 ∷ 0x1802 ∷
     0x06A0 ∷ 0x22FC ∷ []
 
--- >27B6: MOVEN, the length of MOVE
+-- >27C4: MOVEN, the length of MOVE
 --     MOVEN  BL @LOAD
 abbrev pub move_length : List ℕ
 move_length =
     0x06A0 ∷ 0x2378 ∷ []
 
--- >27BA: MOVEL, the target of MOVE
+-- >27C8: MOVEL, the target of MOVE
 --     MOVEL  CI R6,>4000
 --            JH LONG
 --            MOV R6,R12
@@ -34,7 +34,7 @@ move_target =
     0x0286 ∷ 0x4000 ∷ 0x1B42 ∷ 0xC306 ∷ 0xC0C6 ∷ 0x0280 ∷ 0x0038 ∷ 0x141D ∷
     0x06A0 ∷ 0x22FC ∷ []
 
--- >27CE: MOVED, the source of MOVE
+-- >27DC: MOVED, the source of MOVE
 --     MOVED  MOV R2,R7
 --            MOV R5,R8
 --            CI R0,>34
@@ -44,13 +44,13 @@ abbrev pub move_source : List ℕ
 move_source =
     0xC1C2 ∷ 0xC205 ∷ 0x0280 ∷ 0x0034 ∷ 0x1A21 ∷ 0x06A0 ∷ 0x22FC ∷ []
 
--- >27DC: MOVEB, the copy begins
+-- >27EA: MOVEB, the copy begins
 --     MOVEB  LI R3,1
 abbrev pub move_begin : List ℕ
 move_begin =
     0x0203 ∷ 0x0001 ∷ []
 
--- >27E0: COPY, a byte is copied, or the copy ends
+-- >27EE: COPY, a byte is copied, or the copy ends
 --     COPY   MOV R12,R12
 --            JEQ COPYE
 --            BL @LOAD
@@ -58,14 +58,14 @@ abbrev pub copy : List ℕ
 copy =
     0xC30C ∷ 0x1309 ∷ 0x06A0 ∷ 0x2378 ∷ []
 
--- >27E8: COPYS, the byte that was loaded
+-- >27F6: COPYS, the byte that was loaded
 --     COPYS  MOV R6,R9
 --            BL @STORE
 abbrev pub copy_store : List ℕ
 copy_store =
     0xC246 ∷ 0x06A0 ∷ 0x23CE ∷ []
 
--- >27EE: COPYN, what follows
+-- >27FC: COPYN, what follows
 --     COPYN  INC R2
 --            INC R7
 --            DEC R12
@@ -77,9 +77,9 @@ copy_store =
 abbrev pub copy_next : List ℕ
 copy_next =
     0x0582 ∷ 0x0587 ∷ 0x060C ∷ 0x10F5 ∷ 0x0285 ∷ 0x0002 ∷ 0x1302 ∷ 0x0460 ∷
-    0x2486 ∷ 0x0460 ∷ 0x26E8 ∷ []
+    0x2486 ∷ 0x0460 ∷ 0x26F2 ∷ []
 
--- >2804: MOVER, the registers that MOVE loads
+-- >2812: MOVER, the registers that MOVE loads
 --     MOVER  CLR R7
 --            MOVB @GRMRD,R7
 --            SRL R7,8
@@ -93,14 +93,14 @@ move_registers =
     0x04C7 ∷ 0xD1E0 ∷ 0x9800 ∷ 0x0987 ∷ 0xC107 ∷ 0xA106 ∷ 0x0284 ∷ 0x0008 ∷
     0x1B1B ∷ 0x0208 ∷ 0x0002 ∷ []
 
--- >281A: MOVES, the source of MOVE in GROM
+-- >2828: MOVES, the source of MOVE in GROM
 --     MOVES  LI R3,2
 --            BL @STREAM
 abbrev pub move_grom : List ℕ
 move_grom =
     0x0203 ∷ 0x0002 ∷ 0x06A0 ∷ 0x23BA ∷ []
 
--- >2822: MOVEA, its index
+-- >2830: MOVEA, its index
 --     MOVEA  MOV R6,R2
 --            MOV R0,R5
 --            SRL R5,1
@@ -112,13 +112,13 @@ abbrev pub move_index : List ℕ
 move_index =
     0xC086 ∷ 0xC140 ∷ 0x0915 ∷ 0x0AF5 ∷ 0x09E5 ∷ 0x0585 ∷ 0x06A0 ∷ 0x2342 ∷ []
 
--- >2832: MOVEX, the address behind the instruction
+-- >2840: MOVEX, the address behind the instruction
 --     MOVEX  BL @WHERE
 abbrev pub move_where : List ℕ
 move_where =
     0x06A0 ∷ 0x22D0 ∷ []
 
--- >2836: MOVEW, GROM at the source
+-- >2844: MOVEW, GROM at the source
 --     MOVEW  MOV R6,R14
 --            MOV R2,R6
 --            BL @SEEK
@@ -126,28 +126,28 @@ abbrev pub move_seek : List ℕ
 move_seek =
     0xC386 ∷ 0xC182 ∷ 0x06A0 ∷ 0x22E8 ∷ []
 
--- >283E: MOVEK, the bytes that follow there
+-- >284C: MOVEK, the bytes that follow there
 --     MOVEK  LI R5,2
 --            JMP MOVEB
 abbrev pub move_stream : List ℕ
 move_stream =
     0x0205 ∷ 0x0002 ∷ 0x10CC ∷ []
 
--- >2844: LONG, the stop by reason 4
+-- >2852: LONG, the stop by reason 4
 --     LONG   LI R0,4
 --            B @GSTOP
 abbrev pub length_stop : List ℕ
 length_stop =
     0x0200 ∷ 0x0004 ∷ 0x0460 ∷ 0x22CC ∷ []
 
--- >284C: NOREG, the stop by reason 5
+-- >285A: NOREG, the stop by reason 5
 --     NOREG  LI R0,5
 --            B @GSTOP
 abbrev pub register_stop : List ℕ
 register_stop =
     0x0200 ∷ 0x0005 ∷ 0x0460 ∷ 0x22CC ∷ []
 
--- >2854: GOALL
+-- >2862: GOALL
 --     GOALL  MOVB @GRMRD,R9
 --            LI R4,>0040
 --            MOVB R4,@VDPWA
@@ -159,7 +159,7 @@ all =
     0xD260 ∷ 0x9800 ∷ 0x0204 ∷ 0x0040 ∷ 0xD804 ∷ 0x8C02 ∷ 0x06C4 ∷ 0xD804 ∷
     0x8C02 ∷ 0x020C ∷ 0x0300 ∷ []
 
--- >286A: FILL, a byte is filled, or the step ends
+-- >2878: FILL, a byte is filled, or the step ends
 --     FILL   MOVB R9,@VDPWD
 --            DEC R12
 --            JNE FILL
@@ -168,7 +168,7 @@ abbrev pub all_fill : List ℕ
 all_fill =
     0xD809 ∷ 0x8C00 ∷ 0x060C ∷ 0x16FC ∷ 0x0460 ∷ 0x228C ∷ []
 
--- >2876: GOBACK
+-- >2884: GOBACK
 --     GOBACK MOVB @GRMRD,R4
 --            MOVB R4,@VDPWA
 --            LI R4,>8700

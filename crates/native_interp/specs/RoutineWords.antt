@@ -363,20 +363,21 @@ store_result =
     0x020B ∷ 0x2486 ∷ 0x0460 ∷ 0x23CE ∷ []
 
 -- >24BC: GOB
---     GOB    LI R3,2
---            BL @STREAM
+--     GOB    MOVB @GRMRD,R6
+--            MOVB @GRMRD,@R6LB
 abbrev pub branch : List ℕ
 branch =
-    0x0203 ∷ 0x0002 ∷ 0x06A0 ∷ 0x23BA ∷ []
+    0xD1A0 ∷ 0x9800 ∷ 0xD820 ∷ 0x9800 ∷ 0x83ED ∷ []
 
--- >24C4: GOTO
---     GOTO   LI R11,GSTEP
---            B @SEEK
+-- >24C6: GOTO
+--     GOTO   MOVB R6,@GRMWA
+--            MOVB @R6LB,@GRMWA
+--            B @GSTEP
 abbrev pub go_to : List ℕ
 go_to =
-    0x020B ∷ 0x228C ∷ 0x0460 ∷ 0x22E8 ∷ []
+    0xD806 ∷ 0x9C02 ∷ 0xD820 ∷ 0x83ED ∷ 0x9C02 ∷ 0x0460 ∷ 0x228C ∷ []
 
--- >24CC: GOEXIT
+-- >24D4: GOEXIT
 --     GOEXIT B @GEXIT
 abbrev pub exit : List ℕ
 exit =

@@ -2,13 +2,13 @@
 //! Addresses in the interpreter. Profile: where the interpreter and its workspace stand.
 
 /// How many words the interpreter has.
-pub const WORD_COUNT: usize = 1093;
+pub const WORD_COUNT: usize = 1100;
 
 /// The interpreter's workspace: the address of its register 0.
 pub const WORKSPACE: u16 = 0x83E0;
 
 /// The address behind the interpreter's last word.
-pub const BEHIND: u16 = 0x288A;
+pub const BEHIND: u16 = 0x2898;
 
 /// Where the words of the interpreter begin.
 pub const ORIGIN: u16 = 0x2000;
@@ -161,289 +161,289 @@ pub const STO: u16 = 0x24B4;
 pub const GOB: u16 = 0x24BC;
 
 /// Goes on at an address.
-pub const GOTO: u16 = 0x24C4;
+pub const GOTO: u16 = 0x24C6;
 
 /// The instruction EXIT.
-pub const GOEXIT: u16 = 0x24CC;
+pub const GOEXIT: u16 = 0x24D4;
 
 /// The row of INCT.
-pub const INCTV: u16 = 0x24D0;
+pub const INCTV: u16 = 0x24D8;
 
 /// The row of ADD and INC.
-pub const ADDV: u16 = 0x24D2;
+pub const ADDV: u16 = 0x24DA;
 
 /// The row of DECT.
-pub const DECTV: u16 = 0x24D6;
+pub const DECTV: u16 = 0x24DE;
 
 /// The row of SUB and DEC.
-pub const SUBV: u16 = 0x24D8;
+pub const SUBV: u16 = 0x24E0;
 
 /// The row of ABS.
-pub const ABSV: u16 = 0x24DC;
+pub const ABSV: u16 = 0x24E4;
 
 /// The row of NEG, and the tail of all that set the status.
-pub const NEGV: u16 = 0x24E0;
+pub const NEGV: u16 = 0x24E8;
 
 /// Sets the status, once the result is stored.
-pub const STATB: u16 = 0x24EC;
+pub const STATB: u16 = 0x24F4;
 
 /// The row of AND.
-pub const ANDV: u16 = 0x24F4;
+pub const ANDV: u16 = 0x24FC;
 
 /// The row of OR.
-pub const ORV: u16 = 0x24FA;
+pub const ORV: u16 = 0x2502;
 
 /// The row of XOR.
-pub const XORV: u16 = 0x24FE;
+pub const XORV: u16 = 0x2506;
 
 /// The row of INV.
-pub const INVV: u16 = 0x2502;
+pub const INVV: u16 = 0x250A;
 
 /// The row of CLR.
-pub const CLRV: u16 = 0x2506;
+pub const CLRV: u16 = 0x250E;
 
 /// The row of EX.
-pub const EXV: u16 = 0x250A;
+pub const EXV: u16 = 0x2512;
 
 /// Stores the old destination of EX at the source, once the source is stored.
-pub const EXB: u16 = 0x2512;
+pub const EXB: u16 = 0x251A;
 
 /// Gives the count of a shift.
-pub const COUNT: u16 = 0x251A;
+pub const COUNT: u16 = 0x2522;
 
 /// The row of SRA.
-pub const SRAV: u16 = 0x252C;
+pub const SRAV: u16 = 0x2534;
 
 /// Shifts the value of SRA by its count.
-pub const SRAB: u16 = 0x2530;
+pub const SRAB: u16 = 0x2538;
 
 /// The row of SLL.
-pub const SLLV: u16 = 0x2534;
+pub const SLLV: u16 = 0x253C;
 
 /// Shifts the value of SLL by its count.
-pub const SLLB: u16 = 0x2538;
+pub const SLLB: u16 = 0x2540;
 
 /// The row of SRL.
-pub const SRLV: u16 = 0x253C;
+pub const SRLV: u16 = 0x2544;
 
 /// Shifts the value of SRL by its count.
-pub const SRLB: u16 = 0x2540;
+pub const SRLB: u16 = 0x2548;
 
 /// The row of SRC.
-pub const SRCV: u16 = 0x2544;
+pub const SRCV: u16 = 0x254C;
 
 /// Turns the value of SRC by its count.
-pub const SRCB: u16 = 0x2548;
+pub const SRCB: u16 = 0x2550;
 
 /// Loads the operands of MUL and DIV and goes to their row.
-pub const WIDE: u16 = 0x2558;
+pub const WIDE: u16 = 0x2560;
 
 /// The row of MUL.
-pub const MULV: u16 = 0x2564;
+pub const MULV: u16 = 0x256C;
 
 /// Stores the low word of a product, once the high word is stored.
-pub const MULB: u16 = 0x257C;
+pub const MULB: u16 = 0x2584;
 
 /// The row of DIV.
-pub const DIVV: u16 = 0x2582;
+pub const DIVV: u16 = 0x258A;
 
 /// The part of DIV for bytes.
-pub const DIVBY: u16 = 0x258C;
+pub const DIVBY: u16 = 0x2594;
 
 /// The part of DIV for words.
-pub const DIVW: u16 = 0x259E;
+pub const DIVW: u16 = 0x25A6;
 
 /// The part of DIV for words, once the second word of the destination is loaded.
-pub const DIVL: u16 = 0x25AA;
+pub const DIVL: u16 = 0x25B2;
 
 /// Takes the remainder of a DIV of words, once the quotient is stored.
-pub const DIVQ: u16 = 0x25B2;
+pub const DIVQ: u16 = 0x25BA;
 
 /// Stores the last word of DIV.
-pub const DIVS: u16 = 0x25B6;
+pub const DIVS: u16 = 0x25BE;
 
 /// Ends DIV, once all is stored: the overflow is cleared.
-pub const DIVE: u16 = 0x25BA;
+pub const DIVE: u16 = 0x25C2;
 
 /// Ends a DIV whose quotient does not fit: the overflow is set.
-pub const OVER: u16 = 0x25C6;
+pub const OVER: u16 = 0x25CE;
 
 /// The row of CH.
-pub const CHV: u16 = 0x25D2;
+pub const CHV: u16 = 0x25DA;
 
 /// The row of CHE.
-pub const CHEV: u16 = 0x25D8;
+pub const CHEV: u16 = 0x25E0;
 
 /// The row of CGT.
-pub const CGTV: u16 = 0x25DE;
+pub const CGTV: u16 = 0x25E6;
 
 /// The row of CGE.
-pub const CGEV: u16 = 0x25E4;
+pub const CGEV: u16 = 0x25EC;
 
 /// The row of CEQ.
-pub const CEQV: u16 = 0x25EA;
+pub const CEQV: u16 = 0x25F2;
 
 /// The row of CLOG.
-pub const CLOGV: u16 = 0x25F0;
+pub const CLOGV: u16 = 0x25F8;
 
 /// The row of CZ.
-pub const CZV: u16 = 0x25F6;
+pub const CZV: u16 = 0x25FE;
 
 /// The instruction H.
-pub const GOH: u16 = 0x25FC;
+pub const GOH: u16 = 0x2604;
 
 /// The instruction GT.
-pub const GOGT: u16 = 0x2606;
+pub const GOGT: u16 = 0x260E;
 
 /// The instruction CARRY.
-pub const GOCARY: u16 = 0x2610;
+pub const GOCARY: u16 = 0x2618;
 
 /// The instruction OVF.
-pub const GOOVF: u16 = 0x261A;
+pub const GOOVF: u16 = 0x2622;
 
 /// Sets the condition.
-pub const CTRUE: u16 = 0x2624;
+pub const CTRUE: u16 = 0x262C;
 
 /// Clears the condition.
-pub const CFALSE: u16 = 0x2630;
+pub const CFALSE: u16 = 0x2638;
 
 /// The instructions BR and BS.
-pub const BRANCH: u16 = 0x263C;
+pub const BRANCH: u16 = 0x2644;
 
 /// The part of BR and BS that tests the condition.
-pub const BTEST: u16 = 0x2652;
+pub const BTEST: u16 = 0x2658;
 
 /// Clears the condition and goes on at an address.
-pub const TAKE: u16 = 0x266A;
+pub const TAKE: u16 = 0x2670;
 
 /// The row of CASE.
-pub const CASEV: u16 = 0x2676;
+pub const CASEV: u16 = 0x267C;
 
 /// The part of CASE behind the next address.
-pub const CASEN: u16 = 0x2682;
+pub const CASEN: u16 = 0x2688;
 
 /// Goes on in the table of CASE.
-pub const CASET: u16 = 0x268A;
+pub const CASET: u16 = 0x2690;
 
 /// The row of PUSH.
-pub const PUSHV: u16 = 0x268E;
+pub const PUSHV: u16 = 0x2694;
 
 /// Goes to the stop by reason 3.
-pub const FULL: u16 = 0x26AC;
+pub const FULL: u16 = 0x26B2;
 
 /// The instruction CALL.
-pub const GOCALL: u16 = 0x26B0;
+pub const GOCALL: u16 = 0x26B6;
 
 /// The part of CALL behind its target: the pointer of the stack.
-pub const CALLT: u16 = 0x26BA;
+pub const CALLT: u16 = 0x26C6;
 
 /// The part of CALL behind the next address.
-pub const CALLN: u16 = 0x26D4;
+pub const CALLN: u16 = 0x26DE;
 
 /// Stores the pointer and the address of CALL.
-pub const CALLS: u16 = 0x26DA;
+pub const CALLS: u16 = 0x26E4;
 
 /// Ends CALL and FETCH: goes on at the address that was kept.
-pub const RESUME: u16 = 0x26E8;
+pub const RESUME: u16 = 0x26F2;
 
 /// The instructions RTN and RTNC.
-pub const GORTN: u16 = 0x26F2;
+pub const GORTN: u16 = 0x2700;
 
 /// The part of RTN and RTNC behind the stacked address.
-pub const RTNP: u16 = 0x270C;
+pub const RTNP: u16 = 0x271A;
 
 /// The row of FETCH.
-pub const FETCHV: u16 = 0x271C;
+pub const FETCHV: u16 = 0x272A;
 
 /// The part of FETCH behind the next address.
-pub const FETCHN: u16 = 0x2730;
+pub const FETCHN: u16 = 0x273E;
 
 /// Loads the stacked address of FETCH.
-pub const FETCHP: u16 = 0x2736;
+pub const FETCHP: u16 = 0x2744;
 
 /// Sets the GROM to the stacked address.
-pub const FETCHA: u16 = 0x2742;
+pub const FETCHA: u16 = 0x2750;
 
 /// Reads the byte of FETCH.
-pub const FETCHR: u16 = 0x2746;
+pub const FETCHR: u16 = 0x2754;
 
 /// Keeps the byte of FETCH.
-pub const FETCHK: u16 = 0x274A;
+pub const FETCHK: u16 = 0x2758;
 
 /// The part of FETCH behind the address that follows its byte.
-pub const FETCHB: u16 = 0x2750;
+pub const FETCHB: u16 = 0x275E;
 
 /// Stores the address that follows the byte of FETCH.
-pub const FETCHS: u16 = 0x2756;
+pub const FETCHS: u16 = 0x2764;
 
 /// Stores the byte of FETCH.
-pub const FETCHD: u16 = 0x275C;
+pub const FETCHD: u16 = 0x276A;
 
 /// The instruction RAND.
-pub const GORAND: u16 = 0x276E;
+pub const GORAND: u16 = 0x277C;
 
 /// The part of RAND that makes the next seed.
-pub const RANDM: u16 = 0x2778;
+pub const RANDM: u16 = 0x2786;
 
 /// The part of RAND behind the seed: the limit.
-pub const RANDL: u16 = 0x278C;
+pub const RANDL: u16 = 0x279A;
 
 /// The instruction MOVE.
-pub const GOMOVE: u16 = 0x27A2;
+pub const GOMOVE: u16 = 0x27B0;
 
 /// Loads the length of MOVE.
-pub const MOVEN: u16 = 0x27B6;
+pub const MOVEN: u16 = 0x27C4;
 
 /// The part of MOVE behind its length: the target.
-pub const MOVEL: u16 = 0x27BA;
+pub const MOVEL: u16 = 0x27C8;
 
 /// The part of MOVE behind its target: the source.
-pub const MOVED: u16 = 0x27CE;
+pub const MOVED: u16 = 0x27DC;
 
 /// Begins the copy of MOVE.
-pub const MOVEB: u16 = 0x27DC;
+pub const MOVEB: u16 = 0x27EA;
 
 /// Copies a byte of MOVE, or ends the copy.
-pub const COPY: u16 = 0x27E0;
+pub const COPY: u16 = 0x27EE;
 
 /// Stores a byte of MOVE.
-pub const COPYS: u16 = 0x27E8;
+pub const COPYS: u16 = 0x27F6;
 
 /// Goes on to the next byte of MOVE.
-pub const COPYN: u16 = 0x27EE;
+pub const COPYN: u16 = 0x27FC;
 
 /// The part of MOVE whose target is the registers of the video chip.
-pub const MOVER: u16 = 0x2804;
+pub const MOVER: u16 = 0x2812;
 
 /// The part of MOVE that tests whether all the registers are there.
-pub const MOVERC: u16 = 0x280C;
+pub const MOVERC: u16 = 0x281A;
 
 /// The part of MOVE whose source is in GROM.
-pub const MOVES: u16 = 0x281A;
+pub const MOVES: u16 = 0x2828;
 
 /// Adds the index to that source's address.
-pub const MOVEA: u16 = 0x2822;
+pub const MOVEA: u16 = 0x2830;
 
 /// Asks for the address behind MOVE.
-pub const MOVEX: u16 = 0x2832;
+pub const MOVEX: u16 = 0x2840;
 
 /// Keeps that address, and sets the GROM to the source.
-pub const MOVEW: u16 = 0x2836;
+pub const MOVEW: u16 = 0x2844;
 
 /// Turns to the bytes that follow there.
-pub const MOVEK: u16 = 0x283E;
+pub const MOVEK: u16 = 0x284C;
 
 /// Stops by reason 4.
-pub const LONG: u16 = 0x2844;
+pub const LONG: u16 = 0x2852;
 
 /// Stops by reason 5.
-pub const NOREG: u16 = 0x284C;
+pub const NOREG: u16 = 0x285A;
 
 /// The instruction ALL.
-pub const GOALL: u16 = 0x2854;
+pub const GOALL: u16 = 0x2862;
 
 /// Stores a byte of ALL, or ends the step.
-pub const FILL: u16 = 0x286A;
+pub const FILL: u16 = 0x2878;
 
 /// The instruction BACK.
-pub const GOBACK: u16 = 0x2876;
+pub const GOBACK: u16 = 0x2884;

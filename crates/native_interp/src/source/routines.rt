@@ -2,7 +2,7 @@
 
 /// The first lines of the interpreter's source: boot, the step and the stops, the routines, the operands and the
 /// end of a row, and ST, B and EXIT.
-pub const ROUTINE_LINES: [&str; 387] = [
+pub const ROUTINE_LINES: [&str; 389] = [
     "* The interpreter of GPL for the TMS9900.",
     "*",
     "* A byte stands in the high byte of a register, with 0 below it.",
@@ -42,6 +42,7 @@ pub const ROUTINE_LINES: [&str; 387] = [
     "R4LB   EQU >83E9",
     "R6LB   EQU >83ED",
     "R9LB   EQU >83F3",
+    "R14LB  EQU >83FD",
     "       DATA GBOOT,GSTEP,GSTOP",
     "       DATA GEXIT",
     "* Where each code byte leads to.",
@@ -382,12 +383,13 @@ pub const ROUTINE_LINES: [&str; 387] = [
     "STV    MOV R6,R9",
     "STO    LI R11,SHOW",
     "       B @STORE",
-    "* B: the address is the word that follows. 2, then STREAM and",
-    "* GOTO. GOTO: GROM goes on at R6. 2, then SEEK. Goes to GSTEP.",
-    "GOB    LI R3,2",
-    "       BL @STREAM",
-    "GOTO   LI R11,GSTEP",
-    "       B @SEEK",
+    "* B: R6 is the word that follows. 2. Changes R6. GOTO: GROM goes",
+    "* on at R6. 3. Goes to GSTEP.",
+    "GOB    MOVB @GRMRD,R6",
+    "       MOVB @GRMRD,@R6LB",
+    "GOTO   MOVB R6,@GRMWA",
+    "       MOVB @R6LB,@GRMWA",
+    "       B @GSTEP",
     "* EXIT: 1. Goes to GEXIT.",
     "GOEXIT B @GEXIT",
 ];
