@@ -4,9 +4,7 @@ ghost use Rattle.std.specs.Prelude.{◌≡◌, ◌<◌, true};
 ghost use Rattle.interp_defs.specs.Match.{PortsAreIdle};
 
 use crate::machines::{Program, booting};
-use native_interp::{
-    GBOOT, GEXIT, GOB, GOEXIT, GOTO, GSTEP, GSTOP, SEEK, UNKN,
-};
+use native_interp::{GBOOT, GEXIT, GOB, GOEXIT, GOTO, GSTEP, GSTOP, SEEK, UNKN};
 use sim_flow::{leave, read_target};
 use sim_jumps::go_on;
 use sim_operands::run_seek;

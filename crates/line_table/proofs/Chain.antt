@@ -4,7 +4,7 @@ use Rattle.line_table.proofs.Counts.{most, name_count}
 use Rattle.line_table.proofs.Fronts.{Front, none_yet, with_block}
 use Rattle.line_table.proofs.FirstBlocks.{lines_000, lines_040, lines_080, lines_120, lines_160, lines_200, lines_240}
 use Rattle.line_table.proofs.SecondBlocks.{lines_280, lines_320, lines_360, lines_400, lines_440, lines_480, lines_520}
-use Rattle.line_table.proofs.ThirdBlocks.{lines_560, lines_600, lines_640, lines_680, lines_720, lines_760, lines_800}
+use Rattle.line_table.proofs.ThirdBlocks.{lines_560, lines_600, lines_640, lines_680, lines_720, lines_760, lines_800, lines_840}
 
 to_040 : Front 40 15
 to_040 = with_block 0 40 0 15 none_yet lines_000
@@ -60,15 +60,18 @@ to_680 = with_block 640 40 136 6 to_640 lines_640
 to_720 : Front 720 153
 to_720 = with_block 680 40 142 11 to_680 lines_680
 
-to_760 : Front 760 159
-to_760 = with_block 720 40 153 6 to_720 lines_720
+to_760 : Front 760 158
+to_760 = with_block 720 40 153 5 to_720 lines_720
 
-to_800 : Front 800 169
-to_800 = with_block 760 40 159 10 to_760 lines_760
+to_800 : Front 800 167
+to_800 = with_block 760 40 158 9 to_760 lines_760
 
-to_827 : Front 827 175
-to_827 = with_block 800 27 169 6 to_800 lines_800
+to_840 : Front 840 177
+to_840 = with_block 800 40 167 10 to_800 lines_800
+
+to_853 : Front 853 179
+to_853 = with_block 840 13 177 2 to_840 lines_840
 
 -- all of them
 pub to_last : Front most name_count
-to_last = to_827
+to_last = to_853

@@ -4,12 +4,12 @@ use Rattle.std.proofs.Common.{ℕ}
 
 -- the lines
 abbrev pub line_count : ℕ
-line_count = 828
+line_count = 854
 
 -- the lines before the last
 abbrev pub most : ℕ
-most = 827
+most = 853
 
 -- the names
 abbrev pub name_count : ℕ
-name_count = 175
+name_count = 179

@@ -2,13 +2,13 @@
 //! Addresses in the interpreter. Profile: where the interpreter and its workspace stand.
 
 /// How many words the interpreter has.
-pub const WORD_COUNT: usize = 1100;
+pub const WORD_COUNT: usize = 1131;
 
 /// The interpreter's workspace: the address of its register 0.
 pub const WORKSPACE: u16 = 0x83E0;
 
 /// The address behind the interpreter's last word.
-pub const BEHIND: u16 = 0x2898;
+pub const BEHIND: u16 = 0x28D6;
 
 /// Where the words of the interpreter begin.
 pub const ORIGIN: u16 = 0x2000;
@@ -403,47 +403,59 @@ pub const MOVED: u16 = 0x27DC;
 /// Begins the copy of MOVE.
 pub const MOVEB: u16 = 0x27EA;
 
+/// Copies a byte of MOVE from the cells to the cells.
+pub const COPYC: u16 = 0x27FE;
+
+/// The part of `COPYC` behind the byte.
+pub const COPYCN: u16 = 0x280C;
+
+/// Copies a byte of MOVE from GROM to the cells.
+pub const COPYG: u16 = 0x2816;
+
+/// The part of `COPYG` behind the byte.
+pub const COPYGN: u16 = 0x2824;
+
 /// Copies a byte of MOVE, or ends the copy.
-pub const COPY: u16 = 0x27EE;
+pub const COPY: u16 = 0x282C;
 
 /// Stores a byte of MOVE.
-pub const COPYS: u16 = 0x27F6;
+pub const COPYS: u16 = 0x2834;
 
 /// Goes on to the next byte of MOVE.
-pub const COPYN: u16 = 0x27FC;
+pub const COPYN: u16 = 0x283A;
 
 /// The part of MOVE whose target is the registers of the video chip.
-pub const MOVER: u16 = 0x2812;
+pub const MOVER: u16 = 0x2850;
 
 /// The part of MOVE that tests whether all the registers are there.
-pub const MOVERC: u16 = 0x281A;
+pub const MOVERC: u16 = 0x2858;
 
 /// The part of MOVE whose source is in GROM.
-pub const MOVES: u16 = 0x2828;
+pub const MOVES: u16 = 0x2866;
 
 /// Adds the index to that source's address.
-pub const MOVEA: u16 = 0x2830;
+pub const MOVEA: u16 = 0x286E;
 
 /// Asks for the address behind MOVE.
-pub const MOVEX: u16 = 0x2840;
+pub const MOVEX: u16 = 0x287E;
 
 /// Keeps that address, and sets the GROM to the source.
-pub const MOVEW: u16 = 0x2844;
+pub const MOVEW: u16 = 0x2882;
 
 /// Turns to the bytes that follow there.
-pub const MOVEK: u16 = 0x284C;
+pub const MOVEK: u16 = 0x288A;
 
 /// Stops by reason 4.
-pub const LONG: u16 = 0x2852;
+pub const LONG: u16 = 0x2890;
 
 /// Stops by reason 5.
-pub const NOREG: u16 = 0x285A;
+pub const NOREG: u16 = 0x2898;
 
 /// The instruction ALL.
-pub const GOALL: u16 = 0x2862;
+pub const GOALL: u16 = 0x28A0;
 
 /// Stores a byte of ALL, or ends the step.
-pub const FILL: u16 = 0x2878;
+pub const FILL: u16 = 0x28B6;
 
 /// The instruction BACK.
-pub const GOBACK: u16 = 0x2884;
+pub const GOBACK: u16 = 0x28C2;

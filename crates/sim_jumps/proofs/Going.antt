@@ -1,7 +1,7 @@
 -- Jumps, from where their address is known.
 use Rattle.std.proofs.Common.{ℕ, ◌<◌, ◌∙◌, ◌≡◌, ap, arith, false, List, refl, slice_index, slice_set}
-use Rattle.sim_rows.proofs.Common.{Byte, Changed, comes, comes_as, comes_on, EndsRow, Exits, Goes, GOTO, GplState, grom_at, GromState}
-use Rattle.sim_rows.proofs.Common.{idle_grom, idle_told, idle_video, is_view, MachineState, ones_cleared, PortsAreIdle, RESUME, Sees, SeesFinished}
+use Rattle.sim_rows.proofs.Common.{Byte, Changed, comes, comes_on, EndsRow, Exits, Goes, GOTO, GplState, grom_at, GromState}
+use Rattle.sim_rows.proofs.Common.{idle_grom, idle_told, idle_video, is_view, MachineState, ones_cleared, PortsAreIdle, RESUME, Sees}
 use Rattle.sim_rows.proofs.Common.{set_is, set_to, SHOW, Stands, unchanged, View, view, with_condition}
 use Rattle.sim_jumps.specs.Jumps.{GoesOn, ResumesRow, TakesBranch}
 use Rattle.sim_jumps.specs.Pieces as pieces
@@ -79,4 +79,4 @@ module _ (x a : MachineState) (t t1 : ℕ) (stands : Stands x RESUME) (e : Exits
         };
       } in
       let c1 = comes e resumed in
-      comes_as 36 (SeesFinished c) (comes_on 3 29 c1 (ends c c1.holds) refl) (omega arith) (λ w q. q)
+      comes_on 3 29 c1 (ends c c1.holds) refl

@@ -1,13 +1,12 @@
 -- The pieces of ADDR find the place of an operand.
-use Rattle.std.proofs.Common.{ℕ, ⊎_elim, ◌%◌, ◌&&◌, ◌*◌, ◌+◌, ◌/◌, ◌<◌, ◌==◌, ◌∙◌, ◌≡◌, ◌≤◌, ◌⊎◌, ap, arith, Bool, eqb, Err, false, if◌then◌else◌, List}
-use Rattle.std.proofs.Common.{nat_le, nat_lt, None, not, Ok, Option, refl, Result, slice_index, Some, subst, sym, true}
-use Rattle.std.proofs.lemmas.Bool.{cases_eq, eq-eqb, eqb-true, le-leb, le-ltb, lt-leb, lt-ltb, ltb-false, ltb-true, ne_eqb}
-use Rattle.sim_view.proofs.Common.{address_at, APTR, ASPACE, Cpu, Exit, Goes, GplOperand, GromState, GSTOP, high, HoldsBytes, INDEX, index_at, index_by}
-use Rattle.sim_view.proofs.Common.{indexed, is_visible, join, last_out, low, next_in_grom, operand_at, operand_from, pick, Place, plus, pointed, ranged}
-use Rattle.sim_view.proofs.Common.{Reason, shifted, SLA, Space, space_at, space_of, SRL, sum_of, Vdp, View, with_index, Word, word_in}
+use Rattle.std.proofs.Common.{ℕ, ⊎_elim, ◌%◌, ◌*◌, ◌+◌, ◌/◌, ◌<◌, ◌==◌, ◌≡◌, ◌≤◌, ap, arith, Bool, eqb, Err, false, List}
+use Rattle.std.proofs.Common.{nat_lt, not, Ok, refl, Result, slice_index, subst, sym, true}
+use Rattle.std.proofs.lemmas.Bool.{cases_eq, eq-eqb, eqb-true, le-leb, le-ltb, lt-leb, ltb-false, ltb-true, ne_eqb}
+use Rattle.sim_view.proofs.Common.{APTR, ASPACE, Exit, Goes, GSTOP, high, HoldsBytes, INDEX, index_at}
+use Rattle.sim_view.proofs.Common.{indexed, is_visible, join, last_out, next_in_grom, operand_at, pick, pointed, ranged}
+use Rattle.sim_view.proofs.Common.{Reason, shifted, SLA, space_at, SRL, sum_of, View, with_index, Word, word_in}
 use Rattle.sim_view.specs.gpl_step_defs.declared.reason.Reason.TheVariants.{Cell}
 use Rattle.sim_operands.specs.Pieces.{past}
-use Rattle.sim_operands.specs.Values.{number_of_space}
 use Rattle.sim_operands.specs.Subroutines.{Addressed, Barred, grom_at, Placed, state_of}
 use Rattle.sim_operands.specs.Pieces as pieces
 use Rattle.sim_view.specs.native_interp.declared.addresses.TheConstants.{ASHORT}

@@ -1,7 +1,7 @@
 -- The pieces of LOAD and STORE, one after the other.
-use Rattle.std.proofs.Common.{ℕ, ◌+◌, ◌<◌, ◌==◌, ◌∙◌, ◌≡◌, ◌≤◌, ap, arith, false, nat_lt, None, refl, slice_index, subst, sym, true}
+use Rattle.std.proofs.Common.{ℕ, ◌<◌, ◌==◌, ◌∙◌, ◌≡◌, ◌≤◌, ap, arith, nat_lt, refl, subst, sym, true}
 use Rattle.std.proofs.lemmas.Bool.{eq-eqb, lt-ltb}
-use Rattle.sim_view.proofs.Common.{Byte, Comes, comes, comes_as, comes_then, Exit, Exits, Goes, is_view, IsFetched, LDATA, listed, MachineState, PortsAreIdle}
+use Rattle.sim_view.proofs.Common.{Byte, comes, comes_then, Exit, Exits, Goes, is_view, IsFetched, LDATA, MachineState, PortsAreIdle}
 use Rattle.sim_view.proofs.Common.{SDATA, SREG, Stands, STREAM, unchanged, View, view, with_register}
 use Rattle.sim_operands.specs.Values.{IsVisible, of_register}
 use Rattle.sim_operands.specs.Subroutines.{LoadsStream, LoadsValue, state_of, Stored, StoresRegister, StoresValue, streamed}

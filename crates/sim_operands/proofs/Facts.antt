@@ -1,9 +1,9 @@
 -- Facts about numbers that the pieces need.
-use Rattle.std.proofs.Common.{ℕ, ◌%◌, ◌&&◌, ◌*◌, ◌+◌, ◌-◌, ◌/◌, ◌<◌, ◌==◌, ◌∙◌, ◌≡◌, ◌≤◌, ap, arith, Bool, eqb, false, if◌then◌else◌, int_lt, nat_le, nat_lt, not, pos}
-use Rattle.std.proofs.Common.{refl, sym, true}
+use Rattle.std.proofs.Common.{ℕ, ◌&&◌, ◌+◌, ◌<◌, ◌==◌, ◌≡◌, ◌≤◌, ap, arith, Bool, false, if◌then◌else◌, int_lt, nat_lt, not, pos}
+use Rattle.std.proofs.Common.{refl, true}
 use Rattle.std.proofs.lemmas.Bool.{agree_below_at, eq-eqb, le-leb, le-ltb, lt-leb, lt-ltb, eqb-true, ltb-false, ltb-true, ne_eqb}
-use Rattle.sim_view.proofs.Common.{Byte, Cell, even, high, join, low, plus, shifted, signed, size_of, spot, Spot, SRL, Width, Word, WORKSPACE}
-use Rattle.sim_operands.specs.Values.{IsVisible, width_in}
+use Rattle.sim_view.proofs.Common.{Byte, Cell, join, shifted, signed, size_of, spot, SRL, Word, WORKSPACE}
+use Rattle.sim_operands.specs.Values.{IsVisible}
 use Rattle.sim_view.specs.native_interp.declared.addresses.TheConstants.{BEHIND, ORIGIN}
 
 -- a byte that comes down

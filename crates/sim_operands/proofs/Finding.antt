@@ -1,14 +1,14 @@
 -- The pieces of ADDR, one after the other.
-use Rattle.std.proofs.Common.{ℕ, ◌%◌, ◌+◌, ◌/◌, ◌<◌, ◌==◌, ◌∙◌, ◌≡◌, ◌≤◌, ap, arith, Bool, eqb, Err, false, Ok, refl, Result, subst, sym, true}
+use Rattle.std.proofs.Common.{ℕ, ◌%◌, ◌/◌, ◌==◌, ◌∙◌, ◌≡◌, ◌≤◌, ap, arith, eqb, Err, false, Ok, refl, Result, subst, sym, true}
 use Rattle.std.proofs.lemmas.Bool.{eq-eqb}
 use Rattle.sim_view.proofs.Common.{◌>>=◌, ADDR, APTR, ASPACE, Comes, comes, comes_as, comes_then, Exit, Exits, Goes, GplOperand, GSTOP, INDEX, index_at}
-use Rattle.sim_view.proofs.Common.{indexed, is_view, IsFetched, join, MachineState, operand_at, Place, place_of, pointed, PortsAreIdle, ranged, Reason}
-use Rattle.sim_view.proofs.Common.{space_at, Stands, View, view, with_index}
+use Rattle.sim_view.proofs.Common.{indexed, is_view, IsFetched, MachineState, Place, place_of, pointed, PortsAreIdle, ranged, Reason}
+use Rattle.sim_view.proofs.Common.{space_at, Stands, View, view}
 use Rattle.sim_view.specs.gpl_step_defs.declared.reason.Reason.TheVariants.{Cell}
 use Rattle.sim_operands.specs.Subroutines.{Addressed, Barred, Finds, FindsOperand, next_at, Placed, state_of}
 use Rattle.sim_operands.proofs.Ready.{ready}
-use Rattle.sim_operands.proofs.Addressing.{address_read, AddressRead, Answers, index_read, IndexRead, not_both, pointer_read, PointerRead, range_read}
-use Rattle.sim_operands.proofs.Addressing.{RangeRead, short_range_read, short_read, ShortRead}
+use Rattle.sim_operands.proofs.Addressing.{address_read, AddressRead, Answers, index_read, not_both, pointer_read, range_read}
+use Rattle.sim_operands.proofs.Addressing.{short_range_read, short_read, ShortRead}
 use Rattle.sim_operands.specs.Pieces as pieces
 use Rattle.sim_view.specs.native_interp.declared.addresses.TheConstants.{ASHORT}
 

@@ -1,9 +1,9 @@
 -- The runs of the pieces on the view, one path after the other.
-use Rattle.std.proofs.Common.{[], ℕ, ◌&&◌, ◌+◌, ◌<◌, ◌==◌, ◌∙◌, ◌∷◌, ◌≡◌, ◌≤◌, ap, arith, Bool, false, List, nat_lt, not, refl, slice_index, slice_set, subst}
+use Rattle.std.proofs.Common.{[], ℕ, ◌+◌, ◌<◌, ◌==◌, ◌∷◌, ◌≡◌, arith, false, List, nat_lt, refl, slice_index, slice_set, subst}
 use Rattle.std.proofs.Common.{sym, true}
 use Rattle.std.proofs.lemmas.Bool.{eq-eqb, eqb-true}
-use Rattle.sim_view.proofs.Common.{ADDR, APTR, ASPACE, even, Exit, FETCH, high, high-join, INDEX, IsView, join, join-bytes, last_out, LDATA, Leads, leads}
-use Rattle.sim_view.proofs.Common.{LOAD, low, Part, part_then, pick, plus, Rest, SDATA, SEEK, shifted, SLA, SREG, SRL, STORE, STREAM, sum_of, swapped, View}
+use Rattle.sim_view.proofs.Common.{ADDR, APTR, ASPACE, Exit, FETCH, high, high-join, INDEX, IsView, join, last_out, LDATA, Leads, leads}
+use Rattle.sim_view.proofs.Common.{LOAD, low, Part, part_then, pick, plus, Rest, SDATA, SEEK, shifted, SLA, SREG, SRL, STORE, STREAM, sum_of, View}
 use Rattle.sim_view.proofs.Common.{Word, word_in}
 use Rattle.sim_operands.specs.Pieces.{past, past_video, set_video_to}
 use Rattle.sim_operands.proofs.Facts.{above_cells, at_most, byte_is, down, first_fits, negative, no_other, not_above_one, not_cells, not_limit}

@@ -1,16 +1,15 @@
 -- The pieces of LOAD and STORE carry a value.
-use Rattle.std.proofs.Common.{ℕ, ◌%◌, ◌*◌, ◌+◌, ◌/◌, ◌<◌, ◌==◌, ◌∙◌, ◌≡◌, ◌≤◌, ap, arith, Bool, eqb, false, if◌then◌else◌, List, nat_lt, None, not, Option}
-use Rattle.std.proofs.Common.{refl, slice_index, slice_set, Some, subst, sym, true}
-use Rattle.std.proofs.lemmas.Bool.{eq-eqb, eqb-true, le-ltb, lt-ltb, ltb-true, ne_eqb}
-use Rattle.sim_view.proofs.Common.{Byte, Changes, Exit, Goes, GromState, high, IsView, join, LDATA, low, next_in_grom, next_in_vdp, NoOperation, pair_kind}
-use Rattle.sim_view.proofs.Common.{PairKind, pick, Place, plus, ReadSetup, RegisterWrite, SDATA, shifted, SLA, SREG, SRL, STREAM, sum_of, swapped, unchanged}
-use Rattle.sim_view.proofs.Common.{value_at, vdp_address_written, vdp_data_read, vdp_data_written, VdpState, View, Width, with_register, with_value, Word}
-use Rattle.sim_view.proofs.Common.{word_in, WriteSetup}
-use Rattle.sim_view.specs.gpl_defs.Reading.{value_at as value_in}
+use Rattle.std.proofs.Common.{ℕ, ◌%◌, ◌+◌, ◌/◌, ◌<◌, ◌==◌, ◌∙◌, ◌≡◌, ap, arith, Bool, false, if◌then◌else◌, nat_lt, None}
+use Rattle.std.proofs.Common.{refl, slice_index, subst, sym, true}
+use Rattle.std.proofs.lemmas.Bool.{eq-eqb, eqb-true, ltb-true, ne_eqb}
+use Rattle.sim_view.proofs.Common.{Byte, Exit, Goes, GromState, high, join, LDATA, low, next_in_vdp, NoOperation, pair_kind}
+use Rattle.sim_view.proofs.Common.{PairKind, pick, plus, ReadSetup, RegisterWrite, SDATA, shifted, SLA, SREG, SRL, STREAM, sum_of, unchanged}
+use Rattle.sim_view.proofs.Common.{value_at, VdpState, View, with_register, with_value, Word}
+use Rattle.sim_view.proofs.Common.{WriteSetup}
 use Rattle.sim_operands.specs.Pieces.{past, past_video, set_video_to}
-use Rattle.sim_operands.specs.Values.{in_register, IsVisible, of_register, width_in}
-use Rattle.sim_operands.specs.Subroutines.{grom_at, Loaded, marked_by, next_at, place_in, state_of, Stored, streamed}
-use Rattle.sim_operands.proofs.Facts.{first_fits, second_fits}
+use Rattle.sim_operands.specs.Values.{IsVisible, of_register, width_in}
+use Rattle.sim_operands.specs.Subroutines.{grom_at, Loaded, next_at, place_in, state_of, Stored, streamed}
+use Rattle.sim_operands.proofs.Facts.{second_fits}
 use Rattle.sim_operands.specs.Pieces as pieces
 
 -- ---- cells

@@ -1,6 +1,6 @@
 -- What the pieces of the subroutines come to: how many instructions they have, where they end, and what they change of
 -- the view, in the words of the processor. Registers, cells and ports that are not named stay.
-use Rattle.std.specs.Prelude.{ℕ, ◌&&◌, ◌+◌, ◌==◌, Bool, false, if◌then◌else◌, List, nat_lt, not, slice_index}
+use Rattle.std.specs.Prelude.{ℕ, ◌+◌, ◌==◌, Bool, false, if◌then◌else◌, nat_lt, slice_index}
 use Rattle.std.specs.Prelude.{slice_set, true}
 use Rattle.sim_view.specs.Prelude.{APTR, ASPACE, even, Exit, grom_address_written, grom_data_read, GromState, GSTOP}
 use Rattle.sim_view.specs.Prelude.{high, INDEX, join, last_out, LDATA, low, SDATA, shifted, SLA, SREG, SRL, STREAM}

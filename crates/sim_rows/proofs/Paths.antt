@@ -1,5 +1,5 @@
 -- The runs of the pieces on the view.
-use Rattle.std.proofs.Common.{[], ℕ, ◌+◌, ◌-◌, ◌<◌, ◌==◌, ◌∷◌, ◌≡◌, ◌≤◌, arith, false, List, nat_lt, refl, subst, slice_index, sym, true}
+use Rattle.std.proofs.Common.{[], ℕ, ◌+◌, ◌<◌, ◌==◌, ◌∷◌, ◌≡◌, ◌≤◌, arith, false, List, nat_lt, refl, subst, slice_index, sym, true}
 use Rattle.sim_view.proofs.Common.{high-join, IsView, join-bytes, Leads, leads, Part, part_then, pick, Rest}
 use Rattle.sim_rows.specs.Prelude.{ADDR, difference_of, even, Exit, exit, GO, GromState, GSTEP, high, INTERP, join, last_out, LOAD, low, OPS, OPVAL, past, ROW}
 use Rattle.sim_rows.specs.Prelude.{set_to, shifted, SHOW, SLA, SRL, STO, STORE, sum_of, UNIT, View, WHERE, WIDE, Word}

@@ -2,7 +2,7 @@
 use Rattle.std.proofs.Common.{ℕ, ◌%◌, ◌&&◌, ◌<◌, ◌==◌, ◌∙◌, ◌≡◌, ap, Bool, Err, false, if◌then◌else◌, List, nat_lt, None, not, Ok, Option, refl, Result}
 use Rattle.std.proofs.Common.{slice_index, Some, sym, true}
 use Rattle.sim_rows.specs.Prelude.{◌>>=◌, after, behind_code, behind_first, bound, bound_at, bound_by, branched, ByteOp, bytes_by, Cell, Changes, code_byte}
-use Rattle.sim_rows.specs.Prelude.{destination_bytes, destination_size, executed, finished, first_of, from_at, gone_on, GoOp, GplInstr, GplOperand}
+use Rattle.sim_rows.specs.Prelude.{destination_bytes, destination_size, executed, finished, first_of, from_at, gone_on, GoOp, GplOperand}
 use Rattle.sim_rows.specs.Prelude.{GplOperation, GplRead, GplState, has_source, in_grom_of, indexed, is_row, is_visible, join, jump, length_at, moved}
 use Rattle.sim_rows.specs.Prelude.{MoveKind, MoveLength, MoveSource, MoveTarget, next_in_grom, next_of, one, OneName, Opcode, operand_at, operands_of}
 use Rattle.sim_rows.specs.Prelude.{operation_at, operation_in, Place, place_of, plain, PlainOp, plus, pointed, ranged, read_by, reading, Reason, result_of}

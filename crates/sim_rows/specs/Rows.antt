@@ -1,5 +1,5 @@
 -- The operands of a row, and views of the machine up to the row's entry.
-use Rattle.std.specs.Prelude.{ℕ, ◌%◌, ◌+◌, ◌/◌, ◌==◌, ◌≡◌, Bool, Err, false, if◌then◌else◌, nat_lt, ◌<◌, None, not, Ok}
+use Rattle.std.specs.Prelude.{ℕ, ◌%◌, ◌/◌, ◌==◌, ◌≡◌, Bool, Err, false, if◌then◌else◌, nat_lt, ◌<◌, None, not, Ok}
 use Rattle.std.specs.Prelude.{Option, Result, Some, true}
 use Rattle.sim_view.specs.Prelude.{◌>>=◌, Comes, destination_size, GplOperation, GplSource, GplState, GSTOP}
 use Rattle.sim_view.specs.Prelude.{IsFetched, MachineState, One, operand_at, Place, place_of, PortsAreIdle}

@@ -1,7 +1,7 @@
 -- CALL, from its dispatch to the end of the step.
 use Rattle.std.proofs.Common.{ℕ, ◌<◌, ◌∙◌, ◌≡◌, ap, arith, Err, false, List, nat_lt, Ok, Option, refl, Result, slice_index, slice_set, Some, subst, sym, true}
 use Rattle.sim_rows.proofs.Common.{◌>>=◌, at_most, behind_code, bound, bound_made, CALL, CALLN, CALLS, CALLT, cells_at, ChangedFrom, Changes, Comes, comes}
-use Rattle.sim_rows.proofs.Common.{comes_on, comes_then, Dispatched, Exit, exit, Exits, finished, GOCALL, Goes, GplOperation, GplState, grom_at}
+use Rattle.sim_rows.proofs.Common.{comes_as, comes_on, comes_then, Dispatched, Exit, exit, Exits, finished, GOCALL, Goes, GplOperation, GplState, grom_at}
 use Rattle.sim_rows.proofs.Common.{GromState, grown_by, GSTOP, high, idle_again, idle_told, is_end, is_view, IsVisible, Jump, known, MachineState}
 use Rattle.sim_rows.proofs.Common.{matches, on_stack, operation_in, PortsAreIdle, reaches, Reason, RESUME, return_of, Stack, Stands, step, step_jump, Stepped}
 use Rattle.sim_rows.proofs.Common.{Stopped, StoppedBy, STORE, store_then, stored_idle, StoresValue, Storing, sum_of, Turned, turned_by, unchanged}
@@ -81,7 +81,7 @@ module _ {x a : MachineState} {t t1 : ℕ} (e1 : Exits x a t t1 (pieces.store_ne
         (store_then before Word (cells_at top) s.pc a b t1 t2 storing stored) in
         let back : (view b).r.r14 ≡ target = ap (λ (v : View). v.r.r14) stored.holds.is ∙ ap (λ (v : View). v.r.r14) e1.shows ∙ h.target_is in
         let c3 : Comes 20 x b t t2 RESUME (ChangedFrom after (view a)) = comes_on 4 16 c1 c2 refl in
-        comes_on 20 36 c3 (resumes (gone_to s top target) s.pc c3.holds.changed back) refl
+        comes_as 56 _ (comes_on 20 32 c3 (resumes (gone_to s top target) s.pc c3.holds.changed back) refl) (omega arith) (λ w q. q)
 
 -- ---- the step
 

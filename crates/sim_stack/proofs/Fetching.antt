@@ -1,6 +1,6 @@
 -- The parts of FETCH.
 use Rattle.std.proofs.Common.{ℕ, ◌+◌, ◌<◌, ◌∙◌, ◌≡◌, ◌≤◌, ap, arith, refl, subst, sym}
-use Rattle.sim_rows.proofs.Common.{Byte, cells_at, Changed, changed_again, ChangedFrom, Changes, Comes, comes, comes_on, comes_then, Cpu, Exit, exit, Exits}
+use Rattle.sim_rows.proofs.Common.{Byte, cells_at, Changed, changed_again, ChangedFrom, Changes, Comes, comes, comes_as, comes_on, comes_then, Cpu, Exit, exit, Exits}
 use Rattle.sim_rows.proofs.Common.{FETCH, FETCHA, FETCHD, FETCHK, FETCHR, from, grom_at, GromState, high, idle_again, is_view, IsVisible, just, known, LOAD}
 use Rattle.sim_rows.proofs.Common.{Loaded, LoadsValue, MachineState, place_in, PortsAreIdle, RESUME, return_of, SEEK, Space, Stands, state_of, STORE}
 use Rattle.sim_rows.proofs.Common.{store_then, stored_idle, StoresValue, Storing, unchanged, value_at, value_keeps, Vdp, View, view, WHERE, width_in}
@@ -134,4 +134,4 @@ module _ {x a : MachineState} {t t1 : ℕ} (e1 : Exits x a t t1 (pieces.store_st
           ∙ ap (λ (v : View). v.r.r14) e1.shows
           ∙ h.back
           ∙ sym (value_keeps Byte place byte stacked).1 in
-          comes_on 40 36 (comes_on 24 16 c3 c4 refl) (resumes after next changed back) refl
+          comes_as 76 _ (comes_on 40 32 (comes_on 24 16 c3 c4 refl) (resumes after next changed back) refl) (omega arith) (λ w q. q)

@@ -1,8 +1,8 @@
 -- Words and their bytes in lists.
-use Rattle.std.proofs.Common.{◌≡◌, ℕ, zero, suc, ◌+◌, ◌-◌, ◌*◌, ◌/◌, ◌%◌, ◌<◌, ◌≤◌, List, [], ◌∷◌, ◌++◌, length, refl, sym, ap, ◌∙◌, arith, get_or}
+use Rattle.std.proofs.Common.{◌≡◌, ℕ, zero, suc, ◌*◌, ◌<◌, List, [], ◌∷◌, length, refl, ap, arith, get_or}
 use Rattle.std.proofs.Math.ListN.{set}
 use Rattle.tms_defs.specs.Words.{high, low, join}
-use Rattle.sim_view.specs.View.{Registers, listed, relisted, words_of}
+use Rattle.sim_view.specs.View.{listed, relisted, words_of}
 use Rattle.sim_view.proofs.Seen.{spell}
 
 pub join-bytes : (w : ℕ) → join (high w) (low w) ≡ w

@@ -1,9 +1,9 @@
 -- Each address leads in the view to where it leads in the console.
-use Rattle.std.proofs.Common.{◌≡◌, ℕ, ◌+◌, ◌-◌, ◌*◌, ◌/◌, ◌%◌, ◌<◌, ◌≤◌, Bool, true, false, refl, sym, ap, ◌∙◌, arith, eqb}
+use Rattle.std.proofs.Common.{◌≡◌, ℕ, ◌+◌, ◌*◌, ◌%◌, ◌<◌, ◌≤◌, Bool, true, false, refl, ap, arith, eqb}
 use Rattle.std.specs.Prelude.{◌&&◌, nat_lt, nat_le}
 use Rattle.std.proofs.lemmas.Bool.{leb-true, ltb-true, eqb-false, eqb-true, and_parts}
 use Rattle.std.proofs.Math.Nat.{pos_of_ne-zero}
-use Rattle.console_defs.specs.Memory.{Port, Region, Rom, LowExpansion, HighExpansion, Scratchpad, PortOf, Unmapped, region, port_at, port_region}
+use Rattle.console_defs.specs.Memory.{Region, Rom, LowExpansion, HighExpansion, Scratchpad, PortOf, Unmapped, region, port_at, port_region}
 use Rattle.console_defs.proofs.MemoryLaws.{region_low, region_scratchpad, region_ports}
 use Rattle.native_interp.specs.declared.addresses.TheConstants.{BEHIND, ORIGIN, WORD_COUNT, WORKSPACE}
 use Rattle.sim_view.proofs.Seen.{Spot, spot, Reg, RegLow, Code, Cell, Spare, AtThePort, Unknown, port_spot}

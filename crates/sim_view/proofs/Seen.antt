@@ -1,6 +1,6 @@
 -- The view as the processor's memory.
-use Rattle.std.proofs.Common.{◌≡◌, ℕ, zero, suc, ◌+◌, ◌-◌, ◌*◌, ◌/◌, ◌%◌, List, [], ◌∷◌, Bool, true, false, eqb}
-use Rattle.std.specs.Prelude.{slice_index, slice_set, nat_lt, nat_le, ◌&&◌, not}
+use Rattle.std.proofs.Common.{ℕ, zero, suc, ◌-◌, ◌/◌, ◌%◌, List, [], ◌∷◌, Bool, true, false, eqb}
+use Rattle.std.specs.Prelude.{slice_index, slice_set, nat_lt, nat_le, ◌&&◌}
 use Rattle.tms_defs.specs.Words.{high, low, join, even}
 use Rattle.console_defs.specs.Vdp.{vdp_data_read, vdp_status_read, vdp_data_written, vdp_address_written}
 use Rattle.console_defs.specs.Grom.{grom_data_read, grom_address_read, grom_address_written}
@@ -10,7 +10,7 @@ use Rattle.tms_defs.specs.Step.{execution}
 use Rattle.console_defs.specs.Memory.{Port, VdpDataRead, VdpStatusRead, VdpDataWrite, VdpAddressWrite, GromDataRead, GromAddressRead, GromDataWrite}
 use Rattle.console_defs.specs.Memory.{GromAddressWrite, Region, Rom, LowExpansion, HighExpansion, Scratchpad, PortOf, Unmapped, port_at, port_region}
 use Rattle.native_interp.specs.declared.addresses.TheConstants.{BEHIND, ORIGIN, WORKSPACE}
-use Rattle.sim_view.specs.View.{View, Registers, listed, relisted}
+use Rattle.sim_view.specs.View.{View, listed, relisted}
 use Rattle.sim_view.specs.Running.{ends_piece}
 use Rattle.native_interp.specs.declared.words.TheConstants.{INTERP}
 

@@ -1,10 +1,9 @@
 -- What the view does, the machine does.
-use Rattle.std.proofs.Common.{◌≡◌, ℕ, zero, suc, ◌+◌, ◌-◌, ◌*◌, ◌/◌, ◌%◌, ◌<◌, ◌≤◌, List, [], ◌∷◌, ◌++◌, length-append, Bool, true, false, length, refl, sym}
-use Rattle.std.proofs.Common.{ap, subst, ◌∙◌, arith, eqb, Option, Some, None, ⊎_elim, inl, inr, get_or, ◌⊎◌}
+use Rattle.std.proofs.Common.{◌≡◌, ℕ, suc, ◌+◌, ◌-◌, ◌*◌, ◌<◌, List, [], ◌∷◌, ◌++◌, length-append, Bool, true, false, length, refl, sym}
+use Rattle.std.proofs.Common.{ap, subst, ◌∙◌, arith, eqb, Option, Some, None, get_or}
 use Rattle.std.proofs.Math.ListN.{set}
-use Rattle.std.specs.Prelude.{slice_index, slice_set, nat_lt, ◌&&◌, ◌||◌, not, ℤ}
-use Rattle.std.proofs.lemmas.Bool.{ne_eqb, cases_eq, ltb-true}
-use Rattle.std.proofs.Math.Nat.{pos_of_ne-zero}
+use Rattle.std.specs.Prelude.{nat_lt, ℤ}
+use Rattle.std.proofs.lemmas.Bool.{ltb-true}
 use Rattle.std.proofs.lemmas.List.{get_or-append_right, get_or_append_left, set-append_right, set-append_left, length-set}
 use Rattle.tms_defs.specs.Words.{high, low, join, even, plus}
 use Rattle.tms_defs.specs.Flags.{Width, size_of, Byte, Word, byte_or_word}
@@ -14,8 +13,6 @@ use Rattle.tms_defs.specs.MultiplyDivide.{product_of, division_of, by_division}
 use Rattle.tms_defs.specs.Bytes.{word_in, with_word_in}
 use Rattle.tms_defs.specs.Instructions.{instr_at}
 use Rattle.tms_defs.specs.declared.flags.Flags.{Flags}
-use Rattle.tms_defs.specs.declared.status.Status.{Status}
-use Rattle.tms_defs.specs.declared.instruction.Place.{Place}
 use Rattle.tms_defs.specs.declared.instruction.TwoOp.{TwoOp}
 use Rattle.tms_defs.specs.declared.instruction.TwoOp.TheVariants.{SZC, S, C, A, MOV, SOC}
 use Rattle.tms_defs.specs.declared.instruction.RegOp.{RegOp}
@@ -23,39 +20,33 @@ use Rattle.tms_defs.specs.declared.instruction.RegOp.TheVariants.{COC, CZC, XOR,
 use Rattle.tms_defs.specs.declared.instruction.ShiftOp.{ShiftOp}
 use Rattle.tms_defs.specs.declared.instruction.OneOp.{OneOp}
 use Rattle.tms_defs.specs.declared.instruction.OneOp.TheVariants.{BLWP, B, X, CLR, NEG, INV, INC, INCT, DEC, DECT, BL, SWPB, SETO, ABS}
-use Rattle.tms_defs.specs.declared.instruction.JumpOp.{JumpOp}
 use Rattle.tms_defs.specs.declared.instruction.ImmOp.{ImmOp}
 use Rattle.tms_defs.specs.declared.instruction.ImmOp.TheVariants.{LI, AI, ANDI, ORI, CI, STWP, STST}
 use Rattle.tms_defs.specs.declared.instruction.BareOp.{BareOp}
 use Rattle.tms_defs.specs.declared.instruction.BareOp.TheVariants.{LWPI, LIMI, IDLE, RSET, RTWP, CKON, CKOF, LREX}
 use Rattle.tms_defs.specs.declared.instruction.Instr.{Instr}
 use Rattle.tms_defs.specs.declared.instruction.Instr.TheVariants as instr
-use Rattle.tms_defs.specs.Accesses.{Answer, Gives, AtPort, NoInstruction, ◌>>=◌, Accesses}
-use Rattle.tms_defs.specs.Operand.{Cpu, Mode, Register, Indirect, Symbolic, Increment, mode_of, register_in, word_at, with_word, with_words}
+use Rattle.tms_defs.specs.Accesses.{Answer, Gives, AtPort, NoInstruction, ◌>>=◌}
+use Rattle.tms_defs.specs.Operand.{Cpu, Mode, Register, Indirect, Symbolic, Increment, mode_of, register_in, with_word, with_words}
 use Rattle.tms_defs.specs.Operand.{register_address, next_word, index_of, operand, value_at, with_value}
 use Rattle.console_defs.specs.Memory.{Memory, console, Port, VdpDataRead, VdpStatusRead, VdpDataWrite, VdpAddressWrite, GromDataRead, GromAddressRead}
-use Rattle.console_defs.specs.Memory.{GromDataWrite, GromAddressWrite, Region, region, word_read_in, word_read, word_written_in, word_written, byte_read_in}
-use Rattle.console_defs.specs.Memory.{byte_read, byte_written_in, byte_written, port_read, port_written}
-use Rattle.tms_defs.specs.forms.Results.{with_flags, stored, stored_by_result}
+use Rattle.console_defs.specs.Memory.{GromDataWrite, GromAddressWrite, Region, region, word_read_in, word_read, word_written_in, byte_read_in}
+use Rattle.console_defs.specs.Memory.{byte_written_in, port_read, port_written}
+use Rattle.tms_defs.specs.forms.Results.{with_flags, stored}
 use Rattle.tms_defs.specs.forms.ContextSwitch.{kept_in, vector_at, kept_of}
-use Rattle.tms_defs.specs.forms.Two.{two, two_operands}
-use Rattle.tms_defs.specs.forms.Reg.{in_row, values_at, with_division, reg, with_source}
+use Rattle.tms_defs.specs.forms.Two.{two}
+use Rattle.tms_defs.specs.forms.Reg.{in_row, values_at, with_division, reg}
 use Rattle.tms_defs.specs.forms.Shift.{count_in, count_of, shift}
-use Rattle.tms_defs.specs.forms.One.{one, one_operand}
-use Rattle.tms_defs.specs.forms.Jump.{jump_target, jump_where, condition, jump}
+use Rattle.tms_defs.specs.forms.One.{one}
+use Rattle.tms_defs.specs.forms.Jump.{jump_target, jump_where, condition}
 use Rattle.tms_defs.specs.forms.Imm.{immediate, imm}
 use Rattle.tms_defs.specs.forms.Bare.{bare}
 use Rattle.tms_defs.specs.Step.{executed, executed_where, execution, is_stopping}
-use Rattle.count_defs.specs.Counts.{raised}
-use Rattle.console_defs.specs.Machine.{MachineState, machine_step, done_step, steps}
-use Rattle.sim_view.specs.View.{View, Registers, listed, relisted}
+use Rattle.sim_view.specs.View.{View, listed, relisted}
 use Rattle.interp_defs.specs.Interpreter.{HoldsInterpreter}
-use Rattle.interp_defs.specs.Runs.{is_end, Runs}
-use Rattle.sim_view.specs.Running.{Ran, one_more, ends_piece, ran}
-use Rattle.native_interp.specs.declared.words.TheConstants.{INTERP}
-use Rattle.sim_view.proofs.Answers.{given, given_by}
-use Rattle.sim_view.proofs.Lists.{join-bytes, high-join, low-join, get-spell_high, get-spell_low, set-spell, set-spell_high, set-spell_low, listed-relisted}
-use Rattle.sim_view.proofs.Seen.{seen_run, shown, spell, Spot, spot, Reg, RegLow, Code, Cell, Spare, AtThePort, Unknown, word_on, with_word_on, byte_on, with_byte_on}
+use Rattle.sim_view.proofs.Answers.{given}
+use Rattle.sim_view.proofs.Lists.{join-bytes, get-spell_high, get-spell_low, set-spell, set-spell_high, set-spell_low, listed-relisted}
+use Rattle.sim_view.proofs.Seen.{shown, spell, Spot, spot, Reg, RegLow, Code, Cell, Spare, AtThePort, Unknown, word_on, with_word_on, byte_on, with_byte_on}
 use Rattle.sim_view.proofs.Seen.{port_seen, port_put}
 use Rattle.sim_view.proofs.Places.{Agrees, agrees, pick}
 
