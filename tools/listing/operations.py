@@ -4,11 +4,11 @@ import re
 from .source import TOP
 
 STEP, ARITHMETIC = (f'crates/gpl_step_defs/specs/{it}.antt' for it in ('Step', 'Arithmetic'))
-ROUTINES = ['WHERE', 'SEEK', 'FETCH', 'ADDR', 'APTR', 'INDEX', 'ASPACE', 'LOAD', 'LDATA', 'STREAM', 'STORE', 'SDATA',
+ROUTINES = ['WHERE', 'SEEK', 'FETCH', 'ADDR', 'ASHORT', 'APTR', 'INDEX', 'ASPACE', 'LOAD', 'LDATA', 'STREAM', 'STORE', 'SDATA',
             'SREG', 'COUNT']
 TAILS = ['STO', 'SHOW', 'GOTO', 'TAKE', 'RESUME', 'CTRUE', 'CFALSE', 'GSTEP', 'GSTOP', 'GEXIT']
 ROWS = ['ROW', 'WIDE', 'OPS', 'OPSDST', 'OPSVAL', 'OPVAL', 'GO']
-STEPS = ['GBOOT', 'GSTEP', 'GKEEP', 'GBYTE', 'GCODE', 'UNKN']
+STEPS = ['GBOOT', 'GSTEP', 'UNKN']
 KINDS = {'plain': 'PlainOp', 'byte': 'ByteOp', 'go': 'GoOp', 'one': 'OneName', 'two': 'TwoName'}
 DEFINED = {'plain': ('plain', STEP), 'byte': ('with_immediate', STEP), 'go': ('jump', STEP), 'one': ('one', STEP),
            'two': ('two', ARITHMETIC)}

@@ -5,7 +5,7 @@ from .assembler import value
 from .source import TOP
 
 ENDS = ['GSTEP', 'GSTOP', 'GEXIT']
-TABLES = {'GCODE': 'the entry of TABLE', 'GO': 'the entry of OPTAB'}
+TABLES = {'GSTEP': 'the entry of TABLE', 'GO': 'the entry of OPTAB'}
 
 
 class Piece:

@@ -4,13 +4,11 @@ ghost use Rattle.std.specs.Prelude.{◌≡◌, ◌<◌, true};
 ghost use Rattle.interp_defs.specs.Match.{PortsAreIdle};
 
 use crate::machines::{Program, booting};
-use native_interp::{
-    FETCH, GBOOT, GEXIT, GOB, GOEXIT, GOTO, GSTEP, GSTOP, SEEK, STREAM, UNKN, WHERE,
-};
-use sim_flow::{ask_target, leave};
+use native_interp::{GBOOT, GEXIT, GOB, GOEXIT, GOTO, GSTEP, GSTOP, SEEK, UNKN};
+use sim_flow::{leave, read_target};
 use sim_jumps::go_on;
-use sim_operands::{fetch_byte, run_seek, stream_value};
-use sim_rows::{ask_address, ask_byte, dispatch, keep_address, where_next};
+use sim_operands::run_seek;
+use sim_rows::dispatch;
 use sim_steps::{boot, stop_code};
 use sim_view::{is_ready, register};
 use std::alloc::{AllocError, Global};
@@ -18,15 +16,6 @@ use std::marker::Brand;
 use std::sync::ledger::{Blank, Ledger};
 use std::test::Fail;
 use tms_step::{Machine, Steps};
-
-/// Where a step goes on behind WHERE.
-const BEHIND_WHERE: u16 = GSTEP + 4;
-
-/// Where it goes on behind SEEK.
-const BEHIND_SEEK: u16 = GSTEP + 10;
-
-/// Where it goes on behind FETCH.
-const BEHIND_FETCH: u16 = GSTEP + 14;
 
 /// More pieces than any of the programs runs.
 const MOST_PIECES: u32 = 60;
@@ -86,16 +75,10 @@ fn run_piece<L: Ledger>(machine: &mut Machine, steps: &mut Steps<L>) {
     }
     match at {
         GBOOT => boot(machine, steps),
-        GSTEP => ask_address(machine, steps),
-        BEHIND_WHERE => keep_address(machine, steps),
-        BEHIND_SEEK => ask_byte(machine, steps),
-        BEHIND_FETCH => dispatch(machine, steps),
+        GSTEP => dispatch(machine, steps),
         UNKN => stop_code(machine, steps),
-        WHERE => where_next(machine, steps),
         SEEK if is_idle(machine) => run_seek(machine, steps),
-        FETCH => fetch_byte(machine, steps),
-        STREAM => stream_value(machine, steps),
-        GOB => ask_target(machine, steps),
+        GOB => read_target(machine, steps),
         GOTO => go_on(machine, steps),
         GOEXIT => leave(machine, steps),
         _ => {}

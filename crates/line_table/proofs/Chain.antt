@@ -4,71 +4,74 @@ use Rattle.line_table.proofs.Counts.{most, name_count}
 use Rattle.line_table.proofs.Fronts.{Front, none_yet, with_block}
 use Rattle.line_table.proofs.FirstBlocks.{lines_000, lines_040, lines_080, lines_120, lines_160, lines_200, lines_240}
 use Rattle.line_table.proofs.SecondBlocks.{lines_280, lines_320, lines_360, lines_400, lines_440, lines_480, lines_520}
-use Rattle.line_table.proofs.ThirdBlocks.{lines_560, lines_600, lines_640, lines_680, lines_720, lines_760, lines_800}
+use Rattle.line_table.proofs.ThirdBlocks.{lines_560, lines_600, lines_640, lines_680, lines_720, lines_760, lines_800, lines_840}
 
-to_040 : Front 40 10
-to_040 = with_block 0 40 0 10 none_yet lines_000
+to_040 : Front 40 15
+to_040 = with_block 0 40 0 15 none_yet lines_000
 
-to_080 : Front 80 10
-to_080 = with_block 40 40 10 0 to_040 lines_040
+to_080 : Front 80 16
+to_080 = with_block 40 40 15 1 to_040 lines_040
 
-to_120 : Front 120 10
-to_120 = with_block 80 40 10 0 to_080 lines_080
+to_120 : Front 120 16
+to_120 = with_block 80 40 16 0 to_080 lines_080
 
-to_160 : Front 160 14
-to_160 = with_block 120 40 10 4 to_120 lines_120
+to_160 : Front 160 18
+to_160 = with_block 120 40 16 2 to_120 lines_120
 
-to_200 : Front 200 24
-to_200 = with_block 160 40 14 10 to_160 lines_160
+to_200 : Front 200 29
+to_200 = with_block 160 40 18 11 to_160 lines_160
 
-to_240 : Front 240 32
-to_240 = with_block 200 40 24 8 to_200 lines_200
+to_240 : Front 240 37
+to_240 = with_block 200 40 29 8 to_200 lines_200
 
-to_280 : Front 280 40
-to_280 = with_block 240 40 32 8 to_240 lines_240
+to_280 : Front 280 48
+to_280 = with_block 240 40 37 11 to_240 lines_240
 
-to_320 : Front 320 48
-to_320 = with_block 280 40 40 8 to_280 lines_280
+to_320 : Front 320 57
+to_320 = with_block 280 40 48 9 to_280 lines_280
 
-to_360 : Front 360 57
-to_360 = with_block 320 40 48 9 to_320 lines_320
+to_360 : Front 360 66
+to_360 = with_block 320 40 57 9 to_320 lines_320
 
-to_400 : Front 400 67
-to_400 = with_block 360 40 57 10 to_360 lines_360
+to_400 : Front 400 78
+to_400 = with_block 360 40 66 12 to_360 lines_360
 
-to_440 : Front 440 81
-to_440 = with_block 400 40 67 14 to_400 lines_400
+to_440 : Front 440 90
+to_440 = with_block 400 40 78 12 to_400 lines_400
 
-to_480 : Front 480 93
-to_480 = with_block 440 40 81 12 to_440 lines_440
+to_480 : Front 480 102
+to_480 = with_block 440 40 90 12 to_440 lines_440
 
-to_520 : Front 520 101
-to_520 = with_block 480 40 93 8 to_480 lines_480
+to_520 : Front 520 110
+to_520 = with_block 480 40 102 8 to_480 lines_480
 
-to_560 : Front 560 113
-to_560 = with_block 520 40 101 12 to_520 lines_520
+to_560 : Front 560 122
+to_560 = with_block 520 40 110 12 to_520 lines_520
 
-to_600 : Front 600 119
-to_600 = with_block 560 40 113 6 to_560 lines_560
+to_600 : Front 600 128
+to_600 = with_block 560 40 122 6 to_560 lines_560
 
-to_640 : Front 640 127
-to_640 = with_block 600 40 119 8 to_600 lines_600
+to_640 : Front 640 136
+to_640 = with_block 600 40 128 8 to_600 lines_600
 
-to_680 : Front 680 133
-to_680 = with_block 640 40 127 6 to_640 lines_640
+to_680 : Front 680 142
+to_680 = with_block 640 40 136 6 to_640 lines_640
 
-to_720 : Front 720 144
-to_720 = with_block 680 40 133 11 to_680 lines_680
+to_720 : Front 720 153
+to_720 = with_block 680 40 142 11 to_680 lines_680
 
-to_760 : Front 760 149
-to_760 = with_block 720 40 144 5 to_720 lines_720
+to_760 : Front 760 158
+to_760 = with_block 720 40 153 5 to_720 lines_720
 
-to_800 : Front 800 159
-to_800 = with_block 760 40 149 10 to_760 lines_760
+to_800 : Front 800 167
+to_800 = with_block 760 40 158 9 to_760 lines_760
 
-to_834 : Front 834 167
-to_834 = with_block 800 34 159 8 to_800 lines_800
+to_840 : Front 840 177
+to_840 = with_block 800 40 167 10 to_800 lines_800
+
+to_853 : Front 853 179
+to_853 = with_block 840 13 177 2 to_840 lines_840
 
 -- all of them
 pub to_last : Front most name_count
-to_last = to_834
+to_last = to_853

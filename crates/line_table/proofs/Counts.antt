@@ -4,12 +4,12 @@ use Rattle.std.proofs.Common.{ℕ}
 
 -- the lines
 abbrev pub line_count : ℕ
-line_count = 835
+line_count = 854
 
 -- the lines before the last
 abbrev pub most : ℕ
-most = 834
+most = 853
 
 -- the names
 abbrev pub name_count : ℕ
-name_count = 167
+name_count = 179

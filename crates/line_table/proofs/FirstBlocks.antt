@@ -15,30 +15,30 @@ use Rattle.asm_defs.specs.FirstChecks.{said, moved}
 use Rattle.asm_defs.specs.SecondChecks.{outcome}
 use Rattle.line_table.proofs.Blocks.{Block}
 
-pub lines_000 : Block 0 40 0 10
+pub lines_000 : Block 0 40 0 15
 unfolding mnemonic form_of first_checks second_checks token_at tokens_from in_quotes operands_from fields registers directive statement_in said moved outcome
 lines_000 = refl
 
-pub lines_040 : Block 40 40 10 0
+pub lines_040 : Block 40 40 15 1
 unfolding mnemonic form_of first_checks second_checks token_at tokens_from in_quotes operands_from fields registers directive statement_in said moved outcome
 lines_040 = refl
 
-pub lines_080 : Block 80 40 10 0
+pub lines_080 : Block 80 40 16 0
 unfolding mnemonic form_of first_checks second_checks token_at tokens_from in_quotes operands_from fields registers directive statement_in said moved outcome
 lines_080 = refl
 
-pub lines_120 : Block 120 40 10 4
+pub lines_120 : Block 120 40 16 2
 unfolding mnemonic form_of first_checks second_checks token_at tokens_from in_quotes operands_from fields registers directive statement_in said moved outcome
 lines_120 = refl
 
-pub lines_160 : Block 160 40 14 10
+pub lines_160 : Block 160 40 18 11
 unfolding mnemonic form_of first_checks second_checks token_at tokens_from in_quotes operands_from fields registers directive statement_in said moved outcome
 lines_160 = refl
 
-pub lines_200 : Block 200 40 24 8
+pub lines_200 : Block 200 40 29 8
 unfolding mnemonic form_of first_checks second_checks token_at tokens_from in_quotes operands_from fields registers directive statement_in said moved outcome
 lines_200 = refl
 
-pub lines_240 : Block 240 40 32 8
+pub lines_240 : Block 240 40 37 11
 unfolding mnemonic form_of first_checks second_checks token_at tokens_from in_quotes operands_from fields registers directive statement_in said moved outcome
 lines_240 = refl

@@ -2,23 +2,21 @@
 -- The words of branches, stacks and RAND.
 use Rattle.std.specs.Prelude.{ℕ, List, [], ◌∷◌}
 
--- >2630: BRANCH, the target of BR and BS
---     BRANCH MOVB @GRMRD,R4
---            SRL R4,8
---            MOV R0,R6
+-- >2644: BRANCH, the target of BR and BS
+--     BRANCH MOV R0,R6
 --            SLA R6,11
 --            SRL R6,3
---            A R4,R6
+--            MOVB @GRMRD,@R6LB
 --            MOV R1,R4
 --            SRL R4,13
 --            SLA R4,13
 --            A R4,R6
 abbrev pub target : List ℕ
 target =
-    0xD120 ∷ 0x9800 ∷ 0x0984 ∷ 0xC180 ∷ 0x0AB6 ∷ 0x0936 ∷ 0xA184 ∷ 0xC101 ∷
-    0x09D4 ∷ 0x0AD4 ∷ 0xA184 ∷ []
+    0xC180 ∷ 0x0AB6 ∷ 0x0936 ∷ 0xD820 ∷ 0x9800 ∷ 0x83ED ∷ 0xC101 ∷ 0x09D4 ∷
+    0x0AD4 ∷ 0xA184 ∷ []
 
--- >2646: BTEST, whether BR and BS are taken
+-- >2658: BTEST, whether BR and BS are taken
 --     BTEST  MOV R0,R4
 --            SRL R4,6
 --            JOC BSET
@@ -31,42 +29,42 @@ target =
 --            JNC CFALSE
 abbrev pub test_branch : List ℕ
 test_branch =
-    0xC100 ∷ 0x0964 ∷ 0x1805 ∷ 0xD120 ∷ 0x837C ∷ 0x0A34 ∷ 0x18E8 ∷ 0x1004 ∷
-    0xD120 ∷ 0x837C ∷ 0x0A34 ∷ 0x17E3 ∷ []
+    0xC100 ∷ 0x0964 ∷ 0x1805 ∷ 0xD120 ∷ 0x837C ∷ 0x0A34 ∷ 0x18E9 ∷ 0x1004 ∷
+    0xD120 ∷ 0x837C ∷ 0x0A34 ∷ 0x17E4 ∷ []
 
--- >265E: TAKE, a branch that is taken
+-- >2670: TAKE, a branch that is taken
 --     TAKE   LI R4,>2000
 --            SZCB R4,@PAD+>7C
 --            B @GOTO
 abbrev pub take_branch : List ℕ
 take_branch =
-    0x0204 ∷ 0x2000 ∷ 0x5804 ∷ 0x837C ∷ 0x0460 ∷ 0x24B8 ∷ []
+    0x0204 ∷ 0x2000 ∷ 0x5804 ∷ 0x837C ∷ 0x0460 ∷ 0x24C6 ∷ []
 
--- >266A: CASEV
+-- >267C: CASEV
 --     CASEV  CI R3,1
 --            JNE CASEW
 --            SRL R9,8
 --     CASEW  BL @WHERE
 abbrev pub case_row : List ℕ
 case_row =
-    0x0283 ∷ 0x0001 ∷ 0x1601 ∷ 0x0989 ∷ 0x06A0 ∷ 0x22BC ∷ []
+    0x0283 ∷ 0x0001 ∷ 0x1601 ∷ 0x0989 ∷ 0x06A0 ∷ 0x22D0 ∷ []
 
--- >2676: CASEN, the place in the table of CASE
+-- >2688: CASEN, the place in the table of CASE
 --     CASEN  A R9,R9
 --            A R6,R9
 --            BL @SEEK
 abbrev pub case_next : List ℕ
 case_next =
-    0xA249 ∷ 0xA246 ∷ 0x06A0 ∷ 0x22D8 ∷ []
+    0xA249 ∷ 0xA246 ∷ 0x06A0 ∷ 0x22E8 ∷ []
 
--- >267E: CASET, the end of CASE
+-- >2690: CASET, the end of CASE
 --     CASET  MOV R9,R6
 --            JMP TAKE
 abbrev pub case_target : List ℕ
 case_target =
     0xC189 ∷ 0x10EE ∷ []
 
--- >2682: PUSHV
+-- >2694: PUSHV
 --     PUSHV  CLR R12
 --            MOVB @DSTACK,R12
 --            AI R12,>0100
@@ -80,25 +78,25 @@ case_target =
 abbrev pub push : List ℕ
 push =
     0x04CC ∷ 0xD320 ∷ 0x8372 ∷ 0x022C ∷ 0x0100 ∷ 0xC1CC ∷ 0x0987 ∷ 0x0287 ∷
-    0x00C1 ∷ 0x1B05 ∷ 0xD80C ∷ 0x8372 ∷ 0x04C8 ∷ 0x0460 ∷ 0x24A8 ∷ []
+    0x00C1 ∷ 0x1B05 ∷ 0xD80C ∷ 0x8372 ∷ 0x04C8 ∷ 0x0460 ∷ 0x24B4 ∷ []
 
--- >26A0: FULL, a stack whose top is not visible
+-- >26B2: FULL, a stack whose top is not visible
 --     FULL   B @STK
 abbrev pub stack_full : List ℕ
 stack_full =
-    0x0460 ∷ 0x22A8 ∷ []
+    0x0460 ∷ 0x22BC ∷ []
 
--- >26A4: GOCALL
+-- >26B6: GOCALL
 --     GOCALL CLR R13
 --            LI R3,2
---            BL @STREAM
+--            MOVB @GRMRD,R14
+--            MOVB @GRMRD,@R14LB
 abbrev pub call : List ℕ
 call =
-    0x04CD ∷ 0x0203 ∷ 0x0002 ∷ 0x06A0 ∷ 0x23AC ∷ []
+    0x04CD ∷ 0x0203 ∷ 0x0002 ∷ 0xD3A0 ∷ 0x9800 ∷ 0xD820 ∷ 0x9800 ∷ 0x83FD ∷ []
 
--- >26AE: CALLT, the pointer of CALL
---     CALLT  MOV R6,R14
---            CLR R12
+-- >26C6: CALLT, the pointer of CALL
+--     CALLT  CLR R12
 --            MOVB @RSTACK,R12
 --            AI R12,>0200
 --            MOV R12,R7
@@ -108,34 +106,34 @@ call =
 --            BL @WHERE
 abbrev pub call_target : List ℕ
 call_target =
-    0xC386 ∷ 0x04CC ∷ 0xD320 ∷ 0x8373 ∷ 0x022C ∷ 0x0200 ∷ 0xC1CC ∷ 0x0987 ∷
-    0x0287 ∷ 0x00C0 ∷ 0x1BEE ∷ 0x06A0 ∷ 0x22BC ∷ []
+    0x04CC ∷ 0xD320 ∷ 0x8373 ∷ 0x022C ∷ 0x0200 ∷ 0xC1CC ∷ 0x0987 ∷ 0x0287 ∷
+    0x00C0 ∷ 0x1BEC ∷ 0x06A0 ∷ 0x22D0 ∷ []
 
--- >26C8: CALLN, the address that CALL stacks
+-- >26DE: CALLN, the address that CALL stacks
 --     CALLN  MOV R6,R9
 --            BL @SEEK
 abbrev pub call_next : List ℕ
 call_next =
-    0xC246 ∷ 0x06A0 ∷ 0x22D8 ∷ []
+    0xC246 ∷ 0x06A0 ∷ 0x22E8 ∷ []
 
--- >26CE: CALLS, the stores of CALL
+-- >26E4: CALLS, the stores of CALL
 --     CALLS  MOVB R12,@RSTACK
 --            CLR R8
 --            LI R11,RESUME
 --            B @STORE
 abbrev pub call_store : List ℕ
 call_store =
-    0xD80C ∷ 0x8373 ∷ 0x04C8 ∷ 0x020B ∷ 0x26DC ∷ 0x0460 ∷ 0x23C2 ∷ []
+    0xD80C ∷ 0x8373 ∷ 0x04C8 ∷ 0x020B ∷ 0x26F2 ∷ 0x0460 ∷ 0x23CE ∷ []
 
--- >26DC: RESUME, the end of CALL and FETCH
---     RESUME MOV R14,R6
---            LI R11,SHOW
---            B @SEEK
+-- >26F2: RESUME, the end of CALL and FETCH
+--     RESUME MOVB R14,@GRMWA
+--            MOVB @R14LB,@GRMWA
+--            B @SHOW
 abbrev pub resume : List ℕ
 resume =
-    0xC18E ∷ 0x020B ∷ 0x247A ∷ 0x0460 ∷ 0x22D8 ∷ []
+    0xD80E ∷ 0x9C02 ∷ 0xD820 ∷ 0x83FD ∷ 0x9C02 ∷ 0x0460 ∷ 0x2486 ∷ []
 
--- >26E6: GORTN, RTN and RTNC
+-- >2700: GORTN, RTN and RTNC
 --     GORTN  CLR R12
 --            MOVB @RSTACK,R12
 --            MOV R12,R2
@@ -147,10 +145,10 @@ resume =
 --            BL @LOAD
 abbrev pub rtn : List ℕ
 rtn =
-    0x04CC ∷ 0xD320 ∷ 0x8373 ∷ 0xC08C ∷ 0x0982 ∷ 0x0282 ∷ 0x00C0 ∷ 0x1BD5 ∷
-    0x0203 ∷ 0x0002 ∷ 0x04C5 ∷ 0x06A0 ∷ 0x2368 ∷ []
+    0x04CC ∷ 0xD320 ∷ 0x8373 ∷ 0xC08C ∷ 0x0982 ∷ 0x0282 ∷ 0x00C0 ∷ 0x1BD1 ∷
+    0x0203 ∷ 0x0002 ∷ 0x04C5 ∷ 0x06A0 ∷ 0x2378 ∷ []
 
--- >2700: RTNP, the pointer of RTN and RTNC
+-- >271A: RTNP, the pointer of RTN and RTNC
 --     RTNP   AI R12,>FE00
 --            MOVB R12,@RSTACK
 --            MOV R0,R0
@@ -158,9 +156,9 @@ rtn =
 --            B @GOTO
 abbrev pub rtn_pointer : List ℕ
 rtn_pointer =
-    0x022C ∷ 0xFE00 ∷ 0xD80C ∷ 0x8373 ∷ 0xC000 ∷ 0x13A9 ∷ 0x0460 ∷ 0x24B8 ∷ []
+    0x022C ∷ 0xFE00 ∷ 0xD80C ∷ 0x8373 ∷ 0xC000 ∷ 0x13A5 ∷ 0x0460 ∷ 0x24C6 ∷ []
 
--- >2710: FETCHV
+-- >272A: FETCHV
 --     FETCHV MOVB @RSTACK,R2
 --            SRL R2,8
 --            CI R2,>C0
@@ -170,59 +168,59 @@ rtn_pointer =
 --            BL @WHERE
 abbrev pub fetch_row : List ℕ
 fetch_row =
-    0xD0A0 ∷ 0x8373 ∷ 0x0982 ∷ 0x0282 ∷ 0x00C0 ∷ 0x1BC2 ∷ 0xC287 ∷ 0xC3C8 ∷
-    0x06A0 ∷ 0x22BC ∷ []
+    0xD0A0 ∷ 0x8373 ∷ 0x0982 ∷ 0x0282 ∷ 0x00C0 ∷ 0x1BBE ∷ 0xC287 ∷ 0xC3C8 ∷
+    0x06A0 ∷ 0x22D0 ∷ []
 
--- >2724: FETCHN, the address where FETCH goes on
+-- >273E: FETCHN, the address where FETCH goes on
 --     FETCHN MOV R6,R14
 --            BL @SEEK
 abbrev pub fetch_next : List ℕ
 fetch_next =
-    0xC386 ∷ 0x06A0 ∷ 0x22D8 ∷ []
+    0xC386 ∷ 0x06A0 ∷ 0x22E8 ∷ []
 
--- >272A: FETCHP, the stacked address of FETCH
+-- >2744: FETCHP, the stacked address of FETCH
 --     FETCHP MOV R2,R7
 --            LI R3,2
 --            CLR R5
 --            BL @LOAD
 abbrev pub fetch_pointer : List ℕ
 fetch_pointer =
-    0xC1C2 ∷ 0x0203 ∷ 0x0002 ∷ 0x04C5 ∷ 0x06A0 ∷ 0x2368 ∷ []
+    0xC1C2 ∷ 0x0203 ∷ 0x0002 ∷ 0x04C5 ∷ 0x06A0 ∷ 0x2378 ∷ []
 
--- >2736: FETCHA, GROM at that address
+-- >2750: FETCHA, GROM at that address
 --     FETCHA BL @SEEK
 abbrev pub fetch_address : List ℕ
 fetch_address =
-    0x06A0 ∷ 0x22D8 ∷ []
+    0x06A0 ∷ 0x22E8 ∷ []
 
--- >273A: FETCHR, the byte there
+-- >2754: FETCHR, the byte there
 --     FETCHR BL @FETCH
 abbrev pub fetch_read : List ℕ
 fetch_read =
-    0x06A0 ∷ 0x22E4 ∷ []
+    0x06A0 ∷ 0x22F4 ∷ []
 
--- >273E: FETCHK, the byte is kept
+-- >2758: FETCHK, the byte is kept
 --     FETCHK MOV R6,R12
 --            BL @WHERE
 abbrev pub fetch_keep : List ℕ
 fetch_keep =
-    0xC306 ∷ 0x06A0 ∷ 0x22BC ∷ []
+    0xC306 ∷ 0x06A0 ∷ 0x22D0 ∷ []
 
--- >2744: FETCHB, the address behind the byte
+-- >275E: FETCHB, the address behind the byte
 --     FETCHB MOV R6,R9
 --            BL @SEEK
 abbrev pub fetch_behind : List ℕ
 fetch_behind =
-    0xC246 ∷ 0x06A0 ∷ 0x22D8 ∷ []
+    0xC246 ∷ 0x06A0 ∷ 0x22E8 ∷ []
 
--- >274A: FETCHS, that address is stacked
+-- >2764: FETCHS, that address is stacked
 --     FETCHS CLR R8
 --            BL @STORE
 abbrev pub fetch_stack : List ℕ
 fetch_stack =
-    0x04C8 ∷ 0x06A0 ∷ 0x23C2 ∷ []
+    0x04C8 ∷ 0x06A0 ∷ 0x23CE ∷ []
 
--- >2750: FETCHD, the byte is stored
+-- >276A: FETCHD, the byte is stored
 --     FETCHD MOV R10,R7
 --            MOV R15,R8
 --            MOV R12,R9
@@ -231,10 +229,10 @@ fetch_stack =
 --            B @STORE
 abbrev pub fetch_store : List ℕ
 fetch_store =
-    0xC1CA ∷ 0xC20F ∷ 0xC24C ∷ 0x0203 ∷ 0x0001 ∷ 0x020B ∷ 0x26DC ∷ 0x0460 ∷
-    0x23C2 ∷ []
+    0xC1CA ∷ 0xC20F ∷ 0xC24C ∷ 0x0203 ∷ 0x0001 ∷ 0x020B ∷ 0x26F2 ∷ 0x0460 ∷
+    0x23CE ∷ []
 
--- >2762: GORAND
+-- >277C: GORAND
 --     GORAND MOVB @PAD+>C1,R6
 --            SWPB R6
 --            MOVB @PAD+>C0,R6
@@ -249,7 +247,7 @@ rand =
     0xD1A0 ∷ 0x83C1 ∷ 0x06C6 ∷ 0xD1A0 ∷ 0x83C0 ∷ 0x0209 ∷ 0x6FE5 ∷ 0x3A46 ∷
     0x022A ∷ 0x7AB9 ∷ 0xD80A ∷ 0x83C0 ∷ 0x06CA ∷ 0xD80A ∷ 0x83C1 ∷ []
 
--- >2780: RANDL, the limit of RAND
+-- >279A: RANDL, the limit of RAND
 --     RANDL  MOVB @GRMRD,R6
 --            SRL R6,8
 --            INC R6

@@ -13,84 +13,85 @@ use Rattle.std.specs.Prelude.{ℕ, List, [], ◌∷◌}
 abbrev pub boot : List ℕ
 boot =
     0x0204 ∷ 0x9F7E ∷ 0xD804 ∷ 0x8372 ∷ 0x06C4 ∷ 0xD804 ∷ 0x8373 ∷ 0xC180 ∷
-    0x020B ∷ 0x228C ∷ 0x0460 ∷ 0x22D8 ∷ []
+    0x020B ∷ 0x228C ∷ 0x0460 ∷ 0x22E8 ∷ []
 
 -- >228C: GSTEP
---     GSTEP  BL @WHERE
---     GKEEP  MOV R6,R1
---            BL @SEEK
---     GBYTE  BL @FETCH
---     GCODE  MOV R6,R0
+--     GSTEP  MOVB @GRMRA,R1
+--            MOVB @GRMRA,@R1LB
+--            MOV R1,R4
+--            SLA R4,3
+--            JNE GBACK
+--            AI R1,>2000
+--     GBACK  DEC R1
+--            MOVB R1,@GRMWA
+--            MOVB @R1LB,@GRMWA
+--            MOVB @GRMRD,R0
 --            SRL R0,8
---            MOV R0,R4
+--     GCODE  MOV R0,R4
 --            A R4,R4
 --            MOV @TABLE(R4),R4
 --            B *R4
 abbrev pub step : List ℕ
 step =
-    0x06A0 ∷ 0x22BC ∷ 0xC046 ∷ 0x06A0 ∷ 0x22D8 ∷ 0x06A0 ∷ 0x22E4 ∷ 0xC006 ∷
-    0x0980 ∷ 0xC100 ∷ 0xA104 ∷ 0xC124 ∷ 0x2008 ∷ 0x0454 ∷ []
+    0xD060 ∷ 0x9802 ∷ 0xD820 ∷ 0x9802 ∷ 0x83E3 ∷ 0xC101 ∷ 0x0A34 ∷ 0x1602 ∷
+    0x0221 ∷ 0x2000 ∷ 0x0601 ∷ 0xD801 ∷ 0x9C02 ∷ 0xD820 ∷ 0x83E3 ∷ 0x9C02 ∷
+    0xD020 ∷ 0x9800 ∷ 0x0980 ∷ 0xC100 ∷ 0xA104 ∷ 0xC124 ∷ 0x2008 ∷ 0x0454 ∷ []
 
--- >22A8: STK
+-- >22BC: STK
 --     STK    LI R0,3
 --            JMP GSTOP
 abbrev pub stack_stop : List ℕ
 stack_stop =
     0x0200 ∷ 0x0003 ∷ 0x1005 ∷ []
 
--- >22AE: UNKN
+-- >22C2: UNKN
 --     UNKN   LI R0,1
 --            JMP GSTOP
 abbrev pub code_stop : List ℕ
 code_stop =
     0x0200 ∷ 0x0001 ∷ 0x1002 ∷ []
 
--- >22B4: BAD
+-- >22C8: BAD
 --     BAD    LI R0,2
 abbrev pub cell_stop : List ℕ
 cell_stop =
     0x0200 ∷ 0x0002 ∷ []
 
--- >22B8: GSTOP
+-- >22CC: GSTOP
 --     GSTOP  JMP GSTOP
 abbrev pub stop : List ℕ
 stop =
     0x10FF ∷ []
 
--- >22BA: GEXIT
+-- >22CE: GEXIT
 --     GEXIT  JMP GEXIT
 abbrev pub leave : List ℕ
 leave =
     0x10FF ∷ []
 
--- >22BC: WHERE
+-- >22D0: WHERE
 --     WHERE  MOVB @GRMRA,R6
---            SRL R6,8
---            MOVB @GRMRA,R6
---            SWPB R6
+--            MOVB @GRMRA,@R6LB
 --            MOV R6,R4
---            DEC R4
 --            SLA R4,3
---            SRL R4,3
---            SRL R6,13
---            SLA R6,13
---            A R4,R6
+--            JNE WBACK
+--            AI R6,>2000
+--     WBACK  DEC R6
 --            B *R11
 abbrev pub where_next : List ℕ
 where_next =
-    0xD1A0 ∷ 0x9802 ∷ 0x0986 ∷ 0xD1A0 ∷ 0x9802 ∷ 0x06C6 ∷ 0xC106 ∷ 0x0604 ∷
-    0x0A34 ∷ 0x0934 ∷ 0x09D6 ∷ 0x0AD6 ∷ 0xA184 ∷ 0x045B ∷ []
+    0xD1A0 ∷ 0x9802 ∷ 0xD820 ∷ 0x9802 ∷ 0x83ED ∷ 0xC106 ∷ 0x0A34 ∷ 0x1602 ∷
+    0x0226 ∷ 0x2000 ∷ 0x0606 ∷ 0x045B ∷ []
 
--- >22D8: SEEK
+-- >22E8: SEEK
 --     SEEK   MOVB R6,@GRMWA
---            SWPB R6
---            MOVB R6,@GRMWA
+--            MOVB @R6LB,@GRMWA
 --            B *R11
 abbrev pub seek : List ℕ
 seek =
-    0xD806 ∷ 0x9C02 ∷ 0x06C6 ∷ 0xD806 ∷ 0x9C02 ∷ 0x045B ∷ []
+    0xD806 ∷ 0x9C02 ∷ 0xD820 ∷ 0x83ED ∷ 0x9C02 ∷ 0x045B ∷ []
 
--- >22E4: FETCH
+-- >22F4: FETCH
 --     FETCH  CLR R6
 --            MOVB @GRMRD,R6
 --            B *R11
@@ -98,46 +99,44 @@ abbrev pub fetch : List ℕ
 fetch =
     0x04C6 ∷ 0xD1A0 ∷ 0x9800 ∷ 0x045B ∷ []
 
--- >22EC: ADDR
---     ADDR   CLR R5
---            MOVB @GRMRD,R5
---            MOV R5,R2
---            SLA R2,1
---            JOC ALONG
---            SRL R2,9
+-- >22FC: ADDR
+--     ADDR   MOVB @GRMRD,R2
+--            JLT ALONG
+--            SRL R2,8
 --            CLR R5
---            JMP APTR
---     ALONG  SLA R2,3
+--     ASHORT CI R3,4
+--            JH ACELLS
+--            B *R11
+--     ALONG  SRL R2,8
+--            MOV R2,R5
+--            SLA R2,12
 --            SRL R2,4
 --            CI R2,>0F00
 --            JNE ALOW
 --     AHIGH  MOVB @GRMRD,R2
---     ALOW   MOVB @GRMRD,R4
---            SRL R4,8
---            A R4,R2
+--     ALOW   MOVB @GRMRD,@R2LB
 abbrev pub address : List ℕ
 address =
-    0x04C5 ∷ 0xD160 ∷ 0x9800 ∷ 0xC085 ∷ 0x0A12 ∷ 0x1803 ∷ 0x0992 ∷ 0x04C5 ∷
-    0x100B ∷ 0x0A32 ∷ 0x0942 ∷ 0x0282 ∷ 0x0F00 ∷ 0x1602 ∷ 0xD0A0 ∷ 0x9800 ∷
-    0xD120 ∷ 0x9800 ∷ 0x0984 ∷ 0xA084 ∷ []
+    0xD0A0 ∷ 0x9800 ∷ 0x1106 ∷ 0x0982 ∷ 0x04C5 ∷ 0x0283 ∷ 0x0004 ∷ 0x1B2D ∷
+    0x045B ∷ 0x0982 ∷ 0xC142 ∷ 0x0AC2 ∷ 0x0942 ∷ 0x0282 ∷ 0x0F00 ∷ 0x1602 ∷
+    0xD0A0 ∷ 0x9800 ∷ 0xD820 ∷ 0x9800 ∷ 0x83E5 ∷ []
 
--- >2314: APTR, the pointer of an operand
---     APTR   SRL R5,13
+-- >2326: APTR, the pointer of an operand
+--     APTR   SRL R5,5
 --            JNC INDEX
 --            CI R2,>C0
 --            JH BAD
 --            CI R2,>7C
 --            JEQ BAD
 --            MOVB @PAD(R2),R4
---            MOVB @PAD+1(R2),R2
---            SRL R2,8
---            MOVB R4,R2
+--            MOVB @PAD+1(R2),@R4LB
+--            MOV R4,R2
 abbrev pub pointer : List ℕ
 pointer =
-    0x09D5 ∷ 0x170C ∷ 0x0282 ∷ 0x00C0 ∷ 0x1BCB ∷ 0x0282 ∷ 0x007C ∷ 0x13C8 ∷
-    0xD122 ∷ 0x8300 ∷ 0xD0A2 ∷ 0x8301 ∷ 0x0982 ∷ 0xD084 ∷ []
+    0x0955 ∷ 0x170C ∷ 0x0282 ∷ 0x00C0 ∷ 0x1BCC ∷ 0x0282 ∷ 0x007C ∷ 0x13C9 ∷
+    0xD122 ∷ 0x8300 ∷ 0xD822 ∷ 0x8301 ∷ 0x83E9 ∷ 0xC084 ∷ []
 
--- >2330: INDEX, the index of an operand
+-- >2342: INDEX, the index of an operand
 --     INDEX  MOV R5,R4
 --            SRL R4,2
 --            JNC ASPACE
@@ -146,20 +145,18 @@ pointer =
 --            CI R4,>C0
 --            JH BAD
 --     INDEXW MOVB @PAD(R4),R6
---            MOVB @PAD+1(R4),R4
---            SRL R4,8
---            MOVB R6,R4
---            A R4,R2
+--            MOVB @PAD+1(R4),@R6LB
+--            A R6,R2
 abbrev pub index : List ℕ
 index =
-    0xC105 ∷ 0x0924 ∷ 0x170D ∷ 0xD120 ∷ 0x9800 ∷ 0x0984 ∷ 0x0284 ∷ 0x00C0 ∷
-    0x1BB9 ∷ 0xD1A4 ∷ 0x8300 ∷ 0xD124 ∷ 0x8301 ∷ 0x0984 ∷ 0xD106 ∷ 0xA084 ∷ []
+    0xC105 ∷ 0x0924 ∷ 0x170C ∷ 0xD120 ∷ 0x9800 ∷ 0x0984 ∷ 0x0284 ∷ 0x00C0 ∷
+    0x1BBA ∷ 0xD1A4 ∷ 0x8300 ∷ 0xD824 ∷ 0x8301 ∷ 0x83ED ∷ 0xA086 ∷ []
 
--- >2350: ASPACE, the space and the range of an operand
+-- >2360: ASPACE, the space and the range of an operand
 --     ASPACE SLA R5,15
 --            SRL R5,15
 --            JNE ADONE
---            CI R2,>C2
+--     ACELLS CI R2,>C2
 --            JH BAD
 --            MOV R3,R4
 --            A R2,R4
@@ -168,117 +165,107 @@ index =
 --     ADONE  B *R11
 abbrev pub range : List ℕ
 range =
-    0x0AF5 ∷ 0x09F5 ∷ 0x1608 ∷ 0x0282 ∷ 0x00C2 ∷ 0x1BAC ∷ 0xC103 ∷ 0xA102 ∷
-    0x0284 ∷ 0x00C2 ∷ 0x1BA7 ∷ 0x045B ∷ []
+    0x0AF5 ∷ 0x09F5 ∷ 0x1608 ∷ 0x0282 ∷ 0x00C2 ∷ 0x1BAE ∷ 0xC103 ∷ 0xA102 ∷
+    0x0284 ∷ 0x00C2 ∷ 0x1BA9 ∷ 0x045B ∷ []
 
--- >2368: LOAD
---     LOAD   CI R5,1
---            JEQ LVIDEO
---            JH STREAM
---            CLR R6
+-- >2378: LOAD
+--     LOAD   MOV R5,R5
+--            JNE LOTHER
+--     LCELL  CLR R6
+--            MOVB @PAD(R2),R6
 --            CI R3,1
---            JEQ LCELL
---            MOVB @PAD+1(R2),R6
---            SWPB R6
---     LCELL  MOVB @PAD(R2),R6
+--            JEQ LDONE
+--            MOVB @PAD+1(R2),@R6LB
 --            B *R11
---     LVIDEO MOV R2,R4
+--     LOTHER CI R5,1
+--            JH STREAM
+--            MOV R2,R4
 --            SLA R4,2
 --            SRL R4,2
---     LVSET  SWPB R4
---            MOVB R4,@VDPWA
---            SWPB R4
+--     LVSET  MOVB @R4LB,@VDPWA
 --            MOVB R4,@VDPWA
 abbrev pub load : List ℕ
 load =
-    0x0285 ∷ 0x0001 ∷ 0x130B ∷ 0x1B1E ∷ 0x04C6 ∷ 0x0283 ∷ 0x0001 ∷ 0x1303 ∷
-    0xD1A2 ∷ 0x8301 ∷ 0x06C6 ∷ 0xD1A2 ∷ 0x8300 ∷ 0x045B ∷ 0xC102 ∷ 0x0A24 ∷
-    0x0924 ∷ 0x06C4 ∷ 0xD804 ∷ 0x8C02 ∷ 0x06C4 ∷ 0xD804 ∷ 0x8C02 ∷ []
+    0xC145 ∷ 0x160A ∷ 0x04C6 ∷ 0xD1A2 ∷ 0x8300 ∷ 0x0283 ∷ 0x0001 ∷ 0x1318 ∷
+    0xD822 ∷ 0x8301 ∷ 0x83ED ∷ 0x045B ∷ 0x0285 ∷ 0x0001 ∷ 0x1B12 ∷ 0xC102 ∷
+    0x0A24 ∷ 0x0924 ∷ 0xD820 ∷ 0x83E9 ∷ 0x8C02 ∷ 0xD804 ∷ 0x8C02 ∷ []
 
--- >2396: LDATA, the bytes of video memory
+-- >23A6: LDATA, the bytes of video memory
 --     LDATA  CLR R6
 --            MOVB @VDPRD,R6
 --            CI R3,1
 --            JEQ LDONE
---            SWPB R6
---            MOVB @VDPRD,R6
---            SWPB R6
+--            MOVB @VDPRD,@R6LB
 --     LDONE  B *R11
 abbrev pub load_video : List ℕ
 load_video =
-    0x04C6 ∷ 0xD1A0 ∷ 0x8800 ∷ 0x0283 ∷ 0x0001 ∷ 0x1304 ∷ 0x06C6 ∷ 0xD1A0 ∷
-    0x8800 ∷ 0x06C6 ∷ 0x045B ∷ []
+    0x04C6 ∷ 0xD1A0 ∷ 0x8800 ∷ 0x0283 ∷ 0x0001 ∷ 0x1303 ∷ 0xD820 ∷ 0x8800 ∷
+    0x83ED ∷ 0x045B ∷ []
 
--- >23AC: STREAM
+-- >23BA: STREAM
 --     STREAM CLR R6
 --            MOVB @GRMRD,R6
 --            CI R3,1
 --            JEQ TDONE
---            SWPB R6
---            MOVB @GRMRD,R6
---            SWPB R6
+--            MOVB @GRMRD,@R6LB
 --     TDONE  B *R11
 abbrev pub stream : List ℕ
 stream =
-    0x04C6 ∷ 0xD1A0 ∷ 0x9800 ∷ 0x0283 ∷ 0x0001 ∷ 0x1304 ∷ 0x06C6 ∷ 0xD1A0 ∷
-    0x9800 ∷ 0x06C6 ∷ 0x045B ∷ []
+    0x04C6 ∷ 0xD1A0 ∷ 0x9800 ∷ 0x0283 ∷ 0x0001 ∷ 0x1303 ∷ 0xD820 ∷ 0x9800 ∷
+    0x83ED ∷ 0x045B ∷ []
 
--- >23C2: STORE
---     STORE  CI R8,1
---            JEQ SVIDEO
---            JH SREG
+-- >23CE: STORE
+--     STORE  MOV R8,R8
+--            JNE SOTHER
 --            MOVB R9,@PAD(R7)
 --            CI R7,>7D
 --            JNE SCELL
 --            SETO R13
 --     SCELL  CI R3,1
 --            JEQ SDONE
---            SWPB R9
---            MOVB R9,@PAD+1(R7)
+--            MOVB @R9LB,@PAD+1(R7)
 --            CI R7,>7C
 --            JNE SDONE
 --            SETO R13
 --     SDONE  B *R11
---     SVIDEO MOV R7,R4
+--     SOTHER CI R8,1
+--            JH SREG
+--            MOV R7,R4
 --            SLA R4,2
 --            SRL R4,2
 --            AI R4,>4000
---     SVSET  SWPB R4
---            MOVB R4,@VDPWA
---            SWPB R4
+--     SVSET  MOVB @R4LB,@VDPWA
 --            MOVB R4,@VDPWA
 abbrev pub store : List ℕ
 store =
-    0x0288 ∷ 0x0001 ∷ 0x1312 ∷ 0x1B25 ∷ 0xD9C9 ∷ 0x8300 ∷ 0x0287 ∷ 0x007D ∷
-    0x1601 ∷ 0x070D ∷ 0x0283 ∷ 0x0001 ∷ 0x1307 ∷ 0x06C9 ∷ 0xD9C9 ∷ 0x8301 ∷
-    0x0287 ∷ 0x007C ∷ 0x1601 ∷ 0x070D ∷ 0x045B ∷ 0xC107 ∷ 0x0A24 ∷ 0x0924 ∷
-    0x0224 ∷ 0x4000 ∷ 0x06C4 ∷ 0xD804 ∷ 0x8C02 ∷ 0x06C4 ∷ 0xD804 ∷ 0x8C02 ∷ []
+    0xC208 ∷ 0x1611 ∷ 0xD9C9 ∷ 0x8300 ∷ 0x0287 ∷ 0x007D ∷ 0x1601 ∷ 0x070D ∷
+    0x0283 ∷ 0x0001 ∷ 0x1307 ∷ 0xD9E0 ∷ 0x83F3 ∷ 0x8301 ∷ 0x0287 ∷ 0x007C ∷
+    0x1601 ∷ 0x070D ∷ 0x045B ∷ 0x0288 ∷ 0x0001 ∷ 0x1B13 ∷ 0xC107 ∷ 0x0A24 ∷
+    0x0924 ∷ 0x0224 ∷ 0x4000 ∷ 0xD820 ∷ 0x83E9 ∷ 0x8C02 ∷ 0xD804 ∷ 0x8C02 ∷ []
 
--- >2402: SDATA, the bytes of video memory
+-- >240E: SDATA, the bytes of video memory
 --     SDATA  MOVB R9,@VDPWD
 --            CI R3,1
 --            JEQ SDONE
---            SWPB R9
---            MOVB R9,@VDPWD
+--            MOVB @R9LB,@VDPWD
 --            B *R11
 abbrev pub store_video : List ℕ
 store_video =
-    0xD809 ∷ 0x8C00 ∷ 0x0283 ∷ 0x0001 ∷ 0x13EF ∷ 0x06C9 ∷ 0xD809 ∷ 0x8C00 ∷
+    0xD809 ∷ 0x8C00 ∷ 0x0283 ∷ 0x0001 ∷ 0x13ED ∷ 0xD820 ∷ 0x83F3 ∷ 0x8C00 ∷
     0x045B ∷ []
 
--- >2414: SREG, a register of the video processor
+-- >2420: SREG, a register of the video processor
 --     SREG   MOVB R9,@VDPWA
 --            MOV R7,R4
---            SWPB R4
---            AI R4,>8000
---            MOVB R4,@VDPWA
+--            AI R4,>0080
+--            MOVB @R4LB,@VDPWA
 --            B *R11
 abbrev pub store_register : List ℕ
 store_register =
-    0xD809 ∷ 0x8C02 ∷ 0xC107 ∷ 0x06C4 ∷ 0x0224 ∷ 0x8000 ∷ 0xD804 ∷ 0x8C02 ∷
+    0xD809 ∷ 0x8C02 ∷ 0xC107 ∷ 0x0224 ∷ 0x0080 ∷ 0xD820 ∷ 0x83E9 ∷ 0x8C02 ∷
     0x045B ∷ []
 
--- >2426: ROW
+-- >2432: ROW
 --     ROW    MOV R0,R3
 --            SLA R3,15
 --            SRL R3,15
@@ -287,7 +274,7 @@ abbrev pub row : List ℕ
 row =
     0xC0C0 ∷ 0x0AF3 ∷ 0x09F3 ∷ 0x0583 ∷ []
 
--- >242E: OPS, the operands of a row
+-- >243A: OPS, the operands of a row
 --     OPS    CLR R13
 --            BL @ADDR
 --     OPSDST MOV R2,R7
@@ -308,18 +295,18 @@ row =
 --     OPSRC  BL @ADDR
 abbrev pub operands : List ℕ
 operands =
-    0x04CD ∷ 0x06A0 ∷ 0x22EC ∷ 0xC1C2 ∷ 0xC205 ∷ 0x06A0 ∷ 0x2368 ∷ 0xC246 ∷
+    0x04CD ∷ 0x06A0 ∷ 0x22FC ∷ 0xC1C2 ∷ 0xC205 ∷ 0x06A0 ∷ 0x2378 ∷ 0xC246 ∷
     0xC0C0 ∷ 0x0AF3 ∷ 0x09F3 ∷ 0x0583 ∷ 0x0280 ∷ 0x00A0 ∷ 0x1A0C ∷ 0xC100 ∷
-    0x0924 ∷ 0x1703 ∷ 0x0205 ∷ 0x0002 ∷ 0x1002 ∷ 0x06A0 ∷ 0x22EC ∷ []
+    0x0924 ∷ 0x1703 ∷ 0x0205 ∷ 0x0002 ∷ 0x1002 ∷ 0x06A0 ∷ 0x22FC ∷ []
 
--- >245C: OPVAL, the value of the source
+-- >2468: OPVAL, the value of the source
 --     OPVAL  LI R11,GO
 --            B @LOAD
 abbrev pub source_value : List ℕ
 source_value =
-    0x020B ∷ 0x2472 ∷ 0x0460 ∷ 0x2368 ∷ []
+    0x020B ∷ 0x247E ∷ 0x0460 ∷ 0x2378 ∷ []
 
--- >2464: UNIT, where a row has one operand
+-- >2470: UNIT, where a row has one operand
 --     UNIT   LI R6,>0100
 --            CI R3,1
 --            JEQ GO
@@ -328,7 +315,7 @@ abbrev pub one_operand : List ℕ
 one_operand =
     0x0206 ∷ 0x0100 ∷ 0x0283 ∷ 0x0001 ∷ 0x1302 ∷ 0x0206 ∷ 0x0001 ∷ []
 
--- >2472: GO
+-- >247E: GO
 --     GO     MOV R0,R4
 --            MOV @OPTAB->80(R4),R4
 --            B *R4
@@ -336,7 +323,7 @@ abbrev pub go_row : List ℕ
 go_row =
     0xC100 ∷ 0xC124 ∷ 0x2188 ∷ 0x0454 ∷ []
 
--- >247A: SHOW
+-- >2486: SHOW
 --     SHOW   MOV R13,R13
 --            JNE SHOWN
 --            B @GSTEP
@@ -344,7 +331,7 @@ abbrev pub show : List ℕ
 show =
     0xC34D ∷ 0x1602 ∷ 0x0460 ∷ 0x228C ∷ []
 
--- >2482: SHOWN, the character on the screen
+-- >248E: SHOWN, the character on the screen
 --     SHOWN  MOVB @PAD+>7E,R7
 --            SRL R7,8
 --            SLA R7,5
@@ -360,37 +347,38 @@ abbrev pub show_character : List ℕ
 show_character =
     0xD1E0 ∷ 0x837E ∷ 0x0987 ∷ 0x0A57 ∷ 0xD120 ∷ 0x837F ∷ 0x0984 ∷ 0xA1C4 ∷
     0xD260 ∷ 0x837D ∷ 0x0208 ∷ 0x0001 ∷ 0x0203 ∷ 0x0001 ∷ 0x020B ∷ 0x228C ∷
-    0x0460 ∷ 0x23C2 ∷ []
+    0x0460 ∷ 0x23CE ∷ []
 
--- >24A6: STV
+-- >24B2: STV
 --     STV    MOV R6,R9
 abbrev pub st : List ℕ
 st =
     0xC246 ∷ []
 
--- >24A8: STO
+-- >24B4: STO
 --     STO    LI R11,SHOW
 --            B @STORE
 abbrev pub store_result : List ℕ
 store_result =
-    0x020B ∷ 0x247A ∷ 0x0460 ∷ 0x23C2 ∷ []
+    0x020B ∷ 0x2486 ∷ 0x0460 ∷ 0x23CE ∷ []
 
--- >24B0: GOB
---     GOB    LI R3,2
---            BL @STREAM
+-- >24BC: GOB
+--     GOB    MOVB @GRMRD,R6
+--            MOVB @GRMRD,@R6LB
 abbrev pub branch : List ℕ
 branch =
-    0x0203 ∷ 0x0002 ∷ 0x06A0 ∷ 0x23AC ∷ []
+    0xD1A0 ∷ 0x9800 ∷ 0xD820 ∷ 0x9800 ∷ 0x83ED ∷ []
 
--- >24B8: GOTO
---     GOTO   LI R11,GSTEP
---            B @SEEK
+-- >24C6: GOTO
+--     GOTO   MOVB R6,@GRMWA
+--            MOVB @R6LB,@GRMWA
+--            B @GSTEP
 abbrev pub go_to : List ℕ
 go_to =
-    0x020B ∷ 0x228C ∷ 0x0460 ∷ 0x22D8 ∷ []
+    0xD806 ∷ 0x9C02 ∷ 0xD820 ∷ 0x83ED ∷ 0x9C02 ∷ 0x0460 ∷ 0x228C ∷ []
 
--- >24C0: GOEXIT
+-- >24D4: GOEXIT
 --     GOEXIT B @GEXIT
 abbrev pub exit : List ℕ
 exit =
-    0x0460 ∷ 0x22BA ∷ []
+    0x0460 ∷ 0x22CE ∷ []

@@ -2,13 +2,13 @@
 //! Addresses in the interpreter. Profile: where the interpreter and its workspace stand.
 
 /// How many words the interpreter has.
-pub const WORD_COUNT: usize = 1087;
+pub const WORD_COUNT: usize = 1131;
 
 /// The interpreter's workspace: the address of its register 0.
 pub const WORKSPACE: u16 = 0x83E0;
 
 /// The address behind the interpreter's last word.
-pub const BEHIND: u16 = 0x287E;
+pub const BEHIND: u16 = 0x28D6;
 
 /// Where the words of the interpreter begin.
 pub const ORIGIN: u16 = 0x2000;
@@ -25,416 +25,437 @@ pub const GBOOT: u16 = 0x2274;
 /// Each step of GPL begins here.
 pub const GSTEP: u16 = 0x228C;
 
-/// The part of `GSTEP` behind the address of the code byte.
-pub const GKEEP: u16 = 0x2290;
-
-/// The part of `GSTEP` that reads the code byte again.
-pub const GBYTE: u16 = 0x2296;
+/// The part of `GSTEP` that goes back to the code byte and reads it again.
+pub const GBACK: u16 = 0x22A0;
 
 /// The part of `GSTEP` that goes where the code byte leads.
-pub const GCODE: u16 = 0x229A;
+pub const GCODE: u16 = 0x22B2;
 
 /// Stops by reason 3.
-pub const STK: u16 = 0x22A8;
+pub const STK: u16 = 0x22BC;
 
 /// Stops by reason 1.
-pub const UNKN: u16 = 0x22AE;
+pub const UNKN: u16 = 0x22C2;
 
 /// Stops by reason 2.
-pub const BAD: u16 = 0x22B4;
+pub const BAD: u16 = 0x22C8;
 
 /// A refused program stops here, with the reason in register 0 and the address of the code byte in register 1.
-pub const GSTOP: u16 = 0x22B8;
+pub const GSTOP: u16 = 0x22CC;
 
 /// A program that leaves by EXIT stops here, with the address of the code byte in register 1.
-pub const GEXIT: u16 = 0x22BA;
+pub const GEXIT: u16 = 0x22CE;
 
 /// Gives the address of the next GROM byte.
-pub const WHERE: u16 = 0x22BC;
+pub const WHERE: u16 = 0x22D0;
 
 /// Sets the GROM to an address.
-pub const SEEK: u16 = 0x22D8;
+pub const SEEK: u16 = 0x22E8;
 
 /// Reads the next GROM byte.
-pub const FETCH: u16 = 0x22E4;
+pub const FETCH: u16 = 0x22F4;
 
 /// Finds the place of an operand.
-pub const ADDR: u16 = 0x22EC;
+pub const ADDR: u16 = 0x22FC;
+
+/// The part of `ADDR` behind an address in one byte.
+pub const ASHORT: u16 = 0x2306;
 
 /// The part of `ADDR` for an address in more than one byte.
-pub const ALONG: u16 = 0x22FE;
+pub const ALONG: u16 = 0x230E;
 
 /// The part of `ADDR` for an address of 16 bits: its high byte.
-pub const AHIGH: u16 = 0x2308;
+pub const AHIGH: u16 = 0x231C;
 
 /// The part of `ADDR` for the low byte of an address.
-pub const ALOW: u16 = 0x230C;
+pub const ALOW: u16 = 0x2320;
 
 /// The part of `ADDR` behind the address: the pointer.
-pub const APTR: u16 = 0x2314;
+pub const APTR: u16 = 0x2326;
 
 /// The part of `ADDR` behind the pointer: the index.
-pub const INDEX: u16 = 0x2330;
+pub const INDEX: u16 = 0x2342;
 
 /// The part of `INDEX` that reads where the index is.
-pub const INDEXR: u16 = 0x2336;
+pub const INDEXR: u16 = 0x2348;
 
 /// The part of `INDEX` that adds the word there.
-pub const INDEXW: u16 = 0x2342;
+pub const INDEXW: u16 = 0x2354;
 
 /// The part of `ADDR` behind the index: the space and the range.
-pub const ASPACE: u16 = 0x2350;
+pub const ASPACE: u16 = 0x2360;
 
 /// Loads a value from a place.
-pub const LOAD: u16 = 0x2368;
+pub const LOAD: u16 = 0x2378;
+
+/// The part of `LOAD` for a place in the cells.
+pub const LCELL: u16 = 0x237C;
+
+/// The part of `LOAD` for a place that is not in the cells.
+pub const LOTHER: u16 = 0x2390;
 
 /// The part of `LOAD` that sets the video processor's address.
-pub const LVSET: u16 = 0x238A;
+pub const LVSET: u16 = 0x239C;
 
 /// The part of `LOAD` that reads video memory at the address that was set.
-pub const LDATA: u16 = 0x2396;
+pub const LDATA: u16 = 0x23A6;
 
 /// Loads a value from the bytes that follow in GROM.
-pub const STREAM: u16 = 0x23AC;
+pub const STREAM: u16 = 0x23BA;
 
 /// Stores a value at a place.
-pub const STORE: u16 = 0x23C2;
+pub const STORE: u16 = 0x23CE;
 
 /// The part of `STORE` behind the first byte of the cells.
-pub const SCELL: u16 = 0x23D6;
+pub const SCELL: u16 = 0x23DE;
+
+/// The part of `STORE` for a place that is not in the cells.
+pub const SOTHER: u16 = 0x23F4;
 
 /// The part of `STORE` that sets the video processor's address.
-pub const SVSET: u16 = 0x23F6;
+pub const SVSET: u16 = 0x2404;
 
 /// The part of `STORE` that writes video memory at the address that was set.
-pub const SDATA: u16 = 0x2402;
+pub const SDATA: u16 = 0x240E;
 
 /// The part of `STORE` that sets a register of the video processor.
-pub const SREG: u16 = 0x2414;
+pub const SREG: u16 = 0x2420;
 
 /// Loads the operands of a row and goes to it.
-pub const ROW: u16 = 0x2426;
+pub const ROW: u16 = 0x2432;
 
 /// `ROW` for the width in register 3.
-pub const OPS: u16 = 0x242E;
+pub const OPS: u16 = 0x243A;
 
 /// The part of `ROW` behind the destination's place.
-pub const OPSDST: u16 = 0x2434;
+pub const OPSDST: u16 = 0x2440;
 
 /// The part of `ROW` behind the destination's value.
-pub const OPSVAL: u16 = 0x243C;
+pub const OPSVAL: u16 = 0x2448;
 
 /// The part of `ROW` for a row of two operands.
-pub const OPSTWO: u16 = 0x244C;
+pub const OPSTWO: u16 = 0x2458;
 
 /// The part of `ROW` that loads the source.
-pub const OPVAL: u16 = 0x245C;
+pub const OPVAL: u16 = 0x2468;
 
 /// The part of `ROW` that gives 1 as the source of a row of one operand.
-pub const UNIT: u16 = 0x2464;
+pub const UNIT: u16 = 0x2470;
 
 /// The part of `ROW` that goes to the row.
-pub const GO: u16 = 0x2472;
+pub const GO: u16 = 0x247E;
 
 /// Ends a row that stored.
-pub const SHOW: u16 = 0x247A;
+pub const SHOW: u16 = 0x2486;
 
 /// The part of `SHOW` that puts the character on the screen.
-pub const SHOWN: u16 = 0x2482;
+pub const SHOWN: u16 = 0x248E;
 
 /// The row of ST.
-pub const STV: u16 = 0x24A6;
+pub const STV: u16 = 0x24B2;
 
 /// Stores the value of a row.
-pub const STO: u16 = 0x24A8;
+pub const STO: u16 = 0x24B4;
 
 /// The instruction B.
-pub const GOB: u16 = 0x24B0;
+pub const GOB: u16 = 0x24BC;
 
 /// Goes on at an address.
-pub const GOTO: u16 = 0x24B8;
+pub const GOTO: u16 = 0x24C6;
 
 /// The instruction EXIT.
-pub const GOEXIT: u16 = 0x24C0;
+pub const GOEXIT: u16 = 0x24D4;
 
 /// The row of INCT.
-pub const INCTV: u16 = 0x24C4;
+pub const INCTV: u16 = 0x24D8;
 
 /// The row of ADD and INC.
-pub const ADDV: u16 = 0x24C6;
+pub const ADDV: u16 = 0x24DA;
 
 /// The row of DECT.
-pub const DECTV: u16 = 0x24CA;
+pub const DECTV: u16 = 0x24DE;
 
 /// The row of SUB and DEC.
-pub const SUBV: u16 = 0x24CC;
+pub const SUBV: u16 = 0x24E0;
 
 /// The row of ABS.
-pub const ABSV: u16 = 0x24D0;
+pub const ABSV: u16 = 0x24E4;
 
 /// The row of NEG, and the tail of all that set the status.
-pub const NEGV: u16 = 0x24D4;
+pub const NEGV: u16 = 0x24E8;
 
 /// Sets the status, once the result is stored.
-pub const STATB: u16 = 0x24E0;
+pub const STATB: u16 = 0x24F4;
 
 /// The row of AND.
-pub const ANDV: u16 = 0x24E8;
+pub const ANDV: u16 = 0x24FC;
 
 /// The row of OR.
-pub const ORV: u16 = 0x24EE;
+pub const ORV: u16 = 0x2502;
 
 /// The row of XOR.
-pub const XORV: u16 = 0x24F2;
+pub const XORV: u16 = 0x2506;
 
 /// The row of INV.
-pub const INVV: u16 = 0x24F6;
+pub const INVV: u16 = 0x250A;
 
 /// The row of CLR.
-pub const CLRV: u16 = 0x24FA;
+pub const CLRV: u16 = 0x250E;
 
 /// The row of EX.
-pub const EXV: u16 = 0x24FE;
+pub const EXV: u16 = 0x2512;
 
 /// Stores the old destination of EX at the source, once the source is stored.
-pub const EXB: u16 = 0x2506;
+pub const EXB: u16 = 0x251A;
 
 /// Gives the count of a shift.
-pub const COUNT: u16 = 0x250E;
+pub const COUNT: u16 = 0x2522;
 
 /// The row of SRA.
-pub const SRAV: u16 = 0x2520;
+pub const SRAV: u16 = 0x2534;
 
 /// Shifts the value of SRA by its count.
-pub const SRAB: u16 = 0x2524;
+pub const SRAB: u16 = 0x2538;
 
 /// The row of SLL.
-pub const SLLV: u16 = 0x2528;
+pub const SLLV: u16 = 0x253C;
 
 /// Shifts the value of SLL by its count.
-pub const SLLB: u16 = 0x252C;
+pub const SLLB: u16 = 0x2540;
 
 /// The row of SRL.
-pub const SRLV: u16 = 0x2530;
+pub const SRLV: u16 = 0x2544;
 
 /// Shifts the value of SRL by its count.
-pub const SRLB: u16 = 0x2534;
+pub const SRLB: u16 = 0x2548;
 
 /// The row of SRC.
-pub const SRCV: u16 = 0x2538;
+pub const SRCV: u16 = 0x254C;
 
 /// Turns the value of SRC by its count.
-pub const SRCB: u16 = 0x253C;
+pub const SRCB: u16 = 0x2550;
 
 /// Loads the operands of MUL and DIV and goes to their row.
-pub const WIDE: u16 = 0x254C;
+pub const WIDE: u16 = 0x2560;
 
 /// The row of MUL.
-pub const MULV: u16 = 0x2558;
+pub const MULV: u16 = 0x256C;
 
 /// Stores the low word of a product, once the high word is stored.
-pub const MULB: u16 = 0x2570;
+pub const MULB: u16 = 0x2584;
 
 /// The row of DIV.
-pub const DIVV: u16 = 0x2576;
+pub const DIVV: u16 = 0x258A;
 
 /// The part of DIV for bytes.
-pub const DIVBY: u16 = 0x2580;
+pub const DIVBY: u16 = 0x2594;
 
 /// The part of DIV for words.
-pub const DIVW: u16 = 0x2592;
+pub const DIVW: u16 = 0x25A6;
 
 /// The part of DIV for words, once the second word of the destination is loaded.
-pub const DIVL: u16 = 0x259E;
+pub const DIVL: u16 = 0x25B2;
 
 /// Takes the remainder of a DIV of words, once the quotient is stored.
-pub const DIVQ: u16 = 0x25A6;
+pub const DIVQ: u16 = 0x25BA;
 
 /// Stores the last word of DIV.
-pub const DIVS: u16 = 0x25AA;
+pub const DIVS: u16 = 0x25BE;
 
 /// Ends DIV, once all is stored: the overflow is cleared.
-pub const DIVE: u16 = 0x25AE;
+pub const DIVE: u16 = 0x25C2;
 
 /// Ends a DIV whose quotient does not fit: the overflow is set.
-pub const OVER: u16 = 0x25BA;
+pub const OVER: u16 = 0x25CE;
 
 /// The row of CH.
-pub const CHV: u16 = 0x25C6;
+pub const CHV: u16 = 0x25DA;
 
 /// The row of CHE.
-pub const CHEV: u16 = 0x25CC;
+pub const CHEV: u16 = 0x25E0;
 
 /// The row of CGT.
-pub const CGTV: u16 = 0x25D2;
+pub const CGTV: u16 = 0x25E6;
 
 /// The row of CGE.
-pub const CGEV: u16 = 0x25D8;
+pub const CGEV: u16 = 0x25EC;
 
 /// The row of CEQ.
-pub const CEQV: u16 = 0x25DE;
+pub const CEQV: u16 = 0x25F2;
 
 /// The row of CLOG.
-pub const CLOGV: u16 = 0x25E4;
+pub const CLOGV: u16 = 0x25F8;
 
 /// The row of CZ.
-pub const CZV: u16 = 0x25EA;
+pub const CZV: u16 = 0x25FE;
 
 /// The instruction H.
-pub const GOH: u16 = 0x25F0;
+pub const GOH: u16 = 0x2604;
 
 /// The instruction GT.
-pub const GOGT: u16 = 0x25FA;
+pub const GOGT: u16 = 0x260E;
 
 /// The instruction CARRY.
-pub const GOCARY: u16 = 0x2604;
+pub const GOCARY: u16 = 0x2618;
 
 /// The instruction OVF.
-pub const GOOVF: u16 = 0x260E;
+pub const GOOVF: u16 = 0x2622;
 
 /// Sets the condition.
-pub const CTRUE: u16 = 0x2618;
+pub const CTRUE: u16 = 0x262C;
 
 /// Clears the condition.
-pub const CFALSE: u16 = 0x2624;
+pub const CFALSE: u16 = 0x2638;
 
 /// The instructions BR and BS.
-pub const BRANCH: u16 = 0x2630;
+pub const BRANCH: u16 = 0x2644;
 
 /// The part of BR and BS that tests the condition.
-pub const BTEST: u16 = 0x2646;
+pub const BTEST: u16 = 0x2658;
 
 /// Clears the condition and goes on at an address.
-pub const TAKE: u16 = 0x265E;
+pub const TAKE: u16 = 0x2670;
 
 /// The row of CASE.
-pub const CASEV: u16 = 0x266A;
+pub const CASEV: u16 = 0x267C;
 
 /// The part of CASE behind the next address.
-pub const CASEN: u16 = 0x2676;
+pub const CASEN: u16 = 0x2688;
 
 /// Goes on in the table of CASE.
-pub const CASET: u16 = 0x267E;
+pub const CASET: u16 = 0x2690;
 
 /// The row of PUSH.
-pub const PUSHV: u16 = 0x2682;
+pub const PUSHV: u16 = 0x2694;
 
 /// Goes to the stop by reason 3.
-pub const FULL: u16 = 0x26A0;
+pub const FULL: u16 = 0x26B2;
 
 /// The instruction CALL.
-pub const GOCALL: u16 = 0x26A4;
+pub const GOCALL: u16 = 0x26B6;
 
 /// The part of CALL behind its target: the pointer of the stack.
-pub const CALLT: u16 = 0x26AE;
+pub const CALLT: u16 = 0x26C6;
 
 /// The part of CALL behind the next address.
-pub const CALLN: u16 = 0x26C8;
+pub const CALLN: u16 = 0x26DE;
 
 /// Stores the pointer and the address of CALL.
-pub const CALLS: u16 = 0x26CE;
+pub const CALLS: u16 = 0x26E4;
 
 /// Ends CALL and FETCH: goes on at the address that was kept.
-pub const RESUME: u16 = 0x26DC;
+pub const RESUME: u16 = 0x26F2;
 
 /// The instructions RTN and RTNC.
-pub const GORTN: u16 = 0x26E6;
+pub const GORTN: u16 = 0x2700;
 
 /// The part of RTN and RTNC behind the stacked address.
-pub const RTNP: u16 = 0x2700;
+pub const RTNP: u16 = 0x271A;
 
 /// The row of FETCH.
-pub const FETCHV: u16 = 0x2710;
+pub const FETCHV: u16 = 0x272A;
 
 /// The part of FETCH behind the next address.
-pub const FETCHN: u16 = 0x2724;
+pub const FETCHN: u16 = 0x273E;
 
 /// Loads the stacked address of FETCH.
-pub const FETCHP: u16 = 0x272A;
+pub const FETCHP: u16 = 0x2744;
 
 /// Sets the GROM to the stacked address.
-pub const FETCHA: u16 = 0x2736;
+pub const FETCHA: u16 = 0x2750;
 
 /// Reads the byte of FETCH.
-pub const FETCHR: u16 = 0x273A;
+pub const FETCHR: u16 = 0x2754;
 
 /// Keeps the byte of FETCH.
-pub const FETCHK: u16 = 0x273E;
+pub const FETCHK: u16 = 0x2758;
 
 /// The part of FETCH behind the address that follows its byte.
-pub const FETCHB: u16 = 0x2744;
+pub const FETCHB: u16 = 0x275E;
 
 /// Stores the address that follows the byte of FETCH.
-pub const FETCHS: u16 = 0x274A;
+pub const FETCHS: u16 = 0x2764;
 
 /// Stores the byte of FETCH.
-pub const FETCHD: u16 = 0x2750;
+pub const FETCHD: u16 = 0x276A;
 
 /// The instruction RAND.
-pub const GORAND: u16 = 0x2762;
+pub const GORAND: u16 = 0x277C;
 
 /// The part of RAND that makes the next seed.
-pub const RANDM: u16 = 0x276C;
+pub const RANDM: u16 = 0x2786;
 
 /// The part of RAND behind the seed: the limit.
-pub const RANDL: u16 = 0x2780;
+pub const RANDL: u16 = 0x279A;
 
 /// The instruction MOVE.
-pub const GOMOVE: u16 = 0x2796;
+pub const GOMOVE: u16 = 0x27B0;
 
 /// Loads the length of MOVE.
-pub const MOVEN: u16 = 0x27AA;
+pub const MOVEN: u16 = 0x27C4;
 
 /// The part of MOVE behind its length: the target.
-pub const MOVEL: u16 = 0x27AE;
+pub const MOVEL: u16 = 0x27C8;
 
 /// The part of MOVE behind its target: the source.
-pub const MOVED: u16 = 0x27C2;
+pub const MOVED: u16 = 0x27DC;
 
 /// Begins the copy of MOVE.
-pub const MOVEB: u16 = 0x27D0;
+pub const MOVEB: u16 = 0x27EA;
+
+/// Copies a byte of MOVE from the cells to the cells.
+pub const COPYC: u16 = 0x27FE;
+
+/// The part of `COPYC` behind the byte.
+pub const COPYCN: u16 = 0x280C;
+
+/// Copies a byte of MOVE from GROM to the cells.
+pub const COPYG: u16 = 0x2816;
+
+/// The part of `COPYG` behind the byte.
+pub const COPYGN: u16 = 0x2824;
 
 /// Copies a byte of MOVE, or ends the copy.
-pub const COPY: u16 = 0x27D4;
+pub const COPY: u16 = 0x282C;
 
 /// Stores a byte of MOVE.
-pub const COPYS: u16 = 0x27DC;
+pub const COPYS: u16 = 0x2834;
 
 /// Goes on to the next byte of MOVE.
-pub const COPYN: u16 = 0x27E2;
+pub const COPYN: u16 = 0x283A;
 
 /// The part of MOVE whose target is the registers of the video chip.
-pub const MOVER: u16 = 0x27F8;
+pub const MOVER: u16 = 0x2850;
 
 /// The part of MOVE that tests whether all the registers are there.
-pub const MOVERC: u16 = 0x2800;
+pub const MOVERC: u16 = 0x2858;
 
 /// The part of MOVE whose source is in GROM.
-pub const MOVES: u16 = 0x280E;
+pub const MOVES: u16 = 0x2866;
 
 /// Adds the index to that source's address.
-pub const MOVEA: u16 = 0x2816;
+pub const MOVEA: u16 = 0x286E;
 
 /// Asks for the address behind MOVE.
-pub const MOVEX: u16 = 0x2826;
+pub const MOVEX: u16 = 0x287E;
 
 /// Keeps that address, and sets the GROM to the source.
-pub const MOVEW: u16 = 0x282A;
+pub const MOVEW: u16 = 0x2882;
 
 /// Turns to the bytes that follow there.
-pub const MOVEK: u16 = 0x2832;
+pub const MOVEK: u16 = 0x288A;
 
 /// Stops by reason 4.
-pub const LONG: u16 = 0x2838;
+pub const LONG: u16 = 0x2890;
 
 /// Stops by reason 5.
-pub const NOREG: u16 = 0x2840;
+pub const NOREG: u16 = 0x2898;
 
 /// The instruction ALL.
-pub const GOALL: u16 = 0x2848;
+pub const GOALL: u16 = 0x28A0;
 
 /// Stores a byte of ALL, or ends the step.
-pub const FILL: u16 = 0x285E;
+pub const FILL: u16 = 0x28B6;
 
 /// The instruction BACK.
-pub const GOBACK: u16 = 0x286A;
+pub const GOBACK: u16 = 0x28C2;

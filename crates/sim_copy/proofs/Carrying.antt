@@ -1,5 +1,5 @@
 -- A byte on its way from the source to the target.
-use Rattle.std.proofs.Common.{ℕ, ◌<◌, ◌==◌, ◌∙◌, ◌≡◌, ap, arith, Bool, false, if◌then◌else◌, List, nat_lt, not, refl, subst, sym}
+use Rattle.std.proofs.Common.{ℕ, ◌<◌, ◌==◌, ◌∙◌, ◌≡◌, ap, arith, Bool, false, if◌then◌else◌, inl, List, nat_lt, not, refl, subst, sym}
 use Rattle.std.proofs.lemmas.Bool.{ltb-false, ltb-true, ne_eqb}
 use Rattle.sim_rows.proofs.Common.{byte_from, Changes, Comes, comes, comes_as, comes_on, comes_then, COPY, COPYN, COPYS, Cpu, Exit, exit, Exits}
 use Rattle.sim_rows.proofs.Common.{fetched_again, From, FromGrom, FromMemory, GplState, grom_at, GromState, high, idle_again, idle_grom, idle_told}
@@ -8,6 +8,7 @@ use Rattle.sim_rows.proofs.Common.{next_at, of_register, pick, Place, place_in, 
 use Rattle.sim_rows.proofs.Common.{StoresRegister, StoresValue, streamed, To, ToMemory, ToRegisters, unchanged, value_at, Vdp, View, view, width_in}
 use Rattle.sim_rows.proofs.Common.{with_byte_in, with_byte_to, with_value}
 use Rattle.sim_rows.specs.gpl_defs.Reading.{value_at as value_in}
+use Rattle.sim_copy.proofs.Places.{at_pc}
 use Rattle.sim_copy.specs.Bytes.{AtCopy, byte_copied, CopiesByte, Counted, grom_behind, source_in, target_in}
 use Rattle.sim_copy.specs.Pieces as pieces
 use Rattle.sim_rows.specs.sim_view.Bounds.{most_of_load, most_of_store}
@@ -226,4 +227,14 @@ module _ {x a : MachineState} {t t1 : ℕ} (h : AtCopy x) (some : 0 < (view x).r
               let c4 = comes_on 22 16 c3 stored refl in
               let c5 : Comes 42 x y t t5 COPY (λ u. u ≡ (pieces.count_byte (view k)).left) =
               comes_then 38 4 c4 e5 (record { within = omega arith; to_is = refl; holds = refl }) refl in
-              record { count = c5.count; within = c5.within; counted = c5.counted; runs = c5.runs; holds = counted; stands = c5.stands }
+              record {
+                place = inl c5.stands.pc;
+                comes = record {
+                  count = c5.count;
+                  within = c5.within;
+                  counted = c5.counted;
+                  runs = c5.runs;
+                  holds = counted;
+                  stands = at_pc y COPY c5.stands;
+                };
+              }

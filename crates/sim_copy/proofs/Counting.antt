@@ -9,6 +9,7 @@ use Rattle.sim_rows.proofs.Common.{previous_in_grom, Space, space_small, state_o
 use Rattle.sim_rows.proofs.Common.{with_byte_in, with_byte_to, Word}
 use Rattle.sim_copy.specs.Copying.{Copying, InGrom, StandsFrom, StandsTo}
 use Rattle.sim_copy.proofs.Carrying.{behind_idle}
+use Rattle.sim_copy.proofs.Places.{at_end, runs_on}
 use Rattle.sim_copy.specs.Bytes.{AtCopy, byte_copied, CopiesByte, CopiesRest, grom_behind, source_in, target_in}
 
 -- ---- the machine behind a byte
@@ -39,7 +40,7 @@ module _ {x y : MachineState} {t u : ℕ} (h : AtCopy x) (some : 0 < (view x).r.
   left_fits = (is_view x h.stands.machine).r 12
 
   pub left_is : (view y).r.r12 ≡ v.r.r12 - 1
-  left_is = ap (λ (w : View). w.r.r12) c.holds.is ∙ one_less v.r.r12 some left_fits
+  left_is = ap (λ (w : View). w.r.r12) c.comes.holds.is ∙ one_less v.r.r12 some left_fits
 
   bounded : (most before after : ℕ) → most < 65536 → before + v.r.r12 ≤ most → after ≡ sum_of Word before 1 → after + (view y).r.r12 ≤ most
   bounded most before after fits le is =
@@ -48,9 +49,10 @@ module _ {x y : MachineState} {t u : ℕ} (h : AtCopy x) (some : 0 < (view x).r.
 
   pub at_copy : AtCopy y
   at_copy =
-      let is = c.holds.is in
+      let is = c.comes.holds.is in
       record {
-        stands = c.stands;
+        stands = c.comes.stands;
+        place = c.place;
         idle = idle_told y.cpu.memory (ap (λ (w : View). w.vdp.held) is ∙ idle_video x.cpu.memory h.idle)
             (ap (λ (w : View). w.grom.half_written) is ∙ behind_idle (source_in v) v.grom (idle_grom x.cpu.memory h.idle));
         fetched = fetched_told y.cpu.memory (grom_behind (source_in v) v.grom) (ap (λ (w : View). w.grom) is)
@@ -64,7 +66,7 @@ module _ {x y : MachineState} {t u : ℕ} (h : AtCopy x) (some : 0 < (view x).r.
 
 -- ---- the source and the target that the registers tell
 
-near_source : (v : View) (place : Place) → LoadsFrom place v → source_in v ≡ FromMemory place
+pub near_source : (v : View) (place : Place) → LoadsFrom place v → source_in v ≡ FromMemory place
 near_source v place f =
     let small : v.r.r5 < 2 = space_small place.space v.r.r5 f.space in
     ap (λ b. if b then FromMemory (place_in v.r.r5 v.r.r2) else FromGrom (next_at v)) (lt-ltb v.r.r5 2 small)
@@ -84,7 +86,7 @@ source_is : (c : Changes) (from : From) (v : View) → StandsFrom c from v → s
 source_is c (FromMemory place) v f = near_source v place f.loads_from
 source_is c (FromGrom address) v f = far_source c v address f
 
-target_is : (to : To) (v : View) → StandsTo to v → target_in v ≡ to
+pub target_is : (to : To) (v : View) → StandsTo to v → target_in v ≡ to
 target_is (ToMemory place) v f =
     let small : v.r.r8 < 2 = space_small place.space v.r.r8 f.space in
     ap (λ b. if b then ToMemory (place_in v.r.r8 v.r.r7) else ToRegisters v.r.r7) (lt-ltb v.r.r8 2 small)
@@ -181,7 +183,7 @@ module _ {x y : MachineState} {t u : ℕ} (h : AtCopy x) (some : 0 < (view x).r.
       Copying (with_byte_to to (byte_from from c.state) c) (next_from from) (next_to to) bytes (view y)
   copied_one c from to bytes k =
       let v : View = view x in
-      let is = b.holds.is in
+      let is = b.comes.holds.is in
       let after : Changes = with_byte_to to (byte_from from c.state) c in
       let alone : Changes = with_byte_to to (byte_from from c.state) (unchanged (state_of v)) in
       let source = source_is c from v k.stands_from in
@@ -216,7 +218,7 @@ pub record Rest (whole : Changes) (made : ℕ) (x z : MachineState) (t u : ℕ) 
   pub bytes : ℕ
   pub copying : Copying changes from to bytes (view z)
   pub same : copied bytes from to changes ≡ whole
-  pub comes : Comes (42 * made) x z t u COPY (λ w. Unit {0})
+  pub comes : Comes (42 * made) x z t u z.cpu.pc (λ w. Unit {0})
 
 pub record Turns (made : ℕ) (x z : MachineState) (t u : ℕ) : Type 0 where
   pub at : AtCopy z
@@ -236,7 +238,7 @@ none_yet x t h = record {
         copying = k;
         same = refl;
         comes =
-            begins x t COPY (λ w. Unit {0}) h.stands tt;
+            begins x t x.cpu.pc (λ w. Unit {0}) h.stands tt;
       };
 }
 
@@ -258,7 +260,7 @@ module _ {made : ℕ} {x z : MachineState} (y : MachineState) {t u : ℕ} (w : �
             bytes = bytes;
             copying = copied_one h.at some_left b r.changes r.from r.to bytes k;
             same = ap (λ (n : ℕ). copied n r.from r.to r.changes) (sym e) ∙ r.same;
-            comes = comes_as (42 * (made + 1)) (λ v. Unit {0}) (comes_on (42 * made) 42 r.comes b refl) (omega arith) (λ v q. tt);
+            comes = comes_as (42 * (made + 1)) (λ v. Unit {0}) (comes_on (42 * made) 42 r.comes b.comes (runs_on z.cpu.pc (view z) h.at.place)) (omega arith) (λ v q. tt);
           }
 
   pub one_more_turn : CopiesByte z y u w → Turns (made + 1) x y t w
@@ -278,7 +280,8 @@ module _ (x z : MachineState) (t u : ℕ) (h : Turns (view x).r.r12 x z t u) whe
       let none : r.bytes ≡ 0 = sym r.copying.left ∙ none_left in
       let last : Copying r.changes r.from r.to 0 (view z) = subst (λ (n : ℕ). Copying r.changes r.from r.to n (view z)) none r.copying in
       let whole : r.changes ≡ copied bytes from to c = ap (λ (n : ℕ). copied n r.from r.to r.changes) (sym none) ∙ r.same in
-      let all = subst (λ (n : ℕ). Comes (42 * n) x z t u COPY (λ w. Unit {0})) k.left r.comes in
+      let there : z.cpu.pc ≡ COPY = at_end z.cpu.pc (view z) h.at.place none_left in
+      let all = subst (λ (p : ℕ). Comes (42 * bytes) x z t u p (λ w. Unit {0})) there (subst (λ (n : ℕ). Comes (42 * n) x z t u z.cpu.pc (λ w. Unit {0})) k.left r.comes) in
       record {
         count = all.count;
         within = all.within;

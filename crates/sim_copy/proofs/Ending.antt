@@ -2,14 +2,18 @@
 use Rattle.std.proofs.Common.{ℕ, ◌*◌, ◌+◌, ◌<◌, ◌==◌, ◌∙◌, ◌≡◌, ◌≤◌, ap, arith, if◌then◌else◌, refl, subst, sym, true}
 use Rattle.std.proofs.lemmas.Bool.{eq-eqb, ne_eqb}
 use Rattle.sim_rows.proofs.Common.{Changed, Changes, Comes, comes, comes_as, comes_on, copied, COPY, EndsRow, Exit, exit, Exits, fetched_again, From}
-use Rattle.sim_rows.proofs.Common.{FromGrom, FromMemory, GSTEP, idle_again, IsFetched, MachineState, Place, PortsAreIdle, RESUME, SeesFinished, SHOW}
+use Rattle.sim_rows.proofs.Common.{FromGrom, FromMemory, GSTEP, idle_again, IsFetched, MachineState, Place, PortsAreIdle, RESUME, SeesFinished, SHOW, Stands}
 use Rattle.sim_rows.proofs.Common.{space_small, To, ToMemory, ToRegisters, View, view, with_pc}
 use Rattle.sim_jumps.specs.Jumps.{ResumesRow}
 use Rattle.sim_copy.specs.Copying.{CopiesBytes, Copying, InGrom, InMemory, StandsFrom, StandsTo}
-use Rattle.sim_copy.specs.Bytes.{AtCopy, CopiesRest, EndsCopy}
+use Rattle.sim_copy.proofs.Places.{at_end, at_pc, begins_few, begins_there, runs_on}
+use Rattle.sim_copy.specs.Bytes.{AtCopy, CopiesAt, CopiesRest, EndsCopy}
 use Rattle.sim_copy.specs.Pieces as pieces
 
 -- ---- the end
+
+pub stands_ended : {x : MachineState} → AtCopy x → (view x).r.r12 ≡ 0 → Stands x COPY
+stands_ended {x = x} h none = subst (λ (p : ℕ). Stands x p) (at_end x.cpu.pc (view x) h.place none) h.stands
 
 -- where it goes on, by the space of the source
 abbrev behind : ℕ → ℕ
@@ -43,18 +47,18 @@ module _ {x a : MachineState} {t t1 : ℕ} (h : AtCopy x) (none : (view x).r.r12
     pub ends_memory : a.cpu.pc ≡ SHOW → EndsRow a y t1 t2 → EndsCopy x y t t2
     ends_memory here row c k = by k.from k.copying.stands_from
       where
-        by : (from : From) → StandsFrom c from v → Comes 41 x y t t2 GSTEP (SeesFinished c)
+        by : (from : From) → StandsFrom c from v → Comes 37 x y t t2 GSTEP (SeesFinished c)
         by (FromMemory place) f =
             let q = k.copying in
             let changed : Changed c (view a) = subst (λ (u : View). Changed c u) (sym went.shows)
             (record { cells = q.cells; vdp = q.vdp; registers = q.registers; held = q.held; grom = f.grom; mark = q.mark }) in
-            comes_as 41 (SeesFinished c) (comes_on 5 29 (led SHOW (near_end v place c f)) (row c changed) refl) (omega arith) (λ w q. q)
+            comes_as 37 (SeesFinished c) (comes_on 5 29 (led SHOW (near_end v place c f)) (row c changed) refl) (omega arith) (λ w q. q)
         by (FromGrom address) f = absurd (let p = went.stands.pc in let r = far_end v address c f in omega arith)
 
     pub ends_grom : (a.cpu.pc ≡ SHOW → ⊥) → ResumesRow a y t1 t2 → EndsCopy x y t t2
     ends_grom elsewhere row c k = by k.from k.copying.stands_from
       where
-        by : (from : From) → StandsFrom c from v → Comes 41 x y t t2 GSTEP (SeesFinished c)
+        by : (from : From) → StandsFrom c from v → Comes 37 x y t t2 GSTEP (SeesFinished c)
         by (FromMemory place) f = absurd (elsewhere (went.stands.pc ∙ near_end v place c f))
         by (FromGrom address) f =
             let q = k.copying in
@@ -62,16 +66,22 @@ module _ {x a : MachineState} {t t1 : ℕ} (h : AtCopy x) (none : (view x).r.r12
             subst (λ (u : View). Changed (with_pc address c) u) (sym went.shows)
             (record { cells = q.cells; vdp = q.vdp; registers = q.registers; held = q.held; grom = f.grom; mark = q.mark }) in
             let back : (view a).r.r14 ≡ c.state.pc = ap (λ (u : View). u.r.r14) went.shows ∙ f.back in
-            comes_on 5 36 (led RESUME (far_end v address c f)) (row c address changed back) refl
+            comes_on 5 32 (led RESUME (far_end v address c f)) (row c address changed back) refl
 
 -- ---- the beginning
 
 module _ {x a : MachineState} {t t1 : ℕ} (e : Exits x a t t1 (pieces.begin_copy (view x))) where
+  place : CopiesAt a.cpu.pc (view a)
+  place =
+      subst (λ (p : ℕ). CopiesAt p (view a)) (sym e.stands.pc)
+      (subst (λ (u : View). CopiesAt (pieces.begins_at (view x)) u) (sym e.shows) (begins_there (view x)))
+
   pub at_copy : PortsAreIdle x.cpu.memory → IsFetched x.cpu.memory.grom → (let r = (view x).r in r.r5 ≡ 0 → r.r2 + r.r12 ≤ 0xC2) →
       (let r = (view x).r in r.r8 ≡ 0 → r.r7 + r.r12 ≤ 0xC2) →
       (let r = (view x).r in 1 < r.r8 → r.r7 + r.r12 ≤ 8) → AtCopy a
   at_copy idle fetched source target registers = record {
-    stands = e.stands;
+    stands = at_pc a (pieces.begin_copy (view x)).to e.stands;
+    place = place;
     idle = idle_again x.cpu.memory a.cpu.memory (ap (λ (u : View). u.vdp) e.shows) (ap (λ (u : View). u.grom) e.shows) idle;
     fetched = fetched_again x.cpu.memory a.cpu.memory (ap (λ (u : View). u.grom) e.shows) fetched;
     bytes_are = ap (λ (u : View). u.r.r3) e.shows;
@@ -101,6 +111,7 @@ module _ {x a : MachineState} {t t1 : ℕ} (e : Exits x a t t1 (pieces.begin_cop
         left = k.left;
       }) in
       let whole : Changes = copied bytes from to c in
-      let c1 : Comes 1 x a t t1 COPY (λ u. u ≡ (pieces.begin_copy (view x)).left) = comes e (record { within = omega arith; to_is = refl; holds = refl }) in
-      let c2 = comes_on 1 (42 * bytes) c1 (rest c from to bytes begun) refl in
-      comes_as (42 * bytes + 42) (SeesFinished whole) (comes_on (1 + 42 * bytes) 41 c2 (end whole c2.holds) refl) (omega arith) (λ w q. q)
+      let c1 : Comes 8 x a t t1 a.cpu.pc (λ u. u ≡ (pieces.begin_copy (view x)).left) =
+      comes e (record { within = begins_few (view x); to_is = sym e.stands.pc; holds = refl }) in
+      let c2 = comes_on 8 (42 * bytes) c1 (rest c from to bytes begun) (runs_on a.cpu.pc (view a) place) in
+      comes_as (42 * bytes + 45) (SeesFinished whole) (comes_on (8 + 42 * bytes) 37 c2 (end whole c2.holds) refl) (omega arith) (λ w q. q)

@@ -1,15 +1,27 @@
 -- One byte of the copy of MOVE, the bytes that are left, and the end.
-use Rattle.std.specs.Prelude.{ℕ, ◌*◌, ◌+◌, ◌<◌, ◌≡◌, ◌≤◌, if◌then◌else◌, nat_lt}
+use Rattle.std.specs.Prelude.{ℕ, ◌*◌, ◌+◌, ◌<◌, ◌≡◌, ◌≤◌, ◌⊎◌, if◌then◌else◌, nat_lt}
 use Rattle.sim_rows.specs.Prelude.{byte_from, Changes, Comes, copied, COPY, difference_of, From, FromGrom, FromMemory}
 use Rattle.sim_rows.specs.Prelude.{grom_at, GromState, GSTEP, IsFetched, MachineState, marked_by, next_at}
 use Rattle.sim_rows.specs.Prelude.{next_in_grom, place_in, PortsAreIdle, SeesFinished, Stands, state_of, sum_of, To}
 use Rattle.sim_rows.specs.Prelude.{ToMemory, ToRegisters, unchanged, View, view, VISIBLE_CELLS, with_byte_to, Word}
 use Rattle.sim_copy.specs.Copying.{Copying}
 use Rattle.sim_rows.specs.sim_view.Bounds.{most_of_byte}
+use Rattle.sim_rows.specs.native_interp.declared.addresses.TheConstants.{COPYC, COPYG}
 
--- At COPY: bytes are loaded and stored, and as many as are left may be.
+-- Bytes are left, whose target is in the cells.
+pub record ToCells (v : View) : Type 0 where
+  pub target : v.r.r8 ≡ 0
+  pub some : 0 < v.r.r12
+
+-- Where a byte is copied: at COPYC from the cells to the cells, at COPYG from GROM to the cells, and else at COPY.
+abbrev pub CopiesAt : ℕ → View → Type 0
+CopiesAt place v =
+    (place ≡ COPY) ⊎ (((place ≡ COPYC) × (v.r.r5 ≡ 0) × ToCells v) ⊎ ((place ≡ COPYG) × (1 < v.r.r5) × ToCells v))
+
+-- At COPY, or where a byte for the cells is copied: bytes are loaded and stored, and as many as are left may be.
 pub record AtCopy (x : MachineState) : Type 0 where
-  pub stands : Stands x COPY
+  pub stands : Stands x x.cpu.pc
+  pub place : CopiesAt x.cpu.pc (view x)
   pub idle : PortsAreIdle x.cpu.memory
   pub fetched : IsFetched x.cpu.memory.grom
   pub bytes_are : (view x).r.r3 ≡ 1
@@ -58,9 +70,10 @@ pub record Counted (v w : View) : Type 0 where
     grom = grom_behind (source_in v) v.grom;
   }
 
--- A byte is copied.
-abbrev pub CopiesByte : MachineState → MachineState → ℕ → ℕ → Type 0
-CopiesByte x y before after = Comes most_of_byte x y before after COPY (Counted (view x))
+-- A byte is copied, and the machine is where the next one is.
+pub record CopiesByte (x y : MachineState) (before after : ℕ) : Type 0 where
+  pub place : CopiesAt y.cpu.pc (view y)
+  pub comes : Comes most_of_byte x y before after y.cpu.pc (Counted (view x))
 
 -- All bytes are copied, and none is left.
 pub record Copied (c : Changes) (w : View) : Type 0 where
@@ -76,4 +89,4 @@ CopiesRest x y before after =
 -- The step ends with what was copied.
 abbrev pub EndsCopy : MachineState → MachineState → ℕ → ℕ → Type 0
 EndsCopy x y before after =
-    (c : Changes) → Copied c (view x) → Comes 41 x y before after GSTEP (SeesFinished c)
+    (c : Changes) → Copied c (view x) → Comes 37 x y before after GSTEP (SeesFinished c)

@@ -1,12 +1,56 @@
 -- What the pieces of MOVE's copy come to: how many instructions they have, where they end, and what they change of the
 -- view, in the words of the processor. Registers, cells and ports that are not named stay.
-use Rattle.std.specs.Prelude.{◌==◌, if◌then◌else◌}
-use Rattle.sim_rows.specs.Prelude.{COPY, COPYN, COPYS, difference_of, Exit, exit, LOAD, RESUME, SHOW, STORE, sum_of}
-use Rattle.sim_rows.specs.Prelude.{View, Word}
+use Rattle.std.specs.Prelude.{ℕ, ◌+◌, ◌==◌, if◌then◌else◌, nat_lt, not, slice_index, slice_set}
+use Rattle.sim_rows.specs.Prelude.{CHARACTER, COPY, COPYN, COPYS, difference_of, Exit, exit, LOAD, past, RESUME, SHOW}
+use Rattle.sim_rows.specs.Prelude.{STORE, sum_of, View, Word}
+use Rattle.sim_rows.specs.sim_operands.Pieces.{marked, one_if}
+use Rattle.sim_rows.specs.native_interp.declared.addresses.TheConstants.{COPYC, COPYG}
 
--- MOVEB: bytes are loaded and stored.
+-- MOVEB: bytes for the cells are copied by COPYC from the cells and by COPYG from GROM, all others by COPY.
+abbrev pub begins_at : View → ℕ
+begins_at v =
+    if not (v.r.r8 == 0) then COPY
+    else if v.r.r12 == 0 then COPY
+    else if v.r.r5 == 1 then COPY
+    else if nat_lt 1 v.r.r5 then COPYG
+    else COPYC
+
+abbrev pub begins_in : View → ℕ
+begins_in v =
+    if not (v.r.r8 == 0) then 3
+    else if v.r.r12 == 0 then 5
+    else if v.r.r5 == 1 then 7
+    else 8
+
 abbrev pub begin_copy : View → Exit
-begin_copy v = exit 1 COPY (record v { r = record v.r { r3 = 1 } })
+begin_copy v = exit (begins_in v) (begins_at v) (record v { r = record v.r { r3 = 1 } })
+
+-- A byte is stored at the target in the cells, and it goes on to the next byte, or to COPY behind the last.
+abbrev pub stored : View → ℕ → View
+stored v byte =
+    record v {
+      r = record v.r {
+        r2 = sum_of Word v.r.r2 1;
+        r7 = sum_of Word v.r.r7 1;
+        r12 = difference_of Word v.r.r12 1;
+        r13 = marked CHARACTER v.r.r7 v.r.r13;
+      };
+      cells = slice_set v.cells v.r.r7 byte;
+    }
+
+-- COPYC: the byte is of the cells.
+abbrev pub copy_cell : View → Exit
+copy_cell v =
+    let last = difference_of Word v.r.r12 1 == 0 in
+    exit (7 + (one_if (v.r.r7 == CHARACTER) + one_if last)) (if last then COPY else COPYC)
+    (stored v (slice_index v.cells v.r.r2))
+
+-- COPYG: the byte is the next of GROM.
+abbrev pub copy_grom : View → Exit
+copy_grom v =
+    let last = difference_of Word v.r.r12 1 == 0 in
+    exit (7 + one_if (v.r.r7 == CHARACTER)) (if last then COPY else COPYG)
+    (stored (record v { grom = past v.grom }) v.grom.fetched)
 
 -- COPY: LOAD is asked for the next byte. Where none is left the copy ends, with RESUME behind a source in GROM.
 abbrev pub next_byte : View → Exit

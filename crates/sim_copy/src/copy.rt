@@ -6,9 +6,9 @@ ghost use Rattle.sim_copy.specs.Bytes.{AtCopy, CopiesByte, CopiesRest, EndsCopy}
 ghost use Rattle.sim_copy.specs.Copying.{CopiesBytes};
 ghost use Rattle.sim_rows.specs.native_interp.declared.addresses.TheConstants as address;
 
-use crate::pieces::{begin_copy, count_byte, next_byte, store_byte};
+use crate::pieces::{begin_copy, copy_cell, copy_grom, count_byte, next_byte, store_byte};
 use sim_jumps::resume_row;
-use sim_rows::labels::SHOW;
+use sim_rows::labels::{COPYC, COPYG, SHOW};
 use sim_rows::processor::{Machine, Steps};
 use sim_rows::subroutines::{run_load, run_store};
 use sim_rows::{end_row, register};
@@ -21,6 +21,14 @@ fn copy_byte<L: Ledger>(machine: &mut Machine, steps: &mut Steps<L>)
     ensures { CopiesByte machine.old machine.new steps.old steps.new }
 {
     machine.holds_bounds();
+    if machine.pc() == COPYC {
+        copy_cell(machine, steps);
+        return;
+    }
+    if machine.pc() == COPYG {
+        copy_grom(machine, steps);
+        return;
+    }
     next_byte(machine, steps);
     run_load(machine, steps);
     store_byte(machine, steps);
@@ -57,7 +65,7 @@ fn end_copy<L: Ledger>(machine: &mut Machine, steps: &mut Steps<L>)
 
 /// Runs the copy of MOVE to the end of the step. Register 12 has the number of bytes, registers 2 and 5 the source, and
 /// registers 7 and 8 the target; 2 in register 5 says that the source is in GROM, and 2 in register 8 that the target
-/// is among the registers of the video processor. It takes at most 42 instructions a byte, and 42 more.
+/// is among the registers of the video processor. It takes at most 42 instructions a byte, and 45 more.
 pub fn copy_bytes<L: Ledger>(machine: &mut Machine, steps: &mut Steps<L>)
     requires stands { Stands machine.old address.MOVEB }
     requires idle { PortsAreIdle machine.old.cpu.memory }

@@ -1,10 +1,11 @@
 //! The pieces of MOVE's copy.
 
-ghost use Rattle.sim_rows.specs.Prelude.{Exits, Stands, view};
+ghost use Rattle.std.specs.Prelude.{◌<◌};
+ghost use Rattle.sim_rows.specs.Prelude.{Exits, Stands, view, VISIBLE_CELLS};
 ghost use Rattle.sim_rows.specs.native_interp.declared.addresses.TheConstants as address;
 ghost use Rattle.sim_copy.specs.Pieces as piece;
 
-use sim_rows::labels::{COPY, LOAD, RESUME, SHOW, STORE};
+use sim_rows::labels::{COPY, COPYC, COPYG, LOAD, RESUME, SHOW, STORE};
 use sim_rows::processor::{Machine, Steps};
 use sim_rows::run_piece;
 use std::sync::ledger::Ledger;
@@ -14,7 +15,26 @@ pub fn begin_copy<L: Ledger>(machine: &mut Machine, steps: &mut Steps<L>)
     requires { Stands machine.old address.MOVEB }
     ensures { Exits machine.old machine.new steps.old steps.new (piece.begin_copy (view machine.old)) }
 {
-    run_piece(machine, steps, &[COPY]);
+    run_piece(machine, steps, &[COPY, COPYC, COPYG]);
+}
+
+/// The piece of the copy that copies a byte from the cells to the cells.
+pub fn copy_cell<L: Ledger>(machine: &mut Machine, steps: &mut Steps<L>)
+    requires stands { Stands machine.old address.COPYC }
+    requires source { (view machine.old).r.r2 < VISIBLE_CELLS }
+    requires target { (view machine.old).r.r7 < VISIBLE_CELLS }
+    ensures { Exits machine.old machine.new steps.old steps.new (piece.copy_cell (view machine.old)) }
+{
+    run_piece(machine, steps, &[COPYC, COPY]);
+}
+
+/// The piece of the copy that copies a byte from GROM to the cells.
+pub fn copy_grom<L: Ledger>(machine: &mut Machine, steps: &mut Steps<L>)
+    requires stands { Stands machine.old address.COPYG }
+    requires target { (view machine.old).r.r7 < VISIBLE_CELLS }
+    ensures { Exits machine.old machine.new steps.old steps.new (piece.copy_grom (view machine.old)) }
+{
+    run_piece(machine, steps, &[COPYG, COPY]);
 }
 
 /// The piece of the copy that asks LOAD for the next byte, or ends the copy.

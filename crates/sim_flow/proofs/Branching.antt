@@ -49,7 +49,7 @@ targets s v d i byte =
             ap (λ n. made_of v n v.r.r0 v.r.r1) fetched
             ∙ ap (λ n. made_of v (slice_index s.image (behind_code s)) n v.r.r1) d.code
             ∙ ap (λ n. made_of v (slice_index s.image (behind_code s)) (code_byte s) n) d.address
-            ∙ target_is (code_byte s) (slice_index s.image (behind_code s)) v.r.r4 s.pc byte fits;
+            ∙ target_is (code_byte s) (slice_index s.image (behind_code s)) s.pc byte fits;
       };
     }
 

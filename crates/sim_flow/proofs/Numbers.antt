@@ -1,7 +1,7 @@
 -- Facts about numbers that the instructions which go on elsewhere need.
 use Rattle.std.proofs.Common.{ℕ, ◌%◌, ◌*◌, ◌/◌, ◌<◌, ◌==◌, ◌∙◌, ◌≡◌, ap, arith, Bool, eqb, false, if◌then◌else◌, Option, refl, Some, sym, true}
 use Rattle.std.proofs.lemmas.Bool.{agree_below_at}
-use Rattle.sim_rows.proofs.Common.{Branch, Byte, GplOperation, in_grom_of, in_register, is_set, join, last_out, low, next_in_grom, operation_at, plus}
+use Rattle.sim_rows.proofs.Common.{Branch, Byte, GplOperation, high, in_grom_of, in_register, is_set, join, last_out, next_in_grom, operation_at, plus}
 use Rattle.sim_rows.proofs.Common.{shifted, size_of, SLA, SRL, sum_of, Width, Word}
 
 -- ---- the target of BR and BS
@@ -9,23 +9,23 @@ use Rattle.sim_rows.proofs.Common.{shifted, size_of, SLA, SRL, sum_of, Width, Wo
 offset_is : (code : ℕ) → shifted SRL (shifted SLA code 11) 3 ≡ 256 * (code % 32)
 offset_is code = omega arith
 
-byte_down : (byte less : ℕ) → byte < 256 → less < 256 → shifted SRL (join byte less) 8 ≡ byte
-byte_down byte less h k = omega arith
-
 base_is : (address : ℕ) → address < 65536 → shifted SLA (shifted SRL address 13) 13 ≡ address / 8192 * 8192
 base_is address h = omega arith
 
 sum_is : (code byte address : ℕ) → byte < 256 → address < 65536 →
-    sum_of Word (sum_of Word (256 * (code % 32)) byte) (address / 8192 * 8192) ≡ in_grom_of address (join (code % 32) byte)
+    sum_of Word (join (code % 32) byte) (address / 8192 * 8192) ≡ in_grom_of address (join (code % 32) byte)
 sum_is code byte address h k = omega arith
 
-pub target_is : (code byte less address : ℕ) → byte < 256 → address < 65536 →
-    sum_of Word (sum_of Word (shifted SRL (shifted SLA code 11) 3) (shifted SRL (join byte (low less)) 8)) (shifted SLA (shifted SRL address 13) 13)
+high_is : (code : ℕ) → high (256 * (code % 32)) ≡ code % 32
+high_is code = omega arith
+
+pub target_is : (code byte address : ℕ) → byte < 256 → address < 65536 →
+    sum_of Word (join (high (shifted SRL (shifted SLA code 11) 3)) byte) (shifted SLA (shifted SRL address 13) 13)
     ≡ in_grom_of address (join (code % 32) byte)
-target_is code byte less address h k =
-    ap (λ n. sum_of Word (sum_of Word n (shifted SRL (join byte (low less)) 8)) (shifted SLA (shifted SRL address 13) 13)) (offset_is code)
-    ∙ ap (λ n. sum_of Word (sum_of Word (256 * (code % 32)) n) (shifted SLA (shifted SRL address 13) 13)) (byte_down byte (low less) h (omega arith))
-    ∙ ap (λ n. sum_of Word (sum_of Word (256 * (code % 32)) byte) n) (base_is address k)
+target_is code byte address h k =
+    ap (λ n. sum_of Word (join (high n) byte) (shifted SLA (shifted SRL address 13) 13)) (offset_is code)
+    ∙ ap (λ n. sum_of Word (join n byte) (shifted SLA (shifted SRL address 13) 13)) (high_is code)
+    ∙ ap (λ n. sum_of Word (join (code % 32) byte) n) (base_is address k)
     ∙ sum_is code byte address h k
 
 -- BS has the bit >20 in its code bytes, and BR has not

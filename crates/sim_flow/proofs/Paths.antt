@@ -1,17 +1,19 @@
 -- The runs of the pieces on the view.
 use Rattle.std.proofs.Common.{[], ℕ, ◌==◌, ◌∷◌, refl, slice_index}
-use Rattle.sim_rows.proofs.Common.{BRANCH, BTEST, CASEN, CASET, CASEV, CFALSE, GOB, GOEXIT, join, last_out, Leads, low, pick, SEEK, shifted, SLA, SRL, STREAM}
-use Rattle.sim_rows.proofs.Common.{TAKE, View, WHERE}
+use Rattle.sim_rows.proofs.Common.{BRANCH, BTEST, byte_is, CASEN, CASET, CASEV, CFALSE, GOB, GOEXIT, GOTO, high-join, IsView, join, last_out, Leads, low, past, pick}
+use Rattle.sim_rows.proofs.Common.{SEEK, shifted, SLA, SRL, TAKE, View, WHERE}
 use Rattle.sim_flow.specs.Pieces as pieces
 
 pub leave : (v : View) → Leads [] v GOEXIT (pieces.leave v)
 leave v = record { by = λ f q. refl }
 
-pub ask_target : (v : View) → Leads (STREAM ∷ []) v GOB (pieces.ask_target v)
-ask_target v = record { by = λ f q. refl }
+pub read_target : (v : View) → IsView v → Leads (GOTO ∷ []) v GOB (pieces.read_target v)
+read_target v i = record {
+  by = λ f q. rw (byte_is (past v.grom).fetched (i.grom.image.fits v.grom.counter), high-join v.grom.fetched v.r.r6) refl;
+}
 
-pub find_target : (v : View) → Leads (BTEST ∷ []) v BRANCH (pieces.find_target v)
-find_target v = record { by = λ f q. refl }
+pub find_target : (v : View) → IsView v → Leads (BTEST ∷ []) v BRANCH (pieces.find_target v)
+find_target v i = record { by = λ f q. rw (byte_is v.grom.fetched i.grom.fetched) refl }
 
 -- the status, above what register 4 has below it
 abbrev status_word : View → ℕ

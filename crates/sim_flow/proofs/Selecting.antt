@@ -52,18 +52,18 @@ module _ (s : GplState) (place : Place) (source : Source) (v : View) (e : operat
   abbrev located : View
   located = located_at asked s.image (next_of s)
 
-  where_is : rows.where_next asked ≡ exit 12 CASEN located
+  where_is : Goes (rows.where_next asked) 12 CASEN (λ w. w ≡ located)
   where_is = where_found asked s.image (next_of s) row.holds.sees.grom fits
 
   abbrev targeted : View
   targeted = (pieces.find_branch located).left
 
   abbrev sought : View
-  sought = record targeted { r = record targeted.r { r6 = (operands.seek targeted).left.r.r6 }; grom = grom_at s.image (next_of s) }
+  sought = record targeted { grom = grom_at s.image (next_of s) }
 
-  seek_is : operands.seek targeted ≡ exit 4 CASET sought
+  seek_is : operands.seek targeted ≡ exit 3 CASET sought
   seek_is =
-      let at : GromState → Exit = λ g. exit 4 CASET (record targeted { r = record targeted.r { r6 = (operands.seek targeted).left.r.r6 }; grom = g }) in
+      let at : GromState → Exit = λ g. exit 3 CASET (record targeted { grom = g }) in
       ap at (set_is (lost s.image (next_of s)) (next_of s) refl fits)
 
   -- what holds at TAKE
@@ -91,9 +91,9 @@ module _ (s : GplState) (place : Place) (source : Source) (v : View) (e : operat
       Exits d f t4 t5 (pieces.go_to_branch (view d)) → TakesBranch f y t5 t6 → Comes 34 x y t t6 GSTEP (SeesResult (row_result (One CASE) s place source))
   selects x a b c d f y t t1 t2 t3 t4 t5 t6 is e1 e2 e3 e4 e5 goes =
       let c1 = comes e1 (from pieces.ask_table is asks) in
-      let c2 = comes_then 4 12 c1 e2 (from rows.where_next c1.holds (known where_is (just (exit 12 CASEN located) 12 CASEN (omega arith) refl))) refl in
+      let c2 = comes_then 4 12 c1 e2 (from rows.where_next c1.holds where_is) refl in
       let c3 = comes_then 16 3 c2 e3 (from pieces.find_branch c2.holds (just (pieces.find_branch located) 3 SEEK (omega arith) refl)) refl in
-      let c4 = comes_then 19 4 c3 e4 (from operands.seek c3.holds (known seek_is (just (exit 4 CASET sought) 4 CASET (omega arith) refl))) refl in
+      let c4 = comes_then 19 4 c3 e4 (from operands.seek c3.holds (known seek_is (just (exit 3 CASET sought) 4 CASET (omega arith) refl))) refl in
       let c5 = comes_then 23 2 c4 e5 (from pieces.go_to_branch c4.holds ends) refl in
       comes_on 25 9 c5 (goes taken (next_of s) c5.holds.sees c5.holds.to) refl
 

@@ -1,24 +1,25 @@
 -- What the pieces of EXIT, B, BR, BS and CASE come to: how many instructions they have, where they end, and what they
 -- change of the view, in the words of the processor. Registers, cells and ports that are not named stay.
 use Rattle.std.specs.Prelude.{◌==◌, if◌then◌else◌, slice_index}
-use Rattle.sim_rows.specs.Prelude.{BTEST, CASEN, CASET, CFALSE, Exit, exit, GEXIT, GOTO, join, last_out, low, past}
-use Rattle.sim_rows.specs.Prelude.{SEEK, shifted, SLA, SRL, STATUS, STREAM, sum_of, TAKE, View, WHERE, Word}
+use Rattle.sim_rows.specs.Prelude.{BTEST, CASEN, CASET, CFALSE, Exit, exit, GEXIT, GOTO, high, join, last_out, low, past}
+use Rattle.sim_rows.specs.Prelude.{SEEK, shifted, SLA, SRL, STATUS, sum_of, TAKE, View, WHERE, Word}
 
 -- GOEXIT.
 abbrev pub leave : View → Exit
 leave v = exit 1 GEXIT v
 
--- GOB: the address that follows is asked for.
-abbrev pub ask_target : View → Exit
-ask_target v = exit 2 STREAM (record v { r = record v.r { r3 = 2; r11 = GOTO } })
+-- GOB: the word that follows is the address.
+abbrev pub read_target : View → Exit
+read_target v =
+    let second = past v.grom in
+    exit 2 GOTO (record v { r = record v.r { r6 = join v.grom.fetched second.fetched }; grom = past second })
 
 -- BRANCH: the low five bits of the code byte and the byte that follows, in the GROM of the code byte, are the target.
 abbrev pub find_target : View → Exit
 find_target v =
-    let byte = shifted SRL (join v.grom.fetched (low v.r.r4)) 8 in
-    let offset = sum_of Word (shifted SRL (shifted SLA v.r.r0 11) 3) byte in
+    let offset = join (high (shifted SRL (shifted SLA v.r.r0 11) 3)) v.grom.fetched in
     let base = shifted SLA (shifted SRL v.r.r1 13) 13 in
-    exit 10 BTEST (record v { r = record v.r { r4 = base; r6 = sum_of Word offset base }; grom = past v.grom })
+    exit 8 BTEST (record v { r = record v.r { r4 = base; r6 = sum_of Word offset base }; grom = past v.grom })
 
 -- BTEST: the condition is shifted out of the status. BS, whose code byte has the bit >20, is taken where it is set, and
 -- BR where it is not.

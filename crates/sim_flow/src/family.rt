@@ -8,14 +8,14 @@ ghost use Rattle.sim_rows.specs.native_interp.declared.addresses.TheConstants as
 ghost use Rattle.sim_rows.specs.sim_view.Bounds.{most_of_case_row};
 
 use crate::pieces::{
-    ask_table, ask_target, find_branch, find_target, go_to_branch, leave, test_branch,
+    ask_table, find_branch, find_target, go_to_branch, leave, read_target, test_branch,
 };
 use sim_compare::clear_condition;
 use sim_jumps::{jump, take_jump};
 use sim_rows::gpl::GplOperation;
 use sim_rows::labels::TAKE;
 use sim_rows::processor::{Machine, Steps};
-use sim_rows::subroutines::{seek_address, stream_value};
+use sim_rows::subroutines::seek_address;
 use sim_rows::{Reason, Turn, operation_told, start_row, where_next};
 use std::sync::ledger::Ledger;
 
@@ -27,8 +27,7 @@ fn run_jump<L: Ledger>(machine: &mut Machine, steps: &mut Steps<L>)
     ensures { let s = state_at_dispatch (view machine.old) in
         Turned s most_to_dispatch machine.old machine.new steps.old steps.new Stepped }
 {
-    ask_target(machine, steps);
-    stream_value(machine, steps);
+    read_target(machine, steps);
     jump(machine, steps);
 }
 

@@ -7,5 +7,5 @@ mod pieces;
 
 pub use family::run_flow;
 pub use pieces::{
-    ask_table, ask_target, find_branch, find_target, go_to_branch, leave, test_branch,
+    ask_table, find_branch, find_target, go_to_branch, leave, read_target, test_branch,
 };

@@ -4,7 +4,7 @@ ghost use Rattle.sim_rows.specs.Prelude.{Exits, Stands, view};
 ghost use Rattle.sim_rows.specs.native_interp.declared.addresses.TheConstants as address;
 ghost use Rattle.sim_flow.specs.Pieces as piece;
 
-use sim_rows::labels::{BTEST, CFALSE, SEEK, STREAM, TAKE, WHERE};
+use sim_rows::labels::{BTEST, CFALSE, GOTO, SEEK, TAKE, WHERE};
 use sim_rows::processor::{Machine, Steps};
 use sim_rows::run_piece;
 use std::sync::ledger::Ledger;
@@ -17,12 +17,12 @@ pub fn leave<L: Ledger>(machine: &mut Machine, steps: &mut Steps<L>)
     run_piece(machine, steps, &[]);
 }
 
-/// The piece of B that asks STREAM for the address.
-pub fn ask_target<L: Ledger>(machine: &mut Machine, steps: &mut Steps<L>)
+/// The piece of B that reads the address.
+pub fn read_target<L: Ledger>(machine: &mut Machine, steps: &mut Steps<L>)
     requires { Stands machine.old address.GOB }
-    ensures { Exits machine.old machine.new steps.old steps.new (piece.ask_target (view machine.old)) }
+    ensures { Exits machine.old machine.new steps.old steps.new (piece.read_target (view machine.old)) }
 {
-    run_piece(machine, steps, &[STREAM]);
+    run_piece(machine, steps, &[GOTO]);
 }
 
 /// The piece of BR and BS that makes the address of their target.

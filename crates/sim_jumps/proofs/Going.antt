@@ -1,10 +1,9 @@
 -- Jumps, from where their address is known.
-use Rattle.std.proofs.Common.{ℕ, ◌<◌, ◌∙◌, ◌≡◌, ap, arith, false, List, refl, slice_index, slice_set, subst}
-use Rattle.sim_rows.proofs.Common.{Byte, Changed, comes, comes_on, comes_then, EndsRow, Exits, from, Goes, GOTO, GplState, grom_at, GromState, GSTEP}
-use Rattle.sim_rows.proofs.Common.{idle_grom, idle_told, idle_video, is_view, just, MachineState, ones_cleared, PortsAreIdle, RESUME, return_of, SEEK, Sees}
+use Rattle.std.proofs.Common.{ℕ, ◌<◌, ◌∙◌, ◌≡◌, ap, arith, false, List, refl, slice_index, slice_set}
+use Rattle.sim_rows.proofs.Common.{Byte, Changed, comes, comes_on, EndsRow, Exits, Goes, GOTO, GplState, grom_at, GromState}
+use Rattle.sim_rows.proofs.Common.{idle_grom, idle_told, idle_video, is_view, MachineState, ones_cleared, PortsAreIdle, RESUME, Sees}
 use Rattle.sim_rows.proofs.Common.{set_is, set_to, SHOW, Stands, unchanged, View, view, with_condition}
 use Rattle.sim_jumps.specs.Jumps.{GoesOn, ResumesRow, TakesBranch}
-use Rattle.sim_rows.specs.sim_operands.Pieces as operands
 use Rattle.sim_jumps.specs.Pieces as pieces
 
 -- GROMs that were set from one address to another
@@ -14,24 +13,20 @@ set_from g image next word at e to fits =
 
 -- ---- GOTO
 
-module _ (x a y : MachineState) (t t1 t2 : ℕ) (stands : Stands x GOTO) (e1 : Exits x a t t1 (pieces.go_on (view x)))
-    (e2 : Exits a y t1 t2 (operands.seek (view a))) where
-  pub goes : GoesOn x y t t2
-  goes s next h to =
-      let v : View = view x in
-      let sought : Goes (operands.seek (pieces.go_on v).left) 4 GSTEP (Sees s s.pc) = record {
-        within = omega arith;
-        to_is = refl;
-        holds = record {
-          cells = h.cells;
-          vdp = h.vdp;
-          registers = h.registers;
-          held = h.held;
-          grom = set_from v.grom s.image next v.r.r6 s.pc h.grom to ((is_view x stands.machine).r 6);
-        };
-      } in
-      let c1 = comes e1 (just (pieces.go_on v) 2 SEEK (omega arith) refl) in
-      comes_then 2 4 c1 e2 (from operands.seek c1.holds sought) refl
+pub goes : (x y : MachineState) (t u : ℕ) → Stands x GOTO → Exits x y t u (pieces.go_on (view x)) → GoesOn x y t u
+goes x y t u stands e s next h to =
+    let v : View = view x in
+    comes e (record {
+      within = omega arith;
+      to_is = refl;
+      holds = record {
+        cells = h.cells;
+        vdp = h.vdp;
+        registers = h.registers;
+        held = h.held;
+        grom = set_from v.grom s.image next v.r.r6 s.pc h.grom to ((is_view x stands.machine).r 6);
+      };
+    })
 
 -- ---- TAKE
 
@@ -59,22 +54,19 @@ takes x a y t t1 t2 e goes s next h to =
 
 -- ---- RESUME
 
-module _ (x a b : MachineState) (t t1 t2 : ℕ) (e1 : Exits x a t t1 (pieces.resume (view x))) (e2 : Exits a b t1 t2 (operands.seek (view a))) where
-  pub stands_behind : Stands b SHOW
-  stands_behind = subst (λ (p : ℕ). Stands b p) (ap return_of e1.shows) e2.stands
+module _ (x a : MachineState) (t t1 : ℕ) (stands : Stands x RESUME) (e : Exits x a t t1 (pieces.resume (view x))) where
+  abbrev v : View
+  v = view x
 
-  pub idle_behind : PortsAreIdle x.cpu.memory → PortsAreIdle b.cpu.memory
+  pub idle_behind : PortsAreIdle x.cpu.memory → PortsAreIdle a.cpu.memory
   idle_behind i =
-      let half : (view a).grom.half_written ≡ false = ap (λ (u : View). u.grom.half_written) e1.shows ∙ idle_grom x.cpu.memory i in
-      let set = set_is (view a).grom (view a).r.r6 half ((is_view a e1.stands.machine).r 6) in
-      idle_told b.cpu.memory
-      (ap (λ (u : View). u.vdp.held) e2.shows ∙ ap (λ (u : View). u.vdp.held) e1.shows ∙ idle_video x.cpu.memory i)
-      (ap (λ (u : View). u.grom.half_written) e2.shows ∙ ap (λ (g : GromState). g.half_written) set)
+      let set = set_is v.grom v.r.r14 (idle_grom x.cpu.memory i) ((is_view x stands.machine).r 14) in
+      idle_told a.cpu.memory (ap (λ (u : View). u.vdp.held) e.shows ∙ idle_video x.cpu.memory i)
+      (ap (λ (u : View). u.grom.half_written) e.shows ∙ ap (λ (g : GromState). g.half_written) set)
 
-  pub resumes : (y : MachineState) (t3 : ℕ) → Stands x RESUME → EndsRow b y t2 t3 → ResumesRow x y t t3
-  resumes y t3 stands ends c next h to =
-      let v : View = view x in
-      let sought : Goes (operands.seek (pieces.resume v).left) 4 SHOW (Changed c) = record {
+  pub resumes : (y : MachineState) (t2 : ℕ) → EndsRow a y t1 t2 → ResumesRow x y t t2
+  resumes y t2 ends c next h to =
+      let resumed : Goes (pieces.resume v) 3 SHOW (Changed c) = record {
         within = omega arith;
         to_is = refl;
         holds = record {
@@ -86,6 +78,5 @@ module _ (x a b : MachineState) (t t1 t2 : ℕ) (e1 : Exits x a t t1 (pieces.res
           mark = h.mark;
         };
       } in
-      let c1 = comes e1 (just (pieces.resume v) 3 SEEK (omega arith) refl) in
-      let c2 = comes_then 3 4 c1 e2 (from operands.seek c1.holds sought) refl in
-      comes_on 7 29 c2 (ends c c2.holds) refl
+      let c1 = comes e resumed in
+      comes_on 3 29 c1 (ends c c1.holds) refl

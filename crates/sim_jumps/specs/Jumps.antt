@@ -20,4 +20,4 @@ TakesBranch x y before after =
 abbrev pub ResumesRow : MachineState → MachineState → ℕ → ℕ → Type 0
 ResumesRow x y before after =
     (c : Changes) → (next : ℕ) → Changed (with_pc next c) (view x) → (view x).r.r14 ≡ c.state.pc
-    → Comes 36 x y before after GSTEP (SeesFinished c)
+    → Comes 32 x y before after GSTEP (SeesFinished c)

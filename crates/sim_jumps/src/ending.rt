@@ -7,7 +7,6 @@ ghost use Rattle.sim_rows.specs.native_interp.declared.addresses.TheConstants as
 use crate::pieces::{go_on, resume, take_branch};
 use sim_rows::end_row;
 use sim_rows::processor::{Machine, Steps};
-use sim_rows::subroutines::seek_address;
 use std::sync::ledger::Ledger;
 
 /// Ends a step that goes on at the address in register 6.
@@ -16,7 +15,6 @@ pub fn jump<L: Ledger>(machine: &mut Machine, steps: &mut Steps<L>)
     ensures { GoesOn machine.old machine.new steps.old steps.new }
 {
     go_on(machine, steps);
-    seek_address(machine, steps);
 }
 
 /// Clears the condition, and ends a step that goes on at the address in register 6.
@@ -37,6 +35,5 @@ pub fn resume_row<L: Ledger>(machine: &mut Machine, steps: &mut Steps<L>)
 {
     machine.holds_bounds();
     resume(machine, steps);
-    seek_address(machine, steps);
     end_row(machine, steps);
 }

@@ -4,17 +4,17 @@ ghost use Rattle.sim_rows.specs.Prelude.{Exits, Stands, view};
 ghost use Rattle.sim_rows.specs.native_interp.declared.addresses.TheConstants as address;
 ghost use Rattle.sim_jumps.specs.Pieces as piece;
 
-use sim_rows::labels::{GOTO, SEEK};
+use sim_rows::labels::{GOTO, SHOW};
 use sim_rows::processor::{Machine, Steps};
 use sim_rows::run_piece;
 use std::sync::ledger::Ledger;
 
-/// The piece that asks SEEK for the address where GROM goes on.
+/// The piece that ends a step: GROM goes on at the address in register 6.
 pub fn go_on<L: Ledger>(machine: &mut Machine, steps: &mut Steps<L>)
     requires { Stands machine.old address.GOTO }
     ensures { Exits machine.old machine.new steps.old steps.new (piece.go_on (view machine.old)) }
 {
-    run_piece(machine, steps, &[SEEK]);
+    run_piece(machine, steps, &[]);
 }
 
 /// The piece of a branch that is taken, which clears the condition.
@@ -25,10 +25,10 @@ pub fn take_branch<L: Ledger>(machine: &mut Machine, steps: &mut Steps<L>)
     run_piece(machine, steps, &[GOTO]);
 }
 
-/// The piece that asks SEEK for the address that was kept.
+/// The piece of a row's end where GROM goes on at the address in register 14.
 pub fn resume<L: Ledger>(machine: &mut Machine, steps: &mut Steps<L>)
     requires { Stands machine.old address.RESUME }
     ensures { Exits machine.old machine.new steps.old steps.new (piece.resume (view machine.old)) }
 {
-    run_piece(machine, steps, &[SEEK]);
+    run_piece(machine, steps, &[SHOW]);
 }

@@ -1,7 +1,7 @@
 -- The runs of the pieces on the view.
-use Rattle.std.proofs.Common.{[], ◌==◌, ◌∷◌, refl, slice_index}
-use Rattle.sim_rows.proofs.Common.{difference_of, down, EXB, EXV, FILL, GOALL, GOBACK, GORAND, high-join, IsView, Leads, leads, low, Part, part_then, pick}
-use Rattle.sim_rows.proofs.Common.{product_of, RANDL, Rest, SEED, STO, STORE, sum_of, swapped_high, View, Word, word_in}
+use Rattle.std.proofs.Common.{[], ℕ, ◌<◌, ◌==◌, ◌∷◌, ◌≡◌, arith, refl, slice_index}
+use Rattle.sim_rows.proofs.Common.{difference_of, down, EXB, EXV, FILL, GOALL, GOBACK, GORAND, high, high-join, IsView, Leads, leads, low, Part, part_then, pick}
+use Rattle.sim_rows.proofs.Common.{product_of, RANDL, Rest, SEED, STO, STORE, sum_of, swapped, View, Word, word_in}
 use Rattle.sim_misc.proofs.Numbers.{above_is, division_is, drawn_byte, less_fits, read_word, sum_fits}
 use Rattle.sim_misc.specs.Pieces as pieces
 use Rattle.sim_rows.specs.native_interp.declared.addresses.TheConstants.{RANDM}
@@ -11,6 +11,9 @@ keep_destination v = record { by = λ f q. refl }
 
 pub turn_to_source : (v : View) → Leads (STO ∷ []) v EXB (pieces.turn_to_source v)
 turn_to_source v = record { by = λ f q. refl }
+
+swapped_high : (word : ℕ) → word < 65536 → high (swapped word) ≡ low word
+swapped_high word h = omega arith
 
 -- RAND: the seed is read, and the next one is made
 abbrev with_seed : View → View

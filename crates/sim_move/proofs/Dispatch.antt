@@ -38,8 +38,8 @@ module _ (s : GplState) (x a : MachineState) (t t1 : ℕ) (stands : Stands x GOM
 
     -- a check fails
     module _ (here : a.cpu.pc ≡ GSTOP) where
-      m : Missing 190 s x a t t1 (copy_in kind s)
-      m = missing 190 s x a t t1 MOVEB (AtCopy kind s) (copy_in kind s) (λ e. absurd (omega arith)) here (finds kind known)
+      m : Missing 187 s x a t t1 (copy_in kind s)
+      m = missing 187 s x a t t1 MOVEB (AtCopy kind s) (copy_in kind s) (λ e. absurd (omega arith)) here (finds kind known)
 
       pub workspace : a.cpu.wp ≡ WORKSPACE
       workspace = m.comes.stands.wp
@@ -56,8 +56,8 @@ module _ (s : GplState) (x a : MachineState) (t t1 : ℕ) (stands : Stands x GOM
 
     -- all is found
     module _ (away : a.cpu.pc ≡ GSTOP → ⊥) where
-      g : Found 190 x a t t1 MOVEB (AtCopy kind s) (copy_in kind s)
-      g = found 190 s x a t t1 MOVEB (AtCopy kind s) (copy_in kind s) away (finds kind known)
+      g : Found 187 x a t t1 MOVEB (AtCopy kind s) (copy_in kind s)
+      g = found 187 s x a t t1 MOVEB (AtCopy kind s) (copy_in kind s) away (finds kind known)
 
       pub stands_copy : Stands a MOVEB
       stands_copy = g.comes.stands
@@ -87,7 +87,7 @@ module _ (s : GplState) (x a : MachineState) (t t1 : ℕ) (stands : Stands x GOM
       turned y t2 copies =
           let bytes = g.found.0.0 in
           let next = finished (made s kind g.found) in
-          let c = comes_on 190 (42 * bytes + 42) g.comes (copies (begun kind s) g.found.1 g.found.0.1 bytes g.comes.holds) refl in
+          let c = comes_on 187 (42 * bytes + 45) g.comes (copies (begun kind s) g.found.1 g.found.0.1 bytes g.comes.holds) refl in
           let e = step_copies s kind known g.found g.is in
           let b = bound_is s kind known g.found g.is in
           turned_by x y t t2 29 Stepped s (Ok next) e (refl, reaches 29 (bound s) c start refl (omega arith), matches next y c.stands c.holds)

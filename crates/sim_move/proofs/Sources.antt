@@ -3,8 +3,8 @@ use Rattle.std.proofs.Common.{ℕ, ◌%◌, ◌/◌, ◌<◌, ◌==◌, ◌∙�
 use Rattle.std.proofs.lemmas.Bool.{eq-eqb, eqb-true}
 use Rattle.sim_rows.proofs.Common.{Addressed, Answers, ASPACE, Barred, barred_stops, Cell, code_byte, Comes, comes, comes_as, comes_then, Exit, exit, Exits}
 use Rattle.sim_rows.proofs.Common.{from, Goes, GplState, grom_at, GromState, GSTOP, Holds, INDEX, index_by, index_read, indexed, IndexRead, is_view, just}
-use Rattle.sim_rows.proofs.Common.{known, located_at, lost, MachineState, MOVEA, MOVEK, MOVEW, MOVEX, Place, Placed, range_read, ranged, RangeRead, Reason}
-use Rattle.sim_rows.proofs.Common.{SEEK, set_is, space_of, Stands, state_of, StoppedBy, STREAM, swapped, Vdp, View, view, WHERE, where_found, word_at}
+use Rattle.sim_rows.proofs.Common.{known, located_at, lost, MachineState, MOVEA, MOVEK, MOVEX, Place, Placed, range_read, ranged, RangeRead, Reason}
+use Rattle.sim_rows.proofs.Common.{SEEK, set_is, space_of, Stands, state_of, StoppedBy, STREAM, Vdp, View, view, WHERE, where_found, word_at}
 use Rattle.sim_move.specs.Moves.{Arrives, SourceTold, TurnsToSource}
 use Rattle.sim_move.proofs.Numbers.{form_by, form_fits, form_index, form_is, form_space}
 use Rattle.sim_rows.specs.sim_operands.Pieces as operands
@@ -49,7 +49,7 @@ module _ {x a b c d : MachineState} {t t1 t2 t3 t4 : ℕ} (e1 : Exits x a t t1 (
   abbrev streamed : View
   streamed = record asked { r = record asked.r { r6 = read.0 }; grom = grom_at s.image read.1 }
 
-  stream_is : operands.stream asked ≡ exit 8 MOVEA streamed
+  stream_is : operands.stream asked ≡ exit 6 MOVEA streamed
   stream_is = let by : GromState → Exit = λ g. operands.stream (record asked { grom = g }) in ap by h.sees.grom
 
   -- INDEX is asked
@@ -68,7 +68,7 @@ module _ {x a b c d : MachineState} {t t1 t2 t3 t4 : ℕ} (e1 : Exits x a t t1 (
   asks : Comes 17 x c t t3 INDEX (λ w. w ≡ begun)
   asks =
       let c1 = comes e1 (just (pieces.ask_source v) 2 STREAM (omega arith) refl) in
-      let c2 = comes_then 2 8 c1 e2 (from operands.stream c1.holds (known stream_is (just (exit 8 MOVEA streamed) 8 MOVEA (omega arith) refl))) refl in
+      let c2 = comes_then 2 8 c1 e2 (from operands.stream c1.holds (known stream_is (just (exit 6 MOVEA streamed) 8 MOVEA (omega arith) refl))) refl in
       comes_then 10 7 c2 e3 (from pieces.ask_index c2.holds (record { within = omega arith; to_is = refl; holds = begun_is })) refl
 
   holds_begun : Holds s 2 read.1 begun
@@ -160,17 +160,16 @@ turns x a b c d y t t1 t2 t3 t4 t5 stands e1 e2 e3 e4 e5 image at fits grom =
     let asked : View = (pieces.ask_next v).left in
     let located : View = located_at asked image at in
     let kept : View = (pieces.seek_source located).left in
-    let sought : View = record kept { r = record kept.r { r6 = swapped v.r.r2 }; grom = grom_at image v.r.r2 } in
+    let sought : View = record kept { grom = grom_at image v.r.r2 } in
     let r2 = (is_view x stands.machine).r 2 in
-    let seek_is : operands.seek kept ≡ exit 4 MOVEK sought =
-    ap (λ (g : GromState). exit 4 MOVEK (record kept { r = record kept.r { r6 = swapped v.r.r2 }; grom = g })) (set_is (lost image at) v.r.r2 refl r2) in
+    let seek_is : operands.seek kept ≡ exit 3 MOVEK sought =
+    ap (λ (g : GromState). exit 3 MOVEK (record kept { grom = g })) (set_is (lost image at) v.r.r2 refl r2) in
     let c1 = comes e1 (just (pieces.ask_next v) 1 WHERE (omega arith) refl) in
-    let c2 = comes_then 1 12 c1 e2 (from rows.where_next c1.holds (known (where_found asked image at grom fits)
-    (just (exit 12 MOVEW located) 12 MOVEW (omega arith) refl))) refl in
+    let c2 = comes_then 1 12 c1 e2 (from rows.where_next c1.holds (where_found asked image at grom fits)) refl in
     let c3 = comes_then 13 3 c2 e3 (from pieces.seek_source c2.holds (just (pieces.seek_source located) 3 SEEK (omega arith) refl)) refl in
-    let c4 = comes_then 16 4 c3 e4 (from operands.seek c3.holds (known seek_is (just (exit 4 MOVEK sought) 4 MOVEK (omega arith) refl))) refl in
-    comes_then 20 2 c4 e5 (from pieces.turn_to_grom c4.holds (record {
+    let c4 = comes_then 16 3 c3 e4 (from operands.seek c3.holds (known seek_is (just (exit 3 MOVEK sought) 3 MOVEK (omega arith) refl))) refl in
+    comes_then 19 2 c4 e5 (from pieces.turn_to_grom c4.holds (record {
       within = omega arith;
       to_is = refl;
-      holds = record { r4 = located.r.r4; r6 = swapped v.r.r2; r11 = MOVEK; is = refl };
+      holds = record { r4 = located.r.r4; r6 = v.r.r2; r11 = MOVEK; is = refl };
     })) refl

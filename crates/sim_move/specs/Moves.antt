@@ -117,7 +117,7 @@ abbrev pub TurnsToSource : MachineState → MachineState → ℕ → ℕ → Typ
 TurnsToSource x y before after =
     let v = view x in
     (image : List ℕ) → (at : ℕ) → at < 65536 → v.grom ≡ grom_at image at
-    → Comes 22 x y before after MOVEB (TurnedTo v image at)
+    → Comes 21 x y before after MOVEB (TurnedTo v image at)
 
 -- The length, the target and the source, each with its checks, in the order of their bytes.
 abbrev pub copy_in : MoveKind → GplState → Result ((ℕ × To) × From) Reason

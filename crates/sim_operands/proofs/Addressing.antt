@@ -1,15 +1,15 @@
 -- The pieces of ADDR find the place of an operand.
-use Rattle.std.proofs.Common.{ℕ, ⊎_elim, ◌%◌, ◌&&◌, ◌*◌, ◌+◌, ◌/◌, ◌<◌, ◌==◌, ◌∙◌, ◌≡◌, ◌≤◌, ◌⊎◌, ap, arith, Bool, eqb, Err, false, if◌then◌else◌, List}
-use Rattle.std.proofs.Common.{nat_le, nat_lt, None, not, Ok, Option, refl, Result, slice_index, Some, subst, sym, true}
-use Rattle.std.proofs.lemmas.Bool.{cases_eq, eq-eqb, eqb-true, le-leb, le-ltb, lt-leb, lt-ltb, ltb-false, ltb-true, ne_eqb}
-use Rattle.sim_view.proofs.Common.{address_at, APTR, ASPACE, Cpu, Exit, Goes, GplOperand, GromState, GSTOP, high, HoldsBytes, INDEX, index_at, index_by}
-use Rattle.sim_view.proofs.Common.{indexed, is_visible, join, last_out, low, next_in_grom, operand_at, operand_from, pick, Place, plus, pointed, ranged}
-use Rattle.sim_view.proofs.Common.{Reason, shifted, SLA, Space, space_at, space_of, SRL, sum_of, Vdp, View, with_index, Word, word_in}
+use Rattle.std.proofs.Common.{ℕ, ⊎_elim, ◌%◌, ◌*◌, ◌+◌, ◌/◌, ◌<◌, ◌==◌, ◌≡◌, ◌≤◌, ap, arith, Bool, eqb, Err, false, List}
+use Rattle.std.proofs.Common.{nat_lt, not, Ok, refl, Result, slice_index, subst, sym, true}
+use Rattle.std.proofs.lemmas.Bool.{cases_eq, eq-eqb, eqb-true, le-leb, le-ltb, lt-leb, ltb-false, ltb-true, ne_eqb}
+use Rattle.sim_view.proofs.Common.{APTR, ASPACE, Exit, Goes, GSTOP, high, HoldsBytes, INDEX, index_at}
+use Rattle.sim_view.proofs.Common.{indexed, is_visible, join, last_out, next_in_grom, operand_at, pick, pointed, ranged}
+use Rattle.sim_view.proofs.Common.{Reason, shifted, SLA, space_at, SRL, sum_of, View, with_index, Word, word_in}
 use Rattle.sim_view.specs.gpl_step_defs.declared.reason.Reason.TheVariants.{Cell}
 use Rattle.sim_operands.specs.Pieces.{past}
-use Rattle.sim_operands.specs.Values.{number_of_space}
 use Rattle.sim_operands.specs.Subroutines.{Addressed, Barred, grom_at, Placed, state_of}
 use Rattle.sim_operands.specs.Pieces as pieces
+use Rattle.sim_view.specs.native_interp.declared.addresses.TheConstants.{ASHORT}
 
 -- What holds of an answer of a definition: something of its value, or of a stop by the cells.
 abbrev pub Answers : {X : Type 0} → Result X Reason → (X → Type 0) → Type 0 → Type 0
@@ -18,41 +18,37 @@ Answers (Err reason) Good Bad = (reason ≡ Cell) × Bad
 
 -- ---- the address
 
--- the first byte tells whether the address is in one byte
-first_bit : (first : ℕ) (short : Bool) → first < 256 → nat_lt first 0x80 ≡ short → last_out SLA (join first 0) 1 ≡ not short
-first_bit first true h c = let l : first < 0x80 = ltb-true first 0x80 c in let n : (256 * first + 0) * 2 / 65536 % 2 ≡ 0 =
-    omega arith in ap (λ (k : ℕ). eqb k 1) n
-first_bit first false h c = let l : 0x80 ≤ first = ltb-false first 0x80 c in let n : (256 * first + 0) * 2 / 65536 % 2 ≡ 1 =
-    omega arith in ap (λ (k : ℕ). eqb k 1) n
-
-base_is : (first : ℕ) → first < 256 → shifted SRL (shifted SLA (shifted SLA (join first 0) 1) 3) 4 ≡ 256 * (first % 16)
+-- the low four bits of the first byte
+base_is : (first : ℕ) → first < 256 → shifted SRL (shifted SLA first 12) 4 ≡ 256 * (first % 16)
 base_is first h = omega arith
+
+pub not_both : (b : Bool) → b ≡ true → b ≡ false → ⊥
+not_both b e f = cc
 
 four_ones : (low_bits : ℕ) (is : Bool) → (low_bits == 15) ≡ is → (256 * low_bits == 0x0F00) ≡ is
 four_ones low_bits true c = let e : low_bits ≡ 15 = eqb-true low_bits 15 c in rw e refl
 four_ones low_bits false c =
     ne_eqb (256 * low_bits) 0x0F00 (λ e. let n : low_bits ≡ 15 = omega arith in absurd (not_both (low_bits == 15) (eq-eqb low_bits 15 n) c))
-  where
-    not_both : (b : Bool) → b ≡ true → b ≡ false → ⊥
-    not_both b e f = cc
 
--- The address that the first piece reads, and the form of the operand: 0 where the address is one byte.
+-- An address in one byte, which the first piece reads; it has no form.
+pub record ShortRead (v : View) (at : ℕ) (e : Exit) : Type 0 where
+  pub address : ℕ
+  pub next : ℕ
+  pub below : address < 0x80
+  pub goes : Goes e 4 ASHORT (Addressed v address 0 next)
+  pub means : operand_at v.grom.image at ≡ with_index 0 address (index_at 0 v.grom.image next)
+
+-- A longer address, and the form of the operand.
 pub record AddressRead (v : View) (at : ℕ) (e : Exit) : Type 0 where
   pub form : ℕ
   pub address : ℕ
   pub next : ℕ
   pub form_fits : form < 256
-  pub goes : Goes e 13 APTR (Addressed v address (join form 0) next)
+  pub goes : Goes e 13 APTR (Addressed v address form next)
   pub means : operand_at v.grom.image at ≡ with_index form address (index_at form v.grom.image next)
 
-short_is : (first : ℕ) → first < 0x80 → shifted SRL (shifted SLA (join first 0) 1) 9 ≡ first
-short_is first h = omega arith
-
-sixteen_is : (first more less : ℕ) → more < 256 → less < 256 → sum_of Word (join more (low (256 * (first % 16)))) less ≡ join more less
-sixteen_is first more less h k = omega arith
-
-twelve_is : (first less : ℕ) → less < 256 → sum_of Word (256 * (first % 16)) less ≡ join (first % 16) less
-twelve_is first less h = omega arith
+high_base : (first : ℕ) → high (256 * (first % 16)) ≡ first % 16
+high_base first = omega arith
 
 module _ (v : View) (at : ℕ) (ready : v.grom ≡ grom_at v.grom.image at) (bytes : HoldsBytes 65536 v.grom.image) where
   abbrev image : List ℕ
@@ -61,19 +57,17 @@ module _ (v : View) (at : ℕ) (ready : v.grom ≡ grom_at v.grom.image at) (byt
   abbrev first : ℕ
   first = slice_index image at
 
-  one_byte : nat_lt first 0x80 ≡ true → AddressRead v at (pieces.address v)
+  short_form : nat_lt first 0x80 ≡ true → ShortRead v at (pieces.address v)
   unfolding operand_at
-  one_byte c =
-      let l : first < 0x80 = ltb-true first 0x80 c in
+  short_form c =
       record {
-        form = 0;
         address = first;
         next = next_in_grom at;
-        form_fits = omega arith;
+        below = ltb-true first 0x80 c;
         goes = record {
-          within = rw (ready, first_bit first true (bytes.fits at) c, pieces.address) (omega arith);
-          to_is = rw (ready, first_bit first true (bytes.fits at) c, pieces.address) refl;
-          holds = record { r4 = v.r.r4; r6 = v.r.r6; is = rw (ready, first_bit first true (bytes.fits at) c, pieces.address, short_is first l) refl };
+          within = rw (ready, c, pieces.address) (omega arith);
+          to_is = rw (ready, c, pieces.address) refl;
+          holds = record { r4 = v.r.r4; r6 = v.r.r6; is = rw (ready, c, pieces.address) refl };
         };
         means = rw c refl;
       }
@@ -81,7 +75,6 @@ module _ (v : View) (at : ℕ) (ready : v.grom ≡ grom_at v.grom.image at) (byt
   long_form : nat_lt first 0x80 ≡ false → AddressRead v at (pieces.address v)
   unfolding operand_at
   long_form c =
-      let l : 0x80 ≤ first = ltb-false first 0x80 c in
       let fits = bytes.fits at in
       let n1 = next_in_grom at in
       let n2 = next_in_grom n1 in
@@ -93,23 +86,9 @@ module _ (v : View) (at : ℕ) (ready : v.grom ≡ grom_at v.grom.image at) (byt
         next = next_in_grom n2;
         form_fits = fits;
         goes = record {
-          within = rw (ready, first_bit first false fits c, base, four_ones (first % 16) true d, pieces.address) (omega arith);
-          to_is = rw (ready, first_bit first false fits c, base, four_ones (first % 16) true d, pieces.address) refl;
-          holds =
-              record {
-                r4 = slice_index image n2;
-                r6 = v.r.r6;
-                is =
-                    rw (
-                      ready,
-                      first_bit first false fits c,
-                      base,
-                      four_ones (first % 16) true d,
-                      pieces.address,
-                      sixteen_is first (slice_index image n1)
-                          (slice_index image n2) (bytes.fits n1) (bytes.fits n2),
-                    ) refl;
-              };
+          within = rw (ready, c, base, four_ones (first % 16) true d, pieces.address) (omega arith);
+          to_is = rw (ready, c, base, four_ones (first % 16) true d, pieces.address) refl;
+          holds = record { r4 = v.r.r4; r6 = v.r.r6; is = rw (ready, c, base, four_ones (first % 16) true d, pieces.address) refl };
         };
         means = rw (c, d) refl;
       })
@@ -119,36 +98,37 @@ module _ (v : View) (at : ℕ) (ready : v.grom ≡ grom_at v.grom.image at) (byt
         next = n2;
         form_fits = fits;
         goes = record {
-          within = rw (ready, first_bit first false fits c, base, four_ones (first % 16) false d, pieces.address) (omega arith);
-          to_is = rw (ready, first_bit first false fits c, base, four_ones (first % 16) false d, pieces.address) refl;
+          within = rw (ready, c, base, four_ones (first % 16) false d, pieces.address) (omega arith);
+          to_is = rw (ready, c, base, four_ones (first % 16) false d, pieces.address) refl;
           holds =
               record {
-                r4 = slice_index image n1;
+                r4 = v.r.r4;
                 r6 = v.r.r6;
-                is =
-                    rw (
-                      ready,
-                      first_bit first false fits c,
-                      base,
-                      four_ones (first % 16) false d,
-                      pieces.address,
-                      twelve_is first (slice_index image n1)
-                          (bytes.fits n1),
-                    ) refl;
+                is = rw (ready, c, base, four_ones (first % 16) false d, high_base first, pieces.address) refl;
               };
         };
         means = rw (c, d) refl;
       })
 
-  pub address_read : AddressRead v at (pieces.address v)
-  address_read = pick (nat_lt first 0x80) one_byte long_form
+  to_short : nat_lt first 0x80 ≡ true → eqb (pieces.address v).to ASHORT ≡ true
+  to_short c = ap (λ (n : ℕ). eqb n ASHORT) (short_form c).goes.to_is
+
+  to_pointer : nat_lt first 0x80 ≡ false → eqb (pieces.address v).to ASHORT ≡ false
+  to_pointer c = ap (λ (n : ℕ). eqb n ASHORT) (long_form c).goes.to_is
+
+  -- where the first piece ends tells which
+  pub short_read : eqb (pieces.address v).to ASHORT ≡ true → ShortRead v at (pieces.address v)
+  short_read e = pick (nat_lt first 0x80) short_form (λ c. absurd (not_both (eqb (pieces.address v).to ASHORT) e (to_pointer c)))
+
+  pub address_read : eqb (pieces.address v).to ASHORT ≡ false → AddressRead v at (pieces.address v)
+  address_read e = pick (nat_lt first 0x80) (λ c. absurd (not_both (eqb (pieces.address v).to ASHORT) (to_short c) e)) long_form
 
 -- ---- the pointer
 
-indirect_bit : (form : ℕ) → form < 256 → last_out SRL (join form 0) 13 ≡ (form / 16 % 2 == 1)
-indirect_bit form h = let n : (65536 * 0 + (256 * form + 0)) / 4096 % 2 ≡ form / 16 % 2 = omega arith in ap (λ (k : ℕ). eqb k 1) n
+indirect_bit : (form : ℕ) → form < 256 → last_out SRL form 5 ≡ (form / 16 % 2 == 1)
+indirect_bit form h = let n : (65536 * 0 + form) / 16 % 2 ≡ form / 16 % 2 = omega arith in ap (λ (k : ℕ). eqb k 1) n
 
-form_down : (form : ℕ) → form < 256 → shifted SRL (join form 0) 13 ≡ form / 32
+form_down : (form : ℕ) → form < 256 → shifted SRL form 5 ≡ form / 32
 form_down form h = omega arith
 
 -- a word of two cells is visible, or not
@@ -163,7 +143,7 @@ PointerRead v w address form next e =
     (λ base. Goes e 10 INDEX (Addressed v base (form / 32) next))
     (Goes e 7 GSTOP (Barred v Cell))
 
-pub pointer_read : (v w : View) (address form next : ℕ) → form < 256 → Addressed v address (join form 0) next w →
+pub pointer_read : (v w : View) (address form next : ℕ) → form < 256 → Addressed v address form next w →
     PointerRead v w address form next (pieces.pointer w)
 pointer_read v w address form next h a =
     subst (λ (u : View). PointerRead v u address form next (pieces.pointer u)) (sym a.is)
@@ -207,7 +187,7 @@ pointer_read v w address form next h a =
       within = omega arith;
       to_is = refl;
       holds = record {
-        r4 = join (slice_index v.cells address) (low a.r4);
+        r4 = word_in v.cells address;
         r6 = a.r6;
         is =
             rw (form_down form h) refl;
@@ -256,9 +236,8 @@ index_read v w base form next h a =
       within = omega arith;
       to_is = refl;
       holds = record {
-        r4 = word_in v.cells (slice_index v.grom.image next);
-        r6 =
-            join (slice_index v.cells (slice_index v.grom.image next)) (low a.r6);
+        r4 = slice_index v.grom.image next;
+        r6 = word_in v.cells (slice_index v.grom.image next);
         is = refl;
       };
     })))
@@ -323,3 +302,30 @@ range_read v w address form next h k a =
     rw (space_bit form h, one, pieces.range)
     (record { within = omega arith; to_is = refl; holds = record { r4 = a.r4; r6 = a.r6; is = refl } }))
     (cases_eq (form / 32 % 2) 0))
+
+-- ---- the range of an address in one byte
+
+visible_short : (bytes offset : ℕ) → nat_lt 4 bytes ≡ false → offset < 0x80 → is_visible bytes offset ≡ true
+visible_short bytes offset c h = let l : bytes ≤ 4 = ltb-false 4 bytes c in le-leb (offset + bytes) 0xC2 (omega arith)
+
+near_cell : (offset : ℕ) → offset < 0x80 → nat_lt 0xC2 offset ≡ false
+near_cell offset h = le-ltb 0xC2 offset (omega arith)
+
+pub short_range_read : (v w : View) (address next : ℕ) → address < 0x80 → v.r.r3 ≤ 16384 → Addressed v address 0 next w →
+    RangeRead v w address 0 next (pieces.short_range w)
+short_range_read v w address next h k a =
+    subst (λ (u : View). RangeRead v u address 0 next (pieces.short_range u)) (sym a.is)
+    (pick (nat_lt 4 v.r.r3)
+    (λ c. pick (nat_lt 0xC2 (sum_of Word v.r.r3 address))
+    (λ f. rw (c, near_cell address h, f, visible_range v.r.r3 address true (omega arith) k f, pieces.short_range) (
+      refl,
+      record {
+        within = omega arith;
+        to_is = refl;
+        holds = record { r2 = address; r4 = sum_of Word v.r.r3 address; r5 = 0; r6 = a.r6; next = next; is = refl };
+      },
+    ))
+    (λ f. rw (c, near_cell address h, f, visible_range v.r.r3 address false (omega arith) k f, pieces.short_range)
+    (record { within = omega arith; to_is = refl; holds = record { r4 = sum_of Word v.r.r3 address; r6 = a.r6; is = refl } })))
+    (λ c. rw (c, visible_short v.r.r3 address c h, pieces.short_range)
+    (record { within = omega arith; to_is = refl; holds = record { r4 = a.r4; r6 = a.r6; is = refl } })))

@@ -1,7 +1,7 @@
 -- The pieces of LOAD and STORE, one after the other.
-use Rattle.std.proofs.Common.{ℕ, ◌+◌, ◌<◌, ◌==◌, ◌∙◌, ◌≡◌, ◌≤◌, ap, arith, false, nat_lt, None, refl, slice_index, subst, sym, true}
+use Rattle.std.proofs.Common.{ℕ, ◌<◌, ◌==◌, ◌∙◌, ◌≡◌, ◌≤◌, ap, arith, nat_lt, refl, subst, sym, true}
 use Rattle.std.proofs.lemmas.Bool.{eq-eqb, lt-ltb}
-use Rattle.sim_view.proofs.Common.{Byte, Comes, comes, comes_as, comes_then, Exit, Exits, Goes, is_view, IsFetched, LDATA, listed, MachineState, PortsAreIdle}
+use Rattle.sim_view.proofs.Common.{Byte, comes, comes_then, Exit, Exits, Goes, is_view, IsFetched, LDATA, MachineState, PortsAreIdle}
 use Rattle.sim_view.proofs.Common.{SDATA, SREG, Stands, STREAM, unchanged, View, view, with_register}
 use Rattle.sim_operands.specs.Values.{IsVisible, of_register}
 use Rattle.sim_operands.specs.Subroutines.{LoadsStream, LoadsValue, state_of, Stored, StoresRegister, StoresValue, streamed}
@@ -34,10 +34,10 @@ module _ (x : MachineState) (s : ℕ) (p : ℕ) (stands : Stands x p) (idle : Po
   load_stream y z t u l g e f =
       let more : nat_lt 1 v.r.r5 ≡ true = lt-ltb 1 v.r.r5 l in
       let is = transfers.goes_on v more in
-      let first = comes e (just (pieces.load v) 3 STREAM (let c = ap (λ (d : Exit). d.count) is in omega arith) (ap (λ (d : Exit). d.to) is)) in
+      let first = comes e (just (pieces.load v) 4 STREAM (let c = ap (λ (d : Exit). d.count) is in omega arith) (ap (λ (d : Exit). d.to) is)) in
       let same : view y ≡ v = first.holds ∙ ap (λ (d : Exit). d.left) is in
-      let at : View → Type 0 = λ w. Goes (pieces.stream w) 8 (pieces.return_of v) (λ q. q ≡ streamed v) in
-      comes_then 3 8 first f (subst at (sym same) (transfers.streams v (ready x.cpu.memory idle g))) refl
+      let at : View → Type 0 = λ w. Goes (pieces.stream w) 7 (pieces.return_of v) (λ q. q ≡ streamed v) in
+      comes_then 4 7 first f (subst at (sym same) (transfers.streams v (ready x.cpu.memory idle g))) refl
 
   pub store_cells : (y : MachineState) (t : ℕ) → IsVisible v.r.r8 v.r.r7 v.r.r3 → v.r.r8 ≡ 0 → Exits x y s t (pieces.store v) → StoresValue x y s t
   store_cells y t h z e = comes e (transfers.store_cells v z h)
@@ -57,8 +57,8 @@ module _ (x : MachineState) (s : ℕ) (p : ℕ) (stands : Stands x p) (idle : Po
   store_register y z t u l n e f =
       let more : nat_lt 1 v.r.r8 ≡ true = lt-ltb 1 v.r.r8 l in
       let is = transfers.stores_on v more in
-      let first = comes e (just (pieces.store v) 3 SREG (let c = ap (λ (d : Exit). d.count) is in omega arith) (ap (λ (d : Exit). d.to) is)) in
+      let first = comes e (just (pieces.store v) 4 SREG (let c = ap (λ (d : Exit). d.count) is in omega arith) (ap (λ (d : Exit). d.to) is)) in
       let same : view y ≡ v = first.holds ∙ ap (λ (d : Exit). d.left) is in
-      let at : View → Type 0 = λ w. Goes (pieces.store_register w) 6 (pieces.return_of v)
+      let at : View → Type 0 = λ w. Goes (pieces.store_register w) 5 (pieces.return_of v)
       (Stored v (with_register v.r.r7 (of_register Byte v.r.r9) (unchanged (state_of v)))) in
-      comes_then 3 6 first f (subst at (sym same) (transfers.store_register v (idle_video x.cpu.memory idle) n)) refl
+      comes_then 4 5 first f (subst at (sym same) (transfers.store_register v (idle_video x.cpu.memory idle) n)) refl

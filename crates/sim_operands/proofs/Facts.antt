@@ -1,9 +1,9 @@
 -- Facts about numbers that the pieces need.
-use Rattle.std.proofs.Common.{ℕ, ◌%◌, ◌&&◌, ◌*◌, ◌+◌, ◌-◌, ◌/◌, ◌<◌, ◌==◌, ◌∙◌, ◌≡◌, ◌≤◌, ap, arith, Bool, eqb, false, if◌then◌else◌, nat_le, nat_lt, not}
-use Rattle.std.proofs.Common.{refl, sym, true}
-use Rattle.std.proofs.lemmas.Bool.{eq-eqb, le-leb, le-ltb, lt-leb, lt-ltb, ltb-false, ltb-true, ne_eqb}
-use Rattle.sim_view.proofs.Common.{Byte, Cell, even, high, join, low, plus, shifted, size_of, spot, Spot, SRL, swapped, Width, Word, WORKSPACE}
-use Rattle.sim_operands.specs.Values.{IsVisible, width_in}
+use Rattle.std.proofs.Common.{ℕ, ◌&&◌, ◌+◌, ◌<◌, ◌==◌, ◌≡◌, ◌≤◌, ap, arith, Bool, false, if◌then◌else◌, int_lt, nat_lt, not, pos}
+use Rattle.std.proofs.Common.{refl, true}
+use Rattle.std.proofs.lemmas.Bool.{agree_below_at, eq-eqb, le-leb, le-ltb, lt-leb, lt-ltb, eqb-true, ltb-false, ltb-true, ne_eqb}
+use Rattle.sim_view.proofs.Common.{Byte, Cell, join, shifted, signed, size_of, spot, SRL, Word, WORKSPACE}
+use Rattle.sim_operands.specs.Values.{IsVisible}
 use Rattle.sim_view.specs.native_interp.declared.addresses.TheConstants.{BEHIND, ORIGIN}
 
 -- a byte that comes down
@@ -30,28 +30,19 @@ not_limit limit number above = let h : limit < number = ltb-true limit number ab
 pub at_most : (limit number : ℕ) → nat_lt limit number ≡ false → number ≤ limit
 at_most limit number below = ltb-false limit number below
 
--- two bytes that were read one after the other, the first of them moved down and up again
-pub two_bytes : (first second : ℕ) → first < 256 → second < 256 → swapped (join second (low (swapped (join first 0)))) ≡ join first second
-two_bytes first second h k = omega arith
+-- a byte is one
+pub byte_is : (byte : ℕ) → byte < 256 → nat_lt byte 256 ≡ true
+byte_is byte h = lt-ltb byte 256 h
 
--- a word of two bytes, the second of them read first
-pub word_up : (first second : ℕ) → first < 256 → second < 256 → join first (low (swapped (join second 0))) ≡ join first second
-word_up first second h k = omega arith
+-- the sign of a byte
+abbrev pub is_negative : ℕ → Bool
+is_negative byte = not (int_lt (pos 0) (signed Byte byte)) && not (byte == 0)
 
--- a word whose high byte came through another register
-pub word_down : (first second x y : ℕ) → first < 256 → second < 256 → x < 65536 → y < 65536 →
-    join (high (join first (low x))) (low (shifted SRL (join second (low y)) 8)) ≡ join first second
-word_down first second x y h k a b = omega arith
+abbrev from_half : ℕ → Bool
+from_half byte = not (nat_lt byte 0x80)
 
--- words and their swapped bytes
-pub swapped_high : (word : ℕ) → word < 65536 → high (swapped word) ≡ low word
-swapped_high word h = omega arith
-
-pub swapped_twice : (word : ℕ) → word < 65536 → high (swapped (swapped word)) ≡ high word
-swapped_twice word h = omega arith
-
-pub swapped_back : (word : ℕ) → word < 65536 → swapped (swapped word) ≡ word
-swapped_back word h = omega arith
+pub negative : (byte : ℕ) → byte < 256 → is_negative byte ≡ not (nat_lt byte 0x80)
+negative byte h = agree_below_at is_negative from_half 256 byte refl h
 
 -- the space of the cells is the one that is neither of the others
 pub no_other : (space : ℕ) → (space == 1) ≡ false → nat_lt 1 space ≡ false → space ≡ 0
@@ -62,6 +53,15 @@ no_other space one more = let h = at_most 1 space more in let n = ne_of space on
 
     ne_of : (n : ℕ) → (n == 1) ≡ false → (n ≡ 1 → ⊥)
     ne_of n e is = not_both (n == 1) (eq-eqb n 1 is) e
+
+pub not_cells : (space : ℕ) → (space == 1) ≡ true → (space == 0) ≡ false
+not_cells space c = let e : space ≡ 1 = eqb-true space 1 c in rw e refl
+
+pub not_above_one : (space : ℕ) → (space == 1) ≡ true → nat_lt 1 space ≡ false
+not_above_one space c = let e : space ≡ 1 = eqb-true space 1 c in rw e refl
+
+pub above_cells : (space : ℕ) → nat_lt 1 space ≡ true → (space == 0) ≡ false
+above_cells space d = let l : 1 < space = ltb-true 1 space d in ne_eqb space 0 (λ e. omega arith)
 
 -- the cells of a visible place
 pub first_fits : (space offset width : ℕ) → IsVisible space offset width → space ≡ 0 → offset < 194

@@ -1,17 +1,16 @@
 -- The pieces of ADDR, one after the other.
-use Rattle.std.proofs.Common.{ℕ, ◌%◌, ◌+◌, ◌/◌, ◌<◌, ◌==◌, ◌∙◌, ◌≡◌, ◌≤◌, ap, arith, Bool, eqb, Err, false, Ok, refl, Result, subst, sym, true}
+use Rattle.std.proofs.Common.{ℕ, ◌%◌, ◌/◌, ◌==◌, ◌∙◌, ◌≡◌, ◌≤◌, ap, arith, eqb, Err, false, Ok, refl, Result, subst, sym, true}
 use Rattle.std.proofs.lemmas.Bool.{eq-eqb}
 use Rattle.sim_view.proofs.Common.{◌>>=◌, ADDR, APTR, ASPACE, Comes, comes, comes_as, comes_then, Exit, Exits, Goes, GplOperand, GSTOP, INDEX, index_at}
-use Rattle.sim_view.proofs.Common.{indexed, is_view, IsFetched, join, MachineState, operand_at, Place, place_of, pointed, PortsAreIdle, ranged, Reason}
-use Rattle.sim_view.proofs.Common.{space_at, Stands, View, view, with_index}
+use Rattle.sim_view.proofs.Common.{indexed, is_view, IsFetched, MachineState, Place, place_of, pointed, PortsAreIdle, ranged, Reason}
+use Rattle.sim_view.proofs.Common.{space_at, Stands, View, view}
 use Rattle.sim_view.specs.gpl_step_defs.declared.reason.Reason.TheVariants.{Cell}
 use Rattle.sim_operands.specs.Subroutines.{Addressed, Barred, Finds, FindsOperand, next_at, Placed, state_of}
 use Rattle.sim_operands.proofs.Ready.{ready}
-use Rattle.sim_operands.proofs.Addressing.{address_read, AddressRead, Answers, index_read, IndexRead, pointer_read, PointerRead, range_read, RangeRead}
+use Rattle.sim_operands.proofs.Addressing.{address_read, AddressRead, Answers, index_read, not_both, pointer_read, range_read}
+use Rattle.sim_operands.proofs.Addressing.{short_range_read, short_read, ShortRead}
 use Rattle.sim_operands.specs.Pieces as pieces
-
-not_both : (b : Bool) → b ≡ true → b ≡ false → ⊥
-not_both b e f = cc
+use Rattle.sim_view.specs.native_interp.declared.addresses.TheConstants.{ASHORT}
 
 -- an answer that is no value, and one that is no stop
 stops : {X : Type 0} (r : Result X Reason) {Good : X → Type 0} {Bad : Type 0} → Answers r Good Bad → ((y : X) → Good y → ⊥) → (r ≡ Err Cell) × Bad
@@ -28,17 +27,44 @@ elsewhere {e = e} {to = to} c g = not_both (eqb e.to to) (eq-eqb e.to to g.to_is
 there : (to : ℕ) {e : Exit} {most other : ℕ} {Q : View → Type 0} → eqb e.to to ≡ true → eqb other to ≡ false → Goes e most other Q → ⊥
 there to {e = e} c d g = not_both (eqb e.to to) c (ap (λ (n : ℕ). eqb n to) g.to_is ∙ d)
 
+-- an operand with an address in one byte
+module _ (x y z : MachineState) (s t u : ℕ) (stands : Stands x ADDR) (idle : PortsAreIdle x.cpu.memory) (is : IsFetched x.cpu.memory.grom)
+    (bytes : (view x).r.r3 ≤ 16384) (short : eqb (pieces.address (view x)).to ASHORT ≡ true) (e : Exits x y s t (pieces.address (view x)))
+    (f : Exits y z t u (pieces.short_range (view y))) where
+  abbrev seen : View
+  seen = view x
+
+  at_short : ShortRead seen (next_at seen) (pieces.address seen)
+  at_short = short_read seen (next_at seen) (ready x.cpu.memory idle is) (is_view x stands.machine).grom.image short
+
+  there_short : Comes 4 x y s t ASHORT (Addressed seen at_short.address 0 at_short.next)
+  there_short = comes e at_short.goes
+
+  short_by : (q : Result Place Reason) → Answers q (λ place. Goes (pieces.short_range (view y)) 10 (pieces.return_of seen) (Placed seen at_short.next place))
+      (Goes (pieces.short_range (view y)) 10 GSTOP (Barred seen Cell)) → Finds x z s u at_short.next q
+  short_by (Ok place) g = comes_as 45 (Placed seen at_short.next place) (comes_then 4 10 there_short f g refl) (omega arith) (λ w b. b)
+  short_by (Err reason) g =
+      let P : Reason → Type 0 = λ r. Finds x z s u at_short.next (Err r) in
+      subst P (sym g.0) (comes_as 45 (Barred seen Cell) (comes_then 4 10 there_short f g.1 refl) (omega arith) (λ w b. b))
+
+  pub short_ends : FindsOperand x z s u
+  short_ends =
+      let P : GplOperand × ℕ → Type 0 = λ read. Finds x z s u read.1 (place_of (state_of seen) seen.r.r3 read.0) in
+      subst P (sym at_short.means)
+      (short_by (ranged seen.r.r3 (space_at 0) at_short.address)
+      (short_range_read seen (view y) at_short.address at_short.next at_short.below bytes there_short.holds))
+
 module _ (x : MachineState) (s : ℕ) (stands : Stands x ADDR) (idle : PortsAreIdle x.cpu.memory) (is : IsFetched x.cpu.memory.grom)
-    (bytes : (view x).r.r3 ≤ 16384) where
+    (bytes : (view x).r.r3 ≤ 16384) (long : eqb (pieces.address (view x)).to ASHORT ≡ false) where
   abbrev v : View
   v = view x
 
   pub found : AddressRead v (next_at v) (pieces.address v)
-  found = address_read v (next_at v) (ready x.cpu.memory idle is) (is_view x stands.machine).grom.image
+  found = address_read v (next_at v) (ready x.cpu.memory idle is) (is_view x stands.machine).grom.image long
 
   -- after the address
   pub addressed : (y : MachineState) (t : ℕ) → Exits x y s t (pieces.address v) → Comes 13 x y s t APTR
-      (Addressed v found.address (join found.form 0) found.next)
+      (Addressed v found.address found.form found.next)
   addressed y t e = comes e found.goes
 
   -- the answer of the definition, once it is split
@@ -53,7 +79,7 @@ module _ (x : MachineState) (s : ℕ) (stands : Stands x ADDR) (idle : PortsAreI
       subst P (sym found.means) h
 
   -- a pointer that stops
-  pub pointer_stops : (y z : MachineState) (t u : ℕ) → Comes 13 x y s t APTR (Addressed v found.address (join found.form 0) found.next) →
+  pub pointer_stops : (y z : MachineState) (t u : ℕ) → Comes 13 x y s t APTR (Addressed v found.address found.form found.next) →
       Exits y z t u (pieces.pointer (view y)) → eqb (pieces.pointer (view y)).to INDEX ≡ false → FindsOperand x z s u
   pointer_stops y z t u c e f =
       let a = stops (pointed (state_of v) (found.form / 16 % 2 == 1) found.address) (pointer_read v (view y) found.address found.form found.next
@@ -66,7 +92,7 @@ module _ (x : MachineState) (s : ℕ) (stands : Stands x ADDR) (idle : PortsAreI
     pub is_pointed : pointed (state_of v) (found.form / 16 % 2 == 1) found.address ≡ Ok base
     pub comes : Comes 23 x y s t INDEX (Addressed v base (found.form / 32) found.next)
 
-  pub pointer_goes : (y z : MachineState) (t u : ℕ) → Comes 13 x y s t APTR (Addressed v found.address (join found.form 0) found.next) →
+  pub pointer_goes : (y z : MachineState) (t u : ℕ) → Comes 13 x y s t APTR (Addressed v found.address found.form found.next) →
       Exits y z t u (pieces.pointer (view y)) → eqb (pieces.pointer (view y)).to INDEX ≡ true → Pointed z u
   pointer_goes y z t u c e f =
       let a = gives (pointed (state_of v) (found.form / 16 % 2 == 1) found.address) (pointer_read v (view y) found.address found.form found.next

@@ -1,7 +1,7 @@
 -- The ports at the entry of a subroutine.
 use Rattle.std.proofs.Common.{ℕ, ◌%◌, ◌*◌, ◌+◌, ◌/◌, ◌<◌, ◌∙◌, ◌≡◌, ap, arith, Bool, false, is_none, None, not, Option, refl, slice_index, Some, sym, true}
-use Rattle.sim_view.proofs.Common.{Exit, GromState, high, is_grom_idle, is_vdp_idle, IsFetched, join, low, Memory, next-previous, next_in_grom, PortsAreIdle}
-use Rattle.sim_view.proofs.Common.{previous_in_grom, VdpState, View, view_of}
+use Rattle.sim_view.proofs.Common.{Exit, GromState, is_grom_idle, IsFetched, join, Memory, next-previous, next_in_grom, PortsAreIdle}
+use Rattle.sim_view.proofs.Common.{previous_in_grom, View, view_of}
 use Rattle.sim_operands.specs.Pieces.{past, set_to}
 use Rattle.sim_operands.specs.Subroutines.{fetched, grom_at, next_at, sought}
 use Rattle.sim_operands.specs.Pieces as pieces
@@ -47,5 +47,5 @@ set_is g word h k =
 
 pub seeks : (v : View) → v.grom.half_written ≡ false → v.r.r6 < 65536 → pieces.seek v ≡ sought v
 seeks v h k =
-    let left : GromState → Exit = λ g. pieces.exit 4 (pieces.return_of v) (record v { r = record v.r { r6 = (sought v).left.r.r6 }; grom = g }) in
+    let left : GromState → Exit = λ g. pieces.exit 3 (pieces.return_of v) (record v { grom = g }) in
     ap left (set_is v.grom v.r.r6 h k)

@@ -1,16 +1,15 @@
 -- The pieces of LOAD and STORE carry a value.
-use Rattle.std.proofs.Common.{ℕ, ◌%◌, ◌*◌, ◌+◌, ◌/◌, ◌<◌, ◌==◌, ◌∙◌, ◌≡◌, ◌≤◌, ap, arith, Bool, eqb, false, if◌then◌else◌, List, nat_lt, None, not, Option}
-use Rattle.std.proofs.Common.{refl, slice_index, slice_set, Some, subst, sym, true}
-use Rattle.std.proofs.lemmas.Bool.{eq-eqb, eqb-true, le-ltb, lt-ltb, ltb-true, ne_eqb}
-use Rattle.sim_view.proofs.Common.{Byte, Changes, Exit, Goes, GromState, high, IsView, join, LDATA, low, next_in_grom, next_in_vdp, NoOperation, pair_kind}
-use Rattle.sim_view.proofs.Common.{PairKind, pick, Place, plus, ReadSetup, RegisterWrite, SDATA, shifted, SLA, SREG, SRL, STREAM, sum_of, swapped, unchanged}
-use Rattle.sim_view.proofs.Common.{value_at, vdp_address_written, vdp_data_read, vdp_data_written, VdpState, View, Width, with_register, with_value, Word}
-use Rattle.sim_view.proofs.Common.{word_in, WriteSetup}
-use Rattle.sim_view.specs.gpl_defs.Reading.{value_at as value_in}
+use Rattle.std.proofs.Common.{ℕ, ◌%◌, ◌+◌, ◌/◌, ◌<◌, ◌==◌, ◌∙◌, ◌≡◌, ap, arith, Bool, false, if◌then◌else◌, nat_lt, None}
+use Rattle.std.proofs.Common.{refl, slice_index, subst, sym, true}
+use Rattle.std.proofs.lemmas.Bool.{eq-eqb, eqb-true, ltb-true, ne_eqb}
+use Rattle.sim_view.proofs.Common.{Byte, Exit, Goes, GromState, high, join, LDATA, low, next_in_vdp, NoOperation, pair_kind}
+use Rattle.sim_view.proofs.Common.{PairKind, pick, plus, ReadSetup, RegisterWrite, SDATA, shifted, SLA, SREG, SRL, STREAM, sum_of, unchanged}
+use Rattle.sim_view.proofs.Common.{value_at, VdpState, View, with_register, with_value, Word}
+use Rattle.sim_view.proofs.Common.{WriteSetup}
 use Rattle.sim_operands.specs.Pieces.{past, past_video, set_video_to}
-use Rattle.sim_operands.specs.Values.{in_register, IsVisible, of_register, width_in}
-use Rattle.sim_operands.specs.Subroutines.{grom_at, Loaded, marked_by, next_at, place_in, state_of, Stored, streamed}
-use Rattle.sim_operands.proofs.Facts.{first_fits, second_fits}
+use Rattle.sim_operands.specs.Values.{IsVisible, of_register, width_in}
+use Rattle.sim_operands.specs.Subroutines.{grom_at, Loaded, next_at, place_in, state_of, Stored, streamed}
+use Rattle.sim_operands.proofs.Facts.{second_fits}
 use Rattle.sim_operands.specs.Pieces as pieces
 
 -- ---- cells
@@ -129,15 +128,15 @@ load_video v w c h k e =
 
 -- ---- the bytes that follow
 
-pub goes_on : (v : View) → nat_lt 1 v.r.r5 ≡ true → pieces.load v ≡ pieces.exit 3 STREAM v
+pub goes_on : (v : View) → nat_lt 1 v.r.r5 ≡ true → pieces.load v ≡ pieces.exit 4 STREAM v
 goes_on v c =
     let l : 1 < v.r.r5 = ltb-true 1 v.r.r5 c in
     let n : (v.r.r5 == 1) ≡ false = ne_eqb v.r.r5 1 (λ e. omega arith) in
     rw (n, c, pieces.load) refl
 
-pub streams : (v : View) → v.grom ≡ grom_at v.grom.image (next_at v) → Goes (pieces.stream v) 8 (pieces.return_of v) (λ w. w ≡ streamed v)
+pub streams : (v : View) → v.grom ≡ grom_at v.grom.image (next_at v) → Goes (pieces.stream v) 7 (pieces.return_of v) (λ w. w ≡ streamed v)
 streams v e =
-    let at : GromState → Type 0 = λ g. Goes (pieces.stream (record v { grom = g })) 8 (pieces.return_of v) (λ w. w ≡ streamed v) in
+    let at : GromState → Type 0 = λ g. Goes (pieces.stream (record v { grom = g })) 7 (pieces.return_of v) (λ w. w ≡ streamed v) in
     subst at (sym e)
     (pick (v.r.r3 == 1)
     (λ c. rw (c, pieces.stream) (record { within = omega arith; to_is = refl; holds = refl }))
@@ -180,7 +179,7 @@ store_word v z c h =
       to_is = refl;
       holds = record {
         r4 = v.r.r4;
-        r9 = swapped v.r.r9;
+        r9 = v.r.r9;
         address = v.vdp.address;
         byte = v.vdp.fetched;
         is =
@@ -194,7 +193,7 @@ store_word v z c h =
       to_is = refl;
       holds = record {
         r4 = v.r.r4;
-        r9 = swapped v.r.r9;
+        r9 = v.r.r9;
         address = v.vdp.address;
         byte = v.vdp.fetched;
         is =
@@ -207,7 +206,7 @@ store_word v z c h =
       to_is = refl;
       holds = record {
         r4 = v.r.r4;
-        r9 = swapped v.r.r9;
+        r9 = v.r.r9;
         address = v.vdp.address;
         byte = v.vdp.fetched;
         is =
@@ -265,7 +264,7 @@ store_video_by v o h k =
       to_is = refl;
       holds = record {
         r4 = v.r.r7 % 16384 + 0x4000;
-        r9 = swapped v.r.r9;
+        r9 = v.r.r9;
         address =
             next_in_vdp (next_in_vdp (v.r.r7 % 16384));
         byte = low v.r.r9;
@@ -281,26 +280,26 @@ store_video v w c h k e =
 
 -- ---- STORE: a register of the video processor
 
-pub stores_on : (v : View) → nat_lt 1 v.r.r8 ≡ true → pieces.store v ≡ pieces.exit 3 SREG v
+pub stores_on : (v : View) → nat_lt 1 v.r.r8 ≡ true → pieces.store v ≡ pieces.exit 4 SREG v
 stores_on v c =
     let l : 1 < v.r.r8 = ltb-true 1 v.r.r8 c in
     let n : (v.r.r8 == 1) ≡ false = ne_eqb v.r.r8 1 (λ e. omega arith) in
     rw (n, c, pieces.store) refl
 
-register_kind : (number : ℕ) → number < 8 → pair_kind (high (sum_of Word (swapped number) 0x8000)) ≡ RegisterWrite
-register_kind number h = let n : high (sum_of Word (swapped number) 0x8000) / 64 ≡ 2 = omega arith in ap kind_by n
+register_kind : (number : ℕ) → number < 8 → pair_kind (low (sum_of Word number 0x80)) ≡ RegisterWrite
+register_kind number h = let n : low (sum_of Word number 0x80) / 64 ≡ 2 = omega arith in ap kind_by n
 
-register_is : (number : ℕ) → number < 8 → high (sum_of Word (swapped number) 0x8000) % 8 ≡ number
+register_is : (number : ℕ) → number < 8 → low (sum_of Word number 0x80) % 8 ≡ number
 register_is number h = omega arith
 
-pub store_register : (v : View) → v.vdp.held ≡ None → v.r.r7 < 8 → Goes (pieces.store_register v) 6 (pieces.return_of v)
+pub store_register : (v : View) → v.vdp.held ≡ None → v.r.r7 < 8 → Goes (pieces.store_register v) 5 (pieces.return_of v)
     (Stored v (with_register v.r.r7 (of_register Byte v.r.r9) (unchanged (state_of v))))
 store_register v h k = record {
   within = omega arith;
   to_is = refl;
   holds =
       record {
-        r4 = sum_of Word (swapped v.r.r7) 0x8000;
+        r4 = sum_of Word v.r.r7 0x80;
         r9 = v.r.r9;
         address = v.vdp.address;
         byte = v.vdp.fetched;

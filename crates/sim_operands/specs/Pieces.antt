@@ -1,11 +1,12 @@
 -- What the pieces of the subroutines come to: how many instructions they have, where they end, and what they change of
 -- the view, in the words of the processor. Registers, cells and ports that are not named stay.
-use Rattle.std.specs.Prelude.{ℕ, ◌&&◌, ◌+◌, ◌==◌, Bool, false, if◌then◌else◌, List, nat_lt, not, slice_index}
+use Rattle.std.specs.Prelude.{ℕ, ◌+◌, ◌==◌, Bool, false, if◌then◌else◌, nat_lt, slice_index}
 use Rattle.std.specs.Prelude.{slice_set, true}
 use Rattle.sim_view.specs.Prelude.{APTR, ASPACE, even, Exit, grom_address_written, grom_data_read, GromState, GSTOP}
 use Rattle.sim_view.specs.Prelude.{high, INDEX, join, last_out, LDATA, low, SDATA, shifted, SLA, SREG, SRL, STREAM}
-use Rattle.sim_view.specs.Prelude.{sum_of, swapped, vdp_address_written, vdp_data_read, vdp_data_written, VdpState}
+use Rattle.sim_view.specs.Prelude.{sum_of, vdp_address_written, vdp_data_read, vdp_data_written, VdpState}
 use Rattle.sim_view.specs.Prelude.{View, Word, word_in}
+use Rattle.sim_view.specs.native_interp.declared.addresses.TheConstants.{ASHORT}
 
 abbrev pub exit : ℕ → ℕ → View → Exit
 exit count to left = record { count = count; to = to; left = left }
@@ -33,64 +34,69 @@ set_video_to word vdp = vdp_address_written (vdp_address_written vdp (low word))
 abbrev pub fetch : View → Exit
 fetch v = exit 3 (return_of v) (record v { r = record v.r { r6 = join v.grom.fetched 0 }; grom = past v.grom })
 
--- SEEK: GROM is set to the address in register 6, whose bytes are swapped.
+-- SEEK: GROM is set to the address in register 6.
 abbrev pub seek : View → Exit
-seek v = exit 4 (return_of v) (record v { r = record v.r { r6 = swapped v.r.r6 }; grom = set_to v.r.r6 v.grom })
+seek v = exit 3 (return_of v) (record v { grom = set_to v.r.r6 v.grom })
 
 -- The stop by reason 2: as many instructions, the last of which leads to GSTOP, and the view with the reason.
 abbrev pub barred : ℕ → View → Exit
 barred count v = exit count GSTOP (record v { r = record v.r { r0 = 2 } })
 
 -- ADDR: the first byte of an operand is read, and its address in one byte, in twelve bits or in sixteen.
-abbrev pub one_byte_address : ℕ → View → Exit
-one_byte_address first v =
-    exit 8 APTR (record v { r = record v.r { r2 = shifted SRL (shifted SLA first 1) 9; r5 = 0 }; grom = past v.grom })
+abbrev pub one_byte_address : View → Exit
+one_byte_address v =
+    exit 4 ASHORT (record v { r = record v.r { r2 = v.grom.fetched; r5 = 0 }; grom = past v.grom })
 
-abbrev pub twelve_bit_address : ℕ → ℕ → View → Exit
-twelve_bit_address first base v =
+abbrev pub twelve_bit_address : ℕ → View → Exit
+twelve_bit_address base v =
     let second = past v.grom in
-    exit 12 APTR (record v {
-      r = record v.r { r2 = sum_of Word base second.fetched; r4 = second.fetched; r5 = first };
+    exit 9 APTR (record v {
+      r = record v.r { r2 = join (high base) second.fetched; r5 = v.grom.fetched };
       grom = past second;
     })
 
-abbrev pub sixteen_bit_address : ℕ → ℕ → View → Exit
-sixteen_bit_address first base v =
+abbrev pub sixteen_bit_address : View → Exit
+sixteen_bit_address v =
     let second = past v.grom in
     let third = past second in
-    exit 13 APTR (record v {
-      r = record v.r {
-        r2 = sum_of Word (join second.fetched (low base)) third.fetched;
-        r4 = third.fetched;
-        r5 = first;
-      };
+    exit 10 APTR (record v {
+      r = record v.r { r2 = join second.fetched third.fetched; r5 = v.grom.fetched };
       grom = past third;
     })
 
 abbrev pub address : View → Exit
 address v =
-    let first = join v.grom.fetched 0 in
-    let base = shifted SRL (shifted SLA (shifted SLA first 1) 3) 4 in
-    if last_out SLA first 1
-    then (if base == 0x0F00 then sixteen_bit_address first base v else twelve_bit_address first base v)
-    else one_byte_address first v
+    let base = shifted SRL (shifted SLA v.grom.fetched 12) 4 in
+    if nat_lt v.grom.fetched 0x80
+    then one_byte_address v
+    else if base == 0x0F00 then sixteen_bit_address v else twelve_bit_address base v
+
+-- The range in the cells must be visible; so many instructions were before its test.
+abbrev pub cells_range : ℕ → View → Exit
+cells_range before v =
+    let end = sum_of Word v.r.r3 v.r.r2 in
+    let added = record v { r = record v.r { r4 = end } } in
+    if nat_lt 0xC2 v.r.r2
+    then barred (before + 3) v
+    else if nat_lt 0xC2 end then barred (before + 7) added else exit (before + 7) (return_of v) added
+
+-- ASHORT: behind an address in one byte a range of four bytes is visible, and a longer one must be.
+abbrev pub short_range : View → Exit
+short_range v = if nat_lt 4 v.r.r3 then cells_range 2 v else exit 3 (return_of v) v
 
 -- APTR: the form of the operand comes down in register 5; where the operand is indirect, the address is that of a
 -- pointer, which is read if it may be.
 abbrev pub pointer : View → Exit
 pointer v =
-    let told = record v { r = record v.r { r5 = shifted SRL v.r.r5 13 } } in
-    if last_out SRL v.r.r5 13
+    let told = record v { r = record v.r { r5 = shifted SRL v.r.r5 5 } } in
+    if last_out SRL v.r.r5 5
     then (
     if nat_lt 0xC0 v.r.r2
     then barred 5 told
     else if v.r.r2 == 0x7C
     then barred 7 told
-    else exit 10 INDEX (record told {
-      r = record told.r {
-        r2 = word_in v.cells v.r.r2;
-        r4 = join (slice_index v.cells v.r.r2) (low v.r.r4);
-      };
+    else exit 9 INDEX (record told {
+      r = record told.r { r2 = word_in v.cells v.r.r2; r4 = word_in v.cells v.r.r2 };
     })
     )
     else exit 2 INDEX told
@@ -103,11 +109,11 @@ index v =
     let offset = v.grom.fetched in
     if nat_lt 0xC0 offset
     then barred 8 (record v { r = record v.r { r4 = offset }; grom = past v.grom })
-    else exit 12 ASPACE (record v {
+    else exit 10 ASPACE (record v {
       r = record v.r {
         r2 = sum_of Word v.r.r2 (word_in v.cells offset);
-        r4 = word_in v.cells offset;
-        r6 = join (slice_index v.cells offset) (low v.r.r6);
+        r4 = offset;
+        r6 = word_in v.cells offset;
       };
       grom = past v.grom;
     })
@@ -119,17 +125,7 @@ abbrev pub range : View → Exit
 range v =
     let space = shifted SRL (shifted SLA v.r.r5 15) 15 in
     let told = record v { r = record v.r { r5 = space } } in
-    let end = sum_of Word v.r.r3 v.r.r2 in
-    if space == 0
-    then (
-    let added = record told { r = record told.r { r4 = end } } in
-    if nat_lt 0xC2 v.r.r2
-    then barred 6 told
-    else if nat_lt 0xC2 end
-    then barred 10 added
-    else exit 10 (return_of v) added
-    )
-    else exit 4 (return_of v) told
+    if space == 0 then cells_range 3 told else exit 4 (return_of v) told
 
 -- LOAD: a value of the cells is read, or the video processor is set to its address, or the value is that of STREAM.
 abbrev pub load : View → Exit
@@ -140,10 +136,10 @@ load v =
     exit 9 LDATA (record v { r = record v.r { r4 = at }; vdp = set_video_to at v.vdp })
     )
     else if nat_lt 1 v.r.r5
-    then exit 3 STREAM v
+    then exit 4 STREAM v
     else if v.r.r3 == 1
-    then exit 8 (return_of v) (record v { r = record v.r { r6 = join (slice_index v.cells v.r.r2) 0 } })
-    else exit 10 (return_of v) (record v { r = record v.r { r6 = word_in v.cells v.r.r2 } })
+    then exit 7 (return_of v) (record v { r = record v.r { r6 = join (slice_index v.cells v.r.r2) 0 } })
+    else exit 8 (return_of v) (record v { r = record v.r { r6 = word_in v.cells v.r.r2 } })
 
 -- LDATA: a value of video memory is read.
 abbrev pub load_video : View → Exit
@@ -151,7 +147,7 @@ load_video v =
     let second = past_video v.vdp in
     if v.r.r3 == 1
     then exit 5 (return_of v) (record v { r = record v.r { r6 = join v.vdp.fetched 0 }; vdp = second })
-    else exit 8 (return_of v)
+    else exit 6 (return_of v)
     (record v { r = record v.r { r6 = join v.vdp.fetched second.fetched }; vdp = past_video second })
 
 -- STREAM: a value of the bytes that follow in GROM is read.
@@ -160,7 +156,7 @@ stream v =
     let second = past v.grom in
     if v.r.r3 == 1
     then exit 5 (return_of v) (record v { r = record v.r { r6 = join v.grom.fetched 0 }; grom = second })
-    else exit 8 (return_of v)
+    else exit 6 (return_of v)
     (record v { r = record v.r { r6 = join v.grom.fetched second.fetched }; grom = past second })
 
 -- STORE: a value is stored in the cells, or the video processor is set to its address, or it goes on at SREG. Register
@@ -174,15 +170,15 @@ one_if false = 0
 
 abbrev pub store_byte : View → Exit
 store_byte v =
-    exit (9 + one_if (v.r.r7 == 0x7D)) (return_of v) (record v {
+    exit (8 + one_if (v.r.r7 == 0x7D)) (return_of v) (record v {
       r = record v.r { r13 = marked 0x7D v.r.r7 v.r.r13 };
       cells = slice_set v.cells v.r.r7 (high v.r.r9);
     })
 
 abbrev pub store_word : View → Exit
 store_word v =
-    exit (13 + (one_if (v.r.r7 == 0x7D) + one_if (v.r.r7 == 0x7C))) (return_of v) (record v {
-      r = record v.r { r9 = swapped v.r.r9; r13 = marked 0x7C v.r.r7 (marked 0x7D v.r.r7 v.r.r13) };
+    exit (11 + (one_if (v.r.r7 == 0x7D) + one_if (v.r.r7 == 0x7C))) (return_of v) (record v {
+      r = record v.r { r13 = marked 0x7C v.r.r7 (marked 0x7D v.r.r7 v.r.r13) };
       cells = slice_set (slice_set v.cells v.r.r7 (high v.r.r9)) (v.r.r7 + 1) (low v.r.r9);
     })
 
@@ -194,7 +190,7 @@ store v =
     exit 10 SDATA (record v { r = record v.r { r4 = at }; vdp = set_video_to at v.vdp })
     )
     else if nat_lt 1 v.r.r8
-    then exit 3 SREG v
+    then exit 4 SREG v
     else if v.r.r3 == 1
     then store_byte v
     else store_word v
@@ -205,14 +201,13 @@ store_video v =
     let first = vdp_data_written v.vdp (high v.r.r9) in
     if v.r.r3 == 1
     then exit 4 (return_of v) (record v { vdp = first })
-    else exit 6 (return_of v)
-    (record v { r = record v.r { r9 = swapped v.r.r9 }; vdp = vdp_data_written first (low v.r.r9) })
+    else exit 5 (return_of v) (record v { vdp = vdp_data_written first (low v.r.r9) })
 
 -- SREG: a register of the video processor is set.
 abbrev pub store_register : View → Exit
 store_register v =
-    let pair = sum_of Word (swapped v.r.r7) 0x8000 in
-    exit 6 (return_of v) (record v {
+    let pair = sum_of Word v.r.r7 0x80 in
+    exit 5 (return_of v) (record v {
       r = record v.r { r4 = pair };
-      vdp = vdp_address_written (vdp_address_written v.vdp (high v.r.r9)) (high pair);
+      vdp = vdp_address_written (vdp_address_written v.vdp (high v.r.r9)) (low pair);
     })

@@ -1,9 +1,9 @@
 -- What the subroutines come to, in the words of GPL.
-use Rattle.std.specs.Prelude.{ℕ, ◌<◌, ◌==◌, ◌≡◌, ◌≤◌, Bool, Err, false, if◌then◌else◌, List, not, Ok, Result}
-use Rattle.std.specs.Prelude.{slice_index, true}
+use Rattle.std.specs.Prelude.{ℕ, ◌==◌, ◌≡◌, Bool, Err, false, if◌then◌else◌, List, not, Ok, Result}
+use Rattle.std.specs.Prelude.{slice_index}
 use Rattle.sim_view.specs.Prelude.{Byte, Changes, Comes, Cpu, Exit, GplState, GromState, GSTOP, join, MachineState}
 use Rattle.sim_view.specs.Prelude.{next_in_grom, number_of, operand_at, Place, place_of, previous_in_grom, Reason}
-use Rattle.sim_view.specs.Prelude.{Space, swapped, unchanged, value_at, Vdp, View, view, with_register, with_value}
+use Rattle.sim_view.specs.Prelude.{Space, unchanged, value_at, Vdp, View, view, with_register, with_value}
 use Rattle.sim_view.specs.gpl_defs.Reading.{value_at as value_in}
 use Rattle.sim_operands.specs.Values.{in_register, number_of_space, of_register, width_in}
 use Rattle.sim_operands.specs.Pieces.{exit, return_of}
@@ -39,8 +39,7 @@ fetched v =
 
 -- SEEK: GROM gives the byte at the address in register 6 next.
 abbrev pub sought : View → Exit
-sought v =
-    exit 4 (return_of v) (record v { r = record v.r { r6 = swapped v.r.r6 }; grom = grom_at v.grom.image v.r.r6 })
+sought v = exit 3 (return_of v) (record v { grom = grom_at v.grom.image v.r.r6 })
 
 -- ADDR. An address in register 2, the form of an operand or its space in register 5, and what GROM gives next;
 -- registers 4 and 6 may have changed.

@@ -6,17 +6,28 @@ ghost use Rattle.sim_view.specs.native_interp.declared.addresses.TheConstants as
 ghost use Rattle.sim_operands.specs.Subroutines.{FindsOperand};
 ghost use Rattle.sim_operands.specs.Pieces as piece;
 
-use sim_view::labels::{APTR, ASPACE, INDEX};
+use sim_view::labels::{APTR, ASHORT, ASPACE, INDEX};
 use sim_view::processor::{Machine, Steps};
 use sim_view::run_piece;
 use std::sync::ledger::Ledger;
 
-/// The piece of ADDR that reads the first byte of an operand and its address.
-pub fn read_address<L: Ledger>(machine: &mut Machine, steps: &mut Steps<L>)
+/// The piece of ADDR that reads the first byte of an operand and its address. Is the address in one byte?
+pub fn read_address<L: Ledger>(machine: &mut Machine, steps: &mut Steps<L>) -> bool
     requires { Stands machine.old address.ADDR }
-    ensures { Exits machine.old machine.new steps.old steps.new (piece.address (view machine.old)) }
+    ensures exits { Exits machine.old machine.new steps.old steps.new (piece.address (view machine.old)) }
+    ensures short { result ≡ eqb (piece.address (view machine.old)).to address.ASHORT }
 {
-    run_piece(machine, steps, &[APTR]);
+    run_piece(machine, steps, &[APTR, ASHORT]);
+    machine.pc() == ASHORT
+}
+
+/// The piece of ADDR behind an address in one byte: a range of more than four bytes is checked. It returns, or the
+/// machine stops by reason 2.
+pub fn check_short<L: Ledger>(machine: &mut Machine, steps: &mut Steps<L>)
+    requires { Stands machine.old address.ASHORT }
+    ensures { Exits machine.old machine.new steps.old steps.new (piece.short_range (view machine.old)) }
+{
+    run_piece(machine, steps, &[]);
 }
 
 /// The piece of ADDR that reads the pointer of an indirect operand. Does it go on? If not,
@@ -58,7 +69,10 @@ pub fn run_address<L: Ledger>(machine: &mut Machine, steps: &mut Steps<L>)
     requires bytes { (view machine.old).r.r3 ≤ 16384 }
     ensures { FindsOperand machine.old machine.new steps.old steps.new }
 {
-    read_address(machine, steps);
+    if read_address(machine, steps) {
+        check_short(machine, steps);
+        return;
+    }
     if !read_pointer(machine, steps) {
         return;
     }

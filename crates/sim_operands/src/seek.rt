@@ -16,8 +16,8 @@ pub fn seek_address<L: Ledger>(machine: &mut Machine, steps: &mut Steps<L>)
     run_piece(machine, steps, &[]);
 }
 
-/// Runs SEEK: GROM is set to the address in register 6, and so gives the byte there next. It takes 4 instructions,
-/// swaps the bytes of register 6, changes nothing else, and comes to the address in register 11.
+/// Runs SEEK: GROM is set to the address in register 6, and so gives the byte there next. It takes 3 instructions,
+/// changes nothing else, and comes to the address in register 11.
 pub fn run_seek<L: Ledger>(machine: &mut Machine, steps: &mut Steps<L>)
     requires stands { Stands machine.old SEEK }
     requires idle { PortsAreIdle machine.old.cpu.memory }

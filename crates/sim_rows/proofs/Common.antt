@@ -2,7 +2,7 @@
 pub use Rattle.sim_view.proofs.Common.{comes, comes_as, comes_on, comes_then, given, Goes, high-join, is_view, IsView, leads, Leads, Part, part_then, pick}
 pub use Rattle.sim_view.proofs.Common.{piece, previous-next, reg_word, Rest}
 pub use Rattle.sim_operands.proofs.Addressing.{Answers, index_read, IndexRead, range_read, RangeRead}
-pub use Rattle.sim_operands.proofs.Facts.{at_most, down, not_limit, swapped_high}
+pub use Rattle.sim_operands.proofs.Facts.{at_most, byte_is, down, no_other, not_limit, spot_cell}
 pub use Rattle.sim_operands.proofs.Ready.{idle_grom, idle_video, ready, set_is}
 pub use Rattle.sim_rows.proofs.Again.{begins, fetched_again, idle_again, idle_told}
 pub use Rattle.sim_rows.proofs.Beginning.{from, just, known, located_at, lost, where_found}

@@ -3,7 +3,7 @@ use Rattle.std.proofs.Common.{ℕ, ◌%◌, ◌&&◌, ◌*◌, ◌+◌, ◌-◌,
 use Rattle.std.proofs.lemmas.Bool.{eq-eqb, le-leb, le-ltb, lt-leb, lt-ltb, ltb-false, ltb-true, ne_eqb}
 use Rattle.sim_view.proofs.Common.{Code, spot}
 use Rattle.sim_rows.specs.Pieces.{first_entry, first_row}
-use Rattle.sim_rows.specs.Prelude.{even, high, join, low, plus, shifted, SRL, swapped, TABLE, WORKSPACE}
+use Rattle.sim_rows.specs.Prelude.{even, plus, TABLE, WORKSPACE}
 use Rattle.sim_view.specs.native_interp.declared.addresses.TheConstants.{BEHIND, OPTAB, ORIGIN, WORD_COUNT}
 
 -- a word of the interpreter at an address
@@ -25,15 +25,6 @@ spot_table code h = spot_code (even (plus TABLE ((code + code) % 65536))) (first
 -- the second table's word
 pub spot_rows : (code : ℕ) → 0x80 ≤ code → code < 0xEC → spot (even (plus (OPTAB - 0x80) code)) ≡ Code (first_row + (code - 0x80) / 2)
 spot_rows code l h = spot_code (even (plus (OPTAB - 0x80) code)) (first_row + (code - 0x80) / 2) (omega arith) (omega arith)
-
--- the word of two reads of the counter
-abbrev pub counter_in : ℕ → ℕ → ℕ
-counter_in before counter =
-    let first = shifted SRL (join (high counter) (low before)) 8 in
-    swapped (join (high (join (low counter) (low counter))) (low first))
-
-pub counter_is : (before counter : ℕ) → counter < 65536 → counter_in before counter ≡ counter
-counter_is before counter h = omega arith
 
 -- below a limit
 pub not_above : (limit number : ℕ) (below : Bool) → nat_lt number limit ≡ below → (not (nat_lt limit number) && not (number == limit)) ≡ below

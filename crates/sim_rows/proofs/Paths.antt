@@ -1,20 +1,12 @@
 -- The runs of the pieces on the view.
-use Rattle.std.proofs.Common.{[], ℕ, ◌<◌, ◌==◌, ◌∷◌, ◌≡◌, ◌≤◌, arith, false, List, nat_lt, refl, subst, sym, true}
-use Rattle.sim_view.proofs.Common.{IsView, Leads, leads, Part, part_then, pick, Rest}
-use Rattle.sim_rows.specs.Prelude.{ADDR, Exit, exit, FETCH, GO, GSTEP, last_out, LOAD, OPS, OPVAL, ROW, SEEK, shifted, SHOW, SRL, STO, STORE, UNIT, View}
-use Rattle.sim_rows.specs.Prelude.{WHERE, WIDE}
-use Rattle.sim_rows.proofs.Facts.{counter_is, not_above, spot_rows, spot_table}
+use Rattle.std.proofs.Common.{[], ℕ, ◌+◌, ◌<◌, ◌==◌, ◌∷◌, ◌≡◌, ◌≤◌, arith, false, List, nat_lt, refl, subst, slice_index, sym, true}
+use Rattle.sim_view.proofs.Common.{high-join, IsView, join-bytes, Leads, leads, Part, part_then, pick, Rest}
+use Rattle.sim_rows.specs.Prelude.{ADDR, difference_of, even, Exit, exit, GO, GromState, GSTEP, high, INTERP, join, last_out, LOAD, low, OPS, OPVAL, past, ROW}
+use Rattle.sim_rows.specs.Prelude.{set_to, shifted, SHOW, SLA, SRL, STO, STORE, sum_of, UNIT, View, WHERE, WIDE, Word}
+use Rattle.sim_operands.proofs.Facts.{byte_is, down}
+use Rattle.sim_rows.proofs.Facts.{not_above, spot_rows, spot_table}
 use Rattle.sim_rows.specs.Pieces as pieces
-use Rattle.sim_view.specs.native_interp.declared.addresses.TheConstants.{GBYTE, GCODE, GKEEP, OPSDST, OPSTWO, OPSVAL}
-
-pub ask_address : (v : View) → Leads (WHERE ∷ []) v GSTEP (pieces.ask_address v)
-ask_address v = record { by = λ f q. refl }
-
-pub keep_address : (v : View) → Leads (SEEK ∷ []) v GKEEP (pieces.keep_address v)
-keep_address v = record { by = λ f q. refl }
-
-pub ask_byte : (v : View) → Leads (FETCH ∷ []) v GBYTE (pieces.ask_byte v)
-ask_byte v = record { by = λ f q. refl }
+use Rattle.sim_view.specs.native_interp.declared.addresses.TheConstants.{GBACK, GCODE, OPSDST, OPSTWO, OPSVAL}
 
 pub row_width : (v : View) → Leads (OPS ∷ []) v ROW (pieces.row_width v)
 row_width v = record { by = λ f q. refl }
@@ -34,12 +26,6 @@ load_second v = record { by = λ f q. refl }
 pub store_result : (v : View) → Leads (STORE ∷ []) v STO (pieces.store_result v)
 store_result v = record { by = λ f q. refl }
 
-pub where_next : (v : View) → IsView v → Leads [] v WHERE (pieces.where_next v)
-where_next v i = record { by = λ f q. rw (counter_is v.r.r6 v.grom.counter i.grom.counter) refl }
-
-pub dispatch : (v : View) → IsView v → Leads [] v GCODE (pieces.dispatch v)
-dispatch v i = record { by = λ f q. let fits = i.r 6 in rw (spot_table (shifted SRL v.r.r6 8) (omega arith)) refl }
-
 pub go_to_row : (v : View) → 0x80 ≤ v.r.r0 → v.r.r0 < 0xEC → Leads [] v GO (pieces.go_to_row v)
 go_to_row v l h = record { by = λ f q. rw (spot_rows v.r.r0 l h) refl }
 
@@ -49,6 +35,85 @@ show v = record {
       pick (v.r.r13 == 0)
       (λ c. rw c refl)
       (λ c. rw c refl);
+}
+
+-- an exit by its cases
+rest_is : {ends : List ℕ} {made most : ℕ} {v : View} {p : ℕ} {e d : Exit} → d ≡ e → Rest ends made most v p e → Rest ends made most v p d
+rest_is {ends = ends} {made = made} {most = most} {v = v} {p = p} is rest = subst (λ (e : Exit). Rest ends made most v p e) (sym is) rest
+
+-- GSTEP and WHERE, behind the two reads of the counter
+abbrev at_back : View → ℕ → View
+at_back v word =
+    record v { r = record v.r { r1 = word; r4 = shifted SLA v.grom.counter 3 }; grom = pieces.read_once (pieces.read_once v.grom) }
+
+step_first : (v : View) → pieces.at_first v.grom.counter ≡ true → Part [] 6 v GSTEP (at_back v (sum_of Word v.grom.counter 0x2000)) GBACK
+step_first v c = record {
+  by = λ f.
+      let n = v.grom.counter in
+      rw (high-join (low n) n, byte_is (low n) (omega arith), high-join (high n) v.r.r1, join-bytes n, c) refl;
+}
+
+step_next : (v : View) → pieces.at_first v.grom.counter ≡ false → Part [] 5 v GSTEP (at_back v v.grom.counter) GBACK
+step_next v c = record {
+  by = λ f.
+      let n = v.grom.counter in
+      rw (high-join (low n) n, byte_is (low n) (omega arith), high-join (high n) v.r.r1, join-bytes n, c) refl;
+}
+
+-- the address behind is set again, and the byte there is read
+abbrev set_again : View → ℕ → GromState
+set_again v word = set_to (difference_of Word word 1) (pieces.read_once (pieces.read_once v.grom))
+
+abbrev dispatched : ℕ → View → ℕ → Exit
+dispatched count v word =
+    let set = set_again v word in
+    let entry = slice_index INTERP (pieces.first_entry + set.fetched) in
+    exit count (even entry) (record v { r = record v.r { r0 = set.fetched; r1 = difference_of Word word 1; r4 = entry }; grom = past set })
+
+code_fits : (v : View) → IsView v → (word : ℕ) → (set_again v word).fetched < 256
+code_fits v i word = i.grom.image.fits _
+
+code_down : (v : View) → IsView v → (word : ℕ) → shifted SRL (join (set_again v word).fetched (low v.r.r0)) 8 ≡ (set_again v word).fetched
+code_down v i word = down (set_again v word).fetched (low v.r.r0) (code_fits v i word) (omega arith)
+
+abbrev with_code : View → ℕ → View
+with_code v word =
+    let set = set_again v word in
+    record v { r = record v.r { r0 = set.fetched; r1 = difference_of Word word 1; r4 = shifted SLA v.grom.counter 3 }; grom = past set }
+
+read_first : (v : View) → IsView v → (word : ℕ) → Part [] 5 (at_back v word) GBACK (with_code v word) GCODE
+read_first v i word = record { by = λ f. rw (code_down v i word) refl }
+
+-- the first table leads on by a code byte
+abbrev led : ℕ → View → Exit
+led count u = let entry = slice_index INTERP (pieces.first_entry + u.r.r0) in exit count (even entry) (record u { r = record u.r { r4 = entry } })
+
+lead_first : (u : View) → u.r.r0 < 256 → Rest [] 11 5 u GCODE (led 15 u)
+lead_first u h = record { by = λ f. rw (spot_table u.r.r0 h) refl }
+
+lead_next : (u : View) → u.r.r0 < 256 → Rest [] 10 6 u GCODE (led 14 u)
+lead_next u h = record { by = λ f. rw (spot_table u.r.r0 h) refl }
+
+back_first : (v : View) → IsView v → (word : ℕ) → Rest [] 6 10 (at_back v word) GBACK (dispatched 15 v word)
+back_first v i word = part_then [] 5 6 5 (read_first v i word) (lead_first (with_code v word) (code_fits v i word))
+
+back_next : (v : View) → IsView v → (word : ℕ) → Rest [] 5 11 (at_back v word) GBACK (dispatched 14 v word)
+back_next v i word = part_then [] 5 5 6 (read_first v i word) (lead_next (with_code v word) (code_fits v i word))
+
+pub dispatch : (v : View) → IsView v → Leads [] v GSTEP (pieces.dispatch v)
+dispatch v i =
+    leads []
+    (pick (pieces.at_first v.grom.counter)
+    (λ c. rest_is {ends = []} (rw (c, pieces.dispatch) refl) (part_then [] 6 0 10 (step_first v c) (back_first v i (sum_of Word v.grom.counter 0x2000))))
+    (λ c. rest_is {ends = []} (rw (c, pieces.dispatch) refl) (part_then [] 5 0 11 (step_next v c) (back_next v i v.grom.counter))))
+
+pub where_next : (v : View) → Leads [] v WHERE (pieces.where_next v)
+where_next v = record {
+  by = λ f q.
+      let n = v.grom.counter in
+      pick (pieces.at_first n)
+      (λ c. rw (high-join (low n) n, byte_is (low n) (omega arith), high-join (high n) v.r.r6, join-bytes n, c) refl)
+      (λ c. rw (high-join (low n) n, byte_is (low n) (omega arith), high-join (high n) v.r.r6, join-bytes n, c) refl);
 }
 
 -- OPS, behind LOAD, part by part
@@ -78,10 +143,6 @@ immediate v c = record { by = λ f. rw c refl }
 
 operand : (v : View) → last_out SRL v.r.r0 2 ≡ false → Rest ends 7 9 v OPSTWO (exit 11 ADDR (record (form v) { r = record (form v).r { r11 = OPVAL } }))
 operand v c = record { by = λ f. rw c refl }
-
--- an exit by its cases
-rest_is : {made most : ℕ} {v : View} {p : ℕ} {e d : Exit} → d ≡ e → Rest ends made most v p e → Rest ends made most v p d
-rest_is {made = made} {most = most} {v = v} {p = p} is rest = subst (λ (e : Exit). Rest ends made most v p e) (sym is) rest
 
 pub second_operand : (v : View) → Leads ends v OPSVAL (pieces.second_operand v)
 second_operand v =

@@ -1,13 +1,13 @@
 -- What the pieces of a step up to its dispatch, of the operands of a row and of the end of a row come to: how many
 -- instructions they have, where they end, and what they change of the view, in the words of the processor. Registers,
 -- cells and ports that are not named stay.
-use Rattle.std.specs.Prelude.{ℕ, ◌+◌, ◌-◌, ◌/◌, ◌==◌, if◌then◌else◌, nat_lt, slice_index}
-use Rattle.sim_view.specs.Prelude.{ADDR, CHARACTER, COLUMN, difference_of, even, Exit, FETCH, GO, grom_address_read}
+use Rattle.std.specs.Prelude.{ℕ, Bool, ◌+◌, ◌-◌, ◌/◌, ◌==◌, if◌then◌else◌, nat_lt, slice_index}
+use Rattle.sim_view.specs.Prelude.{ADDR, CHARACTER, COLUMN, difference_of, even, Exit, GO, grom_address_read}
 use Rattle.sim_view.specs.Prelude.{GromState, GSTEP, INTERP, join, last_out, LOAD, low, OPS, OPTAB, OPVAL, origin}
-use Rattle.sim_view.specs.Prelude.{SEEK, shifted, SHOW, SLA, SRL, STORE, sum_of, TABLE, View, WHERE, Word}
+use Rattle.sim_view.specs.Prelude.{shifted, SHOW, SLA, SRL, STORE, sum_of, TABLE, View, Word}
 use Rattle.sim_view.specs.gpl_step_defs.declared.cells.TheConstants.{ROW}
-use Rattle.sim_operands.specs.Pieces.{exit, return_of}
-use Rattle.sim_view.specs.native_interp.declared.addresses.TheConstants.{GBYTE, GCODE, GKEEP, OPSDST, OPSVAL}
+use Rattle.sim_operands.specs.Pieces.{exit, one_if, past, return_of, set_to}
+use Rattle.sim_view.specs.native_interp.declared.addresses.TheConstants.{OPSDST, OPSVAL}
 
 -- the numbers of the first words of both tables, among the words of the interpreter
 abbrev pub first_entry : ℕ
@@ -16,38 +16,39 @@ first_entry = (TABLE - origin) / 2
 abbrev pub first_row : ℕ
 first_row = (OPTAB - origin) / 2
 
--- GSTEP: the address of the next byte is asked for.
-abbrev pub ask_address : View → Exit
-ask_address v = exit 1 WHERE (record v { r = record v.r { r11 = GKEEP } })
-
--- WHERE: two reads of the address port give the counter, and the address before it in its GROM comes into
--- register 6. The counter is lost.
+-- Two reads of the address port give the counter, which is lost.
 abbrev pub read_once : GromState → GromState
 read_once grom = (grom_address_read grom).1
 
+-- what a counter of the GROM's first address, which has no low 13 bits, takes one instruction more for
+abbrev pub at_first : ℕ → Bool
+at_first counter = shifted SLA counter 3 == 0
+
+-- the address before a counter, in its GROM
+abbrev pub address_before : ℕ → ℕ
+address_before counter =
+    difference_of Word (if at_first counter then sum_of Word counter 0x2000 else counter) 1
+
+-- GSTEP: the address before the counter comes into register 1, and GROM is set to it again; the byte there comes into
+-- register 0, and the first table leads on by it.
+abbrev pub dispatch : View → Exit
+dispatch v =
+    let counter = v.grom.counter in
+    let set = set_to (address_before counter) (read_once (read_once v.grom)) in
+    let entry = slice_index INTERP (first_entry + set.fetched) in
+    exit (14 + one_if (at_first counter)) (even entry) (record v {
+      r = record v.r { r0 = set.fetched; r1 = address_before counter; r4 = entry };
+      grom = past set;
+    })
+
+-- WHERE: the address before the counter comes into register 6.
 abbrev pub where_next : View → Exit
 where_next v =
     let counter = v.grom.counter in
-    let offset = shifted SRL (shifted SLA (difference_of Word counter 1) 3) 3 in
-    exit 12 (return_of v) (record v {
-      r = record v.r { r4 = offset; r6 = sum_of Word (shifted SLA (shifted SRL counter 13) 13) offset };
+    exit (7 + one_if (at_first counter)) (return_of v) (record v {
+      r = record v.r { r4 = shifted SLA counter 3; r6 = address_before counter };
       grom = read_once (read_once v.grom);
     })
-
--- GSTEP, behind WHERE: the address is kept, and GROM is set to it again.
-abbrev pub keep_address : View → Exit
-keep_address v = exit 2 SEEK (record v { r = record v.r { r1 = v.r.r6; r11 = GBYTE } })
-
--- GSTEP, behind SEEK: the byte is asked for.
-abbrev pub ask_byte : View → Exit
-ask_byte v = exit 1 FETCH (record v { r = record v.r { r11 = GCODE } })
-
--- GSTEP, behind FETCH: the first table leads on by the byte.
-abbrev pub dispatch : View → Exit
-dispatch v =
-    let code = shifted SRL v.r.r6 8 in
-    let entry = slice_index INTERP (first_entry + code) in
-    exit 6 (even entry) (record v { r = record v.r { r0 = code; r4 = entry } })
 
 -- ROW: the width of the operands.
 abbrev pub width_of_code : ℕ → ℕ

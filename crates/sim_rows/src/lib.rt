@@ -11,9 +11,7 @@ pub use row::{
     ask_first, go_to_row, load_destination, load_first, load_operands, load_second, load_source,
     row_width, second_operand, start_row, wide_width,
 };
-pub use step::{
-    ask_address, ask_byte, begin_step, dispatch, keep_address, operation_told, where_next,
-};
+pub use step::{begin_step, dispatch, operation_told, where_next};
 pub use tail::{end_row, finish_row, show, store_result};
 
 // what a family speaks of

@@ -7,19 +7,9 @@ ghost use Rattle.sim_view.specs.native_interp.declared.addresses.TheConstants as
 ghost use Rattle.sim_rows.specs.Pieces as piece;
 
 use gpl_forms::{GplOperation, operation_at};
-use sim_operands::{fetch_byte, seek_address};
-use sim_view::labels::{FETCH, SEEK, WHERE};
 use sim_view::processor::{Machine, Steps};
 use sim_view::{register, run_piece};
 use std::sync::ledger::Ledger;
-
-/// The piece of a step that asks WHERE for the address of the code byte.
-pub fn ask_address<L: Ledger>(machine: &mut Machine, steps: &mut Steps<L>)
-    requires { Stands machine.old address.GSTEP }
-    ensures { Exits machine.old machine.new steps.old steps.new (piece.ask_address (view machine.old)) }
-{
-    run_piece(machine, steps, &[WHERE]);
-}
 
 /// The piece of WHERE: the address of the next GROM byte.
 pub fn where_next<L: Ledger>(machine: &mut Machine, steps: &mut Steps<L>)
@@ -29,25 +19,9 @@ pub fn where_next<L: Ledger>(machine: &mut Machine, steps: &mut Steps<L>)
     run_piece(machine, steps, &[]);
 }
 
-/// The piece of a step that keeps the address and asks SEEK for it.
-pub fn keep_address<L: Ledger>(machine: &mut Machine, steps: &mut Steps<L>)
-    requires { Stands machine.old address.GKEEP }
-    ensures { Exits machine.old machine.new steps.old steps.new (piece.keep_address (view machine.old)) }
-{
-    run_piece(machine, steps, &[SEEK]);
-}
-
-/// The piece of a step that asks FETCH for the code byte.
-pub fn ask_byte<L: Ledger>(machine: &mut Machine, steps: &mut Steps<L>)
-    requires { Stands machine.old address.GBYTE }
-    ensures { Exits machine.old machine.new steps.old steps.new (piece.ask_byte (view machine.old)) }
-{
-    run_piece(machine, steps, &[FETCH]);
-}
-
-/// The piece of a step that goes where the first table leads.
+/// The piece of a step that finds its code byte and goes where the first table leads.
 pub fn dispatch<L: Ledger>(machine: &mut Machine, steps: &mut Steps<L>)
-    requires { Stands machine.old address.GCODE }
+    requires { Stands machine.old address.GSTEP }
     ensures { Exits machine.old machine.new steps.old steps.new (piece.dispatch (view machine.old)) }
 {
     run_piece(machine, steps, &[]);
@@ -62,12 +36,6 @@ pub fn begin_step<L: Ledger>(machine: &mut Machine, steps: &mut Steps<L>)
         (operation_entry (operation_at (slice_index s.image s.pc))) (Dispatched s) }
 {
     machine.holds_bounds();
-    ask_address(machine, steps);
-    where_next(machine, steps);
-    keep_address(machine, steps);
-    seek_address(machine, steps);
-    ask_byte(machine, steps);
-    fetch_byte(machine, steps);
     dispatch(machine, steps);
 }
 

@@ -1,16 +1,15 @@
 -- CALL, from its dispatch to the end of the step.
 use Rattle.std.proofs.Common.{ℕ, ◌<◌, ◌∙◌, ◌≡◌, ap, arith, Err, false, List, nat_lt, Ok, Option, refl, Result, slice_index, slice_set, Some, subst, sym, true}
 use Rattle.sim_rows.proofs.Common.{◌>>=◌, at_most, behind_code, bound, bound_made, CALL, CALLN, CALLS, CALLT, cells_at, ChangedFrom, Changes, Comes, comes}
-use Rattle.sim_rows.proofs.Common.{comes_on, comes_then, Dispatched, Exit, exit, Exits, finished, from, GOCALL, Goes, GplOperation, GplState, grom_at}
-use Rattle.sim_rows.proofs.Common.{GromState, grown_by, GSTOP, high, idle_again, idle_told, is_end, is_view, IsVisible, Jump, just, known, MachineState}
+use Rattle.sim_rows.proofs.Common.{comes_as, comes_on, comes_then, Dispatched, Exit, exit, Exits, finished, GOCALL, Goes, GplOperation, GplState, grom_at}
+use Rattle.sim_rows.proofs.Common.{GromState, grown_by, GSTOP, high, idle_again, idle_told, is_end, is_view, IsVisible, Jump, known, MachineState}
 use Rattle.sim_rows.proofs.Common.{matches, on_stack, operation_in, PortsAreIdle, reaches, Reason, RESUME, return_of, Stack, Stands, step, step_jump, Stepped}
-use Rattle.sim_rows.proofs.Common.{Stopped, StoppedBy, STORE, store_then, stored_idle, StoresValue, Storing, STREAM, sum_of, Turned, turned_by, unchanged}
+use Rattle.sim_rows.proofs.Common.{Stopped, StoppedBy, STORE, store_then, stored_idle, StoresValue, Storing, sum_of, Turned, turned_by, unchanged}
 use Rattle.sim_rows.proofs.Common.{View, view, WHERE, with_cell, with_value, Word, word_at as word_in_grom}
 use Rattle.sim_jumps.specs.Jumps.{ResumesRow}
-use Rattle.sim_rows.specs.sim_operands.Pieces as operands
 use Rattle.sim_stack.specs.Pieces.{offset_of, pointer_at}
 use Rattle.sim_stack.specs.Family.{is_call}
-use Rattle.sim_stack.specs.Stacks.{Called, EndsCall, gone_to, Located, Locates, ReadsTarget, Stacking}
+use Rattle.sim_stack.specs.Stacks.{Called, EndsCall, gone_to, Located, Locates, Stacking}
 use Rattle.sim_stack.proofs.Room.{goes_full, goes_on, no_room, stop_turned, two_more, two_stored, with_room}
 use Rattle.sim_stack.proofs.Locating.{next_fits}
 use Rattle.sim_stack.specs.Pieces as pieces
@@ -19,16 +18,14 @@ use Rattle.sim_rows.specs.interp_defs.Interpreter.{most_to_dispatch}
 
 -- ---- the address that follows
 
-pub reads : (x a y : MachineState) (t t1 t2 : ℕ) → Exits x a t t1 (pieces.ask_target (view x)) → Exits a y t1 t2 (operands.stream (view a)) →
-    ReadsTarget x y t t2
-reads x a y t t1 t2 e1 e2 s d =
+reads : (x y : MachineState) (t u : ℕ) → Exits x y t u (pieces.read_target (view x)) → (s : GplState) → Dispatched s (view x) → Comes 11 x y t u CALLT (Called s)
+reads x y t u e s d =
     let v : View = view x in
-    let asked : View = (pieces.ask_target v).left in
-    let read = word_in_grom s.image (behind_code s) in
-    let streamed : View = record asked { r = record asked.r { r6 = read.0 }; grom = grom_at s.image read.1 } in
-    let stream_by : GromState → Exit = λ g. operands.stream (record asked { grom = g }) in
-    let stream_is : operands.stream asked ≡ exit 8 CALLT streamed = ap stream_by d.sees.grom in
-    let read_well : Goes (exit 8 CALLT streamed) 8 CALLT (Called s) = record {
+    let word = word_in_grom s.image (behind_code s) in
+    let read : View = record v { r = record v.r { r3 = 2; r13 = 0; r14 = word.0 }; grom = grom_at s.image word.1 } in
+    let read_by : GromState → Exit = λ g. pieces.read_target (record v { grom = g }) in
+    let read_is : pieces.read_target v ≡ exit 4 CALLT read = ap read_by d.sees.grom in
+    comes e (known read_is (record {
       within = omega arith;
       to_is = refl;
       holds = record {
@@ -38,9 +35,7 @@ reads x a y t t1 t2 e1 e2 s d =
         target = refl;
         mark = refl;
       };
-    } in
-    let c1 = comes e1 (just (pieces.ask_target v) 3 STREAM (omega arith) refl) in
-    comes_then 3 8 c1 e2 (from operands.stream c1.holds (known stream_is read_well)) refl
+    }))
 
 -- ---- from CALLS on
 
@@ -86,7 +81,7 @@ module _ {x a : MachineState} {t t1 : ℕ} (e1 : Exits x a t t1 (pieces.store_ne
         (store_then before Word (cells_at top) s.pc a b t1 t2 storing stored) in
         let back : (view b).r.r14 ≡ target = ap (λ (v : View). v.r.r14) stored.holds.is ∙ ap (λ (v : View). v.r.r14) e1.shows ∙ h.target_is in
         let c3 : Comes 20 x b t t2 RESUME (ChangedFrom after (view a)) = comes_on 4 16 c1 c2 refl in
-        comes_on 20 36 c3 (resumes (gone_to s top target) s.pc c3.holds.changed back) refl
+        comes_as 56 _ (comes_on 20 32 c3 (resumes (gone_to s top target) s.pc c3.holds.changed back) refl) (omega arith) (λ w q. q)
 
 -- ---- the step
 
@@ -115,9 +110,9 @@ bound_call s next family is = bound_made s next (Some (Jump CALL)) (call_is (ope
 -- ---- from the dispatch on
 
 module _ (s : GplState) {x a b : MachineState} {t t1 t2 : ℕ} (stands : Stands x GOCALL) (d : Dispatched s (view x)) (family : is_call (operation_in s) ≡ true)
-    (read : ReadsTarget x a t t1) (e : Exits a b t1 t2 (pieces.keep_target (view a))) where
+    (read : Exits x a t t1 (pieces.read_target (view x))) (e : Exits a b t1 t2 (pieces.keep_target (view a))) where
   called : Comes 11 x a t t1 CALLT (Called s)
-  called = read s d
+  called = reads x a t t1 read s d
 
   abbrev pointer : ℕ
   pointer = sum_of Word (pointer_at 0x73 (view a)) 0x0200
@@ -126,7 +121,7 @@ module _ (s : GplState) {x a b : MachineState} {t t1 t2 : ℕ} (stands : Stands 
   offset = offset_of pointer
 
   abbrev told : View
-  told = record (view a) { r = record (view a).r { r7 = offset; r12 = pointer; r14 = (view a).r.r6 } }
+  told = record (view a) { r = record (view a).r { r7 = offset; r12 = pointer } }
 
   abbrev placed : View
   placed = record told { r = record told.r { r11 = CALLN } }
@@ -145,10 +140,10 @@ module _ (s : GplState) {x a b : MachineState} {t t1 t2 : ℕ} (stands : Stands 
 
   pub stopped : b.cpu.pc ≡ GSTOP → Turned s most_to_dispatch x b t t2 (Stopped Stack)
   stopped here =
-      let k = goes_full a b t1 t2 (nat_lt 0xC0 offset) (pieces.full 11 told) (exit 9 WHERE placed) e (λ q. absurd (omega arith)) here in
+      let k = goes_full a b t1 t2 (nat_lt 0xC0 offset) (pieces.full 10 told) (exit 8 WHERE placed) e (λ q. absurd (omega arith)) here in
       let full : on_stack 2 (top_in s) ≡ Err Stack = no_room 0xC0 2 (top_in s) refl (ap (nat_lt 0xC0) (sym offset_top) ∙ k.0) in
       let h = called.holds in
-      let ended : Goes (pieces.full 11 told) 11 GSTOP (StoppedBy s Stack) = record {
+      let ended : Goes (pieces.full 10 told) 11 GSTOP (StoppedBy s Stack) = record {
         within = omega arith;
         to_is = refl;
         holds = record { ended = record { cells = h.sees.cells; vdp = h.sees.vdp; registers = h.sees.registers; address = h.address }; reason_is = refl };
@@ -156,8 +151,8 @@ module _ (s : GplState) {x a b : MachineState} {t t1 t2 : ℕ} (stands : Stands 
       stop_turned s x b t t2 22 start (step_by s (Err Stack) family full) (comes_then 11 11 called k.1 ended refl) (omega arith)
 
   module _ (elsewhere : b.cpu.pc ≡ GSTOP → ⊥) where
-    went : (nat_lt 0xC0 offset ≡ false) × Exits a b t1 t2 (exit 9 WHERE placed)
-    went = goes_on a b t1 t2 (nat_lt 0xC0 offset) (pieces.full 11 told) (exit 9 WHERE placed) e refl elsewhere
+    went : (nat_lt 0xC0 offset ≡ false) × Exits a b t1 t2 (exit 8 WHERE placed)
+    went = goes_on a b t1 t2 (nat_lt 0xC0 offset) (pieces.full 10 told) (exit 8 WHERE placed) e refl elsewhere
 
     pub stands_where : Stands b WHERE
     stands_where = went.1.stands

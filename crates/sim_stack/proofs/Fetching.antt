@@ -1,9 +1,9 @@
 -- The parts of FETCH.
 use Rattle.std.proofs.Common.{ℕ, ◌+◌, ◌<◌, ◌∙◌, ◌≡◌, ◌≤◌, ap, arith, refl, subst, sym}
-use Rattle.sim_rows.proofs.Common.{Byte, cells_at, Changed, changed_again, ChangedFrom, Changes, Comes, comes, comes_on, comes_then, Cpu, Exit, exit, Exits}
+use Rattle.sim_rows.proofs.Common.{Byte, cells_at, Changed, changed_again, ChangedFrom, Changes, Comes, comes, comes_as, comes_on, comes_then, Cpu, Exit, exit, Exits}
 use Rattle.sim_rows.proofs.Common.{FETCH, FETCHA, FETCHD, FETCHK, FETCHR, from, grom_at, GromState, high, idle_again, is_view, IsVisible, just, known, LOAD}
 use Rattle.sim_rows.proofs.Common.{Loaded, LoadsValue, MachineState, place_in, PortsAreIdle, RESUME, return_of, SEEK, Space, Stands, state_of, STORE}
-use Rattle.sim_rows.proofs.Common.{store_then, stored_idle, StoresValue, Storing, swapped, unchanged, value_at, value_keeps, Vdp, View, view, WHERE, width_in}
+use Rattle.sim_rows.proofs.Common.{store_then, stored_idle, StoresValue, Storing, unchanged, value_at, value_keeps, Vdp, View, view, WHERE, width_in}
 use Rattle.sim_rows.proofs.Common.{with_byte, with_byte_in, with_pc, with_value, with_word, Word, word_in}
 use Rattle.sim_jumps.specs.Jumps.{ResumesRow}
 use Rattle.sim_jumps.proofs.Going.{set_from}
@@ -43,14 +43,14 @@ fetches x a b c d y t t1 t2 t3 t4 t5 stands e1 e2 e3 e4 e5 image next grom =
     let v : View = view x in
     let at : ℕ = v.r.r6 in
     let asked : View = (pieces.seek_stacked v).left in
-    let sought_by : GromState → View = λ g. record asked { r = record asked.r { r6 = swapped at }; grom = g } in
+    let sought_by : GromState → View = λ g. record asked { grom = g } in
     let sought : View = sought_by (grom_at image at) in
-    let seek_by : GromState → Exit = λ g. exit 4 FETCHR (sought_by g) in
-    let seek_is : operands.seek asked ≡ exit 4 FETCHR sought = ap seek_by (set_from v.grom image next at at grom refl ((is_view x stands.machine).r 6)) in
+    let seek_by : GromState → Exit = λ g. exit 3 FETCHR (sought_by g) in
+    let seek_is : operands.seek asked ≡ exit 3 FETCHR sought = ap seek_by (set_from v.grom image next at at grom refl ((is_view x stands.machine).r 6)) in
     let bid : View = (pieces.ask_byte sought).left in
     let read : View = (operands.fetch bid).left in
     let c1 = comes e1 (just (pieces.seek_stacked v) 1 SEEK (omega arith) refl) in
-    let c2 = comes_then 1 4 c1 e2 (from operands.seek c1.holds (known seek_is (just (exit 4 FETCHR sought) 4 FETCHR (omega arith) refl))) refl in
+    let c2 = comes_then 1 4 c1 e2 (from operands.seek c1.holds (known seek_is (just (exit 3 FETCHR sought) 4 FETCHR (omega arith) refl))) refl in
     let c3 = comes_then 5 1 c2 e3 (from pieces.ask_byte c2.holds (just (pieces.ask_byte sought) 1 FETCH (omega arith) refl)) refl in
     let c4 = comes_then 6 3 c3 e4 (from operands.fetch c3.holds (just (operands.fetch bid) 3 FETCHK (omega arith) refl)) refl in
     comes_then 9 2 c4 e5 (from pieces.keep_byte c4.holds (just (pieces.keep_byte read) 2 WHERE (omega arith) refl)) refl
@@ -134,4 +134,4 @@ module _ {x a : MachineState} {t t1 : ℕ} (e1 : Exits x a t t1 (pieces.store_st
           ∙ ap (λ (v : View). v.r.r14) e1.shows
           ∙ h.back
           ∙ sym (value_keeps Byte place byte stacked).1 in
-          comes_on 40 36 (comes_on 24 16 c3 c4 refl) (resumes after next changed back) refl
+          comes_as 76 _ (comes_on 40 32 (comes_on 24 16 c3 c4 refl) (resumes after next changed back) refl) (omega arith) (λ w q. q)

@@ -1,7 +1,8 @@
 -- The runs of the pieces on the view.
 use Rattle.std.proofs.Common.{[], ◌==◌, ◌∷◌, nat_lt, refl, slice_index}
 use Rattle.sim_rows.proofs.Common.{CALLN, CALLS, CALLT, FETCH, FETCHA, FETCHB, FETCHD, FETCHK, FETCHN, FETCHP, FETCHR, FETCHS, FETCHV, GOCALL, GORTN, GOTO}
-use Rattle.sim_rows.proofs.Common.{join, Leads, LOAD, low, not_limit, pick, PUSHV, RTNP, SEEK, STO, STORE, STREAM, sum_of, TAKE, View, WHERE, Word}
+use Rattle.sim_rows.proofs.Common.{byte_is, high-join, IsView, join, Leads, LOAD, low, not_limit, past, pick, PUSHV, RTNP, SEEK, STO, STORE, sum_of, TAKE}
+use Rattle.sim_rows.proofs.Common.{View, WHERE, Word}
 use Rattle.sim_stack.specs.Pieces.{offset_of, pointer_at}
 use Rattle.sim_stack.specs.Pieces as pieces
 
@@ -21,8 +22,10 @@ take_return v = record {
       (λ c. rw c refl);
 }
 
-pub ask_target : (v : View) → Leads (STREAM ∷ []) v GOCALL (pieces.ask_target v)
-ask_target v = record { by = λ f q. refl }
+pub read_target : (v : View) → IsView v → Leads (CALLT ∷ []) v GOCALL (pieces.read_target v)
+read_target v i = record {
+  by = λ f q. rw (byte_is (past v.grom).fetched (i.grom.image.fits v.grom.counter), high-join v.grom.fetched v.r.r14) refl;
+}
 
 pub keep_target : (v : View) → Leads (WHERE ∷ []) v CALLT (pieces.keep_target v)
 keep_target v = record {

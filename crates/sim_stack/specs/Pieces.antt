@@ -3,7 +3,7 @@
 use Rattle.std.specs.Prelude.{ℕ, ◌==◌, if◌then◌else◌, nat_lt, slice_index, slice_set}
 use Rattle.sim_rows.specs.Prelude.{CALLN, CALLS, CALLT, Exit, exit, FETCH, FETCHA, FETCHB, FETCHD, FETCHK, FETCHN}
 use Rattle.sim_rows.specs.Prelude.{FETCHP, FETCHR, FETCHS, GOTO, GSTOP, high, join, LOAD, low, RESUME, RETURN_STACK}
-use Rattle.sim_rows.specs.Prelude.{RTNP, SEEK, shifted, SRL, STO, STORE, STREAM, sum_of, TAKE, VALUE_STACK, View}
+use Rattle.sim_rows.specs.Prelude.{past, RTNP, SEEK, shifted, SRL, STO, STORE, sum_of, TAKE, VALUE_STACK, View}
 use Rattle.sim_rows.specs.Prelude.{WHERE, Word}
 
 -- A pointer of a stack in the high half of a register, with nothing below it, and the offset that it says.
@@ -33,18 +33,23 @@ take_return v =
     let taken = record v { r = record v.r { r12 = pointer }; cells = slice_set v.cells RETURN_STACK (high pointer) } in
     if v.r.r0 == 0 then exit 4 TAKE taken else exit 5 GOTO taken
 
--- GOCALL: nothing was stored yet, and STREAM is asked for the address that follows.
-abbrev pub ask_target : View → Exit
-ask_target v = exit 3 STREAM (record v { r = record v.r { r3 = 2; r11 = CALLT; r13 = 0 } })
+-- GOCALL: nothing was stored yet, and the word that follows is the target.
+abbrev pub read_target : View → Exit
+read_target v =
+    let second = past v.grom in
+    exit 4 CALLT (record v {
+      r = record v.r { r3 = 2; r13 = 0; r14 = join v.grom.fetched second.fetched };
+      grom = past second;
+    })
 
--- CALLT: the address is kept, and WHERE is asked for the next one, if there is room for it on the stack.
+-- CALLT: WHERE is asked for the next address, if there is room for it on the stack.
 abbrev pub keep_target : View → Exit
 keep_target v =
     let pointer = sum_of Word (pointer_at RETURN_STACK v) 0x0200 in
-    let told = record v { r = record v.r { r7 = offset_of pointer; r12 = pointer; r14 = v.r.r6 } } in
+    let told = record v { r = record v.r { r7 = offset_of pointer; r12 = pointer } } in
     if nat_lt 0xC0 (offset_of pointer)
-    then full 11 told
-    else exit 9 WHERE (record told { r = record told.r { r11 = CALLN } })
+    then full 10 told
+    else exit 8 WHERE (record told { r = record told.r { r11 = CALLN } })
 
 -- CALLN and FETCHB: the next address is the value to store, and GROM is set to it again.
 abbrev pub keep_next : ℕ → View → Exit

@@ -1,6 +1,6 @@
 -- Parts of CALL, RTN, PUSH and FETCH, for all states that may be there.
 use Rattle.std.specs.Prelude.{ℕ, ◌<◌, ◌==◌, ◌≡◌, false, if◌then◌else◌, List, slice_index}
-use Rattle.sim_rows.specs.Prelude.{behind_code, CALLT, Changed, Changes, Comes, Dispatched, FETCHA, FETCHB, FETCHP}
+use Rattle.sim_rows.specs.Prelude.{behind_code, Changed, Changes, Comes, FETCHA, FETCHB, FETCHP}
 use Rattle.sim_rows.specs.Prelude.{GplState, grom_at, grown_by, GSTEP, high, join, Loaded, MachineState, next_in_grom}
 use Rattle.sim_rows.specs.Prelude.{number_of_space, Place, RETURN_STACK, Sees, SeesFinished, unchanged, View, view}
 use Rattle.sim_rows.specs.Prelude.{WHERE, with_byte, with_cell, with_condition, with_pc, with_word}
@@ -61,17 +61,13 @@ SetsAside x y before after =
 
 -- CALL
 
--- At CALLT the address that follows is in register 6.
+-- At CALLT the address that follows is in register 14.
 pub record Called (s : GplState) (w : View) : Type 0 where
   pub sees : Sees s (word_in_grom s.image (behind_code s)).1 w
   pub address : w.r.r1 ≡ s.pc
   pub bytes_are : w.r.r3 ≡ 2
-  pub target : w.r.r6 ≡ (word_in_grom s.image (behind_code s)).0
+  pub target : w.r.r14 ≡ (word_in_grom s.image (behind_code s)).0
   pub mark : w.r.r13 ≡ 0
-
-abbrev pub ReadsTarget : MachineState → MachineState → ℕ → ℕ → Type 0
-ReadsTarget x y before after =
-    (s : GplState) → Dispatched s (view x) → Comes 11 x y before after CALLT (Called s)
 
 -- At CALLS: the top of the stack in register 7 and in the high half of register 12, the next address in register 9, and
 -- the one that is called in register 14.

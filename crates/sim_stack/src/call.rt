@@ -4,25 +4,16 @@ ghost use Rattle.std.specs.Prelude.{◌≡◌, true};
 ghost use Rattle.sim_rows.specs.Prelude.{Dispatched, IsVisible, most_to_dispatch, operation_seen, PortsAreIdle};
 ghost use Rattle.sim_rows.specs.Prelude.{Stands, state_at_dispatch, Turned, view};
 ghost use Rattle.sim_stack.specs.Family.{is_call};
-ghost use Rattle.sim_stack.specs.Stacks.{EndsCall, Locates, ReadsTarget};
+ghost use Rattle.sim_stack.specs.Stacks.{EndsCall, Locates};
 ghost use Rattle.sim_rows.specs.native_interp.declared.addresses.TheConstants as address;
 
-use crate::pieces::{ask_target, keep_call_next, keep_target, store_next};
+use crate::pieces::{keep_call_next, keep_target, read_target, store_next};
 use sim_jumps::resume_row;
 use sim_rows::labels::{GSTOP, WHERE};
 use sim_rows::processor::{Machine, Steps};
-use sim_rows::subroutines::{run_store, seek_address, stream_value};
+use sim_rows::subroutines::{run_store, seek_address};
 use sim_rows::{Reason, Turn, where_next};
 use std::sync::ledger::Ledger;
-
-/// Reads the address that is called.
-fn read_target<L: Ledger>(machine: &mut Machine, steps: &mut Steps<L>)
-    requires { Stands machine.old address.GOCALL }
-    ensures { ReadsTarget machine.old machine.new steps.old steps.new }
-{
-    ask_target(machine, steps);
-    stream_value(machine, steps);
-}
 
 /// Finds the next address, to be stored.
 fn locate_next<L: Ledger>(machine: &mut Machine, steps: &mut Steps<L>)

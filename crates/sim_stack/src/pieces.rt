@@ -4,20 +4,20 @@ ghost use Rattle.sim_rows.specs.Prelude.{Exits, Stands, view};
 ghost use Rattle.sim_rows.specs.native_interp.declared.addresses.TheConstants as address;
 ghost use Rattle.sim_stack.specs.Pieces as piece;
 
-use sim_rows::labels::{FETCH, GOTO, LOAD, SEEK, STO, STORE, STREAM, TAKE, WHERE};
+use sim_rows::labels::{CALLT, FETCH, GOTO, LOAD, SEEK, STO, STORE, TAKE, WHERE};
 use sim_rows::processor::{Machine, Steps};
 use sim_rows::run_piece;
 use std::sync::ledger::Ledger;
 
-/// The piece of CALL that asks STREAM for the address that follows.
-pub fn ask_target<L: Ledger>(machine: &mut Machine, steps: &mut Steps<L>)
+/// The piece of CALL that reads the address that follows.
+pub fn read_target<L: Ledger>(machine: &mut Machine, steps: &mut Steps<L>)
     requires { Stands machine.old address.GOCALL }
-    ensures { Exits machine.old machine.new steps.old steps.new (piece.ask_target (view machine.old)) }
+    ensures { Exits machine.old machine.new steps.old steps.new (piece.read_target (view machine.old)) }
 {
-    run_piece(machine, steps, &[STREAM]);
+    run_piece(machine, steps, &[CALLT]);
 }
 
-/// The piece of CALL that keeps it and asks WHERE for the next address, or stops by reason 3.
+/// The piece of CALL that takes the stack's pointer and asks WHERE for the next address, or stops by reason 3.
 pub fn keep_target<L: Ledger>(machine: &mut Machine, steps: &mut Steps<L>)
     requires { Stands machine.old address.CALLT }
     ensures { Exits machine.old machine.new steps.old steps.new (piece.keep_target (view machine.old)) }

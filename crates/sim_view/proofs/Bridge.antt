@@ -1,5 +1,5 @@
 -- From runs of the view to what a piece comes to.
-use Rattle.std.proofs.Common.{◌≡◌, ℕ, ◌+◌, ◌-◌, ◌*◌, ◌<◌, ◌≤◌, List, [], ◌∷◌, ◌++◌, Bool, true, false, length, refl, sym, ap, subst, ◌∙◌, arith, get_or, take}
+use Rattle.std.proofs.Common.{◌≡◌, ℕ, ◌+◌, ◌*◌, ◌<◌, ◌≤◌, List, [], ◌∷◌, ◌++◌, length, refl, sym, ap, subst, ◌∙◌, arith, get_or, take}
 use Rattle.std.proofs.Common.{drop, length-take, length-drop, lit<, ⊎_elim, zero, suc}
 use Rattle.std.proofs.lemmas.List.{get_or-drop, get_or-take, get_or_past, take_at, drop_at}
 use Rattle.std.proofs.lemmas.Bool.{cases_lt}
@@ -13,20 +13,20 @@ use Rattle.console_defs.specs.Vdp.{VdpState, IsVdp}
 use Rattle.console_defs.specs.Grom.{GromState, IsGrom}
 use Rattle.tms_defs.specs.Accesses.{Answer, Gives, ◌>>=◌}
 use Rattle.tms_defs.specs.Operand.{Cpu, register_in}
-use Rattle.console_defs.specs.Memory.{Memory, IsMemory, Region, Scratchpad, region, word_read}
+use Rattle.console_defs.specs.Memory.{Memory, IsMemory, Scratchpad, region, word_read}
 use Rattle.console_defs.specs.Machine.{MachineState, IsMachine}
 use Rattle.tms_defs.specs.declared.status.Status.{Status}
 use Rattle.interp_defs.specs.Interpreter.{HoldsInterpreter}
 use Rattle.interp_defs.specs.Runs.{Runs}
 use Rattle.native_interp.specs.declared.addresses.TheConstants.{WORKSPACE}
-use Rattle.sim_view.specs.View.{View, Registers, listed, relisted, words_of, view_of, view, Stands}
+use Rattle.sim_view.specs.View.{View, listed, relisted, words_of, view_of, view, Stands}
 use Rattle.sim_view.specs.Exits.{Exit, Exits}
 use Rattle.sim_view.specs.Running.{Ran, RunsPiece, ran}
 use Rattle.sim_view.proofs.Answers.{given, given_by}
 use Rattle.sim_view.proofs.Lists.{double_suc, listed-relisted, spell-words, length-words, words-spell}
 use Rattle.sim_view.proofs.Seen.{spell, seen_run}
-use Rattle.sim_view.proofs.Simulates.{Shows, carry}
-use Rattle.sim_view.proofs.Following.{machine, Followed, followed}
+use Rattle.sim_view.proofs.Simulates.{Shows}
+use Rattle.sim_view.proofs.Following.{machine, followed}
 
 -- The state in which a piece begins.
 abbrev pub at : View → Status → ℕ → Cpu View

@@ -1,8 +1,8 @@
 -- A run of the view is a run of the machine.
-use Rattle.std.proofs.Common.{◌≡◌, ℕ, zero, suc, ◌+◌, ◌-◌, ◌<◌, List, Bool, true, false, refl, sym, ap, subst, ◌∙◌, arith}
+use Rattle.std.proofs.Common.{◌≡◌, ℕ, zero, suc, ◌+◌, ◌<◌, List, Bool, true, false, refl, ap, subst, ◌∙◌, arith}
 use Rattle.std.specs.Prelude.{◌||◌}
 use Rattle.count_defs.specs.Counts.{raised}
-use Rattle.tms_defs.specs.Accesses.{Answer, Gives, ◌>>=◌}
+use Rattle.tms_defs.specs.Accesses.{Answer, Gives}
 use Rattle.console_defs.specs.Memory.{Memory}
 use Rattle.tms_defs.specs.Operand.{Cpu}
 use Rattle.tms_defs.specs.Step.{execution}

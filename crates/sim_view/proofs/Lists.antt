@@ -1,8 +1,8 @@
 -- Words and their bytes in lists.
-use Rattle.std.proofs.Common.{◌≡◌, ℕ, zero, suc, ◌+◌, ◌-◌, ◌*◌, ◌/◌, ◌%◌, ◌<◌, ◌≤◌, List, [], ◌∷◌, ◌++◌, length, refl, sym, ap, ◌∙◌, arith, get_or}
+use Rattle.std.proofs.Common.{◌≡◌, ℕ, zero, suc, ◌*◌, ◌<◌, List, [], ◌∷◌, length, refl, ap, arith, get_or}
 use Rattle.std.proofs.Math.ListN.{set}
 use Rattle.tms_defs.specs.Words.{high, low, join}
-use Rattle.sim_view.specs.View.{Registers, listed, relisted, words_of}
+use Rattle.sim_view.specs.View.{listed, relisted, words_of}
 use Rattle.sim_view.proofs.Seen.{spell}
 
 pub join-bytes : (w : ℕ) → join (high w) (low w) ≡ w
@@ -36,6 +36,17 @@ pub set-spell_high : (ws : List ℕ) (k b : ℕ) → set (spell ws) (2 * k) b �
 set-spell_high [] k b = refl
 set-spell_high (w ∷ ws) zero b = rw (high-join b w, low-join b w)
 set-spell_high (w ∷ ws) (suc k) b = rw (double_suc k) (ap (λ (l : List ℕ). high w ∷ low w ∷ l) (set-spell_high ws k b))
+
+pub high-with : (b w : ℕ) → b < 256 → high (join (high w) b) ≡ high w
+high-with b w f = omega arith
+
+pub low-with : (b w : ℕ) → b < 256 → low (join (high w) b) ≡ b
+low-with b w f = omega arith
+
+pub set-spell_low : (ws : List ℕ) (k b : ℕ) → b < 256 → set (spell ws) (suc (2 * k)) b ≡ spell (set ws k (join (high (get_or ws k 0)) b))
+set-spell_low [] k b f = refl
+set-spell_low (w ∷ ws) zero b f = rw (high-with b w f, low-with b w f)
+set-spell_low (w ∷ ws) (suc k) b f = rw (double_suc k) (ap (λ (l : List ℕ). high w ∷ low w ∷ l) (set-spell_low ws k b f))
 
 pub length-spell : (ws : List ℕ) → length (spell ws) ≡ 2 * length ws
 length-spell [] = refl

@@ -1,6 +1,5 @@
 -- Runs of the view in parts: a piece is proved part by part, each up to the next test.
-use Rattle.std.proofs.Common.{◌≡◌, ℕ, zero, suc, ◌+◌, List, Bool, true, false, refl, sym, ap, subst, ◌∙◌, arith, zero-add}
-use Rattle.tms_defs.specs.Status.{IsStatus}
+use Rattle.std.proofs.Common.{◌≡◌, ℕ, zero, suc, ◌+◌, List, Bool, true, false, refl, sym, ap, ◌∙◌, arith}
 use Rattle.tms_defs.specs.Accesses.{Answer, Gives, NoInstruction, ◌>>=◌}
 use Rattle.tms_defs.specs.Operand.{Cpu}
 use Rattle.tms_defs.specs.Step.{execution}

@@ -1,14 +1,16 @@
 -- Each address leads in the view to where it leads in the console.
-use Rattle.std.proofs.Common.{◌≡◌, ℕ, ◌+◌, ◌-◌, ◌*◌, ◌/◌, ◌%◌, ◌<◌, ◌≤◌, Bool, true, false, refl, sym, ap, ◌∙◌, arith, eqb}
+use Rattle.std.proofs.Common.{◌≡◌, ℕ, ◌+◌, ◌*◌, ◌%◌, ◌<◌, ◌≤◌, Bool, true, false, refl, ap, arith, eqb}
 use Rattle.std.specs.Prelude.{◌&&◌, nat_lt, nat_le}
-use Rattle.std.proofs.lemmas.Bool.{leb-true, ltb-true, eqb-true, and_parts}
-use Rattle.console_defs.specs.Memory.{Port, Region, Rom, LowExpansion, HighExpansion, Scratchpad, PortOf, Unmapped, region, port_at, port_region}
+use Rattle.std.proofs.lemmas.Bool.{leb-true, ltb-true, eqb-false, eqb-true, and_parts}
+use Rattle.std.proofs.Math.Nat.{pos_of_ne-zero}
+use Rattle.console_defs.specs.Memory.{Region, Rom, LowExpansion, HighExpansion, Scratchpad, PortOf, Unmapped, region, port_at, port_region}
 use Rattle.console_defs.proofs.MemoryLaws.{region_low, region_scratchpad, region_ports}
 use Rattle.native_interp.specs.declared.addresses.TheConstants.{BEHIND, ORIGIN, WORD_COUNT, WORKSPACE}
-use Rattle.sim_view.proofs.Seen.{Spot, spot, Reg, Code, Cell, Spare, AtThePort, Unknown, port_spot}
+use Rattle.sim_view.proofs.Seen.{Spot, spot, Reg, RegLow, Code, Cell, Spare, AtThePort, Unknown, port_spot}
 
 abbrev pub Agrees : Spot → Region → Type 0
 Agrees (Reg k) r = (k < 16) × (r ≡ Scratchpad (224 + 2 * k))
+Agrees (RegLow k) r = (k < 16) × (r ≡ Scratchpad (224 + 2 * k + 1))
 Agrees (Code k) r = (k < WORD_COUNT) × (r ≡ LowExpansion (2 * k))
 Agrees (Cell i) r = (i < 194) × (r ≡ Scratchpad i)
 Agrees (Spare k) r = (k < 15) × (r ≡ Scratchpad (194 + 2 * k))
@@ -27,12 +29,16 @@ pub pick : {P : Type 0} (b : Bool) → (b ≡ true → P) → (b ≡ false → P
 pick true t f = t refl
 pick false t f = f refl
 
+odd_is : (a : ℕ) → eqb (a % 2) 0 ≡ false → a % 2 ≡ 1
+odd_is a p = let l : 0 < a % 2 = pos_of_ne-zero (eqb-false (a % 2) 0 p) in omega arith
+
 pub agrees : (a : ℕ) → Agrees (spot a) (region a)
 agrees a =
     pick (nat_le WORKSPACE a && nat_lt a 0x8400) (λ e. let h = and_parts _ _ e in let from : WORKSPACE ≤ a = leb-true WORKSPACE a h.0 in
     let below : a < 0x8400 = ltb-true a 0x8400 h.1 in
     pick (eqb (a % 2) 0) (λ p. let q : a % 2 ≡ 0 = eqb-true (a % 2) 0 p in rw (e, p, region_scratchpad a (omega arith) below, spot)
-    (omega arith, ap Scratchpad (omega arith))) (λ p. rw (e, p, spot) tt))
+    (omega arith, ap Scratchpad (omega arith))) (λ p. let q : a % 2 ≡ 1 = odd_is a p in rw (e, p, region_scratchpad a (omega arith) below, spot)
+    (omega arith, ap Scratchpad (omega arith))))
     (λ n1. pick (nat_le ORIGIN a && nat_lt a BEHIND) (λ e. let h = and_parts _ _ e in let from : ORIGIN ≤ a = leb-true ORIGIN a h.0 in
     let below : a < BEHIND = ltb-true a BEHIND h.1 in
     pick (eqb (a % 2) 0) (λ p. let q : a % 2 ≡ 0 = eqb-true (a % 2) 0 p in rw (n1, e, p, region_low a from (omega arith), spot)

@@ -1,6 +1,6 @@
 -- The view as the processor's memory.
-use Rattle.std.proofs.Common.{◌≡◌, ℕ, zero, suc, ◌+◌, ◌-◌, ◌*◌, ◌/◌, ◌%◌, List, [], ◌∷◌, Bool, true, false, eqb}
-use Rattle.std.specs.Prelude.{slice_index, slice_set, nat_lt, nat_le, ◌&&◌, not}
+use Rattle.std.proofs.Common.{ℕ, zero, suc, ◌-◌, ◌/◌, ◌%◌, List, [], ◌∷◌, Bool, true, false, eqb}
+use Rattle.std.specs.Prelude.{slice_index, slice_set, nat_lt, nat_le, ◌&&◌}
 use Rattle.tms_defs.specs.Words.{high, low, join, even}
 use Rattle.console_defs.specs.Vdp.{vdp_data_read, vdp_status_read, vdp_data_written, vdp_address_written}
 use Rattle.console_defs.specs.Grom.{grom_data_read, grom_address_read, grom_address_written}
@@ -10,7 +10,7 @@ use Rattle.tms_defs.specs.Step.{execution}
 use Rattle.console_defs.specs.Memory.{Port, VdpDataRead, VdpStatusRead, VdpDataWrite, VdpAddressWrite, GromDataRead, GromAddressRead, GromDataWrite}
 use Rattle.console_defs.specs.Memory.{GromAddressWrite, Region, Rom, LowExpansion, HighExpansion, Scratchpad, PortOf, Unmapped, port_at, port_region}
 use Rattle.native_interp.specs.declared.addresses.TheConstants.{BEHIND, ORIGIN, WORKSPACE}
-use Rattle.sim_view.specs.View.{View, Registers, listed, relisted}
+use Rattle.sim_view.specs.View.{View, listed, relisted}
 use Rattle.sim_view.specs.Running.{ends_piece}
 use Rattle.native_interp.specs.declared.words.TheConstants.{INTERP}
 
@@ -19,9 +19,10 @@ abbrev pub spell : List ℕ → List ℕ
 spell [] = []
 spell (w ∷ ws) = high w ∷ low w ∷ spell ws
 
--- Where an address leads in the view.
+-- Where an address leads in the view; RegLow is the low byte of a register.
 pub data Spot : Type 0 where
   Reg : ℕ → Spot
+  RegLow : ℕ → Spot
   Code : ℕ → Spot
   Cell : ℕ → Spot
   Spare : ℕ → Spot
@@ -39,7 +40,7 @@ port_spot Unmapped = Unknown
 abbrev pub spot : ℕ → Spot
 spot a =
     elim (nat_le WORKSPACE a && nat_lt a 0x8400) [
-      | true ↦ elim (eqb (a % 2) 0) [ true ↦ Reg ((a - WORKSPACE) / 2) | false ↦ Unknown ]
+      | true ↦ elim (eqb (a % 2) 0) [ true ↦ Reg ((a - WORKSPACE) / 2) | false ↦ RegLow ((a - WORKSPACE) / 2) ]
       | false ↦
           elim (nat_le ORIGIN a && nat_lt a BEHIND) [
             | true ↦ elim (eqb (a % 2) 0) [ true ↦ Code ((a - ORIGIN) / 2) | false ↦ Unknown ]
@@ -57,6 +58,7 @@ spot a =
 
 abbrev pub word_on : Spot → View → Answer ℕ
 word_on (Reg k) v = Gives (slice_index (listed v.r) k)
+word_on (RegLow k) v = NoInstruction
 word_on (Code k) v = Gives (slice_index INTERP k)
 word_on (Cell i) v = NoInstruction
 word_on (Spare k) v = Gives (slice_index v.spare k)
@@ -65,6 +67,7 @@ word_on Unknown v = NoInstruction
 
 abbrev pub with_word_on : Spot → View → ℕ → Answer View
 with_word_on (Reg k) v w = Gives (record v { r = relisted (slice_set (listed v.r) k w) })
+with_word_on (RegLow k) v w = NoInstruction
 with_word_on (Code k) v w = NoInstruction
 with_word_on (Cell i) v w = NoInstruction
 with_word_on (Spare k) v w = Gives (record v { spare = slice_set v.spare k w })
@@ -93,15 +96,23 @@ port_put GromAddressWrite v byte = record v { grom = grom_address_written v.grom
 
 abbrev pub byte_on : Spot → View → Answer (ℕ × View)
 byte_on (Reg k) v = Gives (high (slice_index (listed v.r) k), v)
+byte_on (RegLow k) v = Gives (low (slice_index (listed v.r) k), v)
 byte_on (Code k) v = NoInstruction
 byte_on (Cell i) v = Gives (slice_index v.cells i, v)
 byte_on (Spare k) v = Gives (high (slice_index v.spare k), v)
 byte_on (AtThePort p) v = Gives (port_seen p v)
 byte_on Unknown v = NoInstruction
 
+-- the low byte of a register is set to a byte
+abbrev pub with_low_on : Bool → ℕ → View → ℕ → Answer View
+with_low_on true k v b =
+    Gives (record v { r = relisted (slice_set (listed v.r) k (join (high (slice_index (listed v.r) k)) b)) })
+with_low_on false k v b = NoInstruction
+
 abbrev pub with_byte_on : Spot → View → ℕ → Answer View
 with_byte_on (Reg k) v b =
     Gives (record v { r = relisted (slice_set (listed v.r) k (join b (low (slice_index (listed v.r) k)))) })
+with_byte_on (RegLow k) v b = with_low_on (nat_lt b 256) k v b
 with_byte_on (Code k) v b = NoInstruction
 with_byte_on (Cell i) v b = Gives (record v { cells = slice_set v.cells i b })
 with_byte_on (Spare k) v b = Gives (record v { spare = slice_set v.spare k (join b (low (slice_index v.spare k))) })

@@ -1,10 +1,9 @@
 -- What the view does, the machine does.
-use Rattle.std.proofs.Common.{◌≡◌, ℕ, zero, suc, ◌+◌, ◌-◌, ◌*◌, ◌/◌, ◌%◌, ◌<◌, ◌≤◌, List, [], ◌∷◌, ◌++◌, length-append, Bool, true, false, length, refl, sym}
-use Rattle.std.proofs.Common.{ap, subst, ◌∙◌, arith, eqb, Option, Some, None, ⊎_elim, inl, inr, get_or, ◌⊎◌}
+use Rattle.std.proofs.Common.{◌≡◌, ℕ, suc, ◌+◌, ◌-◌, ◌*◌, ◌<◌, List, [], ◌∷◌, ◌++◌, length-append, Bool, true, false, length, refl, sym}
+use Rattle.std.proofs.Common.{ap, subst, ◌∙◌, arith, eqb, Option, Some, None, get_or}
 use Rattle.std.proofs.Math.ListN.{set}
-use Rattle.std.specs.Prelude.{slice_index, slice_set, ◌&&◌, ◌||◌, not, ℤ}
-use Rattle.std.proofs.lemmas.Bool.{ne_eqb, cases_eq}
-use Rattle.std.proofs.Math.Nat.{pos_of_ne-zero}
+use Rattle.std.specs.Prelude.{nat_lt, ℤ}
+use Rattle.std.proofs.lemmas.Bool.{ltb-true}
 use Rattle.std.proofs.lemmas.List.{get_or-append_right, get_or_append_left, set-append_right, set-append_left, length-set}
 use Rattle.tms_defs.specs.Words.{high, low, join, even, plus}
 use Rattle.tms_defs.specs.Flags.{Width, size_of, Byte, Word, byte_or_word}
@@ -14,8 +13,6 @@ use Rattle.tms_defs.specs.MultiplyDivide.{product_of, division_of, by_division}
 use Rattle.tms_defs.specs.Bytes.{word_in, with_word_in}
 use Rattle.tms_defs.specs.Instructions.{instr_at}
 use Rattle.tms_defs.specs.declared.flags.Flags.{Flags}
-use Rattle.tms_defs.specs.declared.status.Status.{Status}
-use Rattle.tms_defs.specs.declared.instruction.Place.{Place}
 use Rattle.tms_defs.specs.declared.instruction.TwoOp.{TwoOp}
 use Rattle.tms_defs.specs.declared.instruction.TwoOp.TheVariants.{SZC, S, C, A, MOV, SOC}
 use Rattle.tms_defs.specs.declared.instruction.RegOp.{RegOp}
@@ -23,39 +20,33 @@ use Rattle.tms_defs.specs.declared.instruction.RegOp.TheVariants.{COC, CZC, XOR,
 use Rattle.tms_defs.specs.declared.instruction.ShiftOp.{ShiftOp}
 use Rattle.tms_defs.specs.declared.instruction.OneOp.{OneOp}
 use Rattle.tms_defs.specs.declared.instruction.OneOp.TheVariants.{BLWP, B, X, CLR, NEG, INV, INC, INCT, DEC, DECT, BL, SWPB, SETO, ABS}
-use Rattle.tms_defs.specs.declared.instruction.JumpOp.{JumpOp}
 use Rattle.tms_defs.specs.declared.instruction.ImmOp.{ImmOp}
 use Rattle.tms_defs.specs.declared.instruction.ImmOp.TheVariants.{LI, AI, ANDI, ORI, CI, STWP, STST}
 use Rattle.tms_defs.specs.declared.instruction.BareOp.{BareOp}
 use Rattle.tms_defs.specs.declared.instruction.BareOp.TheVariants.{LWPI, LIMI, IDLE, RSET, RTWP, CKON, CKOF, LREX}
 use Rattle.tms_defs.specs.declared.instruction.Instr.{Instr}
 use Rattle.tms_defs.specs.declared.instruction.Instr.TheVariants as instr
-use Rattle.tms_defs.specs.Accesses.{Answer, Gives, AtPort, NoInstruction, ◌>>=◌, Accesses}
-use Rattle.tms_defs.specs.Operand.{Cpu, Mode, Register, Indirect, Symbolic, Increment, mode_of, register_in, word_at, with_word, with_words}
+use Rattle.tms_defs.specs.Accesses.{Answer, Gives, AtPort, NoInstruction, ◌>>=◌}
+use Rattle.tms_defs.specs.Operand.{Cpu, Mode, Register, Indirect, Symbolic, Increment, mode_of, register_in, with_word, with_words}
 use Rattle.tms_defs.specs.Operand.{register_address, next_word, index_of, operand, value_at, with_value}
 use Rattle.console_defs.specs.Memory.{Memory, console, Port, VdpDataRead, VdpStatusRead, VdpDataWrite, VdpAddressWrite, GromDataRead, GromAddressRead}
-use Rattle.console_defs.specs.Memory.{GromDataWrite, GromAddressWrite, Region, region, word_read_in, word_read, word_written_in, word_written, byte_read_in}
-use Rattle.console_defs.specs.Memory.{byte_read, byte_written_in, byte_written, port_read, port_written}
-use Rattle.tms_defs.specs.forms.Results.{with_flags, stored, stored_by_result}
+use Rattle.console_defs.specs.Memory.{GromDataWrite, GromAddressWrite, Region, region, word_read_in, word_read, word_written_in, byte_read_in}
+use Rattle.console_defs.specs.Memory.{byte_written_in, port_read, port_written}
+use Rattle.tms_defs.specs.forms.Results.{with_flags, stored}
 use Rattle.tms_defs.specs.forms.ContextSwitch.{kept_in, vector_at, kept_of}
-use Rattle.tms_defs.specs.forms.Two.{two, two_operands}
-use Rattle.tms_defs.specs.forms.Reg.{in_row, values_at, with_division, reg, with_source}
+use Rattle.tms_defs.specs.forms.Two.{two}
+use Rattle.tms_defs.specs.forms.Reg.{in_row, values_at, with_division, reg}
 use Rattle.tms_defs.specs.forms.Shift.{count_in, count_of, shift}
-use Rattle.tms_defs.specs.forms.One.{one, one_operand}
-use Rattle.tms_defs.specs.forms.Jump.{jump_target, jump_where, condition, jump}
+use Rattle.tms_defs.specs.forms.One.{one}
+use Rattle.tms_defs.specs.forms.Jump.{jump_target, jump_where, condition}
 use Rattle.tms_defs.specs.forms.Imm.{immediate, imm}
 use Rattle.tms_defs.specs.forms.Bare.{bare}
 use Rattle.tms_defs.specs.Step.{executed, executed_where, execution, is_stopping}
-use Rattle.count_defs.specs.Counts.{raised}
-use Rattle.console_defs.specs.Machine.{MachineState, machine_step, done_step, steps}
-use Rattle.sim_view.specs.View.{View, Registers, listed, relisted}
+use Rattle.sim_view.specs.View.{View, listed, relisted}
 use Rattle.interp_defs.specs.Interpreter.{HoldsInterpreter}
-use Rattle.interp_defs.specs.Runs.{is_end, Runs}
-use Rattle.sim_view.specs.Running.{Ran, one_more, ends_piece, ran}
-use Rattle.native_interp.specs.declared.words.TheConstants.{INTERP}
-use Rattle.sim_view.proofs.Answers.{given, given_by}
-use Rattle.sim_view.proofs.Lists.{join-bytes, high-join, low-join, get-spell_high, get-spell_low, set-spell, set-spell_high, listed-relisted}
-use Rattle.sim_view.proofs.Seen.{seen_run, shown, spell, Spot, spot, Reg, Code, Cell, Spare, AtThePort, Unknown, word_on, with_word_on, byte_on, with_byte_on}
+use Rattle.sim_view.proofs.Answers.{given}
+use Rattle.sim_view.proofs.Lists.{join-bytes, get-spell_high, get-spell_low, set-spell, set-spell_high, set-spell_low, listed-relisted}
+use Rattle.sim_view.proofs.Seen.{shown, spell, Spot, spot, Reg, RegLow, Code, Cell, Spare, AtThePort, Unknown, word_on, with_word_on, byte_on, with_byte_on}
 use Rattle.sim_view.proofs.Seen.{port_seen, port_put}
 use Rattle.sim_view.proofs.Places.{Agrees, agrees, pick}
 
@@ -146,11 +137,15 @@ module _ (m : Memory) (v : View) (h : Shows m v) where
   word_in_reg : (k : ℕ) → k < 16 → word_in m.scratchpad (224 + 2 * k) ≡ get_or (listed v.r) k 0
   word_in_reg k b = let e : 224 + 2 * k ≡ 194 + 2 * (15 + k) = omega arith in rw e (word_held (15 + k) (omega arith) ∙ reg_held k)
 
+  low_in_reg : (k : ℕ) → k < 16 → get_or m.scratchpad (224 + 2 * k + 1) 0 ≡ low (get_or (listed v.r) k 0)
+  low_in_reg k b = let e : 224 + 2 * k + 1 ≡ 194 + 2 * (15 + k) + 1 = omega arith in rw e (low_at (15 + k) (omega arith) ∙ ap low (reg_held k))
+
   high_in_reg : (k : ℕ) → k < 16 → get_or m.scratchpad (224 + 2 * k) 0 ≡ high (get_or (listed v.r) k 0)
   high_in_reg k b = let e : 224 + 2 * k ≡ 194 + 2 * (15 + k) = omega arith in rw e (high_at (15 + k) (omega arith) ∙ ap high (reg_held k))
 
   word_on_sim : (s : Spot) (r : Region) (a : ℕ) → Agrees s r → SimNum (word_read_in r m a) (word_on s v)
   word_on_sim (Reg k) r a g = record { by = λ n e. rw (g.1, word_in_reg k g.0) e }
+  word_on_sim (RegLow k) r a g = record { by = λ n e. absurd (cc) }
   word_on_sim (Code k) r a g = record { by = λ n e. rw (g.1, h.code k g.0) e }
   word_on_sim (Cell i) r a g = record { by = λ n e. absurd (cc) }
   word_on_sim (Spare k) r a g = record { by = λ n e. rw (g.1, word_held k (omega arith), spare_held k g.0) e }
@@ -174,6 +169,11 @@ module _ (m : Memory) (v : View) (h : Shows m v) where
       let e : 194 + 2 * k - 194 ≡ 2 * k = omega arith in
       rw (h.pad, set-append_right v.cells (spell held) 194 (194 + 2 * k) b h.cells (omega arith), e, set-spell_high held k b)
 
+  low_held : (k b : ℕ) → b < 256 → set m.scratchpad (194 + 2 * k + 1) b ≡ v.cells ++ spell (set held k (join (high (get_or held k 0)) b))
+  low_held k b f =
+      let e : 194 + 2 * k + 1 - 194 ≡ suc (2 * k) = omega arith in
+      rw (h.pad, set-append_right v.cells (spell held) 194 (194 + 2 * k + 1) b h.cells (omega arith), e, set-spell_low held k b f)
+
   reg_set : (k w : ℕ) → set held (15 + k) w ≡ v.spare ++ set (listed v.r) k w
   reg_set k w =
       let e : 15 + k - 15 ≡ k = omega arith in set-append_right v.spare (listed v.r) 15 (15 + k) w h.spare (omega arith)
@@ -191,6 +191,13 @@ module _ (m : Memory) (v : View) (h : Shows m v) where
       let e : 224 + 2 * k ≡ 194 + 2 * (15 + k) = omega arith in
       rw e (byte_held (15 + k) b ∙ ap (λ (l : List ℕ). v.cells ++ spell l) (reg_set k _) ∙ ap
       (λ (n : ℕ). v.cells ++ spell (v.spare ++ set (listed v.r) k (join b (low n)))) (reg_held k))
+
+  low_to_reg : (k b : ℕ) → b < 256 →
+      set m.scratchpad (224 + 2 * k + 1) b ≡ v.cells ++ spell (v.spare ++ set (listed v.r) k (join (high (get_or (listed v.r) k 0)) b))
+  low_to_reg k b f =
+      let e : 224 + 2 * k + 1 ≡ 194 + 2 * (15 + k) + 1 = omega arith in
+      rw e (low_held (15 + k) b f ∙ ap (λ (l : List ℕ). v.cells ++ spell l) (reg_set k _) ∙ ap
+      (λ (n : ℕ). v.cells ++ spell (v.spare ++ set (listed v.r) k (join (high n) b))) (reg_held k))
 
   -- a register is set
   reg_shows : (l : List ℕ) → length l ≡ 16 → Shows (record m { scratchpad = v.cells ++ spell (v.spare ++ l) }) (record v { r = relisted l })
@@ -216,6 +223,7 @@ module _ (m : Memory) (v : View) (h : Shows m v) where
   with_word_sim (Reg k) r a w g =
       rw (g.1, word_to_reg k w) (sim_gives _ (record v { r = relisted (set (listed v.r) k w) })
       (reg_shows (set (listed v.r) k w) (length-set (listed v.r) k _)))
+  with_word_sim (RegLow k) r a w g = record { by = λ n e. absurd (cc) }
   with_word_sim (Code k) r a w g = record { by = λ n e. absurd (cc) }
   with_word_sim (Cell i) r a w g = record { by = λ n e. absurd (cc) }
   with_word_sim (Spare k) r a w g =
@@ -288,6 +296,7 @@ module _ (m : Memory) (v : View) (h : Shows m v) where
 
   byte_sim : (s : Spot) (r : Region) → Agrees s r → Sim (λ m p. (p.0, m)) (λ (p : ℕ × View). p.1) (Gives (byte_read_in r m)) (byte_on s v)
   byte_sim (Reg k) r g = rw (g.1, high_in_reg k g.0) (sim_gives m (high (get_or (listed v.r) k 0), v) h)
+  byte_sim (RegLow k) r g = rw (g.1, low_in_reg k g.0) (sim_gives m (low (get_or (listed v.r) k 0), v) h)
   byte_sim (Code k) r g = record { by = λ n e. absurd (cc) }
   byte_sim (Cell i) r g = rw (g.1, cell_held i g.0) (sim_gives m (get_or v.cells i 0, v) h)
   byte_sim (Spare k) r g = rw (g.1, high_at k (omega arith), spare_held k g.0) (sim_gives m (high (get_or v.spare k 0), v) h)
@@ -348,6 +357,12 @@ module _ (m : Memory) (v : View) (h : Shows m v) where
       let w = join b (low (get_or (listed v.r) k 0)) in
       rw (g.1, byte_to_reg k b g.0) (sim_gives _ (record v { r = relisted (set (listed v.r) k w) })
       (reg_shows (set (listed v.r) k w) (length-set (listed v.r) k _)))
+  with_byte_sim (RegLow k) r b g =
+      let w = join (high (get_or (listed v.r) k 0)) b in
+      pick (nat_lt b 256)
+      (λ c. rw (c, g.1, low_to_reg k b (ltb-true b 256 c)) (sim_gives _ (record v { r = relisted (set (listed v.r) k w) })
+      (reg_shows (set (listed v.r) k w) (length-set (listed v.r) k _))))
+      (λ c. rw c (record { by = λ n e. absurd (cc) }))
   with_byte_sim (Code k) r b g = record { by = λ n e. absurd (cc) }
   with_byte_sim (Cell i) r b g =
       let c = h.cells in

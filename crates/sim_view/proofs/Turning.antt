@@ -1,5 +1,5 @@
 -- A run is its first step, and then the rest.
-use Rattle.std.proofs.Common.{◌≡◌, ℕ, zero, suc, ◌+◌, ◌-◌, ◌<◌, Bool, true, false, List, refl, sym, ap, ◌∙◌, arith}
+use Rattle.std.proofs.Common.{◌≡◌, ℕ, zero, suc, ◌-◌, ◌<◌, true, false, List, refl, arith}
 use Rattle.std.specs.Prelude.{if◌then◌else◌}
 use Rattle.console_defs.specs.Machine.{MachineState, machine_step}
 use Rattle.tms_defs.specs.declared.step_end.StepEnd.{StepEnd}

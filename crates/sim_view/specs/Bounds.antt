@@ -65,11 +65,11 @@ most_of_stack_row = 160
 
 -- MOVE, from the dispatch to its copy or its stop
 abbrev pub most_to_copy : ℕ
-most_to_copy = 190
+most_to_copy = 187
 
 -- MOVE, from one byte to the next, and from behind the last to the next step
 abbrev pub most_of_byte : ℕ
 most_of_byte = 42
 
 abbrev pub most_behind_copy : ℕ
-most_behind_copy = 42
+most_behind_copy = 45

@@ -3,6 +3,9 @@ use Rattle.sim_rows.proofs.Common.{SHOW}
 use Rattle.sim_copy.proofs.Ending
 use Rattle.sim_copy.proofs.copy.end_copy.Goals as goal
 
+pub next_byte-requires : goal.next_byte-requires
+next_byte-requires g c = Ending.stands_ended c.requires.at c.requires.none_left
+
 pub end_row-requires-clause-idle : goal.end_row-requires-clause-idle
 end_row-requires-clause-idle g c =
     Ending.idle_ended c.requires.at c.requires.none_left c.next_byte.ensures

@@ -2,6 +2,4 @@ use Rattle.sim_jumps.proofs.Going
 use Rattle.sim_jumps.proofs.ending.jump.Goals as goal
 
 pub returns : goal.returns
-returns g c =
-    Going.goes c.args.machine.now c.go_on.new.machine c.seek_address.new.machine c.args.steps.now c.go_on.new.steps c.seek_address.new.steps c.requires
-    c.go_on.ensures c.seek_address.ensures
+returns g c = Going.goes c.args.machine.now c.go_on.new.machine c.args.steps.now c.go_on.new.steps c.requires c.go_on.ensures

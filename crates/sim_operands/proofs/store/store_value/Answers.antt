@@ -1,6 +1,6 @@
-use Rattle.sim_view.proofs.Common.{is_view, piece}
+use Rattle.sim_view.proofs.Common.{piece}
 use Rattle.sim_operands.proofs.Paths
 use Rattle.sim_operands.proofs.store.store_value.Goals as goal
 
 pub returns : goal.returns
-returns g c = piece c.requires.stands (Paths.store _ (is_view _ c.requires.stands.machine) c.requires.visible) c.run_piece.ensures
+returns g c = piece c.requires.stands (Paths.store _ c.requires.visible) c.run_piece.ensures

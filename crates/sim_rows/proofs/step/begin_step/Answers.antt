@@ -10,5 +10,4 @@ returns g c =
     let m = x.cpu.memory in
     let s = shown_by m in
     let i = c.holds_bounds.ensures.memory in
-    begins s (view x) (sees_at x c.requires) (pc_fits m i) (bytes_fit m i s.pc) x _ _ _ _ _ _ _ _ _ _ _ _ _ _ _ refl
-    c.ask_address.ensures c.where_next.ensures c.keep_address.ensures c.seek_address.ensures c.ask_byte.ensures c.fetch_byte.ensures c.dispatch.ensures
+    begins s (view x) (sees_at x c.requires) (pc_fits m i) (bytes_fit m i s.pc) x _ _ _ refl c.dispatch.ensures

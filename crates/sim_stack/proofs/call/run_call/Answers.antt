@@ -11,7 +11,7 @@ module _ (g : Over) (c : After-locate_next g) where
   elsewhere here = let p = c.pc.ensures.value in let r = c.if-pc-eq-GSTOP.false in absurd (omega arith)
 
 pub keep_target-requires : goal.keep_target-requires
-keep_target-requires g c = (c.read_target.ensures (state_at_dispatch (view c.args.machine.now)) c.requires.dispatched).stands
+keep_target-requires g c = c.read_target.ensures.stands
 
 pub returns-then-pc-eq-GSTOP : goal.returns-then-pc-eq-GSTOP
 returns-then-pc-eq-GSTOP g c =
