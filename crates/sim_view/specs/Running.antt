@@ -1,5 +1,5 @@
 -- Steps up to the end of a piece.
-use Rattle.std.specs.Prelude.{◌≡◌, ◌+◌, ℕ, zero, suc, ◌/◌, Bool, true, false, ◌==◌, ◌||◌, List, if◌then◌else◌}
+use Rattle.std.specs.Prelude.{◌≡◌, ◌+◌, ℕ, zero, suc, ◌/◌, Bool, true, ◌==◌, ◌||◌, List, if◌then◌else◌}
 use Rattle.std.specs.List.{list_any}
 use Rattle.console_defs.specs.Machine.{MachineState, IsMachine, machine_step}
 use Rattle.tms_defs.specs.declared.step_end.StepEnd.{StepEnd}
