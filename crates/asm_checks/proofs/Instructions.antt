@@ -11,7 +11,7 @@ use Rattle.asm_defs.specs.Locations.{value_of}
 use Rattle.asm_defs.specs.Statements as said
 use Rattle.asm_defs.specs.SecondChecks as spec
 use Rattle.asm_checks.specs.Answers.{Gives}
-use Rattle.asm_checks.specs.Defined.{IsLeftOf, IsLeftOfIt, defined_statement}
+use Rattle.asm_checks.specs.Defined.{IsLeftOf, LeavesSkeleton, defined_statement}
 use Rattle.asm_checks.specs.Outcomes.{defined_outcome, words_by}
 use Rattle.asm_checks.specs.declared.statement.Statement.{Statement}
 use Rattle.asm_checks.specs.declared.statement.Statement.TheVariants.{Nothing, Instruction, Aorg, Rorg, Dorg, Bss, Bes, Even, Equ, Data, Byte, Text, Def, Ref, Idt, Titl, End}
@@ -29,7 +29,7 @@ module _ (look : List ℕ → Option Value) (at : Location) (size : ℕ) (operat
 
 -- of a statement of which the first checks left it
 module _ (look : List ℕ → Option Value) (at : Location) (skeleton : Skeleton) where
-  pub statement_given : (statement : Statement) → IsLeftOfIt statement skeleton → (result : Result Outcome Failure)
+  pub statement_given : (statement : Statement) → LeavesSkeleton statement skeleton → (result : Result Outcome Failure)
       → Gives defined_outcome result (words_by (second_checks look (value_of at) (defined_skeleton skeleton)))
       → Gives defined_outcome result (spec.outcome look at (defined_statement statement))
   statement_given (Instruction size operation field) is result given =

@@ -63,11 +63,11 @@ pub record IsLeftOf (operation field : List ℕ) (size : ℕ) (skeleton : Skelet
   pub sized : size_of (defined_skeleton skeleton) ≡ size
 
 -- what the first checks of the code leave of a statement, which is an instruction
-abbrev pub IsLeftOfIt : Statement → Skeleton → Type 0
-IsLeftOfIt (Instruction size operation field) skeleton = IsLeftOf operation.now field.now size skeleton
-IsLeftOfIt _ skeleton = ⊥
+abbrev pub LeavesSkeleton : Statement → Skeleton → Type 0
+LeavesSkeleton (Instruction size operation field) skeleton = IsLeftOf operation.now field.now size skeleton
+LeavesSkeleton _ skeleton = ⊥
 
 -- what the first checks leave of an instruction stands beside it, and nothing beside a directive
 abbrev pub KeepsSkeleton : Statement → Option Skeleton → Type 0
 KeepsSkeleton statement None = IsDirective statement
-KeepsSkeleton statement (Some skeleton) = IsLeftOfIt statement skeleton
+KeepsSkeleton statement (Some skeleton) = LeavesSkeleton statement skeleton

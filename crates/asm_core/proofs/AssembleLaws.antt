@@ -11,7 +11,7 @@ use Rattle.asm_defs.specs.Memory.{bytes_in, contents_by}
 use Rattle.asm_defs.specs.Growing.{size_said}
 use Rattle.asm_defs.proofs.OutcomeSizes.{IsSized, outcome_size}
 use Rattle.asm_forms.specs.declared.first_checks.Skeleton.{Skeleton}
-use Rattle.asm_checks.specs.Defined.{defined_statement, IsDirective, IsLeftOfIt, KeepsSkeleton}
+use Rattle.asm_checks.specs.Defined.{defined_statement, IsDirective, LeavesSkeleton, KeepsSkeleton}
 use Rattle.asm_checks.specs.declared.statement.Statement.{Statement}
 use Rattle.asm_checks.specs.declared.statement.Statement.TheVariants.{
   Nothing,
@@ -39,7 +39,7 @@ use Rattle.asm_core.specs.Held.{has_room, has_room_by}
 use Rattle.asm_core.specs.Assembling.{GivesBytes}
 
 -- an instruction has the size that the first checks find
-left_sized : (statement : Statement) (skeleton : Skeleton) → IsLeftOfIt statement skeleton → IsSized (defined_statement statement)
+left_sized : (statement : Statement) (skeleton : Skeleton) → LeavesSkeleton statement skeleton → IsSized (defined_statement statement)
 left_sized (Instruction size operation field) skeleton is =
     ap (λ skeleton. skeleton >>= λ skeleton. Ok (size_of skeleton)) is.checked ∙ ap Ok is.sized
 left_sized Nothing skeleton is = absurd is

@@ -24,10 +24,11 @@ pub(crate) fn feed_place(text: &[u8], from: usize) -> usize
 }
 
 /// From a place on, the first byte that is no blank, or the line's end.
-#[tactic(auto, using(source_defs::proofs::LeastLaws::leasts))]
+#[tactic(auto, using(source_defs::proofs::LeastLaws::leasts, source_defs::proofs::LeastLaws::least_bounds))]
 pub(crate) fn word_start(line: &[u8], from: usize) -> usize
     requires { from ≤ length line.now }
-    ensures { result ≡ spec.word_start line.now from }
+    ensures place { result ≡ spec.word_start line.now from }
+    ensures within { result ≤ length line.now }
 {
     for at in from..line.len() {
         if !is_blank(line[at]) {

@@ -1,7 +1,8 @@
 //! A line as fields.
 
-ghost use Rattle.std.specs.Prelude.{◌≡◌, ◌≤◌, ◌<◌, ◌-◌, ◌++◌, ◌↔◌, ℕ, Some, None, length, take, map, replicate, slice_range};
-ghost use Rattle.std.specs.Prelude.{is_some, IfOk, IfSome, if◌then◌else◌, true, nat_le, ◌&&◌, Ok};
+ghost use Rattle.std.specs.Prelude.{◌≡◌, ◌≤◌, ◌<◌, ◌-◌, ◌++◌, ◌↔◌, ◌&&◌};
+ghost use Rattle.std.specs.Prelude.{ℕ, Some, None, Ok, length, take, map, replicate, slice_range, true, nat_le};
+ghost use Rattle.std.specs.Prelude.{is_some, IfOk, IfSome, if◌then◌else◌};
 ghost use Rattle.source_defs.specs.Fields as spec;
 ghost use Rattle.source_defs.specs.Characters.{upper_case};
 ghost use Rattle.source_defs.specs.Names.{all_letters_or_digits, is_name, IsUpperCaseName};
@@ -22,7 +23,7 @@ const LONGEST_LINE: usize = 256;
 ///
 /// `LineTooLong` comes for more than 256 bytes, and only then. `BadLabel` comes where column 1 holds
 /// neither a blank nor an asterisk and what stands there up to a blank is no name, and only then.
-#[tactic(auto, using(source_defs::proofs::FieldLaws::no_comment, source_defs::proofs::LeastLaws::least_bounds), unfolding(source_defs::specs::Fields::fields))]
+#[tactic(auto, using(source_defs::proofs::FieldLaws::no_comment), unfolding(source_defs::specs::Fields::fields))]
 pub fn fields(line: &[u8]) -> Result<Fields, TextError>
     ensures value { defined_answer result ≡ spec.fields line.now }
     ensures too_long { (result ≡ Err TextError.LineTooLong) ↔ (spec.longest_line < length line.now) }

@@ -10,8 +10,8 @@ use gpl_forms::GromImage;
 use gpl_source_defs::Location;
 use std::alloc::Global;
 
-/// A GPL source, line by line. A line waits for the second pass by what it comes to; its text is kept only where a value
-/// of it is still open.
+/// A GPL source, line by line. A line waits for the second pass by what it comes to; its text is kept only where a
+/// value of it is still open.
 ///
 /// Contracts see it by the lines that it has taken (`HasTaken`).
 #[derive(Drop)]
