@@ -260,7 +260,8 @@ module _ {made : ℕ} {x z : MachineState} (y : MachineState) {t u : ℕ} (w : �
             bytes = bytes;
             copying = copied_one h.at some_left b r.changes r.from r.to bytes k;
             same = ap (λ (n : ℕ). copied n r.from r.to r.changes) (sym e) ∙ r.same;
-            comes = comes_as (42 * (made + 1)) (λ v. Unit {0}) (comes_on (42 * made) 42 r.comes b.comes (runs_on z.cpu.pc (view z) h.at.place)) (omega arith) (λ v q. tt);
+            comes = comes_as (42 * (made + 1)) (λ v. Unit {0}) (comes_on (42 * made) 42 r.comes b.comes (runs_on z.cpu.pc (view z) h.at.place))
+                (omega arith) (λ v q. tt);
           }
 
   pub one_more_turn : CopiesByte z y u w → Turns (made + 1) x y t w
@@ -281,7 +282,8 @@ module _ (x z : MachineState) (t u : ℕ) (h : Turns (view x).r.r12 x z t u) whe
       let last : Copying r.changes r.from r.to 0 (view z) = subst (λ (n : ℕ). Copying r.changes r.from r.to n (view z)) none r.copying in
       let whole : r.changes ≡ copied bytes from to c = ap (λ (n : ℕ). copied n r.from r.to r.changes) (sym none) ∙ r.same in
       let there : z.cpu.pc ≡ COPY = at_end z.cpu.pc (view z) h.at.place none_left in
-      let all = subst (λ (p : ℕ). Comes (42 * bytes) x z t u p (λ w. Unit {0})) there (subst (λ (n : ℕ). Comes (42 * n) x z t u z.cpu.pc (λ w. Unit {0})) k.left r.comes) in
+      let all = subst (λ (p : ℕ). Comes (42 * bytes) x z t u p (λ w. Unit {0})) there
+      (subst (λ (n : ℕ). Comes (42 * n) x z t u z.cpu.pc (λ w. Unit {0})) k.left r.comes) in
       record {
         count = all.count;
         within = all.within;

@@ -1,7 +1,7 @@
 -- The runs of the pieces on the view.
 use Rattle.std.proofs.Common.{[], ℕ, ◌==◌, ◌∷◌, refl, slice_index}
-use Rattle.sim_rows.proofs.Common.{BRANCH, BTEST, byte_is, CASEN, CASET, CASEV, CFALSE, GOB, GOEXIT, GOTO, high-join, IsView, join, last_out, Leads, low, past, pick}
-use Rattle.sim_rows.proofs.Common.{SEEK, shifted, SLA, SRL, TAKE, View, WHERE}
+use Rattle.sim_rows.proofs.Common.{BRANCH, BTEST, byte_is, CASEN, CASET, CASEV, CFALSE, GOB, GOEXIT, GOTO, high-join, IsView, join, last_out, Leads, low, past}
+use Rattle.sim_rows.proofs.Common.{pick, SEEK, shifted, SLA, SRL, TAKE, View, WHERE}
 use Rattle.sim_flow.specs.Pieces as pieces
 
 pub leave : (v : View) → Leads [] v GOEXIT (pieces.leave v)

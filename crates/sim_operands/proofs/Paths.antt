@@ -215,7 +215,8 @@ load_word v i h e = record {
       rw (first, e, second, byte_is (slice_index v.cells (v.r.r2 + 1)) (i.cells (v.r.r2 + 1)), high-join (slice_index v.cells v.r.r2) 0) refl;
 }
 
-load_cells : (v : View) → IsView v → IsVisible v.r.r5 v.r.r2 v.r.r3 → (v.r.r5 == 1) ≡ false → nat_lt 1 v.r.r5 ≡ false → Rest load_ends 0 16 v LOAD (pieces.load v)
+load_cells : (v : View) → IsView v → IsVisible v.r.r5 v.r.r2 v.r.r3 → (v.r.r5 == 1) ≡ false → nat_lt 1 v.r.r5 ≡ false →
+    Rest load_ends 0 16 v LOAD (pieces.load v)
 load_cells v i h c d =
     let zero = no_other v.r.r5 c d in
     let here = load_here v (eq-eqb v.r.r5 0 zero) in

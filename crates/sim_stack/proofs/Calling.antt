@@ -18,7 +18,8 @@ use Rattle.sim_rows.specs.interp_defs.Interpreter.{most_to_dispatch}
 
 -- ---- the address that follows
 
-reads : (x y : MachineState) (t u : ℕ) → Exits x y t u (pieces.read_target (view x)) → (s : GplState) → Dispatched s (view x) → Comes 11 x y t u CALLT (Called s)
+reads : (x y : MachineState) (t u : ℕ) → Exits x y t u (pieces.read_target (view x)) → (s : GplState) → Dispatched s (view x) →
+    Comes 11 x y t u CALLT (Called s)
 reads x y t u e s d =
     let v : View = view x in
     let word = word_in_grom s.image (behind_code s) in

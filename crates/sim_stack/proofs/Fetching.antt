@@ -1,8 +1,8 @@
 -- The parts of FETCH.
 use Rattle.std.proofs.Common.{ℕ, ◌+◌, ◌<◌, ◌∙◌, ◌≡◌, ◌≤◌, ap, arith, refl, subst, sym}
-use Rattle.sim_rows.proofs.Common.{Byte, cells_at, Changed, changed_again, ChangedFrom, Changes, Comes, comes, comes_as, comes_on, comes_then, Cpu, Exit, exit, Exits}
-use Rattle.sim_rows.proofs.Common.{FETCH, FETCHA, FETCHD, FETCHK, FETCHR, from, grom_at, GromState, high, idle_again, is_view, IsVisible, just, known, LOAD}
-use Rattle.sim_rows.proofs.Common.{Loaded, LoadsValue, MachineState, place_in, PortsAreIdle, RESUME, return_of, SEEK, Space, Stands, state_of, STORE}
+use Rattle.sim_rows.proofs.Common.{Byte, cells_at, Changed, changed_again, ChangedFrom, Changes, Comes, comes, comes_as, comes_on, comes_then, Cpu, Exit, exit}
+use Rattle.sim_rows.proofs.Common.{Exits, FETCH, FETCHA, FETCHD, FETCHK, FETCHR, from, grom_at, GromState, high, idle_again, is_view, IsVisible, just, known}
+use Rattle.sim_rows.proofs.Common.{LOAD, Loaded, LoadsValue, MachineState, place_in, PortsAreIdle, RESUME, return_of, SEEK, Space, Stands, state_of, STORE}
 use Rattle.sim_rows.proofs.Common.{store_then, stored_idle, StoresValue, Storing, unchanged, value_at, value_keeps, Vdp, View, view, WHERE, width_in}
 use Rattle.sim_rows.proofs.Common.{with_byte, with_byte_in, with_pc, with_value, with_word, Word, word_in}
 use Rattle.sim_jumps.specs.Jumps.{ResumesRow}
