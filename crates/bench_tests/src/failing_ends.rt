@@ -67,7 +67,13 @@ fn each_take_fails(
 
 /// How many line feeds bytes have.
 fn line_feeds(bytes: &[u8]) -> usize {
-    bytes.iter().filter(|&&byte| byte == b'\n').count()
+    let mut count = 0;
+    for &byte in bytes {
+        if byte == b'\n' {
+            count = usize::wrapping_add(count, 1);
+        }
+    }
+    count
 }
 
 /// Whether a call of `put` that fails is a write fault behind the lines that were written before it.
@@ -85,7 +91,7 @@ fn put_fails(
             && ended.err.bytes().is_empty()
             && whole.starts_with(written)
             && line_feeds(written) == call
-            && written.last().is_none_or(|&byte| byte == b'\n'),
+            && matches!(written, [] | [.., b'\n']),
     )
 }
 

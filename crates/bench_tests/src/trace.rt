@@ -3,7 +3,7 @@
 ghost use Rattle.std.specs.Prelude.{◌≡◌, ◌<◌};
 ghost use Rattle.gpl_run.specs.Sessions.{IsNew};
 
-use super::run::run;
+use super::run::writes_before;
 use bench_io::MemSink;
 use gpl_asm::gpl_assemble;
 use gpl_run::{Session, build_interp, load_interpreter};
@@ -380,12 +380,14 @@ fn play_begins_where_a_session_stands(rt: HostRuntime) -> Result<(), Fail> {
 
 #[test]
 fn run_is_trace_without_its_lines(rt: HostRuntime) -> Result<(), Fail> {
-    let alloc = rt.alloc();
-    let source = b"S ST @>8300,5\n INC @>8300\n BYTE >0F,>77\n END S\n";
-    let lines =
-        b"     1 >6000 S00 D9F R7E ST @>8300,>05 C1 >8300=05\n     2 >6003 S00 D9F R7E INC @>8300 C2 >8300=06\n";
-    let ran = run(alloc, &[b"run", b"2"], source.to_vec(alloc)?, &[], &[])?;
-    let traced = run(alloc, &[b"trace", b"2"], source.to_vec(alloc)?, &[], &[])?;
-    assert!(rt; traced.out.bytes().strip_prefix(lines.as_slice()) == Some(ran.out.bytes()));
+    assert!(rt;
+        writes_before(
+            rt.alloc(),
+            &[b"trace", b"2"],
+            b"     1 >6000 S00 D9F R7E ST @>8300,>05 C1 >8300=05\n     2 >6003 S00 D9F R7E INC @>8300 C2 >8300=06\n",
+            &[b"run", b"2"],
+            b"S ST @>8300,5\n INC @>8300\n BYTE >0F,>77\n END S\n",
+        )?
+    );
     Ok(())
 }

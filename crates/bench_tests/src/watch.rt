@@ -1,8 +1,7 @@
 //! Programs whose items are watched.
 
-use super::run::run;
+use super::run::writes_before;
 use super::trace::source_of;
-use std::alloc::{AllocError, Global};
 use std::test::Fail;
 
 /// Stores to the last cell and to the last byte of video memory, and then a code byte that is no instruction's.
@@ -234,24 +233,17 @@ $ watch 5 pc:6000
 e no entry
 "#;
 
-/// Whether nothing is found is what `run` says, behind its line.
-fn no_hit_is_run(alloc: Global) -> Result<bool, AllocError> {
-    let ran = run(alloc, &[b"run", b"100"], source_of(alloc, ENDS)?, &[], &[])?;
-    let watched = run(
-        alloc,
-        &[b"watch", b"100", b"pc:0000"],
-        source_of(alloc, ENDS)?,
-        &[],
-        &[],
-    )?;
-    Ok(
-        watched.status == ran.status
-            && watched.out.bytes().strip_prefix(b"no hit\n".as_slice()) == Some(ran.out.bytes()),
-    )
-}
-
 #[test]
-fn a_watched_program_is_reported(rt: HostRuntime) -> Result<(), Fail> {
-    assert!(rt; no_hit_is_run(rt.alloc())?);
+fn where_nothing_is_found_the_report_is_that_of_run(rt: HostRuntime) -> Result<(), Fail> {
+    let source = source_of(rt.alloc(), ENDS)?;
+    assert!(rt;
+        writes_before(
+            rt.alloc(),
+            &[b"watch", b"100", b"pc:0000"],
+            b"no hit\n",
+            &[b"run", b"100"],
+            source.as_slice(),
+        )?
+    );
     Ok(())
 }
