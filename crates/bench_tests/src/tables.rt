@@ -4,7 +4,7 @@ use super::rows::failed_rows;
 use super::{asm, dis, exec, files, gasm, gdis, gpl_programs, gpl_rows, link, trace, watch};
 use std::test::Fail;
 
-/// The tables. They are run by one test, since each test that calls the program costs its proof as much as a table.
+/// The tables, by the commands that they run.
 const TABLES: &[&str] = &[
     asm::ROWS,
     dis::ROWS,
