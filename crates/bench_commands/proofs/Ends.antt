@@ -1,78 +1,19 @@
 -- How a run ends by its report.
-use Rattle.std.proofs.Common.{◌≡◌, ℕ, List, length, Option, Some, None, Ok, Err, Bool, true, false, [], refl, sym, ap, ◌∙◌, subst, inl, inr, arith, rules}
+use Rattle.std.proofs.Common.{◌≡◌, List, length, Option, Some, None, Bool, true, false, [], refl, sym, ap, ◌∙◌, subst, inl, inr, arith, rules}
+use Rattle.std.proofs.Common.{ℕ, ◌≤◌}
 use Rattle.std.specs.Prelude.{nat_lt, IsSome, unwrap_or}
 use Rattle.std.proofs.lemmas.Bool.Decides.{nat_tests}
 use Rattle.bench_io.specs.Stream.{SourceState}
 use Rattle.bench_io.specs.ReadAll.{Took, GaveUp}
-use Rattle.bench_io.specs.declared.failed.Failed.{Failed}
 use Rattle.bench_io.specs.declared.whole.ReadError.TheVariants as error
-use Rattle.console_defs.specs.declared.run_end.RunEnd.TheVariants.{Reached, Limit, Refused, Port, SelfJump}
 use Rattle.report_defs.specs.declared.command.Command.{Command}
 use Rattle.report_defs.specs.declared.fault.Fault.TheVariants as fault
 use Rattle.report_defs.specs.declared.status.Status.{Status}
 use Rattle.report_defs.specs.declared.status.Status.TheVariants as status
 use Rattle.report_defs.specs.Commands.{command_of, reads}
 use Rattle.report_defs.specs.Report as spec
-use Rattle.report_defs.specs.Summary.{summary_lines}
-use Rattle.report_defs.specs.Program.{program_lines, program_status}
-use Rattle.gpl_step_defs.specs.declared.reason.Reason.{Reason}
-use Rattle.gpl_step_defs.specs.declared.reason.Reason.TheVariants.{Exit, Opcode, Cell, Stack, Length, Register}
-use Rattle.gpl_run.specs.Sessions.{SessionState, seen}
-use Rattle.bench_commands.specs.declared.report.Report.{Report}
-use Rattle.bench_commands.specs.declared.report.Report.TheVariants as made
-use Rattle.bench_commands.specs.Made.{defined_report}
-use Rattle.bench_commands.specs.Run.{Outputs, Run, ReadsInput, Reads, TakesWhole, ReportsOn, Reports, BeginsOn, WroteReport, MissedReport, WrittenReport, EndsWith, EndsBy}
-use Rattle.bench_commands.specs.Run.{LeavesInput}
-use Rattle.bench_commands.specs.Run.{WroteNothing}
-
--- the report of a program that was written ends by the program's status
-ends_program : (o : Outputs) (ended : Option Reason) (lines : List (List ℕ)) → WroteReport o (spec.Whole (program_status ended) lines) → EndsWith o (spec.Whole (program_status ended) lines) (program_status ended)
-ends_program o None lines wrote = (refl, wrote)
-ends_program o (Some Exit) lines wrote = (refl, wrote)
-ends_program o (Some Opcode) lines wrote = (refl, wrote)
-ends_program o (Some Cell) lines wrote = (refl, wrote)
-ends_program o (Some Stack) lines wrote = (refl, wrote)
-ends_program o (Some Length) lines wrote = (refl, wrote)
-ends_program o (Some Register) lines wrote = (refl, wrote)
-
-program_ends : (o : Outputs) (session : SessionState) → WroteReport o (defined_report (made.Program session)) → EndsWith o (defined_report (made.Program session)) (program_status session.ended)
-program_ends o session wrote = ends_program o session.ended (program_lines session.ended (seen session) session.machine) wrote
-
--- a report that was written ends by its status
-written_ends : (o : Outputs) (report : Report) → WroteReport o (defined_report report) → EndsWith o (defined_report report) (spec.status_of (defined_report report))
-written_ends o (made.Text text) wrote = (refl, wrote)
-written_ends o (made.Image image) wrote = (refl, wrote)
-written_ends o (made.Listing listing) wrote = (refl, wrote)
-written_ends o (made.Grom image) wrote = (refl, wrote)
-written_ends o (made.Execution Reached machine) wrote = (refl, wrote)
-written_ends o (made.Execution Limit machine) wrote = (refl, wrote)
-written_ends o (made.Execution (Refused address) machine) wrote = (refl, wrote)
-written_ends o (made.Execution (Port address) machine) wrote = (refl, wrote)
-written_ends o (made.Execution SelfJump machine) wrote = (refl, wrote)
-written_ends o (made.Program session) wrote = program_ends o session wrote
-written_ends o (made.Demo summary) wrote = ends_program o summary.ended (summary_lines summary) wrote
-written_ends o (made.Memory linked) wrote = (refl, wrote)
-written_ends o (made.Refused line) wrote = (refl, wrote)
-written_ends o (made.Fault fault.Usage) wrote = (refl, wrote)
-written_ends o (made.Fault fault.TooLarge) wrote = (refl, wrote)
-written_ends o (made.Fault fault.PastEnd) wrote = (refl, wrote)
-written_ends o (made.Fault fault.NoEntry) wrote = (refl, wrote)
-
-wrote_report : (o : Outputs) (report : spec.Report) (done : Unit {0}) → WrittenReport {E = Failed} (Ok done) o report → WroteReport o report
-wrote_report o (spec.Whole status pieces) done written = written
-wrote_report o (spec.Faulty fault) done written = written
-wrote_report o (spec.Rejected line) done written = written
-
-pub ends_done : (o : Outputs) (report : Report) (done : Unit {0}) (s : Status) → WrittenReport {E = Failed} (Ok done) o (defined_report report) → s ≡ spec.status_of (defined_report report) → EndsWith o (defined_report report) s
-ends_done o report done s written is =
-    let P : Status → Type 0 = λ t. EndsWith o (defined_report report) t in
-    subst P (sym is) (written_ends o report (wrote_report o (defined_report report) done written))
-
--- a report that was not written whole ends by a write fault
-pub ends_missed : (o : Outputs) (report : spec.Report) (error : Failed) → WrittenReport {T = Unit {0}} (Err error) o report → EndsWith o report status.WriteFault
-ends_missed o (spec.Whole status pieces) error written = written
-ends_missed o (spec.Faulty fault) error written = written
-ends_missed o (spec.Rejected line) error written = written
+use Rattle.reports.specs.Outputs.{MissedReport, EndsWith}
+use Rattle.bench_commands.specs.Run.{Run, ReadsInput, Reads, TakesWhole, ReportsOn, Reports, BeginsOn, EndsBy, LeavesInput, WroteNothing}
 
 -- a run ends as the writing of its report
 pub by_report : (run : Run) (report : spec.Report) (s : Status) → Reports run report → EndsWith run.outputs report s → EndsBy run s
@@ -96,6 +37,10 @@ reads_whole true before after bytes whole =
     record { took = rw below whole.took; within = omega arith; whole = λ le. whole.end }
 reads_whole false before after bytes nothing = nothing
 
+pub takes_within : (reading : Bool) (before after : SourceState) (bytes : List ℕ) → TakesWhole reading before after bytes → length bytes ≤ spec.largest_input
+takes_within true before after bytes whole = whole.within
+takes_within false before after bytes nothing = rw nothing.1 (omega arith)
+
 -- an input that is too large
 pub reads_too_much : (run : Run) (command : Command) → reads command ≡ true → GaveUp error.TooLarge spec.largest_input run.input run.input' → ReportsOn (Some command) run (spec.Faulty fault.TooLarge)
 reads_too_much run command reading (bytes, long, took) =
@@ -115,11 +60,10 @@ begins_by run command front is begins =
     subst P is begins
 
 -- words that are no command
-pub reports_usage : (run : Run) (found : Option Command) → ((command : Command) → found ≡ Some command → ⊥) → found ≡ command_of run.words → run.input' ≡ run.input → Reports run (spec.Faulty fault.Usage)
-reports_usage run None none is same =
+pub reports_usage : (run : Run) → None ≡ command_of run.words → run.input' ≡ run.input → Reports run (spec.Faulty fault.Usage)
+reports_usage run is same =
     let P : Option Command → Type 0 = λ found. ReportsOn found run (spec.Faulty fault.Usage) in
     subst P is (refl, same)
-reports_usage run (Some command) none is same = absurd (none command refl)
 
 -- a command is the one that the words say
 one_command : (words : List (List ℕ)) (a b : Command) → Some a ≡ command_of words → command_of words ≡ Some b → reads a ≡ reads b

@@ -1,15 +1,14 @@
 -- Sources that are loaded, and the reports of those that are not run.
 use Rattle.std.proofs.Common.{◌≡◌, ℕ, Option, Some, None, Result, Ok, Err, sym, subst}
-use Rattle.std.specs.Prelude.{IfOk}
 use Rattle.source_defs.specs.Refusals.{Refusal}
 use Rattle.gpl_defs.specs.Image.{Image}
 use Rattle.gpl_source_defs.specs.declared.causes.GplCause.{GplCause}
 use Rattle.gpl_source_defs.specs.Programs.{Program}
 use Rattle.report_defs.specs.Report.{Report, EnteredReport, ProgramReport}
 use Rattle.bench_commands.specs.declared.commands.program.LoadedProgram.{LoadedProgram}
-use Rattle.bench_commands.specs.declared.commands.program.Loaded.{Loaded}
-use Rattle.bench_commands.specs.declared.commands.program.Loaded.TheVariants as made
-use Rattle.bench_commands.specs.Made.{defined_report}
+use Rattle.reports.specs.declared.unreported.Unreported.{Unreported}
+use Rattle.reports.specs.Answers.{WantsMemory, Reported, told}
+use Rattle.reports.proofs.Refused.{reported_as}
 use Rattle.bench_commands.specs.Loaded.{RunsNone, LoadsEntered, LoadsProgram, LoadsImage, LoadsSource}
 
 -- what is reported of a program that is not run is so whatever would be reported of one that is
@@ -32,12 +31,9 @@ module _ (Reports : Image → ℕ → Report → Type 0) where
       subst (λ (o : Result Program (Refusal GplCause)). ProgramReport Reports o report) (sym l.is) (of_entered l.program.image l.program.entry report x l.entered e)
 
 -- what comes of an image is what comes of its source
-loads_source : (source : Result Program (Refusal GplCause)) (program : Program) (l : Loaded) → source ≡ Ok program → LoadsImage program.image program.entry l → LoadsSource source l
-loads_source source program (made.Program x) is h = record { program = program; is = is; entered = h }
-loads_source source program (made.Report report) is h =
-    subst (λ (s : Result Program (Refusal GplCause)). ProgramReport RunsNone s (defined_report report)) (sym is) h
-
-pub source_loaded : {E : Type 0} (source : Result Program (Refusal GplCause)) (program : Program) (r : Result Loaded E) → source ≡ Ok program →
-    IfOk r (LoadsImage program.image program.entry) → IfOk r (LoadsSource source)
-source_loaded source program (Ok l) is h = loads_source source program l is h
-source_loaded source program (Err error) is h = tt
+pub source_loaded : (source : Result Program (Refusal GplCause)) (program : Program) (r : Result LoadedProgram Unreported) → source ≡ Ok program →
+    LoadsImage program.image program.entry r → LoadsSource source r
+source_loaded source program (Ok x) is h = record { program = program; is = is; entered = h }
+source_loaded source program (Err unreported) is h =
+    reported_as (EnteredReport RunsNone program.image program.entry) (ProgramReport RunsNone source) WantsMemory (told unreported)
+    (λ report e. subst (λ (s : Result Program (Refusal GplCause)). ProgramReport RunsNone s report) (sym is) e) h

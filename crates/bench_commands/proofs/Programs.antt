@@ -16,10 +16,10 @@ use Rattle.report_defs.specs.declared.summary.Summary.{Summary}
 use Rattle.report_defs.specs.Summary.{summary_of, summary_lines}
 use Rattle.report_defs.specs.Report.{Report, Whole, ReportsProgram, run_lines, demo_lines}
 use Rattle.list_defs.specs.Lists.{sum_bytes}
-use Rattle.bench_commands.specs.declared.report.Report.TheVariants as reported
+use Rattle.reports.specs.declared.report.Report.TheVariants as reported
 use Rattle.bench_commands.specs.declared.commands.program.LoadedProgram.{LoadedProgram}
 use Rattle.bench_commands.specs.Loaded.{LoadsEntered}
-use Rattle.bench_commands.specs.Made.{defined_report}
+use Rattle.reports.specs.Made.{defined_report}
 use Rattle.bench_commands.specs.Ran.{RanProgram}
 
 -- What is seen of a program at its end is its last state.

@@ -12,7 +12,7 @@ use Rattle.bench_io.specs.Written.{Wrote}
 use Rattle.bench_io.proofs.Writing.{wrote_more, missed_more}
 use Rattle.trace_dump.specs.Plays.{Plays}
 use Rattle.trace_dump.proofs.Playing.{breaks_front}
-use Rattle.bench_commands.specs.declared.report.Report.TheVariants as made
+use Rattle.reports.specs.declared.report.Report.TheVariants as made
 use Rattle.gpl_step_defs.specs.State.{GplState, start}
 use Rattle.gpl_step_defs.specs.Run.{run}
 use Rattle.interp_defs.specs.Programs.{RunsSteps}
@@ -29,11 +29,13 @@ use Rattle.bench_commands.specs.declared.trace.Trace.{Trace}
 use Rattle.bench_commands.specs.declared.commands.program.LoadedProgram.{LoadedProgram}
 use Rattle.bench_commands.specs.declared.prepared.Prepared.{Prepared}
 use Rattle.bench_commands.specs.declared.prepared.Prepared.TheVariants as prepared
-use Rattle.bench_commands.specs.Made.{defined_report}
-use Rattle.bench_commands.specs.Run.{Outputs, Run, Reads, EndsWith, EndsBy}
+use Rattle.reports.specs.Made.{defined_report}
+use Rattle.reports.specs.Outputs.{Outputs, EndsWith}
+use Rattle.reports.specs.Answers.{Ends, WantsMemory, Reported}
+use Rattle.bench_commands.specs.Run.{Run, Reads, TakesWhole, EndsBy}
 use Rattle.bench_commands.specs.Loaded.{LoadsEntered}
 use Rattle.bench_commands.specs.Traced.{Started, TracesSource, TracesWhole, EndsTrace, Prepares, Finishes}
-use Rattle.bench_commands.proofs.Ends.{by_report, by_front, reports_by, begins_by}
+use Rattle.bench_commands.proofs.Ends.{by_report, by_front, reads_whole, takes_within, reports_by, begins_by, wrote_nothing}
 use Rattle.bench_commands.proofs.Loading.{of_program}
 use Rattle.bench_commands.proofs.Programs.{ends_alike}
 
@@ -93,30 +95,37 @@ module _ (input : List ℕ) (trace : Trace) (t : TracesSource input trace) where
   )
 
 -- a report on an input that is not too large
-pub on_accepted : (command : Command) (input : List ℕ) (report : spec.Report) → length input ≤ spec.largest_input → spec.AcceptedReport command input report → spec.ReportOn command input report
+on_accepted : (command : Command) (input : List ℕ) (report : spec.Report) → length input ≤ spec.largest_input → spec.AcceptedReport command input report → spec.ReportOn command input report
 on_accepted command input report within accepted =
     let below : nat_lt spec.largest_input (length input) ≡ false = grind (arith, nat_tests) in
     rw below accepted
 
 -- a run ends as what its command made
-abbrev Taken : Run → Command → List ℕ → Type 0
-Taken run command bytes = (Some command ≡ command_of run.words) × Reads (reads command) run.input run.input' bytes
+module _ (run : Run) (command : Command) (bytes : List ℕ) (said : Some command ≡ command_of run.words)
+    (takes : TakesWhole (reads command) run.input run.input' bytes) where
+  reading : Reads (reads command) run.input run.input' bytes
+  reading = reads_whole (reads command) run.input run.input' bytes takes
 
-by_trace : (run : Run) (command : Command) (bytes : List ℕ) (trace : Trace) (st : Status) → Taken run command bytes → command ≡ asked.Trace trace.limit →
-    length bytes ≤ spec.largest_input → TracesSource bytes trace → Finishes run.outputs (prepared.Trace trace) st → EndsBy run st
-by_trace run command bytes trace st taken is within t (inl w) =
-    let report = whole_from bytes trace t (seen trace.session) w.left in
-    let accepted = whole_reported bytes trace t run.outputs st w in
-    let on : spec.ReportOn command bytes report = subst (λ (k : Command). spec.ReportOn k bytes report) (sym is) (on_accepted (asked.Trace trace.limit) bytes report within accepted) in
-    by_report run report st (reports_by run command report taken.0 (bytes, taken.1, on)) w.ends
-by_trace run command bytes trace st taken is within t (inr b) =
-    let front = front_from bytes trace t (seen trace.session) in
-    let on : spec.FrontOn command bytes front = subst (λ (k : Command). spec.FrontOn k bytes front) (sym is) (front_reported bytes trace t within) in
-    subst (EndsBy run) (sym b.is) (by_front run front (begins_by run command front taken.0 (bytes, taken.1, on)) (b.missed, b.silent))
+  within : length bytes ≤ spec.largest_input
+  within = takes_within (reads command) run.input run.input' bytes takes
 
-pub by_prepared : (run : Run) (command : Command) (bytes : List ℕ) (p : Prepared) (st : Status) → Taken run command bytes → Prepares command bytes p → Finishes run.outputs p st → EndsBy run st
-by_prepared run command bytes (prepared.Report report) st taken on ends = by_report run (defined_report report) st (reports_by run command (defined_report report) taken.0 (bytes, taken.1, on)) ends
-by_prepared run command bytes (prepared.Trace trace) st taken on ends = by_trace run command bytes trace st taken on.0 on.1 on.2 ends
+  pub by_answer : (answer : Result spec.Report Status) (st : Status) → Reported (spec.AcceptedReport command bytes) WantsMemory answer → Ends run.outputs answer st → EndsBy run st
+  by_answer (Ok report) st accepted ends = by_report run report st (reports_by run command report said (bytes, reading, on_accepted command bytes report within accepted)) ends
+  by_answer (Err own) st memory (is, out, err) = subst (EndsBy run) (sym (is ∙ memory)) (wrote_nothing run command bytes said takes out err)
+
+  by_trace : (trace : Trace) (st : Status) → command ≡ asked.Trace trace.limit → TracesSource bytes trace → Finishes run.outputs (prepared.Trace trace) st → EndsBy run st
+  by_trace trace st is t (inl w) =
+      let report = whole_from bytes trace t (seen trace.session) w.left in
+      let accepted = whole_reported bytes trace t run.outputs st w in
+      by_answer (Ok report) st (subst (λ (k : Command). spec.AcceptedReport k bytes report) (sym is) accepted) w.ends
+  by_trace trace st is t (inr b) =
+      let front = front_from bytes trace t (seen trace.session) in
+      let on : spec.FrontOn command bytes front = subst (λ (k : Command). spec.FrontOn k bytes front) (sym is) (front_reported bytes trace t within) in
+      subst (EndsBy run) (sym b.is) (by_front run front (begins_by run command front said (bytes, reading, on)) (b.missed, b.silent))
+
+  pub by_prepared : (p : Prepared) (st : Status) → Prepares command bytes (Ok p) → Finishes run.outputs p st → EndsBy run st
+  by_prepared (prepared.Report report) st accepted ends = by_answer (Ok (defined_report report)) st accepted ends
+  by_prepared (prepared.Trace trace) st on ends = by_trace trace st on.0 on.1 ends
 
 -- ---- a trace is written
 

@@ -19,7 +19,8 @@ use Rattle.report_defs.proofs.Fronts.{fronts_begin_reports}
 use Rattle.report_defs.proofs.ListedInputs.{listed_inputs_come_back}
 use Rattle.report_defs.proofs.ListedWords.{listed_words_come_back}
 use Rattle.word_listings.proofs.LinkLaw.{entered_listings_link}
-use Rattle.bench_commands.specs.Run.{Outputs, Run, ReadsInput, Reads, ReportsOn, Reports, WroteReport, MissedReport, EndsBy}
+use Rattle.reports.specs.Outputs.{Outputs, WroteReport, MissedReport}
+use Rattle.bench_commands.specs.Run.{Run, ReadsInput, Reads, ReportsOn, Reports, EndsBy}
 use Rattle.bench_commands.specs.Laws.{HasNoFault, read_of, TellsInput, Completeness, BeginAlike, OneAnswer, LawsOfRuns}
 
 -- a report on bytes that were taken is one on all bytes of the input
@@ -67,7 +68,7 @@ pub reported : (run : Run) (s : Status) → EndsBy run s → HasNoFault run → 
 reported run status.Done (report, reports, (is, wrote)) none some = (report, reports, sym is, wrote)
 reported run status.Refused (report, reports, (is, wrote)) none some = (report, reports, sym is, wrote)
 reported run status.Usage (report, reports, (is, wrote)) none some = (report, reports, sym is, wrote)
-reported run status.ReadFault (nothing, rose) none some = absurd (none.input rose)
+reported run status.ReadFault (nothing, failed) none some = absurd (none.input failed.rose)
 reported run status.WriteFault (inl (report, reports, missed)) none some = absurd (no_miss run.outputs report none.out none.err missed)
 reported run status.WriteFault (inr (front, begins, missed)) none some = absurd (no_miss run.outputs front none.out none.err missed)
 reported run status.Memory nothing none some = absurd (some refl)

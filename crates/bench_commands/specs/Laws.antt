@@ -11,7 +11,8 @@ use Rattle.report_defs.specs.declared.status.Status.TheVariants.{Memory}
 use Rattle.report_defs.specs.Commands.{command_of, reads}
 use Rattle.report_defs.specs.Report.{Report, status_of, ReportOn}
 use Rattle.report_defs.specs.Laws.{OneReport, FrontsBeginReports, ListedInputsComeBack, ListedWordsComeBack}
-use Rattle.bench_commands.specs.Run.{Outputs, Run, EndsBy, WroteReport}
+use Rattle.reports.specs.Outputs.{Outputs, WroteReport}
+use Rattle.bench_commands.specs.Run.{Run, EndsBy}
 
 -- no count of faults rose in a run
 pub record HasNoFault (run : Run) : Type 0 where

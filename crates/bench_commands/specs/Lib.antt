@@ -1,7 +1,6 @@
 pub mod LinkedInput
 pub mod Run
 pub mod Ran
-pub mod Made
 pub mod Loaded
 pub mod Traced
 pub mod Laws

@@ -1,16 +1,17 @@
 -- What an object text gives, in the terms of the definitions.
-use Rattle.std.specs.Prelude.{◌≡◌, ⊤, ℕ, List, Result, Ok, Err}
+use Rattle.std.specs.Prelude.{◌≡◌, ℕ, List, Result, Ok, Err}
 use Rattle.link_defs.specs.LinkedMemory.{LinkedMemory}
 use Rattle.link_loader.specs.View.{defined_linked}
-use Rattle.bench_commands.specs.declared.object_input.LinkedInput.{LinkedInput}
-use Rattle.bench_commands.specs.declared.object_input.LinkedInput.TheVariants.{Linked, Refused}
+use Rattle.link_loader.specs.declared.linked.Linked.{Linked}
+use Rattle.report_defs.specs.Report.{Report, Rejected}
+use Rattle.reports.specs.declared.unreported.Unreported.{Unreported}
+use Rattle.reports.specs.Answers.{WantsMemory, Reported, told}
 
--- the linked memory, or the line
-abbrev pub defined_input : LinkedInput → Result LinkedMemory (List ℕ)
-defined_input (Linked linked) = Ok (defined_linked linked)
-defined_input (Refused line) = Err line.items
+-- the line of a refusal
+abbrev pub RejectsAs : Result LinkedMemory (List ℕ) → Report → Type 0
+RejectsAs defined report = (line : List ℕ) × (defined ≡ Err line) × (report ≡ Rejected line)
 
 -- what is given is what is defined; want of memory says nothing
-abbrev pub IsLinkedInput : {E : Type 0} → Result LinkedInput E → Result LinkedMemory (List ℕ) → Type 0
-IsLinkedInput (Ok input) defined = defined ≡ defined_input input
-IsLinkedInput (Err error) defined = ⊤
+abbrev pub LinksInput : Result Linked Unreported → Result LinkedMemory (List ℕ) → Type 0
+LinksInput (Ok linked) defined = defined ≡ Ok (defined_linked linked)
+LinksInput (Err unreported) defined = Reported (RejectsAs defined) WantsMemory (told unreported)

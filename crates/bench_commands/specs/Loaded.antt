@@ -1,5 +1,5 @@
 -- A GPL source that is to be run, in the terms of the definitions.
-use Rattle.std.specs.Prelude.{◌≡◌, ℕ, List, length, Option, Some, Result, Ok}
+use Rattle.std.specs.Prelude.{◌≡◌, ℕ, List, length, Option, Some, Result, Ok, Err}
 use Rattle.source_defs.specs.Refusals.{Refusal}
 use Rattle.gpl_defs.specs.Image.{Image, AreBytesOf, written_bytes}
 use Rattle.gpl_source_defs.specs.declared.causes.GplCause.{GplCause}
@@ -7,9 +7,8 @@ use Rattle.gpl_source_defs.specs.Programs.{Program}
 use Rattle.interp_defs.specs.Boot.{IsBoot}
 use Rattle.report_defs.specs.Report.{Report, EnteredReport, ProgramReport}
 use Rattle.bench_commands.specs.declared.commands.program.LoadedProgram.{LoadedProgram}
-use Rattle.bench_commands.specs.declared.commands.program.Loaded.{Loaded}
-use Rattle.bench_commands.specs.declared.commands.program.Loaded.TheVariants as made
-use Rattle.bench_commands.specs.Made.{defined_report}
+use Rattle.reports.specs.declared.unreported.Unreported.{Unreported}
+use Rattle.reports.specs.Answers.{WantsMemory, Reported, told}
 
 -- no program is run
 abbrev pub RunsNone : Image → ℕ → Report → Type 0
@@ -24,9 +23,9 @@ pub record LoadsEntered (image : Image) (entry : Option ℕ) (loaded : LoadedPro
   pub boots : IsBoot bytes address loaded.machine
   pub size : loaded.image_size ≡ length (written_bytes image)
 
-abbrev pub LoadsImage : Image → Option ℕ → Loaded → Type 0
-LoadsImage image entry (made.Program program) = LoadsEntered image entry program
-LoadsImage image entry (made.Report report) = EnteredReport RunsNone image entry (defined_report report)
+abbrev pub LoadsImage : Image → Option ℕ → Result LoadedProgram Unreported → Type 0
+LoadsImage image entry (Ok program) = LoadsEntered image entry program
+LoadsImage image entry (Err unreported) = Reported (EnteredReport RunsNone image entry) WantsMemory (told unreported)
 
 -- a source that is accepted
 pub record LoadsProgram (source : Result Program (Refusal GplCause)) (loaded : LoadedProgram) : Type 0 where
@@ -34,6 +33,6 @@ pub record LoadsProgram (source : Result Program (Refusal GplCause)) (loaded : L
   pub is : source ≡ Ok program
   pub entered : LoadsEntered program.image program.entry loaded
 
-abbrev pub LoadsSource : Result Program (Refusal GplCause) → Loaded → Type 0
-LoadsSource source (made.Program program) = LoadsProgram source program
-LoadsSource source (made.Report report) = ProgramReport RunsNone source (defined_report report)
+abbrev pub LoadsSource : Result Program (Refusal GplCause) → Result LoadedProgram Unreported → Type 0
+LoadsSource source (Ok program) = LoadsProgram source program
+LoadsSource source (Err unreported) = Reported (ProgramReport RunsNone source) WantsMemory (told unreported)

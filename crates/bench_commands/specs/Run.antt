@@ -1,25 +1,17 @@
 -- One run of the program: how it may end, and what the input and the two outputs are then.
-use Rattle.std.specs.Prelude.{◌≡◌, ◌⊎◌, ℕ, ◌+◌, ◌≤◌, nat_lt, Bool, false, MatchBool, if◌then◌else◌, List, [], ◌∷◌, length}
-use Rattle.std.specs.Prelude.{Option, Some, None, IsSome, Result}
+use Rattle.std.specs.Prelude.{◌≡◌, ◌⊎◌, ℕ, ◌+◌, ◌≤◌, nat_lt, Bool, true, false, MatchBool, if◌then◌else◌, List, [], length}
+use Rattle.std.specs.Prelude.{Option, Some, None, IsSome}
 use Rattle.count_defs.specs.Counts.{Rose}
-use Rattle.bench_io.specs.Stream.{SourceState, SinkState, IsAtEnd}
+use Rattle.bench_io.specs.Stream.{SourceState, IsAtEnd}
 use Rattle.bench_io.specs.ReadAll.{Took, ReadWhole}
-use Rattle.bench_io.specs.Written.{Wrote, Missed, Written}
 use Rattle.report_defs.specs.declared.command.Command.{Command}
 use Rattle.report_defs.specs.declared.status.Status.{Status}
 use Rattle.report_defs.specs.declared.status.Status.TheVariants.{Done, Refused, Usage, ReadFault, WriteFault}
 use Rattle.report_defs.specs.declared.status.Status.TheVariants.{Memory, Stopped}
 use Rattle.report_defs.specs.declared.fault.Fault.TheVariants as fault
-use Rattle.report_defs.specs.FaultLine.{fault_line}
 use Rattle.report_defs.specs.Commands.{command_of, reads}
-use Rattle.report_defs.specs.Report.{Report, Whole, Faulty, Rejected, status_of, largest_input, ReportOn, FrontOn}
-
--- the output and the error output before and after the run
-pub record Outputs : Type 0 where
-  pub out : SinkState
-  pub out' : SinkState
-  pub err : SinkState
-  pub err' : SinkState
+use Rattle.report_defs.specs.Report.{Report, Faulty, largest_input, ReportOn, FrontOn}
+use Rattle.reports.specs.Outputs.{Outputs, EndsWith, MissedReport}
 
 -- the words, the input before and after the run, and the outputs
 pub record Run : Type 0 where
@@ -63,34 +55,6 @@ BeginsOn None run front = ⊥
 BeginsOn (Some command) run front =
     (bytes : List ℕ) × Reads (reads command) run.input run.input' bytes × FrontOn command bytes front
 
--- the report was written to the one output that it goes to, and nothing to the other
-abbrev pub WroteReport : Outputs → Report → Type 0
-WroteReport o (Whole status pieces) = Wrote o.out o.out' pieces × (o.err' ≡ o.err)
-WroteReport o (Faulty fault) = Wrote o.err o.err' (fault_line fault ∷ []) × (o.out' ≡ o.out)
-WroteReport o (Rejected line) = Wrote o.err o.err' (line ∷ []) × (o.out' ≡ o.out)
-
--- the output that the report goes to failed: it grew by a front of what it was to get
-abbrev pub MissedReport : Outputs → Report → Type 0
-MissedReport o (Whole status pieces) = Missed o.out o.out' pieces × (o.err' ≡ o.err)
-MissedReport o (Faulty fault) = Missed o.err o.err' (fault_line fault ∷ []) × (o.out' ≡ o.out)
-MissedReport o (Rejected line) = Missed o.err o.err' (line ∷ []) × (o.out' ≡ o.out)
-
--- what came of the writing, by its answer
-abbrev pub WrittenReport : {T E : Type 0} → Result T E → Outputs → Report → Type 0
-WrittenReport result o (Whole status pieces) = Written result o.out o.out' pieces × (o.err' ≡ o.err)
-WrittenReport result o (Faulty fault) = Written result o.err o.err' (fault_line fault ∷ []) × (o.out' ≡ o.out)
-WrittenReport result o (Rejected line) = Written result o.err o.err' (line ∷ []) × (o.out' ≡ o.out)
-
--- how the writing of a report ends: by its own status where it was written, else by a write fault
-abbrev pub EndsWith : Outputs → Report → Status → Type 0
-EndsWith o report Done = (status_of report ≡ Done) × WroteReport o report
-EndsWith o report Refused = (status_of report ≡ Refused) × WroteReport o report
-EndsWith o report Usage = (status_of report ≡ Usage) × WroteReport o report
-EndsWith o report ReadFault = ⊥
-EndsWith o report WriteFault = MissedReport o report
-EndsWith o report Memory = ⊥
-EndsWith o report Stopped = (status_of report ≡ Stopped) × WroteReport o report
-
 -- a command that reads no input leaves it as it was
 abbrev pub LeavesInput : Run → Type 0
 LeavesInput run =
@@ -119,13 +83,20 @@ EndsByFault run =
     EndsByReport run WriteFault
     ⊎ (front : Report) × BeginsOn (command_of run.words) run front × MissedReport run.outputs front
 
+-- A call of the input failed, of which the command reads.
+pub record ReadFailed (run : Run) : Type 0 where
+  pub command : Command
+  pub said : command_of run.words ≡ Some command
+  pub reading : reads command ≡ true
+  pub rose : Rose run.input.faults run.input'.faults
+
 -- The statuses, each with its cause. Want of memory has no cause, but it is never answered to words that are no
 -- command, and never once something was written.
 abbrev pub EndsBy : Run → Status → Type 0
 EndsBy run Done = EndsByReport run Done
 EndsBy run Refused = EndsByReport run Refused
 EndsBy run Usage = EndsByReport run Usage
-EndsBy run ReadFault = WroteNothing run × Rose run.input.faults run.input'.faults
+EndsBy run ReadFault = WroteNothing run × ReadFailed run
 EndsBy run WriteFault = EndsByFault run
 EndsBy run Memory = WroteNothing run
 EndsBy run Stopped = EndsByReport run Stopped

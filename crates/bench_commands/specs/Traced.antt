@@ -1,5 +1,5 @@
 -- A trace, from where its memory is taken to its end.
-use Rattle.std.specs.Prelude.{◌≡◌, ◌≤◌, ◌⊎◌, ℕ, List, ◌++◌, length, None}
+use Rattle.std.specs.Prelude.{◌≡◌, ◌≤◌, ◌⊎◌, ℕ, List, ◌++◌, None, Result, Ok, Err}
 use Rattle.console_defs.specs.Memory.{IsMemory}
 use Rattle.console_defs.specs.Machine.{MachineState, IsMachine}
 use Rattle.gpl_step_defs.specs.State.{start}
@@ -17,14 +17,16 @@ use Rattle.report_defs.specs.declared.status.Status.TheVariants.{WriteFault}
 use Rattle.report_defs.specs.Commands.{most_steps}
 use Rattle.report_defs.specs.Program.{program_lines, program_status}
 use Rattle.report_defs.specs.Trace.{seen_state, step_lines}
-use Rattle.report_defs.specs.Report.{Whole, largest_input, ReportOn}
+use Rattle.report_defs.specs.Report.{Whole, AcceptedReport}
 use Rattle.bench_commands.specs.declared.commands.program.LoadedProgram.{LoadedProgram}
 use Rattle.bench_commands.specs.declared.prepared.Prepared.{Prepared}
 use Rattle.bench_commands.specs.declared.prepared.Prepared.TheVariants as prepared
 use Rattle.bench_commands.specs.declared.trace.Trace.{Trace}
-use Rattle.bench_commands.specs.Made.{defined_report}
+use Rattle.reports.specs.declared.unreported.Unreported.{Unreported}
+use Rattle.reports.specs.Made.{defined_report}
+use Rattle.reports.specs.Answers.{WantsMemory, Reported, told}
 use Rattle.bench_commands.specs.Loaded.{LoadsProgram}
-use Rattle.bench_commands.specs.Run.{Outputs, EndsWith}
+use Rattle.reports.specs.Outputs.{Outputs, EndsWith}
 
 -- The interpreter has booted on a machine, and stands before the first step of the program.
 pub record Started (new : MachineState) (session : SessionState) : Type 0 where
@@ -48,11 +50,11 @@ pub record TracesSource (input : List ℕ) (trace : Trace) : Type 0 where
   pub started : Started new.machine trace.session
   pub can : CanTrace trace
 
--- what is made of an input that is not too large
-abbrev pub Prepares : Command → List ℕ → Prepared → Type 0
-Prepares command input (prepared.Report report) = ReportOn command input (defined_report report)
-Prepares command input (prepared.Trace trace) =
-    (command ≡ asked.Trace trace.limit) × (length input ≤ largest_input) × TracesSource input trace
+-- what is made of an input that is not too large, or why nothing is
+abbrev pub Prepares : Command → List ℕ → Result Prepared Unreported → Type 0
+Prepares command input (Ok (prepared.Report report)) = AcceptedReport command input (defined_report report)
+Prepares command input (Ok (prepared.Trace trace)) = (command ≡ asked.Trace trace.limit) × TracesSource input trace
+Prepares command input (Err unreported) = Reported (AcceptedReport command input) WantsMemory (told unreported)
 
 -- The program was run, and its report was written, or a front of it.
 pub record TracesWhole (o : Outputs) (trace : Trace) (status : Status) : Type 0 where

@@ -12,7 +12,7 @@ pub(crate) mod program;
 mod run;
 mod trace;
 
-ghost use Rattle.std.specs.Prelude.{◌≤◌, vec_len, IfOk};
+ghost use Rattle.std.specs.Prelude.{◌≤◌, vec_len};
 ghost use Rattle.report_defs.specs.Commands.{KeepsLimit};
 ghost use Rattle.report_defs.specs.Report.{largest_input};
 ghost use Rattle.bench_commands.specs.Traced.{Prepares};
@@ -29,29 +29,30 @@ use crate::commands::run::run;
 use crate::commands::trace::trace;
 use crate::prepared::Prepared;
 use report_defs::Command;
-use std::alloc::{AllocError, Global};
+use reports::Unreported;
+use std::alloc::Global;
 
 /// What a command makes of an input that is not too large.
 pub(crate) fn prepare(
     alloc: Global,
     command: Command,
     input: Vec<u8>,
-) -> Result<Prepared, AllocError>
+) -> Result<Prepared, Unreported>
     requires size { vec_len input ≤ largest_input }
     requires limit { KeepsLimit command }
-    ensures { IfOk result (Prepares command input.items) }
+    ensures { Prepares command input.items result }
 {
     let report = match command {
-        Command::Asm => asm(alloc, input.as_slice())?,
-        Command::Gasm => gasm(alloc, input.as_slice())?,
+        Command::Asm => asm(alloc, input.as_slice()),
+        Command::Gasm => gasm(alloc, input.as_slice()),
         Command::Dis { at } => dis(at, input),
-        Command::Gdis { at } => gdis(alloc, at, input.as_slice())?,
-        Command::Link => link(alloc, input.as_slice())?,
-        Command::Exec { limit } => exec(alloc, limit, input.as_slice())?,
-        Command::Interp => interp(alloc)?,
-        Command::Run { limit } => run(alloc, limit, input.as_slice())?,
-        Command::Demo { number } => demo(alloc, number)?,
+        Command::Gdis { at } => gdis(alloc, at, input.as_slice()),
+        Command::Link => link(alloc, input.as_slice()),
+        Command::Exec { limit } => exec(alloc, limit, input.as_slice()),
+        Command::Interp => interp(alloc),
+        Command::Run { limit } => run(alloc, limit, input.as_slice()),
+        Command::Demo { number } => demo(alloc, number),
         Command::Trace { limit } => return trace(alloc, limit, input.as_slice()),
     };
-    Ok(Prepared::Report(report))
+    Ok(Prepared::Report(report?))
 }

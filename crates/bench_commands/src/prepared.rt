@@ -2,10 +2,10 @@
 
 ghost use Rattle.bench_commands.specs.Traced.{CanFinish, Finishes};
 
-use crate::report::Report;
 use crate::trace::Trace;
 use bench_io::Sink;
 use report_defs::Status;
+use reports::{Report, finish};
 
 /// What a command has made. Nothing takes memory from here on.
 #[derive(Drop)]
@@ -28,7 +28,7 @@ impl Prepared {
         }) self result }
     {
         match self {
-            Prepared::Report(report) => report.finish(out, err),
+            Prepared::Report(report) => finish(&Ok(report), out, err),
             Prepared::Trace(trace) => trace.finish(out, err),
         }
     }

@@ -1,15 +1,17 @@
 //! The commands over one input, which read no file.
 
+ghost use Rattle.std.specs.Prelude.{◌≡◌, ℕ, List, Some};
+ghost use Rattle.report_defs.specs.Commands.{command_of, KeepsLimit};
 ghost use Rattle.bench_commands.specs.Laws.{LawsOfRuns};
 ghost use Rattle.bench_commands.specs.Run.{EndsBy};
 
 use crate::commands::prepare;
 use crate::input::take_input;
-use crate::report::Report;
 use bench_io::{ReadError, Sink, Source};
 use command_words::{Words, read_command};
-use report_defs::{Fault, Status};
-use std::alloc::{AllocError, Global};
+use report_defs::{Command, Fault, Status};
+use reports::{Unreported, finish};
+use std::alloc::Global;
 
 /// Runs the command that the words say. It reads all of `input` before it writes, writes the report to `out`, or a
 /// fault line or the usage line to `err`, and takes all its memory before the first byte is written. The lines of a
@@ -42,17 +44,43 @@ pub fn bench<S: Source, O: Sink, E: Sink>(
       };
     }) result }
 {
-    let Some(command) = read_command(words) else {
-        return Report::Fault(Fault::Usage).finish(out, err);
-    };
+    match read_command(words) {
+        Some(command) => run_command(alloc, command, input, out, err),
+        None => finish(&Err(Unreported::Fault(Fault::Usage)), out, err),
+    }
+}
+
+/// Runs a command. The run ends as [`bench`] does under any words that say the command.
+pub fn run_command<S: Source, O: Sink, E: Sink>(
+    alloc: Global,
+    command: Command,
+    input: &mut S,
+    out: &mut O,
+    err: &mut E,
+) -> Status
+    requires { KeepsLimit command }
+    ensures { (words : List (List ℕ)) → command_of words ≡ Some command → EndsBy (record {
+      words = words;
+      input = S.state input.old;
+      input' = S.state input.new;
+      outputs = record {
+        out = O.state out.old;
+        out' = O.state out.new;
+        err = E.state err.old;
+        err' = E.state err.new;
+      };
+    }) result }
+{
     let bytes = match take_input(alloc, command, input) {
         Ok(bytes) => bytes,
-        Err(ReadError::TooLarge) => return Report::Fault(Fault::TooLarge).finish(out, err),
+        Err(ReadError::TooLarge) => {
+            return finish(&Err(Unreported::Fault(Fault::TooLarge)), out, err);
+        }
         Err(ReadError::Fault) => return Status::ReadFault,
         Err(ReadError::Memory) => return Status::Memory,
     };
     match prepare(alloc, command, bytes) {
         Ok(prepared) => prepared.finish(out, err),
-        Err(AllocError) => Status::Memory,
+        Err(unreported) => finish(&Err(unreported), out, err),
     }
 }

@@ -7,10 +7,10 @@ ghost use Rattle.report_defs.specs.Commands.{most_steps};
 ghost use Rattle.trace_dump.specs.Plays.{Plays};
 ghost use Rattle.bench_commands.specs.Traced.{CanTrace, EndsTrace};
 
-use crate::report::Report;
 use bench_io::{Failed, Sink};
 use gpl_run::Session;
 use report_defs::Status;
+use reports::{Report, finish};
 use std::marker::Brand;
 use std::sync::ledger::{Blank, Ledger};
 use tms_step::Steps;
@@ -45,7 +45,7 @@ impl Trace {
             return Status::WriteFault;
         }
         session.machine().holds_bounds();
-        Report::Program(session).finish(out, err)
+        finish(&Ok(Report::Program(session)), out, err)
     }
 }
 

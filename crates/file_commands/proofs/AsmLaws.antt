@@ -1,5 +1,5 @@
 -- The report of a source with the files that it copies.
-use Rattle.std.proofs.Common.{◌≡◌, ℕ, List, Some, None, Ok, Err, sym, ap, subst}
+use Rattle.std.proofs.Common.{◌≡◌, ℕ, List, Some, None, Ok, Err, refl, sym, ap}
 use Rattle.std.specs.Prelude.{Option, Result, IfSome, IfOk, IfErr, OnOk}
 use Rattle.std.specs.FinMap.{empty}
 use Rattle.count_defs.specs.Counts.{raised}
@@ -26,10 +26,8 @@ use Rattle.report_defs.specs.declared.status.Status.TheVariants.{Done}
 use Rattle.report_defs.specs.TextLines.{text_lines}
 use Rattle.report_defs.specs.Report.{Whole}
 use Rattle.file_report_defs.specs.Reports.{copy_report}
-use Rattle.file_commands.specs.declared.report.FilesReport.{FilesReport}
-use Rattle.file_commands.specs.declared.report.FilesFailure.{FilesFailure}
-use Rattle.file_commands.specs.declared.report.FilesFailure.TheVariants as failure
-use Rattle.file_commands.specs.Made.{defined_report}
+use Rattle.reports.specs.declared.unreported.Unreported.{Unreported}
+use Rattle.reports.specs.Answers.{Reported, told}
 use Rattle.file_commands.specs.Copying.{copy_refusal}
 use Rattle.file_commands.specs.Reported.{CopyCauses, CopyReported, FailureCauses}
 
@@ -82,42 +80,27 @@ module _ (before after : ShelfState) (source : List ℕ) where
   not_opened None refusal = tt
   not_opened (Some files) refusal = tt
 
-  pub error_reported : (error : CopyError) (result : Result FilesReport FilesFailure)
+  pub error_reported : (error : CopyError) (unreported : Unreported)
       → IfSome before.files (λ files. CopyRefuses error (module_of_files files source))
       → (CopiesNone (line_texts source) → (after ≡ before) × CopyRefuses error (module_of_files empty source))
       → ShelfCauses error before after
-      → seen defined_report result ≡ seen (λ refusal. copy_report (Err refusal)) (copy_refusal error)
-      → IfOk result (λ report. CopyReported before after source (defined_report report))
-  error_reported error (Err failure) gives alone causes is = tt
-  error_reported (At file line cause) (Ok report) gives alone causes is = record {
+      → told unreported ≡ seen (λ refusal. copy_report (Err refusal)) (copy_refusal error)
+      → Reported (CopyReported before after source) (FailureCauses most_bytes before after) (told unreported)
+  error_reported (At file line cause) unreported gives alone causes is = rw is (record {
     answer = Err (copied.At (record { file = file; line = line }) (defined_cause cause));
     told = told_line before.files file line cause gives;
     alone = λ none. (let a = alone none in (a.0, told_line (Some empty) file line cause a.1));
     opened = not_opened before.files (copied.At (record { file = file; line = line }) (defined_cause cause));
     causes = line_causes file line cause causes;
-    is = cc is;
-  }
-  error_reported TooLarge (Ok report) gives alone causes is = record {
+    is = refl;
+  })
+  error_reported TooLarge unreported gives alone causes is = rw is (record {
     answer = Err copied.TooLarge;
     told = told_large before.files gives;
     alone = λ none. (let a = alone none in (a.0, told_large (Some empty) a.1));
     opened = not_opened before.files copied.TooLarge;
     causes = causes;
-    is = cc is;
-  }
-  error_reported Fault (Ok report) gives alone causes is = cc is
-  error_reported Memory (Ok report) gives alone causes is = cc is
-
-  -- why nothing is reported
-  pub error_failed : (error : CopyError) (result : Result FilesReport FilesFailure) → ShelfCauses error before after
-      → seen defined_report result ≡ seen (λ refusal. copy_report (Err refusal)) (copy_refusal error)
-      → IfErr result (λ failure. FailureCauses most_bytes failure before after)
-  error_failed error (Ok report) causes is = tt
-  error_failed (At file line cause) (Err found) causes is = cc is
-  error_failed TooLarge (Err found) causes is = cc is
-  error_failed Fault (Err found) causes is =
-      let same : failure.Fault ≡ found = cc is in
-      subst (λ found. FailureCauses most_bytes found before after) same causes
-  error_failed Memory (Err found) causes is =
-      let same : failure.Memory ≡ found = cc is in
-      subst (λ found. FailureCauses most_bytes found before after) same causes
+    is = refl;
+  })
+  error_reported Fault unreported gives alone causes is = rw is causes
+  error_reported Memory unreported gives alone causes is = rw is causes

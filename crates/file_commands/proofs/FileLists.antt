@@ -11,14 +11,15 @@ use Rattle.object_defs.specs.Modules.{Module}
 use Rattle.object_defs.specs.Reading.{read}
 use Rattle.asm_defs.proofs.CheckLaws.{bound}
 use Rattle.shelf_defs.specs.Files.{Files}
-use Rattle.file_report_defs.specs.LinkedFiles.{FilesRefusal, InFile, bytes_of, read_files, in_file, modules_of}
+use Rattle.file_report_defs.specs.LinkedFiles.{FilesRefusal, bytes_of, read_files, in_file, modules_of}
 use Rattle.file_commands.specs.declared.file_text.FileText.{FileText}
 use Rattle.file_commands.specs.declared.error.ReadingError.{ReadingError}
 use Rattle.file_commands.specs.declared.error.ReadingError.TheVariants as error
-use Rattle.file_commands.specs.declared.modules.ModulesError.{ModulesError}
-use Rattle.file_commands.specs.declared.modules.ModulesError.TheVariants as broken
 use Rattle.file_commands.specs.Reading.{defined_text, defined_texts, Refuses, IsOfName, StopsAt, StopsBy}
-use Rattle.file_commands.specs.Modules.{RefusesModules}
+use Rattle.file_commands.specs.Modules.{ReportsRefused}
+use Rattle.report_defs.specs.declared.status.Status.{Status}
+use Rattle.report_defs.specs.Report.{Report}
+use Rattle.reports.specs.Answers.{WantsMemory, Reported}
 
 abbrev Text : Type 0
 Text = List ℕ × List ℕ
@@ -151,12 +152,15 @@ modules_next front texts text found more all is longer so_far one =
     ∙ (ap modules_of (texts_more front text)
     ∙ (modules_more (defined_texts front) (defined_text text) found more so_far one ∙ ap Ok (sym longer)))
 
-pub modules_end : (front rest texts : List FileText) (text : FileText) (found : List Module) (error : ModulesError)
+pub modules_end : (front rest texts : List FileText) (text : FileText) (found : List Module) (told : Result Report Status)
     → texts ≡ front ++ text ∷ rest → modules_of (defined_texts front) ≡ Ok found
-    → RefusesModules error (in_file text.name (read text.bytes.items))
-    → RefusesModules error (modules_of (defined_texts texts))
-modules_end front rest texts text found (broken.InFile name line cause) is so_far refused =
-    ap (λ texts. modules_of (defined_texts texts)) is
-    ∙ (ap modules_of (map-append defined_text front (text ∷ rest))
-    ∙ modules_stop (defined_texts front) (defined_texts rest) (defined_text text) found (InFile name (record { line = line; cause = cause })) so_far refused)
-modules_end front rest texts text found broken.Memory is so_far refused = tt
+    → Reported (ReportsRefused (in_file text.name (read text.bytes.items))) WantsMemory told
+    → Reported (ReportsRefused (modules_of (defined_texts texts))) WantsMemory told
+modules_end front rest texts text found (Ok report) is so_far (refusal, refused, same) = (
+  refusal,
+  ap (λ texts. modules_of (defined_texts texts)) is
+  ∙ (ap modules_of (map-append defined_text front (text ∷ rest))
+  ∙ modules_stop (defined_texts front) (defined_texts rest) (defined_text text) found refusal so_far refused),
+  same,
+)
+modules_end front rest texts text found (Err end) is so_far memory = memory

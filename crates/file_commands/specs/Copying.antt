@@ -5,12 +5,12 @@ use Rattle.shelf_defs.specs.Copied.{CopyRefusal}
 use Rattle.bench_shelf.specs.CopyAnswers.{defined_cause}
 use Rattle.bench_shelf.specs.declared.copy_error.CopyError.{CopyError}
 use Rattle.bench_shelf.specs.declared.copy_error.CopyError.TheVariants.{At, TooLarge, Fault, Memory}
-use Rattle.file_commands.specs.declared.report.FilesFailure.{FilesFailure}
-use Rattle.file_commands.specs.declared.report.FilesFailure.TheVariants as failure
+use Rattle.report_defs.specs.declared.status.Status.{Status}
+use Rattle.report_defs.specs.declared.status.Status.TheVariants as status
 
 -- the refusal of the definitions; a shelf that failed and want of memory have none
-abbrev pub copy_refusal : CopyError → Result CopyRefusal FilesFailure
+abbrev pub copy_refusal : CopyError → Result CopyRefusal Status
 copy_refusal (At file line cause) = Ok (spec.At (record { file = file; line = line }) (defined_cause cause))
 copy_refusal TooLarge = Ok spec.TooLarge
-copy_refusal Fault = Err failure.Fault
-copy_refusal Memory = Err failure.Memory
+copy_refusal Fault = Err status.ReadFault
+copy_refusal Memory = Err status.Memory

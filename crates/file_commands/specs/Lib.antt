@@ -1,4 +1,3 @@
-pub mod Made
 pub mod Reported
 pub mod Reading
 pub mod Modules

@@ -3,14 +3,14 @@ use Rattle.std.specs.Prelude.{◌≡◌, ⊤, ℕ, ◌+◌, ◌≤◌, List, ◌
 use Rattle.count_defs.specs.Counts.{raised, Rose}
 use Rattle.bench_shelf.specs.States.{ShelfState}
 use Rattle.bench_shelf.specs.Causes.{TookMore, TookNoMore}
+use Rattle.report_defs.specs.declared.status.Status.{Status}
+use Rattle.report_defs.specs.declared.status.Status.TheVariants as status
 use Rattle.report_defs.specs.Report.{largest_input}
 use Rattle.file_report_defs.specs.LinkedFiles as spec
 use Rattle.file_report_defs.specs.LinkedFiles.{FilesRefusal}
 use Rattle.file_commands.specs.declared.file_text.FileText.{FileText}
 use Rattle.file_commands.specs.declared.error.ReadingError.{ReadingError}
 use Rattle.file_commands.specs.declared.error.ReadingError.TheVariants.{Missing, TooLarge, Fault, Memory}
-use Rattle.file_commands.specs.declared.report.FilesFailure.{FilesFailure}
-use Rattle.file_commands.specs.declared.report.FilesFailure.TheVariants as failure
 
 -- a file with its name
 abbrev pub defined_text : FileText → List ℕ × List ℕ
@@ -61,8 +61,8 @@ StopsBy names Fault before after = after.opens ≤ raised before.opens (length n
 StopsBy names Memory before after = after.opens ≤ raised before.opens (length names)
 
 -- the refusal of the definitions; a shelf that failed and want of memory have none
-abbrev pub refusal_of : ReadingError → Result FilesRefusal FilesFailure
+abbrev pub refusal_of : ReadingError → Result FilesRefusal Status
 refusal_of (Missing name) = Ok (spec.Missing name)
 refusal_of TooLarge = Ok spec.TooLarge
-refusal_of Fault = Err failure.Fault
-refusal_of Memory = Err failure.Memory
+refusal_of Fault = Err status.ReadFault
+refusal_of Memory = Err status.Memory

@@ -17,20 +17,21 @@ use Rattle.bench_shelf.specs.States.{ShelfState}
 use Rattle.bench_shelf.specs.CopyAnswers.{IsOwnCause}
 use Rattle.bench_shelf.specs.Causes.{TookMore, TookNoMore}
 use Rattle.bench_shelf.specs.KeptLines.{IsOfLines}
+use Rattle.report_defs.specs.declared.status.Status.{Status}
+use Rattle.report_defs.specs.declared.status.Status.TheVariants as status
 use Rattle.report_defs.specs.Report.{Report, largest_input}
 use Rattle.file_report_defs.specs.LinkedFiles.{FilesRefusal, Missing, TooLarge, InFile, Unlinked}
 use Rattle.file_report_defs.specs.LinkedFiles.{read_files, linked_texts}
 use Rattle.file_report_defs.specs.Reports.{copy_report, files_report}
 use Rattle.file_commands.specs.Reading.{StopsAt}
-use Rattle.file_commands.specs.declared.report.FilesFailure.{FilesFailure}
-use Rattle.file_commands.specs.declared.report.FilesFailure.TheVariants as failure
 
 -- Why nothing is reported: the shelf failed, which it has counted. Want of memory tells nothing. Of no file more bytes
 -- were taken than it may have.
-abbrev pub FailureCauses : ℕ → FilesFailure → ShelfState → ShelfState → Type 0
-FailureCauses limit failure.Fault before after =
+abbrev pub FailureCauses : ℕ → ShelfState → ShelfState → Status → Type 0
+FailureCauses limit before after status.ReadFault =
     Rose before.source.faults after.source.faults × TookNoMore limit before after
-FailureCauses limit failure.Memory before after = TookNoMore limit before after
+FailureCauses limit before after status.Memory = TookNoMore limit before after
+FailureCauses limit before after other = ⊥
 
 -- A name that is missing was counted, and a file is too large exactly where more bytes of one were taken than it may have.
 -- No line is refused because memory was wanting.

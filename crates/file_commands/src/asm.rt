@@ -1,6 +1,6 @@
 //! `asm` with the files that the source copies.
 
-ghost use Rattle.std.specs.Prelude.{◌≡◌, ◌≤◌, ◌+◌, ◌*◌, length, Err, IfOk, IfErr};
+ghost use Rattle.std.specs.Prelude.{◌≡◌, ◌≤◌, ◌+◌, ◌*◌, length, Err, IfOk};
 ghost use Rattle.count_defs.specs.Counts.{raised};
 ghost use Rattle.source_defs.specs.Refusals.{seen};
 ghost use Rattle.object_defs.specs.Writing.{written};
@@ -11,13 +11,14 @@ ghost use Rattle.bench_shelf.specs.KeptLines.{IsOfLines};
 ghost use Rattle.report_defs.specs.Report.{largest_input};
 ghost use Rattle.file_report_defs.specs.Reports.{copy_report};
 ghost use Rattle.file_commands.specs.Copying.{copy_refusal};
-ghost use Rattle.file_commands.specs.Made.{defined_report};
 ghost use Rattle.file_commands.specs.Reported.{CopyReported, FailureCauses};
+ghost use Rattle.reports.specs.Answers.{answer, Reported, told};
 
 use crate::causes::copy_line;
-use crate::report::{FilesFailure, FilesReport};
 use bench_shelf::{CopyError, Shelf, copy_assemble};
 use object_tags::{Module, write_module};
+use report_defs::Fault;
+use reports::{Report, Unreported};
 use std::alloc::{AllocError, Global};
 
 /// What is to be reported of a source of at most 1,048,576 bytes with the files of a shelf that it copies: the object
@@ -28,40 +29,36 @@ use std::alloc::{AllocError, Global};
 /// whatever the shelf tells.
 ///
 /// # Errors
-/// `Fault` comes only where the shelf's count of faults rose, and `Memory` is want of memory. Of no file more bytes were
-/// taken than it may have then.
+/// A refused line and a file that is too large are told by `Refused` and `Fault`. `ReadFault` comes only where the shelf's
+/// count of faults rose, and `Memory` is want of memory. Of no file more bytes were taken than it may have then.
 pub fn asm_files<F: Shelf>(
     alloc: Global,
     shelf: &mut F,
     text: &[u8],
-) -> Result<FilesReport, FilesFailure>
+) -> Result<Report, Unreported>
     requires { length text.now ≤ largest_input }
-    ensures report { IfOk result (λ report.
-        CopyReported (F.state shelf.old) (F.state shelf.new) text.now (defined_report report)) }
-    ensures failure { IfErr result (λ failure.
-        FailureCauses most_bytes failure (F.state shelf.old) (F.state shelf.new)) }
+    ensures report { Reported (CopyReported (F.state shelf.old) (F.state shelf.new) text.now)
+        (FailureCauses most_bytes (F.state shelf.old) (F.state shelf.new)) (answer result) }
     ensures opens { (F.state shelf.new).opens ≤ raised (F.state shelf.old).opens most_copies }
     ensures taken { (F.state shelf.new).source.taken
         ≤ raised (F.state shelf.old).source.taken ((most_bytes + 1) * most_copies) }
     ensures later { Later (F.state shelf.old) (F.state shelf.new) }
 {
     match copy_assemble(alloc, shelf, text) {
-        Ok(module) => Ok(FilesReport::Text(text_of(alloc, &module)?)),
-        Err(error) => refused(error),
+        Ok(module) => Ok(Report::Text(text_of(alloc, &module)?)),
+        Err(error) => Err(refused(error)),
     }
 }
 
-/// What is to be reported of a source that is refused.
-fn refused(error: CopyError) -> Result<FilesReport, FilesFailure>
-    ensures { seen defined_report result ≡ seen (λ refusal. copy_report (Err refusal)) (copy_refusal error) }
+/// Why a source is refused, or is not assembled.
+fn refused(error: CopyError) -> Unreported
+    ensures { told result ≡ seen (λ refusal. copy_report (Err refusal)) (copy_refusal error) }
 {
     match error {
-        CopyError::At { file, line, cause } => Ok(FilesReport::Refused(copy_line(
-            file, line, cause,
-        ))),
-        CopyError::TooLarge => Ok(FilesReport::TooLarge),
-        CopyError::Fault => Err(FilesFailure::Fault),
-        CopyError::Memory => Err(FilesFailure::Memory),
+        CopyError::At { file, line, cause } => Unreported::Refused(copy_line(file, line, cause)),
+        CopyError::TooLarge => Unreported::Fault(Fault::TooLarge),
+        CopyError::Fault => Unreported::ReadFault,
+        CopyError::Memory => Unreported::Memory,
     }
 }
 

@@ -1,19 +1,19 @@
 //! The lines that standard error gets of files.
 
-ghost use Rattle.std.specs.Prelude.{◌≡◌, Some};
+ghost use Rattle.std.specs.Prelude.{◌≡◌, ◌≤◌, length, Some};
+ghost use Rattle.arrayvec.specs.ArrayVec.{array_vec_len};
 ghost use Rattle.bench_shelf.specs.CopyAnswers.{defined_cause};
 ghost use Rattle.file_report_defs.specs.FileLines as spec;
 ghost use Rattle.report_defs.specs.FaultLine as faults;
 ghost use Rattle.report_defs.specs.ObjectFaults as objects;
 
-use crate::line::{FileLine, in_file, name_bytes};
 use bench_shelf::{CopyCause, FileName};
 use memory_listing::tag_line;
 use object_defs::TagCause;
 use report_lines::{Line, append, append_count, asm_line, refusal_line};
 
 /// The line of a refused line of a source, or of a file that it copies, by its number there, from 1.
-pub fn copy_line(file: Option<FileName>, line: u32, cause: CopyCause) -> FileLine
+pub fn copy_line(file: Option<FileName>, line: u32, cause: CopyCause) -> Line
     ensures { result.items ≡ spec.place_line (record { file = file; line = line }) (defined_cause cause) }
 {
     in_file(file, cause_line(line, cause).as_slice())
@@ -21,7 +21,8 @@ pub fn copy_line(file: Option<FileName>, line: u32, cause: CopyCause) -> FileLin
 
 /// What is said of a refused line, by its number.
 fn cause_line(number: u32, cause: CopyCause) -> Line
-    ensures { result.items ≡ faults.refusal_line number (spec.copy_cause_text (defined_cause cause)) }
+    ensures line { result.items ≡ faults.refusal_line number (spec.copy_cause_text (defined_cause cause)) }
+    ensures short { array_vec_len result ≤ 128 }
 {
     match cause {
         CopyCause::Asm(cause) => asm_line(number, cause),
@@ -35,7 +36,8 @@ fn cause_line(number: u32, cause: CopyCause) -> Line
 /// What is said of a COPY line that names no file.
 #[tactic(auto, using(std::proofs::Common::append_assoc), unfolding(report_defs::specs::FaultLine::refusal_line))]
 fn missing_copy_line(number: u32, name: &FileName) -> Line
-    ensures { result.items ≡ faults.refusal_line number (spec.missing_text name.now) }
+    ensures line { result.items ≡ faults.refusal_line number (spec.missing_text name.now) }
+    ensures short { array_vec_len result ≤ 128 }
 {
     let mut line = Line::new();
     append(&mut line, b"line ");
@@ -48,19 +50,43 @@ fn missing_copy_line(number: u32, name: &FileName) -> Line
 }
 
 /// The line of a file that is missing.
-pub fn missing_line(name: FileName) -> FileLine
+pub fn missing_line(name: FileName) -> Line
     ensures { result.items ≡ spec.missing_line name }
 {
     let mut line = Line::new();
     append(&mut line, b"missing ");
     append(&mut line, name_bytes(&name));
     line.push(b'\n');
-    in_file(None, line.as_slice())
+    line
 }
 
 /// The line of a bad place in a file of object text, by the number of its line, from 1.
-pub fn file_tag_line(name: FileName, line: u32, cause: TagCause) -> FileLine
+pub fn file_tag_line(name: FileName, line: u32, cause: TagCause) -> Line
     ensures { result.items ≡ spec.in_file (Some name) (objects.tag_line (record { line = line; cause = cause })) }
 {
     in_file(Some(name), tag_line(line, cause).as_slice())
+}
+
+/// A line of at most 128 bytes about a file, or about the source itself: behind the file's name and a blank.
+#[tactic(auto, using(std::proofs::Common::append_assoc))]
+fn in_file(file: Option<FileName>, line: &[u8]) -> Line
+    requires { length line.now ≤ 128 }
+    ensures { result.items ≡ spec.in_file file line.now }
+{
+    let mut told = Line::new();
+    if let Some(name) = file {
+        append(&mut told, name_bytes(&name));
+        told.push(b' ');
+    }
+    append(&mut told, line);
+    told
+}
+
+/// The bytes of a file's name, which are 60 at most.
+#[tactic(auto, using(crate::proofs::NameLaws::short_name))]
+fn name_bytes(name: &FileName) -> &[u8]
+    ensures bytes { result.now ≡ name.now }
+    ensures short { length result.now ≤ 60 }
+{
+    name.as_bytes()
 }

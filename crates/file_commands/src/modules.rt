@@ -6,40 +6,15 @@ ghost use Rattle.object_defs.specs.Reading.{read};
 ghost use Rattle.file_report_defs.specs.LinkedFiles as spec;
 ghost use Rattle.file_commands.specs.Reading.{defined_texts};
 ghost use Rattle.file_commands.specs.Modules.{GivesModules};
-ghost use Rattle.file_commands.specs.declared.modules.ModulesError.TheVariants as errors;
 
+use crate::causes::file_tag_line;
 use crate::file_text::FileText;
-use bench_shelf::FileName;
-use object_defs::TagCause;
 use object_tags::{Module, TagError, read_modules};
-use std::alloc::{AllocError, Global};
-
-/// Why files have no modules.
-#[derive(Clone, Copy)]
-pub(crate) enum ModulesError {
-    /// The first bad place, in the order of the files.
-    InFile {
-        /// The file.
-        name: FileName,
-        /// The number of its line, from 1.
-        line: u32,
-        /// What is wrong there.
-        cause: TagCause,
-    },
-    /// Memory was wanting.
-    Memory,
-}
-
-impl From<AllocError> for ModulesError {
-    ghost from_gives = { λ _ error. error ≡ errors.Memory };
-
-    fn from(_: AllocError) -> Self {
-        ModulesError::Memory
-    }
-}
+use reports::Unreported;
+use std::alloc::Global;
 
 /// The modules of all files, in the order of the files.
-pub(crate) fn modules_of(alloc: Global, texts: &[FileText]) -> Result<Vec<Module>, ModulesError>
+pub(crate) fn modules_of(alloc: Global, texts: &[FileText]) -> Result<Vec<Module>, Unreported>
     ensures is { GivesModules (λ modules. defined_modules modules.items) result
         (spec.modules_of (defined_texts texts.now)) }
     ensures few { IfOk result (λ modules. vec_len modules ≤ 64 * length texts.now) }
@@ -55,18 +30,16 @@ pub(crate) fn modules_of(alloc: Global, texts: &[FileText]) -> Result<Vec<Module
 }
 
 /// The modules of a file.
-fn modules_in(alloc: Global, text: &FileText) -> Result<Vec<Module>, ModulesError>
+fn modules_in(alloc: Global, text: &FileText) -> Result<Vec<Module>, Unreported>
     ensures is { GivesModules (λ modules. defined_modules modules.items) result
         (spec.in_file text.now.name (read text.now.bytes.items)) }
     ensures few { IfOk result (λ modules. vec_len modules ≤ 64) }
 {
     match read_modules(alloc, text.bytes.as_slice()) {
         Ok(modules) => Ok(modules),
-        Err(TagError::At { line, cause }) => Err(ModulesError::InFile {
-            name: text.name,
-            line,
-            cause,
-        }),
-        Err(TagError::Memory) => Err(ModulesError::Memory),
+        Err(TagError::At { line, cause }) => {
+            Err(Unreported::Refused(file_tag_line(text.name, line, cause)))
+        }
+        Err(TagError::Memory) => Err(Unreported::Memory),
     }
 }

@@ -14,7 +14,7 @@ use Rattle.report_defs.specs.declared.fault.Fault.TheVariants.{TooLarge}
 use Rattle.report_defs.specs.Report.{Faulty, ProgramReport, largest_input}
 use Rattle.report_defs.proofs.OneReport.{One, one_by, one_bytes, one_assembled, one_report}
 use Rattle.file_report_defs.specs.Watching.{ReportsWatch, steps_to, watch_report}
-use Rattle.file_report_defs.specs.Words.{AsmFiles, LinkFiles, Watch, Plain}
+use Rattle.file_report_defs.specs.Words.{AsmFiles, LinkFiles, Watch, OverFiles, Plain}
 use Rattle.file_report_defs.specs.Whole.{AsmReport}
 use Rattle.file_report_defs.specs.Laws.{OneReportWith}
 
@@ -36,11 +36,11 @@ one_watched limit items image entry first second p q =
     ∙ sym q.is
 
 pub one_report_with : OneReportWith
-one_report_with AsmFiles input files first second p q =
+one_report_with (OverFiles AsmFiles) input files first second p q =
     one_by (nat_lt largest_input (length input)) (Faulty TooLarge) first second (AsmReport files input)
     (λ a b e f. e ∙ sym f) p q
-one_report_with (LinkFiles names) input files first second p q = p ∙ sym q
-one_report_with (Watch limit items) input files first second p q =
+one_report_with (OverFiles (LinkFiles names)) input files first second p q = p ∙ sym q
+one_report_with (OverFiles (Watch limit items)) input files first second p q =
     one_by (nat_lt largest_input (length input)) (Faulty TooLarge) first second
     (ProgramReport (ReportsWatch limit items) (program_of_source input))
     (one_assembled (ReportsWatch limit items) (one_watched limit items) (program_of_source input)) p q

@@ -7,7 +7,7 @@ use Rattle.shelf_defs.specs.Files.{Files}
 use Rattle.report_defs.specs.declared.command.Command.TheVariants.{Dis}
 use Rattle.report_defs.specs.declared.status.Status.TheVariants.{Done}
 use Rattle.report_defs.specs.Report.{Report, Whole, asm_report}
-use Rattle.file_report_defs.specs.Words.{ProgramCommand, AsmFiles, Plain}
+use Rattle.file_report_defs.specs.Words.{AsmFiles, ProgramCommand, OverFiles, Plain}
 use Rattle.file_report_defs.specs.Whole.{ReportWith}
 
 -- the law, which is proved: there is at most one report on each command, input and files
@@ -24,4 +24,4 @@ ListedWordsComeBackWith =
     (at : ℕ) (input : List ℕ) (pieces : List (List ℕ)) (files : Files)
     → HoldsBytes (length input) input → at % 2 ≡ 0 → at < 65536
     → ReportWith (Plain (Dis at)) input files (Whole Done pieces)
-    → ReportWith AsmFiles (concat pieces) files (asm_report (listed_module at input None))
+    → ReportWith (OverFiles AsmFiles) (concat pieces) files (asm_report (listed_module at input None))

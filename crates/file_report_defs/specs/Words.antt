@@ -13,12 +13,16 @@ use Rattle.report_defs.specs.declared.command.Command.{Command}
 use Rattle.report_defs.specs.declared.command.Command.TheVariants as command
 use Rattle.report_defs.specs.Commands.{same_word, number_word, most_steps, address_word, command_of}
 
--- What the words say: `asm`, whose source may copy files; `link` with names of files; `watch` with a number of steps
--- and with items; or another command, which reads no file.
+-- What only the program with files has: `asm`, whose source may copy files; `link` with names of files; and `watch` with a
+-- number of steps and with items.
+pub data FileCommand : Type 0 where
+  AsmFiles : FileCommand
+  LinkFiles : List (List ℕ) → FileCommand
+  Watch : ℕ → List Item → FileCommand
+
+-- What the words say: such a command, or another one, which reads no file.
 pub data ProgramCommand : Type 0 where
-  AsmFiles : ProgramCommand
-  LinkFiles : List (List ℕ) → ProgramCommand
-  Watch : ℕ → List Item → ProgramCommand
+  OverFiles : FileCommand → ProgramCommand
   Plain : Command → ProgramCommand
 
 -- Profile: `link` takes up to 16 names of files.
@@ -28,7 +32,7 @@ most_files = 16
 abbrev pub are_file_names : List (List ℕ) → Bool
 are_file_names words = nat_le (length words) most_files && list_all is_file_name words
 
-abbrev pub link_command : List (List ℕ) → Option ProgramCommand
+abbrev pub link_command : List (List ℕ) → Option FileCommand
 link_command words = if are_file_names words then Some (LinkFiles words) else None
 
 -- Profile: a range is an address, `+`, and its size, a decimal number from 1 on without a leading zero.
@@ -64,16 +68,16 @@ abbrev pub some_items : List (List ℕ) → Option (List Item)
 some_items words =
     if nat_le 1 (length words) && nat_le (length words) most_items then item_words words else None
 
-abbrev pub watched_command : List (List ℕ) → ℕ → Option ProgramCommand
+abbrev pub watched_command : List (List ℕ) → ℕ → Option FileCommand
 watched_command words limit = option_map (Watch limit) (some_items words)
 
-abbrev pub watch_command : List (List ℕ) → Option ProgramCommand
+abbrev pub watch_command : List (List ℕ) → Option FileCommand
 watch_command [] = None
 watch_command (word ∷ words) = option_and_then (watched_command words) (number_word most_steps word)
 
 -- a command over one input; `asm` alone reads files beside it
 abbrev pub over_input : Command → ProgramCommand
-over_input command.Asm = AsmFiles
+over_input command.Asm = OverFiles AsmFiles
 over_input found = Plain found
 
 abbrev pub input_command : List (List ℕ) → Option ProgramCommand
@@ -84,8 +88,8 @@ abbrev pub program_command : List (List ℕ) → Option ProgramCommand
 program_command [] = None
 program_command (name ∷ []) = input_command (name ∷ [])
 program_command (name ∷ word ∷ words) =
-    if same_word name (codes "link") then link_command (word ∷ words)
-    else if same_word name (codes "watch") then watch_command (word ∷ words)
+    if same_word name (codes "link") then option_map OverFiles (link_command (word ∷ words))
+    else if same_word name (codes "watch") then option_map OverFiles (watch_command (word ∷ words))
     else input_command (name ∷ word ∷ words)
 
 -- Profile: words that are no command are answered by how the program is called.

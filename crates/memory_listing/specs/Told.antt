@@ -1,23 +1,23 @@
 -- The line that tells why modules are not linked.
-use Rattle.std.specs.Prelude.{◌≡◌, ℕ, List, Option, Some, None}
+use Rattle.std.specs.Prelude.{◌≡◌, ℕ, List, Option, Some, None, Result, Ok, Err}
 use Rattle.arrayvec.specs.ArrayVec.{ArrayVec}
 use Rattle.link_defs.specs.Causes as causes
 use Rattle.link_loader.specs.declared.error.LinkError.{LinkError}
 use Rattle.link_loader.specs.declared.error.LinkError.TheVariants as errors
 use Rattle.report_defs.specs.ObjectFaults.{link_line}
 
--- there is a line, and it is this one
-abbrev pub IsLine : Option (ArrayVec ℕ) → List ℕ → Type 0
-IsLine None line = ⊥
-IsLine (Some told) line = told.items ≡ line
-
 -- each cause has its line, and want of memory has none
-abbrev pub LinkTold : LinkError → Option (ArrayVec ℕ) → Type 0
-LinkTold (errors.DuplicateDef name) told = IsLine told (link_line (causes.DuplicateDef name))
-LinkTold (errors.OutOfMemoryRange address) told = IsLine told (link_line (causes.OutOfMemoryRange address))
-LinkTold (errors.Overlap address) told = IsLine told (link_line (causes.Overlap address))
-LinkTold (errors.ChainOutside address) told = IsLine told (link_line (causes.ChainOutside address))
-LinkTold (errors.ChainCycle address) told = IsLine told (link_line (causes.ChainCycle address))
-LinkTold (errors.Unresolved name) told = IsLine told (link_line (causes.Unresolved name))
-LinkTold errors.NoEntry told = IsLine told (link_line causes.NoEntry)
-LinkTold errors.Memory told = told ≡ None
+abbrev pub link_told : LinkError → Option (List ℕ)
+link_told (errors.DuplicateDef name) = Some (link_line (causes.DuplicateDef name))
+link_told (errors.OutOfMemoryRange address) = Some (link_line (causes.OutOfMemoryRange address))
+link_told (errors.Overlap address) = Some (link_line (causes.Overlap address))
+link_told (errors.ChainOutside address) = Some (link_line (causes.ChainOutside address))
+link_told (errors.ChainCycle address) = Some (link_line (causes.ChainCycle address))
+link_told (errors.Unresolved name) = Some (link_line (causes.Unresolved name))
+link_told errors.NoEntry = Some (link_line causes.NoEntry)
+link_told errors.Memory = None
+
+-- the line, if there is one
+abbrev pub IsTold : {E : Type 0} → Result (ArrayVec ℕ) E → Option (List ℕ) → Type 0
+IsTold (Ok line) told = told ≡ Some line.items
+IsTold (Err error) told = told ≡ None

@@ -4,16 +4,19 @@ ghost use Rattle.std.specs.Prelude.{◌≡◌, ◌≤◌, ◌<◌, ◌+◌, ◌+
 ghost use Rattle.arrayvec.specs.ArrayVec.{array_vec_len};
 ghost use Rattle.source_defs.specs.Digits.{marked_word};
 ghost use Rattle.report_defs.specs.ObjectFaults as spec;
-ghost use Rattle.memory_listing.specs.Told.{LinkTold};
+ghost use Rattle.memory_listing.specs.Told.{IsTold, link_told};
 
 use asm_text::word_digits;
 use link_loader::LinkError;
 use object_defs::TagCause;
 use report_lines::{Line, append, append_word, refusal_line};
+use std::alloc::AllocError;
 
-/// The line of a bad place in an object text, by the number of its line, from 1.
+/// The line of a bad place in an object text, by the number of its line, from 1. It has room for a file's name before
+/// it.
 pub fn tag_line(number: u32, cause: TagCause) -> Line
-    ensures { result.items ≡ spec.tag_line (record { line = number; cause = cause }) }
+    ensures line { result.items ≡ spec.tag_line (record { line = number; cause = cause }) }
+    ensures short { array_vec_len result ≤ 128 }
 {
     refusal_line(number, tag_cause_text(cause).as_slice())
 }
@@ -57,11 +60,14 @@ fn text_of(bytes: &[u8]) -> Line
     line
 }
 
-/// The line of modules that are not linked. Want of memory has none.
-pub fn link_line(error: &LinkError) -> Option<Line>
-    ensures { LinkTold error.now result }
+/// The line of modules that are not linked.
+///
+/// # Errors
+/// `AllocError` comes where the modules are not linked for want of memory, which has no line.
+pub fn link_line(error: &LinkError) -> Result<Line, AllocError>
+    ensures { IsTold result (link_told error.now) }
 {
-    Some(match error {
+    Ok(match error {
         LinkError::DuplicateDef(name) => name_line(b"duplicate def ", name.as_bytes()),
         LinkError::OutOfMemoryRange(address) => address_line(*address),
         LinkError::Overlap(address) => word_line(b"overlap at ", *address),
@@ -69,7 +75,7 @@ pub fn link_line(error: &LinkError) -> Option<Line>
         LinkError::ChainCycle(address) => word_line(b"chain cycle ", *address),
         LinkError::Unresolved(name) => name_line(b"unresolved ", name.as_bytes()),
         LinkError::NoEntry => text_of(b"no entry\n"),
-        LinkError::Memory => return None,
+        LinkError::Memory => return Err(AllocError),
     })
 }
 

@@ -1,6 +1,7 @@
 //! The lines that standard error gets of a source that is refused.
 
 ghost use Rattle.std.specs.Prelude.{◌≡◌, ◌≤◌, length};
+ghost use Rattle.arrayvec.specs.ArrayVec.{array_vec_len};
 ghost use Rattle.report_defs.specs.FaultLine as faults;
 ghost use Rattle.report_defs.specs.SourceFaults as spec;
 
@@ -10,9 +11,10 @@ use gpl_source_defs::GplCause;
 use instruction_defs::FormError;
 use source_defs::{ExprError, TextError};
 
-/// The line of a refused line of an assembler source, by its number, from 1.
+/// The line of a refused line of an assembler source, by its number, from 1. It has room for a file's name before it.
 pub fn asm_line(number: u32, cause: AsmCause) -> Line
-    ensures { result.items ≡ spec.asm_line (record { line = number; cause = cause }) }
+    ensures line { result.items ≡ spec.asm_line (record { line = number; cause = cause }) }
+    ensures short { array_vec_len result ≤ 128 }
 {
     refusal_line(number, asm_cause_text(cause))
 }
@@ -24,11 +26,12 @@ pub fn gpl_line(number: u32, cause: GplCause) -> Line
     refusal_line(number, gpl_cause_text(cause))
 }
 
-/// What is said of a refused line, by its number, from 1, in at most 64 bytes.
+/// What is said of a refused line, by its number, from 1, in at most 64 bytes. It has room for a file's name before it.
 #[tactic(auto, using(std::proofs::Common::append_assoc), unfolding(report_defs::specs::FaultLine::refusal_line))]
 pub fn refusal_line(number: u32, text: &[u8]) -> Line
     requires { length text.now ≤ 64 }
-    ensures { result.items ≡ faults.refusal_line number text.now }
+    ensures line { result.items ≡ faults.refusal_line number text.now }
+    ensures short { array_vec_len result ≤ 128 }
 {
     let mut line = Line::new();
     append(&mut line, b"line ");

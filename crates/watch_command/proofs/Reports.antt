@@ -23,8 +23,10 @@ use Rattle.report_defs.specs.declared.status.Status.TheVariants.{Done}
 use Rattle.report_defs.specs.Program.{state_lines, stop_lines, program_status}
 use Rattle.report_defs.specs.Report.{Whole}
 use Rattle.file_report_defs.specs.Watching.{ReportsWatch, hit_line, no_hit_line, steps_to, watch_report}
-use Rattle.watch_command.specs.declared.watched.Watched.{Watched}
-use Rattle.watch_command.specs.Made.{watched_status, watched_lines, defined_report}
+use Rattle.reports.specs.declared.watched.Watched.{Watched}
+use Rattle.reports.specs.declared.report.Report.TheVariants as made
+use Rattle.reports.specs.Watched.{watched_status, watched_lines}
+use Rattle.reports.specs.Made.{defined_report}
 use Rattle.watch_command.specs.Ran.{WatchesProgram}
 
 -- The report that is made is that of the run up to what was found.
@@ -102,7 +104,7 @@ module _ (new : MachineState) (machine : IsMachine new) (is_new : IsNew new) (fi
 pub reports_watch : (limit : ℕ) (items : List Item) (image : Image) (entry : ℕ) (bytes : List ℕ) (new : MachineState)
     (watched : Watched) → AreBytesOf image bytes → IsBoot bytes entry new
     → WatchesProgram (image_of new) (entry_of new) limit items watched
-    → ReportsWatch limit items image entry (defined_report watched)
+    → ReportsWatch limit items image entry (defined_report (made.Watched watched))
 reports_watch limit items image entry bytes new watched of_image boots w =
     let of_bytes : image_of new ≡ bytes = ap (λ (g : GromState). g.image) boots.grom in
     let entered = subst (λ (e : ℕ). WatchesProgram (image_of new) e limit items watched) boots.scratchpad.word w in

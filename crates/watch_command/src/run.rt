@@ -5,9 +5,9 @@ ghost use Rattle.gpl_run.specs.Sessions.{IsNew, image_of, entry_of};
 ghost use Rattle.watch_command.specs.Ran.{WatchesProgram};
 
 use crate::items::Items;
-use crate::watched::Watched;
 use gpl_run::Session;
 use gpl_watch::Watch;
+use reports::Watched;
 use std::alloc::{AllocError, Global};
 use std::marker::Brand;
 use std::sync::ledger::{Blank, Ledger};

@@ -1,10 +1,11 @@
 -- How a run with files ends.
-use Rattle.std.proofs.Common.{◌≡◌, ℕ, List, length, Option, Some, None, Bool, true, false, refl, sym, subst, arith}
+use Rattle.std.proofs.Common.{◌≡◌, ℕ, List, length, Option, Some, None, Bool, true, false, refl, sym, subst, arith, inl, inr}
 use Rattle.std.specs.Prelude.{nat_lt, MatchBool, Result, Ok, Err}
 use Rattle.std.proofs.lemmas.Bool.Decides.{nat_tests}
 use Rattle.count_defs.specs.Counts.{Rose}
 use Rattle.bench_io.specs.Stream.{SourceState}
 use Rattle.bench_io.specs.ReadAll.{ReadWhole, GaveUp}
+use Rattle.bench_io.specs.declared.whole.ReadError.{ReadError}
 use Rattle.bench_io.specs.declared.whole.ReadError.TheVariants as error
 use Rattle.report_defs.specs.declared.fault.Fault.TheVariants.{TooLarge, NoEntry}
 use Rattle.report_defs.specs.declared.status.Status.{Status}
@@ -32,11 +33,19 @@ use Rattle.file_report_defs.specs.Reports.{copy_report, files_report}
 use Rattle.watch_defs.specs.declared.item.Item.{Item}
 use Rattle.report_defs.specs.Report.{Report, Faulty, Rejected, EnteredReport, ProgramReport, status_of, largest_input}
 use Rattle.file_report_defs.specs.Watching.{ReportsWatch, watch_report}
-use Rattle.file_report_defs.specs.Words.{ProgramCommand, AsmFiles, LinkFiles, Watch, Plain, program_command}
-use Rattle.file_commands.specs.Reported.{CopyReported}
-use Rattle.bench_commands.specs.Run.{ReadsInput, EndsWith}
+use Rattle.file_report_defs.specs.Words.{FileCommand, AsmFiles, LinkFiles, Watch, ProgramCommand, program_command}
+use Rattle.shelf_defs.specs.Copied.{most_bytes}
+use Rattle.bench_shelf.specs.States.{ShelfState}
+use Rattle.bench_shelf.specs.Causes.{TookNoMore}
+use Rattle.file_report_defs.specs.Whole.{WatchReport}
+use Rattle.file_commands.specs.Reported.{CopyReported, LinkReported, FailureCauses}
+use Rattle.reports.specs.Outputs.{EndsWith}
+use Rattle.bench_commands.specs.Run.{ReadsInput}
 use Rattle.bench_commands.proofs.Ends.{reads_whole}
+use Rattle.reports.specs.declared.unreported.Unreported.{Unreported}
+use Rattle.reports.specs.Answers.{Ends, WantsMemory, Reported, read_told, told}
 use Rattle.workbench.specs.FileRun.{FileRun, ReportsWith, TookWithin, EndsOver, EndsSaid, EndsFileRun}
+use Rattle.workbench.specs.Answered.{FailsWith, AnswersWith}
 
 -- ---- no report of these commands has the status of the usage line
 
@@ -92,17 +101,16 @@ asm_no_usage : (run : FileRun) (source : List ℕ) (report : Report) (large : Bo
 asm_no_usage run source report true on = same_no_usage report (Faulty TooLarge) on.0 (λ e. absurd cc)
 asm_no_usage run source report false on = same_no_usage report (copy_report on.answer) on.is (copy_no_usage on.answer)
 
-no_usage : (command : ProgramCommand) (run : FileRun) (report : Report) → ReportsWith command run report → IsNoUsage report
+no_usage : (command : FileCommand) (run : FileRun) (report : Report) → ReportsWith command run report → IsNoUsage report
 no_usage AsmFiles run report (source, reading, on) = asm_no_usage run source report (nat_lt largest_input (length source)) on
 no_usage (LinkFiles names) run report (same, on) =
     same_no_usage report (files_report (on.texts >>= linked_texts)) on.is (files_no_usage (on.texts >>= linked_texts))
 no_usage (Watch limit items) run report (source, reading, same, on) =
     large_no_usage (nat_lt largest_input (length source)) report (ProgramReport (ReportsWatch limit items) (program_of_source source) report)
     (source_no_usage limit items (program_of_source source) report) on
-no_usage (Plain command) run report on = absurd on
 
 -- a run ends as the writing of its report
-pub by_report : (command : ProgramCommand) (run : FileRun) (report : Report) (end : Status)
+by_report : (command : FileCommand) (run : FileRun) (report : Report) (end : Status)
     → ReportsWith command run report → EndsWith run.outputs report end → EndsOver command run end
 by_report command run report status.Done is ends = (report, is, ends)
 by_report command run report status.Refused is ends = (report, is, ends)
@@ -112,15 +120,29 @@ by_report command run report status.WriteFault is ends = (report, is, ends)
 by_report command run report status.Memory is ends = absurd ends
 by_report command run report status.Stopped is ends = (report, is, ends)
 
+-- a run ends by what its command answers
+pub ends_over : (command : FileCommand) (run : FileRun) (answer : Result Report Status) (end : Status)
+    → AnswersWith command run answer → Ends run.outputs answer end → EndsOver command run end
+ends_over command run (Ok report) end is ends = by_report command run report end is ends
+ends_over command run (Err status.Done) end fails ends = absurd fails
+ends_over command run (Err status.Refused) end fails ends = absurd fails
+ends_over command run (Err status.Usage) end fails ends = absurd fails
+ends_over command run (Err status.ReadFault) end (leaves, failed) (is, out, err) =
+    subst (EndsOver command run) (sym is) (record { leaves = leaves; out = out; err = err }, failed)
+ends_over command run (Err status.WriteFault) end fails ends = absurd fails
+ends_over command run (Err status.Memory) end leaves (is, out, err) =
+    subst (EndsOver command run) (sym is) (record { leaves = leaves; out = out; err = err })
+ends_over command run (Err status.Stopped) end fails ends = absurd fails
+
 -- an input that was taken whole
 module _ (before after : SourceState) (bytes : List ℕ) (whole : ReadWhole largest_input before after bytes) where
-  pub is_small : nat_lt largest_input (length bytes) ≡ false
+  is_small : nat_lt largest_input (length bytes) ≡ false
   is_small = let within = whole.within in grind (arith, nat_tests)
 
-  pub whole_reads : ReadsInput before after bytes
+  whole_reads : ReadsInput before after bytes
   whole_reads = reads_whole true before after bytes whole
 
-  pub whole_within : TookWithin before after
+  whole_within : TookWithin before after
   whole_within =
       record { bytes = bytes; within = whole.within; empty = 1; one = omega arith; took = whole.took }
 
@@ -134,50 +156,99 @@ reads_too_much before after (bytes, long, took) =
       above,
     )
 
-pub asm_too_large : (run : FileRun) → GaveUp error.TooLarge largest_input run.input run.input'
-    → run.shelf' ≡ run.shelf → ReportsWith AsmFiles run (Faulty TooLarge)
-asm_too_large run gave_up same =
-    let r = reads_too_much run.input run.input' gave_up in
-    (r.0, r.1, rw r.2 (refl, same))
-
-pub watch_too_large : (limit : ℕ) (items : List Item) (run : FileRun)
-    → GaveUp error.TooLarge largest_input run.input run.input' → run.shelf' ≡ run.shelf
-    → ReportsWith (Watch limit items) run (Faulty TooLarge)
-watch_too_large limit items run gave_up same =
-    let r = reads_too_much run.input run.input' gave_up in
-    (r.0, r.1, same, rw r.2 refl)
-
 -- an input that failed
-pub failed_within : (before after : SourceState) → GaveUp error.Fault largest_input before after
+failed_within : (before after : SourceState) → GaveUp error.Fault largest_input before after
     → TookWithin before after × Rose before.faults after.faults
 failed_within before after (bytes, within, took, rose) =
     (record { bytes = bytes; within = within; empty = 1; one = omega arith; took = took }, rose)
 
 -- an input for which memory was wanting
-pub wanting_within : (before after : SourceState) → GaveUp error.Memory largest_input before after
+wanting_within : (before after : SourceState) → GaveUp error.Memory largest_input before after
     → TookWithin before after
 wanting_within before after (bytes, within, took) =
     record { bytes = bytes; within = within; empty = 0; one = omega arith; took = took }
 
--- the reports on a source that is not too large
-module _ (run : FileRun) (source : List ℕ) (report : Report)
-    (whole : ReadWhole largest_input run.input run.input' source) where
-  pub asm_reported : CopyReported run.shelf run.shelf' source report → ReportsWith AsmFiles run report
-  asm_reported reported = (
+took_none : (limit : ℕ) (before after : ShelfState) → after ≡ before → TookNoMore limit before after
+took_none limit before after same = subst (TookNoMore limit before) (sym same) (omega arith)
+
+-- what is answered to an input that was not taken whole
+module _ (run : FileRun) (unreported : Unreported) (same : run.shelf' ≡ run.shelf) where
+  pub asm_unread : (error : ReadError) → GaveUp error largest_input run.input run.input' → told unreported ≡ read_told error
+      → AnswersWith AsmFiles run (told unreported)
+  asm_unread error.TooLarge gave_up is =
+      let r = reads_too_much run.input run.input' gave_up in
+      let reports : ReportsWith AsmFiles run (Faulty TooLarge) = (r.0, r.1, rw r.2 (refl, same)) in
+      rw is reports
+  asm_unread error.Fault gave_up is =
+      let f = failed_within run.input run.input' gave_up in
+      let fails : FailsWith AsmFiles run status.ReadFault = ((f.0, took_none most_bytes run.shelf run.shelf' same), inl (f.1, same)) in
+      rw is fails
+  asm_unread error.Memory gave_up is =
+      let fails : FailsWith AsmFiles run status.Memory = (wanting_within run.input run.input' gave_up, took_none most_bytes run.shelf run.shelf' same) in
+      rw is fails
+
+  pub watch_unread : (limit : ℕ) (items : List Item) (error : ReadError) → GaveUp error largest_input run.input run.input'
+      → told unreported ≡ read_told error → AnswersWith (Watch limit items) run (told unreported)
+  watch_unread limit items error.TooLarge gave_up is =
+      let r = reads_too_much run.input run.input' gave_up in
+      let reports : ReportsWith (Watch limit items) run (Faulty TooLarge) = (r.0, r.1, same, rw r.2 refl) in
+      rw is reports
+  watch_unread limit items error.Fault gave_up is =
+      let f = failed_within run.input run.input' gave_up in
+      let fails : FailsWith (Watch limit items) run status.ReadFault = ((f.0, same), f.1) in
+      rw is fails
+  watch_unread limit items error.Memory gave_up is =
+      let fails : FailsWith (Watch limit items) run status.Memory = (wanting_within run.input run.input' gave_up, same) in
+      rw is fails
+
+-- what is answered to a source that was taken whole
+module _ (run : FileRun) (source : List ℕ) (whole : ReadWhole largest_input run.input run.input' source) where
+  asm_reported : (report : Report) → CopyReported run.shelf run.shelf' source report → ReportsWith AsmFiles run report
+  asm_reported report reported = (
     source,
     whole_reads run.input run.input' source whole,
     rw (is_small run.input run.input' source whole) reported,
   )
 
-  pub watch_reported : (limit : ℕ) (items : List Item) → run.shelf' ≡ run.shelf
-      → ProgramReport (ReportsWatch limit items) (program_of_source source) report
-      → ReportsWith (Watch limit items) run report
-  watch_reported limit items same reported = (
+  pub asm_answered : (answer : Result Report Status)
+      → Reported (CopyReported run.shelf run.shelf' source) (FailureCauses most_bytes run.shelf run.shelf') answer
+      → AnswersWith AsmFiles run answer
+  asm_answered (Ok report) reported = asm_reported report reported
+  asm_answered (Err status.ReadFault) (rose, within) = ((whole_within run.input run.input' source whole, within), inr (source, whole, rose))
+  asm_answered (Err status.Memory) within = (whole_within run.input run.input' source whole, within)
+  asm_answered (Err status.Done) none = none
+  asm_answered (Err status.Refused) none = none
+  asm_answered (Err status.Usage) none = none
+  asm_answered (Err status.WriteFault) none = none
+  asm_answered (Err status.Stopped) none = none
+
+  watch_reported : (limit : ℕ) (items : List Item) (report : Report) → run.shelf' ≡ run.shelf
+      → WatchReport limit items source report → ReportsWith (Watch limit items) run report
+  watch_reported limit items report same reported = (
     source,
     whole_reads run.input run.input' source whole,
     same,
     rw (is_small run.input run.input' source whole) reported,
   )
+
+  pub watch_answered : (limit : ℕ) (items : List Item) (answer : Result Report Status) → run.shelf' ≡ run.shelf
+      → Reported (WatchReport limit items source) WantsMemory answer → AnswersWith (Watch limit items) run answer
+  watch_answered limit items (Ok report) same reported = watch_reported limit items report same reported
+  watch_answered limit items (Err end) same memory =
+      subst (FailsWith (Watch limit items) run) (sym memory) (whole_within run.input run.input' source whole, same)
+
+-- what is answered to the names of files
+pub link_answered : (run : FileRun) (names : List (List ℕ)) (answer : Result Report Status) → run.input' ≡ run.input
+    → Reported (LinkReported run.shelf run.shelf' names) (FailureCauses largest_input run.shelf run.shelf') answer
+    → AnswersWith (LinkFiles names) run answer
+link_answered run names (Ok report) same reported = (same, reported)
+link_answered run names (Err status.ReadFault) same (rose, within) = ((same, within), rose)
+link_answered run names (Err status.Memory) same within = (same, within)
+link_answered run names (Err status.Done) same none = none
+link_answered run names (Err status.Refused) same none = none
+link_answered run names (Err status.Usage) same none = none
+link_answered run names (Err status.WriteFault) same none = none
+link_answered run names (Err status.Stopped) same none = none
 
 -- how the run of what the words say ends
 pub ends_as : (words : List (List ℕ)) (found : Option ProgramCommand) (run : FileRun) (end : Status)

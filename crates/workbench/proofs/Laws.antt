@@ -2,9 +2,8 @@
 use Rattle.std.proofs.Common.{◌≡◌, ◌≢◌, ℕ, List, [], ◌∷◌, length, Option, Some, None, Bool, true, false, refl, sym, ap, ◌∙◌}
 use Rattle.std.proofs.Common.{subst, inl, inr}
 use Rattle.std.specs.Prelude.{IfSome, MatchBool, nat_lt, if◌then◌else◌, codes}
-use Rattle.std.specs.Option.{option_map, option_and_then}
+use Rattle.std.specs.Option.{option_map}
 use Rattle.source_defs.specs.Refusals.{◌>>=◌}
-use Rattle.watch_defs.specs.declared.item.Item.{Item}
 use Rattle.shelf_defs.specs.Files.{Files}
 use Rattle.shelf_defs.specs.Assembly.{module_of_files}
 use Rattle.report_defs.specs.declared.command.Command.{Command}
@@ -12,19 +11,19 @@ use Rattle.report_defs.specs.declared.command.Command.TheVariants as asked
 use Rattle.report_defs.specs.declared.fault.Fault.TheVariants.{TooLarge}
 use Rattle.report_defs.specs.declared.status.Status.{Status}
 use Rattle.report_defs.specs.declared.status.Status.TheVariants as status
-use Rattle.report_defs.specs.Commands.{command_of, same_word, number_word, most_steps}
+use Rattle.report_defs.specs.Commands.{command_of, same_word}
 use Rattle.report_defs.specs.Report.{Report, Faulty, OnInput, status_of, largest_input}
 use Rattle.file_report_defs.specs.LinkedFiles.{linked_texts, read_files}
 use Rattle.file_report_defs.specs.Reports.{copy_report, files_report}
-use Rattle.file_report_defs.specs.Words.{ProgramCommand, AsmFiles, LinkFiles, Watch, Plain}
-use Rattle.file_report_defs.specs.Words.{program_command, input_command, over_input, link_command, are_file_names}
-use Rattle.file_report_defs.specs.Words.{watch_command, watched_command, some_items}
-use Rattle.file_report_defs.specs.Whole.{AsmReport, WatchReport, ReportWith}
+use Rattle.file_report_defs.specs.Words.{FileCommand, AsmFiles, LinkFiles, Watch, ProgramCommand, OverFiles, Plain}
+use Rattle.file_report_defs.specs.Words.{program_command, input_command, over_input, link_command, watch_command}
+use Rattle.file_report_defs.specs.Whole.{AsmReport, WatchReport, ReportOver, ReportWith}
 use Rattle.file_report_defs.proofs.OneReport.{one_report_with}
 use Rattle.file_report_defs.proofs.ListedFiles.{listed_words_come_back_with}
 use Rattle.file_commands.specs.Reported.{CopyReported}
 use Rattle.bench_commands.specs.Run as plain
-use Rattle.bench_commands.specs.Run.{WroteReport, ReadsInput, EndsBy}
+use Rattle.reports.specs.Outputs.{WroteReport}
+use Rattle.bench_commands.specs.Run.{ReadsInput, EndsBy}
 use Rattle.bench_commands.specs.Laws as plain_laws
 use Rattle.bench_commands.specs.Laws.{TellsInput}
 use Rattle.bench_commands.proofs.Uniqueness as bench
@@ -48,28 +47,9 @@ over_plain (Some (asked.Run limit)) command e = cc
 over_plain (Some (asked.Trace limit)) command e = cc
 over_plain (Some (asked.Demo number)) command e = cc
 
-link_plain : (words : List (List ℕ)) (command : Command) → link_command words ≡ Some (Plain command) → ⊥
-link_plain words command e = by (are_file_names words) e
-  where
-    by : (all : Bool) → (if all then Some (LinkFiles words) else None) ≡ Some (Plain command) → ⊥
-    by true e = absurd cc
-    by false e = absurd cc
-
-watched_plain : (words : List (List ℕ)) (limit : ℕ) (command : Command)
-    → watched_command words limit ≡ Some (Plain command) → ⊥
-watched_plain words limit command e = by (some_items words) e
-  where
-    by : (items : Option (List Item)) → option_map (Watch limit) items ≡ Some (Plain command) → ⊥
-    by (Some items) e = absurd cc
-    by None e = absurd cc
-
-watch_plain : (words : List (List ℕ)) (command : Command) → watch_command words ≡ Some (Plain command) → ⊥
-watch_plain [] command e = absurd cc
-watch_plain (word ∷ words) command e = by (number_word most_steps word) e
-  where
-    by : (limit : Option ℕ) → option_and_then (watched_command words) limit ≡ Some (Plain command) → ⊥
-    by (Some limit) e = watched_plain words limit command e
-    by None e = absurd cc
+over_files_plain : (found : Option FileCommand) (command : Command) → option_map OverFiles found ≡ Some (Plain command) → ⊥
+over_files_plain None command e = absurd cc
+over_files_plain (Some over) command e = absurd cc
 
 pub plain_command : (words : List (List ℕ)) (command : Command) → program_command words ≡ Some (Plain command)
     → command_of words ≡ Some command
@@ -79,12 +59,12 @@ plain_command (name ∷ word ∷ words) command e =
     by (same_word name (codes "link")) (same_word name (codes "watch")) e
   where
     by : (link watch : Bool)
-        → (if link then link_command (word ∷ words)
-        else if watch then watch_command (word ∷ words)
+        → (if link then option_map OverFiles (link_command (word ∷ words))
+        else if watch then option_map OverFiles (watch_command (word ∷ words))
         else input_command (name ∷ word ∷ words)) ≡ Some (Plain command)
         → command_of (name ∷ word ∷ words) ≡ Some command
-    by true watch e = absurd (link_plain (word ∷ words) command e)
-    by false true e = absurd (watch_plain (word ∷ words) command e)
+    by true watch e = absurd (over_files_plain (link_command (word ∷ words)) command e)
+    by false true e = absurd (over_files_plain (watch_command (word ∷ words)) command e)
     by false false e = over_plain (command_of (name ∷ word ∷ words)) command e
 
 -- ---- the report of a run is that on its input and its files
@@ -102,9 +82,8 @@ asm_on_input run source report files told on = by (nat_lt largest_input (length 
         let is : on.answer ≡ module_of_files files source = subst P told on.told in
         on.is ∙ ap copy_report is
 
-on_files : (command : ProgramCommand) (run : FileRun) (input : List ℕ) (files : Files) (report : Report)
-    → Tells command run input files → ReportsWith command run report
-    → ReportWith command (input_of command input) files report
+on_files : (command : FileCommand) (run : FileRun) (input : List ℕ) (files : Files) (report : Report)
+    → Tells (OverFiles command) run input files → ReportsWith command run report → ReportOver command input files report
 on_files AsmFiles run input files report told (source, reading, on) =
     on_all (AsmReport files) run.input run.input' source input report told.0 reading
     (asm_on_input run source report files told.1 on)
@@ -114,18 +93,16 @@ on_files (LinkFiles names) run input files report told (same, linked) =
     linked.is ∙ ap (λ texts. files_report (texts >>= linked_texts)) is
 on_files (Watch limit items) run input files report told (source, reading, same, on) =
     on_all (WatchReport limit items) run.input run.input' source input report told reading on
-on_files (Plain command) run input files report told reports = absurd reports
 
 -- ---- a run in which no count rose wrote its report
 
-no_failure : (command : ProgramCommand) (run : FileRun) → ReadFailedWith command run → HasNoFaultWith run → ⊥
+no_failure : (command : FileCommand) (run : FileRun) → ReadFailedWith command run → HasNoFaultWith run → ⊥
 no_failure AsmFiles run (inl failed) none = none.input failed.0
 no_failure AsmFiles run (inr failed) none = none.shelf failed.2
 no_failure (LinkFiles names) run failed none = none.shelf failed
 no_failure (Watch limit items) run failed none = none.input failed
-no_failure (Plain command) run failed none = absurd failed
 
-over : (command : ProgramCommand) (run : FileRun) (end : Status) → EndsOver command run end → HasNoFaultWith run
+over : (command : FileCommand) (run : FileRun) (end : Status) → EndsOver command run end → HasNoFaultWith run
     → end ≢ status.Memory
     → (report : Report) × ReportsWith command run report × (end ≡ status_of report) × WroteReport run.outputs report
 over command run status.Done (report, is, (same, wrote)) none some = (report, is, sym same, wrote)
@@ -145,9 +122,9 @@ record Answered (command : ProgramCommand) (input : List ℕ) (files : Files) (r
   is : end ≡ status_of report
   wrote : WroteReport run.outputs report
 
-over_answered : (command : ProgramCommand) (input : List ℕ) (files : Files) (run : FileRun) (end : Status)
-    → Tells command run input files → HasNoFaultWith run → end ≢ status.Memory → EndsOver command run end
-    → Answered command input files run end
+over_answered : (command : FileCommand) (input : List ℕ) (files : Files) (run : FileRun) (end : Status)
+    → Tells (OverFiles command) run input files → HasNoFaultWith run → end ≢ status.Memory → EndsOver command run end
+    → Answered (OverFiles command) input files run end
 over_answered command input files run end told none some ends =
     let r = over command run end ends none some in
     record { report = r.0; on = on_files command run input files r.0 told r.1; is = r.2; wrote = r.3 }
@@ -166,12 +143,8 @@ plain_answered words command input files run end said left none some ends =
 answered : (words : List (List ℕ)) (command : ProgramCommand) (input : List ℕ) (files : Files) (run : FileRun)
     (end : Status) → program_command words ≡ Some command → Tells command run input files → HasNoFaultWith run
     → end ≢ status.Memory → EndsSaid (Some command) words run end → Answered command input files run end
-answered words AsmFiles input files run end said told none some ends =
-    over_answered AsmFiles input files run end told none some ends
-answered words (LinkFiles names) input files run end said told none some ends =
-    over_answered (LinkFiles names) input files run end told none some ends
-answered words (Watch limit items) input files run end said told none some ends =
-    over_answered (Watch limit items) input files run end told none some ends
+answered words (OverFiles command) input files run end said told none some ends =
+    over_answered command input files run end told none some ends
 answered words (Plain command) input files run end said told none some ends =
     plain_answered words command input files run end said told none some ends.0
 

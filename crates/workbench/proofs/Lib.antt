@@ -1,3 +1,3 @@
-pub mod Names
+pub mod NameLaws
 pub mod Ends
 pub mod Laws

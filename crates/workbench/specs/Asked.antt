@@ -1,17 +1,22 @@
 -- What the words ask for, as the definitions see it.
-use Rattle.std.specs.Prelude.{◌≡◌, ⊤, true, map}
+use Rattle.std.specs.Prelude.{⊤}
 use Rattle.file_report_defs.specs.Words as spec
-use Rattle.file_report_defs.specs.Words.{are_file_names}
+use Rattle.report_defs.specs.Commands.{KeepsLimit}
+use Rattle.workbench.specs.declared.command.FileCommand.{FileCommand}
+use Rattle.workbench.specs.declared.command.FileCommand.TheVariants.{AsmFiles, LinkFiles, Watch}
 use Rattle.workbench.specs.declared.command.ProgramCommand.{ProgramCommand}
-use Rattle.workbench.specs.declared.command.ProgramCommand.TheVariants.{AsmFiles, LinkFiles, Watch, Plain}
+use Rattle.workbench.specs.declared.command.ProgramCommand.TheVariants.{OverFiles, Plain}
+
+abbrev pub defined_over : FileCommand → spec.FileCommand
+defined_over AsmFiles = spec.AsmFiles
+defined_over (LinkFiles names) = spec.LinkFiles names
+defined_over (Watch limit items) = spec.Watch limit items
 
 abbrev pub defined_command : ProgramCommand → spec.ProgramCommand
-defined_command AsmFiles = spec.AsmFiles
-defined_command (LinkFiles words) = spec.LinkFiles (map (λ word. word.items) words.now)
-defined_command (Watch limit items) = spec.Watch limit items
+defined_command (OverFiles command) = spec.OverFiles (defined_over command)
 defined_command (Plain command) = spec.Plain command
 
--- the words behind `link` are names of files
-abbrev pub NamesFiles : ProgramCommand → Type 0
-NamesFiles (LinkFiles words) = are_file_names (map (λ word. word.items) words.now) ≡ true
-NamesFiles command = ⊤
+-- a command of `bench` is within its limits
+abbrev pub IsWithin : ProgramCommand → Type 0
+IsWithin (OverFiles command) = ⊤
+IsWithin (Plain command) = KeepsLimit command

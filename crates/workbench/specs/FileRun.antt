@@ -10,14 +10,16 @@ use Rattle.report_defs.specs.declared.status.Status.{Status}
 use Rattle.report_defs.specs.declared.status.Status.TheVariants as status
 use Rattle.report_defs.specs.declared.fault.Fault.TheVariants.{TooLarge}
 use Rattle.report_defs.specs.Report.{Report, Faulty, OnInput, largest_input}
-use Rattle.file_report_defs.specs.Words.{ProgramCommand, AsmFiles, LinkFiles, Watch, Plain}
+use Rattle.file_report_defs.specs.Words.{FileCommand, AsmFiles, LinkFiles, Watch}
+use Rattle.file_report_defs.specs.Words.{ProgramCommand, OverFiles, Plain}
 use Rattle.file_report_defs.specs.Words.{most_files, program_command, program_usage}
 use Rattle.file_report_defs.specs.Whole.{WatchReport}
 use Rattle.shelf_defs.specs.Copied.{most_bytes, most_copies}
 use Rattle.bench_shelf.specs.States.{ShelfState}
 use Rattle.bench_shelf.specs.Causes.{TookNoMore}
 use Rattle.file_commands.specs.Reported.{CopyReported, LinkReported}
-use Rattle.bench_commands.specs.Run.{Outputs, Run, ReadsInput, EndsWith, EndsBy}
+use Rattle.reports.specs.Outputs.{Outputs, EndsWith}
+use Rattle.bench_commands.specs.Run.{Run, ReadsInput, EndsBy}
 
 -- the input and the shelf before and after the run, and the outputs
 pub record FileRun : Type 0 where
@@ -38,14 +40,13 @@ AsmOn run source report =
     (CopyReported run.shelf run.shelf' source report)
 
 -- The report of the run. `asm` takes the input and the files that it copies, `link` with names of files takes these
--- alone, and `watch` takes the input alone. Each other command is run by `bench`.
-abbrev pub ReportsWith : ProgramCommand → FileRun → Report → Type 0
+-- alone, and `watch` takes the input alone.
+abbrev pub ReportsWith : FileCommand → FileRun → Report → Type 0
 ReportsWith AsmFiles run report = (source : List ℕ) × ReadsInput run.input run.input' source × AsmOn run source report
 ReportsWith (LinkFiles names) run report = (run.input' ≡ run.input) × LinkReported run.shelf run.shelf' names report
 ReportsWith (Watch limit items) run report =
     (source : List ℕ) × ReadsInput run.input run.input' source × (run.shelf' ≡ run.shelf)
     × OnInput (WatchReport limit items) source report
-ReportsWith (Plain command) run report = ⊥
 
 -- no more was taken of the input than an input may have, by calls of which one at most gave no byte
 pub record TookWithin (before after : SourceState) : Type 0 where
@@ -57,35 +58,33 @@ pub record TookWithin (before after : SourceState) : Type 0 where
 
 -- What a run that wrote nothing leaves of the input and of the shelf. Of no file more bytes were taken than it may have:
 -- else the file is told as too large.
-abbrev pub Leaves : ProgramCommand → FileRun → Type 0
+abbrev pub Leaves : FileCommand → FileRun → Type 0
 Leaves AsmFiles run = TookWithin run.input run.input' × TookNoMore most_bytes run.shelf run.shelf'
 Leaves (LinkFiles names) run = (run.input' ≡ run.input) × TookNoMore largest_input run.shelf run.shelf'
 Leaves (Watch limit items) run = TookWithin run.input run.input' × (run.shelf' ≡ run.shelf)
-Leaves (Plain command) run = ⊥
 
-pub record WroteNothingWith (command : ProgramCommand) (run : FileRun) : Type 0 where
+pub record WroteNothingWith (command : FileCommand) (run : FileRun) : Type 0 where
   pub leaves : Leaves command run
   pub out : run.outputs.out' ≡ run.outputs.out
   pub err : run.outputs.err' ≡ run.outputs.err
 
 -- A call failed of what the command reads: of the input, and then no file was opened; or of the shelf, which `asm` asks for
 -- files when the input was taken whole.
-abbrev pub ReadFailedWith : ProgramCommand → FileRun → Type 0
+abbrev pub ReadFailedWith : FileCommand → FileRun → Type 0
 ReadFailedWith AsmFiles run =
     (Rose run.input.faults run.input'.faults × (run.shelf' ≡ run.shelf))
     ⊎ ((source : List ℕ) × ReadWhole largest_input run.input run.input' source
     × Rose run.shelf.source.faults run.shelf'.source.faults)
 ReadFailedWith (LinkFiles names) run = Rose run.shelf.source.faults run.shelf'.source.faults
 ReadFailedWith (Watch limit items) run = Rose run.input.faults run.input'.faults
-ReadFailedWith (Plain command) run = ⊥
 
 -- the run ended by the writing of its report, whole or up to where an output failed
-abbrev pub EndsByReportWith : ProgramCommand → FileRun → Status → Type 0
+abbrev pub EndsByReportWith : FileCommand → FileRun → Status → Type 0
 EndsByReportWith command run end = (report : Report) × ReportsWith command run report × EndsWith run.outputs report end
 
--- The statuses of these commands, each with its cause. None is the usage line. Want of memory has no cause, but it is never answered once
--- something was written.
-abbrev pub EndsOver : ProgramCommand → FileRun → Status → Type 0
+-- The statuses of these commands, each with its cause. None is the usage line. Want of memory has no cause, but it is
+-- never answered once something was written.
+abbrev pub EndsOver : FileCommand → FileRun → Status → Type 0
 EndsOver command run status.Done = EndsByReportWith command run status.Done
 EndsOver command run status.Refused = EndsByReportWith command run status.Refused
 EndsOver command run status.Usage = ⊥
@@ -117,9 +116,7 @@ EndsByUsage run end = LeavesAll run × UsageEnds run.outputs.err run.outputs.err
 -- how the run of what the words say ends
 abbrev pub EndsSaid : Option ProgramCommand → List (List ℕ) → FileRun → Status → Type 0
 EndsSaid None words run end = EndsByUsage run end
-EndsSaid (Some AsmFiles) words run end = EndsOver AsmFiles run end
-EndsSaid (Some (LinkFiles names)) words run end = EndsOver (LinkFiles names) run end
-EndsSaid (Some (Watch limit items)) words run end = EndsOver (Watch limit items) run end
+EndsSaid (Some (OverFiles command)) words run end = EndsOver command run end
 EndsSaid (Some (Plain command)) words run end = EndsBy (without_files words run) end × (run.shelf' ≡ run.shelf)
 
 abbrev pub EndsFileRun : List (List ℕ) → FileRun → Status → Type 0
@@ -130,11 +127,11 @@ EndsFileRun words run end = EndsSaid (program_command words) words run end
 -- command, leave the shelf as it was, also the count of files that were asked for.
 abbrev pub TakesOfShelf : Option ProgramCommand → ShelfState → ShelfState → Type 0
 TakesOfShelf None before after = after ≡ before
-TakesOfShelf (Some AsmFiles) before after =
+TakesOfShelf (Some (OverFiles AsmFiles)) before after =
     (after.opens ≤ raised before.opens most_copies)
     × (after.source.taken ≤ raised before.source.taken ((most_bytes + 1) * most_copies))
-TakesOfShelf (Some (LinkFiles names)) before after =
+TakesOfShelf (Some (OverFiles (LinkFiles names))) before after =
     (after.opens ≤ raised before.opens (length names))
     × (after.source.taken ≤ raised before.source.taken ((largest_input + 1) * most_files))
-TakesOfShelf (Some (Watch limit items)) before after = after ≡ before
+TakesOfShelf (Some (OverFiles (Watch limit items))) before after = after ≡ before
 TakesOfShelf (Some (Plain command)) before after = after ≡ before

@@ -4,7 +4,7 @@ use Rattle.count_defs.specs.Counts.{Rose}
 use Rattle.shelf_defs.specs.Files.{Files}
 use Rattle.report_defs.specs.declared.status.Status.{Status}
 use Rattle.report_defs.specs.declared.status.Status.TheVariants.{Memory}
-use Rattle.file_report_defs.specs.Words.{ProgramCommand, AsmFiles, LinkFiles, Watch, Plain, program_command}
+use Rattle.file_report_defs.specs.Words.{AsmFiles, LinkFiles, Watch, ProgramCommand, OverFiles, Plain, program_command}
 use Rattle.file_report_defs.specs.Whole.{ReportWith}
 use Rattle.file_report_defs.specs.Laws.{OneReportWith, ListedWordsComeBackWith}
 use Rattle.bench_commands.specs.Laws.{LawsOfRuns, TellsInput, WroteTheReport, read_of}
@@ -20,13 +20,13 @@ pub record HasNoFaultWith (run : FileRun) : Type 0 where
 -- the bytes that a command reports on, of an input of these bytes
 abbrev pub input_of : ProgramCommand → List ℕ → List ℕ
 input_of (Plain command) input = read_of command input
-input_of command input = input
+input_of (OverFiles command) input = input
 
 -- What a command reads is told: the bytes of the input, the files of the shelf, both, or nothing.
 abbrev pub Tells : ProgramCommand → FileRun → List ℕ → Files → Type 0
-Tells AsmFiles run input files = (run.input.left ≡ Some input) × (run.shelf.files ≡ Some files)
-Tells (LinkFiles names) run input files = run.shelf.files ≡ Some files
-Tells (Watch limit items) run input files = run.input.left ≡ Some input
+Tells (OverFiles AsmFiles) run input files = (run.input.left ≡ Some input) × (run.shelf.files ≡ Some files)
+Tells (OverFiles (LinkFiles names)) run input files = run.shelf.files ≡ Some files
+Tells (OverFiles (Watch limit items)) run input files = run.input.left ≡ Some input
 Tells (Plain command) run input files = TellsInput command run.input input
 
 -- The law, which is proved: where the words are a command, what it reads is told and no count rose, there is one report on

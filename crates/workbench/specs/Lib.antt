@@ -1,4 +1,4 @@
 pub mod Asked
-pub mod Made
 pub mod FileRun
+pub mod Answered
 pub mod Laws

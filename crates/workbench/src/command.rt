@@ -1,27 +1,23 @@
 //! Which command the words say, those over files among them.
 
-ghost use Rattle.std.specs.Prelude.{◌≡◌, map, option_map, IfSome};
-ghost use Rattle.std.specs.List.{list_all};
-ghost use Rattle.shelf_defs.specs.Files.{is_file_name};
+ghost use Rattle.std.specs.Prelude.{◌≡◌, ◌∷◌, map, option_map, IfSome};
 ghost use Rattle.report_defs.specs.Commands.{same_word};
 ghost use Rattle.file_report_defs.specs.Words as spec;
-ghost use Rattle.workbench.specs.Asked.{defined_command, NamesFiles};
+ghost use Rattle.workbench.specs.Asked.{defined_command, defined_over, IsWithin};
 
+use crate::names::{MOST_FILES, Names};
 use bench_shelf::FileName;
 use command_words::{Words, read_command};
 use report_defs::Command;
 use watch_command::{Items, watch_words};
 
-/// The most files that `link` takes.
-const MOST_FILES: usize = 16;
-
-/// What the words say.
+/// What only the program with files has.
 #[derive(Drop)]
-pub(crate) enum ProgramCommand<'a> {
+pub(crate) enum FileCommand {
     /// `asm`, whose source may copy files.
     AsmFiles,
     /// `link` with the names of files.
-    LinkFiles(&'a [Vec<u8>]),
+    LinkFiles(Names),
     /// `watch` with the most steps and what is watched.
     Watch {
         /// The most steps.
@@ -29,19 +25,30 @@ pub(crate) enum ProgramCommand<'a> {
         /// What is watched.
         items: Items,
     },
+}
+
+/// What the words say.
+#[derive(Drop)]
+pub(crate) enum ProgramCommand {
+    /// A command that only the program with files has.
+    OverFiles(FileCommand),
     /// Another command, which reads no file.
     Plain(Command),
 }
 
 /// The command that the words say, or `None` where they are in no shape of one. It takes no memory.
-pub(crate) fn read_program_command(words: &Words) -> Option<ProgramCommand<'_>>
+pub(crate) fn read_program_command(words: &Words) -> Option<ProgramCommand>
     ensures command { option_map defined_command result ≡ spec.program_command words.now }
-    ensures names { IfSome result NamesFiles }
+    ensures within { IfSome result IsWithin }
 {
     match words.as_slice() {
         [] | [_] => input_command(words),
-        [name, others @ ..] if is_word(name, b"link") => link_command(others),
-        [name, others @ ..] if is_word(name, b"watch") => watch_command(others),
+        [name, first, others @ ..] if is_word(name, b"link") => {
+            Some(ProgramCommand::OverFiles(link_command(first, others)?))
+        }
+        [name, others @ ..] if is_word(name, b"watch") => {
+            Some(ProgramCommand::OverFiles(watch_command(others)?))
+        }
         _ => input_command(words),
     }
 }
@@ -53,47 +60,36 @@ fn is_word(word: &Vec<u8>, name: &[u8]) -> bool
     word.as_slice() == name
 }
 
-/// `link` with the names that the words say, where each says one and they are not too many.
-#[tactic(auto, using(crate::proofs::Names::many_names))]
-fn link_command(words: &[Vec<u8>]) -> Option<ProgramCommand<'_>>
-    ensures command { option_map defined_command result ≡ spec.link_command (map (λ word. word.items) words.now) }
-    ensures names { IfSome result NamesFiles }
+/// `link` with the names that a word and those behind it say, where each says one and they are not too many.
+#[tactic(auto, using(crate::proofs::NameLaws::many_names))]
+fn link_command(first: &Vec<u8>, words: &[Vec<u8>]) -> Option<FileCommand>
+    ensures { option_map defined_over result ≡ spec.link_command (first.now.items ∷ map (λ word. word.items) words.now) }
 {
-    if words.len() > MOST_FILES {
+    if words.len() >= MOST_FILES {
         return None;
     }
-    if each_is_name(words) {
-        Some(ProgramCommand::LinkFiles(words))
-    } else {
-        None
+    let mut names = Names::one(FileName::read(first.as_slice())?);
+    for word in words {
+        names.push(FileName::read(word.as_slice())?);
     }
-}
-
-/// Whether each word is the name of a file.
-fn each_is_name(words: &[Vec<u8>]) -> bool
-    ensures { result ≡ list_all (λ word. is_file_name word.items) words.now }
-{
-    words
-        .iter()
-        .all(|word| FileName::read(word.as_slice()).is_some())
+    Some(FileCommand::LinkFiles(names))
 }
 
 /// `watch` with what the words say.
-fn watch_command(words: &[Vec<u8>]) -> Option<ProgramCommand<'static>>
-    ensures command { option_map defined_command result ≡ spec.watch_command (map (λ word. word.items) words.now) }
-    ensures names { IfSome result NamesFiles }
+fn watch_command(words: &[Vec<u8>]) -> Option<FileCommand>
+    ensures { option_map defined_over result ≡ spec.watch_command (map (λ word. word.items) words.now) }
 {
     let (limit, items) = watch_words(words)?;
-    Some(ProgramCommand::Watch { limit, items })
+    Some(FileCommand::Watch { limit, items })
 }
 
 /// A command over one input.
-fn input_command(words: &Words) -> Option<ProgramCommand<'static>>
+fn input_command(words: &Words) -> Option<ProgramCommand>
     ensures command { option_map defined_command result ≡ spec.input_command words.now }
-    ensures names { IfSome result NamesFiles }
+    ensures within { IfSome result IsWithin }
 {
     match read_command(words)? {
-        Command::Asm => Some(ProgramCommand::AsmFiles),
+        Command::Asm => Some(ProgramCommand::OverFiles(FileCommand::AsmFiles)),
         command => Some(ProgramCommand::Plain(command)),
     }
 }

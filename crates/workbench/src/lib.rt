@@ -3,8 +3,8 @@
 
 mod asm;
 mod command;
-mod finish;
-mod link;
+mod names;
+mod over_files;
 mod running;
 mod usage;
 mod watch;

@@ -5,21 +5,20 @@ ghost use Rattle.file_report_defs.specs.Words.{program_command};
 ghost use Rattle.workbench.specs.FileRun.{EndsFileRun, TakesOfShelf};
 ghost use Rattle.workbench.specs.Laws.{LawsOfFileRuns};
 
-use crate::asm::asm;
 use crate::command::{ProgramCommand, read_program_command};
-use crate::link::link;
+use crate::over_files::report_over;
 use crate::usage::finish_usage;
-use crate::watch::watch;
-use bench_commands::bench;
+use bench_commands::run_command;
 use bench_io::{Sink, Source};
 use bench_shelf::Shelf;
 use command_words::Words;
 use report_defs::Status;
+use reports::finish;
 use std::alloc::Global;
 
 /// Runs the command that the words say. `asm` reads the source from `input` and the files that it copies from `shelf`;
 /// `link` with names of files reads these, in their order; `watch` reads a GPL source from `input`; every other command
-/// is run by [`bench`] and has its whole clause. The report goes to `out`, or a fault line or the usage line to `err`,
+/// is run as [`bench_commands::bench`] runs it, whose whole clause it has. The report goes to `out`, or a fault line or the usage line to `err`,
 /// and all memory is taken before the first byte is written.
 ///
 /// The contract says of each status its cause, and what the input, the shelf and the outputs are then; that there is at
@@ -52,12 +51,10 @@ pub fn bench_with<S: Source, F: Shelf, O: Sink, E: Sink>(
     ensures later { Later (F.state shelf.old) (F.state shelf.new) }
 {
     match read_program_command(words) {
-        Some(ProgramCommand::AsmFiles) => asm(alloc, input, shelf, out, err),
-        Some(ProgramCommand::LinkFiles(names)) => link(alloc, names, shelf, out, err),
-        Some(ProgramCommand::Watch { limit, items }) => watch(
-            alloc, limit, &items, input, out, err,
-        ),
-        Some(ProgramCommand::Plain(_)) => bench(alloc, words, input, out, err),
+        Some(ProgramCommand::OverFiles(command)) => {
+            finish(&report_over(alloc, &command, input, shelf), out, err)
+        }
+        Some(ProgramCommand::Plain(command)) => run_command(alloc, command, input, out, err),
         None => finish_usage(err),
     }
 }

@@ -5,24 +5,24 @@ ghost use Rattle.object_defs.specs.Writing.{written};
 ghost use Rattle.object_tags.specs.Seen.{defined_module};
 ghost use Rattle.asm_defs.specs.Modules.{module_of_source};
 ghost use Rattle.report_defs.specs.Report as spec;
-ghost use Rattle.bench_commands.specs.Made.{defined_report};
+ghost use Rattle.reports.specs.Answers.{answer, WantsMemory, Reported};
 
-use crate::report::Report;
 use asm_core::{AsmError, assemble, modules_have_texts};
 use object_tags::{Module, write_module};
 use report_defs::Command;
 use report_lines::asm_line;
+use reports::{Report, Unreported};
 use std::alloc::{AllocError, Global};
 
 /// The object text of the module of an assembler source, or its first refused line.
-pub(crate) fn asm(alloc: Global, input: &[u8]) -> Result<Report, AllocError>
+pub(crate) fn asm(alloc: Global, input: &[u8]) -> Result<Report, Unreported>
     requires { length input.now ≤ spec.largest_input }
-    ensures { IfOk result (λ report. spec.AcceptedReport Command.Asm input.now (defined_report report)) }
+    ensures { Reported (spec.AcceptedReport Command.Asm input.now) WantsMemory (answer result) }
 {
     match assemble(alloc, input) {
         Ok(module) => Ok(Report::Text(text_of(alloc, input, &module)?)),
-        Err(AsmError::At { line, cause }) => Ok(Report::Refused(asm_line(line, cause))),
-        Err(AsmError::Memory) => Err(AllocError),
+        Err(AsmError::At { line, cause }) => Err(Unreported::Refused(asm_line(line, cause))),
+        Err(AsmError::Memory) => Err(Unreported::Memory),
     }
 }
 

@@ -2,19 +2,18 @@
 
 ghost use Rattle.std.specs.Prelude.{◌≤◌, vec_len};
 ghost use Rattle.report_defs.specs.Report as spec;
-ghost use Rattle.bench_commands.specs.Made.{defined_report};
+ghost use Rattle.reports.specs.Answers.{answer, WantsMemory, Reported};
 
-use crate::listing::Listing;
-use crate::report::Report;
 use report_defs::{Command, Fault};
+use reports::{Listing, Report, Unreported};
 
 /// The listing of raw bytes that stand from an address on, unless they run past >FFFF.
-pub(crate) fn dis(at: u16, input: Vec<u8>) -> Report
+pub(crate) fn dis(at: u16, input: Vec<u8>) -> Result<Report, Unreported>
     requires { vec_len input ≤ spec.largest_input }
-    ensures { spec.AcceptedReport (Command.Dis at) input.items (defined_report result) }
+    ensures { Reported (spec.AcceptedReport (Command.Dis at) input.items) WantsMemory (answer result) }
 {
     if usize::from(at) + input.len() > 65536 {
-        return Report::Fault(Fault::PastEnd);
+        return Err(Unreported::Fault(Fault::PastEnd));
     }
-    Report::Listing(Listing::new(at, input))
+    Ok(Report::Listing(Listing { at, bytes: input }))
 }

@@ -5,15 +5,15 @@ ghost use Rattle.console_defs.specs.Runs.{IsRun};
 ghost use Rattle.link_loader.specs.View.{defined_linked};
 ghost use Rattle.report_defs.specs.Exec as runs;
 ghost use Rattle.report_defs.specs.Report as spec;
-ghost use Rattle.bench_commands.specs.Made.{defined_report};
+ghost use Rattle.reports.specs.Answers.{answer, WantsMemory, Reported};
 
-use crate::object_input::{LinkedInput, link_input};
-use crate::report::Report;
+use crate::object_input::link_input;
 use byte_lists::zeros;
 use console_defs::RunEnd;
 use link_loader::Linked;
 use machine_load::load_machine;
 use report_defs::Command;
+use reports::{Report, Unreported};
 use std::alloc::{AllocError, Global};
 use std::marker::Brand;
 use std::sync::ledger::{Blank, Ledger};
@@ -26,19 +26,17 @@ const WORKSPACE: u16 = 0x83E0;
 const ALL_GROMS: usize = 65536;
 
 /// The report of up to `limit` instructions of the linked memory of an object text, from its entry on.
-pub(crate) fn exec(alloc: Global, limit: u32, input: &[u8]) -> Result<Report, AllocError>
+pub(crate) fn exec(alloc: Global, limit: u32, input: &[u8]) -> Result<Report, Unreported>
     requires { length input.now ≤ spec.largest_input }
-    ensures { IfOk result (λ report. spec.AcceptedReport (Command.Exec limit) input.now (defined_report report)) }
+    ensures { Reported (spec.AcceptedReport (Command.Exec limit) input.now) WantsMemory (answer result) }
 {
-    match link_input(alloc, input)? {
-        LinkedInput::Linked(linked) => execute(alloc, limit, &linked),
-        LinkedInput::Refused(line) => Ok(Report::Refused(line)),
-    }
+    let linked = link_input(alloc, input)?;
+    execute(alloc, limit, &linked)
 }
 
 /// The report of up to `limit` instructions of linked memory, from its entry on.
-fn execute(alloc: Global, limit: u32, linked: &Linked) -> Result<Report, AllocError>
-    ensures { IfOk result (λ report. spec.ReportsExecution limit (defined_linked linked.now) (defined_report report)) }
+fn execute(alloc: Global, limit: u32, linked: &Linked) -> Result<Report, Unreported>
+    ensures { Reported (spec.ReportsExecution limit (defined_linked linked.now)) WantsMemory (answer result) }
 {
     let mut machine = start(alloc, linked)?;
     let ending = run::<Brand>(&mut machine, u64::from(limit), Blank::new(1));

@@ -4,20 +4,20 @@ ghost use Rattle.std.specs.Prelude.{◌≡◌, ◌≤◌, ◌+◌, length, IfOk}
 ghost use Rattle.std.specs.FinMap.{empty};
 ghost use Rattle.gpl_defs.specs.Image.{placed};
 ghost use Rattle.report_defs.specs.Report as spec;
-ghost use Rattle.bench_commands.specs.Made.{defined_report};
+ghost use Rattle.reports.specs.Answers.{answer, WantsMemory, Reported};
 
-use crate::report::Report;
 use gpl_forms::GromImage;
 use report_defs::{Command, Fault};
+use reports::{Report, Unreported};
 use std::alloc::{AllocError, Global};
 
 /// The listing of bytes of GROM that stand from an address on, unless they run past >FFFF.
-pub(crate) fn gdis(alloc: Global, at: u16, input: &[u8]) -> Result<Report, AllocError>
+pub(crate) fn gdis(alloc: Global, at: u16, input: &[u8]) -> Result<Report, Unreported>
     requires { length input.now ≤ spec.largest_input }
-    ensures { IfOk result (λ report. spec.AcceptedReport (Command.Gdis at) input.now (defined_report report)) }
+    ensures { Reported (spec.AcceptedReport (Command.Gdis at) input.now) WantsMemory (answer result) }
 {
     if usize::from(at) + input.len() > 65536 {
-        return Ok(Report::Fault(Fault::PastEnd));
+        return Err(Unreported::Fault(Fault::PastEnd));
     }
     Ok(Report::Grom(image_of(alloc, at, input)?))
 }

@@ -1,22 +1,18 @@
 //! A GPL program for the interpreter: assembled from its source, loaded, and run.
 
-ghost use Rattle.std.specs.Prelude.{◌≡◌, ◌<◌, ◌≤◌, length, IfOk};
-ghost use Rattle.interp_build_defs.specs.Interpreter.{IsInterpreter};
+ghost use Rattle.std.specs.Prelude.{◌≡◌, ◌<◌, ◌≤◌, length};
 ghost use Rattle.gpl_run.specs.Sessions.{IsNew, image_of, entry_of};
-ghost use Rattle.link_loader.specs.View.{defined_linked};
 ghost use Rattle.gpl_source_defs.specs.Programs.{program_of_source};
 ghost use Rattle.report_defs.specs.Report.{largest_input};
 ghost use Rattle.bench_commands.specs.Loaded.{LoadsSource, LoadsImage};
 ghost use Rattle.bench_commands.specs.Ran.{RanProgram};
 
-use crate::report::Report;
-use gpl_asm::{GplError, gpl_assemble};
+use gpl_asm::gpl_assemble;
 use gpl_forms::GromImage;
-use gpl_run::{BuildError, Session, build_interp, load_interpreter};
-use link_loader::Linked;
+use gpl_run::{Session, build_interp, load_interpreter};
 use report_defs::Fault;
-use report_lines::gpl_line;
-use std::alloc::{AllocError, Global};
+use reports::Unreported;
+use std::alloc::Global;
 use std::sync::ledger::{Blank, Ledger};
 use tms_step::{Machine, Steps};
 
@@ -29,61 +25,35 @@ pub struct LoadedProgram {
     pub image_size: u64,
 }
 
-/// What comes of a GPL source that is to be run.
-#[derive(Drop)]
-pub enum Loaded {
-    /// A program that is to be run.
-    Program(LoadedProgram),
-    /// The report of a program that is not run: the source is refused, or it names no entry.
-    Report(Report),
-}
-
-/// Assembles a GPL source of at most 1,048,576 bytes and loads it with the interpreter; or tells why it is not run.
+/// Assembles a GPL source of at most 1,048,576 bytes and loads it with the interpreter, which is built once the source is
+/// accepted and names an entry.
 ///
 /// # Errors
-/// `AllocError` comes where memory is wanting.
-pub fn load_program(alloc: Global, input: &[u8]) -> Result<Loaded, AllocError>
+/// `Refused` comes where the source is refused, and `Fault` where it names no entry; `Memory` is want of memory.
+pub fn load_program(alloc: Global, input: &[u8]) -> Result<LoadedProgram, Unreported>
     requires { length input.now ≤ largest_input }
-    ensures { IfOk result (LoadsSource (program_of_source input.now)) }
+    ensures { LoadsSource (program_of_source input.now) result }
 {
-    match build_interp(alloc) {
-        Ok(interpreter) => load_source(alloc, &interpreter, input),
-        Err(BuildError::Memory) => Err(AllocError),
-    }
-}
-
-/// Assembles a GPL source and loads it with the interpreter.
-fn load_source(alloc: Global, interpreter: &Linked, input: &[u8]) -> Result<Loaded, AllocError>
-    requires built { IsInterpreter (defined_linked interpreter.now) }
-    requires size { length input.now ≤ largest_input }
-    ensures { IfOk result (LoadsSource (program_of_source input.now)) }
-{
-    match gpl_assemble(alloc, input) {
-        Ok(program) => load_image(alloc, interpreter, &program.image, program.entry),
-        Err(GplError::At { line, cause }) => {
-            Ok(Loaded::Report(Report::Refused(gpl_line(line, cause))))
-        }
-        Err(GplError::Memory) => Err(AllocError),
-    }
+    let program = gpl_assemble(alloc, input)?;
+    load_image(alloc, &program.image, program.entry)
 }
 
 /// Loads an image with the interpreter, unless it has no entry.
 fn load_image(
     alloc: Global,
-    interpreter: &Linked,
     image: &GromImage,
     entry: Option<u16>,
-) -> Result<Loaded, AllocError>
-    requires { IsInterpreter (defined_linked interpreter.now) }
-    ensures { IfOk result (LoadsImage image.now entry) }
+) -> Result<LoadedProgram, Unreported>
+    ensures { LoadsImage image.now entry result }
 {
     let Some(entry) = entry else {
-        return Ok(Loaded::Report(Report::Fault(Fault::NoEntry)));
+        return Err(Unreported::Fault(Fault::NoEntry));
     };
-    Ok(Loaded::Program(LoadedProgram {
-        machine: load_interpreter(alloc, interpreter, image.bytes(), entry)?,
+    let interpreter = build_interp(alloc)?;
+    Ok(LoadedProgram {
+        machine: load_interpreter(alloc, &interpreter, image.bytes(), entry)?,
         image_size: image.written().len() as u64,
-    }))
+    })
 }
 
 /// Up to `limit` steps of the program that a machine holds on which the interpreter begins, and how many were made.

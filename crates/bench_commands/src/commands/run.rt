@@ -1,27 +1,23 @@
 //! `run`: a GPL program, run by the interpreter.
 
-ghost use Rattle.std.specs.Prelude.{◌≤◌, length, IfOk};
+ghost use Rattle.std.specs.Prelude.{◌≤◌, length};
 ghost use Rattle.report_defs.specs.Report as spec;
-ghost use Rattle.bench_commands.specs.Made.{defined_report};
+ghost use Rattle.reports.specs.Answers.{answer, WantsMemory, Reported};
 
-use crate::commands::program::{Loaded, load_program, run_session};
-use crate::report::Report;
+use crate::commands::program::{load_program, run_session};
 use report_defs::Command;
-use std::alloc::{AllocError, Global};
+use reports::{Report, Unreported};
+use std::alloc::Global;
 use std::marker::Brand;
 use std::sync::ledger::Blank;
 
 /// The report of up to `limit` steps of a GPL source from its entry, run by the interpreter; or the source's first
 /// refused line, or that it names no entry.
-pub(crate) fn run(alloc: Global, limit: u32, input: &[u8]) -> Result<Report, AllocError>
+pub(crate) fn run(alloc: Global, limit: u32, input: &[u8]) -> Result<Report, Unreported>
     requires { length input.now ≤ spec.largest_input }
-    ensures { IfOk result (λ report. spec.AcceptedReport (Command.Run limit) input.now (defined_report report)) }
+    ensures { Reported (spec.AcceptedReport (Command.Run limit) input.now) WantsMemory (answer result) }
 {
-    match load_program(alloc, input)? {
-        Loaded::Program(program) => {
-            let (session, _) = run_session::<Brand>(program.machine, limit, Blank::new(1));
-            Ok(Report::Program(session))
-        }
-        Loaded::Report(report) => Ok(report),
-    }
+    let program = load_program(alloc, input)?;
+    let (session, _) = run_session::<Brand>(program.machine, limit, Blank::new(1));
+    Ok(Report::Program(session))
 }

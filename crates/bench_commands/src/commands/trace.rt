@@ -1,41 +1,38 @@
 //! `trace`: a GPL program, run by the interpreter, each of its steps with a line.
 
-ghost use Rattle.std.specs.Prelude.{◌≡◌, ◌<◌, ◌≤◌, length, IfOk};
+ghost use Rattle.std.specs.Prelude.{◌≡◌, ◌<◌, ◌≤◌, length};
 ghost use Rattle.gpl_run.specs.Sessions.{IsNew};
 ghost use Rattle.report_defs.specs.Report.{largest_input};
 ghost use Rattle.report_defs.specs.Commands.{most_steps};
 ghost use Rattle.bench_commands.specs.Traced.{Prepares, Started};
 
-use crate::commands::program::{Loaded, load_program};
+use crate::commands::program::load_program;
 use crate::prepared::Prepared;
 use crate::trace::Trace;
 use gpl_run::Session;
 use report_defs::Command;
-use std::alloc::{AllocError, Global};
+use reports::Unreported;
+use std::alloc::Global;
 use std::marker::Brand;
 use std::sync::ledger::{Blank, Ledger};
 use tms_step::{Machine, Steps};
 use trace_dump::Seen;
 
-/// A GPL source that stands before the first step of its program, of which up to `limit` are to be traced; or the
-/// report of a program that is not run. All memory of the trace is taken.
-pub(crate) fn trace(alloc: Global, limit: u32, input: &[u8]) -> Result<Prepared, AllocError>
+/// A GPL source that stands before the first step of its program, of which up to `limit` are to be traced; or why
+/// it is not run. All memory of the trace is taken.
+pub(crate) fn trace(alloc: Global, limit: u32, input: &[u8]) -> Result<Prepared, Unreported>
     requires size { length input.now ≤ largest_input }
     requires limit { limit ≤ most_steps }
-    ensures { IfOk result (Prepares (Command.Trace limit) input.now) }
+    ensures { Prepares (Command.Trace limit) input.now result }
 {
-    match load_program(alloc, input)? {
-        Loaded::Program(program) => {
-            let session = start_session::<Brand>(program.machine, Blank::new(1));
-            let seen = Seen::new(alloc, session.machine())?;
-            Ok(Prepared::Trace(Trace {
-                session,
-                seen,
-                limit,
-            }))
-        }
-        Loaded::Report(report) => Ok(Prepared::Report(report)),
-    }
+    let program = load_program(alloc, input)?;
+    let session = start_session::<Brand>(program.machine, Blank::new(1));
+    let seen = Seen::new(alloc, session.machine())?;
+    Ok(Prepared::Trace(Trace {
+        session,
+        seen,
+        limit,
+    }))
 }
 
 /// The program that a machine holds on which the interpreter begins, before its first step.

@@ -5,8 +5,8 @@ use Rattle.object_tags.specs.Answers.{defined_modules}
 use Rattle.object_defs.proofs.ModuleCount.{few_modules}
 use Rattle.bench_commands.proofs.object_input.link_input.Goals as goal
 
-pub link_modules-requires : goal.link_modules-requires
-link_modules-requires c =
-    let few = few_modules c.args.input.now (defined_modules c.in-Ok.modules.items) c.in-Ok.ensures in
-    let h = c.in-Ok.modules.ok in
-    omega (arith, few, h, length-map c.in-Ok.modules.items defined_module)
+pub link-requires : goal.link-requires
+link-requires c =
+    let modules = c.in_ok-modules.modules in
+    let few = few_modules c.args.input.now (defined_modules modules.items) c.in_ok-modules.ensures in
+    omega (arith, few, modules.ok, length-map modules.items defined_module)

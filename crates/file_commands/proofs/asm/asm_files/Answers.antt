@@ -1,4 +1,4 @@
-use Rattle.file_commands.proofs.AsmLaws.{module_reported, error_reported, error_failed}
+use Rattle.file_commands.proofs.AsmLaws.{module_reported, error_reported}
 use Rattle.file_commands.proofs.asm.asm_files.Goals as goal
 
 pub returns-in_ok-text_of-in-Ok-clause-report : goal.returns-in_ok-text_of-in-Ok-clause-report
@@ -8,7 +8,4 @@ returns-in_ok-text_of-in-Ok-clause-report g c =
 
 pub returns-in-Err-clause-report : goal.returns-in-Err-clause-report
 returns-in-Err-clause-report g c =
-    error_reported _ _ c.args.text.now c.in-Err.error _ c.in-Err.ensures.answer c.in-Err.ensures.alone c.in-Err.ensures.causes c.refused.ensures
-
-pub returns-in-Err-clause-failure : goal.returns-in-Err-clause-failure
-returns-in-Err-clause-failure g c = error_failed _ _ c.args.text.now c.in-Err.error _ c.in-Err.ensures.causes c.refused.ensures
+    error_reported _ _ c.args.text.now c.in-Err.error c.refused.result c.in-Err.ensures.answer c.in-Err.ensures.alone c.in-Err.ensures.causes c.refused.ensures

@@ -1,5 +1,5 @@
 use Rattle.std.proofs.Common.{◌∙◌}
-use Rattle.workbench.proofs.Names.{one_word}
+use Rattle.workbench.proofs.NameLaws.{one_word}
 use Rattle.workbench.proofs.command.read_program_command.Goals as goal
 
 pub returns-in-empty-clause-command : goal.returns-in-empty-clause-command

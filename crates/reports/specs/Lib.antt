@@ -1,0 +1,4 @@
+pub mod Outputs
+pub mod Watched
+pub mod Made
+pub mod Answers

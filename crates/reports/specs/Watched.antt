@@ -1,0 +1,28 @@
+-- What is written of a program whose items were watched.
+use Rattle.std.specs.Prelude.{ℕ, List, [], ◌∷◌, ◌++◌}
+use Rattle.gpl_run.specs.Sessions.{SessionState, seen}
+use Rattle.watch_defs.specs.declared.found.Found.{Found}
+use Rattle.watch_defs.specs.declared.found.Found.TheVariants as found
+use Rattle.report_defs.specs.declared.status.Status.{Status}
+use Rattle.report_defs.specs.declared.status.Status.TheVariants.{Done}
+use Rattle.report_defs.specs.Program.{program_status, stop_lines, state_lines}
+use Rattle.file_report_defs.specs.Watching.{hit_line, no_hit_line}
+
+-- what is said of what was found
+abbrev pub found_line : Found → List ℕ
+found_line (found.Hit step from item change) = hit_line step from item change
+found_line found.None = no_hit_line
+
+-- why the program ended, if it did, is told where nothing was found
+abbrev pub end_lines : Found → SessionState → List (List ℕ)
+end_lines (found.Hit step from item change) session = []
+end_lines found.None session = stop_lines session.ended (seen session).pc
+
+abbrev pub watched_lines : Found → SessionState → List (List ℕ)
+watched_lines said session =
+    found_line said ∷ (end_lines said session ++ state_lines (seen session) session.machine)
+
+-- behind a hit the program is done, whatever it would come to
+abbrev pub watched_status : Found → SessionState → Status
+watched_status (found.Hit step from item change) session = Done
+watched_status found.None session = program_status session.ended

@@ -1,0 +1,45 @@
+//! The lines that standard error gets of words that are no command of `bench`, and of any input that is refused; and
+//! their statuses.
+
+ghost use Rattle.std.specs.Prelude.{◌≡◌, ◌≤◌, length};
+ghost use Rattle.report_defs.specs.FaultLine as spec;
+
+use report_defs::{Fault, Status};
+use report_lines::{Line, append};
+
+/// How `bench` is called, which knows no files and no `watch`.
+const USAGE: &[u8] =
+    b"usage: ti_bench asm|link|dis ADDR|exec N|gasm|gdis ADDR|interp|run N|trace N|demo K\n";
+
+/// The line of a fault.
+#[tactic(auto, unfolding(report_defs::specs::FaultLine::usage_line))]
+pub(crate) fn fault_line(fault: Fault) -> Line
+    ensures { result.items ≡ spec.fault_line fault }
+{
+    match fault {
+        Fault::Usage => line_of(USAGE),
+        Fault::TooLarge => line_of(b"too large\n"),
+        Fault::PastEnd => line_of(b"past the end of memory\n"),
+        Fault::NoEntry => line_of(b"no entry\n"),
+    }
+}
+
+/// A line of these bytes.
+fn line_of(bytes: &[u8]) -> Line
+    requires { length bytes.now ≤ 128 }
+    ensures { result.items ≡ bytes.now }
+{
+    let mut line = Line::new();
+    append(&mut line, bytes);
+    line
+}
+
+/// The status of a fault.
+pub(crate) fn fault_status(fault: Fault) -> Status
+    ensures { result ≡ spec.fault_status fault }
+{
+    match fault {
+        Fault::Usage => Status::Usage,
+        Fault::TooLarge | Fault::PastEnd | Fault::NoEntry => Status::Refused,
+    }
+}

@@ -1,0 +1,18 @@
+//! What any command answers, a report or why there is none, made and not yet written; and how it is written.
+#![tactic(auto)]
+
+mod execution;
+mod faults;
+mod hit;
+mod listing;
+mod listing_lines;
+mod outcome;
+mod report;
+mod unreported;
+mod watched;
+
+pub use crate::listing::Listing;
+pub use crate::outcome::finish;
+pub use crate::report::Report;
+pub use crate::unreported::Unreported;
+pub use crate::watched::Watched;

@@ -1,0 +1,28 @@
+//! How what a command answers is written.
+
+ghost use Rattle.reports.specs.Answers.{answer, Ends};
+
+use crate::report::Report;
+use crate::unreported::Unreported;
+use bench_io::Sink;
+use report_defs::Status;
+
+/// Writes a report to `out`, or to `err` why there is none, and gives the status that the program ends with: that of the
+/// report, or of what is told in its place, or a write fault. It takes no memory.
+pub fn finish<O: Sink, E: Sink>(
+    made: &Result<Report, Unreported>,
+    out: &mut O,
+    err: &mut E,
+) -> Status
+    ensures { Ends (record {
+      out = O.state out.old;
+      out' = O.state out.new;
+      err = E.state err.old;
+      err' = E.state err.new;
+    }) (answer made.now) result }
+{
+    match made {
+        Ok(report) => report.finish(out),
+        Err(unreported) => unreported.finish(err),
+    }
+}

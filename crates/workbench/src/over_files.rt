@@ -1,0 +1,43 @@
+//! The commands that only the program with files has.
+
+ghost use Rattle.std.specs.Prelude.{Some};
+ghost use Rattle.bench_shelf.specs.Causes.{Later};
+ghost use Rattle.file_report_defs.specs.Words as spec;
+ghost use Rattle.reports.specs.Answers.{answer};
+ghost use Rattle.reports.specs.Outputs.{Outputs};
+ghost use Rattle.workbench.specs.Answered.{AnswersWith};
+ghost use Rattle.workbench.specs.Asked.{defined_over};
+ghost use Rattle.workbench.specs.FileRun.{TakesOfShelf};
+
+use crate::asm::asm;
+use crate::command::FileCommand;
+use crate::watch::watch;
+use bench_io::Source;
+use bench_shelf::Shelf;
+use file_commands::link_files;
+use reports::{Report, Unreported};
+use std::alloc::Global;
+
+/// What such a command reports on what it reads of the input and of the shelf, or why it reports nothing.
+pub(crate) fn report_over<S: Source, F: Shelf>(
+    alloc: Global,
+    command: &FileCommand,
+    input: &mut S,
+    shelf: &mut F,
+) -> Result<Report, Unreported>
+    ensures answers { (outputs : Outputs) → AnswersWith (defined_over command.now) (record {
+      input = S.state input.old;
+      input' = S.state input.new;
+      shelf = F.state shelf.old;
+      shelf' = F.state shelf.new;
+      outputs = outputs;
+    }) (answer result) }
+    ensures shelf { TakesOfShelf (Some (spec.OverFiles (defined_over command.now))) (F.state shelf.old) (F.state shelf.new) }
+    ensures later { Later (F.state shelf.old) (F.state shelf.new) }
+{
+    match command {
+        FileCommand::AsmFiles => asm(alloc, input, shelf),
+        FileCommand::LinkFiles(names) => link_files(alloc, shelf, names.as_slice()),
+        FileCommand::Watch { limit, items } => watch(alloc, *limit, items, input),
+    }
+}
