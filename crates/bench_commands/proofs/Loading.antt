@@ -8,7 +8,7 @@ use Rattle.report_defs.specs.Report.{Report, EnteredReport, ProgramReport}
 use Rattle.bench_commands.specs.declared.commands.program.LoadedProgram.{LoadedProgram}
 use Rattle.reports.specs.declared.unreported.Unreported.{Unreported}
 use Rattle.reports.specs.Answers.{WantsMemory, Reported, told}
-use Rattle.reports.proofs.Refused.{reported_as}
+use Rattle.reports.proofs.Answers.{reported_as}
 use Rattle.bench_commands.specs.Loaded.{RunsNone, LoadsEntered, LoadsProgram, LoadsImage, LoadsSource}
 
 -- what is reported of a program that is not run is so whatever would be reported of one that is

@@ -1,2 +1,2 @@
 pub mod Listings
-pub mod Refused
+pub mod Answers
