@@ -159,8 +159,8 @@ pub modules_end : (front rest texts : List FileText) (text : FileText) (found : 
 modules_end front rest texts text found (Ok report) is so_far (refusal, refused, same) = (
   refusal,
   ap (λ texts. modules_of (defined_texts texts)) is
-  ∙ (ap modules_of (map-append defined_text front (text ∷ rest))
-  ∙ modules_stop (defined_texts front) (defined_texts rest) (defined_text text) found refusal so_far refused),
+      ∙ (ap modules_of (map-append defined_text front (text ∷ rest))
+      ∙ modules_stop (defined_texts front) (defined_texts rest) (defined_text text) found refusal so_far refused),
   same,
 )
 modules_end front rest texts text found (Err end) is so_far memory = memory

@@ -13,7 +13,11 @@ use tms_step::Machine;
 use trace_dump::dump;
 
 /// Writes how a run ended, and the machine that it left.
-pub(crate) fn put_execution<O: Sink>(out: &mut O, ending: RunEnd, machine: &Machine) -> Result<(), Failed>
+pub(crate) fn put_execution<O: Sink>(
+    out: &mut O,
+    ending: RunEnd,
+    machine: &Machine,
+) -> Result<(), Failed>
     ensures { Written result (O.state out.old) (O.state out.new) (spec.exec_lines ending machine.now) }
 {
     put_piece(out, end_line(ending).as_slice())?;

@@ -43,7 +43,11 @@ impl Unreported {
     {
         match self {
             Unreported::Refused(line) => tell(line.as_slice(), Status::Refused, err),
-            Unreported::Fault(fault) => tell(fault_line(*fault).as_slice(), fault_status(*fault), err),
+            Unreported::Fault(fault) => tell(
+                fault_line(*fault).as_slice(),
+                fault_status(*fault),
+                err,
+            ),
             Unreported::ReadFault => Status::ReadFault,
             Unreported::Memory => Status::Memory,
         }

@@ -1,11 +1,10 @@
 -- How a run with files ends.
-use Rattle.std.proofs.Common.{◌≡◌, ℕ, List, length, Option, Some, None, Bool, true, false, refl, sym, subst, arith, inl, inr}
+use Rattle.std.proofs.Common.{◌≡◌, ℕ, List, length, Option, Some, None, Bool, true, false, sym, subst, arith}
 use Rattle.std.specs.Prelude.{nat_lt, MatchBool, Result, Ok, Err}
 use Rattle.std.proofs.lemmas.Bool.Decides.{nat_tests}
 use Rattle.count_defs.specs.Counts.{Rose}
 use Rattle.bench_io.specs.Stream.{SourceState}
 use Rattle.bench_io.specs.ReadAll.{ReadWhole, GaveUp}
-use Rattle.bench_io.specs.declared.whole.ReadError.{ReadError}
 use Rattle.bench_io.specs.declared.whole.ReadError.TheVariants as error
 use Rattle.report_defs.specs.declared.fault.Fault.TheVariants.{TooLarge, NoEntry}
 use Rattle.report_defs.specs.declared.status.Status.{Status}
@@ -38,12 +37,11 @@ use Rattle.shelf_defs.specs.Copied.{most_bytes}
 use Rattle.bench_shelf.specs.States.{ShelfState}
 use Rattle.bench_shelf.specs.Causes.{TookNoMore}
 use Rattle.file_report_defs.specs.Whole.{WatchReport}
-use Rattle.file_commands.specs.Reported.{CopyReported, LinkReported, FailureCauses}
+use Rattle.file_commands.specs.Reported.{CopyReported}
 use Rattle.reports.specs.Outputs.{EndsWith}
 use Rattle.bench_commands.specs.Run.{ReadsInput}
 use Rattle.bench_commands.proofs.Ends.{reads_whole}
-use Rattle.reports.specs.declared.unreported.Unreported.{Unreported}
-use Rattle.reports.specs.Answers.{Ends, WantsMemory, Reported, read_told, told}
+use Rattle.reports.specs.Answers.{Ends, WantsMemory, Reported}
 use Rattle.workbench.specs.FileRun.{FileRun, ReportsWith, TookWithin, EndsOver, EndsSaid, EndsFileRun}
 use Rattle.workbench.specs.Answered.{FailsWith, AnswersWith}
 
@@ -171,57 +169,8 @@ wanting_within before after (bytes, within, took) =
 took_none : (limit : ℕ) (before after : ShelfState) → after ≡ before → TookNoMore limit before after
 took_none limit before after same = subst (TookNoMore limit before) (sym same) (omega arith)
 
--- what is answered to an input that was not taken whole
-module _ (run : FileRun) (unreported : Unreported) (same : run.shelf' ≡ run.shelf) where
-  pub asm_unread : (error : ReadError) → GaveUp error largest_input run.input run.input' → told unreported ≡ read_told error
-      → AnswersWith AsmFiles run (told unreported)
-  asm_unread error.TooLarge gave_up is =
-      let r = reads_too_much run.input run.input' gave_up in
-      let reports : ReportsWith AsmFiles run (Faulty TooLarge) = (r.0, r.1, rw r.2 (refl, same)) in
-      rw is reports
-  asm_unread error.Fault gave_up is =
-      let f = failed_within run.input run.input' gave_up in
-      let fails : FailsWith AsmFiles run status.ReadFault = ((f.0, took_none most_bytes run.shelf run.shelf' same), inl (f.1, same)) in
-      rw is fails
-  asm_unread error.Memory gave_up is =
-      let fails : FailsWith AsmFiles run status.Memory = (wanting_within run.input run.input' gave_up, took_none most_bytes run.shelf run.shelf' same) in
-      rw is fails
-
-  pub watch_unread : (limit : ℕ) (items : List Item) (error : ReadError) → GaveUp error largest_input run.input run.input'
-      → told unreported ≡ read_told error → AnswersWith (Watch limit items) run (told unreported)
-  watch_unread limit items error.TooLarge gave_up is =
-      let r = reads_too_much run.input run.input' gave_up in
-      let reports : ReportsWith (Watch limit items) run (Faulty TooLarge) = (r.0, r.1, same, rw r.2 refl) in
-      rw is reports
-  watch_unread limit items error.Fault gave_up is =
-      let f = failed_within run.input run.input' gave_up in
-      let fails : FailsWith (Watch limit items) run status.ReadFault = ((f.0, same), f.1) in
-      rw is fails
-  watch_unread limit items error.Memory gave_up is =
-      let fails : FailsWith (Watch limit items) run status.Memory = (wanting_within run.input run.input' gave_up, same) in
-      rw is fails
-
 -- what is answered to a source that was taken whole
 module _ (run : FileRun) (source : List ℕ) (whole : ReadWhole largest_input run.input run.input' source) where
-  asm_reported : (report : Report) → CopyReported run.shelf run.shelf' source report → ReportsWith AsmFiles run report
-  asm_reported report reported = (
-    source,
-    whole_reads run.input run.input' source whole,
-    rw (is_small run.input run.input' source whole) reported,
-  )
-
-  pub asm_answered : (answer : Result Report Status)
-      → Reported (CopyReported run.shelf run.shelf' source) (FailureCauses most_bytes run.shelf run.shelf') answer
-      → AnswersWith AsmFiles run answer
-  asm_answered (Ok report) reported = asm_reported report reported
-  asm_answered (Err status.ReadFault) (rose, within) = ((whole_within run.input run.input' source whole, within), inr (source, whole, rose))
-  asm_answered (Err status.Memory) within = (whole_within run.input run.input' source whole, within)
-  asm_answered (Err status.Done) none = none
-  asm_answered (Err status.Refused) none = none
-  asm_answered (Err status.Usage) none = none
-  asm_answered (Err status.WriteFault) none = none
-  asm_answered (Err status.Stopped) none = none
-
   watch_reported : (limit : ℕ) (items : List Item) (report : Report) → run.shelf' ≡ run.shelf
       → WatchReport limit items source report → ReportsWith (Watch limit items) run report
   watch_reported limit items report same reported = (
@@ -236,19 +185,6 @@ module _ (run : FileRun) (source : List ℕ) (whole : ReadWhole largest_input ru
   watch_answered limit items (Ok report) same reported = watch_reported limit items report same reported
   watch_answered limit items (Err end) same memory =
       subst (FailsWith (Watch limit items) run) (sym memory) (whole_within run.input run.input' source whole, same)
-
--- what is answered to the names of files
-pub link_answered : (run : FileRun) (names : List (List ℕ)) (answer : Result Report Status) → run.input' ≡ run.input
-    → Reported (LinkReported run.shelf run.shelf' names) (FailureCauses largest_input run.shelf run.shelf') answer
-    → AnswersWith (LinkFiles names) run answer
-link_answered run names (Ok report) same reported = (same, reported)
-link_answered run names (Err status.ReadFault) same (rose, within) = ((same, within), rose)
-link_answered run names (Err status.Memory) same within = (same, within)
-link_answered run names (Err status.Done) same none = none
-link_answered run names (Err status.Refused) same none = none
-link_answered run names (Err status.Usage) same none = none
-link_answered run names (Err status.WriteFault) same none = none
-link_answered run names (Err status.Stopped) same none = none
 
 -- how the run of what the words say ends
 pub ends_as : (words : List (List ℕ)) (found : Option ProgramCommand) (run : FileRun) (end : Status)

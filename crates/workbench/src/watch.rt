@@ -47,10 +47,5 @@ fn watch_source(
     ensures { Reported (whole.WatchReport limit items.now source.now) WantsMemory (answer result) }
 {
     let program = load_program(alloc, source)?;
-    Ok(Report::Watched(watch_program(
-        alloc,
-        program.machine,
-        limit,
-        items,
-    )?))
+    Ok(Report::Watched(watch_program(alloc, program.machine, limit, items)?))
 }
