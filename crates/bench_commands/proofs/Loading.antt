@@ -7,7 +7,7 @@ use Rattle.gpl_source_defs.specs.Programs.{Program}
 use Rattle.report_defs.specs.Report.{Report, EnteredReport, ProgramReport}
 use Rattle.bench_commands.specs.declared.commands.program.LoadedProgram.{LoadedProgram}
 use Rattle.reports.specs.declared.unreported.Unreported.{Unreported}
-use Rattle.reports.specs.Answers.{WantsMemory, Reported, told}
+use Rattle.reports.specs.Answers.{WantsMemory, told}
 use Rattle.reports.proofs.Answers.{reported_as}
 use Rattle.bench_commands.specs.Loaded.{RunsNone, LoadsEntered, LoadsProgram, LoadsImage, LoadsSource}
 

@@ -1,6 +1,6 @@
 -- The report of a source with the files that it copies.
 use Rattle.std.proofs.Common.{◌≡◌, ℕ, List, Some, None, Ok, Err, refl, sym, ap}
-use Rattle.std.specs.Prelude.{Option, Result, IfSome, IfOk, IfErr, OnOk}
+use Rattle.std.specs.Prelude.{Option, Result, IfSome, OnOk}
 use Rattle.std.specs.FinMap.{empty}
 use Rattle.count_defs.specs.Counts.{raised}
 use Rattle.source_defs.specs.Refusals.{seen}

@@ -1,5 +1,5 @@
 -- Files that are read one after the other, and their texts.
-use Rattle.std.proofs.Common.{◌≡◌, ℕ, ◌+◌, ◌≤◌, List, [], ◌∷◌, ◌++◌, length, length-append, Some, None, refl, arith}
+use Rattle.std.proofs.Common.{◌≡◌, ℕ, ◌+◌, List, [], ◌∷◌, ◌++◌, length, length-append, Some, None, refl, arith}
 use Rattle.std.proofs.Common.{Ok, Err, sym, ap, ◌∙◌, subst, append_assoc, append-nil}
 use Rattle.std.proofs.lemmas.List.{map-append}
 use Rattle.std.specs.Prelude.{Option, Result, IfSome, IsOk}
@@ -15,7 +15,7 @@ use Rattle.file_report_defs.specs.LinkedFiles.{FilesRefusal, bytes_of, read_file
 use Rattle.file_commands.specs.declared.file_text.FileText.{FileText}
 use Rattle.file_commands.specs.declared.error.ReadingError.{ReadingError}
 use Rattle.file_commands.specs.declared.error.ReadingError.TheVariants as error
-use Rattle.file_commands.specs.Reading.{defined_text, defined_texts, Refuses, IsOfName, StopsAt, StopsBy}
+use Rattle.file_commands.specs.Reading.{defined_text, defined_texts, Refuses, IsOfName, StopsBy}
 use Rattle.file_commands.specs.Modules.{ReportsRefused}
 use Rattle.report_defs.specs.declared.status.Status.{Status}
 use Rattle.report_defs.specs.Report.{Report}

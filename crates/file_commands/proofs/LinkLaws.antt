@@ -1,6 +1,6 @@
 -- The report of files that are linked.
-use Rattle.std.proofs.Common.{◌≡◌, ℕ, List, [], ◌∷◌, Some, None, Ok, Err, refl, sym, ap, subst, ◌∙◌}
-use Rattle.std.specs.Prelude.{Option, Result, IfSome, IfOk, IfErr, map, length}
+use Rattle.std.proofs.Common.{◌≡◌, ℕ, List, [], ◌∷◌, Some, None, Ok, Err, refl, sym, ap, ◌∙◌}
+use Rattle.std.specs.Prelude.{Option, Result, IfSome, map, length}
 use Rattle.count_defs.specs.Counts.{raised}
 use Rattle.source_defs.specs.Refusals.{seen, ◌>>=◌}
 use Rattle.object_defs.specs.Modules.{Module}
