@@ -8,7 +8,8 @@ use Rattle.reports.specs.Answers.{WantsMemory, Reported, told}
 
 -- the report of what is refused
 abbrev pub ReportsRefused : {B : Type 0} → Result B FilesRefusal → Report → Type 0
-ReportsRefused defined report = (refusal : FilesRefusal) × (defined ≡ Err refusal) × (report ≡ files_report (Err refusal))
+ReportsRefused defined report =
+    (refusal : FilesRefusal) × (defined ≡ Err refusal) × (report ≡ files_report (Err refusal))
 
 -- what is found is what is defined, or why there is none is told; want of memory says nothing
 abbrev pub GivesModules : {A B : Type 0} → (A → B) → Result A Unreported → Result B FilesRefusal → Type 0

@@ -29,8 +29,8 @@ use std::alloc::{AllocError, Global};
 /// whatever the shelf tells.
 ///
 /// # Errors
-/// A refused line and a file that is too large are told by `Refused` and `Fault`. `ReadFault` comes only where the shelf's
-/// count of faults rose, and `Memory` is want of memory. Of no file more bytes were taken than it may have then.
+/// A refused line and a file that is too large are told by `Refused` and `Fault`. `ReadFault` comes only where the
+/// shelf's count of faults rose, and `Memory` is want of memory. Of no file more bytes were taken than it may have then.
 pub fn asm_files<F: Shelf>(alloc: Global, shelf: &mut F, text: &[u8]) -> Result<Report, Unreported>
     requires { length text.now ≤ largest_input }
     ensures report { Reported (CopyReported (F.state shelf.old) (F.state shelf.new) text.now)

@@ -31,9 +31,9 @@ use std::alloc::Global;
 /// one that is missing or too large.
 ///
 /// # Errors
-/// `Refused` and `Fault` tell which file is missing or has a bad place, that one is too large, and why the modules are not
-/// linked. `ReadFault` comes only where the shelf's count of faults rose, and `Memory` is want of memory. Of no file more
-/// bytes were taken than it may have then.
+/// `Refused` and `Fault` tell which file is missing or has a bad place, that one is too large, and why the modules are
+/// not linked. `ReadFault` comes only where the shelf's count of faults rose, and `Memory` is want of memory. Of no file
+/// more bytes were taken than it may have then.
 pub fn link_files<F: Shelf>(
     alloc: Global,
     shelf: &mut F,
@@ -69,7 +69,8 @@ fn unread(error: ReadingError) -> Unreported
 #[tactic(auto, using(crate::proofs::LinkLaws::bad_place, crate::proofs::LinkLaws::texts_linked))]
 fn link_texts(alloc: Global, texts: &[FileText]) -> Result<Report, Unreported>
     requires { length texts.now ≤ most_files }
-    ensures { Reported (λ report. report ≡ files_report (linked_texts (defined_texts texts.now))) WantsMemory (answer result) }
+    ensures { Reported (λ report. report ≡ files_report (linked_texts (defined_texts texts.now))) WantsMemory
+        (answer result) }
 {
     let modules = modules_of(alloc, texts)?;
     Ok(Report::Memory(link(alloc, &modules)?))

@@ -13,8 +13,8 @@ use Rattle.report_defs.specs.declared.command.Command.{Command}
 use Rattle.report_defs.specs.declared.command.Command.TheVariants as command
 use Rattle.report_defs.specs.Commands.{same_word, number_word, most_steps, address_word, command_of}
 
--- What only the program with files has: `asm`, whose source may copy files; `link` with names of files; and `watch` with a
--- number of steps and with items.
+-- What only the program with files has: `asm`, whose source may copy files; `link` with names of files; and `watch`
+-- with a number of steps and with items.
 pub data FileCommand : Type 0 where
   AsmFiles : FileCommand
   LinkFiles : List (List ℕ) → FileCommand

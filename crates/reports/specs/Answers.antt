@@ -20,8 +20,8 @@ use Rattle.reports.specs.declared.unreported.Unreported.TheVariants.{Refused, Fa
 use Rattle.reports.specs.Made.{defined_report}
 use Rattle.reports.specs.Outputs.{Outputs, EndsWith}
 
--- A refusal is a report too, which standard error gets. Of input that failed and of want of memory there is none, only the
--- status.
+-- A refusal is a report too, which standard error gets. Of input that failed and of want of memory there is none, only
+-- the status.
 abbrev pub told : Unreported → Result Report Status
 told (Refused line) = Ok (Rejected line.items)
 told (Fault fault) = Ok (Faulty fault)

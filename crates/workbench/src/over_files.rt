@@ -32,7 +32,8 @@ pub(crate) fn report_over<S: Source, F: Shelf>(
       shelf' = F.state shelf.new;
       outputs = outputs;
     }) (answer result) }
-    ensures shelf { TakesOfShelf (Some (spec.OverFiles (defined_over command.now))) (F.state shelf.old) (F.state shelf.new) }
+    ensures shelf { TakesOfShelf (Some (spec.OverFiles (defined_over command.now)))
+        (F.state shelf.old) (F.state shelf.new) }
     ensures later { Later (F.state shelf.old) (F.state shelf.new) }
 {
     match command {

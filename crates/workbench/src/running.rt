@@ -18,13 +18,13 @@ use std::alloc::Global;
 
 /// Runs the command that the words say. `asm` reads the source from `input` and the files that it copies from `shelf`;
 /// `link` with names of files reads these, in their order; `watch` reads a GPL source from `input`; every other command
-/// is run as [`bench_commands::bench`] runs it, whose whole clause it has. The report goes to `out`, or a fault line or the usage line to `err`,
-/// and all memory is taken before the first byte is written.
+/// is run as [`bench_commands::bench`] runs it, whose whole clause it has. The report goes to `out`, or a fault line or
+/// the usage line to `err`, and all memory is taken before the first byte is written.
 ///
 /// The contract says of each status its cause, and what the input, the shelf and the outputs are then; that there is at
 /// most one report on each command, input and files; that where what the command reads is told (the input's bytes, the
-/// shelf's files, or both) and nothing fails, the answer is that report with its status, or want of memory; and how many
-/// bytes are taken of the shelf at most.
+/// shelf's files, or both) and nothing fails, the answer is that report with its status, or want of memory; and how
+/// many bytes are taken of the shelf at most.
 #[tactic(auto, using(crate::proofs::Laws::laws))]
 pub fn bench_with<S: Source, F: Shelf, O: Sink, E: Sink>(
     alloc: Global,

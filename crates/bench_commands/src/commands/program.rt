@@ -25,8 +25,8 @@ pub struct LoadedProgram {
     pub image_size: u64,
 }
 
-/// Assembles a GPL source of at most 1,048,576 bytes and loads it with the interpreter, which is built once the source is
-/// accepted and names an entry.
+/// Assembles a GPL source of at most 1,048,576 bytes and loads it with the interpreter, which is built once the source
+/// is accepted and names an entry.
 ///
 /// # Errors
 /// `Refused` comes where the source is refused, and `Fault` where it names no entry; `Memory` is want of memory.
