@@ -63,14 +63,14 @@ to_720 = with_block 680 40 142 11 to_680 lines_680
 to_760 : Front 760 158
 to_760 = with_block 720 40 153 5 to_720 lines_720
 
-to_800 : Front 800 167
-to_800 = with_block 760 40 158 9 to_760 lines_760
+to_800 : Front 800 168
+to_800 = with_block 760 40 158 10 to_760 lines_760
 
-to_840 : Front 840 177
-to_840 = with_block 800 40 167 10 to_800 lines_800
+to_840 : Front 840 178
+to_840 = with_block 800 40 168 10 to_800 lines_800
 
-to_853 : Front 853 179
-to_853 = with_block 840 13 177 2 to_840 lines_840
+to_853 : Front 853 180
+to_853 = with_block 840 13 178 2 to_840 lines_840
 
 -- all of them
 pub to_last : Front most name_count

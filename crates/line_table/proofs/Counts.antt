@@ -12,4 +12,4 @@ most = 853
 
 -- the names
 abbrev pub name_count : ℕ
-name_count = 179
+name_count = 180

@@ -120,6 +120,7 @@ use Rattle.native_interp.specs.declared.addresses.TheConstants.{
   COPY,
   COPYS,
   COPYN,
+  COPYE,
   MOVER,
   MOVES,
   MOVEA,
@@ -193,10 +194,10 @@ abbrev pub copy_parts : List (ℕ × List ℕ)
 copy_parts =
     (GOMOVE, copy.move) ∷ (MOVEN, copy.move_length) ∷ (MOVEL, copy.move_target) ∷ (MOVED, copy.move_source) ∷
     (MOVEB, copy.move_begin) ∷ (COPYC, copy.copy_cells) ∷ (COPYG, copy.copy_grom) ∷ (COPY, copy.copy) ∷
-    (COPYS, copy.copy_store) ∷ (COPYN, copy.copy_next) ∷ (MOVER, copy.move_registers) ∷ (MOVES, copy.move_grom) ∷
-    (MOVEA, copy.move_index) ∷ (MOVEX, copy.move_where) ∷ (MOVEW, copy.move_seek) ∷ (MOVEK, copy.move_stream) ∷
-    (LONG, copy.length_stop) ∷ (NOREG, copy.register_stop) ∷ (GOALL, copy.all) ∷ (FILL, copy.all_fill) ∷
-    (GOBACK, copy.back) ∷ []
+    (COPYS, copy.copy_store) ∷ (COPYN, copy.copy_next) ∷ (COPYE, copy.copy_end) ∷ (MOVER, copy.move_registers) ∷
+    (MOVES, copy.move_grom) ∷ (MOVEA, copy.move_index) ∷ (MOVEX, copy.move_where) ∷ (MOVEW, copy.move_seek) ∷
+    (MOVEK, copy.move_stream) ∷ (LONG, copy.length_stop) ∷ (NOREG, copy.register_stop) ∷ (GOALL, copy.all) ∷
+    (FILL, copy.all_fill) ∷ (GOBACK, copy.back) ∷ []
 
 -- every part with its address
 abbrev pub routines : List (ℕ × List ℕ)

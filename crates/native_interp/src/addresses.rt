@@ -2,13 +2,13 @@
 //! Addresses in the interpreter. Profile: where the interpreter and its workspace stand.
 
 /// How many words the interpreter has.
-pub const WORD_COUNT: usize = 1131;
+pub const WORD_COUNT: usize = 1130;
 
 /// The interpreter's workspace: the address of its register 0.
 pub const WORKSPACE: u16 = 0x83E0;
 
 /// The address behind the interpreter's last word.
-pub const BEHIND: u16 = 0x28D6;
+pub const BEHIND: u16 = 0x28D4;
 
 /// Where the words of the interpreter begin.
 pub const ORIGIN: u16 = 0x2000;
@@ -404,58 +404,64 @@ pub const MOVED: u16 = 0x27DC;
 pub const MOVEB: u16 = 0x27EA;
 
 /// Copies a byte of MOVE from the cells to the cells.
-pub const COPYC: u16 = 0x27FE;
+pub const COPYC: u16 = 0x27FA;
 
 /// The part of `COPYC` behind the byte.
-pub const COPYCN: u16 = 0x280C;
+pub const COPYCN: u16 = 0x2808;
 
 /// Copies a byte of MOVE from GROM to the cells.
-pub const COPYG: u16 = 0x2816;
+pub const COPYG: u16 = 0x2812;
 
 /// The part of `COPYG` behind the byte.
-pub const COPYGN: u16 = 0x2824;
+pub const COPYGN: u16 = 0x2820;
 
-/// Copies a byte of MOVE, or ends the copy.
-pub const COPY: u16 = 0x282C;
+/// The part of `MOVEB` before bytes that LOAD and STORE copy.
+pub const COPYL: u16 = 0x282A;
+
+/// Copies a byte of MOVE.
+pub const COPY: u16 = 0x282E;
 
 /// Stores a byte of MOVE.
-pub const COPYS: u16 = 0x2834;
+pub const COPYS: u16 = 0x2832;
 
 /// Goes on to the next byte of MOVE.
-pub const COPYN: u16 = 0x283A;
+pub const COPYN: u16 = 0x2838;
+
+/// Ends the copy of MOVE.
+pub const COPYE: u16 = 0x2840;
 
 /// The part of MOVE whose target is the registers of the video chip.
-pub const MOVER: u16 = 0x2850;
+pub const MOVER: u16 = 0x284E;
 
 /// The part of MOVE that tests whether all the registers are there.
-pub const MOVERC: u16 = 0x2858;
+pub const MOVERC: u16 = 0x2856;
 
 /// The part of MOVE whose source is in GROM.
-pub const MOVES: u16 = 0x2866;
+pub const MOVES: u16 = 0x2864;
 
 /// Adds the index to that source's address.
-pub const MOVEA: u16 = 0x286E;
+pub const MOVEA: u16 = 0x286C;
 
 /// Asks for the address behind MOVE.
-pub const MOVEX: u16 = 0x287E;
+pub const MOVEX: u16 = 0x287C;
 
 /// Keeps that address, and sets the GROM to the source.
-pub const MOVEW: u16 = 0x2882;
+pub const MOVEW: u16 = 0x2880;
 
 /// Turns to the bytes that follow there.
-pub const MOVEK: u16 = 0x288A;
+pub const MOVEK: u16 = 0x2888;
 
 /// Stops by reason 4.
-pub const LONG: u16 = 0x2890;
+pub const LONG: u16 = 0x288E;
 
 /// Stops by reason 5.
-pub const NOREG: u16 = 0x2898;
+pub const NOREG: u16 = 0x2896;
 
 /// The instruction ALL.
-pub const GOALL: u16 = 0x28A0;
+pub const GOALL: u16 = 0x289E;
 
 /// Stores a byte of ALL, or ends the step.
-pub const FILL: u16 = 0x28B6;
+pub const FILL: u16 = 0x28B4;
 
 /// The instruction BACK.
-pub const GOBACK: u16 = 0x28C2;
+pub const GOBACK: u16 = 0x28C0;

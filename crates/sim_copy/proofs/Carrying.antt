@@ -1,7 +1,8 @@
 -- A byte on its way from the source to the target.
-use Rattle.std.proofs.Common.{ℕ, ◌<◌, ◌==◌, ◌∙◌, ◌≡◌, ap, arith, Bool, false, if◌then◌else◌, inl, List, nat_lt, not, refl, subst, sym}
-use Rattle.std.proofs.lemmas.Bool.{ltb-false, ltb-true, ne_eqb}
-use Rattle.sim_rows.proofs.Common.{byte_from, Changes, Comes, comes, comes_as, comes_on, comes_then, COPY, COPYN, COPYS, Cpu, Exit, exit, Exits}
+use Rattle.std.proofs.Common.{ℕ, ◌<◌, ◌==◌, ◌∙◌, ◌≡◌, ap, arith, Bool, false, if◌then◌else◌, List, nat_lt, not, refl, subst, sym}
+use Rattle.std.proofs.lemmas.Bool.{eqb-false, eqb-true, ltb-false, ltb-true}
+use Rattle.std.proofs.Math.Nat.{pos_of_ne-zero}
+use Rattle.sim_rows.proofs.Common.{byte_from, Changes, Comes, comes, comes_as, comes_on, comes_then, COPY, COPYN, COPYS, Cpu, Exits}
 use Rattle.sim_rows.proofs.Common.{fetched_again, From, FromGrom, FromMemory, GplState, grom_at, GromState, high, idle_again, idle_grom, idle_told}
 use Rattle.sim_rows.proofs.Common.{idle_video, in_register, IsFetched, IsVisible, join, LOAD, Loaded, LoadsStream, LoadsValue, MachineState, marked_by}
 use Rattle.sim_rows.proofs.Common.{next_at, of_register, pick, Place, place_in, PortsAreIdle, return_of, Space, Stands, state_of, STORE, Stored}
@@ -9,8 +10,9 @@ use Rattle.sim_rows.proofs.Common.{StoresRegister, StoresValue, streamed, To, To
 use Rattle.sim_rows.proofs.Common.{with_byte_in, with_byte_to, with_value}
 use Rattle.sim_rows.specs.gpl_defs.Reading.{value_at as value_in}
 use Rattle.sim_copy.proofs.Places.{at_pc}
-use Rattle.sim_copy.specs.Bytes.{AtCopy, byte_copied, CopiesByte, Counted, grom_behind, source_in, target_in}
+use Rattle.sim_copy.specs.Bytes.{AtByte, AtCopy, AtEnd, ByParts, byte_copied, CopiesAt, CopiesByte, Counted, grom_behind, source_in, target_in}
 use Rattle.sim_copy.specs.Pieces as pieces
+use Rattle.sim_rows.specs.native_interp.declared.addresses.TheConstants.{COPYE}
 use Rattle.sim_rows.specs.sim_view.Bounds.{most_of_load, most_of_store}
 
 -- ---- LOAD
@@ -107,29 +109,31 @@ same_changes make (ToRegisters number) byte s pc image = refl
 abbrev asked : View → View
 asked v = record v { r = record v.r { r11 = COPYS } }
 
-asks : (v : View) → 0 < v.r.r12 → pieces.next_byte v ≡ exit 3 LOAD (asked v)
-asks v some = let c : (v.r.r12 == 0) ≡ false = ne_eqb v.r.r12 0 (λ e. omega arith) in rw (c, pieces.next_byte) refl
+-- where it is then
+goes_on : (v w : View) → Counted v w → ByParts v → CopiesAt (if w.r.r12 == 0 then COPYE else COPY) w
+goes_on v w counted left =
+    pick (w.r.r12 == 0)
+    (λ c. AtEnd (ap (λ (b : Bool). if b then COPYE else COPY) c) (eqb-true w.r.r12 0 c))
+    (λ c. AtByte (ap (λ (b : Bool). if b then COPYE else COPY) c)
+    (record { bytes_are = ap (λ (u : View). u.r.r3) counted.is ∙ left.bytes_are; some = pos_of_ne-zero (eqb-false w.r.r12 0 c) }))
 
-module _ {x a : MachineState} {t t1 : ℕ} (h : AtCopy x) (some : 0 < (view x).r.r12) (e : Exits x a t t1 (pieces.next_byte (view x))) where
+module _ {x a : MachineState} {t t1 : ℕ} (h : AtCopy x) (left : ByParts (view x)) (e : Exits x a t t1 (pieces.next_byte (view x))) where
   abbrev v : View
   v = view x
 
-  went : Exits x a t t1 (exit 3 LOAD (asked v))
-  went = subst (λ (k : Exit). Exits x a t t1 k) (asks v some) e
-
   pub idle_asked : PortsAreIdle a.cpu.memory
-  idle_asked = idle_again x.cpu.memory a.cpu.memory (ap (λ (u : View). u.vdp) went.shows) (ap (λ (u : View). u.grom) went.shows) h.idle
+  idle_asked = idle_again x.cpu.memory a.cpu.memory (ap (λ (u : View). u.vdp) e.shows) (ap (λ (u : View). u.grom) e.shows) h.idle
 
   fetched_asked : IsFetched a.cpu.memory.grom
-  fetched_asked = fetched_again x.cpu.memory a.cpu.memory (ap (λ (u : View). u.grom) went.shows) h.fetched
+  fetched_asked = fetched_again x.cpu.memory a.cpu.memory (ap (λ (u : View). u.grom) e.shows) h.fetched
 
   one_asked : (view a).r.r3 ≡ 1
-  one_asked = ap (λ (u : View). u.r.r3) went.shows ∙ h.bytes_are
+  one_asked = ap (λ (u : View). u.r.r3) e.shows ∙ left.bytes_are
 
   module _ {b : MachineState} {t2 : ℕ} (near : (view a).r.r5 < 2 → LoadsValue a b t1 t2) (far : 1 < (view a).r.r5 → IsFetched a.cpu.memory.grom →
       LoadsStream a b t1 t2) where
     loaded : Comes most_of_load a b t1 t2 COPYS (ReadFrom (view a) (source_in (view a)))
-    loaded = subst (λ (p : ℕ). Comes most_of_load a b t1 t2 p (ReadFrom (view a) (source_in (view a)))) (ap return_of went.shows)
+    loaded = subst (λ (p : ℕ). Comes most_of_load a b t1 t2 p (ReadFrom (view a) (source_in (view a)))) (ap return_of e.shows)
         (loads a b t1 t2 one_asked fetched_asked near far)
 
     pub stands_read : Stands b COPYS
@@ -150,7 +154,7 @@ module _ {x a : MachineState} {t t1 : ℕ} (h : AtCopy x) (some : 0 < (view x).r
     at_b = read_of (asked v)
 
     seen_b : view b ≡ at_b
-    seen_b = loaded.holds.is ∙ ap read_of went.shows
+    seen_b = loaded.holds.is ∙ ap read_of e.shows
 
     module _ {d : MachineState} {t3 : ℕ} (e3 : Exits b d t2 t3 (pieces.store_byte (view b))) where
       abbrev at_d : View
@@ -166,14 +170,14 @@ module _ {x a : MachineState} {t t1 : ℕ} (h : AtCopy x) (some : 0 < (view x).r
 
       pub visible_storing : IsVisible (view d).r.r8 (view d).r.r7 (view d).r.r3
       visible_storing =
-          let near : IsVisible v.r.r8 v.r.r7 1 = λ z. let le = h.target z in omega arith in
-          subst (λ (u : View). IsVisible u.r.r8 u.r.r7 u.r.r3) (sym seen_d) (subst (λ (n : ℕ). IsVisible v.r.r8 v.r.r7 n) (sym h.bytes_are) near)
+          let near : IsVisible v.r.r8 v.r.r7 1 = λ z. let some = left.some in let le = h.target z in omega arith in
+          subst (λ (u : View). IsVisible u.r.r8 u.r.r7 u.r.r3) (sym seen_d) (subst (λ (n : ℕ). IsVisible v.r.r8 v.r.r7 n) (sym left.bytes_are) near)
 
       there : 1 < (view d).r.r8 → (view d).r.r7 < 8
-      there = subst (λ (u : View). 1 < u.r.r8 → u.r.r7 < 8) (sym seen_d) (λ above. let le = h.registers above in omega arith)
+      there = subst (λ (u : View). 1 < u.r.r8 → u.r.r7 < 8) (sym seen_d) (λ above. let some = left.some in let le = h.registers above in omega arith)
 
       one_storing : (view d).r.r3 ≡ 1
-      one_storing = ap (λ (u : View). u.r.r3) seen_d ∙ h.bytes_are
+      one_storing = ap (λ (u : View). u.r.r3) seen_d ∙ left.bytes_are
 
       module _ {k : MachineState} {t4 : ℕ} (value : (view d).r.r8 < 2 → StoresValue d k t3 t4) (register : 1 < (view d).r.r8 →
           (view d).r.r7 < 8 → StoresRegister d k t3 t4) where
@@ -220,21 +224,23 @@ module _ {x a : MachineState} {t t1 : ℕ} (h : AtCopy x) (some : 0 < (view x).r
 
           pub copies : CopiesByte x y t t5
           copies =
-              let c1 : Comes 3 x a t t1 LOAD (λ u. u ≡ asked v) = comes went (record { within = omega arith; to_is = refl; holds = refl }) in
-              let c2 = comes_on 3 17 c1 loaded refl in
-              let c3 : Comes 22 x d t t3 STORE (λ u. u ≡ (pieces.store_byte (view b)).left) =
-              comes_then 20 2 c2 e3 (record { within = omega arith; to_is = refl; holds = refl }) refl in
-              let c4 = comes_on 22 16 c3 stored refl in
-              let c5 : Comes 42 x y t t5 COPY (λ u. u ≡ (pieces.count_byte (view k)).left) =
-              comes_then 38 4 c4 e5 (record { within = omega arith; to_is = refl; holds = refl }) refl in
+              let c1 : Comes 1 x a t t1 LOAD (λ u. u ≡ asked v) = comes e (record { within = omega arith; to_is = refl; holds = refl }) in
+              let c2 = comes_on 1 17 c1 loaded refl in
+              let c3 : Comes 20 x d t t3 STORE (λ u. u ≡ (pieces.store_byte (view b)).left) =
+              comes_then 18 2 c2 e3 (record { within = omega arith; to_is = refl; holds = refl }) refl in
+              let c4 = comes_on 20 16 c3 stored refl in
+              let c5 : Comes 40 x y t t5 (pieces.count_byte (view k)).to (λ u. u ≡ (pieces.count_byte (view k)).left) =
+              comes_then 36 4 c4 e5 (record { within = omega arith; to_is = refl; holds = refl }) refl in
+              let there : y.cpu.pc ≡ (if (view y).r.r12 == 0 then COPYE else COPY) =
+              e5.stands.pc ∙ ap (λ (n : ℕ). if n == 0 then COPYE else COPY) (sym (ap (λ (u : View). u.r.r12) e5.shows)) in
               record {
-                place = inl c5.stands.pc;
+                place = subst (λ (p : ℕ). CopiesAt p (view y)) (sym there) (goes_on v (view y) counted left);
                 comes = record {
                   count = c5.count;
                   within = c5.within;
                   counted = c5.counted;
                   runs = c5.runs;
                   holds = counted;
-                  stands = at_pc y COPY c5.stands;
+                  stands = at_pc y (pieces.count_byte (view k)).to c5.stands;
                 };
               }

@@ -2,7 +2,7 @@
 use Rattle.std.proofs.Common.{ℕ, ◌%◌, ◌*◌, ◌+◌, ◌-◌, ◌<◌, ◌==◌, ◌||◌, ◌∙◌, ◌≡◌, ◌≤◌, ap, arith, Bool, false, if◌then◌else◌, List, refl, slice_index}
 use Rattle.std.proofs.Common.{slice_set, subst, suc, sym, true, zero}
 use Rattle.std.proofs.lemmas.Bool.{le-ltb, lt-ltb}
-use Rattle.sim_rows.proofs.Common.{begins, byte_from, byte_in, Changes, Comes, comes_as, comes_on, copied, COPY, Cpu, difference_of, From, FromGrom}
+use Rattle.sim_rows.proofs.Common.{begins, byte_from, byte_in, Changes, Comes, comes_as, comes_on, copied, Cpu, difference_of, From, FromGrom}
 use Rattle.sim_rows.proofs.Common.{FromMemory, GplState, grom_at, GromState, idle_grom, idle_told, idle_video, is_view, IsFetched, LoadsFrom, MachineState}
 use Rattle.sim_rows.proofs.Common.{marked_by, Memory, next_at, next_from, next_in_grom, next_to, number_of_space, Place, place_in, place_is, previous-next}
 use Rattle.sim_rows.proofs.Common.{previous_in_grom, Space, space_small, state_of, sum_of, To, ToMemory, ToRegisters, unchanged, Vdp, View, view, view_of}
@@ -11,6 +11,7 @@ use Rattle.sim_copy.specs.Copying.{Copying, InGrom, StandsFrom, StandsTo}
 use Rattle.sim_copy.proofs.Carrying.{behind_idle}
 use Rattle.sim_copy.proofs.Places.{at_end, runs_on}
 use Rattle.sim_copy.specs.Bytes.{AtCopy, byte_copied, CopiesByte, CopiesRest, grom_behind, source_in, target_in}
+use Rattle.sim_rows.specs.native_interp.declared.addresses.TheConstants.{COPYE}
 
 -- ---- the machine behind a byte
 
@@ -57,7 +58,6 @@ module _ {x y : MachineState} {t u : ℕ} (h : AtCopy x) (some : 0 < (view x).r.
             (ap (λ (w : View). w.grom.half_written) is ∙ behind_idle (source_in v) v.grom (idle_grom x.cpu.memory h.idle));
         fetched = fetched_told y.cpu.memory (grom_behind (source_in v) v.grom) (ap (λ (w : View). w.grom) is)
             (behind_fetched (source_in v) v.grom (fetched_seen x.cpu.memory h.fetched));
-        bytes_are = ap (λ (w : View). w.r.r3) is ∙ h.bytes_are;
         source = λ z. bounded 194 v.r.r2 (view y).r.r2 (omega arith) (h.source (sym (ap (λ (w : View). w.r.r5) is) ∙ z)) (ap (λ (w : View). w.r.r2) is);
         target = λ z. bounded 194 v.r.r7 (view y).r.r7 (omega arith) (h.target (sym (ap (λ (w : View). w.r.r8) is) ∙ z)) (ap (λ (w : View). w.r.r7) is);
         registers = λ l. let same =
@@ -218,7 +218,7 @@ pub record Rest (whole : Changes) (made : ℕ) (x z : MachineState) (t u : ℕ) 
   pub bytes : ℕ
   pub copying : Copying changes from to bytes (view z)
   pub same : copied bytes from to changes ≡ whole
-  pub comes : Comes (42 * made) x z t u z.cpu.pc (λ w. Unit {0})
+  pub comes : Comes (40 * made) x z t u z.cpu.pc (λ w. Unit {0})
 
 pub record Turns (made : ℕ) (x z : MachineState) (t u : ℕ) : Type 0 where
   pub at : AtCopy z
@@ -260,7 +260,7 @@ module _ {made : ℕ} {x z : MachineState} (y : MachineState) {t u : ℕ} (w : �
             bytes = bytes;
             copying = copied_one h.at some_left b r.changes r.from r.to bytes k;
             same = ap (λ (n : ℕ). copied n r.from r.to r.changes) (sym e) ∙ r.same;
-            comes = comes_as (42 * (made + 1)) (λ v. Unit {0}) (comes_on (42 * made) 42 r.comes b.comes (runs_on z.cpu.pc (view z) h.at.place))
+            comes = comes_as (40 * (made + 1)) (λ v. Unit {0}) (comes_on (40 * made) 40 r.comes b.comes (runs_on z.cpu.pc (view z) h.at.place))
                 (omega arith) (λ v q. tt);
           }
 
@@ -281,9 +281,9 @@ module _ (x z : MachineState) (t u : ℕ) (h : Turns (view x).r.r12 x z t u) whe
       let none : r.bytes ≡ 0 = sym r.copying.left ∙ none_left in
       let last : Copying r.changes r.from r.to 0 (view z) = subst (λ (n : ℕ). Copying r.changes r.from r.to n (view z)) none r.copying in
       let whole : r.changes ≡ copied bytes from to c = ap (λ (n : ℕ). copied n r.from r.to r.changes) (sym none) ∙ r.same in
-      let there : z.cpu.pc ≡ COPY = at_end z.cpu.pc (view z) h.at.place none_left in
-      let all = subst (λ (p : ℕ). Comes (42 * bytes) x z t u p (λ w. Unit {0})) there
-      (subst (λ (n : ℕ). Comes (42 * n) x z t u z.cpu.pc (λ w. Unit {0})) k.left r.comes) in
+      let there : z.cpu.pc ≡ COPYE = at_end z.cpu.pc (view z) h.at.place none_left in
+      let all = subst (λ (p : ℕ). Comes (40 * bytes) x z t u p (λ w. Unit {0})) there
+      (subst (λ (n : ℕ). Comes (40 * n) x z t u z.cpu.pc (λ w. Unit {0})) k.left r.comes) in
       record {
         count = all.count;
         within = all.within;

@@ -1,7 +1,7 @@
 -- The beginning and the end of the copy.
-use Rattle.std.proofs.Common.{ℕ, ◌*◌, ◌+◌, ◌<◌, ◌==◌, ◌∙◌, ◌≡◌, ◌≤◌, ap, arith, if◌then◌else◌, refl, subst, sym, true}
-use Rattle.std.proofs.lemmas.Bool.{eq-eqb, ne_eqb}
-use Rattle.sim_rows.proofs.Common.{Changed, Changes, Comes, comes, comes_as, comes_on, copied, COPY, EndsRow, Exit, exit, Exits, fetched_again, From}
+use Rattle.std.proofs.Common.{ℕ, ◌*◌, ◌+◌, ◌<◌, ◌==◌, ◌∙◌, ◌≡◌, ◌≤◌, ap, arith, if◌then◌else◌, refl, subst, sym}
+use Rattle.std.proofs.lemmas.Bool.{ne_eqb}
+use Rattle.sim_rows.proofs.Common.{Changed, Changes, Comes, comes, comes_as, comes_on, copied, EndsRow, Exits, fetched_again, From}
 use Rattle.sim_rows.proofs.Common.{FromGrom, FromMemory, GSTEP, idle_again, IsFetched, MachineState, Place, PortsAreIdle, RESUME, SeesFinished, SHOW, Stands}
 use Rattle.sim_rows.proofs.Common.{space_small, To, ToMemory, ToRegisters, View, view, with_pc}
 use Rattle.sim_jumps.specs.Jumps.{ResumesRow}
@@ -9,18 +9,16 @@ use Rattle.sim_copy.specs.Copying.{CopiesBytes, Copying, InGrom, InMemory, Stand
 use Rattle.sim_copy.proofs.Places.{at_end, at_pc, begins_few, begins_there, runs_on}
 use Rattle.sim_copy.specs.Bytes.{AtCopy, CopiesAt, CopiesRest, EndsCopy}
 use Rattle.sim_copy.specs.Pieces as pieces
+use Rattle.sim_rows.specs.native_interp.declared.addresses.TheConstants.{COPYE}
 
 -- ---- the end
 
-pub stands_ended : {x : MachineState} → AtCopy x → (view x).r.r12 ≡ 0 → Stands x COPY
+pub stands_ended : {x : MachineState} → AtCopy x → (view x).r.r12 ≡ 0 → Stands x COPYE
 stands_ended {x = x} h none = subst (λ (p : ℕ). Stands x p) (at_end x.cpu.pc (view x) h.place none) h.stands
 
 -- where it goes on, by the space of the source
 abbrev behind : ℕ → ℕ
 behind space = if space == 2 then RESUME else SHOW
-
-ends : (v : View) → v.r.r12 ≡ 0 → pieces.next_byte v ≡ exit 5 (behind v.r.r5) v
-ends v none = let c : (v.r.r12 == 0) ≡ true = eq-eqb v.r.r12 0 none in rw (c, pieces.next_byte) refl
 
 near_end : (v : View) (place : Place) (c : Changes) → InMemory c place v → behind v.r.r5 ≡ SHOW
 near_end v place c f =
@@ -30,43 +28,40 @@ near_end v place c f =
 far_end : (v : View) (address : ℕ) (c : Changes) → InGrom c address v → behind v.r.r5 ≡ RESUME
 far_end v address c f = ap behind f.space
 
-module _ {x a : MachineState} {t t1 : ℕ} (h : AtCopy x) (none : (view x).r.r12 ≡ 0) (e : Exits x a t t1 (pieces.next_byte (view x))) where
+module _ {x a : MachineState} {t t1 : ℕ} (h : AtCopy x) (e : Exits x a t t1 (pieces.leave_copy (view x))) where
   abbrev v : View
   v = view x
 
-  went : Exits x a t t1 (exit 5 (behind v.r.r5) v)
-  went = subst (λ (k : Exit). Exits x a t t1 k) (ends v none) e
-
   pub idle_ended : PortsAreIdle a.cpu.memory
-  idle_ended = idle_again x.cpu.memory a.cpu.memory (ap (λ (u : View). u.vdp) went.shows) (ap (λ (u : View). u.grom) went.shows) h.idle
+  idle_ended = idle_again x.cpu.memory a.cpu.memory (ap (λ (u : View). u.vdp) e.shows) (ap (λ (u : View). u.grom) e.shows) h.idle
 
-  led : (to : ℕ) → behind v.r.r5 ≡ to → Comes 5 x a t t1 to (λ u. u ≡ v)
-  led to is = comes went (record { within = omega arith; to_is = is; holds = refl })
+  led : (to : ℕ) → behind v.r.r5 ≡ to → Comes 3 x a t t1 to (λ u. u ≡ v)
+  led to is = comes e (record { within = omega arith; to_is = is; holds = refl })
 
   module _ (y : MachineState) (t2 : ℕ) where
     pub ends_memory : a.cpu.pc ≡ SHOW → EndsRow a y t1 t2 → EndsCopy x y t t2
     ends_memory here row c k = by k.from k.copying.stands_from
       where
-        by : (from : From) → StandsFrom c from v → Comes 37 x y t t2 GSTEP (SeesFinished c)
+        by : (from : From) → StandsFrom c from v → Comes 35 x y t t2 GSTEP (SeesFinished c)
         by (FromMemory place) f =
             let q = k.copying in
-            let changed : Changed c (view a) = subst (λ (u : View). Changed c u) (sym went.shows)
+            let changed : Changed c (view a) = subst (λ (u : View). Changed c u) (sym e.shows)
             (record { cells = q.cells; vdp = q.vdp; registers = q.registers; held = q.held; grom = f.grom; mark = q.mark }) in
-            comes_as 37 (SeesFinished c) (comes_on 5 29 (led SHOW (near_end v place c f)) (row c changed) refl) (omega arith) (λ w q. q)
-        by (FromGrom address) f = absurd (let p = went.stands.pc in let r = far_end v address c f in omega arith)
+            comes_as 35 (SeesFinished c) (comes_on 3 29 (led SHOW (near_end v place c f)) (row c changed) refl) (omega arith) (λ w q. q)
+        by (FromGrom address) f = absurd (let p = e.stands.pc in let r = far_end v address c f in omega arith)
 
     pub ends_grom : (a.cpu.pc ≡ SHOW → ⊥) → ResumesRow a y t1 t2 → EndsCopy x y t t2
     ends_grom elsewhere row c k = by k.from k.copying.stands_from
       where
-        by : (from : From) → StandsFrom c from v → Comes 37 x y t t2 GSTEP (SeesFinished c)
-        by (FromMemory place) f = absurd (elsewhere (went.stands.pc ∙ near_end v place c f))
+        by : (from : From) → StandsFrom c from v → Comes 35 x y t t2 GSTEP (SeesFinished c)
+        by (FromMemory place) f = absurd (elsewhere (e.stands.pc ∙ near_end v place c f))
         by (FromGrom address) f =
             let q = k.copying in
             let changed : Changed (with_pc address c) (view a) =
-            subst (λ (u : View). Changed (with_pc address c) u) (sym went.shows)
+            subst (λ (u : View). Changed (with_pc address c) u) (sym e.shows)
             (record { cells = q.cells; vdp = q.vdp; registers = q.registers; held = q.held; grom = f.grom; mark = q.mark }) in
-            let back : (view a).r.r14 ≡ c.state.pc = ap (λ (u : View). u.r.r14) went.shows ∙ f.back in
-            comes_on 5 32 (led RESUME (far_end v address c f)) (row c address changed back) refl
+            let back : (view a).r.r14 ≡ c.state.pc = ap (λ (u : View). u.r.r14) e.shows ∙ f.back in
+            comes_on 3 32 (led RESUME (far_end v address c f)) (row c address changed back) refl
 
 -- ---- the beginning
 
@@ -84,7 +79,6 @@ module _ {x a : MachineState} {t t1 : ℕ} (e : Exits x a t t1 (pieces.begin_cop
     place = place;
     idle = idle_again x.cpu.memory a.cpu.memory (ap (λ (u : View). u.vdp) e.shows) (ap (λ (u : View). u.grom) e.shows) idle;
     fetched = fetched_again x.cpu.memory a.cpu.memory (ap (λ (u : View). u.grom) e.shows) fetched;
-    bytes_are = ap (λ (u : View). u.r.r3) e.shows;
     source = subst (λ (u : View). u.r.r5 ≡ 0 → u.r.r2 + u.r.r12 ≤ 0xC2) (sym e.shows) source;
     target = subst (λ (u : View). u.r.r8 ≡ 0 → u.r.r7 + u.r.r12 ≤ 0xC2) (sym e.shows) target;
     registers = subst (λ (u : View). 1 < u.r.r8 → u.r.r7 + u.r.r12 ≤ 8) (sym e.shows) registers;
@@ -111,7 +105,7 @@ module _ {x a : MachineState} {t t1 : ℕ} (e : Exits x a t t1 (pieces.begin_cop
         left = k.left;
       }) in
       let whole : Changes = copied bytes from to c in
-      let c1 : Comes 8 x a t t1 a.cpu.pc (λ u. u ≡ (pieces.begin_copy (view x)).left) =
+      let c1 : Comes 7 x a t t1 a.cpu.pc (λ u. u ≡ (pieces.begin_copy (view x)).left) =
       comes e (record { within = begins_few (view x); to_is = sym e.stands.pc; holds = refl }) in
-      let c2 = comes_on 8 (42 * bytes) c1 (rest c from to bytes begun) (runs_on a.cpu.pc (view a) place) in
-      comes_as (42 * bytes + 45) (SeesFinished whole) (comes_on (8 + 42 * bytes) 37 c2 (end whole c2.holds) refl) (omega arith) (λ w q. q)
+      let c2 = comes_on 7 (40 * bytes) c1 (rest c from to bytes begun) (runs_on a.cpu.pc (view a) place) in
+      comes_as (40 * bytes + 42) (SeesFinished whole) (comes_on (7 + 40 * bytes) 35 c2 (end whole c2.holds) refl) (omega arith) (λ w q. q)

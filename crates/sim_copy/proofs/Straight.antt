@@ -1,15 +1,15 @@
 -- A byte that goes straight into the cells.
-use Rattle.std.proofs.Common.{ℕ, ◌+◌, ◌<◌, ◌==◌, ◌∙◌, ◌≡◌, ◌≤◌, ap, arith, Bool, if◌then◌else◌, inl, inr, refl, subst, sym}
-use Rattle.std.proofs.lemmas.Bool.{eqb-false, le-ltb}
+use Rattle.std.proofs.Common.{ℕ, ◌+◌, ◌<◌, ◌==◌, ◌∙◌, ◌≡◌, ◌≤◌, ap, arith, Bool, if◌then◌else◌, refl, subst, sym}
+use Rattle.std.proofs.lemmas.Bool.{eqb-false, eqb-true, le-ltb}
 use Rattle.std.proofs.Math.Nat.{pos_of_ne-zero}
-use Rattle.sim_rows.proofs.Common.{byte_from, Changes, comes, COPY, Cpu, difference_of, Exits, From, FromGrom, FromMemory, grom_at, GromState, MachineState}
+use Rattle.sim_rows.proofs.Common.{byte_from, Changes, comes, Cpu, difference_of, Exits, From, FromGrom, FromMemory, grom_at, GromState, MachineState}
 use Rattle.sim_rows.proofs.Common.{marked_by, next_at, past, pick, Place, place_in, ready, state_of, sum_of, To, ToMemory, unchanged, View, view, with_byte_to}
 use Rattle.sim_rows.proofs.Common.{Word}
 use Rattle.sim_copy.proofs.Counting.{near_source, target_is}
 use Rattle.sim_copy.proofs.Places.{at_cells, at_grom, one_at_most}
-use Rattle.sim_copy.specs.Bytes.{AtCopy, CopiesAt, CopiesByte, Counted, grom_behind, source_in, target_in, ToCells}
+use Rattle.sim_copy.specs.Bytes.{AtCell, AtCopy, AtEnd, AtGrom, CopiesAt, CopiesByte, Counted, grom_behind, source_in, target_in, ToCells}
 use Rattle.sim_copy.specs.Pieces as pieces
-use Rattle.sim_rows.specs.native_interp.declared.addresses.TheConstants.{COPYC, COPYG}
+use Rattle.sim_rows.specs.native_interp.declared.addresses.TheConstants.{COPYC, COPYE, COPYG}
 
 -- what is made of a view by a byte from a source to a target
 abbrev made_by : View → From → To → View
@@ -43,10 +43,6 @@ counted v w from z source is =
       is = is ∙ sym (ap (λ (f : From). made_by v f (target_in v)) source ∙ ap (made_by v from) target);
     }
 
--- where the next byte is copied
-abbrev next_place : ℕ → View → ℕ
-next_place again v = if difference_of Word v.r.r12 1 == 0 then COPY else again
-
 fits : (n left : ℕ) → 0 < left → n + left ≤ 0xC2 → n < 194
 fits n left some le = omega arith
 
@@ -75,13 +71,9 @@ module _ {x : MachineState} (h : AtCopy x) where
     cell_place : CopiesAt (pieces.copy_cell v).to (pieces.copy_cell v).left
     cell_place =
         pick (difference_of Word v.r.r12 1 == 0)
-        (λ c. inl (ap (λ (b : Bool). if b then COPY else COPYC) c))
-        (λ c. inr (inl (
-          ap (λ (b : Bool). if b then COPY else COPYC) c,
-          told.0,
-          record
-              { target = told.1.target; some = pos_of_ne-zero (eqb-false (difference_of Word v.r.r12 1) 0 c) },
-        )))
+        (λ c. AtEnd (ap (λ (b : Bool). if b then COPYE else COPYC) c) (eqb-true (difference_of Word v.r.r12 1) 0 c))
+        (λ c. AtCell (ap (λ (b : Bool). if b then COPYE else COPYC) c) told.0
+        (record { target = told.1.target; some = pos_of_ne-zero (eqb-false (difference_of Word v.r.r12 1) 0 c) }))
 
     pub copies_cell : {y : MachineState} {t u : ℕ} → Exits x y t u (pieces.copy_cell v) → CopiesByte x y t u
     copies_cell {y = y} e = record {
@@ -119,19 +111,15 @@ module _ {x : MachineState} (h : AtCopy x) where
     grom_place : CopiesAt (pieces.copy_grom v).to (pieces.copy_grom v).left
     grom_place =
         pick (difference_of Word v.r.r12 1 == 0)
-        (λ c. inl (ap (λ (b : Bool). if b then COPY else COPYG) c))
-        (λ c. inr (inr (
-          ap (λ (b : Bool). if b then COPY else COPYG) c,
-          told_grom.0,
-          record
-              { target = told_grom.1.target; some = pos_of_ne-zero (eqb-false (difference_of Word v.r.r12 1) 0 c) },
-        )))
+        (λ c. AtEnd (ap (λ (b : Bool). if b then COPYE else COPYG) c) (eqb-true (difference_of Word v.r.r12 1) 0 c))
+        (λ c. AtGrom (ap (λ (b : Bool). if b then COPYE else COPYG) c) told_grom.0
+        (record { target = told_grom.1.target; some = pos_of_ne-zero (eqb-false (difference_of Word v.r.r12 1) 0 c) }))
 
     pub copies_grom : {y : MachineState} {t u : ℕ} → Exits x y t u (pieces.copy_grom v) → CopiesByte x y t u
     copies_grom {y = y} e = record {
       place = subst (λ (p : ℕ). CopiesAt p (view y)) (sym e.stands.pc) (subst (λ (w : View). CopiesAt (pieces.copy_grom v).to w) (sym e.shows) grom_place);
       comes = comes e (record {
-        within = let a = one_at_most (v.r.r7 == 0x7D) in omega arith;
+        within = let a = one_at_most (v.r.r7 == 0x7D) in let b = one_at_most (difference_of Word v.r.r12 1 == 0) in omega arith;
         to_is = sym e.stands.pc;
         holds = grom_counted;
       });

@@ -1,30 +1,37 @@
 -- One byte of the copy of MOVE, the bytes that are left, and the end.
-use Rattle.std.specs.Prelude.{ℕ, ◌*◌, ◌+◌, ◌<◌, ◌≡◌, ◌≤◌, ◌⊎◌, if◌then◌else◌, nat_lt}
+use Rattle.std.specs.Prelude.{ℕ, ◌*◌, ◌+◌, ◌<◌, ◌≡◌, ◌≤◌, if◌then◌else◌, nat_lt}
 use Rattle.sim_rows.specs.Prelude.{byte_from, Changes, Comes, copied, COPY, difference_of, From, FromGrom, FromMemory}
 use Rattle.sim_rows.specs.Prelude.{grom_at, GromState, GSTEP, IsFetched, MachineState, marked_by, next_at}
 use Rattle.sim_rows.specs.Prelude.{next_in_grom, place_in, PortsAreIdle, SeesFinished, Stands, state_of, sum_of, To}
 use Rattle.sim_rows.specs.Prelude.{ToMemory, ToRegisters, unchanged, View, view, VISIBLE_CELLS, with_byte_to, Word}
 use Rattle.sim_copy.specs.Copying.{Copying}
 use Rattle.sim_rows.specs.sim_view.Bounds.{most_of_byte}
-use Rattle.sim_rows.specs.native_interp.declared.addresses.TheConstants.{COPYC, COPYG}
+use Rattle.sim_rows.specs.native_interp.declared.addresses.TheConstants.{COPYC, COPYE, COPYG}
 
 -- Bytes are left, whose target is in the cells.
 pub record ToCells (v : View) : Type 0 where
   pub target : v.r.r8 ≡ 0
   pub some : 0 < v.r.r12
 
--- Where a byte is copied: at COPYC from the cells to the cells, at COPYG from GROM to the cells, and else at COPY.
-abbrev pub CopiesAt : ℕ → View → Type 0
-CopiesAt place v =
-    (place ≡ COPY) ⊎ (((place ≡ COPYC) × (v.r.r5 ≡ 0) × ToCells v) ⊎ ((place ≡ COPYG) × (1 < v.r.r5) × ToCells v))
+-- Bytes are left, which LOAD and STORE copy.
+pub record ByParts (v : View) : Type 0 where
+  pub bytes_are : v.r.r3 ≡ 1
+  pub some : 0 < v.r.r12
 
--- At COPY, or where a byte for the cells is copied: bytes are loaded and stored, and as many as are left may be.
+-- Where a byte is copied: at COPYC from the cells to the cells, at COPYG from GROM to the cells, and else at COPY. With
+-- none left it is COPYE.
+pub data CopiesAt (place : ℕ) (v : View) : Type 0 where
+  AtByte : place ≡ COPY → ByParts v → CopiesAt place v
+  AtCell : place ≡ COPYC → v.r.r5 ≡ 0 → ToCells v → CopiesAt place v
+  AtGrom : place ≡ COPYG → 1 < v.r.r5 → ToCells v → CopiesAt place v
+  AtEnd : place ≡ COPYE → v.r.r12 ≡ 0 → CopiesAt place v
+
+-- Where a byte is copied, or the copy ends: as many bytes as are left may be loaded and stored.
 pub record AtCopy (x : MachineState) : Type 0 where
   pub stands : Stands x x.cpu.pc
   pub place : CopiesAt x.cpu.pc (view x)
   pub idle : PortsAreIdle x.cpu.memory
   pub fetched : IsFetched x.cpu.memory.grom
-  pub bytes_are : (view x).r.r3 ≡ 1
   pub source : let r = (view x).r in r.r5 ≡ 0 → r.r2 + r.r12 ≤ VISIBLE_CELLS
   pub target : let r = (view x).r in r.r8 ≡ 0 → r.r7 + r.r12 ≤ VISIBLE_CELLS
   pub registers : let r = (view x).r in 1 < r.r8 → r.r7 + r.r12 ≤ 8
@@ -84,9 +91,9 @@ pub record Copied (c : Changes) (w : View) : Type 0 where
 abbrev pub CopiesRest : MachineState → MachineState → ℕ → ℕ → Type 0
 CopiesRest x y before after =
     (c : Changes) → (from : From) → (to : To) → (bytes : ℕ) → Copying c from to bytes (view x)
-    → Comes (most_of_byte * bytes) x y before after COPY (Copied (copied bytes from to c))
+    → Comes (most_of_byte * bytes) x y before after COPYE (Copied (copied bytes from to c))
 
 -- The step ends with what was copied.
 abbrev pub EndsCopy : MachineState → MachineState → ℕ → ℕ → Type 0
 EndsCopy x y before after =
-    (c : Changes) → Copied c (view x) → Comes 37 x y before after GSTEP (SeesFinished c)
+    (c : Changes) → Copied c (view x) → Comes 35 x y before after GSTEP (SeesFinished c)

@@ -2,11 +2,13 @@
 
 ghost use Rattle.std.specs.Prelude.{◌+◌, ◌<◌, ◌≡◌, ◌≤◌};
 ghost use Rattle.sim_rows.specs.Prelude.{IsFetched, PortsAreIdle, Stands, view, VISIBLE_CELLS};
-ghost use Rattle.sim_copy.specs.Bytes.{AtCopy, CopiesByte, CopiesRest, EndsCopy};
+ghost use Rattle.sim_copy.specs.Bytes.{AtCopy, ByParts, CopiesByte, CopiesRest, EndsCopy};
 ghost use Rattle.sim_copy.specs.Copying.{CopiesBytes};
 ghost use Rattle.sim_rows.specs.native_interp.declared.addresses.TheConstants as address;
 
-use crate::pieces::{begin_copy, copy_cell, copy_grom, count_byte, next_byte, store_byte};
+use crate::pieces::{
+    begin_copy, copy_cell, copy_grom, count_byte, leave_copy, next_byte, store_byte,
+};
 use sim_jumps::resume_row;
 use sim_rows::labels::{COPYC, COPYG, SHOW};
 use sim_rows::processor::{Machine, Steps};
@@ -29,6 +31,16 @@ fn copy_byte<L: Ledger>(machine: &mut Machine, steps: &mut Steps<L>)
         copy_grom(machine, steps);
         return;
     }
+    carry_byte(machine, steps);
+}
+
+/// Copies a byte of those that are left by LOAD and STORE.
+fn carry_byte<L: Ledger>(machine: &mut Machine, steps: &mut Steps<L>)
+    requires stands { Stands machine.old address.COPY }
+    requires at { AtCopy machine.old }
+    requires left { ByParts (view machine.old) }
+    ensures { CopiesByte machine.old machine.new steps.old steps.new }
+{
     next_byte(machine, steps);
     run_load(machine, steps);
     store_byte(machine, steps);
@@ -55,7 +67,7 @@ fn end_copy<L: Ledger>(machine: &mut Machine, steps: &mut Steps<L>)
     requires none_left { (view machine.old).r.r12 ≡ 0 }
     ensures { EndsCopy machine.old machine.new steps.old steps.new }
 {
-    next_byte(machine, steps);
+    leave_copy(machine, steps);
     if machine.pc() == SHOW {
         end_row(machine, steps);
     } else {
@@ -65,7 +77,7 @@ fn end_copy<L: Ledger>(machine: &mut Machine, steps: &mut Steps<L>)
 
 /// Runs the copy of MOVE to the end of the step. Register 12 has the number of bytes, registers 2 and 5 the source, and
 /// registers 7 and 8 the target; 2 in register 5 says that the source is in GROM, and 2 in register 8 that the target
-/// is among the registers of the video processor. It takes at most 42 instructions a byte, and 45 more.
+/// is among the registers of the video processor. It takes at most 40 instructions a byte, and 42 more.
 pub fn copy_bytes<L: Ledger>(machine: &mut Machine, steps: &mut Steps<L>)
     requires stands { Stands machine.old address.MOVEB }
     requires idle { PortsAreIdle machine.old.cpu.memory }

@@ -6,4 +6,4 @@ mod copy;
 mod pieces;
 
 pub use copy::copy_bytes;
-pub use pieces::{begin_copy, copy_cell, copy_grom, count_byte, next_byte, store_byte};
+pub use pieces::{begin_copy, copy_cell, copy_grom, count_byte, leave_copy, next_byte, store_byte};

@@ -69,7 +69,7 @@ most_to_copy = 187
 
 -- MOVE, from one byte to the next, and from behind the last to the next step
 abbrev pub most_of_byte : ℕ
-most_of_byte = 42
+most_of_byte = 40
 
 abbrev pub most_behind_copy : ℕ
-most_behind_copy = 45
+most_behind_copy = 42
