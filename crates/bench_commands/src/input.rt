@@ -16,7 +16,8 @@ pub(crate) fn take_input<S: Source>(
     command: Command,
     input: &mut S,
 ) -> Result<Vec<u8>, ReadError>
-    ensures ok { IfOk result (λ bytes. TakesWhole (spec.reads command) (S.state input.old) (S.state input.new) bytes.items) }
+    ensures ok { IfOk result (λ bytes.
+        TakesWhole (spec.reads command) (S.state input.old) (S.state input.new) bytes.items) }
     ensures reading { OnErr result (spec.reads command ≡ true) }
     ensures err { IfErr result (λ error. GaveUp error largest_input (S.state input.old) (S.state input.new)) }
 {

@@ -25,12 +25,13 @@ use std::alloc::{AllocError, Global};
 /// text of its module, or the first line that is refused, or that a file is too large. It is the report of the defined
 /// module where the shelf tells its files. Also where it tells none, a file is reported as too large exactly where more
 /// than 262,144 bytes of one were taken. In all no more bytes are taken than one more than these, for each of the 64
-/// lines that may copy a file. A source that copies none leaves the shelf as it was, and its report is that of its module,
-/// whatever the shelf tells.
+/// lines that may copy a file. A source that copies none leaves the shelf as it was, and its report is that of its
+/// module, whatever the shelf tells.
 ///
 /// # Errors
 /// A refused line and a file that is too large are told by `Refused` and `Fault`. `ReadFault` comes only where the
-/// shelf's count of faults rose, and `Memory` is want of memory. Of no file more bytes were taken than it may have then.
+/// shelf's count of faults rose, and `Memory` is want of memory. Of no file more bytes were taken than it may have
+/// then.
 pub fn asm_files<F: Shelf>(alloc: Global, shelf: &mut F, text: &[u8]) -> Result<Report, Unreported>
     requires { length text.now ≤ largest_input }
     ensures report { Reported (CopyReported (F.state shelf.old) (F.state shelf.new) text.now)

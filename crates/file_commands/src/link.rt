@@ -26,14 +26,14 @@ use std::alloc::Global;
 /// What is to be reported of up to 16 files of object text: the linked memory of their modules, or why there is none.
 /// All files are read first, in their order, each of at most 1,048,576 bytes; then their texts are read in that order;
 /// then the modules of all are linked. It is the report of the defined linked memory where the shelf tells its files.
-/// Also where it tells none, a file is reported as too large exactly where more than 1,048,576 bytes of one were taken. In
-/// all no more bytes are taken than one more than these, for each of 16 files. Each file is asked for once, and none behind
-/// one that is missing or too large.
+/// Also where it tells none, a file is reported as too large exactly where more than 1,048,576 bytes of one were taken.
+/// In all no more bytes are taken than one more than these, for each of 16 files. Each file is asked for once, and none
+/// behind one that is missing or too large.
 ///
 /// # Errors
-/// `Refused` and `Fault` tell which file is missing or has a bad place, that one is too large, and why the modules are
-/// not linked. `ReadFault` comes only where the shelf's count of faults rose, and `Memory` is want of memory. Of no file
-/// more bytes were taken than it may have then.
+/// `Refused` and `Fault` tell which file is missing or has a bad place, that one is too large, and why the modules
+/// are not linked. `ReadFault` comes only where the shelf's count of faults rose, and `Memory` is want of memory. Of
+/// no file more bytes were taken than it may have then.
 pub fn link_files<F: Shelf>(
     alloc: Global,
     shelf: &mut F,

@@ -39,7 +39,8 @@ fn tag_cause_text(cause: TagCause) -> Line
 /// What is said of a wrong checksum.
 #[tactic(auto, using(std::proofs::Common::append_assoc))]
 fn checksum_text(found: u16, computed: u16) -> Line
-    ensures text { result.items ≡ codes "checksum " ++ (marked_word found ++ (codes ", computed " ++ marked_word computed)) }
+    ensures text { result.items
+        ≡ codes "checksum " ++ (marked_word found ++ (codes ", computed " ++ marked_word computed)) }
     ensures short { array_vec_len result ≤ 64 }
 {
     let mut line = text_of(b"checksum ");

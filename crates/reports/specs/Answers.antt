@@ -47,8 +47,8 @@ Ends o (Ok report) end = EndsWith o report end
 Ends o (Err own) end = (end ≡ own) × (o.out' ≡ o.out) × (o.err' ≡ o.err)
 
 -- a line was written, and the status is its own; or the output failed at it
-abbrev pub Tells : List ℕ → Status → SinkState → SinkState → Status → Type 0
-Tells line own before after end =
+abbrev pub EndsByLine : List ℕ → Status → SinkState → SinkState → Status → Type 0
+EndsByLine line own before after end =
     ((end ≡ own) × Wrote before after (line ∷ [])) ⊎ ((end ≡ status.WriteFault) × Missed before after (line ∷ []))
 
 -- ---- how the errors of libraries are told

@@ -1,4 +1,5 @@
-//! What any command answers, a report or why there is none, made and not yet written; and how it is written.
+//! What a command answers, a report or why there is none, made and not yet written; and how it is written. The lines of
+//! a trace are written before, each once its step is made.
 #![tactic(auto)]
 
 mod execution;

@@ -20,7 +20,8 @@ pub struct Listing {
 impl Listing {
     /// Writes the listing, line by line. No memory is taken.
     pub(crate) fn write<O: Sink>(&self, out: &mut O) -> Result<(), Failed>
-        ensures { Written result (O.state out.old) (O.state out.new) (spec.memory_listing self.now.at self.now.bytes.items) }
+        ensures { Written result (O.state out.old) (O.state out.new)
+            (spec.memory_listing self.now.at self.now.bytes.items) }
     {
         let bytes = self.bytes.as_slice();
         put_piece(out, origin_line(self.at).as_slice())?;

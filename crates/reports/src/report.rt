@@ -50,7 +50,7 @@ pub enum Report {
     Demo(Summary),
     /// Linked memory, whose listing goes to standard output line by line.
     Memory(Linked),
-    /// A program whose items were watched, of which what was found, how it ended, its state and the dump go to standard
+    /// A program whose items were watched: what was found, else how it ended, and its state and the dump go to standard
     /// output line by line.
     Watched(Watched),
 }

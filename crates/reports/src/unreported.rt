@@ -3,7 +3,7 @@
 ghost use Rattle.std.specs.Prelude.{◌≡◌};
 ghost use Rattle.memory_listing.specs.Told.{link_told};
 ghost use Rattle.bench_io.specs.Stream.{SinkState};
-ghost use Rattle.reports.specs.Answers.{Ends, gpl_told, line_told, read_told, tag_told, Tells, told};
+ghost use Rattle.reports.specs.Answers.{Ends, EndsByLine, gpl_told, line_told, read_told, tag_told, told};
 ghost use Rattle.reports.specs.declared.unreported.Unreported.TheVariants as unreported;
 
 use crate::faults::{fault_line, fault_status};
@@ -24,7 +24,7 @@ pub enum Unreported {
     Refused(Line),
     /// A fault, whose line standard error gets.
     Fault(Fault),
-    /// The input or the shelf failed. Its count of faults has risen.
+    /// The input or the shelf failed.
     ReadFault,
     /// Memory was wanting.
     Memory,
@@ -56,7 +56,7 @@ impl Unreported {
 
 /// Writes a line, and gives the status that comes where it was written.
 fn tell<E: Sink>(line: &[u8], status: Status, err: &mut E) -> Status
-    ensures { Tells line.now status (E.state err.old) (E.state err.new) result }
+    ensures { EndsByLine line.now status (E.state err.old) (E.state err.new) result }
 {
     match put_piece(err, line) {
         Ok(()) => status,

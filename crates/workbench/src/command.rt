@@ -63,7 +63,8 @@ fn is_word(word: &Vec<u8>, name: &[u8]) -> bool
 /// `link` with the names that a word and those behind it say, where each says one and they are not too many.
 #[tactic(auto, using(crate::proofs::NameLaws::many_names))]
 fn link_command(first: &Vec<u8>, words: &[Vec<u8>]) -> Option<FileCommand>
-    ensures { option_map defined_over result ≡ spec.link_command (first.now.items ∷ map (λ word. word.items) words.now) }
+    ensures { option_map defined_over result
+        ≡ spec.link_command (first.now.items ∷ map (λ word. word.items) words.now) }
 {
     if words.len() >= MOST_FILES {
         return None;

@@ -30,6 +30,7 @@ pub struct LoadedProgram {
 ///
 /// # Errors
 /// `Refused` comes where the source is refused, and `Fault` where it names no entry; `Memory` is want of memory.
+/// `ReadFault` never comes.
 pub fn load_program(alloc: Global, input: &[u8]) -> Result<LoadedProgram, Unreported>
     requires { length input.now ≤ largest_input }
     ensures { LoadsSource (program_of_source input.now) result }
