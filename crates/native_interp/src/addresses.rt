@@ -343,7 +343,7 @@ pub const CALLN: u16 = 0x26DE;
 /// Stores the pointer and the address of CALL.
 pub const CALLS: u16 = 0x26E4;
 
-/// Ends CALL and FETCH: goes on at the address that was kept.
+/// Ends CALL, FETCH and a MOVE out of GROM: goes on at the address that was kept.
 pub const RESUME: u16 = 0x26F2;
 
 /// The instructions RTN and RTNC.
@@ -418,7 +418,7 @@ pub const COPYGN: u16 = 0x2820;
 /// The part of `MOVEB` before bytes that LOAD and STORE copy.
 pub const COPYL: u16 = 0x282A;
 
-/// Copies a byte of MOVE.
+/// Asks LOAD for a byte of MOVE.
 pub const COPY: u16 = 0x282E;
 
 /// Stores a byte of MOVE.

@@ -58,13 +58,13 @@ begins_there v =
     (λ g. rw (c, d, e, g, pieces.begins_at) (AtCell refl (no_other v.r.r5 e g) (record { target = target; some = some })))))
     (λ d. rw (c, d, pieces.begins_at) (AtByte refl (record { bytes_are = refl; some = some }))))
 
-pub begins_few : (v : View) → pieces.begins_in v ≤ 7
+pub begins_few : (v : View) → pieces.instructions_to_begin v ≤ 7
 begins_few v =
     pick (v.r.r12 == 0)
-    (λ c. rw (c, pieces.begins_in) (omega arith))
+    (λ c. rw (c, pieces.instructions_to_begin) (omega arith))
     (λ c. pick (v.r.r8 == 0)
-    (λ d. rw (c, d, pieces.begins_in) (omega arith))
-    (λ d. rw (c, d, pieces.begins_in) (omega arith)))
+    (λ d. rw (c, d, pieces.instructions_to_begin) (omega arith))
+    (λ d. rw (c, d, pieces.instructions_to_begin) (omega arith)))
 
 pub one_at_most : (b : Bool) → one_if b ≤ 1
 one_at_most true = omega arith

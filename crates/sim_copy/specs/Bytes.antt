@@ -18,8 +18,8 @@ pub record ByParts (v : View) : Type 0 where
   pub bytes_are : v.r.r3 ≡ 1
   pub some : 0 < v.r.r12
 
--- Where a byte is copied: at COPYC from the cells to the cells, at COPYG from GROM to the cells, and else at COPY. With
--- none left it is COPYE.
+-- Where a byte is copied: at COPYC from the cells to the cells, at COPYG from GROM to the cells, or at COPY, by LOAD and
+-- STORE; with none left, at COPYE.
 pub data CopiesAt (place : ℕ) (v : View) : Type 0 where
   AtByte : place ≡ COPY → ByParts v → CopiesAt place v
   AtCell : place ≡ COPYC → v.r.r5 ≡ 0 → ToCells v → CopiesAt place v

@@ -3,7 +3,7 @@ use Rattle.std.specs.Prelude.{ℕ, ◌*◌, ◌+◌, ◌≡◌, None}
 use Rattle.sim_rows.specs.Prelude.{Changes, Comes, copied, From, FromGrom, FromMemory, grom_at, GSTEP, LoadsFrom}
 use Rattle.sim_rows.specs.Prelude.{MachineState, marked_by, Place, SeesFinished, StoresTo, To, ToMemory, ToRegisters}
 use Rattle.sim_rows.specs.Prelude.{View, view}
-use Rattle.sim_rows.specs.sim_view.Bounds.{most_behind_copy, most_of_byte}
+use Rattle.sim_rows.specs.sim_view.Bounds.{most_beside_bytes, most_of_byte}
 
 -- A source in memory: its place is in registers 2 and 5, and GROM gives the byte of the next instruction.
 pub record InMemory (c : Changes) (place : Place) (w : View) : Type 0 where
@@ -47,4 +47,4 @@ pub record Copying (c : Changes) (from : From) (to : To) (bytes : ℕ) (w : View
 abbrev pub CopiesBytes : MachineState → MachineState → ℕ → ℕ → Type 0
 CopiesBytes x y before after =
     (c : Changes) → (from : From) → (to : To) → (bytes : ℕ) → Copying c from to bytes (view x)
-    → Comes (most_of_byte * bytes + most_behind_copy) x y before after GSTEP (SeesFinished (copied bytes from to c))
+    → Comes (most_of_byte * bytes + most_beside_bytes) x y before after GSTEP (SeesFinished (copied bytes from to c))

@@ -16,8 +16,9 @@ begins_at v =
     else if nat_lt 1 v.r.r5 then COPYG
     else COPYC
 
-abbrev pub begins_in : View → ℕ
-begins_in v =
+-- how many instructions MOVEB has
+abbrev pub instructions_to_begin : View → ℕ
+instructions_to_begin v =
     if v.r.r12 == 0 then 2
     else if not (v.r.r8 == 0) then 5
     else 7
@@ -25,9 +26,9 @@ begins_in v =
 abbrev pub begin_copy : View → Exit
 begin_copy v =
     let width = if begins_at v == COPY then 1 else v.r.r3 in
-    exit (begins_in v) (begins_at v) (record v { r = record v.r { r3 = width } })
+    exit (instructions_to_begin v) (begins_at v) (record v { r = record v.r { r3 = width } })
 
--- A byte is stored at the target in the cells, and it goes on to the next byte, or to COPYE behind the last.
+-- The view behind a byte that was stored at the target in the cells: both places and the count have gone on.
 abbrev pub stored : View → ℕ → View
 stored v byte =
     record v {

@@ -16,11 +16,11 @@ first_entry = (TABLE - origin) / 2
 abbrev pub first_row : ℕ
 first_row = (OPTAB - origin) / 2
 
--- Two reads of the address port give the counter, which is lost.
+-- The GROMs behind one read of their address port. Two reads give the counter, and it is lost.
 abbrev pub read_once : GromState → GromState
 read_once grom = (grom_address_read grom).1
 
--- what a counter of the GROM's first address, which has no low 13 bits, takes one instruction more for
+-- Is a counter at the first address of a GROM? Its low 13 bits are 0 then, and one instruction more is taken.
 abbrev pub at_first : ℕ → Bool
 at_first counter = shifted SLA counter 3 == 0
 

@@ -67,9 +67,9 @@ most_of_stack_row = 160
 abbrev pub most_to_copy : ℕ
 most_to_copy = 187
 
--- MOVE, from one byte to the next, and from behind the last to the next step
+-- MOVE's copy: from one byte to the next; and its beginning and its end together
 abbrev pub most_of_byte : ℕ
 most_of_byte = 40
 
-abbrev pub most_behind_copy : ℕ
-most_behind_copy = 42
+abbrev pub most_beside_bytes : ℕ
+most_beside_bytes = 42

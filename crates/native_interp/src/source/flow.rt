@@ -108,7 +108,7 @@ pub const FLOW_LINES: [&str; 155] = [
     "* FETCH. FETCHK: R12 keeps the byte. 2, then WHERE. FETCHB: R9",
     "* is the address behind it. 2, then SEEK. FETCHS: that is",
     "* stacked. 2, then STORE. FETCHD: the byte goes to the",
-    "* destination. 6, then STORE. Changes R2 to R12, R14, R15. Goes",
+    "* destination. 6, then STORE. Changes R2 to R15. Goes",
     "* to RESUME.",
     "FETCHV MOVB @RSTACK,R2",
     "       SRL R2,8",
