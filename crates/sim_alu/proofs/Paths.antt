@@ -1,5 +1,6 @@
 -- The runs of the pieces on the view.
 use Rattle.std.proofs.Common.{[], ℕ, ◌∷◌, ap, refl}
+pub use Rattle.sim_rows.proofs.Common.{piece}
 use Rattle.sim_rows.proofs.Common.{absolute_flags, absolute_of, ABSV, ADDV, ANDV, Answer, CLRV, DECTV, difference_flags, difference_of, Gives, INCTV, INVV}
 use Rattle.sim_rows.proofs.Common.{Leads, negation_flags, negation_of, NEGV, ORV, SHOW, STATB, STO, STORE, STV, SUBV, sum_flags, sum_of, View, Word}
 use Rattle.sim_rows.proofs.Common.{WORKSPACE, XORV}

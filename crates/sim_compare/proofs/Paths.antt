@@ -1,5 +1,6 @@
 -- The runs of the pieces on the view.
 use Rattle.std.proofs.Common.{[], ℕ, ◌==◌, ◌∷◌, bit_and, false, int_lt, List, nat_lt, refl, slice_index, true}
+pub use Rattle.sim_rows.proofs.Common.{piece}
 use Rattle.sim_rows.proofs.Common.{CEQV, CFALSE, CGEV, CGTV, CHEV, CHV, CLOGV, CTRUE, CZV, GOCARY, GOGT, GOH, GOOVF, join, last_out, Leads, low, pick, signed}
 use Rattle.sim_rows.proofs.Common.{SLA, View, Word}
 use Rattle.sim_compare.proofs.Numbers.{above_is_not, below_or_equal}

@@ -1,5 +1,6 @@
 -- The runs of the pieces on the view.
 use Rattle.std.proofs.Common.{[], ℕ, ◌==◌, ◌∷◌, refl, slice_index}
+pub use Rattle.sim_rows.proofs.Common.{is_view, piece}
 use Rattle.sim_rows.proofs.Common.{BRANCH, BTEST, byte_is, CASEN, CASET, CASEV, CFALSE, GOB, GOEXIT, GOTO, high-join, IsView, join, last_out, Leads, low, past}
 use Rattle.sim_rows.proofs.Common.{pick, SEEK, shifted, SLA, SRL, TAKE, View, WHERE}
 use Rattle.sim_flow.specs.Pieces as pieces

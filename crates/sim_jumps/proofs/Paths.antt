@@ -1,5 +1,6 @@
 -- The runs of the pieces on the view.
 use Rattle.std.proofs.Common.{[], ◌∷◌, refl}
+pub use Rattle.sim_rows.proofs.Common.{piece}
 use Rattle.sim_rows.proofs.Common.{GOTO, Leads, RESUME, SHOW, TAKE, View}
 use Rattle.sim_jumps.specs.Pieces as pieces
 

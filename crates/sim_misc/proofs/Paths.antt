@@ -1,5 +1,6 @@
 -- The runs of the pieces on the view.
 use Rattle.std.proofs.Common.{[], ℕ, ◌<◌, ◌==◌, ◌∷◌, ◌≡◌, arith, refl, slice_index}
+pub use Rattle.sim_rows.proofs.Common.{is_view, piece}
 use Rattle.sim_rows.proofs.Common.{difference_of, down, EXB, EXV, FILL, GOALL, GOBACK, GORAND, high, high-join, IsView, Leads, leads, low, Part, part_then}
 use Rattle.sim_rows.proofs.Common.{pick, product_of, RANDL, Rest, SEED, STO, STORE, sum_of, swapped, View, Word, word_in}
 use Rattle.sim_misc.proofs.Numbers.{above_is, division_is, drawn_byte, less_fits, read_word, sum_fits}

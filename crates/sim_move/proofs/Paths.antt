@@ -1,5 +1,6 @@
 -- The runs of the pieces on the view.
 use Rattle.std.proofs.Common.{[], ◌∷◌, false, nat_lt, refl, true}
+pub use Rattle.sim_rows.proofs.Common.{is_view, piece}
 use Rattle.sim_rows.proofs.Common.{ADDR, GOMOVE, INDEX, IsView, last_out, Leads, leads, LOAD, MOVEA, MOVEB, MOVED, MOVEK, MOVEL, MOVEN, MOVER, MOVES, MOVEW}
 use Rattle.sim_rows.proofs.Common.{MOVEX, not_above, not_limit, Part, part_then, past, pick, Rest, SEEK, SRL, STREAM, sum_of, View, WHERE, Word}
 use Rattle.sim_move.proofs.Numbers.{below_or_equal, byte_down}

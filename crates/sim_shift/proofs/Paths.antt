@@ -1,6 +1,7 @@
 -- The runs of the pieces on the view.
 use Rattle.std.proofs.Common.{[], ℕ, ◌%◌, ◌<◌, ◌==◌, ◌∷◌, ◌≡◌, arith, refl}
 use Rattle.std.proofs.lemmas.Bool.{ne_eqb}
+pub use Rattle.sim_rows.proofs.Common.{piece}
 use Rattle.sim_rows.proofs.Common.{COUNT, count_in, Leads, pick, SLLB, SLLV, SRAB, SRAV, SRCB, SRCV, SRLB, SRLV, STO, swapped, View}
 use Rattle.sim_shift.specs.Pieces.{low_four}
 use Rattle.sim_shift.specs.Pieces as pieces

@@ -6,8 +6,8 @@ use Rattle.sim_rows.proofs.Common.{is_end, is_view, IsMachine, MachineState, ope
 use Rattle.sim_rows.proofs.Common.{ShiftOp, SLA, Source, SRA, SRC, SRL, Stands, STO, StoresResult, Storing, Two, unchanged, value_at, View, view}
 use Rattle.sim_shift.specs.Pieces.{low_four}
 use Rattle.sim_shift.specs.Family.{name_of, shift_entry}
-use Rattle.sim_shift.proofs.Shifting.{asking_keeps, count_keeps, counted_word, counts_few, entry_even, Keeps, keeps_then, none, number_by, shifts}
-use Rattle.sim_shift.proofs.Shifting.{shown_keeps, some, stores_none, stores_some, Told, told_at, told_is, two_is}
+use Rattle.sim_shift.proofs.Shifting.{counted_word, counts_few, entry_even, Keeps, kept_of, none, number_by, shifts, some, stores_none, stores_some, Told}
+use Rattle.sim_shift.proofs.Shifting.{told_at, told_is, two_is}
 use Rattle.sim_shift.specs.Pieces as pieces
 
 not_false : (b : Bool) → not b ≡ false → b ≡ true
@@ -34,7 +34,10 @@ StoringRow op s place source w = Storing (unchanged (gone_on s)) (row_width s) p
 module _ (op : ShiftOp) {x y z : MachineState} {t u w : ℕ} (e1 : Exits x y t u (pieces.asking (shift_entry op) (view x)))
     (e2 : Exits y z u w (pieces.take_count (view y))) where
   pub keeps : Keeps (view x) (view z)
-  keeps = keeps_then (shown_keeps e1.shows (asking_keeps (shift_entry op) (view x))) (shown_keeps e2.shows (count_keeps (view y)))
+  keeps = ap kept_of (e2.shows ∙ told_is (view y)) ∙ ap kept_of e1.shows
+
+  pub shifted : {p : MachineState} {j : ℕ} → Exits z p w j (pieces.shifts op (view z)) → Keeps (view x) (view p)
+  shifted e3 = ap kept_of e3.shows ∙ (shifts op (view z)).keeps ∙ keeps
 
   returns_to : return_of (view y) ≡ even (shift_entry op)
   returns_to = ap return_of e1.shows

@@ -1,9 +1,9 @@
 -- A shift from its row to STO.
-use Rattle.std.proofs.Common.{ℕ, ◌+◌, ◌<◌, ◌==◌, ◌∙◌, ◌≡◌, ◌≤◌, ap, arith, eqb, false, if◌then◌else◌, refl, Some, subst, sym, true}
+use Rattle.std.proofs.Common.{ℕ, ◌+◌, ◌<◌, ◌==◌, ◌∙◌, ◌≡◌, ◌≤◌, ap, arith, eqb, false, if◌then◌else◌, List, refl, Some, subst, sym, true}
 use Rattle.std.proofs.lemmas.Bool.{eqb-false, eqb-true}
-use Rattle.sim_rows.proofs.Common.{AtRow, Byte, bytes_by, Changed, Changes, count_of, destination_bytes, even, Exit, exit, gone_on, GplState, in_register}
+use Rattle.sim_rows.proofs.Common.{AtRow, Byte, bytes_by, Changed, changed_again, Changes, count_of, destination_bytes, even, Exit, exit, gone_on, GplState, GromState, in_register}
 use Rattle.sim_rows.proofs.Common.{is_grom_idle, is_vdp_idle, IsView, IsVisible, Memory, modulus, of_register, ones_set, operation_in, pick, Place}
-use Rattle.sim_rows.proofs.Common.{PortsAreIdle, repeated, repeated_sign, return_of, row_width, shifted, shifted_left, shifted_right, ShiftOp, size_of, SLA}
+use Rattle.sim_rows.proofs.Common.{PortsAreIdle, row_changed, repeated, repeated_sign, return_of, row_width, shifted, shifted_left, shifted_right, ShiftOp, size_of, SLA}
 use Rattle.sim_rows.proofs.Common.{Source, SRA, SRC, SRL, STO, StoresTo, Storing, swapped, Two, two, unchanged, value_at, VdpState, View, view_of, Width}
 use Rattle.sim_rows.proofs.Common.{width_in, with_value, Word}
 use Rattle.sim_shift.specs.Pieces.{counted, low_four}
@@ -12,47 +12,36 @@ use Rattle.sim_shift.proofs.Numbers.{arithmetic, count_of_byte, count_of_word, k
 use Rattle.sim_shift.specs.Pieces as pieces
 
 -- What stays on the way to the result.
-pub record Keeps (v w : View) : Type 0 where
-  pub cells : w.cells ≡ v.cells
-  pub vdp : w.vdp ≡ v.vdp
-  pub grom : w.grom ≡ v.grom
-  pub bytes : w.r.r3 ≡ v.r.r3
-  pub address : w.r.r7 ≡ v.r.r7
-  pub space : w.r.r8 ≡ v.r.r8
-  pub mark : w.r.r13 ≡ v.r.r13
+pub record Kept : Type 0 where
+  pub cells : List ℕ
+  pub vdp : VdpState
+  pub grom : GromState
+  pub bytes : ℕ
+  pub address : ℕ
+  pub space : ℕ
+  pub mark : ℕ
 
-pub keeps_then : {u v w : View} → Keeps u v → Keeps v w → Keeps u w
-keeps_then k l = record {
-  cells = l.cells ∙ k.cells;
-  vdp = l.vdp ∙ k.vdp;
-  grom = l.grom ∙ k.grom;
-  bytes = l.bytes ∙ k.bytes;
-  address = l.address ∙ k.address;
-  space = l.space ∙ k.space;
-  mark = l.mark ∙ k.mark;
-}
+abbrev pub kept_of : View → Kept
+kept_of v = record { cells = v.cells; vdp = v.vdp; grom = v.grom; bytes = v.r.r3; address = v.r.r7; space = v.r.r8; mark = v.r.r13 }
 
-pub shown_keeps : {v w u : View} → u ≡ w → Keeps v w → Keeps v u
-shown_keeps {v = v} e k = subst (λ (w : View). Keeps v w) (sym e) k
+abbrev pub Keeps : View → View → Type 0
+Keeps v w = kept_of w ≡ kept_of v
 
-pub idle_kept : (m n : Memory) → Keeps (view_of m) (view_of n) → PortsAreIdle m → PortsAreIdle n
+pub idle_kept : {m n : Memory} → Keeps (view_of m) (view_of n) → PortsAreIdle m → PortsAreIdle n
 unfolding view_of
-idle_kept m n k idle = record { vdp = ap is_vdp_idle k.vdp ∙ idle.vdp; grom = ap is_grom_idle k.grom ∙ idle.grom }
+idle_kept k idle = record { vdp = ap (λ (a : Kept). is_vdp_idle a.vdp) k ∙ idle.vdp; grom = ap (λ (a : Kept). is_grom_idle a.grom) k ∙ idle.grom }
 
 pub near_kept : (v w : View) → Keeps v w → v.r.r8 < 2 → w.r.r8 < 2
-near_kept v w k h = let e = k.space in omega arith
+near_kept v w k h = subst (λ (a : Kept). a.space < 2) (sym k) h
 
 pub visible_kept : (v w : View) → Keeps v w → IsVisible v.r.r8 v.r.r7 v.r.r3 → IsVisible w.r.r8 w.r.r7 w.r.r3
-visible_kept v w k h =
-    let P : ℕ → Type 0 = λ n. IsVisible n w.r.r7 w.r.r3 in
-    let Q : ℕ → Type 0 = λ n. IsVisible v.r.r8 n w.r.r3 in
-    let R : ℕ → Type 0 = λ n. IsVisible v.r.r8 v.r.r7 n in
-    subst P (sym k.space) (subst Q (sym k.address) (subst R (sym k.bytes) h))
+visible_kept v w k h = subst (λ (a : Kept). IsVisible a.space a.address a.bytes) (sym k) h
+
+changed_kept : (c : Changes) (v w : View) → Changed c v → Keeps v w → Changed c w
+changed_kept c v w h k =
+    changed_again c v w h (ap (λ (a : Kept). a.cells) k) (ap (λ (a : Kept). a.vdp) k) (ap (λ (a : Kept). a.grom) k) (ap (λ (a : Kept). a.mark) k)
 
 -- ---- the pieces
-
-pub asking_keeps : (next : ℕ) (v : View) → Keeps v (pieces.asking next v).left
-asking_keeps next v = record { cells = refl; vdp = refl; grom = refl; bytes = refl; address = refl; space = refl; mark = refl }
 
 -- the word whose low four bits are the count
 abbrev pub counted_word : View → ℕ
@@ -89,9 +78,6 @@ counts_few v =
     let by = counts_by c.most (counted_word v) v in
     let is = ap (λ (e : Exit). e.count) c.is in
     omega arith
-
-pub count_keeps : (v : View) → Keeps v (pieces.take_count v).left
-count_keeps v = shown_keeps (told_is v) (record { cells = refl; vdp = refl; grom = refl; bytes = refl; address = refl; space = refl; mark = refl })
 
 none_by : (most word : ℕ) (v : View) → (counted most word v).to ≡ STO → eqb (return_of v) STO ≡ false → low_four word ≡ 0
 none_by most word v to other =
@@ -132,83 +118,13 @@ shifted_by : {v : View} {d e : Exit} → d ≡ e → Shifted v e → Shifted v d
 shifted_by {v = v} is h = subst (λ (e : Exit). Shifted v e) (sym is) h
 
 pub shifts : (op : ShiftOp) (v : View) → Shifted v (pieces.shifts op v)
-shifts SRA v =
-    record {
-      few = omega arith;
-      to_is = refl;
-      keeps = record {
-        cells = refl;
-        vdp = refl;
-        grom = refl;
-        bytes = refl;
-        address = refl;
-        space = refl;
-        mark =
-            refl;
-      };
-    }
-shifts SRL v =
-    record {
-      few = omega arith;
-      to_is = refl;
-      keeps = record {
-        cells = refl;
-        vdp = refl;
-        grom = refl;
-        bytes = refl;
-        address = refl;
-        space = refl;
-        mark =
-            refl;
-      };
-    }
-shifts SLA v =
-    record {
-      few = omega arith;
-      to_is = refl;
-      keeps = record {
-        cells = refl;
-        vdp = refl;
-        grom = refl;
-        bytes = refl;
-        address = refl;
-        space = refl;
-        mark =
-            refl;
-      };
-    }
+shifts SRA v = record { few = omega arith; to_is = refl; keeps = refl }
+shifts SRL v = record { few = omega arith; to_is = refl; keeps = refl }
+shifts SLA v = record { few = omega arith; to_is = refl; keeps = refl }
 shifts SRC v =
     pick (v.r.r3 == 1)
-    (λ c. shifted_by (turn_byte v c)
-    (record {
-      few = omega arith;
-      to_is = refl;
-      keeps = record {
-        cells = refl;
-        vdp = refl;
-        grom = refl;
-        bytes = refl;
-        address = refl;
-        space = refl;
-        mark =
-            refl;
-      };
-    }))
-    (λ c. shifted_by (turn_word v c)
-    (record {
-      few = omega arith;
-      to_is = refl;
-      keeps = record {
-        cells = refl;
-        vdp = refl;
-        grom = refl;
-        bytes = refl;
-        address = refl;
-        space = refl;
-        mark =
-            refl;
-      };
-    }))
+    (λ c. shifted_by (turn_byte v c) (record { few = omega arith; to_is = refl; keeps = refl }))
+    (λ c. shifted_by (turn_word v c) (record { few = omega arith; to_is = refl; keeps = refl }))
 
 -- ---- the numbers
 
@@ -293,18 +209,6 @@ pub record Told (s : GplState) (place : Place) (source : Source) (w : View) : Ty
   pub fits : value_at s (row_width s) place < modulus (row_width s)
   pub count : w.r.r0 ≡ count_of source.number
 
-changed_by : (s : GplState) (place : Place) (source : Source) (v w : View) → AtRow s place source v → Keeps v w → Changed (unchanged (gone_on s)) w
-changed_by s place source v w a k =
-    let h = a.holds in
-    record {
-      cells = k.cells ∙ h.sees.cells;
-      vdp = ap (λ (d : VdpState). d.memory) k.vdp ∙ h.sees.vdp;
-      registers = ap (λ (d : VdpState). d.registers) k.vdp ∙ h.sees.registers;
-      held = ap (λ (d : VdpState). d.held) k.vdp ∙ h.sees.held;
-      grom = k.grom ∙ h.sees.grom;
-      mark = k.mark ∙ h.mark;
-    }
-
 loaded_is : (op : ShiftOp) (s : GplState) (place : Place) (word : ℕ) → operation_in s ≡ Some (Two (name_of op)) →
     word ≡ in_register (width_in (destination_bytes s)) (value_at s (width_in (destination_bytes s)) place) →
     word ≡ in_register (row_width s) (value_at s (row_width s) place)
@@ -320,8 +224,7 @@ told_at op s place source v u known a i is =
     let at : Told s place source (told (pieces.asking (shift_entry op) v).left (low_four (counted_word v))) =
     (let loaded = loaded_is op s place v.r.r9 known a.destination in
     record {
-      changed = changed_by s place source v (told (pieces.asking (shift_entry op) v).left (low_four (counted_word v))) a
-          (record { cells = refl; vdp = refl; grom = refl; bytes = refl; address = refl; space = refl; mark = refl });
+      changed = changed_kept (unchanged (gone_on s)) v (told (pieces.asking (shift_entry op) v).left (low_four (counted_word v))) (row_changed s place source v a) refl;
       bytes_are = a.holds.bytes_are;
       to_place = record { address = a.to_place.address; space = a.to_place.space };
       value = loaded;
@@ -354,17 +257,9 @@ stores_some op s place source w h =
     let width = row_width s in
     let x = value_at s width place in
     let k = (shifts op w).keeps in
-    let d = h.changed in
     record {
-      changed = record {
-        cells = k.cells ∙ d.cells;
-        vdp = ap (λ (d : VdpState). d.memory) k.vdp ∙ d.vdp;
-        registers = ap (λ (d : VdpState). d.registers) k.vdp ∙ d.registers;
-        held = ap (λ (d : VdpState). d.held) k.vdp ∙ d.held;
-        grom = k.grom ∙ d.grom;
-        mark = k.mark ∙ d.mark;
-      };
-      bytes_are = k.bytes ∙ h.bytes_are;
-      to_place = record { address = k.address ∙ h.to_place.address; space = k.space ∙ h.to_place.space };
+      changed = changed_kept (unchanged (gone_on s)) w (pieces.shifts op w).left h.changed k;
+      bytes_are = ap (λ (a : Kept). a.bytes) k ∙ h.bytes_are;
+      to_place = record { address = ap (λ (a : Kept). a.address) k ∙ h.to_place.address; space = ap (λ (a : Kept). a.space) k ∙ h.to_place.space };
       value = number_is op width x (count_of source.number) w h.bytes_are h.value h.count h.fits (few_counts source.number);
     }

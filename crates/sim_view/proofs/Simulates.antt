@@ -29,6 +29,8 @@ use Rattle.tms_defs.specs.declared.instruction.Instr.TheVariants as instr
 use Rattle.tms_defs.specs.Accesses.{Answer, Gives, AtPort, NoInstruction, ◌>>=◌}
 use Rattle.tms_defs.specs.Operand.{Cpu, Mode, Register, Indirect, Symbolic, Increment, mode_of, register_in, with_word, with_words}
 use Rattle.tms_defs.specs.Operand.{register_address, next_word, index_of, operand, value_at, with_value}
+use Rattle.console_defs.specs.Vdp.{VdpState}
+use Rattle.console_defs.specs.Grom.{GromState}
 use Rattle.console_defs.specs.Memory.{Memory, console, Port, VdpDataRead, VdpStatusRead, VdpDataWrite, VdpAddressWrite, GromDataRead, GromAddressRead}
 use Rattle.console_defs.specs.Memory.{GromDataWrite, GromAddressWrite, Region, region, word_read_in, word_read, word_written_in, byte_read_in}
 use Rattle.console_defs.specs.Memory.{byte_written_in, port_read, port_written}
@@ -42,7 +44,7 @@ use Rattle.tms_defs.specs.forms.Jump.{jump_target, jump_where, condition}
 use Rattle.tms_defs.specs.forms.Imm.{immediate, imm}
 use Rattle.tms_defs.specs.forms.Bare.{bare}
 use Rattle.tms_defs.specs.Step.{executed, executed_where, execution, is_stopping}
-use Rattle.sim_view.specs.View.{View, listed, relisted}
+use Rattle.sim_view.specs.View.{View, Registers, listed, relisted}
 use Rattle.interp_defs.specs.Interpreter.{HoldsInterpreter}
 use Rattle.sim_view.proofs.Answers.{given}
 use Rattle.sim_view.proofs.Lists.{join-bytes, get-spell_high, get-spell_low, set-spell, set-spell_high, set-spell_low, listed-relisted}
@@ -199,25 +201,17 @@ module _ (m : Memory) (v : View) (h : Shows m v) where
       rw e (low_held (15 + k) b f ∙ ap (λ (l : List ℕ). v.cells ++ spell l) (reg_set k _) ∙ ap
       (λ (n : ℕ). v.cells ++ spell (v.spare ++ set (listed v.r) k (join (high n) b))) (reg_held k))
 
+  pad_shows : {pad cells spare : List ℕ} {r : Registers} → pad ≡ cells ++ spell (spare ++ listed r) → length cells ≡ 194 → length spare ≡ 15 →
+      Shows (record m { scratchpad = pad }) (record v { cells = cells; spare = spare; r = r })
+  pad_shows e c s =
+      record { pad = e; cells = c; spare = s; low_part = h.low_part; high_part = h.high_part; rom = h.rom; code = h.code; vdp = h.vdp; grom = h.grom }
+
   -- a register is set
   reg_shows : (l : List ℕ) → length l ≡ 16 → Shows (record m { scratchpad = v.cells ++ spell (v.spare ++ l) }) (record v { r = relisted l })
-  reg_shows l n =
-      record {
-        pad = ap (λ (k : List ℕ). v.cells ++ spell (v.spare ++ k)) (sym (listed-relisted l n));
-        cells = h.cells;
-        spare = h.spare;
-        low_part =
-            h.low_part;
-        high_part = h.high_part;
-        rom = h.rom;
-        code = h.code;
-        vdp = h.vdp;
-        grom = h.grom;
-      }
+  reg_shows l n = pad_shows (ap (λ (k : List ℕ). v.cells ++ spell (v.spare ++ k)) (sym (listed-relisted l n))) h.cells h.spare
 
   spare_shows : (l : List ℕ) → length l ≡ 15 → Shows (record m { scratchpad = v.cells ++ spell (l ++ listed v.r) }) (record v { spare = l })
-  spare_shows l n =
-      record { pad = refl; cells = h.cells; spare = n; low_part = h.low_part; high_part = h.high_part; rom = h.rom; code = h.code; vdp = h.vdp; grom = h.grom }
+  spare_shows l n = pad_shows refl h.cells n
 
   with_word_sim : (s : Spot) (r : Region) (a w : ℕ) → Agrees s r → Sim (λ m v. m) (λ (v : View). v) (word_written_in r m a w) (with_word_on s v w)
   with_word_sim (Reg k) r a w g =
@@ -232,65 +226,21 @@ module _ (m : Memory) (v : View) (h : Shows m v) where
   with_word_sim (AtThePort p) r a w g = record { by = λ n e. absurd (cc) }
   with_word_sim Unknown r a w g = record { by = λ n e. absurd (cc) }
 
+  vdp_shows : {vdp : VdpState} → Shows (record m { vdp = vdp }) (record v { vdp = vdp })
+  vdp_shows =
+      record { pad = h.pad; cells = h.cells; spare = h.spare; low_part = h.low_part; high_part = h.high_part; rom = h.rom; code = h.code; vdp = refl; grom = h.grom }
+
+  grom_shows : {grom : GromState} → Shows (record m { grom = grom }) (record v { grom = grom })
+  grom_shows =
+      record { pad = h.pad; cells = h.cells; spare = h.spare; low_part = h.low_part; high_part = h.high_part; rom = h.rom; code = h.code; vdp = h.vdp; grom = refl }
+
   port_sim : (p : Port) → Sim (λ m p. (p.0, m)) (λ (p : ℕ × View). p.1) (Gives (port_read p m)) (Gives (port_seen p v))
-  port_sim VdpDataRead =
-      rw h.vdp (sim_gives _ (port_seen VdpDataRead v)
-      (record {
-        pad = h.pad;
-        cells = h.cells;
-        spare = h.spare;
-        low_part = h.low_part;
-        high_part = h.high_part;
-        rom = h.rom;
-        code = h.code;
-        vdp = refl;
-        grom =
-            h.grom;
-      }))
-  port_sim VdpStatusRead =
-      rw h.vdp (sim_gives _ (port_seen VdpStatusRead v)
-      (record {
-        pad = h.pad;
-        cells = h.cells;
-        spare = h.spare;
-        low_part = h.low_part;
-        high_part = h.high_part;
-        rom = h.rom;
-        code = h.code;
-        vdp = refl;
-        grom =
-            h.grom;
-      }))
+  port_sim VdpDataRead = rw h.vdp (sim_gives _ (port_seen VdpDataRead v) vdp_shows)
+  port_sim VdpStatusRead = rw h.vdp (sim_gives _ (port_seen VdpStatusRead v) vdp_shows)
   port_sim VdpDataWrite = sim_gives m (0, v) h
   port_sim VdpAddressWrite = sim_gives m (0, v) h
-  port_sim GromDataRead =
-      rw h.grom (sim_gives _ (port_seen GromDataRead v)
-      (record {
-        pad = h.pad;
-        cells = h.cells;
-        spare = h.spare;
-        low_part = h.low_part;
-        high_part = h.high_part;
-        rom = h.rom;
-        code = h.code;
-        vdp = h.vdp;
-        grom =
-            refl;
-      }))
-  port_sim GromAddressRead =
-      rw h.grom (sim_gives _ (port_seen GromAddressRead v)
-      (record {
-        pad = h.pad;
-        cells = h.cells;
-        spare = h.spare;
-        low_part = h.low_part;
-        high_part = h.high_part;
-        rom = h.rom;
-        code = h.code;
-        vdp = h.vdp;
-        grom =
-            refl;
-      }))
+  port_sim GromDataRead = rw h.grom (sim_gives _ (port_seen GromDataRead v) grom_shows)
+  port_sim GromAddressRead = rw h.grom (sim_gives _ (port_seen GromAddressRead v) grom_shows)
   port_sim GromDataWrite = sim_gives m (0, v) h
   port_sim GromAddressWrite = sim_gives m (0, v) h
 
@@ -306,51 +256,12 @@ module _ (m : Memory) (v : View) (h : Shows m v) where
   put_sim : (p : Port) (b : ℕ) → Sim (λ m v. m) (λ (v : View). v) (Gives (port_written p m b)) (Gives (port_put p v b))
   put_sim VdpDataRead b = sim_gives m v h
   put_sim VdpStatusRead b = sim_gives m v h
-  put_sim VdpDataWrite b =
-      rw h.vdp (sim_gives _ (port_put VdpDataWrite v b)
-      (record {
-        pad = h.pad;
-        cells = h.cells;
-        spare = h.spare;
-        low_part = h.low_part;
-        high_part = h.high_part;
-        rom = h.rom;
-        code = h.code;
-        vdp = refl;
-        grom =
-            h.grom;
-      }))
-  put_sim VdpAddressWrite b =
-      rw h.vdp (sim_gives _ (port_put VdpAddressWrite v b)
-      (record {
-        pad = h.pad;
-        cells = h.cells;
-        spare = h.spare;
-        low_part = h.low_part;
-        high_part = h.high_part;
-        rom = h.rom;
-        code = h.code;
-        vdp = refl;
-        grom =
-            h.grom;
-      }))
+  put_sim VdpDataWrite b = rw h.vdp (sim_gives _ (port_put VdpDataWrite v b) vdp_shows)
+  put_sim VdpAddressWrite b = rw h.vdp (sim_gives _ (port_put VdpAddressWrite v b) vdp_shows)
   put_sim GromDataRead b = sim_gives m v h
   put_sim GromAddressRead b = sim_gives m v h
   put_sim GromDataWrite b = sim_gives m v h
-  put_sim GromAddressWrite b =
-      rw h.grom (sim_gives _ (port_put GromAddressWrite v b)
-      (record {
-        pad = h.pad;
-        cells = h.cells;
-        spare = h.spare;
-        low_part = h.low_part;
-        high_part = h.high_part;
-        rom = h.rom;
-        code = h.code;
-        vdp = h.vdp;
-        grom =
-            refl;
-      }))
+  put_sim GromAddressWrite b = rw h.grom (sim_gives _ (port_put GromAddressWrite v b) grom_shows)
 
   with_byte_sim : (s : Spot) (r : Region) (b : ℕ) → Agrees s r → Sim (λ m v. m) (λ (v : View). v) (Gives (byte_written_in r m b)) (with_byte_on s v b)
   with_byte_sim (Reg k) r b g =
@@ -367,19 +278,7 @@ module _ (m : Memory) (v : View) (h : Shows m v) where
   with_byte_sim (Cell i) r b g =
       let c = h.cells in
       rw (g.1, h.pad, set-append_left v.cells (spell held) i b (omega arith)) (sim_gives (record m { scratchpad = set v.cells i b ++ spell held })
-      (record v { cells = set v.cells i b })
-      (record {
-        pad = refl;
-        cells = length-set v.cells i b ∙ h.cells;
-        spare = h.spare;
-        low_part = h.low_part;
-        high_part = h.high_part;
-        rom = h.rom;
-        code =
-            h.code;
-        vdp = h.vdp;
-        grom = h.grom;
-      }))
+      (record v { cells = set v.cells i b }) (pad_shows refl (length-set v.cells i b ∙ h.cells) h.spare))
   with_byte_sim (Spare k) r b g =
       let w = join b (low (get_or v.spare k 0)) in
       rw (g.1, byte_held k b, spare_held k g.0, spare_set k w g.0) (sim_gives _ (record v { spare = set v.spare k w })

@@ -1,6 +1,5 @@
-use Rattle.sim_rows.proofs.Common.{piece}
 use Rattle.sim_alu.proofs.Paths
 use Rattle.sim_alu.proofs.pieces.add_source.Goals as goal
 
 pub returns : goal.returns
-returns g c = piece c.requires (Paths.add_source _) c.run_piece.ensures
+returns g c = Paths.piece c.requires (Paths.add_source _) c.run_piece.ensures

@@ -1,6 +1,5 @@
-use Rattle.sim_rows.proofs.Common.{piece}
 use Rattle.sim_compare.proofs.Paths
 use Rattle.sim_compare.proofs.pieces.compare_greater.Goals as goal
 
 pub returns : goal.returns
-returns g c = piece c.requires (Paths.compare_greater _) c.run_piece.ensures
+returns g c = Paths.piece c.requires (Paths.compare_greater _) c.run_piece.ensures

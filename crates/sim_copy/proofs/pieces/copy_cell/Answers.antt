@@ -1,6 +1,5 @@
-use Rattle.sim_rows.proofs.Common.{piece}
 use Rattle.sim_copy.proofs.Paths
 use Rattle.sim_copy.proofs.pieces.copy_cell.Goals as goal
 
 pub returns : goal.returns
-returns g c = piece c.requires.stands (Paths.copy_cell _ c.requires.source c.requires.target) c.run_piece.ensures
+returns g c = Paths.piece c.requires.stands (Paths.copy_cell _ c.requires.source c.requires.target) c.run_piece.ensures

@@ -1,6 +1,5 @@
-use Rattle.sim_rows.proofs.Common.{is_view, piece}
 use Rattle.sim_flow.proofs.Paths
 use Rattle.sim_flow.proofs.pieces.read_target.Goals as goal
 
 pub returns : goal.returns
-returns g c = piece c.requires (Paths.read_target _ (is_view _ c.requires.machine)) c.run_piece.ensures
+returns g c = Paths.piece c.requires (Paths.read_target _ (Paths.is_view _ c.requires.machine)) c.run_piece.ensures

@@ -1,6 +1,5 @@
-use Rattle.sim_rows.proofs.Common.{piece}
 use Rattle.sim_flow.proofs.Paths
 use Rattle.sim_flow.proofs.pieces.test_branch.Goals as goal
 
 pub returns : goal.returns
-returns g c = piece c.requires (Paths.test_branch _) c.run_piece.ensures
+returns g c = Paths.piece c.requires (Paths.test_branch _) c.run_piece.ensures

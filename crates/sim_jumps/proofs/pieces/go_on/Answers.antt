@@ -1,6 +1,5 @@
-use Rattle.sim_rows.proofs.Common.{piece}
 use Rattle.sim_jumps.proofs.Paths
 use Rattle.sim_jumps.proofs.pieces.go_on.Goals as goal
 
 pub returns : goal.returns
-returns g c = piece c.requires (Paths.go_on _) c.run_piece.ensures
+returns g c = Paths.piece c.requires (Paths.go_on _) c.run_piece.ensures

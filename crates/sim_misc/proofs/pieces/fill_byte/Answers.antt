@@ -1,6 +1,5 @@
-use Rattle.sim_rows.proofs.Common.{piece}
 use Rattle.sim_misc.proofs.Paths
 use Rattle.sim_misc.proofs.pieces.fill_byte.Goals as goal
 
 pub returns : goal.returns
-returns g c = piece c.requires (Paths.fill_byte _) c.run_piece.ensures
+returns g c = Paths.piece c.requires (Paths.fill_byte _) c.run_piece.ensures

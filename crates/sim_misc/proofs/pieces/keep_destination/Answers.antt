@@ -1,6 +1,5 @@
-use Rattle.sim_rows.proofs.Common.{piece}
 use Rattle.sim_misc.proofs.Paths
 use Rattle.sim_misc.proofs.pieces.keep_destination.Goals as goal
 
 pub returns : goal.returns
-returns g c = piece c.requires (Paths.keep_destination _) c.run_piece.ensures
+returns g c = Paths.piece c.requires (Paths.keep_destination _) c.run_piece.ensures

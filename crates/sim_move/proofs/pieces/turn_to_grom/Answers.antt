@@ -1,6 +1,5 @@
-use Rattle.sim_rows.proofs.Common.{piece}
 use Rattle.sim_move.proofs.Paths
 use Rattle.sim_move.proofs.pieces.turn_to_grom.Goals as goal
 
 pub returns : goal.returns
-returns g c = piece c.requires (Paths.turn_to_grom _) c.run_piece.ensures
+returns g c = Paths.piece c.requires (Paths.turn_to_grom _) c.run_piece.ensures

@@ -1,6 +1,5 @@
-use Rattle.sim_rows.proofs.Common.{is_view, piece}
 use Rattle.sim_muldiv.proofs.Paths
 use Rattle.sim_muldiv.proofs.pieces.divide_bytes.Goals as goal
 
 pub returns : goal.returns
-returns g c = piece c.requires.stands (Paths.divide_bytes _ (is_view _ c.requires.stands.machine) c.requires.fits) c.run_piece.ensures
+returns g c = Paths.piece c.requires.stands (Paths.divide_bytes _ (Paths.is_view _ c.requires.stands.machine) c.requires.fits) c.run_piece.ensures

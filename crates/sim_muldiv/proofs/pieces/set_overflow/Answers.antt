@@ -1,6 +1,5 @@
-use Rattle.sim_rows.proofs.Common.{piece}
 use Rattle.sim_muldiv.proofs.Paths
 use Rattle.sim_muldiv.proofs.pieces.set_overflow.Goals as goal
 
 pub returns : goal.returns
-returns g c = piece c.requires (Paths.set_overflow _) c.run_piece.ensures
+returns g c = Paths.piece c.requires (Paths.set_overflow _) c.run_piece.ensures

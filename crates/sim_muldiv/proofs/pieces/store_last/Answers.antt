@@ -1,6 +1,5 @@
-use Rattle.sim_rows.proofs.Common.{piece}
 use Rattle.sim_muldiv.proofs.Paths
 use Rattle.sim_muldiv.proofs.pieces.store_last.Goals as goal
 
 pub returns : goal.returns
-returns g c = piece c.requires (Paths.store_last _) c.run_piece.ensures
+returns g c = Paths.piece c.requires (Paths.store_last _) c.run_piece.ensures
