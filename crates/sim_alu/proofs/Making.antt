@@ -1,9 +1,9 @@
 -- The result of a row, made from its operands.
 use Rattle.std.proofs.Common.{ℕ, ◌<◌, ◌∙◌, ◌≡◌, ◌≤◌, ◌⊎◌, ap, arith, Bool, Err, false, inl, inr, nat_lt, not, Ok, refl, Result, slice_index, Some, sym, true}
-use Rattle.sim_rows.proofs.Common.{◌>>=◌, absolute_flags, absolute_of, AtRow, Byte, bytes_by, Changes, code_byte, complement_of, conjunction_of}
+use Rattle.sim_rows.proofs.Common.{◌>>=◌, absolute_flags, absolute_of, AtRow, Byte, bytes_by, changed_again, Changes, code_byte, complement_of, conjunction_of}
 use Rattle.sim_rows.proofs.Common.{destination_bytes, difference_flags, difference_of, exclusive_or_of, Exit, exit, first_of, Flags, gone_on, GplOperation}
 use Rattle.sim_rows.proofs.Common.{GplState, GromState, has_source, in_register, IsView, join, modulus, negation_flags, negation_of, of_register, one_below}
-use Rattle.sim_rows.proofs.Common.{OneName, ones_cleared, ones_set, operands_of, operation_in, Place, Reason, row_result, row_width, second_by, size_of}
+use Rattle.sim_rows.proofs.Common.{OneName, ones_cleared, ones_set, operands_of, operation_in, Place, Reason, row_changed, row_result, row_width, second_by, size_of}
 use Rattle.sim_rows.proofs.Common.{Source, STATB, status_byte, STO, STORE, Storing, sum_flags, sum_of, unchanged, unit, value_at, View, Width, width_again}
 use Rattle.sim_rows.proofs.Common.{width_in, with_status, with_value, Word}
 use Rattle.sim_rows.specs.gpl_defs.declared.instruction.OneName.TheVariants as one
@@ -114,27 +114,19 @@ module _ (v : View) (i : IsView v) (s : GplState) (place : Place) (source : Sour
   first f e = ap f (destination_is e)
 
   -- the views at STO and at STORE
+  abbrev left_with : ℕ → ℕ → ℕ → ℕ → View
+  left_with r6 r9 r11 r12 = record v { r = record v.r { r6 = r6; r9 = r9; r11 = r11; r12 = r12 } }
+
   abbrev with_result : ℕ → ℕ → View
-  with_result r6 r9 = record v { r = record v.r { r6 = r6; r9 = r9 } }
+  with_result r6 r9 = left_with r6 r9 v.r.r11 v.r.r12
 
   abbrev with_kept : ℕ → ℕ → Flags → View
-  with_kept r6 r9 flags = record v { r = record v.r { r6 = r6; r9 = r9; r11 = STATB; r12 = kept_status flags } }
+  with_kept r6 r9 flags = left_with r6 r9 STATB (kept_status flags)
 
-  storing : (r6 r9 number : ℕ) → of_register w r9 ≡ number → Storing c w place number (with_result r6 r9)
-  storing r6 r9 number e =
-      let h = a.holds.sees in
+  storing : (r6 r9 r11 r12 number : ℕ) → of_register w r9 ≡ number → Storing c w place number (left_with r6 r9 r11 r12)
+  storing r6 r9 r11 r12 number e =
       record {
-        changed = record { cells = h.cells; vdp = h.vdp; registers = h.registers; held = h.held; grom = h.grom; mark = a.holds.mark };
-        bytes_are = a.holds.bytes_are;
-        to_place = record { address = a.to_place.address; space = a.to_place.space };
-        value = e;
-      }
-
-  keeping : (r6 r9 number : ℕ) (flags : Flags) → of_register w r9 ≡ number → Storing c w place number (with_kept r6 r9 flags)
-  keeping r6 r9 number flags e =
-      let h = a.holds.sees in
-      record {
-        changed = record { cells = h.cells; vdp = h.vdp; registers = h.registers; held = h.held; grom = h.grom; mark = a.holds.mark };
+        changed = changed_again c v (left_with r6 r9 r11 r12) (row_changed s place source v a) refl refl refl refl;
         bytes_are = a.holds.bytes_are;
         to_place = record { address = a.to_place.address; space = a.to_place.space };
         value = e;
@@ -148,7 +140,7 @@ module _ (v : View) (i : IsView v) (s : GplState) (place : Place) (source : Sour
   plain : (op : GplOperation) (r6 r9 number : ℕ) → count_in op ≤ 3 → of_register w r9 ≡ number →
       row_result op s place source ≡ Ok (with_value w place number c) →
       Plain op s place source (exit (count_in op) STO (with_result r6 r9))
-  plain op r6 r9 number le e is = record { number = number; to = refl; within = le; storing = storing r6 r9 number e; is = is }
+  plain op r6 r9 number le e is = record { number = number; to = refl; within = le; storing = storing r6 r9 _ _ number e; is = is }
 
   flagged : (op : GplOperation) (r6 r9 number status : ℕ) (flags : Flags) → count_in op ≤ 7 → of_register w r9 ≡ number → status_byte flags ≡ status →
       row_result op s place source ≡ Ok (with_status status (with_value w place number c)) →
@@ -158,7 +150,7 @@ module _ (v : View) (i : IsView v) (s : GplState) (place : Place) (source : Sour
     status = status;
     to = refl;
     within = le;
-    storing = keeping r6 r9 number flags e;
+    storing = storing r6 r9 _ _ number e;
     link = refl;
     keeps = ap (λ n. join n 0) f;
     is = is;
@@ -250,25 +242,4 @@ module _ (v : View) (i : IsView v) (s : GplState) (place : Place) (source : Sour
       (both (λ p q. of_register w (exclusive_or_of p q)) b ∙ Numbers.exclusive_is w x y (x_fits b) y_fits) refl)
   made (operation.Two two.ST) f o e =
       inl (plain (operation.Two two.ST) v.r.r6 v.r.r6 y (omega arith) (ap (of_register w) a.value ∙ Numbers.source_is w y) refl)
-  made (operation.One one.CASE) f o e = absurd (cc)
-  made (operation.One one.CZ) f o e = absurd (cc)
-  made (operation.One one.FETCH) f o e = absurd (cc)
-  made (operation.One one.PUSH) f o e = absurd (cc)
-  made (operation.Two two.MUL) f o e = absurd (cc)
-  made (operation.Two two.DIV) f o e = absurd (cc)
-  made (operation.Two two.EX) f o e = absurd (cc)
-  made (operation.Two two.CH) f o e = absurd (cc)
-  made (operation.Two two.CHE) f o e = absurd (cc)
-  made (operation.Two two.CGT) f o e = absurd (cc)
-  made (operation.Two two.CGE) f o e = absurd (cc)
-  made (operation.Two two.CEQ) f o e = absurd (cc)
-  made (operation.Two two.CLOG) f o e = absurd (cc)
-  made (operation.Two two.SRA) f o e = absurd (cc)
-  made (operation.Two two.SLL) f o e = absurd (cc)
-  made (operation.Two two.SRL) f o e = absurd (cc)
-  made (operation.Two two.SRC) f o e = absurd (cc)
-  made (operation.Plain op) f o e = absurd (cc)
-  made (operation.Byte op) f o e = absurd (cc)
-  made (operation.Jump op) f o e = absurd (cc)
-  made (operation.Branch on) f o e = absurd (cc)
-  made (operation.Move kind) f o e = absurd (cc)
+  made _ f o e = absurd (cc)
