@@ -85,13 +85,16 @@ module _ {x a : MachineState} {t u : ℕ} (ready : IsReady x) (word : width_in (
   pub store_idle : PortsAreIdle a.cpu.memory
   store_idle = idle_again x.cpu.memory a.cpu.memory (ap (λ (w : View). w.vdp) asked.shows) (ap (λ (w : View). w.grom) asked.shows) ready.idle
 
-  pub store_space : (view a).r.r8 < 2
+  store_space : (view a).r.r8 < 2
   store_space = subst (λ (w : View). w.r.r8 < 2) (sym asked.shows) ready.space
 
   pub store_visible : IsVisible (view a).r.r8 (view a).r.r7 (view a).r.r3
   store_visible = subst (λ (w : View). IsVisible w.r.r8 w.r.r7 w.r.r3) (sym asked.shows) (first_visible p.r.r8 p.r.r7 p.r.r3 ready.visible)
 
-  module _ {b : MachineState} {u2 : ℕ} (stored : StoresValue a b u u2) where
+  module _ {b : MachineState} {u2 : ℕ} (stores : (view a).r.r8 < 2 → StoresValue a b u u2) where
+    stored : StoresValue a b u u2
+    stored = stores store_space
+
     back_is : return_of (view a) ≡ MULB
     back_is = ap (λ (w : View). even w.r.r11) asked.shows
 

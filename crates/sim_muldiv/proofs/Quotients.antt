@@ -9,7 +9,7 @@ use Rattle.sim_rows.proofs.Common.{join, LOAD, Loaded, LoadsValue, MachineState,
 use Rattle.sim_rows.proofs.Common.{place_in, place_is, PortsAreIdle, return_of, row_changed, row_width, RunsRow, SeesFinished, shifted, SHOW, size_of, Source}
 use Rattle.sim_rows.proofs.Common.{SRL, Stands, state_of, STORE, store_then, stored_idle, StoresValue, Storing, storing_again, sum_of, swapped, Two}
 use Rattle.sim_rows.proofs.Common.{unchanged, value_at, value_same, View, view, Width, width_in, with_byte, with_overflow, with_quotient, with_value, Word}
-use Rattle.sim_muldiv.specs.Family.{AreVisible, Divided, dividend_in, Divides, EndsDivision, EndsQuotient, is_muldiv, IsReady, second_in}
+use Rattle.sim_muldiv.specs.Family.{AreVisible, Divided, dividend_in, Divides, EndsDivision, EndsQuotient, is_muldiv, IsReady, MayStore, MayStoreQuotient, second_in}
 use Rattle.sim_muldiv.proofs.Numbers.{byte_divides, byte_fits, divisor_down, high_of, low_of, no_first_word, quotient_fits, remainder_fits, together}
 use Rattle.sim_muldiv.proofs.Numbers.{word_divides}
 use Rattle.sim_muldiv.proofs.Turning.{loaded_is, ready_again, second_visible, width_if, width_there, word_fits_at, word_visible}
@@ -24,15 +24,17 @@ status_set f cells = slice_set cells 0x7C (f (slice_index cells 0x7C))
 
 -- ---- the end of a division
 
-module _ {x a : MachineState} {t u : ℕ} (idle : PortsAreIdle x.cpu.memory) (space : (view x).r.r8 < 2)
-    (first : Exits x a t u (pieces.store_last (view x))) where
+module _ {x a : MachineState} {t u : ℕ} (ready : MayStore x) (first : Exits x a t u (pieces.store_last (view x))) where
   pub last_idle : PortsAreIdle a.cpu.memory
-  last_idle = idle_again x.cpu.memory a.cpu.memory (ap (λ (w : View). w.vdp) first.shows) (ap (λ (w : View). w.grom) first.shows) idle
+  last_idle = idle_again x.cpu.memory a.cpu.memory (ap (λ (w : View). w.vdp) first.shows) (ap (λ (w : View). w.grom) first.shows) ready.idle
 
-  pub last_space : (view a).r.r8 < 2
-  last_space = subst (λ (w : View). w.r.r8 < 2) (sym first.shows) space
+  last_space : (view a).r.r8 < 2
+  last_space = subst (λ (w : View). w.r.r8 < 2) (sym first.shows) ready.space
 
-  module _ {b : MachineState} {u2 : ℕ} (stored : StoresValue a b u u2) where
+  module _ {b : MachineState} {u2 : ℕ} (stores : (view a).r.r8 < 2 → StoresValue a b u u2) where
+    stored : StoresValue a b u u2
+    stored = stores last_space
+
     last_back : return_of (view a) ≡ DIVE
     last_back = ap (λ (w : View). even w.r.r11) first.shows
 
@@ -84,14 +86,12 @@ module _ {x a : MachineState} {t u : ℕ} (ready : IsReady x) (byte : width_in (
   abbrev v : View
   v = view x
 
-  pub byte_idle : PortsAreIdle a.cpu.memory
-  byte_idle = idle_again x.cpu.memory a.cpu.memory (ap (λ (w : View). w.vdp) first.shows) (ap (λ (w : View). w.grom) first.shows) ready.idle
-
-  pub byte_space : (view a).r.r8 < 2
-  byte_space = subst (λ (w : View). w.r.r8 < 2) (sym first.shows) ready.space
-
-  pub byte_visible : IsVisible (view a).r.r8 (view a).r.r7 (view a).r.r3
-  byte_visible = subst (λ (w : View). IsVisible w.r.r8 w.r.r7 w.r.r3) (sym first.shows) (word_visible v.r.r8 v.r.r7 v.r.r3 byte ready.visible)
+  pub byte_ends : MayStore a
+  byte_ends = record {
+    idle = idle_again x.cpu.memory a.cpu.memory (ap (λ (w : View). w.vdp) first.shows) (ap (λ (w : View). w.grom) first.shows) ready.idle;
+    space = subst (λ (w : View). w.r.r8 < 2) (sym first.shows) ready.space;
+    visible = subst (λ (w : View). IsVisible w.r.r8 w.r.r7 w.r.r3) (sym first.shows) (word_visible v.r.r8 v.r.r7 v.r.r3 byte ready.visible);
+  }
 
   pub byte_divides_row : (y : MachineState) (w : ℕ) → EndsDivision a y u w → Divides x y t w
   byte_divides_row y w ends s place source is row operands has =
@@ -144,10 +144,13 @@ module _ {x a : MachineState} {t u : ℕ} (ready : IsReady x) (word : width_in (
   pub load_visible : IsVisible (view a).r.r5 (view a).r.r2 (view a).r.r3
   load_visible = subst (λ (w : View). IsVisible w.r.r5 w.r.r2 w.r.r3) (sym first.shows) (second_visible p.r.r8 p.r.r7 p.r.r3 word ready.visible)
 
-  pub load_space : (view a).r.r5 < 2
+  load_space : (view a).r.r5 < 2
   load_space = subst (λ (w : View). w.r.r5 < 2) (sym first.shows) ready.space
 
-  module _ {b : MachineState} {u2 : ℕ} (loaded : LoadsValue a b u u2) where
+  module _ {b : MachineState} {u2 : ℕ} (loads : (view a).r.r5 < 2 → LoadsValue a b u u2) where
+    loaded : LoadsValue a b u u2
+    loaded = loads load_space
+
     load_back : return_of (view a) ≡ DIVL
     load_back = ap (λ (w : View). even w.r.r11) first.shows
 
@@ -186,41 +189,40 @@ module _ {x a : MachineState} {t u : ℕ} (ready : IsReady x) (word : width_in (
 
 -- ---- words: the quotient, and the remainder behind it
 
-module _ {x b : MachineState} {t u : ℕ} (idle : PortsAreIdle x.cpu.memory) (space : (view x).r.r8 < 2)
-    (visible : AreVisible (view x).r.r8 (view x).r.r7 (view x).r.r3) (word : width_in (view x).r.r3 ≡ Word) (link : return_of (view x) ≡ DIVQ)
-    (stored : StoresValue x b t u) where
+module _ {x b : MachineState} {t u : ℕ} (ready : MayStoreQuotient x) (stores : (view x).r.r8 < 2 → StoresValue x b t u) where
+  half_stored : StoresValue x b t u
+  half_stored = stores ready.space
+
   pub take_stands : Stands b DIVQ
-  take_stands = subst (λ (q : ℕ). Stands b q) link stored.stands
+  take_stands = subst (λ (q : ℕ). Stands b q) ready.link half_stored.stands
 
   abbrev o : View
   o = view x
 
   kept_7 : (view b).r.r7 ≡ o.r.r7
-  kept_7 = ap (λ (w : View). w.r.r7) stored.holds.is
+  kept_7 = ap (λ (w : View). w.r.r7) half_stored.holds.is
 
   kept_8 : (view b).r.r8 ≡ o.r.r8
-  kept_8 = ap (λ (w : View). w.r.r8) stored.holds.is
+  kept_8 = ap (λ (w : View). w.r.r8) half_stored.holds.is
 
   kept_3 : (view b).r.r3 ≡ o.r.r3
-  kept_3 = ap (λ (w : View). w.r.r3) stored.holds.is
+  kept_3 = ap (λ (w : View). w.r.r3) half_stored.holds.is
 
   module _ {d : MachineState} {u2 : ℕ} (second : Exits b d u u2 (pieces.take_remainder (view b))) where
-    pub rest_idle : PortsAreIdle d.cpu.memory
-    rest_idle = idle_again b.cpu.memory d.cpu.memory (ap (λ (w : View). w.vdp) second.shows) (ap (λ (w : View). w.grom) second.shows)
-        (stored_idle x b t u idle stored)
-
-    pub rest_space : (view d).r.r8 < 2
-    rest_space = subst (λ (w : View). w.r.r8 < 2) (sym second.shows) (subst (λ (n : ℕ). n < 2) (sym kept_8) space)
-
-    pub rest_visible : IsVisible (view d).r.r8 (view d).r.r7 (view d).r.r3
-    rest_visible = subst (λ (w : View). IsVisible w.r.r8 w.r.r7 w.r.r3) (sym second.shows)
-        (rw (kept_8, kept_7, kept_3) (second_visible o.r.r8 o.r.r7 o.r.r3 word visible))
+    pub rest_ends : MayStore d
+    rest_ends = record {
+      idle = idle_again b.cpu.memory d.cpu.memory (ap (λ (w : View). w.vdp) second.shows) (ap (λ (w : View). w.grom) second.shows)
+          (stored_idle x b t u ready.idle half_stored);
+      space = subst (λ (w : View). w.r.r8 < 2) (sym second.shows) (subst (λ (n : ℕ). n < 2) (sym kept_8) ready.space);
+      visible = subst (λ (w : View). IsVisible w.r.r8 w.r.r7 w.r.r3) (sym second.shows)
+          (rw (kept_8, kept_7, kept_3) (second_visible o.r.r8 o.r.r7 o.r.r3 ready.word ready.visible));
+    }
 
     pub ends_quotient : (y : MachineState) (w : ℕ) → EndsDivision d y u2 w → EndsQuotient x y t w
     ends_quotient y w ends c place quotient h =
         let half = with_value Word place quotient c in
-        let s1 = store_then c Word place quotient x b t u h stored in
-        let c1 : Comes most_of_store x b t u DIVQ (ChangedFrom half o) = subst (λ (q : ℕ). Comes most_of_store x b t u q (ChangedFrom half o)) link s1 in
+        let s1 = store_then c Word place quotient x b t u h half_stored in
+        let c1 : Comes most_of_store x b t u DIVQ (ChangedFrom half o) = subst (λ (q : ℕ). Comes most_of_store x b t u q (ChangedFrom half o)) ready.link s1 in
         let m = view b in
         let k = c1.holds.keeps in
         let at_rest : Storing half Word (behind 2 place) o.r.r10 (pieces.take_remainder m).left = record {
@@ -239,21 +241,15 @@ module _ {x a : MachineState} {t u : ℕ} (ready : IsReady x) (word : width_in (
   abbrev n : View
   n = view x
 
-  pub both_idle : PortsAreIdle a.cpu.memory
-  both_idle = idle_told a.cpu.memory (ap (λ (w : View). w.vdp.held) first.holds.is ∙ idle_video x.cpu.memory ready.idle)
-      (ap (λ (w : View). w.grom.half_written) first.holds.is ∙ idle_grom x.cpu.memory ready.idle)
-
-  pub both_space : (view a).r.r8 < 2
-  both_space = subst (λ (w : View). w.r.r8 < 2) (sym first.holds.is) ready.space
-
-  pub both_visible : AreVisible (view a).r.r8 (view a).r.r7 (view a).r.r3
-  both_visible = subst (λ (w : View). AreVisible w.r.r8 w.r.r7 w.r.r3) (sym first.holds.is) ready.visible
-
-  pub both_word : width_in (view a).r.r3 ≡ Word
-  both_word = subst (λ (w : View). width_in w.r.r3 ≡ Word) (sym first.holds.is) word
-
-  pub both_link : return_of (view a) ≡ DIVQ
-  both_link = ap (λ (w : View). even w.r.r11) first.holds.is
+  pub both_store : MayStoreQuotient a
+  both_store = record {
+    idle = idle_told a.cpu.memory (ap (λ (w : View). w.vdp.held) first.holds.is ∙ idle_video x.cpu.memory ready.idle)
+        (ap (λ (w : View). w.grom.half_written) first.holds.is ∙ idle_grom x.cpu.memory ready.idle);
+    space = subst (λ (w : View). w.r.r8 < 2) (sym first.holds.is) ready.space;
+    visible = subst (λ (w : View). AreVisible w.r.r8 w.r.r7 w.r.r3) (sym first.holds.is) ready.visible;
+    word = subst (λ (w : View). width_in w.r.r3 ≡ Word) (sym first.holds.is) word;
+    link = ap (λ (w : View). even w.r.r11) first.holds.is;
+  }
 
   pub word_divides_row : (y : MachineState) (w : ℕ) → EndsQuotient a y u w → Divides x y t w
   word_divides_row y w ends s place source is row operands has =

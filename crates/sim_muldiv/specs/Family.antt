@@ -1,8 +1,8 @@
 -- MUL and DIV, and what their parts come to.
 use Rattle.std.specs.Prelude.{ℕ, ◌%◌, ◌*◌, ◌+◌, ◌/◌, ◌<◌, ◌≡◌, ◌≤◌, Bool, false, Ok, Option, Some, true}
 use Rattle.sim_rows.specs.Prelude.{AtRow, Byte, Changes, Comes, DIV, DIVQ, double_at, double_word, gone_on}
-use Rattle.sim_rows.specs.Prelude.{GplOperation, GplState, GSTEP, has_quotient, low, MachineState, MUL, operands_of}
-use Rattle.sim_rows.specs.Prelude.{operation_in, Place, place_in, PortsAreIdle, row_width, SeesFinished, size_of}
+use Rattle.sim_rows.specs.Prelude.{GplOperation, GplState, GSTEP, has_quotient, IsVisible, low, MachineState, MUL, operands_of}
+use Rattle.sim_rows.specs.Prelude.{operation_in, Place, place_in, PortsAreIdle, return_of, row_width, SeesFinished, size_of}
 use Rattle.sim_rows.specs.Prelude.{Source, state_of, Storing, sum_of, Two, unchanged, value_at, View, view}
 use Rattle.sim_rows.specs.Prelude.{VISIBLE_CELLS, Width, width_in, with_overflow, with_quotient, with_value, Word}
 
@@ -22,6 +22,20 @@ pub record IsReady (x : MachineState) : Type 0 where
   pub space : (view x).r.r8 < 2
   pub visible : AreVisible (view x).r.r8 (view x).r.r7 (view x).r.r3
   pub divisor : width_in (view x).r.r3 ≡ Byte → low (view x).r.r6 ≡ 0
+
+-- A value of the width in register 3 may be stored: the ports are idle, and its place is visible.
+pub record MayStore (x : MachineState) : Type 0 where
+  pub idle : PortsAreIdle x.cpu.memory
+  pub space : (view x).r.r8 < 2
+  pub visible : IsVisible (view x).r.r8 (view x).r.r7 (view x).r.r3
+
+-- At STORE with a quotient: it may be stored, the remainder behind it, and STORE returns to where that is done.
+pub record MayStoreQuotient (x : MachineState) : Type 0 where
+  pub idle : PortsAreIdle x.cpu.memory
+  pub space : (view x).r.r8 < 2
+  pub visible : AreVisible (view x).r.r8 (view x).r.r7 (view x).r.r3
+  pub word : width_in (view x).r.r3 ≡ Word
+  pub link : return_of (view x) ≡ DIVQ
 
 -- The dividend of words: the first is in register 9, and the second stands behind the destination.
 abbrev pub second_in : View → ℕ

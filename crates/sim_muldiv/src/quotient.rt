@@ -1,9 +1,9 @@
 //! DIV: the quotient and the remainder of numbers without sign.
 
 ghost use Rattle.std.specs.Prelude.{◌<◌, ◌≡◌, ◌≤◌};
-ghost use Rattle.sim_rows.specs.Prelude.{Byte, Comes, DIV, IsVisible, PortsAreIdle, return_of, RunsRow, Stands, Two};
+ghost use Rattle.sim_rows.specs.Prelude.{Byte, Comes, DIV, RunsRow, Stands, Two};
 ghost use Rattle.sim_rows.specs.Prelude.{view, width_in, Word};
-ghost use Rattle.sim_muldiv.specs.Family.{AreVisible, Divided, Divides, EndsDivision, EndsQuotient, IsReady};
+ghost use Rattle.sim_muldiv.specs.Family.{Divided, Divides, EndsDivision, EndsQuotient, IsReady, MayStore, MayStoreQuotient};
 ghost use Rattle.sim_rows.specs.native_interp.declared.addresses.TheConstants as address;
 ghost use Rattle.sim_rows.specs.sim_view.Bounds.{most_of_quotient_row};
 
@@ -20,9 +20,7 @@ use std::sync::ledger::Ledger;
 /// Stores the last word of a division and ends its row.
 fn end_division<L: Ledger>(machine: &mut Machine, steps: &mut Steps<L>)
     requires stands { Stands machine.old address.DIVS }
-    requires idle { PortsAreIdle machine.old.cpu.memory }
-    requires space { (view machine.old).r.r8 < 2 }
-    requires visible { let r = (view machine.old).r in IsVisible r.r8 r.r7 r.r3 }
+    requires ready { MayStore machine.old }
     ensures { EndsDivision machine.old machine.new steps.old steps.new }
 {
     store_last(machine, steps);
@@ -59,11 +57,7 @@ fn load_and_divide<L: Ledger>(machine: &mut Machine, steps: &mut Steps<L>)
 /// Stores a quotient, and the remainder behind it, and ends the row.
 fn store_quotient<L: Ledger>(machine: &mut Machine, steps: &mut Steps<L>)
     requires stands { Stands machine.old address.STORE }
-    requires idle { PortsAreIdle machine.old.cpu.memory }
-    requires space { (view machine.old).r.r8 < 2 }
-    requires visible { let r = (view machine.old).r in AreVisible r.r8 r.r7 r.r3 }
-    requires word { width_in (view machine.old).r.r3 ≡ Word }
-    requires link { return_of (view machine.old) ≡ address.DIVQ }
+    requires ready { MayStoreQuotient machine.old }
     ensures { EndsQuotient machine.old machine.new steps.old steps.new }
 {
     run_store(machine, steps);
