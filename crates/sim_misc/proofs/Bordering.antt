@@ -33,9 +33,9 @@ border_goes s v d =
       };
     }
 
-pub borders : (s : GplState) (x y : MachineState) (t u : ℕ) → Dispatched s (view x) → operation_in s ≡ Some (Byte BACK) → Stands x GOBACK →
+pub borders : {s : GplState} {x y : MachineState} {t u : ℕ} → Dispatched s (view x) → operation_in s ≡ Some (Byte BACK) → Stands x GOBACK →
     Exits x y t u (pieces.set_border (view x)) → Turned s most_to_dispatch x y t u Stepped
-borders s x y t u d is stands set =
+borders {s = s} {x = x} {y = y} {t = t} {u = u} d is stands set =
     let c = comes set (border_goes s (view x) d) in
     let step_is = step_byte s BACK is in
     let b = bound_made s (next s) (Some (Byte BACK)) is step_is in

@@ -2,7 +2,7 @@
 use Rattle.std.proofs.Common.{ℕ, ◌<◌, ◌∙◌, ◌≡◌, ap, arith, Option, refl, Some, subst, sym, true}
 use Rattle.sim_rows.specs.Prelude.{AtEntry, HasStarted}
 use Rattle.sim_rows.proofs.Common.{AtDispatch, Byte, EX, GplOperation, GplState, is_row, IsVisible, LoadsFrom, LoadsFromSource, MachineState}
-use Rattle.sim_rows.proofs.Common.{operation_seen, Place, row_width, RunsRow, size_of, space_small, state_at_dispatch, Stepped}
+use Rattle.sim_rows.proofs.Common.{operation_entry, operation_seen, Place, row_width, RunsRow, size_of, space_small, Stands, state_at_dispatch, Stepped}
 use Rattle.sim_rows.proofs.Common.{Turned, Two, TwoName, view, visible_of, Width, Word}
 use Rattle.sim_rows.proofs.Rowing.{source_visible}
 use Rattle.sim_misc.specs.Family.{is_exchange, is_misc}
@@ -29,6 +29,11 @@ exchange_here {x = x} at {op = op} is = record {
   dispatched = at.dispatched;
   family = subst (λ (p : Option GplOperation). is_exchange p ≡ true) (sym is) (of_two op (subst (λ (p : Option GplOperation). is_misc p ≡ true) is at.family));
 }
+
+-- at the entry of an operation that is known
+pub entered : (x : MachineState) (o : Option GplOperation) → operation_seen (view x) ≡ o → Stands x (operation_entry (operation_seen (view x))) →
+    Stands x (operation_entry o)
+entered x o is stands = subst (λ (o : Option GplOperation). Stands x (operation_entry o)) is stands
 
 some_bytes : (w : Width) → 0 < size_of w
 some_bytes Byte = omega arith

@@ -33,9 +33,9 @@ drawn_goes s v d =
       };
     }
 
-pub draws : (s : GplState) (x a y : MachineState) (t u v : ℕ) → Dispatched s (view x) → operation_in s ≡ Some (Byte RAND) → Stands x GORAND →
+pub draws : {s : GplState} {x a y : MachineState} {t u v : ℕ} → Dispatched s (view x) → operation_in s ≡ Some (Byte RAND) → Stands x GORAND →
     Exits x a t u (pieces.draw_seed (view x)) → Exits a y u v (pieces.draw_number (view a)) → Turned s most_to_dispatch x y t v Stepped
-draws s x a y t u v d is stands first second =
+draws {s = s} {x = x} {y = y} {t = t} {v = v} d is stands first second =
     let c1 = comes first (just (pieces.draw_seed (view x)) 9 RANDL (omega arith) refl) in
     let c2 = comes_then 9 8 c1 second (from pieces.draw_number c1.holds (drawn_goes s (view x) d)) refl in
     let step_is = step_byte s RAND is in

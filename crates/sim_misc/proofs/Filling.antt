@@ -114,18 +114,18 @@ module _ (s : GplState) (made : ℕ) (w : View) (h : Filled s made w) (some : ma
 abbrev pub Filling : GplState → ℕ → MachineState → MachineState → ℕ → ℕ → Type 0
 Filling s made x z t u = Comes (6 + 4 * made) x z t u (place made) (Filled s made)
 
-pub none_yet : (s : GplState) (x z : MachineState) (t u : ℕ) → Dispatched s (view x) → Exits x z t u (pieces.begin_fill (view x)) → Filling s 0 x z t u
-none_yet s x z t u d begun = comes begun (begin_goes s (view x) d)
+pub none_yet : {s : GplState} {x z : MachineState} {t u : ℕ} → Dispatched s (view x) → Exits x z t u (pieces.begin_fill (view x)) → Filling s 0 x z t u
+none_yet {s = s} {x = x} d begun = comes begun (begin_goes s (view x) d)
 
-pub stands_at : (s : GplState) (made : ℕ) (x z : MachineState) (t u : ℕ) → Filling s made x z t u → made < 768 → Stands z FILL
-stands_at s made x z t u h some = subst (λ (p : ℕ). Stands z p) (more_left made (λ all. omega arith)) h.stands
+pub stands_at : {s : GplState} (made : ℕ) {x z : MachineState} {t u : ℕ} → Filling s made x z t u → made < 768 → Stands z FILL
+stands_at made {z = z} h some = subst (λ (p : ℕ). Stands z p) (more_left made (λ all. omega arith)) h.stands
 
 size_of_video : (s : GplState) (x : MachineState) → Stands x GOALL → Dispatched s (view x) → length s.vdp ≡ 16384
 size_of_video s x stands d = sym (ap length d.sees.vdp) ∙ (is_view x stands.machine).vdp.memory.size
 
-pub one_byte : (s : GplState) (made : ℕ) (x z w : MachineState) (t u v : ℕ) → Stands x GOALL → Dispatched s (view x) → Filling s made x z t u → made < 768 →
+pub one_byte : {s : GplState} (made : ℕ) {x z w : MachineState} {t u v : ℕ} → Stands x GOALL → Dispatched s (view x) → Filling s made x z t u → made < 768 →
     Exits z w u v (pieces.fill_byte (view z)) → Filling s (made + 1) x w t v
-one_byte s made x z w t u v stands d h some stored =
+one_byte {s = s} made {x = x} {z = z} {w = w} {t = t} {v = v} stands d h some stored =
     let n : suc made ≡ made + 1 = omega arith in
     let c = comes_then (6 + 4 * made) 4 h stored (fill_goes s made (view z) h.holds some (size_of_video s x stands d))
     (ap is_end (more_left made (λ all. omega arith))) in
@@ -145,9 +145,9 @@ all_seen s made w all h = record {
   grom = h.grom;
 }
 
-pub fills : (s : GplState) (x z : MachineState) (t u : ℕ) → Stands x GOALL → Dispatched s (view x) → operation_in s ≡ Some (Byte ALL) →
+pub fills : {s : GplState} {x z : MachineState} {t u : ℕ} → Stands x GOALL → Dispatched s (view x) → operation_in s ≡ Some (Byte ALL) →
     (made : ℕ) → made ≡ 768 → Filling s made x z t u → Turned s most_to_dispatch x z t u Stepped
-fills s x z t u stands d is made all h =
+fills {s = s} {x = x} {z = z} {t = t} {u = u} stands d is made all h =
     let there : Stands z GSTEP = subst (λ (p : ℕ). Stands z p) (ap place all) h.stands in
     let c = h in
     let seen = all_seen s made (view z) all c.holds in
