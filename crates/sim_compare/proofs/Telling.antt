@@ -126,10 +126,10 @@ loaded_is op e s place is =
     ap (λ (w : Width). in_register w (value_at s w place)) (ap width is ∙ sized op e (row_width s))
 
 -- A comparison of the operands in registers 9 and 6, to the end of the step.
-pub runs : (op : GplOperation) → is_comparison (Some op) ≡ true → (x a y : MachineState) (t u v : ℕ) → IsView (view x) →
+pub runs : (op : GplOperation) → is_comparison (Some op) ≡ true → {x a y : MachineState} {t u v : ℕ} → IsView (view x) →
     Exits x a t u (comparison op (view x)) →
     Exits a y u v (ending (a.cpu.pc == CTRUE) (view a)) → RunsRow op 6 x y t v
-runs op e x a y t u v bounds first second s place source is row operands =
+runs op e {x = x} {a = a} {y = y} {t = t} {u = u} {v = v} bounds first second s place source is row operands =
     let width = row_width s in
     let value = value_at s width place in
     let w = view x in
@@ -144,5 +144,5 @@ runs op e x a y t u v bounds first second s place source is row operands =
     let done = tells 3 s (next_of s) (compared op width value source.number) c second in
     subst (λ r. Comes 6 x y t v GSTEP (SeesResult r)) (sym (result_is op e s place source)) done
 
-pub comparison_told : (op : GplOperation) → is_comparison (Some op) ≡ true → (x a : MachineState) (t u : ℕ) → Exits x a t u (comparison op (view x)) → IsTold a
-comparison_told op e x a t u first = is_told a (flag op (view x)) (comes first (compares op e (view x))).stands
+pub comparison_told : (op : GplOperation) → is_comparison (Some op) ≡ true → {x a : MachineState} {t u : ℕ} → Exits x a t u (comparison op (view x)) → IsTold a
+comparison_told op e {x = x} {a = a} first = is_told a (flag op (view x)) (comes first (compares op e (view x))).stands

@@ -86,7 +86,7 @@ tests (Some (Plain CARRY)) e s next v h i = shows 4 0x10 s next v h (bit_out_4 (
 tests (Some (Plain OVF)) e s next v h i = shows 5 0x08 s next v h (bit_out_5 (slice_index v.cells 0x7C) (low v.r.r4) (i.cells 0x7C) (less_fits v.r.r4))
 tests _ e s next v h i = absurd (cc)
 
-module _ (x a : MachineState) (t u : ℕ) (name : PlainOp) (is : operation_seen (view x) ≡ Some (Plain name))
+module _ {x a : MachineState} {t u : ℕ} (name : PlainOp) (is : operation_seen (view x) ≡ Some (Plain name))
     (at : AtDispatch is_test x) (first : Exits x a t u (test (Some (Plain name)) (view x))) where
   abbrev s : GplState
   s = state_at_dispatch (view x)
@@ -106,8 +106,8 @@ module _ (x a : MachineState) (t u : ℕ) (name : PlainOp) (is : operation_seen 
   pub test_told : IsTold a
   test_told = is_told a flag at_flag.stands
 
-  pub test_turns : (y : MachineState) (v : ℕ) → Exits a y u v (ending (a.cpu.pc == CTRUE) (view a)) → Turned s most_to_dispatch x y t v Stepped
-  test_turns y v second =
+  pub test_turns : {y : MachineState} {v : ℕ} → Exits a y u v (ending (a.cpu.pc == CTRUE) (view a)) → Turned s most_to_dispatch x y t v Stepped
+  test_turns {y = y} {v = v} second =
       let next = finished (changed s o) in
       let c = tells 4 s (behind_code s) flag at_flag second in
       let b = bound_is s o e is in

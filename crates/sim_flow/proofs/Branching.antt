@@ -114,7 +114,7 @@ passes s w h = record {
   holds = record { cells = ap status_cleared h.cells; vdp = h.vdp; registers = h.registers; held = h.held; grom = h.grom };
 }
 
-module _ (s : GplState) {x a b : MachineState} {t t1 t2 : ℕ} (on : Bool) (is : operation_in s ≡ Some (Branch on))
+module _ {s : GplState} {x a b : MachineState} {t t1 t2 : ℕ} (on : Bool) (is : operation_in s ≡ Some (Branch on))
     (stands : Stands x BRANCH) (d : Dispatched s (view x))
     (e1 : Exits x a t t1 (pieces.find_target (view x))) (e2 : Exits a b t1 t2 (pieces.test_branch (view a))) where
   abbrev taken : Bool
@@ -148,17 +148,17 @@ module _ (s : GplState) {x a b : MachineState} {t t1 t2 : ℕ} (on : Bool) (is :
       turned_by x y t t3 29 Stepped s (Ok (finished (changed_by s c))) step_is
       (refl, reaches 29 (bound s) run (ap is_end stands.pc) refl (omega arith), matches (finished (changed_by s c)) y run.stands run.holds)
 
-  pub takes : (y : MachineState) (t3 : ℕ) → b.cpu.pc ≡ TAKE → TakesBranch b y t2 t3 → Turned s most_to_dispatch x y t t3 Stepped
-  takes y t3 here goes =
+  pub takes : {y : MachineState} {t3 : ℕ} → b.cpu.pc ≡ TAKE → TakesBranch b y t2 t3 → Turned s most_to_dispatch x y t t3 Stepped
+  takes {y = y} {t3 = t3} here goes =
       let is_true = taken_at taken b.cpu.pc tested.stands.pc here in
       let h = tested.holds in
       let seen : Sees (record s { pc = target s }) (behind s) (view b) =
       record { cells = h.sees.cells; vdp = h.sees.vdp; registers = h.sees.registers; held = h.sees.held; grom = h.sees.grom } in
       turns y t3 26 true is_true (comes_on 17 9 tested (goes (record s { pc = target s }) (behind s) seen h.to) (goes_on taken)) (omega arith)
 
-  pub passes_on : (y : MachineState) (t3 : ℕ) → (b.cpu.pc ≡ TAKE → ⊥) → Exits b y t2 t3 (compare.clear_condition (view b))
+  pub passes_on : {y : MachineState} {t3 : ℕ} → (b.cpu.pc ≡ TAKE → ⊥) → Exits b y t2 t3 (compare.clear_condition (view b))
       → Turned s most_to_dispatch x y t t3 Stepped
-  passes_on y t3 elsewhere e3 =
+  passes_on {y = y} {t3 = t3} elsewhere e3 =
       let is_false = passed_at taken b.cpu.pc tested.stands.pc elsewhere in
       turns y t3 20 false is_false (comes_then 17 3 tested e3 (passes s (view b) tested.holds.sees) (goes_on taken)) (omega arith)
 

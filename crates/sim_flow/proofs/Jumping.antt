@@ -10,9 +10,9 @@ use Rattle.sim_flow.specs.Pieces as pieces
 use Rattle.sim_rows.specs.interp_defs.Interpreter.{most_to_dispatch}
 
 -- EXIT
-pub exits : (s : GplState) (x y : MachineState) (t u : ℕ) → Dispatched s (view x) → operation_in s ≡ Some (Plain EXIT) → Stands x GOEXIT →
+pub exits : {s : GplState} {x y : MachineState} {t u : ℕ} → Dispatched s (view x) → operation_in s ≡ Some (Plain EXIT) → Stands x GOEXIT →
     Exits x y t u (pieces.leave (view x)) → Turned s most_to_dispatch x y t u (Stopped Exit)
-exits s x y t u d e stands run =
+exits {s = s} {x = x} {y = y} {t = t} {u = u} d e stands run =
     let is = step_plain s EXIT e in
     let h = d.sees in
     let ended : Goes (pieces.leave (view x)) 1 GEXIT (Ended s) = record {
@@ -51,9 +51,9 @@ module _ (s : GplState) (v : View) (d : Dispatched s v) where
     sees : Sees next behind w
     to : w.r.r6 ≡ target
 
-  pub jumps : (x a y : MachineState) (t t1 t2 : ℕ) → view x ≡ v → operation_in s ≡ Some (Jump B) → Stands x GOB →
+  pub jumps : {x a y : MachineState} {t t1 t2 : ℕ} → view x ≡ v → operation_in s ≡ Some (Jump B) → Stands x GOB →
       Exits x a t t1 (pieces.read_target (view x)) → GoesOn a y t1 t2 → Turned s most_to_dispatch x y t t2 Stepped
-  jumps x a y t t1 t2 is e stands e1 goes =
+  jumps {x = x} {y = y} {t = t} {t2 = t2} is e stands e1 goes =
       let at : Goes (exit 2 GOTO read) 2 GOTO AtTarget = record { within = omega arith; to_is = refl; holds = record { sees = seen; to = refl } } in
       let c1 = comes e1 (from pieces.read_target is (known read_is at)) in
       let c2 = comes_on 2 6 c1 (goes next behind c1.holds.sees c1.holds.to) refl in

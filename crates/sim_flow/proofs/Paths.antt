@@ -9,9 +9,7 @@ pub leave : (v : View) → Leads [] v GOEXIT (pieces.leave v)
 leave v = record { by = λ f q. refl }
 
 pub read_target : (v : View) → IsView v → Leads (GOTO ∷ []) v GOB (pieces.read_target v)
-read_target v i = record {
-  by = λ f q. rw (byte_is (past v.grom).fetched (i.grom.image.fits v.grom.counter), high-join v.grom.fetched v.r.r6) refl;
-}
+read_target v i = record { by = λ f q. rw (byte_is (past v.grom).fetched (i.grom.image.fits v.grom.counter), high-join v.grom.fetched v.r.r6) refl }
 
 pub find_target : (v : View) → IsView v → Leads (BTEST ∷ []) v BRANCH (pieces.find_target v)
 find_target v i = record { by = λ f q. rw (byte_is v.grom.fetched i.grom.fetched) refl }
@@ -33,12 +31,7 @@ test_branch v = record {
 }
 
 pub ask_table : (v : View) → Leads (WHERE ∷ []) v CASEV (pieces.ask_table v)
-ask_table v = record {
-  by = λ f q.
-      pick (v.r.r3 == 1)
-      (λ c. rw c refl)
-      (λ c. rw c refl);
-}
+ask_table v = record { by = λ f q. pick (v.r.r3 == 1) (λ c. rw c refl) (λ c. rw c refl) }
 
 pub find_branch : (v : View) → Leads (SEEK ∷ []) v CASEN (pieces.find_branch v)
 find_branch v = record { by = λ f q. refl }

@@ -14,11 +14,11 @@ use Rattle.sim_rows.specs.sim_view.Bounds.{most_of_case_row}
 
 -- ---- where the two routines return to
 
-pub at_target : (x a b : MachineState) (t t1 t2 : ℕ) → Exits x a t t1 (pieces.ask_table (view x)) → Exits a b t1 t2 (rows.where_next (view a)) → Stands b CASEN
-at_target x a b t t1 t2 e1 e2 = subst (λ (p : ℕ). Stands b p) (ap return_of e1.shows) e2.stands
+pub at_target : {x a b : MachineState} {t t1 t2 : ℕ} → Exits x a t t1 (pieces.ask_table (view x)) → Exits a b t1 t2 (rows.where_next (view a)) → Stands b CASEN
+at_target {b = b} e1 e2 = subst (λ (p : ℕ). Stands b p) (ap return_of e1.shows) e2.stands
 
-pub at_end : (b c d : MachineState) (t2 t3 t4 : ℕ) → Exits b c t2 t3 (pieces.find_branch (view b)) → Exits c d t3 t4 (operands.seek (view c)) → Stands d CASET
-at_end b c d t2 t3 t4 e3 e4 = subst (λ (p : ℕ). Stands d p) (ap return_of e3.shows) e4.stands
+pub at_end : {b c d : MachineState} {t2 t3 t4 : ℕ} → Exits b c t2 t3 (pieces.find_branch (view b)) → Exits c d t3 t4 (operands.seek (view c)) → Stands d CASET
+at_end {d = d} e3 e4 = subst (λ (p : ℕ). Stands d p) (ap return_of e3.shows) e4.stands
 
 -- ---- the number
 
@@ -86,10 +86,10 @@ module _ (s : GplState) (place : Place) (source : Source) (v : View) (e : operat
   asks : Goes (pieces.ask_table v) 4 WHERE (λ w. w ≡ asked)
   asks = just (pieces.ask_table v) 4 WHERE (let m = most_is (v.r.r3 == 1) in omega arith) refl
 
-  selects : (x a b c d f y : MachineState) (t t1 t2 t3 t4 t5 t6 : ℕ) → view x ≡ v → Exits x a t t1 (pieces.ask_table (view x)) →
+  selects : {x a b c d f y : MachineState} {t t1 t2 t3 t4 t5 t6 : ℕ} → view x ≡ v → Exits x a t t1 (pieces.ask_table (view x)) →
       Exits a b t1 t2 (rows.where_next (view a)) → Exits b c t2 t3 (pieces.find_branch (view b)) → Exits c d t3 t4 (operands.seek (view c)) →
       Exits d f t4 t5 (pieces.go_to_branch (view d)) → TakesBranch f y t5 t6 → Comes 34 x y t t6 GSTEP (SeesResult (row_result (One CASE) s place source))
-  selects x a b c d f y t t1 t2 t3 t4 t5 t6 is e1 e2 e3 e4 e5 goes =
+  selects is e1 e2 e3 e4 e5 goes =
       let c1 = comes e1 (from pieces.ask_table is asks) in
       let c2 = comes_then 4 12 c1 e2 (from rows.where_next c1.holds where_is) refl in
       let c3 = comes_then 16 3 c2 e3 (from pieces.find_branch c2.holds (just (pieces.find_branch located) 3 SEEK (omega arith) refl)) refl in
@@ -97,8 +97,8 @@ module _ (s : GplState) (place : Place) (source : Source) (v : View) (e : operat
       let c5 = comes_then 23 2 c4 e5 (from pieces.go_to_branch c4.holds ends) refl in
       comes_on 25 9 c5 (goes taken (next_of s) c5.holds.sees c5.holds.to) refl
 
-pub runs : (x a b c d f y : MachineState) (t t1 t2 t3 t4 t5 t6 : ℕ) → Stands x CASEV → Exits x a t t1 (pieces.ask_table (view x)) →
+pub runs : {x a b c d f y : MachineState} {t t1 t2 t3 t4 t5 t6 : ℕ} → Stands x CASEV → Exits x a t t1 (pieces.ask_table (view x)) →
     Exits a b t1 t2 (rows.where_next (view a)) → Exits b c t2 t3 (pieces.find_branch (view b)) → Exits c d t3 t4 (operands.seek (view c)) →
     Exits d f t4 t5 (pieces.go_to_branch (view d)) → TakesBranch f y t5 t6 → RunsRow (One CASE) most_of_case_row x y t t6
-runs x a b c d f y t t1 t2 t3 t4 t5 t6 stands e1 e2 e3 e4 e5 goes s place source e row is =
-    selects s place source (view x) e row (is_view x stands.machine) x a b c d f y t t1 t2 t3 t4 t5 t6 refl e1 e2 e3 e4 e5 goes
+runs {x = x} stands e1 e2 e3 e4 e5 goes s place source e row is =
+    selects s place source (view x) e row (is_view x stands.machine) refl e1 e2 e3 e4 e5 goes

@@ -13,8 +13,8 @@ set_from g image next word at e to fits =
 
 -- ---- GOTO
 
-pub goes : (x y : MachineState) (t u : ℕ) → Stands x GOTO → Exits x y t u (pieces.go_on (view x)) → GoesOn x y t u
-goes x y t u stands e s next h to =
+pub goes : {x y : MachineState} {t u : ℕ} → Stands x GOTO → Exits x y t u (pieces.go_on (view x)) → GoesOn x y t u
+goes {x = x} stands e s next h to =
     let v : View = view x in
     comes e (record {
       within = omega arith;
@@ -38,8 +38,8 @@ pub record Taken (s : GplState) (next : ℕ) (w : View) : Type 0 where
 abbrev status_cleared : List ℕ → List ℕ
 status_cleared cells = slice_set cells 0x7C (ones_cleared Byte (slice_index cells 0x7C) 0x20)
 
-pub takes : (x a y : MachineState) (t t1 t2 : ℕ) → Exits x a t t1 (pieces.take_branch (view x)) → GoesOn a y t1 t2 → TakesBranch x y t t2
-takes x a y t t1 t2 e goes s next h to =
+pub takes : {x a y : MachineState} {t t1 t2 : ℕ} → Exits x a t t1 (pieces.take_branch (view x)) → GoesOn a y t1 t2 → TakesBranch x y t t2
+takes {x = x} e goes s next h to =
     let after : GplState = (with_condition false (unchanged s)).state in
     let taken : Goes (pieces.take_branch (view x)) 3 GOTO (Taken after next) = record {
       within = omega arith;
@@ -54,7 +54,7 @@ takes x a y t t1 t2 e goes s next h to =
 
 -- ---- RESUME
 
-module _ (x a : MachineState) (t t1 : ℕ) (stands : Stands x RESUME) (e : Exits x a t t1 (pieces.resume (view x))) where
+module _ {x a : MachineState} {t t1 : ℕ} (stands : Stands x RESUME) (e : Exits x a t t1 (pieces.resume (view x))) where
   abbrev v : View
   v = view x
 
@@ -64,8 +64,8 @@ module _ (x a : MachineState) (t t1 : ℕ) (stands : Stands x RESUME) (e : Exits
       idle_told a.cpu.memory (ap (λ (u : View). u.vdp.held) e.shows ∙ idle_video x.cpu.memory i)
       (ap (λ (u : View). u.grom.half_written) e.shows ∙ ap (λ (g : GromState). g.half_written) set)
 
-  pub resumes : (y : MachineState) (t2 : ℕ) → EndsRow a y t1 t2 → ResumesRow x y t t2
-  resumes y t2 ends c next h to =
+  pub resumes : {y : MachineState} {t2 : ℕ} → EndsRow a y t1 t2 → ResumesRow x y t t2
+  resumes ends c next h to =
       let resumed : Goes (pieces.resume v) 3 SHOW (Changed c) = record {
         within = omega arith;
         to_is = refl;

@@ -21,9 +21,7 @@ abbrev with_seed : View → View
 with_seed v = record v { r = record v.r { r6 = word_in v.cells SEED } }
 
 seed_read : (v : View) → IsView v → Part (RANDL ∷ []) 3 v GORAND (with_seed v) RANDM
-seed_read v i = record {
-  by = λ f. rw (read_word (slice_index v.cells 0xC0) (slice_index v.cells 0xC1) (low v.r.r6) (i.cells 0xC1) (less_fits v.r.r6)) refl;
-}
+seed_read v i = record { by = λ f. rw (read_word (slice_index v.cells 0xC0) (slice_index v.cells 0xC1) (low v.r.r6) (i.cells 0xC1) (less_fits v.r.r6)) refl }
 
 seed_made : (v : View) → Rest (RANDL ∷ []) 3 13 (with_seed v) RANDM (pieces.draw_seed v)
 seed_made v = record {
@@ -50,9 +48,4 @@ pub begin_fill : (v : View) → Leads (FILL ∷ []) v GOALL (pieces.begin_fill v
 begin_fill v = record { by = λ f q. refl }
 
 pub fill_byte : (v : View) → Leads (FILL ∷ []) v FILL (pieces.fill_byte v)
-fill_byte v = record {
-  by = λ f q.
-      pick (difference_of Word v.r.r12 1 == 0)
-      (λ c. rw c refl)
-      (λ c. rw c refl);
-}
+fill_byte v = record { by = λ f q. pick (difference_of Word v.r.r12 1 == 0) (λ c. rw c refl) (λ c. rw c refl) }

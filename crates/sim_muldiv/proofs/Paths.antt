@@ -8,12 +8,7 @@ use Rattle.sim_muldiv.proofs.Numbers.{below_or_equal, division_is, some_divisor}
 use Rattle.sim_muldiv.specs.Pieces as pieces
 
 pub multiply : (v : View) → Leads (STO ∷ STORE ∷ []) v MULV (pieces.multiply v)
-multiply v = record {
-  by = λ f q.
-      pick (v.r.r3 == 1)
-      (λ c. rw c refl)
-      (λ c. rw c refl);
-}
+multiply v = record { by = λ f q. pick (v.r.r3 == 1) (λ c. rw c refl) (λ c. rw c refl) }
 
 pub low_product : (v : View) → Leads (STO ∷ []) v MULB (pieces.low_product v)
 low_product v = record { by = λ f q. refl }

@@ -44,9 +44,4 @@ pub shift_right : (v : View) → 0 < v.r.r0 → v.r.r0 < 16 → Leads (STO ∷ [
 shift_right v some few = record { by = λ f q. rw (count_is v.r.r0 some few) refl }
 
 pub turn_right : (v : View) → 0 < v.r.r0 → v.r.r0 < 16 → Leads (STO ∷ []) v SRCB (pieces.turn_right v)
-turn_right v some few = record {
-  by = λ f q.
-      pick (v.r.r3 == 1)
-      (λ c. rw (c, count_is v.r.r0 some few) refl)
-      (λ c. rw (c, count_is v.r.r0 some few) refl);
-}
+turn_right v some few = record { by = λ f q. pick (v.r.r3 == 1) (λ c. rw (c, count_is v.r.r0 some few) refl) (λ c. rw (c, count_is v.r.r0 some few) refl) }

@@ -86,19 +86,18 @@ pub record Stepping (made : ℕ) (s : GplState) (x z : MachineState) (t u : ℕ)
   pub counted : u ≡ t + count
   pub turns_are : AreTurns s made count x z
 
-pub none_yet : (x : MachineState) (t : ℕ) → IsMatching x → Stepping 0 (shown_by x.cpu.memory) x x t t
-none_yet x t m =
+pub none_yet : {x : MachineState} {t : ℕ} → IsMatching x → Stepping 0 (shown_by x.cpu.memory) x x t t
+none_yet {x = x} m =
     record {
       now = shown_by x.cpu.memory;
       steps_are = refl;
       matches = record { matching = m; shows = refl };
       count = 0;
       counted = omega arith;
-      turns_are =
-          (refl, refl);
+      turns_are = (refl, refl);
     }
 
-module _ (made : ℕ) (s : GplState) (x z w : MachineState) (t u v : ℕ) (h : Stepping made s x z t u) where
+module _ (made : ℕ) {s : GplState} {x z w : MachineState} {t u v : ℕ} (h : Stepping made s x z t u) where
   -- the state after the steps that were made is the last of their run
   pub last_is : (run made s).last ≡ h.now
   last_is = ap (λ (q : GplRun). q.last) (run_whole made s h.now h.steps_are)
@@ -153,8 +152,8 @@ module _ (made : ℕ) (s : GplState) (x z w : MachineState) (t u v : ℕ) (h : S
       RunsTurns s limit x w t v made (Some reason)
   stopped limit reason less e = stopped_as limit reason less (step h.now) refl (of_now (Stopped reason) e)
 
-pub whole : (limit : ℕ) (s : GplState) (x z : MachineState) (t u : ℕ) → Stepping limit s x z t u → RunsTurns s limit x z t u limit None
-whole limit s x z t u h =
+pub whole : (limit : ℕ) {s : GplState} {x z : MachineState} {t u : ℕ} → Stepping limit s x z t u → RunsTurns s limit x z t u limit None
+whole limit {s = s} {x = x} {z = z} h =
     let is = run_whole limit s h.now h.steps_are in
     record {
       done_is = sym (ap (λ (q : GplRun). q.done) is);

@@ -1,5 +1,4 @@
 use Rattle.std.proofs.Common.{◌∙◌, ap, Some, sym}
-use Rattle.sim_rows.proofs.Common.{state_at_dispatch, view}
 use Rattle.sim_flow.proofs.Dispatch.{case_here, is_exit, is_jump, stands_at}
 use Rattle.sim_flow.proofs.Jumping
 use Rattle.sim_flow.proofs.family.run_flow.Goals as goal
@@ -10,8 +9,7 @@ leave-requires g c = stands_at c.requires (is_exit c.requires (sym c.operation_t
 pub returns-in-Some-Plain : goal.returns-in-Some-Plain
 returns-in-Some-Plain g c =
     let is = is_exit c.requires (sym c.operation_told.ensures ∙ c.in-Some-Plain.is ∙ ap Some c.in-Some-Plain.field-0-is) in
-    Jumping.exits (state_at_dispatch (view c.args.machine.now)) c.args.machine.now c.leave.new.machine c.args.steps.now c.leave.new.steps
-    c.requires.dispatched is (stands_at c.requires is) c.leave.ensures
+    Jumping.exits c.requires.dispatched is (stands_at c.requires is) c.leave.ensures
 
 pub run_jump-requires-clause-stands : goal.run_jump-requires-clause-stands
 run_jump-requires-clause-stands g c =
