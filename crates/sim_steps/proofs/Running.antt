@@ -97,7 +97,7 @@ none_yet {x = x} m =
       turns_are = (refl, refl);
     }
 
-module _ (made : ℕ) {s : GplState} {x z w : MachineState} {t u v : ℕ} (h : Stepping made s x z t u) where
+module _ (made : ℕ) {s : GplState} {x z : MachineState} {t u : ℕ} (h : Stepping made s x z t u) (w : MachineState) (v : ℕ) where
   -- the state after the steps that were made is the last of their run
   pub last_is : (run made s).last ≡ h.now
   last_is = ap (λ (q : GplRun). q.last) (run_whole made s h.now h.steps_are)

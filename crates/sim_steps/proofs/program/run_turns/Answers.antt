@@ -13,13 +13,13 @@ pub returns-in-Stopped : goal.returns-in-Stopped
 returns-in-Stopped g c =
     let z = c.loop-made.machine in
     let P : Turn → Type 0 = λ turn. Turned (shown_by z.cpu.memory) 0 z c.gpl_turn.new.machine c.loop-made.steps c.gpl_turn.new.steps turn in
-    stopped c.loop-made.made c.loop-made.invariant c.args.limit c.in-Stopped.reason c.loop-made-test.true (subst P c.in-Stopped.is c.gpl_turn.ensures)
+    stopped c.loop-made.made c.loop-made.invariant _ _ c.args.limit c.in-Stopped.reason c.loop-made-test.true (subst P c.in-Stopped.is c.gpl_turn.ensures)
 
 pub loop-made-preserved : goal.loop-made-preserved
 loop-made-preserved g c =
     let z = c.loop-made.machine in
     let P : Turn → Type 0 = λ turn. Turned (shown_by z.cpu.memory) 0 z c.gpl_turn.new.machine c.loop-made.steps c.gpl_turn.new.steps turn in
-    stepped c.loop-made.made c.loop-made.invariant (subst P c.in_default.is c.gpl_turn.ensures)
+    stepped c.loop-made.made c.loop-made.invariant _ _ (subst P c.in_default.is c.gpl_turn.ensures)
 
 pub returns : goal.returns
 returns g c =
