@@ -4,8 +4,8 @@ use line_table::{name_count, name_row, row, row_count};
 use native_interp::{BEHIND, GBOOT, GEXIT, GOBACK, ORIGIN, interpreter_words};
 use std::test::Fail;
 
-/// Lines by their numbers from 0: the place, how many words there are, and the first of them, else 0. They are the first comment,
-/// the origin, an EQU, and the first words.
+/// Lines by their numbers from 0: the place, how many words there are, and the first of them, else 0. They are the
+/// first comment, the origin, an EQU, and the first words.
 const LINES: &[(usize, u16, u8, u16)] = &[
     (0, 0, 0, 0),
     (23, 0, 0, 0),

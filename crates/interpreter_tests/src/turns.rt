@@ -19,8 +19,8 @@ type Cells = &'static [(u8, u8)];
 /// Bytes of video memory, by their address.
 type Video = &'static [(u16, u8)];
 
-/// A program's name, the program and the most steps; then how many are made, why there is no further one, where the machine
-/// ends, and what the cells and video memory hold.
+/// A program's name, the program and the most steps; then how many are made, why there is no further one, where the
+/// machine ends, and what the cells and video memory hold.
 const RUNS: &[(&str, Program, u32, u32, Option<Reason>, u16, Cells, Video)] = &[
     (
         "ST @>8300,>12; EXIT",

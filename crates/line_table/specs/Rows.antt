@@ -1,5 +1,5 @@
 -- What the rows of the table say of the interpreter's source.
-use Rattle.std.specs.Prelude.{◌≡◌, ℕ, ◌-◌, ◌/◌, true, List, [], ◌∷◌, ◌++◌, length, slice_index_or, take, drop, map, Ok}
+use Rattle.std.specs.Prelude.{◌≡◌, ℕ, ◌-◌, ◌/◌, IsTrue, List, [], ◌∷◌, ◌++◌, length, slice_index_or, take, drop, map, Ok}
 use Rattle.source_defs.specs.Expression.{Value, Absolute}
 use Rattle.source_defs.specs.Symbols.{registers}
 use Rattle.source_defs.specs.Layout.{laid, numbered}
@@ -45,7 +45,7 @@ pub record NamesAreDefined : Type 0 where
   pub all : List Line
   pub are_laid : laid check (numbered 1 lines) ≡ Ok all
   pub names : names_of_lines all ≡ defined
-  pub new : are_new registers defined ≡ true
+  pub new : IsTrue (are_new registers defined)
 
 -- what a row of a name says
 abbrev pub named : NameRow → List ℕ × Value

@@ -1,6 +1,6 @@
 //! The rows by their numbers.
 
-ghost use Rattle.std.specs.Prelude.{◌≡◌, true, ◌<◌, ◌++◌, length, map, slice_index_or};
+ghost use Rattle.std.specs.Prelude.{◌≡◌, IsTrue, ◌<◌, ◌++◌, length, map, slice_index_or};
 ghost use Rattle.native_interp.specs.Source.{lines};
 ghost use Rattle.line_table.specs.Table.{defined, nothing};
 ghost use Rattle.line_table.specs.Rows.{IsRow, IsNameRow, named};
@@ -107,7 +107,7 @@ pub fn row(index: usize) -> LineRow
 
 /// The row of a text that is a name.
 fn named_row(text: &[u8], value: u16) -> NameRow
-    requires { is_kept_name text.now ≡ true }
+    requires { IsTrue (is_kept_name text.now) }
     ensures { named result ≡ (text.now, Absolute value) }
 {
     match Name::read(text) {

@@ -1,5 +1,5 @@
 -- What the code keeps of the bytes that lines place.
-use Rattle.std.specs.Prelude.{◌≡◌, ℕ, Bool, true, false, List, ◌∷◌, length, Option, None, Result, if◌then◌else◌}
+use Rattle.std.specs.Prelude.{◌≡◌, ℕ, Bool, IsTrue, false, List, ◌∷◌, length, Option, None, Result, if◌then◌else◌}
 use Rattle.source_defs.specs.Refusals.{seen}
 use Rattle.object_defs.specs.Modules.{Reference}
 use Rattle.asm_defs.specs.declared.causes.AsmCause.{AsmCause}
@@ -47,7 +47,9 @@ pub record IsPlacedBehind {A : Type 0} (references : List Reference) (earlier : 
   pub image : IsImage references (line ∷ earlier) new
 
 -- so it is where its bytes were given
-abbrev pub Places : {A : Type 0} → List Reference → List Settled → Settled → Location → List Content → Result A AsmCause → Image → Image → Type 0
+abbrev pub Places : {A : Type 0} → List Reference → List Settled → Settled → Location → List Content
+    → Result A AsmCause → Image → Image → Type 0
 Places references earlier line at given result old new =
-    IsImage references earlier old → line.at ≡ at → (is_placed_in at.part ≡ true → given ≡ contents references earlier line)
+    IsImage references earlier old → line.at ≡ at
+    → (IsTrue (is_placed_in at.part) → given ≡ contents references earlier line)
     → IsPlacedBehind references earlier line result new

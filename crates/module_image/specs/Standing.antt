@@ -1,5 +1,5 @@
 -- Lines that stand as they are behind others, whatever names are still to come.
-use Rattle.std.specs.Prelude.{◌≡◌, ⊤, ℕ, true, List, [], ◌∷◌, Ok}
+use Rattle.std.specs.Prelude.{◌≡◌, ⊤, ℕ, IsTrue, List, [], ◌∷◌, Ok}
 use Rattle.asm_defs.specs.declared.location.Part.{Part}
 use Rattle.asm_defs.specs.Memory.{Settled, bytes_in, is_placed}
 use Rattle.asm_defs.specs.Modules.{with_room}
@@ -8,7 +8,7 @@ use Rattle.asm_defs.specs.Growing.{stands}
 -- a line has room behind others, and stands as it is
 pub record StandsBehind (earlier : List Settled) (line : Settled) : Type 0 where
   pub room : with_room earlier line ≡ Ok line
-  pub stands : stands line.outcome ≡ true
+  pub stands : IsTrue (stands line.outcome)
 
 -- and so does each of some lines in their order
 abbrev pub AllStand : List Settled → List Settled → Type 0

@@ -7,6 +7,7 @@ use Rattle.std.specs.Prelude.{
   ◌/◌,
   ◌<◌,
   Bool,
+  IsTrue,
   true,
   not,
   nat_eq,
@@ -127,7 +128,7 @@ follow address [] = true
 follow address (routine ∷ rest) = nat_eq address routine.0 && follow (address + 2 * length routine.1) rest
 
 abbrev pub RoutinesStand : Type 0
-RoutinesStand = follow origin routines ≡ true
+RoutinesStand = IsTrue (follow origin routines)
 
 -- Where the instruction of an operation begins: its own place, or that of the operands of all rows, where MUL and DIV
 -- have a wider destination. A code byte that is no instruction's stops.

@@ -3,7 +3,7 @@ use Rattle.std.specs.Prelude.{
   ◌≡◌,
   ℕ,
   Bool,
-  true,
+  IsTrue,
   not,
   ◌&&◌,
   ◌||◌,
@@ -105,8 +105,8 @@ statement_is_in_form line =
     names_a_number line && has_three_words line && nat_le (count_by is_operator line) 1
 
 pub record LinesAreInForm : Type 0 where
-  pub short : list_all is_short_text lines ≡ true
+  pub short : IsTrue (list_all is_short_text lines)
   pub begin_at_2000 : take 1 statements ≡ codes "       AORG >2000" ∷ []
   pub one_origin : count_by (λ line. has_operation line (codes "AORG")) statements ≡ 1
-  pub plain : list_all statement_is_in_form statements ≡ true
+  pub plain : IsTrue (list_all statement_is_in_form statements)
   pub end : take 1 (reverse lines) ≡ codes "       END GBOOT" ∷ []

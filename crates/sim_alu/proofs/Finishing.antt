@@ -1,16 +1,15 @@
 -- The result of a row is stored, and then its status.
 use Rattle.std.proofs.Common.{ℕ, ⊎_elim, ◌∙◌, ◌≡◌, ap, arith, List, refl, Result, slice_set, Some, subst, sym, true}
 use Rattle.sim_rows.proofs.Common.{Changed, ChangedFrom, Changes, Comes, comes, comes_as, comes_on, comes_then, EndsRow, even, Exits, Goes, gone_on}
-use Rattle.sim_rows.proofs.Common.{GplOperation, GSTEP, high, idle_again, is_view, join, MachineState, PortsAreIdle, Reason, row_width, RunsRow, SeesFinished}
-use Rattle.sim_rows.proofs.Common.{SeesResult, SHOW, Stands, STATB, STATUS, STO, store_then, stored_idle, StoresResult, StoresValue, Storing, unchanged, View}
-use Rattle.sim_rows.proofs.Common.{view, with_status, with_value}
+use Rattle.sim_rows.proofs.Common.{GplOperation, GSTEP, high, idle_again, is_view, join, MachineState, most_of_alu_row, most_of_store, PortsAreIdle, Reason}
+use Rattle.sim_rows.proofs.Common.{row_width, RunsRow, SeesFinished, SeesResult, SHOW, Stands, STATB, STATUS, STO, store_then, stored_idle, StoresResult}
+use Rattle.sim_rows.proofs.Common.{StoresValue, Storing, unchanged, View, view, with_status, with_value}
 use Rattle.sim_alu.specs.Family.{is_alu, result_piece}
 use Rattle.sim_alu.specs.Tails.{StoresWithStatus}
 use Rattle.sim_alu.proofs.Frames.{frame}
 use Rattle.sim_alu.proofs.Making.{Flagged, Plain}
 use Rattle.sim_alu.specs.Pieces as piece
 use Rattle.sim_alu.proofs.Making
-use Rattle.sim_rows.specs.sim_view.Bounds.{most_of_alu_row, most_of_store}
 
 -- ---- the status behind the result
 

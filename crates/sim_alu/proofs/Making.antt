@@ -3,9 +3,9 @@ use Rattle.std.proofs.Common.{ℕ, ◌<◌, ◌∙◌, ◌≡◌, ◌≤◌, ◌
 use Rattle.sim_rows.proofs.Common.{◌>>=◌, absolute_flags, absolute_of, AtRow, Byte, bytes_by, changed_again, Changes, code_byte, complement_of, conjunction_of}
 use Rattle.sim_rows.proofs.Common.{destination_bytes, difference_flags, difference_of, exclusive_or_of, Exit, exit, first_of, Flags, gone_on, GplOperation}
 use Rattle.sim_rows.proofs.Common.{GplState, GromState, has_source, in_register, IsView, join, modulus, negation_flags, negation_of, of_register, one_below}
-use Rattle.sim_rows.proofs.Common.{OneName, ones_cleared, ones_set, operands_of, operation_in, Place, Reason, row_changed, row_result, row_width, second_by, size_of}
-use Rattle.sim_rows.proofs.Common.{Source, STATB, status_byte, STO, STORE, Storing, sum_flags, sum_of, unchanged, unit, value_at, View, Width, width_again}
-use Rattle.sim_rows.proofs.Common.{width_in, with_status, with_value, Word}
+use Rattle.sim_rows.proofs.Common.{OneName, ones_cleared, ones_set, operands_of, operation_in, Place, Reason, row_changed, row_result, row_width, second_by}
+use Rattle.sim_rows.proofs.Common.{size_of, Source, STATB, status_byte, STO, STORE, Storing, sum_flags, sum_of, unchanged, unit, value_at, View, Width}
+use Rattle.sim_rows.proofs.Common.{width_again, width_in, with_status, with_value, Word}
 use Rattle.sim_rows.specs.gpl_defs.declared.instruction.OneName.TheVariants as one
 use Rattle.sim_rows.specs.gpl_defs.declared.instruction.TwoName.TheVariants as two
 use Rattle.sim_rows.specs.gpl_defs.declared.instruction.GplOperation.TheVariants as operation

@@ -2,8 +2,8 @@
 use Rattle.std.proofs.Common.{[], ℕ, ◌∷◌, ap, refl}
 pub use Rattle.sim_rows.proofs.Common.{piece}
 use Rattle.sim_rows.proofs.Common.{absolute_flags, absolute_of, ABSV, ADDV, ANDV, Answer, CLRV, DECTV, difference_flags, difference_of, Gives, INCTV, INVV}
-use Rattle.sim_rows.proofs.Common.{Leads, negation_flags, negation_of, NEGV, ORV, SHOW, STATB, STO, STORE, STV, SUBV, sum_flags, sum_of, View, Word}
-use Rattle.sim_rows.proofs.Common.{WORKSPACE, XORV}
+use Rattle.sim_rows.proofs.Common.{Leads, negation_flags, negation_of, NEGV, ORV, SHOW, STATB, STO, STORE, STV, SUBV, sum_flags, sum_of, View, Word, WORKSPACE}
+use Rattle.sim_rows.proofs.Common.{XORV}
 use Rattle.sim_alu.proofs.Status.{kept_is}
 use Rattle.sim_alu.specs.Pieces as pieces
 

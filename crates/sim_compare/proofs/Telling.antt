@@ -3,8 +3,8 @@ use Rattle.std.proofs.Common.{ℕ, ◌+◌, ◌<◌, ◌==◌, ◌∙◌, ◌≡
 use Rattle.std.proofs.Common.{slice_set, Some, subst, sym, true}
 use Rattle.sim_rows.proofs.Common.{Byte, bytes_by, CEQ, CGE, CGT, CH, CHE, CLOG, Comes, comes, comes_then, CTRUE, CZ, Exits, Goes, gone_on, GplOperation}
 use Rattle.sim_rows.proofs.Common.{GplState, GSTEP, in_register, is_end, IsView, loaded_of, MachineState, modulus, next_of, One, ones_cleared, ones_set}
-use Rattle.sim_rows.proofs.Common.{operation_in, Place, row_result, row_width, RunsRow, Sees, SeesFinished, SeesResult, signed, Source, Stands, Two}
-use Rattle.sim_rows.proofs.Common.{unchanged, value_at, View, view, Width, width_in, with_condition, Word}
+use Rattle.sim_rows.proofs.Common.{operation_in, Place, row_result, row_width, RunsRow, Sees, SeesFinished, SeesResult, signed, Source, Stands, Two, unchanged}
+use Rattle.sim_rows.proofs.Common.{value_at, View, view, Width, width_in, with_condition, Word}
 use Rattle.sim_compare.specs.Pieces.{end_of, told}
 use Rattle.sim_compare.specs.Family.{compared, comparison, ending, is_comparison, IsTold}
 use Rattle.sim_compare.proofs.Numbers.{at_most, at_most_signed, below_in_register, equal_in_register, number_fits, ones_in_register, order_in_register}

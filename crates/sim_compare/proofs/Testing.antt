@@ -2,15 +2,14 @@
 use Rattle.std.proofs.Common.{ℕ, ◌<◌, ◌==◌, ◌∙◌, ◌≡◌, ap, arith, Bool, false, List, Ok, Option, refl, Result, slice_index, Some, subst, true}
 use Rattle.sim_rows.proofs.Common.{after, AtDispatch, behind_code, bound, bound_at, bound_by, CARRY, Changes, code_byte, Comes, comes, CTRUE, executed, Exits}
 use Rattle.sim_rows.proofs.Common.{finished, Goes, GplOperation, GplRead, GplState, GT, H, is_end, is_set, is_view, IsView, join, last_out, low, MachineState}
-use Rattle.sim_rows.proofs.Common.{matches, operation_at, operation_entry, operation_in, operation_seen, OVF, Plain, PlainOp, reaches, read_by, reading}
-use Rattle.sim_rows.proofs.Common.{Reason, Sees, shifted, SLA, state_at_dispatch, status_of, step, Stepped, Turned, turned_by, unchanged, View, view}
-use Rattle.sim_rows.proofs.Common.{with_tested}
+use Rattle.sim_rows.proofs.Common.{matches, most_to_dispatch, operation_at, operation_entry, operation_in, operation_seen, OVF, Plain, PlainOp, reaches}
+use Rattle.sim_rows.proofs.Common.{read_by, reading, Reason, Sees, shifted, SLA, state_at_dispatch, status_of, step, Stepped, Turned, turned_by, unchanged}
+use Rattle.sim_rows.proofs.Common.{View, view, with_tested}
 use Rattle.sim_compare.specs.Pieces.{end_of}
 use Rattle.sim_compare.specs.Family.{ending, is_test, IsTold, test, tested}
 use Rattle.sim_compare.proofs.Numbers.{bit_out_1, bit_out_2, bit_out_4, bit_out_5}
 use Rattle.sim_compare.proofs.Telling.{is_told, tells, told_goes}
 use Rattle.sim_compare.specs.Pieces as pieces
-use Rattle.sim_rows.specs.interp_defs.Interpreter.{most_to_dispatch}
 
 -- ---- the operations
 

@@ -2,18 +2,17 @@
 use Rattle.std.proofs.Common.{ℕ, ◌<◌, ◌==◌, ◌∙◌, ◌≡◌, ap, arith, Bool, false, if◌then◌else◌, List, nat_lt, not, refl, subst, sym}
 use Rattle.std.proofs.lemmas.Bool.{eqb-false, eqb-true, ltb-false, ltb-true}
 use Rattle.std.proofs.Math.Nat.{pos_of_ne-zero}
-use Rattle.sim_rows.proofs.Common.{byte_from, Changes, Comes, comes, comes_as, comes_on, comes_then, COPY, COPYN, COPYS, Cpu, Exits}
-use Rattle.sim_rows.proofs.Common.{fetched_again, From, FromGrom, FromMemory, GplState, grom_at, GromState, high, idle_again, idle_grom, idle_told}
-use Rattle.sim_rows.proofs.Common.{idle_video, in_register, IsFetched, IsVisible, join, LOAD, Loaded, LoadsStream, LoadsValue, MachineState, marked_by}
-use Rattle.sim_rows.proofs.Common.{next_at, of_register, pick, Place, place_in, PortsAreIdle, return_of, Space, Stands, state_of, STORE, Stored}
-use Rattle.sim_rows.proofs.Common.{StoresRegister, StoresValue, streamed, To, ToMemory, ToRegisters, unchanged, value_at, Vdp, View, view, width_in}
-use Rattle.sim_rows.proofs.Common.{with_byte_in, with_byte_to, with_value}
+use Rattle.sim_rows.proofs.Common.{byte_from, Changes, Comes, comes, comes_as, comes_on, comes_then, COPY, COPYN, COPYS, Cpu, Exits, fetched_again, From}
+use Rattle.sim_rows.proofs.Common.{FromGrom, FromMemory, GplState, grom_at, GromState, high, idle_again, idle_grom, idle_told, idle_video, in_register}
+use Rattle.sim_rows.proofs.Common.{IsFetched, IsVisible, join, LOAD, Loaded, LoadsStream, LoadsValue, MachineState, marked_by, most_of_load, most_of_store}
+use Rattle.sim_rows.proofs.Common.{next_at, of_register, pick, Place, place_in, PortsAreIdle, return_of, Space, Stands, state_of, STORE, Stored, StoresRegister}
+use Rattle.sim_rows.proofs.Common.{StoresValue, streamed, To, ToMemory, ToRegisters, unchanged, value_at, Vdp, View, view, width_in, with_byte_in, with_byte_to}
+use Rattle.sim_rows.proofs.Common.{with_value}
 use Rattle.sim_rows.specs.gpl_defs.Reading.{value_at as value_in}
 use Rattle.sim_copy.proofs.Places.{at_pc}
 use Rattle.sim_copy.specs.Bytes.{AtByte, AtCopy, AtEnd, ByParts, byte_copied, CopiesAt, CopiesByte, Counted, grom_behind, source_in, target_in}
 use Rattle.sim_copy.specs.Pieces as pieces
 use Rattle.sim_rows.specs.native_interp.declared.addresses.TheConstants.{COPYE}
-use Rattle.sim_rows.specs.sim_view.Bounds.{most_of_load, most_of_store}
 
 -- ---- LOAD
 

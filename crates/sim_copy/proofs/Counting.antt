@@ -2,9 +2,9 @@
 use Rattle.std.proofs.Common.{ℕ, ◌%◌, ◌*◌, ◌+◌, ◌-◌, ◌<◌, ◌==◌, ◌||◌, ◌∙◌, ◌≡◌, ◌≤◌, ap, arith, Bool, false, if◌then◌else◌, List, refl, slice_index}
 use Rattle.std.proofs.Common.{slice_set, subst, suc, sym, true, zero}
 use Rattle.std.proofs.lemmas.Bool.{le-ltb, lt-ltb}
-use Rattle.sim_rows.proofs.Common.{begins, byte_from, byte_in, Changes, Comes, comes_as, comes_on, copied, Cpu, difference_of, From, FromGrom}
-use Rattle.sim_rows.proofs.Common.{FromMemory, GplState, grom_at, GromState, idle_grom, idle_told, idle_video, is_view, IsFetched, LoadsFrom, MachineState}
-use Rattle.sim_rows.proofs.Common.{marked_by, Memory, next_at, next_from, next_in_grom, next_to, number_of_space, Place, place_in, place_is, previous-next}
+use Rattle.sim_rows.proofs.Common.{begins, byte_from, byte_in, Changes, Comes, comes_as, comes_on, copied, Cpu, difference_of, From, FromGrom, FromMemory}
+use Rattle.sim_rows.proofs.Common.{GplState, grom_at, GromState, idle_grom, idle_told, idle_video, is_view, IsFetched, LoadsFrom, MachineState, marked_by}
+use Rattle.sim_rows.proofs.Common.{Memory, next_at, next_from, next_in_grom, next_to, number_of_space, Place, place_in, place_is, previous-next}
 use Rattle.sim_rows.proofs.Common.{previous_in_grom, Space, space_small, state_of, sum_of, To, ToMemory, ToRegisters, unchanged, Vdp, View, view, view_of}
 use Rattle.sim_rows.proofs.Common.{with_byte_in, with_byte_to, Word}
 use Rattle.sim_copy.specs.Copying.{Copying, InGrom, StandsFrom, StandsTo}

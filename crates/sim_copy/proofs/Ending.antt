@@ -1,9 +1,9 @@
 -- The beginning and the end of the copy.
 use Rattle.std.proofs.Common.{ℕ, ◌*◌, ◌+◌, ◌<◌, ◌==◌, ◌∙◌, ◌≡◌, ◌≤◌, ap, arith, if◌then◌else◌, refl, subst, sym}
 use Rattle.std.proofs.lemmas.Bool.{ne_eqb}
-use Rattle.sim_rows.proofs.Common.{Changed, Changes, Comes, comes, comes_as, comes_on, copied, EndsRow, Exits, fetched_again, From}
-use Rattle.sim_rows.proofs.Common.{FromGrom, FromMemory, GSTEP, idle_again, IsFetched, MachineState, Place, PortsAreIdle, RESUME, SeesFinished, SHOW, Stands}
-use Rattle.sim_rows.proofs.Common.{space_small, To, ToMemory, ToRegisters, View, view, with_pc}
+use Rattle.sim_rows.proofs.Common.{Changed, Changes, Comes, comes, comes_as, comes_on, copied, EndsRow, Exits, fetched_again, From, FromGrom, FromMemory, GSTEP}
+use Rattle.sim_rows.proofs.Common.{idle_again, IsFetched, MachineState, Place, PortsAreIdle, RESUME, SeesFinished, SHOW, space_small, Stands, To, ToMemory}
+use Rattle.sim_rows.proofs.Common.{ToRegisters, View, view, with_pc}
 use Rattle.sim_jumps.specs.Jumps.{ResumesRow}
 use Rattle.sim_copy.specs.Copying.{CopiesBytes, Copying, InGrom, InMemory, StandsFrom, StandsTo}
 use Rattle.sim_copy.proofs.Places.{at_end, at_pc, begins_few, begins_there, runs_on}

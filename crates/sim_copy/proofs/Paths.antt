@@ -1,7 +1,7 @@
 -- The runs of the pieces on the view.
 use Rattle.std.proofs.Common.{[], ℕ, ◌<◌, ◌==◌, ◌∷◌, ◌≡◌, arith, false, List, nat_lt, refl, slice_index, slice_set, subst, sym, true}
 pub use Rattle.sim_rows.proofs.Common.{piece}
-use Rattle.sim_rows.proofs.Common.{COPY, COPYN, COPYS, difference_of, Exit, exit, leads, Leads, LOAD, MOVEB, Part, part_then, past, pick, plus, RESUME, Rest}
+use Rattle.sim_rows.proofs.Common.{COPY, COPYN, COPYS, difference_of, Exit, exit, Leads, leads, LOAD, MOVEB, Part, part_then, past, pick, plus, Rest, RESUME}
 use Rattle.sim_rows.proofs.Common.{SHOW, spot_cell, STORE, sum_of, View, Word}
 use Rattle.sim_rows.specs.sim_operands.Pieces.{marked}
 use Rattle.sim_rows.specs.native_interp.declared.addresses.TheConstants.{COPYC, COPYCN, COPYE, COPYG, COPYGN}

@@ -1,15 +1,14 @@
 -- BR and BS from their dispatch to the end of the step.
 use Rattle.std.proofs.Common.{ℕ, ◌%◌, ◌<◌, ◌∙◌, ◌≡◌, ◌≤◌, ap, arith, Bool, false, if◌then◌else◌, List, Ok, refl, slice_index, slice_set, Some, subst, true}
-use Rattle.sim_rows.proofs.Common.{behind_code, bound, bound_made, Branch, BRANCH, branched, BTEST, Byte, CFALSE, Changes, code_byte, Comes, comes, comes_on}
+use Rattle.sim_rows.proofs.Common.{behind_code, bound, bound_made, BRANCH, Branch, branched, BTEST, Byte, CFALSE, Changes, code_byte, Comes, comes, comes_on}
 use Rattle.sim_rows.proofs.Common.{comes_then, condition, Dispatched, Exits, finished, Goes, GplState, GromState, GSTEP, in_grom_of, is_end, is_set, is_taken}
-use Rattle.sim_rows.proofs.Common.{is_view, IsView, join, last_out, low, MachineState, matches, next_in_grom, ones_cleared, operation_in, past, reaches, Sees}
-use Rattle.sim_rows.proofs.Common.{SeesFinished, shifted, SLA, SRL, Stands, step_branch, Stepped, TAKE, Turned, turned_by, unchanged, View, view}
-use Rattle.sim_rows.proofs.Common.{with_condition}
+use Rattle.sim_rows.proofs.Common.{is_view, IsView, join, last_out, low, MachineState, matches, most_to_dispatch, next_in_grom, ones_cleared, operation_in}
+use Rattle.sim_rows.proofs.Common.{past, reaches, Sees, SeesFinished, shifted, SLA, SRL, Stands, step_branch, Stepped, TAKE, Turned, turned_by, unchanged, View}
+use Rattle.sim_rows.proofs.Common.{view, with_condition}
 use Rattle.sim_jumps.specs.Jumps.{TakesBranch}
 use Rattle.sim_compare.specs.Pieces as compare
 use Rattle.sim_flow.proofs.Numbers.{condition_out, on_is, target_is}
 use Rattle.sim_flow.specs.Pieces as pieces
-use Rattle.sim_rows.specs.interp_defs.Interpreter.{most_to_dispatch}
 
 -- the address behind the instruction, and the target
 abbrev behind : GplState → ℕ

@@ -1,6 +1,6 @@
 -- CASE is a row, and the only one of this family.
 use Rattle.std.proofs.Common.{◌≡◌, ◌∙◌, ap, Option, refl, Some, subst, sym, true}
-use Rattle.sim_rows.proofs.Common.{AtDispatch, B, CASE, EXIT, GplOperation, is_row, GoOp, Jump, MachineState, One, OneName, operation_entry, operation_seen}
+use Rattle.sim_rows.proofs.Common.{AtDispatch, B, CASE, EXIT, GoOp, GplOperation, is_row, Jump, MachineState, One, OneName, operation_entry, operation_seen}
 use Rattle.sim_rows.proofs.Common.{Plain, PlainOp, Stands, view}
 use Rattle.sim_flow.specs.Family.{is_case, is_flow}
 

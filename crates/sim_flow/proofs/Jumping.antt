@@ -1,13 +1,12 @@
 -- EXIT and B.
 use Rattle.std.proofs.Common.{ℕ, ◌≡◌, ap, arith, Err, Ok, refl, Some}
-use Rattle.sim_rows.proofs.Common.{B, behind_code, bound, bound_made, bound_stop, comes, comes_on, Dispatched, Ended, EXIT, exit, Exit as Ending}
-use Rattle.sim_rows.proofs.Common.{Exits, from, GEXIT, GOB, Goes, GOEXIT, GOTO, GplState, grom_at, GromState, is_end, Jump, known, leaves, MachineState}
-use Rattle.sim_rows.proofs.Common.{matches, operation_in, Plain, reaches, Sees, Stands, step_jump, step_plain, Stepped, Stopped, Turned, turned_by}
+use Rattle.sim_rows.proofs.Common.{B, behind_code, bound, bound_made, bound_stop, comes, comes_on, Dispatched, Ended, EXIT, exit, Exit as Ending, Exits, from}
+use Rattle.sim_rows.proofs.Common.{GEXIT, GOB, Goes, GOEXIT, GOTO, GplState, grom_at, GromState, is_end, Jump, known, leaves, MachineState, matches}
+use Rattle.sim_rows.proofs.Common.{most_to_dispatch, operation_in, Plain, reaches, Sees, Stands, step_jump, step_plain, Stepped, Stopped, Turned, turned_by}
 use Rattle.sim_rows.proofs.Common.{View, view, word_at}
 use Rattle.sim_rows.specs.gpl_step_defs.declared.reason.Reason.TheVariants.{Exit}
 use Rattle.sim_jumps.specs.Jumps.{GoesOn}
 use Rattle.sim_flow.specs.Pieces as pieces
-use Rattle.sim_rows.specs.interp_defs.Interpreter.{most_to_dispatch}
 
 -- EXIT
 pub exits : {s : GplState} {x y : MachineState} {t u : ℕ} → Dispatched s (view x) → operation_in s ≡ Some (Plain EXIT) → Stands x GOEXIT →

@@ -1,8 +1,8 @@
 -- Facts about numbers that the instructions which go on elsewhere need.
 use Rattle.std.proofs.Common.{ℕ, ◌%◌, ◌*◌, ◌/◌, ◌<◌, ◌==◌, ◌∙◌, ◌≡◌, ap, arith, Bool, eqb, false, if◌then◌else◌, Option, refl, Some, sym, true}
 use Rattle.std.proofs.lemmas.Bool.{agree_below_at}
-use Rattle.sim_rows.proofs.Common.{Branch, Byte, GplOperation, high, in_grom_of, in_register, is_set, join, last_out, next_in_grom, operation_at, plus}
-use Rattle.sim_rows.proofs.Common.{shifted, size_of, SLA, SRL, sum_of, Width, Word}
+use Rattle.sim_rows.proofs.Common.{Branch, Byte, GplOperation, high, in_grom_of, in_register, is_set, join, last_out, next_in_grom, operation_at, plus, shifted}
+use Rattle.sim_rows.proofs.Common.{size_of, SLA, SRL, sum_of, Width, Word}
 
 -- ---- the target of BR and BS
 

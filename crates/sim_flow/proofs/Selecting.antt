@@ -2,15 +2,14 @@
 use Rattle.std.proofs.Common.{ℕ, ◌*◌, ◌<◌, ◌==◌, ◌∙◌, ◌≡◌, ap, arith, Option, refl, Some, subst}
 use Rattle.sim_rows.proofs.Common.{AtRow, bytes_by, CASE, CASEN, CASET, CASEV, Comes, comes, comes_on, comes_then, destination_bytes, Exit, exit, Exits, from}
 use Rattle.sim_rows.proofs.Common.{Goes, GplOperation, GplState, grom_at, GromState, GSTEP, in_register, is_view, IsView, just, known, loaded_of, located_at}
-use Rattle.sim_rows.proofs.Common.{lost, MachineState, next_of, One, operation_in, Place, plus, return_of, row_result, row_width, RunsRow, SEEK, Sees}
-use Rattle.sim_rows.proofs.Common.{SeesResult, set_is, size_of, Source, Stands, sum_of, TAKE, value_at, View, view, WHERE, where_found, Width, width_again}
-use Rattle.sim_rows.proofs.Common.{width_in, Word}
+use Rattle.sim_rows.proofs.Common.{lost, MachineState, most_of_case_row, next_of, One, operation_in, Place, plus, return_of, row_result, row_width, RunsRow}
+use Rattle.sim_rows.proofs.Common.{SEEK, Sees, SeesResult, set_is, size_of, Source, Stands, sum_of, TAKE, value_at, View, view, WHERE, where_found, Width}
+use Rattle.sim_rows.proofs.Common.{width_again, width_in, Word}
 use Rattle.sim_jumps.specs.Jumps.{TakesBranch}
 use Rattle.sim_rows.specs.sim_operands.Pieces as operands
 use Rattle.sim_rows.specs.Pieces as rows
 use Rattle.sim_flow.proofs.Numbers.{doubled_is, most_is, number_is, place_fits}
 use Rattle.sim_flow.specs.Pieces as pieces
-use Rattle.sim_rows.specs.sim_view.Bounds.{most_of_case_row}
 
 -- ---- where the two routines return to
 

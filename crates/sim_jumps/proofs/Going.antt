@@ -1,8 +1,8 @@
 -- Jumps, from where their address is known.
 use Rattle.std.proofs.Common.{ℕ, ◌<◌, ◌∙◌, ◌≡◌, ap, arith, false, List, refl, slice_index, slice_set}
-use Rattle.sim_rows.proofs.Common.{Byte, Changed, comes, comes_on, EndsRow, Exits, Goes, GOTO, GplState, grom_at, GromState}
-use Rattle.sim_rows.proofs.Common.{idle_grom, idle_told, idle_video, is_view, MachineState, ones_cleared, PortsAreIdle, RESUME, Sees}
-use Rattle.sim_rows.proofs.Common.{set_is, set_to, SHOW, Stands, unchanged, View, view, with_condition}
+use Rattle.sim_rows.proofs.Common.{Byte, Changed, comes, comes_on, EndsRow, Exits, Goes, GOTO, GplState, grom_at, GromState, idle_grom, idle_told, idle_video}
+use Rattle.sim_rows.proofs.Common.{is_view, MachineState, ones_cleared, PortsAreIdle, RESUME, Sees, set_is, set_to, SHOW, Stands, unchanged, View, view}
+use Rattle.sim_rows.proofs.Common.{with_condition}
 use Rattle.sim_jumps.specs.Jumps.{GoesOn, ResumesRow, TakesBranch}
 use Rattle.sim_jumps.specs.Pieces as pieces
 

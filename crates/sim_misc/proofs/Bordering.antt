@@ -1,11 +1,10 @@
 -- BACK from its dispatch to the end of the step.
 use Rattle.std.proofs.Common.{ℕ, ◌∙◌, ◌≡◌, ap, arith, None, Ok, refl, slice_index, slice_set, Some}
 use Rattle.sim_rows.proofs.Common.{BACK, behind_code, bound, bound_made, comes, Dispatched, Exits, finished, GOBACK, Goes, GplState, GromState, GSTEP, is_end}
-use Rattle.sim_rows.proofs.Common.{MachineState, matches, next_in_grom, operation_in, past, reaches, Sees, Stands, step_byte, Stepped, Turned, turned_by}
-use Rattle.sim_rows.proofs.Common.{unchanged, vdp_address_written, VdpState, View, view, with_register}
+use Rattle.sim_rows.proofs.Common.{MachineState, matches, most_to_dispatch, next_in_grom, operation_in, past, reaches, Sees, Stands, step_byte, Stepped, Turned}
+use Rattle.sim_rows.proofs.Common.{turned_by, unchanged, vdp_address_written, VdpState, View, view, with_register}
 use Rattle.sim_rows.specs.gpl_defs.declared.instruction.GplOperation.TheVariants.{Byte}
 use Rattle.sim_misc.specs.Pieces as pieces
-use Rattle.sim_rows.specs.interp_defs.Interpreter.{most_to_dispatch}
 
 abbrev next : GplState → GplState
 next s = finished (with_register 7 (slice_index s.image (behind_code s)) (unchanged (record s { pc = next_in_grom (behind_code s) })))

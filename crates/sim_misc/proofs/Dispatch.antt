@@ -2,14 +2,12 @@
 use Rattle.std.proofs.Common.{ℕ, ◌<◌, ◌∙◌, ◌≡◌, ap, arith, Option, refl, Some, subst, sym, true}
 use Rattle.sim_rows.specs.Prelude.{AtEntry, HasStarted}
 use Rattle.sim_rows.proofs.Common.{AtDispatch, Byte, EX, GplOperation, GplState, is_row, IsVisible, LoadsFrom, LoadsFromSource, MachineState}
-use Rattle.sim_rows.proofs.Common.{operation_entry, operation_seen, Place, row_width, RunsRow, size_of, space_small, Stands, state_at_dispatch, Stepped}
-use Rattle.sim_rows.proofs.Common.{Turned, Two, TwoName, view, visible_of, Width, Word}
+use Rattle.sim_rows.proofs.Common.{most_of_exchange_row, most_to_dispatch, operation_entry, operation_seen, Place, row_width, RunsRow, size_of, space_small}
+use Rattle.sim_rows.proofs.Common.{Stands, state_at_dispatch, Stepped, Turned, Two, TwoName, view, visible_of, Width, Word}
 use Rattle.sim_rows.proofs.Rowing.{source_visible}
 use Rattle.sim_misc.specs.Family.{is_exchange, is_misc}
 use Rattle.sim_misc.proofs.Exchanging.{source_place}
 use Rattle.sim_rows.proofs.Family as family
-use Rattle.sim_rows.specs.sim_view.Bounds.{most_of_exchange_row}
-use Rattle.sim_rows.specs.interp_defs.Interpreter.{most_to_dispatch}
 
 pub rows : (o : Option GplOperation) → is_exchange o ≡ true → is_row o ≡ true
 rows (Some (Two op)) e = refl

@@ -1,13 +1,13 @@
 -- RAND from its dispatch to the end of the step.
 use Rattle.std.proofs.Common.{ℕ, ◌%◌, ◌+◌, ◌∙◌, ◌≡◌, ap, arith, List, Ok, refl, slice_index, slice_set, Some}
 use Rattle.sim_rows.proofs.Common.{behind_code, bound, bound_made, comes, comes_then, Dispatched, drawn, Exits, finished, from, Goes, GORAND, GplState}
-use Rattle.sim_rows.proofs.Common.{GromState, GSTEP, is_end, just, MachineState, matches, next_in_grom, next_seed, operation_in, past, RAND, RANDL, RANDOM}
-use Rattle.sim_rows.proofs.Common.{reaches, SEED, Sees, Stands, step_byte, Stepped, swapped, Turned, turned_by, unchanged, View, view, with_word_in, word_in}
+use Rattle.sim_rows.proofs.Common.{GromState, GSTEP, is_end, just, MachineState, matches, most_to_dispatch, next_in_grom, next_seed, operation_in, past, RAND}
+use Rattle.sim_rows.proofs.Common.{RANDL, RANDOM, reaches, SEED, Sees, Stands, step_byte, Stepped, swapped, Turned, turned_by, unchanged, View, view}
+use Rattle.sim_rows.proofs.Common.{with_word_in, word_in}
 use Rattle.sim_rows.specs.gpl_defs.declared.instruction.GplOperation.TheVariants.{Byte}
 use Rattle.sim_rows.specs.gpl_step_defs.Place.{word_at}
 use Rattle.sim_misc.proofs.Numbers.{seed_is}
 use Rattle.sim_misc.specs.Pieces as pieces
-use Rattle.sim_rows.specs.interp_defs.Interpreter.{most_to_dispatch}
 
 -- the cells by the next seed and the limit
 abbrev drawn_cells : List ℕ → ℕ → ℕ → List ℕ

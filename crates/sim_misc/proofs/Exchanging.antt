@@ -5,12 +5,11 @@ use Rattle.std.proofs.lemmas.Bool.{agree_below_at}
 use Rattle.sim_rows.proofs.Common.{◌>>=◌, AtRow, behind_first, both, Byte, bytes_by, changed_again, ChangedFrom, Changes, code_byte, code_fits, Comes, comes}
 use Rattle.sim_rows.proofs.Common.{comes_on, comes_then, destination_bytes, EX, EXB, exchanged, Exits, gone_on, GplOperation, GplState, GSTEP, has_source}
 use Rattle.sim_rows.proofs.Common.{idle_again, in_register, is_immediate, is_view, IsMachine, IsVisible, LoadsFrom, LoadsFromSource, MachineState}
-use Rattle.sim_rows.proofs.Common.{of_register, operand_at, operands_of, operation_at, operation_in, Place, place_of, PortsAreIdle, Reason, return_of}
-use Rattle.sim_rows.proofs.Common.{row_changed, row_result, row_width, second_by, SeesFinished, SeesResult, size_of, Source, source_at, source_of, Stands}
-use Rattle.sim_rows.proofs.Common.{STO, STORE, store_then, stored_idle, StoresResult, StoresValue, Storing, Two, two_above, unchanged, value_at, View, view}
-use Rattle.sim_rows.proofs.Common.{Width, width_again, width_in, with_value, Word, word_of}
+use Rattle.sim_rows.proofs.Common.{most_of_store, of_register, operand_at, operands_of, operation_at, operation_in, Place, place_of, PortsAreIdle, Reason}
+use Rattle.sim_rows.proofs.Common.{return_of, row_changed, row_result, row_width, second_by, SeesFinished, SeesResult, size_of, Source, source_at, source_of}
+use Rattle.sim_rows.proofs.Common.{Stands, STO, STORE, store_then, stored_idle, StoresResult, StoresValue, Storing, Two, two_above, unchanged, value_at, View}
+use Rattle.sim_rows.proofs.Common.{view, Width, width_again, width_in, with_value, Word, word_of}
 use Rattle.sim_misc.specs.Pieces as pieces
-use Rattle.sim_rows.specs.sim_view.Bounds.{most_of_store}
 
 -- ---- the source of EX has a place
 

@@ -3,12 +3,11 @@ use Rattle.std.proofs.Common.{[], ℕ, ◌*◌, ◌++◌, ◌+◌, ◌<◌, ◌=
 use Rattle.std.proofs.Common.{replicate, slice_index, slice_set, Some, subst, suc, sym, true, zero}
 use Rattle.std.proofs.lemmas.Bool.{eqb-false, eqb-true, ne_eqb}
 use Rattle.sim_rows.proofs.Common.{ALL, behind_code, bound, bound_made, Comes, comes, comes_as, comes_then, difference_of, Dispatched, Exits, FILL, finished}
-use Rattle.sim_rows.proofs.Common.{GOALL, Goes, GplState, grom_at, GromState, GSTEP, high, high-join, is_end, is_view, MachineState, matches, next_in_grom}
-use Rattle.sim_rows.proofs.Common.{operation_in, past, pick, reaches, Sees, set_video_to, Stands, step_byte, Stepped, Turned, turned_by, unchanged}
-use Rattle.sim_rows.proofs.Common.{vdp_data_written, VdpState, View, view, with_immediate, Word}
+use Rattle.sim_rows.proofs.Common.{GOALL, Goes, GplState, grom_at, GromState, GSTEP, high, high-join, is_end, is_view, MachineState, matches, most_to_dispatch}
+use Rattle.sim_rows.proofs.Common.{next_in_grom, operation_in, past, pick, reaches, Sees, set_video_to, Stands, step_byte, Stepped, Turned, turned_by}
+use Rattle.sim_rows.proofs.Common.{unchanged, vdp_data_written, VdpState, View, view, with_immediate, Word}
 use Rattle.sim_rows.specs.gpl_defs.declared.instruction.GplOperation.TheVariants.{Byte}
 use Rattle.sim_misc.specs.Pieces as pieces
-use Rattle.sim_rows.specs.interp_defs.Interpreter.{most_to_dispatch}
 
 -- the byte, and a list whose first bytes are it
 abbrev pub byte_of : GplState → ℕ

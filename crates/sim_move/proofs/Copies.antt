@@ -3,9 +3,9 @@ use Rattle.std.proofs.Common.{ℕ, ◌%◌, ◌/◌, ◌<◌, ◌==◌, ◌∙�
 use Rattle.sim_rows.proofs.Common.{◌>>=◌, ADDR, barred_stops, code_byte, Comes, comes_as, comes_on, even, fetched_of, Finds, finds_of, FindsOperand, From}
 use Rattle.sim_rows.proofs.Common.{from_placed, FromGrom, FromMemory, GOMOVE, GplOperand, GplOperation, GplState, grom_at, GromIndexedToMemory, GromState}
 use Rattle.sim_rows.proofs.Common.{GromToMemory, GromToRegisters, GSTOP, idle_of, index_by, indexed, is_view, IsFetched, length_of, MachineState}
-use Rattle.sim_rows.proofs.Common.{MemoryToMemory, Move, MOVEB, MoveKind, MOVEL, MOVES, MOVEX, next_in_grom, operand_at, operation_entry, operation_in}
-use Rattle.sim_rows.proofs.Common.{origin_of, Place, place_of, Placed, PortsAreIdle, Reason, return_of, Stands, stands_at, StoppedBy, target_of, To, ToMemory}
-use Rattle.sim_rows.proofs.Common.{ToRegisters, View, view, within_limit, word_at}
+use Rattle.sim_rows.proofs.Common.{MemoryToMemory, most_of_address, most_to_copy, Move, MOVEB, MoveKind, MOVEL, MOVES, MOVEX, next_in_grom, operand_at}
+use Rattle.sim_rows.proofs.Common.{operation_entry, operation_in, origin_of, Place, place_of, Placed, PortsAreIdle, Reason, return_of, Stands, stands_at}
+use Rattle.sim_rows.proofs.Common.{StoppedBy, target_of, To, ToMemory, ToRegisters, View, view, within_limit, word_at}
 use Rattle.sim_copy.specs.Copying.{StandsTo}
 use Rattle.sim_move.specs.Family.{is_move}
 use Rattle.sim_move.specs.Moves.{Arrives, AtCopy, copy_in, FindsCopy, FindsLength, FindsTarget, IndexesSource, length_read, LengthTold, source_entry}
@@ -13,7 +13,6 @@ use Rattle.sim_move.specs.Moves.{source_read, SourceTold, target_in, target_read
 use Rattle.sim_move.proofs.Codes.{has_index, told}
 use Rattle.sim_move.proofs.Arriving.{both, Found, found, missing}
 use Rattle.sim_move.proofs.Numbers.{within_is}
-use Rattle.sim_rows.specs.sim_view.Bounds.{most_of_address, most_to_copy}
 
 -- a MOVE is of some kind
 pub kind_of : (o : Option GplOperation) → is_move o ≡ true → (kind : MoveKind) × (o ≡ Some (Move kind))

@@ -1,8 +1,8 @@
 -- MOVE from its dispatch to the end of the step.
 use Rattle.std.proofs.Common.{ℕ, ◌*◌, ◌+◌, ◌<◌, ◌≡◌, ◌≤◌, ap, arith, Err, false, Ok, refl, Some, subst, sym, true}
 use Rattle.sim_rows.proofs.Common.{bound, bound_stop, Changes, comes_on, fetched_of, finished, From, FromGrom, FromMemory, GOMOVE, GplState, grom_at, GSTOP}
-use Rattle.sim_rows.proofs.Common.{idle_of, is_end, IsFetched, MachineState, matches, Move, MOVEB, MoveKind, number_of, operation_in, PortsAreIdle, reaches}
-use Rattle.sim_rows.proofs.Common.{Reason, Sees, Stands, Stepped, Stopped, stops, To, Turned, turned_by, View, view, WORKSPACE}
+use Rattle.sim_rows.proofs.Common.{idle_of, is_end, IsFetched, MachineState, matches, most_to_dispatch, Move, MOVEB, MoveKind, number_of, operation_in}
+use Rattle.sim_rows.proofs.Common.{PortsAreIdle, reaches, Reason, Sees, Stands, Stepped, Stopped, stops, To, Turned, turned_by, View, view, WORKSPACE}
 use Rattle.sim_copy.specs.Copying.{CopiesBytes, StandsFrom}
 use Rattle.sim_move.specs.Family.{is_move}
 use Rattle.sim_move.specs.Moves.{AtCopy, begun, copy_in, FindsCopy, source_read, target_read}
@@ -10,7 +10,6 @@ use Rattle.sim_move.proofs.Arriving.{Found, found, Missing, missing}
 use Rattle.sim_move.proofs.Copies.{kind_of}
 use Rattle.sim_move.proofs.Lies.{FromLies, registers_there, source_lies, source_visible, target_lies, target_visible, ToLies}
 use Rattle.sim_move.proofs.Moving.{bound_is, made, no_exit, parts, step_copies, step_stops}
-use Rattle.sim_rows.specs.interp_defs.Interpreter.{most_to_dispatch}
 
 -- where GROM stands before the first byte
 abbrev place_in_grom : Changes → From → ℕ

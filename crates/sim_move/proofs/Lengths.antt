@@ -1,16 +1,15 @@
 -- The length of MOVE.
 use Rattle.std.proofs.Common.{ℕ, ◌%◌, ◌<◌, ◌==◌, ◌∙◌, ◌≡◌, ap, arith, Bool, Err, false, Ok, refl, Result, subst, sym, true}
 use Rattle.sim_rows.proofs.Common.{◌>>=◌, ADDR, Asking, barred, behind_code, code_byte, Comes, comes, comes_as, comes_on, Dispatched, even, Exits, fetched_of}
-use Rattle.sim_rows.proofs.Common.{Finds, finds_of, FindsOperand, GplOperand, GplState, grom_at, GromState, GSTOP, Holds, holds_again, holds_loaded}
-use Rattle.sim_rows.proofs.Common.{idle_again, idle_of, in_register, IsFetched, IsVisible, last_out, length_at, length_of, lies_at, LOAD, Loaded, LoadsFrom}
-use Rattle.sim_rows.proofs.Common.{LoadsStream, LoadsValue, located, MachineState, MOVEL, MOVEN, number_of_space, operand_at, Place, place_in, place_is}
+use Rattle.sim_rows.proofs.Common.{Finds, finds_of, FindsOperand, GplOperand, GplState, grom_at, GromState, GSTOP, Holds, holds_again, holds_loaded, idle_again}
+use Rattle.sim_rows.proofs.Common.{idle_of, in_register, IsFetched, IsVisible, last_out, length_at, length_of, lies_at, LOAD, Loaded, LoadsFrom, LoadsStream}
+use Rattle.sim_rows.proofs.Common.{LoadsValue, located, MachineState, most_of_load, MOVEL, MOVEN, number_of_space, operand_at, Place, place_in, place_is}
 use Rattle.sim_rows.proofs.Common.{place_lies, place_of, PortsAreIdle, previous-next, Reason, return_of, sees_again, space_small, SRL, Stands, state_of}
 use Rattle.sim_rows.proofs.Common.{streamed, value_at, value_same, View, view, visible_of, width_in, Word, word_at}
 use Rattle.sim_move.specs.Moves.{Arrives, AtPlace, FindsLength, Follows, LengthTold, LoadsFollowing, LoadsPlaced}
 use Rattle.sim_move.proofs.Numbers.{odd_bit}
 use Rattle.sim_move.proofs.Ways.{first_way, second_way}
 use Rattle.sim_move.specs.Pieces as pieces
-use Rattle.sim_rows.specs.sim_view.Bounds.{most_of_load}
 
 -- what is found, by whether the length is in the bytes that follow
 abbrev FindsBy : GplState → MachineState → MachineState → ℕ → ℕ → Bool → Type 0

@@ -3,8 +3,8 @@ use Rattle.std.proofs.Common.{ℕ, ◌%◌, ◌/◌, ◌<◌, ◌==◌, ◌∙�
 use Rattle.std.proofs.lemmas.Bool.{eq-eqb, eqb-true}
 use Rattle.sim_rows.proofs.Common.{Addressed, Answers, ASPACE, Barred, barred_stops, Cell, code_byte, Comes, comes, comes_as, comes_then, Exit, exit, Exits}
 use Rattle.sim_rows.proofs.Common.{from, Goes, GplState, grom_at, GromState, GSTOP, Holds, INDEX, index_by, index_read, indexed, IndexRead, is_view, just}
-use Rattle.sim_rows.proofs.Common.{known, located_at, lost, MachineState, MOVEA, MOVEK, MOVEX, Place, Placed, range_read, ranged, RangeRead, Reason}
-use Rattle.sim_rows.proofs.Common.{SEEK, set_is, space_of, Stands, state_of, StoppedBy, STREAM, Vdp, View, view, WHERE, where_found, word_at}
+use Rattle.sim_rows.proofs.Common.{known, located_at, lost, MachineState, MOVEA, MOVEK, MOVEX, Place, Placed, range_read, ranged, RangeRead, Reason, SEEK}
+use Rattle.sim_rows.proofs.Common.{set_is, space_of, Stands, state_of, StoppedBy, STREAM, Vdp, View, view, WHERE, where_found, word_at}
 use Rattle.sim_move.specs.Moves.{Arrives, SourceTold, TurnsToSource}
 use Rattle.sim_move.proofs.Numbers.{form_by, form_fits, form_index, form_is, form_space}
 use Rattle.sim_rows.specs.sim_operands.Pieces as operands

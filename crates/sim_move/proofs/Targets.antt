@@ -4,16 +4,15 @@ use Rattle.std.proofs.Common.{subst, sym, true}
 use Rattle.std.proofs.lemmas.Bool.{le-leb, lt-leb, ltb-false, ltb-true}
 use Rattle.sim_rows.proofs.Common.{◌>>=◌, ADDR, Asking, barred, code_byte, Comes, comes, comes_as, comes_on, comes_then, even, Exit, exit, Exits, Finds}
 use Rattle.sim_rows.proofs.Common.{finds_of, FindsOperand, from_placed, GplOperand, GplState, grom_at, GromIndexedToMemory, GromState, GromToMemory}
-use Rattle.sim_rows.proofs.Common.{GromToRegisters, GSTOP, Holds, holds_addressed, holds_again, idle_again, is_view, IsFetched, Length, LoadsFrom}
-use Rattle.sim_rows.proofs.Common.{MachineState, Memory, MemoryToMemory, Move, MOVEB, MOVED, MoveKind, MOVEL, MOVER, MOVES, MoveTarget, next_at, next_in_grom}
-use Rattle.sim_rows.proofs.Common.{number_of, operand_at, operation_in, past, Place, place_of, Placed, PortsAreIdle, Reason, Register, return_of, Stands}
-use Rattle.sim_rows.proofs.Common.{state_of, StoppedBy, sum_of, target_of, To, ToMemory, ToRegisters, View, view, view_of, Word}
+use Rattle.sim_rows.proofs.Common.{GromToRegisters, GSTOP, Holds, holds_addressed, holds_again, idle_again, is_view, IsFetched, Length, LoadsFrom, MachineState}
+use Rattle.sim_rows.proofs.Common.{Memory, MemoryToMemory, most_of_address, Move, MOVEB, MOVED, MoveKind, MOVEL, MOVER, MOVES, MoveTarget, next_at}
+use Rattle.sim_rows.proofs.Common.{next_in_grom, number_of, operand_at, operation_in, past, Place, place_of, Placed, PortsAreIdle, Reason, Register, return_of}
+use Rattle.sim_rows.proofs.Common.{Stands, state_of, StoppedBy, sum_of, target_of, To, ToMemory, ToRegisters, View, view, view_of, Word}
 use Rattle.sim_rows.specs.gpl_defs.declared.instruction.MoveTarget.TheVariants as target
 use Rattle.sim_move.specs.Moves.{Arrives, FindsTarget, length_read, LengthTold, ReturnsToCopy, source_entry, target_in, target_read, TargetTold}
 use Rattle.sim_move.proofs.Codes.{is_low, to_memory, told}
 use Rattle.sim_move.proofs.Ways.{first_way, second_way}
 use Rattle.sim_move.specs.Pieces as pieces
-use Rattle.sim_rows.specs.sim_view.Bounds.{most_of_address}
 
 fetched_again : (m n : Memory) → (view_of n).grom ≡ (view_of m).grom → IsFetched m.grom → IsFetched n.grom
 unfolding view_of

@@ -2,8 +2,7 @@
 use Rattle.std.proofs.Common.{[], ◌<◌, ◌==◌, ◌∷◌, ◌≤◌, false, nat_lt, refl, true}
 use Rattle.std.proofs.lemmas.Bool.{lt-ltb}
 pub use Rattle.sim_rows.proofs.Common.{is_view, piece}
-use Rattle.sim_rows.proofs.Common.{DIVBY, DIVE, DIVL, DIVQ, DIVS, DIVV, DIVW, IsView, Leads, LOAD, MULB, MULV, OVER, pick, shifted, SHOW, SRL, STO, STORE}
-use Rattle.sim_rows.proofs.Common.{View}
+use Rattle.sim_rows.proofs.Common.{DIVBY, DIVE, DIVL, DIVQ, DIVS, DIVV, DIVW, IsView, Leads, LOAD, MULB, MULV, OVER, pick, shifted, SHOW, SRL, STO, STORE, View}
 use Rattle.sim_muldiv.proofs.Numbers.{below_or_equal, division_is, some_divisor}
 use Rattle.sim_muldiv.specs.Pieces as pieces
 

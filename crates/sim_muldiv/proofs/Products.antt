@@ -1,15 +1,14 @@
 -- MUL, from its row to the end of the step.
 use Rattle.std.proofs.Common.{ℕ, ◌%◌, ◌*◌, ◌+◌, ◌/◌, ◌<◌, ◌∙◌, ◌≡◌, ap, arith, refl, Some, subst, sym, true}
-use Rattle.sim_rows.proofs.Common.{AtRow, behind, Byte, byte_at, changed_again, ChangedFrom, Comes, comes, comes_as, comes_on, comes_then, even, Exits}
-use Rattle.sim_rows.proofs.Common.{gone_on, GplState, GSTEP, high, idle_again, in_register, is_view, IsVisible, join, MachineState, MUL, MULB, MULV, next_of}
-use Rattle.sim_rows.proofs.Common.{operation_in, Place, PortsAreIdle, return_of, row_changed, row_width, RunsRow, SeesFinished, shifted, size_of, SLA, Source}
-use Rattle.sim_rows.proofs.Common.{SRL, Stands, STO, STORE, store_then, stored_idle, StoresResult, StoresValue, Storing, Two, unchanged, value_at, View, view}
-use Rattle.sim_rows.proofs.Common.{Width, width_in, with_double, with_value, Word}
+use Rattle.sim_rows.proofs.Common.{AtRow, behind, Byte, byte_at, changed_again, ChangedFrom, Comes, comes, comes_as, comes_on, comes_then, even, Exits, gone_on}
+use Rattle.sim_rows.proofs.Common.{GplState, GSTEP, high, idle_again, in_register, is_view, IsVisible, join, MachineState, most_of_product_row, most_of_store}
+use Rattle.sim_rows.proofs.Common.{MUL, MULB, MULV, next_of, operation_in, Place, PortsAreIdle, return_of, row_changed, row_width, RunsRow, SeesFinished}
+use Rattle.sim_rows.proofs.Common.{shifted, size_of, SLA, Source, SRL, Stands, STO, STORE, store_then, stored_idle, StoresResult, StoresValue, Storing, Two}
+use Rattle.sim_rows.proofs.Common.{unchanged, value_at, View, view, Width, width_in, with_double, with_value, Word}
 use Rattle.sim_muldiv.specs.Family.{is_muldiv, IsReady}
 use Rattle.sim_muldiv.proofs.Numbers.{byte_product, high_of}
 use Rattle.sim_muldiv.proofs.Turning.{as_byte, as_word, byte_fits_at, exits_by, first_visible, loaded_is, second_visible, width_there, word_visible}
 use Rattle.sim_muldiv.specs.Pieces as pieces
-use Rattle.sim_rows.specs.sim_view.Bounds.{most_of_product_row, most_of_store}
 
 is_mul : (s : GplState) → operation_in s ≡ Some (Two MUL) → is_muldiv (operation_in s) ≡ true
 is_mul s e = ap is_muldiv e

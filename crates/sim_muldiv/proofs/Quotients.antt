@@ -2,19 +2,19 @@
 use Rattle.std.proofs.Common.{ℕ, ◌%◌, ◌+◌, ◌/◌, ◌<◌, ◌==◌, ◌∙◌, ◌≡◌, ◌≤◌, ap, arith, Bool, false, if◌then◌else◌, List, nat_lt, refl, slice_index, slice_set}
 use Rattle.std.proofs.Common.{Some, subst, sym, true}
 use Rattle.std.proofs.lemmas.Bool.{ltb-true}
-use Rattle.sim_rows.proofs.Common.{AtRow, behind, Byte, Changed, changed_again, ChangedFrom, Changes, Comes, comes, comes_as, comes_on, comes_then, DIV}
-use Rattle.sim_rows.proofs.Common.{DIVBY, DIVE, divided, DIVL, DIVQ, DIVS, DIVV, DIVW, double_at, double_word, EndsRow, even, exit, Exits, Goes, gone_on}
-use Rattle.sim_rows.proofs.Common.{GplState, GSTEP, has_quotient, high, idle_again, idle_grom, idle_told, idle_video, in_register, is_end, is_view, IsVisible}
-use Rattle.sim_rows.proofs.Common.{join, LOAD, Loaded, LoadsValue, MachineState, next_of, number_of_space, ones_cleared, ones_set, operation_in, OVER, Place}
-use Rattle.sim_rows.proofs.Common.{place_in, place_is, PortsAreIdle, return_of, row_changed, row_width, RunsRow, SeesFinished, shifted, SHOW, size_of, Source}
-use Rattle.sim_rows.proofs.Common.{SRL, Stands, state_of, STORE, store_then, stored_idle, StoresValue, Storing, storing_again, sum_of, swapped, Two}
-use Rattle.sim_rows.proofs.Common.{unchanged, value_at, value_same, View, view, Width, width_in, with_byte, with_overflow, with_quotient, with_value, Word}
+use Rattle.sim_rows.proofs.Common.{AtRow, behind, Byte, Changed, changed_again, ChangedFrom, Changes, Comes, comes, comes_as, comes_on, comes_then, DIV, DIVBY}
+use Rattle.sim_rows.proofs.Common.{DIVE, divided, DIVL, DIVQ, DIVS, DIVV, DIVW, double_at, double_word, EndsRow, even, exit, Exits, Goes, gone_on, GplState}
+use Rattle.sim_rows.proofs.Common.{GSTEP, has_quotient, high, idle_again, idle_grom, idle_told, idle_video, in_register, is_end, is_view, IsVisible, join, LOAD}
+use Rattle.sim_rows.proofs.Common.{Loaded, LoadsValue, MachineState, most_of_load, most_of_quotient_row, most_of_store, next_of, number_of_space, ones_cleared}
+use Rattle.sim_rows.proofs.Common.{ones_set, operation_in, OVER, Place, place_in, place_is, PortsAreIdle, return_of, row_changed, row_width, RunsRow}
+use Rattle.sim_rows.proofs.Common.{SeesFinished, shifted, SHOW, size_of, Source, SRL, Stands, state_of, STORE, store_then, stored_idle, StoresValue, Storing}
+use Rattle.sim_rows.proofs.Common.{storing_again, sum_of, swapped, Two, unchanged, value_at, value_same, View, view, Width, width_in, with_byte, with_overflow}
+use Rattle.sim_rows.proofs.Common.{with_quotient, with_value, Word}
 use Rattle.sim_muldiv.specs.Family.{AreVisible, Divided, dividend_in, Divides, EndsDivision, EndsQuotient, is_muldiv, IsReady, MayStore, MayStoreQuotient, second_in}
 use Rattle.sim_muldiv.proofs.Numbers.{byte_divides, byte_fits, divisor_down, high_of, low_of, no_first_word, quotient_fits, remainder_fits, together}
 use Rattle.sim_muldiv.proofs.Numbers.{word_divides}
 use Rattle.sim_muldiv.proofs.Turning.{loaded_is, ready_again, second_visible, width_if, width_there, word_fits_at, word_visible}
 use Rattle.sim_muldiv.specs.Pieces as pieces
-use Rattle.sim_rows.specs.sim_view.Bounds.{most_of_load, most_of_quotient_row, most_of_store}
 
 is_div : (s : GplState) → operation_in s ≡ Some (Two DIV) → is_muldiv (operation_in s) ≡ true
 is_div s e = ap is_muldiv e

@@ -1,9 +1,9 @@
 -- The pieces of a shift, one after the other, to the end of the step.
 use Rattle.std.proofs.Common.{ℕ, ◌<◌, ◌∙◌, ◌≡◌, ◌≤◌, ap, arith, Bool, eqb, false, not, refl, Some, subst, sym, true}
 use Rattle.std.proofs.lemmas.Bool.{eqb-true}
-use Rattle.sim_rows.proofs.Common.{AtRow, Changes, Comes, comes, comes_as, comes_on, comes_then, COUNT, count_of, even, Exits, gone_on, GplState, GSTEP}
-use Rattle.sim_rows.proofs.Common.{is_end, is_view, IsMachine, MachineState, operation_in, Place, return_of, row_result, row_width, SeesFinished, SeesResult}
-use Rattle.sim_rows.proofs.Common.{ShiftOp, SLA, Source, SRA, SRC, SRL, Stands, STO, StoresResult, Storing, Two, unchanged, value_at, View, view}
+use Rattle.sim_rows.proofs.Common.{AtRow, Changes, Comes, comes, comes_as, comes_on, comes_then, COUNT, count_of, even, Exits, gone_on, GplState, GSTEP, is_end}
+use Rattle.sim_rows.proofs.Common.{is_view, IsMachine, MachineState, operation_in, Place, return_of, row_result, row_width, SeesFinished, SeesResult, ShiftOp}
+use Rattle.sim_rows.proofs.Common.{SLA, Source, SRA, SRC, SRL, Stands, STO, StoresResult, Storing, Two, unchanged, value_at, View, view}
 use Rattle.sim_shift.specs.Pieces.{low_four}
 use Rattle.sim_shift.specs.Family.{name_of, shift_entry}
 use Rattle.sim_shift.proofs.Shifting.{counted_word, counts_few, entry_even, Keeps, kept_of, none, number_by, shifts, some, stores_none, stores_some, Told}

@@ -1,11 +1,11 @@
 -- A shift from its row to STO.
 use Rattle.std.proofs.Common.{ℕ, ◌+◌, ◌<◌, ◌==◌, ◌∙◌, ◌≡◌, ◌≤◌, ap, arith, eqb, false, if◌then◌else◌, List, refl, Some, subst, sym, true}
 use Rattle.std.proofs.lemmas.Bool.{eqb-false, eqb-true}
-use Rattle.sim_rows.proofs.Common.{AtRow, Byte, bytes_by, Changed, changed_again, Changes, count_of, destination_bytes, even, Exit, exit, gone_on, GplState, GromState, in_register}
-use Rattle.sim_rows.proofs.Common.{is_grom_idle, is_vdp_idle, IsView, IsVisible, Memory, modulus, of_register, ones_set, operation_in, pick, Place}
-use Rattle.sim_rows.proofs.Common.{PortsAreIdle, row_changed, repeated, repeated_sign, return_of, row_width, shifted, shifted_left, shifted_right, ShiftOp, size_of, SLA}
-use Rattle.sim_rows.proofs.Common.{Source, SRA, SRC, SRL, STO, StoresTo, Storing, swapped, Two, two, unchanged, value_at, VdpState, View, view_of, Width}
-use Rattle.sim_rows.proofs.Common.{width_in, with_value, Word}
+use Rattle.sim_rows.proofs.Common.{AtRow, Byte, bytes_by, Changed, changed_again, Changes, count_of, destination_bytes, even, Exit, exit, gone_on, GplState}
+use Rattle.sim_rows.proofs.Common.{GromState, in_register, is_grom_idle, is_vdp_idle, IsView, IsVisible, Memory, modulus, of_register, ones_set, operation_in}
+use Rattle.sim_rows.proofs.Common.{pick, Place, PortsAreIdle, repeated, repeated_sign, return_of, row_changed, row_width, shifted, shifted_left, shifted_right}
+use Rattle.sim_rows.proofs.Common.{ShiftOp, size_of, SLA, Source, SRA, SRC, SRL, STO, StoresTo, Storing, swapped, Two, two, unchanged, value_at, VdpState, View}
+use Rattle.sim_rows.proofs.Common.{view_of, Width, width_in, with_value, Word}
 use Rattle.sim_shift.specs.Pieces.{counted, low_four}
 use Rattle.sim_shift.specs.Family.{name_of, shift_entry}
 use Rattle.sim_shift.proofs.Numbers.{arithmetic, count_of_byte, count_of_word, kept_left, kept_right, left, right, turned}

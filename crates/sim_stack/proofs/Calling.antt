@@ -2,10 +2,10 @@
 use Rattle.std.proofs.Common.{ℕ, ◌<◌, ◌∙◌, ◌≡◌, ap, arith, Err, false, List, nat_lt, Ok, Option, refl, Result, slice_index, slice_set, Some, subst, sym, true}
 use Rattle.sim_rows.proofs.Common.{◌>>=◌, at_most, behind_code, bound, bound_made, CALL, CALLN, CALLS, CALLT, cells_at, ChangedFrom, Changes, Comes, comes}
 use Rattle.sim_rows.proofs.Common.{comes_as, comes_on, comes_then, Dispatched, Exit, exit, Exits, finished, GOCALL, Goes, GplOperation, GplState, grom_at}
-use Rattle.sim_rows.proofs.Common.{GromState, grown_by, GSTOP, high, idle_again, idle_told, is_end, is_view, IsVisible, Jump, known, MachineState}
-use Rattle.sim_rows.proofs.Common.{matches, on_stack, operation_in, PortsAreIdle, reaches, Reason, RESUME, return_of, Stack, Stands, step, step_jump, Stepped}
-use Rattle.sim_rows.proofs.Common.{Stopped, StoppedBy, STORE, store_then, stored_idle, StoresValue, Storing, sum_of, Turned, turned_by, unchanged}
-use Rattle.sim_rows.proofs.Common.{View, view, WHERE, with_cell, with_value, Word, word_at as word_in_grom}
+use Rattle.sim_rows.proofs.Common.{GromState, grown_by, GSTOP, high, idle_again, idle_told, is_end, is_view, IsVisible, Jump, known, MachineState, matches}
+use Rattle.sim_rows.proofs.Common.{most_of_store, most_to_dispatch, on_stack, operation_in, PortsAreIdle, reaches, Reason, RESUME, return_of, Stack, Stands}
+use Rattle.sim_rows.proofs.Common.{step, step_jump, Stepped, Stopped, StoppedBy, STORE, store_then, stored_idle, StoresValue, Storing, sum_of, Turned}
+use Rattle.sim_rows.proofs.Common.{turned_by, unchanged, View, view, WHERE, with_cell, with_value, Word, word_at as word_in_grom}
 use Rattle.sim_jumps.specs.Jumps.{ResumesRow}
 use Rattle.sim_stack.specs.Pieces.{offset_of, pointer_at}
 use Rattle.sim_stack.specs.Family.{is_call}
@@ -13,8 +13,6 @@ use Rattle.sim_stack.specs.Stacks.{Called, EndsCall, gone_to, Located, Locates, 
 use Rattle.sim_stack.proofs.Room.{goes_full, goes_on, no_room, stop_turned, two_more, two_stored, with_room}
 use Rattle.sim_stack.proofs.Locating.{next_fits}
 use Rattle.sim_stack.specs.Pieces as pieces
-use Rattle.sim_rows.specs.sim_view.Bounds.{most_of_store}
-use Rattle.sim_rows.specs.interp_defs.Interpreter.{most_to_dispatch}
 
 -- ---- the address that follows
 

@@ -1,8 +1,7 @@
 -- FETCH and PUSH are rows; the others of this family are not.
 use Rattle.std.proofs.Common.{ℕ, ◌∙◌, ◌≡◌, ap, Option, refl, Some, subst, sym, true}
-use Rattle.sim_rows.proofs.Common.{AtDispatch, CALL, GOCALL, GoOp, GORTN, GplOperation, is_row, Jump, MachineState, One, OneName, operation_seen, Plain}
-use Rattle.sim_rows.proofs.Common.{PlainOp}
-use Rattle.sim_rows.proofs.Common.{operation_entry, RTN, RTNC, Stands, view}
+use Rattle.sim_rows.proofs.Common.{AtDispatch, CALL, GOCALL, GoOp, GORTN, GplOperation, is_row, Jump, MachineState, One, OneName, operation_entry}
+use Rattle.sim_rows.proofs.Common.{operation_seen, Plain, PlainOp, RTN, RTNC, Stands, view}
 use Rattle.sim_rows.specs.gpl_defs.declared.instruction.OneName.TheVariants as one
 use Rattle.sim_stack.specs.Family.{is_call, is_return, is_stack, is_stack_row}
 

@@ -2,16 +2,15 @@
 use Rattle.std.proofs.Common.{ℕ, ◌+◌, ◌<◌, ◌∙◌, ◌≡◌, ◌≤◌, ap, arith, refl, subst, sym}
 use Rattle.sim_rows.proofs.Common.{Byte, cells_at, Changed, changed_again, ChangedFrom, Changes, Comes, comes, comes_as, comes_on, comes_then, Cpu, Exit, exit}
 use Rattle.sim_rows.proofs.Common.{Exits, FETCH, FETCHA, FETCHD, FETCHK, FETCHR, from, grom_at, GromState, high, idle_again, is_view, IsVisible, just, known}
-use Rattle.sim_rows.proofs.Common.{LOAD, Loaded, LoadsValue, MachineState, place_in, PortsAreIdle, RESUME, return_of, SEEK, Space, Stands, state_of, STORE}
-use Rattle.sim_rows.proofs.Common.{store_then, stored_idle, StoresValue, Storing, unchanged, value_at, value_keeps, Vdp, View, view, WHERE, width_in}
-use Rattle.sim_rows.proofs.Common.{with_byte, with_byte_in, with_pc, with_value, with_word, Word, word_in}
+use Rattle.sim_rows.proofs.Common.{LOAD, Loaded, LoadsValue, MachineState, most_of_load, most_of_store, place_in, PortsAreIdle, RESUME, return_of, SEEK, Space}
+use Rattle.sim_rows.proofs.Common.{Stands, state_of, STORE, store_then, stored_idle, StoresValue, Storing, unchanged, value_at, value_keeps, Vdp, View, view}
+use Rattle.sim_rows.proofs.Common.{WHERE, width_in, with_byte, with_byte_in, with_pc, with_value, with_word, Word, word_in}
 use Rattle.sim_jumps.specs.Jumps.{ResumesRow}
 use Rattle.sim_jumps.proofs.Going.{set_from}
 use Rattle.sim_rows.specs.sim_operands.Pieces as operands
 use Rattle.sim_stack.specs.Stacks.{EndsFetch, FetchesStacked, LoadsStacked}
 use Rattle.sim_stack.proofs.Room.{byte_back, stacked_is}
 use Rattle.sim_stack.specs.Pieces as pieces
-use Rattle.sim_rows.specs.sim_view.Bounds.{most_of_load, most_of_store}
 
 -- ---- the word on the stack
 

@@ -1,7 +1,7 @@
 -- The address of the next byte is found, and GROM is set to it again.
 use Rattle.std.proofs.Common.{ℕ, ◌<◌, ◌∙◌, ◌≡◌, ap, arith, false, List, refl, subst}
-use Rattle.sim_rows.proofs.Common.{Comes, comes, comes_then, even, Exits, FETCHP, from, Goes, grom_at, GromState, is_end, just, located_at, lost}
-use Rattle.sim_rows.proofs.Common.{MachineState, next_in_grom, SEEK, set_is, Stands, View, view, where_found}
+use Rattle.sim_rows.proofs.Common.{Comes, comes, comes_then, even, Exits, FETCHP, from, Goes, grom_at, GromState, is_end, just, located_at, lost, MachineState}
+use Rattle.sim_rows.proofs.Common.{next_in_grom, SEEK, set_is, Stands, View, view, where_found}
 use Rattle.sim_stack.specs.Stacks.{Located, Locates, SetAside, SetsAside}
 use Rattle.sim_rows.specs.sim_operands.Pieces as operands
 use Rattle.sim_rows.specs.Pieces as rows

@@ -1,9 +1,9 @@
 -- The runs of the pieces on the view.
 use Rattle.std.proofs.Common.{[], ◌==◌, ◌∷◌, nat_lt, refl, slice_index}
 pub use Rattle.sim_rows.proofs.Common.{is_view, piece}
-use Rattle.sim_rows.proofs.Common.{CALLN, CALLS, CALLT, FETCH, FETCHA, FETCHB, FETCHD, FETCHK, FETCHN, FETCHP, FETCHR, FETCHS, FETCHV, GOCALL, GORTN, GOTO}
-use Rattle.sim_rows.proofs.Common.{byte_is, high-join, IsView, join, Leads, LOAD, low, not_limit, past, pick, PUSHV, RTNP, SEEK, STO, STORE, sum_of, TAKE}
-use Rattle.sim_rows.proofs.Common.{View, WHERE, Word}
+use Rattle.sim_rows.proofs.Common.{byte_is, CALLN, CALLS, CALLT, FETCH, FETCHA, FETCHB, FETCHD, FETCHK, FETCHN, FETCHP, FETCHR, FETCHS, FETCHV, GOCALL, GORTN}
+use Rattle.sim_rows.proofs.Common.{GOTO, high-join, IsView, join, Leads, LOAD, low, not_limit, past, pick, PUSHV, RTNP, SEEK, STO, STORE, sum_of, TAKE, View}
+use Rattle.sim_rows.proofs.Common.{WHERE, Word}
 use Rattle.sim_stack.specs.Pieces.{offset_of, pointer_at}
 use Rattle.sim_stack.specs.Pieces as pieces
 

@@ -1,14 +1,13 @@
 -- PUSH, from its row to the end of the step.
 use Rattle.std.proofs.Common.{ℕ, ◌<◌, ◌∙◌, ◌≡◌, ap, arith, Err, false, List, nat_lt, Ok, Option, refl, Result, slice_index, slice_set, Some, subst, sym}
 use Rattle.sim_rows.proofs.Common.{◌>>=◌, Byte, bytes_by, cells_at, Changes, Comes, comes, comes_as, comes_on, destination_bytes, exit, Exits, gone_on}
-use Rattle.sim_rows.proofs.Common.{GplOperation, GplState, grown_by, GSTEP, GSTOP, high, idle_again, in_register, is_view, MachineState, on_stack, One}
-use Rattle.sim_rows.proofs.Common.{operation_in, PortsAreIdle, PUSH, PUSHV, Reason, row_result, row_width, SeesFinished, size_of, Stack, Stands, Stepped, STO}
-use Rattle.sim_rows.proofs.Common.{Stopped, StoppedBy, StoresResult, Storing, sum_of, TurnsBy, TurnsRow, unchanged, value_at, View, view, Width, width_in}
-use Rattle.sim_rows.proofs.Common.{with_cell, Word}
+use Rattle.sim_rows.proofs.Common.{GplOperation, GplState, grown_by, GSTEP, GSTOP, high, idle_again, in_register, is_view, MachineState, most_of_stack_row}
+use Rattle.sim_rows.proofs.Common.{on_stack, One, operation_in, PortsAreIdle, PUSH, PUSHV, Reason, row_result, row_width, SeesFinished, size_of, Stack, Stands}
+use Rattle.sim_rows.proofs.Common.{Stepped, STO, Stopped, StoppedBy, StoresResult, Storing, sum_of, TurnsBy, TurnsRow, unchanged, value_at, View, view, Width}
+use Rattle.sim_rows.proofs.Common.{width_in, with_cell, Word}
 use Rattle.sim_stack.specs.Pieces.{offset_of, pointer_at}
 use Rattle.sim_stack.proofs.Room.{byte_back, goes_full, goes_on, no_room, one_more, one_stored, with_room}
 use Rattle.sim_stack.specs.Pieces as pieces
-use Rattle.sim_rows.specs.sim_view.Bounds.{most_of_stack_row}
 
 -- ---- the byte
 

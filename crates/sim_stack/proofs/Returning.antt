@@ -4,9 +4,10 @@ use Rattle.std.proofs.Common.{slice_index, slice_set, Some, subst, sym, true}
 use Rattle.std.proofs.lemmas.Bool.{agree_below_at, eqb-true}
 use Rattle.sim_rows.proofs.Common.{◌>>=◌, behind_code, bound, bound_made, Changes, code_byte, code_fits, Comes, comes, comes_as, comes_on, Dispatched, exit}
 use Rattle.sim_rows.proofs.Common.{Exits, finished, GORTN, GOTO, GplOperation, GplState, grown_by, GSTEP, GSTOP, high, idle_again, idle_of, is_end, is_view}
-use Rattle.sim_rows.proofs.Common.{join, LOAD, Loaded, LoadsValue, MachineState, matches, on_stack, operation_at, operation_in, place_in, Plain, PortsAreIdle}
-use Rattle.sim_rows.proofs.Common.{reaches, Reason, return_of, RTN, RTNC, RTNP, Sees, SeesFinished, Stack, Stands, state_of, step, step_plain, Stepped}
-use Rattle.sim_rows.proofs.Common.{Stopped, StoppedBy, sum_of, TAKE, Turned, turned_by, value_at, View, view, width_in, with_condition, Word}
+use Rattle.sim_rows.proofs.Common.{join, LOAD, Loaded, LoadsValue, MachineState, matches, most_of_load, most_to_dispatch, on_stack, operation_at, operation_in}
+use Rattle.sim_rows.proofs.Common.{place_in, Plain, PortsAreIdle, reaches, Reason, return_of, RTN, RTNC, RTNP, Sees, SeesFinished, Stack, Stands, state_of}
+use Rattle.sim_rows.proofs.Common.{step, step_plain, Stepped, Stopped, StoppedBy, sum_of, TAKE, Turned, turned_by, value_at, View, view, width_in}
+use Rattle.sim_rows.proofs.Common.{with_condition, Word}
 use Rattle.sim_rows.specs.gpl_step_defs.Place.{word_at}
 use Rattle.sim_jumps.specs.Jumps.{GoesOn, TakesBranch}
 use Rattle.sim_stack.specs.Pieces.{offset_of, pointer_at}
@@ -14,8 +15,6 @@ use Rattle.sim_stack.specs.Family.{is_return}
 use Rattle.sim_stack.specs.Stacks.{EndsReturn, gone_back, returned_by, Returning}
 use Rattle.sim_stack.proofs.Room.{goes_full, goes_on, no_room, offset_is, sees_loaded, stacked_is, stop_turned, two_less, with_room}
 use Rattle.sim_stack.specs.Pieces as pieces
-use Rattle.sim_rows.specs.sim_view.Bounds.{most_of_load}
-use Rattle.sim_rows.specs.interp_defs.Interpreter.{most_to_dispatch}
 
 -- ---- the code bytes
 

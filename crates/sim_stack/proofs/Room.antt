@@ -2,12 +2,11 @@
 use Rattle.std.proofs.Common.{ℕ, ◌+◌, ◌<◌, ◌∙◌, ◌≡◌, ◌≤◌, ap, arith, Bool, Err, false, if◌then◌else◌, nat_le, nat_lt, Ok, refl, Result, slice_index, sym}
 use Rattle.std.proofs.Common.{true}
 use Rattle.std.proofs.lemmas.Bool.{le-leb, lt-leb, ltb-false, ltb-true}
-use Rattle.sim_rows.proofs.Common.{bound, bound_stop, Comes, Exit, Exits, GplState, grown_by, GSTOP, high, is_end, join, Loaded, MachineState, on_stack}
-use Rattle.sim_rows.proofs.Common.{place_in, plus, reaches, Reason, Sees, Stack, step, Stopped, StoppedBy, stops, sum_of, Turned, turned_by, value_at, View}
-use Rattle.sim_rows.proofs.Common.{Word}
+use Rattle.sim_rows.proofs.Common.{bound, bound_stop, Comes, Exit, Exits, GplState, grown_by, GSTOP, high, is_end, join, Loaded, MachineState, most_to_dispatch}
+use Rattle.sim_rows.proofs.Common.{on_stack, place_in, plus, reaches, Reason, Sees, Stack, step, Stopped, StoppedBy, stops, sum_of, Turned, turned_by, value_at}
+use Rattle.sim_rows.proofs.Common.{View, Word}
 use Rattle.sim_rows.specs.gpl_step_defs.Place.{word_at}
 use Rattle.sim_stack.specs.Pieces.{offset_of}
-use Rattle.sim_rows.specs.interp_defs.Interpreter.{most_to_dispatch}
 
 -- ---- numbers
 

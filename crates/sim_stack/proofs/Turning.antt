@@ -2,9 +2,9 @@
 use Rattle.std.proofs.Common.{ℕ, ◌%◌, ◌<◌, ◌==◌, ◌∙◌, ◌≡◌, ap, arith, Bool, Err, false, if◌then◌else◌, not, Ok, Option, refl, Result, Some, subst, sym, true}
 use Rattle.std.proofs.lemmas.Bool.{agree_below_at}
 use Rattle.sim_rows.specs.Prelude.{HasStarted}
-use Rattle.sim_rows.proofs.Common.{◌>>=◌, AtDispatch, Byte, Changes, code_byte, GplOperation, GplState, MachineState, on_stack, One, operation_at}
-use Rattle.sim_rows.proofs.Common.{operation_in, Place, PUSH, Reason, row_result, row_width, size_of, Source, Stack, state_at_dispatch, Turn, Turned}
-use Rattle.sim_rows.proofs.Common.{TurnsRow, view, word_or_byte}
+use Rattle.sim_rows.proofs.Common.{◌>>=◌, AtDispatch, Byte, Changes, code_byte, GplOperation, GplState, MachineState, most_of_stack_row, most_to_dispatch}
+use Rattle.sim_rows.proofs.Common.{on_stack, One, operation_at, operation_in, Place, PUSH, Reason, row_result, row_width, size_of, Source, Stack}
+use Rattle.sim_rows.proofs.Common.{state_at_dispatch, Turn, Turned, TurnsRow, view, word_or_byte}
 use Rattle.sim_rows.specs.gpl_defs.declared.instruction.OneName.TheVariants.{FETCH}
 use Rattle.sim_rows.specs.gpl_step_defs.declared.reason.Reason.TheVariants.{Exit}
 use Rattle.sim_stack.specs.Family.{is_stack_row}
@@ -13,8 +13,6 @@ use Rattle.sim_stack.proofs.Room.{OnlyStack, stack_alone}
 use Rattle.sim_stack.proofs.Pushing.{top_in}
 use Rattle.sim_stack.proofs.Reading.{top_in as return_top}
 use Rattle.sim_rows.proofs.Family as family
-use Rattle.sim_rows.specs.sim_view.Bounds.{most_of_stack_row}
-use Rattle.sim_rows.specs.interp_defs.Interpreter.{most_to_dispatch}
 
 -- ---- they have the form of bytes alone
 

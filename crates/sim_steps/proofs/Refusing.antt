@@ -1,9 +1,8 @@
 -- The code bytes that stop.
 use Rattle.std.proofs.Common.{ℕ, ◌≡◌, ap, arith, Err, refl}
-use Rattle.sim_rows.proofs.Common.{bound, bound_stop, comes, Dispatched, Exits, Goes, GplState, GSTOP, is_end, MachineState, Opcode, reaches, Stands, step}
-use Rattle.sim_rows.proofs.Common.{Stopped, StoppedBy, stops, Turned, turned_by, UNKN, view}
+use Rattle.sim_rows.proofs.Common.{bound, bound_stop, comes, Dispatched, Exits, Goes, GplState, GSTOP, is_end, MachineState, most_to_dispatch, Opcode, reaches}
+use Rattle.sim_rows.proofs.Common.{Stands, step, Stopped, StoppedBy, stops, Turned, turned_by, UNKN, view}
 use Rattle.sim_steps.specs.Pieces as pieces
-use Rattle.sim_rows.specs.interp_defs.Interpreter.{most_to_dispatch}
 
 module _ (s : GplState) (x y : MachineState) (t u : ℕ) (d : Dispatched s (view x)) where
   -- a code byte that is no instruction's

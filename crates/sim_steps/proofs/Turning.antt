@@ -1,14 +1,13 @@
 -- The turn from the dispatch of a step.
 use Rattle.std.proofs.Common.{ℕ, ◌≡◌, Bool, None, Option, refl, slice_index, Some, subst, sym, true}
-use Rattle.sim_rows.proofs.Common.{AtDispatch, code_byte, Comes, Dispatched, Exits, GplOperation, GplState, MachineState, Opcode, operation_at}
-use Rattle.sim_rows.proofs.Common.{operation_entry, operation_seen, Stands, state_at, state_at_dispatch, step_none, Stopped, Turn, Turned, turned_from, UNKN}
-use Rattle.sim_rows.proofs.Common.{view}
+use Rattle.sim_rows.proofs.Common.{AtDispatch, code_byte, Comes, Dispatched, Exits, GplOperation, GplState, MachineState, most_to_dispatch, Opcode}
+use Rattle.sim_rows.proofs.Common.{operation_at, operation_entry, operation_seen, Stands, state_at, state_at_dispatch, step_none, Stopped, Turn, Turned}
+use Rattle.sim_rows.proofs.Common.{turned_from, UNKN, view}
 use Rattle.sim_steps.specs.declared.family.Family.TheVariants.{Refused}
 use Rattle.sim_steps.specs.Families.{belongs}
 use Rattle.sim_steps.proofs.Refusing.{refuses}
 use Rattle.sim_steps.specs.Pieces as pieces
 use Rattle.sim_steps.proofs.Families as families
-use Rattle.sim_rows.specs.interp_defs.Interpreter.{most_to_dispatch}
 
 module _ (s : GplState) (x y : MachineState) (t u : ℕ) (c : Comes most_to_dispatch x y t u (operation_entry (operation_at (code_byte s))) (Dispatched s)) where
   seen : state_at_dispatch (view y) ≡ s

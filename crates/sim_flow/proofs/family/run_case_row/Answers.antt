@@ -1,9 +1,8 @@
 use Rattle.std.proofs.Common.{arith, Some, subst, sym}
-use Rattle.sim_rows.proofs.Common.{GplOperation, row_entry, RunsRow, Stands}
+use Rattle.sim_rows.proofs.Common.{GplOperation, most_of_case_row, row_entry, RunsRow, Stands}
 use Rattle.sim_rows.proofs.Family.{at_row, entry, stopped, turned}
 use Rattle.sim_flow.proofs.Dispatch.{case_alone, rows}
 use Rattle.sim_flow.proofs.family.run_case_row.Goals as goal
-use Rattle.sim_rows.specs.sim_view.Bounds.{most_of_case_row}
 
 pub start_row-requires : goal.start_row-requires
 start_row-requires g c = at_row rows c.requires

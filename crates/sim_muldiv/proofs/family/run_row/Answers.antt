@@ -1,7 +1,6 @@
 use Rattle.std.proofs.Common.{subst, sym}
-use Rattle.sim_rows.proofs.Common.{GplOperation, RunsRow}
+use Rattle.sim_rows.proofs.Common.{GplOperation, most_of_quotient_row, RunsRow}
 use Rattle.sim_muldiv.proofs.family.run_row.Goals as goal
-use Rattle.sim_rows.specs.sim_view.Bounds.{most_of_quotient_row}
 
 pub returns-in-Two : goal.returns-in-Two
 returns-in-Two g c =

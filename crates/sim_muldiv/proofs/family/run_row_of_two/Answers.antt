@@ -1,7 +1,6 @@
 use Rattle.std.proofs.Common.{arith, subst, sym}
-use Rattle.sim_rows.proofs.Common.{comes_as, MUL, row_result, RunsRow, SeesResult, Two, TwoName}
+use Rattle.sim_rows.proofs.Common.{comes_as, most_of_quotient_row, MUL, row_result, RunsRow, SeesResult, Two, TwoName}
 use Rattle.sim_muldiv.proofs.family.run_row_of_two.Goals as goal
-use Rattle.sim_rows.specs.sim_view.Bounds.{most_of_quotient_row}
 
 pub returns-in-MUL : goal.returns-in-MUL
 returns-in-MUL g c =

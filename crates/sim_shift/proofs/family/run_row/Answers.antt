@@ -1,9 +1,8 @@
 use Rattle.std.proofs.Common.{subst, sym, ap, ◌∙◌}
-use Rattle.sim_rows.proofs.Common.{GplOperation, RunsRow, ShiftOp, Stands, Two}
+use Rattle.sim_rows.proofs.Common.{GplOperation, most_of_shift_row, RunsRow, ShiftOp, Stands, Two}
 use Rattle.sim_shift.specs.Family.{count_entry, name_of}
 use Rattle.sim_shift.proofs.Dispatch.{counts, named}
 use Rattle.sim_shift.proofs.family.run_row.Goals as goal
-use Rattle.sim_rows.specs.sim_view.Bounds.{most_of_shift_row}
 
 pub run_named-requires-clause-stands : goal.run_named-requires-clause-stands
 run_named-requires-clause-stands g c =
