@@ -5,22 +5,15 @@ use Rattle.std.proofs.lemmas.List.{get_or-drop, get_or-take, get_or_past, take_a
 use Rattle.std.proofs.lemmas.Bool.{cases_lt}
 use Rattle.std.proofs.Math.ListN.{take-append-drop}
 use Rattle.std.specs.Prelude.{slice_index}
-use Rattle.tms_defs.specs.Words.{join, even}
-use Rattle.tms_defs.specs.Bytes.{word_in}
+use Rattle.sim_view.specs.Prelude.{even, Exit, Exits, IsMachine, IsStatus, join, MachineState, Runs, Status, word_in, WORKSPACE}
 use Rattle.console_defs.proofs.MemoryLaws.{region_scratchpad}
-use Rattle.tms_defs.specs.Status.{IsStatus}
 use Rattle.console_defs.specs.Vdp.{VdpState, IsVdp}
 use Rattle.console_defs.specs.Grom.{GromState, IsGrom}
 use Rattle.tms_defs.specs.Accesses.{Answer, Gives, ◌>>=◌}
 use Rattle.tms_defs.specs.Operand.{Cpu, register_in}
 use Rattle.console_defs.specs.Memory.{Memory, IsMemory, Scratchpad, region, word_read}
-use Rattle.console_defs.specs.Machine.{MachineState, IsMachine}
-use Rattle.tms_defs.specs.declared.status.Status.{Status}
 use Rattle.interp_defs.specs.Interpreter.{HoldsInterpreter}
-use Rattle.interp_defs.specs.Runs.{Runs}
-use Rattle.native_interp.specs.declared.addresses.TheConstants.{WORKSPACE}
 use Rattle.sim_view.specs.View.{View, listed, relisted, words_of, view_of, view, Stands}
-use Rattle.sim_view.specs.Exits.{Exit, Exits}
 use Rattle.sim_view.specs.Running.{Ran, RunsPiece, ran}
 use Rattle.sim_view.proofs.Answers.{given, given_by}
 use Rattle.sim_view.proofs.Lists.{double_suc, listed-relisted, spell-words, length-words, words-spell}
@@ -166,8 +159,7 @@ is_view x h =
       r = regs_of x.cpu.memory h.memory;
       cells = cells_of x.cpu.memory h.memory;
       vdp = vdp_of x.cpu.memory h.memory;
-      grom =
-          grom_of x.cpu.memory h.memory;
+      grom = grom_of x.cpu.memory h.memory;
     }
 
 -- ---- registers that the code reads
@@ -192,15 +184,6 @@ reg_word m k h b =
     ∙ words_at 31 bytes (15 + k) n (omega arith)
     ∙ rw (get_or-drop 194 m.scratchpad (2 * (15 + k)) 0, get_or-drop 194 m.scratchpad (suc (2 * (15 + k))) 0, e, f) refl
 
-pub register_is : (m : Memory) (wp k w : ℕ) → IsMemory m → wp ≡ WORKSPACE → k < 16 → Gives w ≡ word_read m (register_in wp k) →
-    w ≡ get_or (listed (view_of m).r) k 0
-register_is m wp k w h p b e =
-    let a : even (register_in WORKSPACE k) ≡ WORKSPACE + 2 * k = omega arith in
-    let g : region (WORKSPACE + 2 * k) ≡ Scratchpad (224 + 2 * k) = region_scratchpad (WORKSPACE + 2 * k) (omega arith) (omega arith)
-    ∙ ap Scratchpad (omega arith) in
-    let f : word_read m (register_in WORKSPACE k) ≡ Gives (word_in m.scratchpad (224 + 2 * k)) = rw (a, g) refl in
-    given w _ (e ∙ ap (λ (n : ℕ). word_read m (register_in n k)) p ∙ f) ∙ sym (reg_word m k h b)
-
 -- A register of the view is the word of the machine's register.
 pub holds_register : (m : Memory) (k : ℕ) → IsMemory m → k < 16 → word_read m (register_in WORKSPACE k) ≡ Gives (get_or (listed (view_of m).r) k 0)
 holds_register m k h b =
@@ -209,3 +192,7 @@ holds_register m k h b =
     ∙ ap Scratchpad (omega arith) in
     let f : word_read m (register_in WORKSPACE k) ≡ Gives (word_in m.scratchpad (224 + 2 * k)) = rw (a, g) refl in
     f ∙ ap Gives (sym (reg_word m k h b))
+
+pub register_is : (m : Memory) (wp k w : ℕ) → IsMemory m → wp ≡ WORKSPACE → k < 16 → Gives w ≡ word_read m (register_in wp k) →
+    w ≡ get_or (listed (view_of m).r) k 0
+register_is m wp k w h p b e = given w _ (e ∙ ap (λ (n : ℕ). word_read m (register_in n k)) p ∙ holds_register m k h b)

@@ -1,12 +1,9 @@
 -- One stretch after another.
 use Rattle.std.proofs.Common.{◌≡◌, ℕ, ◌+◌, ◌-◌, ◌<◌, ◌≤◌, false, sym, ap, subst, ◌∙◌, arith, ⊎_elim}
 use Rattle.std.proofs.lemmas.Bool.{cases_order}
+use Rattle.sim_view.specs.Prelude.{Comes, Exit, Exits, is_end, MachineState, Runs, Stands, steps, View, view}
 use Rattle.tms_defs.specs.Accesses.{Answer, Gives, ◌>>=◌}
-use Rattle.console_defs.specs.Machine.{MachineState, steps}
 use Rattle.console_defs.proofs.RunLaws.{steps-add}
-use Rattle.interp_defs.specs.Runs.{Runs, is_end}
-use Rattle.sim_view.specs.View.{View, view, Stands}
-use Rattle.sim_view.specs.Exits.{Exit, Exits, Comes}
 use Rattle.sim_view.proofs.Answers.{given, given_by}
 
 -- the state after some steps, where another is reached on the way

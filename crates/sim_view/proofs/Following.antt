@@ -1,15 +1,12 @@
 -- A run of the view is a run of the machine.
 use Rattle.std.proofs.Common.{◌≡◌, ℕ, zero, suc, ◌+◌, ◌<◌, List, Bool, true, false, refl, ap, subst, ◌∙◌, arith}
 use Rattle.std.specs.Prelude.{◌||◌}
+use Rattle.sim_view.specs.Prelude.{Answer, Gives, is_end, Memory, Runs, View}
 use Rattle.count_defs.specs.Counts.{raised}
-use Rattle.tms_defs.specs.Accesses.{Answer, Gives}
-use Rattle.console_defs.specs.Memory.{Memory}
 use Rattle.tms_defs.specs.Operand.{Cpu}
 use Rattle.tms_defs.specs.Step.{execution}
 use Rattle.console_defs.specs.Machine.{MachineState, machine_step, steps}
 use Rattle.tms_defs.specs.declared.step_end.StepEnd.TheVariants.{Done}
-use Rattle.interp_defs.specs.Runs.{is_end, Runs}
-use Rattle.sim_view.specs.View.{View}
 use Rattle.sim_view.specs.Running.{Ran, one_more, ends_piece, ran}
 use Rattle.sim_view.proofs.Answers.{given, given_by}
 use Rattle.sim_view.proofs.Turning.{turn, ran_turn}

@@ -1,12 +1,9 @@
 -- Runs of the view in parts: a piece is proved part by part, each up to the next test.
 use Rattle.std.proofs.Common.{◌≡◌, ℕ, zero, suc, ◌+◌, List, Bool, true, false, refl, sym, ap, ◌∙◌, arith}
+use Rattle.sim_view.specs.Prelude.{Exit, Status, View, WORKSPACE}
 use Rattle.tms_defs.specs.Accesses.{Answer, Gives, NoInstruction, ◌>>=◌}
 use Rattle.tms_defs.specs.Operand.{Cpu}
 use Rattle.tms_defs.specs.Step.{execution}
-use Rattle.tms_defs.specs.declared.status.Status.{Status}
-use Rattle.native_interp.specs.declared.addresses.TheConstants.{WORKSPACE}
-use Rattle.sim_view.specs.View.{View}
-use Rattle.sim_view.specs.Exits.{Exit}
 use Rattle.sim_view.specs.Running.{ends_piece}
 use Rattle.sim_view.proofs.Answers.{given, given_by}
 use Rattle.sim_view.proofs.Seen.{seen_run, shown}

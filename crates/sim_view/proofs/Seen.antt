@@ -1,9 +1,8 @@
 -- The view as the processor's memory.
 use Rattle.std.proofs.Common.{ℕ, zero, suc, ◌-◌, ◌/◌, ◌%◌, List, [], ◌∷◌, Bool, true, false, eqb}
 use Rattle.std.specs.Prelude.{slice_index, slice_set, nat_lt, nat_le, ◌&&◌}
-use Rattle.tms_defs.specs.Words.{high, low, join, even}
+use Rattle.sim_view.specs.Prelude.{even, grom_address_read, grom_address_written, grom_data_read, high, INTERP, join, low}
 use Rattle.console_defs.specs.Vdp.{vdp_data_read, vdp_status_read, vdp_data_written, vdp_address_written}
-use Rattle.console_defs.specs.Grom.{grom_data_read, grom_address_read, grom_address_written}
 use Rattle.tms_defs.specs.Accesses.{Answer, Gives, NoInstruction, ◌>>=◌, Accesses}
 use Rattle.tms_defs.specs.Operand.{Cpu}
 use Rattle.tms_defs.specs.Step.{execution}
@@ -12,7 +11,6 @@ use Rattle.console_defs.specs.Memory.{GromAddressWrite, Region, Rom, LowExpansio
 use Rattle.native_interp.specs.declared.addresses.TheConstants.{BEHIND, ORIGIN, WORKSPACE}
 use Rattle.sim_view.specs.View.{View, listed, relisted}
 use Rattle.sim_view.specs.Running.{ends_piece}
-use Rattle.native_interp.specs.declared.words.TheConstants.{INTERP}
 
 -- The bytes of words.
 abbrev pub spell : List ℕ → List ℕ

@@ -5,19 +5,16 @@ use Rattle.std.proofs.Math.ListN.{set}
 use Rattle.std.specs.Prelude.{nat_lt, ℤ}
 use Rattle.std.proofs.lemmas.Bool.{ltb-true}
 use Rattle.std.proofs.lemmas.List.{get_or-append_right, get_or_append_left, set-append_right, set-append_left, length-set}
-use Rattle.tms_defs.specs.Words.{high, low, join, even, plus}
+use Rattle.sim_view.specs.Prelude.{even, Flags, GromState, high, join, low, plus, ShiftOp, VdpState, with_word_in, word_in}
 use Rattle.tms_defs.specs.Flags.{Width, size_of, Byte, Word, byte_or_word}
 use Rattle.tms_defs.specs.Status.{with_result, with_order, with_extension, with_mask, status_word, status_at}
 use Rattle.tms_defs.specs.Logic.{swapped, by_ones, by_zeros}
 use Rattle.tms_defs.specs.MultiplyDivide.{product_of, division_of, by_division}
-use Rattle.tms_defs.specs.Bytes.{word_in, with_word_in}
 use Rattle.tms_defs.specs.Instructions.{instr_at}
-use Rattle.tms_defs.specs.declared.flags.Flags.{Flags}
 use Rattle.tms_defs.specs.declared.instruction.TwoOp.{TwoOp}
 use Rattle.tms_defs.specs.declared.instruction.TwoOp.TheVariants.{SZC, S, C, A, MOV, SOC}
 use Rattle.tms_defs.specs.declared.instruction.RegOp.{RegOp}
 use Rattle.tms_defs.specs.declared.instruction.RegOp.TheVariants.{COC, CZC, XOR, XOP, LDCR, STCR, MPY, DIV}
-use Rattle.tms_defs.specs.declared.instruction.ShiftOp.{ShiftOp}
 use Rattle.tms_defs.specs.declared.instruction.OneOp.{OneOp}
 use Rattle.tms_defs.specs.declared.instruction.OneOp.TheVariants.{BLWP, B, X, CLR, NEG, INV, INC, INCT, DEC, DECT, BL, SWPB, SETO, ABS}
 use Rattle.tms_defs.specs.declared.instruction.ImmOp.{ImmOp}
@@ -29,8 +26,6 @@ use Rattle.tms_defs.specs.declared.instruction.Instr.TheVariants as instr
 use Rattle.tms_defs.specs.Accesses.{Answer, Gives, AtPort, NoInstruction, ◌>>=◌}
 use Rattle.tms_defs.specs.Operand.{Cpu, Mode, Register, Indirect, Symbolic, Increment, mode_of, register_in, with_word, with_words}
 use Rattle.tms_defs.specs.Operand.{register_address, next_word, index_of, operand, value_at, with_value}
-use Rattle.console_defs.specs.Vdp.{VdpState}
-use Rattle.console_defs.specs.Grom.{GromState}
 use Rattle.console_defs.specs.Memory.{Memory, console, Port, VdpDataRead, VdpStatusRead, VdpDataWrite, VdpAddressWrite, GromDataRead, GromAddressRead}
 use Rattle.console_defs.specs.Memory.{GromDataWrite, GromAddressWrite, Region, region, word_read_in, word_read, word_written_in, byte_read_in}
 use Rattle.console_defs.specs.Memory.{byte_written_in, port_read, port_written}

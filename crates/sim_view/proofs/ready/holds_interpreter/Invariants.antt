@@ -1,6 +1,5 @@
 use Rattle.std.proofs.Common.{◌≡◌, ◌*◌, ◌<◌, ℕ, slice_index}
-use Rattle.tms_defs.specs.Bytes.{word_in}
-use Rattle.native_interp.specs.declared.words.TheConstants.{INTERP}
+use Rattle.sim_view.specs.Prelude.{INTERP, word_in}
 use Rattle.sim_view.proofs.ready.holds_interpreter.Given as goal
 
 -- the words so far are the interpreter's
