@@ -1,10 +1,10 @@
 -- The length, the target and the source, one after the other.
 use Rattle.std.proofs.Common.{ℕ, ◌%◌, ◌/◌, ◌<◌, ◌==◌, ◌∙◌, ◌≡◌, ◌≤◌, ap, arith, Bool, Err, Ok, Option, refl, Result, Some, subst, sym, true}
-use Rattle.sim_rows.proofs.Common.{◌>>=◌, ADDR, barred_stops, code_byte, Comes, comes_as, comes_on, even, fetched_of, Finds, finds_of, FindsOperand, From}
+use Rattle.sim_rows.proofs.Common.{◌>>=◌, ADDR, AtDispatch, barred_stops, code_byte, Comes, comes_as, comes_on, even, fetched_of, Finds, finds_of, FindsOperand, From}
 use Rattle.sim_rows.proofs.Common.{from_placed, FromGrom, FromMemory, GOMOVE, GplOperand, GplOperation, GplState, grom_at, GromIndexedToMemory, GromState}
 use Rattle.sim_rows.proofs.Common.{GromToMemory, GromToRegisters, GSTOP, idle_of, index_by, indexed, is_view, IsFetched, length_of, MachineState}
 use Rattle.sim_rows.proofs.Common.{MemoryToMemory, most_of_address, most_to_copy, Move, MOVEB, MoveKind, MOVEL, MOVES, MOVEX, next_in_grom, operand_at}
-use Rattle.sim_rows.proofs.Common.{operation_entry, operation_in, origin_of, Place, place_of, Placed, PortsAreIdle, Reason, return_of, Stands, stands_at}
+use Rattle.sim_rows.proofs.Common.{operation_entry, operation_in, operation_seen, origin_of, Place, place_of, Placed, PortsAreIdle, Reason, return_of, Stands, state_at_dispatch, stands_at}
 use Rattle.sim_rows.proofs.Common.{StoppedBy, target_of, To, ToMemory, ToRegisters, View, view, within_limit, word_at}
 use Rattle.sim_copy.specs.Copying.{StandsTo}
 use Rattle.sim_move.specs.Family.{is_move}
@@ -41,6 +41,16 @@ bytes_of other (Err reason) = other.0
 
 next_fits : (at : ℕ) → next_in_grom at < 65536 → at < 65536
 next_fits at h = omega arith
+
+pub stands_move : {x : MachineState} → AtDispatch is_move x → Stands x GOMOVE
+stands_move {x = x} at = subst (λ (p : ℕ). Stands x p) (entry_is (operation_seen (view x)) at.family) at.stands
+
+-- the state of the step, whose code byte is a byte
+abbrev pub state : MachineState → GplState
+state x = state_at_dispatch (view x)
+
+pub code_fits : {x : MachineState} {p : ℕ} → Stands x p → code_byte (state x) < 256
+code_fits {x = x} stands = (is_view x stands.machine).grom.image.fits (state x).pc
 
 module _ (s : GplState) (x a : MachineState) (t t1 : ℕ) (fits : code_byte s < 256) (one : FindsLength s x a t t1) where
   -- there is no length

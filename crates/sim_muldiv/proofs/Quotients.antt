@@ -335,11 +335,14 @@ module _ {x a : MachineState} {t u : ℕ} (ready : IsReady x) (stands : Stands x
   abbrev pub to : ℕ
   to = way fits byte z
 
-  pub pc_is : a.cpu.pc ≡ to
-  pc_is = first.stands.pc
+  goes : {p : ℕ} → a.cpu.pc ≡ p → to ≡ p
+  goes e = sym first.stands.pc ∙ e
 
-  pub at : (p : ℕ) → to ≡ p → Stands a p
-  at p e = subst (λ (q : ℕ). Stands a q) e first.stands
+  strays : {p : ℕ} → (a.cpu.pc ≡ p → ⊥) → to ≡ p → ⊥
+  strays other e = other (first.stands.pc ∙ e)
+
+  pub at : (p : ℕ) → a.cpu.pc ≡ p → Stands a p
+  at p e = subst (λ (q : ℕ). Stands a q) (goes e) first.stands
 
   came : (p : ℕ) → to ≡ p → Comes 4 x a t u p (λ (q : View). q ≡ z)
   came p e = comes first (goes_by fits byte z p e)
@@ -350,26 +353,26 @@ module _ {x a : MachineState} {t u : ℕ} (ready : IsReady x) (stands : Stands x
   pub ready_there : IsReady a
   ready_there = ready_again x a same ready
 
-  pub byte_there : to ≡ DIVBY → width_in (view a).r.r3 ≡ Byte
-  byte_there e = subst (λ (q : View). width_in q.r.r3 ≡ Byte) (sym same) (ap width_if (byte_is fits byte z e).1)
+  pub byte_there : a.cpu.pc ≡ DIVBY → width_in (view a).r.r3 ≡ Byte
+  byte_there e = subst (λ (q : View). width_in q.r.r3 ≡ Byte) (sym same) (ap width_if (byte_is fits byte z (goes e)).1)
 
-  pub some_there : to ≡ DIVBY → 256 ≤ (view a).r.r6
+  pub some_there : a.cpu.pc ≡ DIVBY → 256 ≤ (view a).r.r6
   some_there e =
-      let b = byte_is fits byte z e in
+      let b = byte_is fits byte z (goes e) in
       let l : z.r.r9 < z.r.r6 = ltb-true z.r.r9 z.r.r6 b.0 in
       let zero_below = ready.divisor (ap width_if b.1) in
       subst (λ (q : View). 256 ≤ q.r.r6) (sym same) (omega arith)
 
-  pub word_there : (to ≡ OVER → ⊥) → (to ≡ DIVBY → ⊥) → width_in (view a).r.r3 ≡ Word
-  word_there e f = subst (λ (q : View). width_in q.r.r3 ≡ Word) (sym same) (ap width_if (word_is fits byte z e f).1)
+  pub word_there : (a.cpu.pc ≡ OVER → ⊥) → (a.cpu.pc ≡ DIVBY → ⊥) → width_in (view a).r.r3 ≡ Word
+  word_there e f = subst (λ (q : View). width_in q.r.r3 ≡ Word) (sym same) (ap width_if (word_is fits byte z (strays e) (strays f)).1)
 
-  pub less_there : (to ≡ OVER → ⊥) → (to ≡ DIVBY → ⊥) → (view a).r.r9 < (view a).r.r6
-  less_there e f = subst (λ (q : View). q.r.r9 < q.r.r6) (sym same) (ltb-true z.r.r9 z.r.r6 (word_is fits byte z e f).0)
+  pub less_there : (a.cpu.pc ≡ OVER → ⊥) → (a.cpu.pc ≡ DIVBY → ⊥) → (view a).r.r9 < (view a).r.r6
+  less_there e f = subst (λ (q : View). q.r.r9 < q.r.r6) (sym same) (ltb-true z.r.r9 z.r.r6 (word_is fits byte z (strays e) (strays f)).0)
 
-  pub words_stand : (to ≡ OVER → ⊥) → (to ≡ DIVBY → ⊥) → Stands a DIVW
+  pub words_stand : (a.cpu.pc ≡ OVER → ⊥) → (a.cpu.pc ≡ DIVBY → ⊥) → Stands a DIVW
   words_stand e f =
-      let b = word_is fits byte z e f in
-      at DIVW (ap (λ (k : Bool). way k byte z) b.0 ∙ ap (λ (k : Bool). way true k z) b.1)
+      let b = word_is fits byte z (strays e) (strays f) in
+      at DIVW (first.stands.pc ∙ ap (λ (k : Bool). way k byte z) b.0 ∙ ap (λ (k : Bool). way true k z) b.1)
 
   fits_by : (s : GplState) (place : Place) (number : ℕ) → z.r.r9 ≡ value_at s Word place → value_at s Word (behind 2 place) < 65536 →
       (width : Width) → z.r.r6 ≡ in_register width number →
@@ -407,12 +410,12 @@ module _ {x a : MachineState} {t u : ℕ} (ready : IsReady x) (stands : Stands x
     holds = rw none (record { cells = ap (status_set (λ k. ones_set k 0x08)) h.cells; vdp = h.vdp; registers = h.registers; held = h.held; grom = h.grom });
   }
 
-  pub over_runs : to ≡ OVER → (y : MachineState) (w : ℕ) → Exits a y u w (pieces.set_overflow (view a)) → RunsRow (Two DIV) most_of_quotient_row x y t w
-  over_runs e y w second s place source is row operands =
-      let has = sym (fits_is s place source is row) ∙ over_is fits byte z e in
+  pub over_runs : a.cpu.pc ≡ OVER → {y : MachineState} {w : ℕ} → Exits a y u w (pieces.set_overflow (view a)) → RunsRow (Two DIV) most_of_quotient_row x y t w
+  over_runs e {y = y} {w = w} second s place source is row operands =
+      let has = sym (fits_is s place source is row) ∙ over_is fits byte z (goes e) in
       let c = unchanged (gone_on s) in
       let there = subst (λ (q : View). Changed c q) (sym same) (row_changed s place source z row) in
-      let done = comes_then 4 3 (came OVER e) second (overflows c (view a) there refl) refl in
+      let done = comes_then 4 3 (came OVER (goes e)) second (overflows c (view a) there refl) refl in
       ends_as s place source y w false has (comes_as 96 (SeesFinished (with_overflow true c)) done (omega arith) (λ q h. h))
 
   quotient_runs : fits ≡ true → (p : ℕ) → to ≡ p → is_end p ≡ false → (y : MachineState) (w : ℕ) → Divides a y u w
@@ -422,10 +425,10 @@ module _ {x a : MachineState} {t u : ℕ} (ready : IsReady x) (stands : Stands x
       let there = subst (λ (q : View). AtRow s place source q) (sym same) row in
       ends_as s place source y w true has (comes_on 4 92 (came p e) (divides s place source is there operands has) goes)
 
-  pub byte_quotient_runs : to ≡ DIVBY → (y : MachineState) (w : ℕ) → Divides a y u w → RunsRow (Two DIV) most_of_quotient_row x y t w
-  byte_quotient_runs e = quotient_runs (byte_is fits byte z e).0 DIVBY e refl
+  pub byte_quotient_runs : a.cpu.pc ≡ DIVBY → (y : MachineState) (w : ℕ) → Divides a y u w → RunsRow (Two DIV) most_of_quotient_row x y t w
+  byte_quotient_runs e = quotient_runs (byte_is fits byte z (goes e)).0 DIVBY (goes e) refl
 
-  pub word_quotient_runs : (to ≡ OVER → ⊥) → (to ≡ DIVBY → ⊥) → (y : MachineState) (w : ℕ) → Divides a y u w → RunsRow (Two DIV) most_of_quotient_row x y t w
+  pub word_quotient_runs : (a.cpu.pc ≡ OVER → ⊥) → (a.cpu.pc ≡ DIVBY → ⊥) → (y : MachineState) (w : ℕ) → Divides a y u w → RunsRow (Two DIV) most_of_quotient_row x y t w
   word_quotient_runs e f =
-      let b = word_is fits byte z e f in
+      let b = word_is fits byte z (strays e) (strays f) in
       quotient_runs b.0 DIVW (ap (λ (k : Bool). way k byte z) b.0 ∙ ap (λ (k : Bool). way true k z) b.1) refl

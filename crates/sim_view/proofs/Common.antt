@@ -5,7 +5,7 @@ pub use Rattle.sim_view.proofs.Bridge.{holds_register, is_view, IsView, Leads, p
 pub use Rattle.sim_view.proofs.Compose.{comes, comes_as, comes_on, comes_then, Goes, runs_then}
 pub use Rattle.sim_view.proofs.Lists.{high-join, join-bytes}
 pub use Rattle.sim_view.proofs.Parts.{leads, Part, part_then, Rest}
-pub use Rattle.sim_view.proofs.Places.{pick}
+pub use Rattle.sim_view.proofs.Places.{off, on, pick}
 pub use Rattle.sim_view.proofs.Seen.{Cell, Code, spot}
 pub use Rattle.sim_view.specs.Prelude.{◌>>=◌, ADDR, APTR, ASPACE, Byte, Comes, Exit, Exits, FETCH, GplOperand, GromState, GSTOP, high, HoldsBytes, INDEX}
 pub use Rattle.sim_view.specs.Prelude.{index_at, indexed, is_grom_idle, is_visible, IsFetched, join, last_out, LDATA, LOAD, low, MachineState, Memory}

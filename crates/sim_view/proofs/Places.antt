@@ -1,5 +1,5 @@
 -- Each address leads in the view to where it leads in the console.
-use Rattle.std.proofs.Common.{◌≡◌, ℕ, ◌+◌, ◌*◌, ◌%◌, ◌<◌, ◌≤◌, Bool, true, false, refl, ap, arith, eqb}
+use Rattle.std.proofs.Common.{◌≡◌, ℕ, ◌+◌, ◌*◌, ◌%◌, ◌<◌, ◌≤◌, ◌∙◌, Bool, true, false, refl, ap, arith, eqb}
 use Rattle.std.specs.Prelude.{◌&&◌, nat_lt, nat_le}
 use Rattle.std.proofs.lemmas.Bool.{leb-true, ltb-true, eqb-false, eqb-true, and_parts}
 use Rattle.std.proofs.Math.Nat.{pos_of_ne-zero}
@@ -54,3 +54,10 @@ agrees a =
     let below : a < 0xA000 = ltb-true a 0xA000 h.1 in
     rw (n1, n2, n3, n4, e, region_ports a from below, spot) (ports_agree (port_region (port_at a))))
     (λ n5. rw (n1, n2, n3, n4, n5, spot) tt)))))
+
+-- what a test of the program counter has told: the machine is at an address, or it is not
+pub on : {told pc p : ℕ} → told ≡ pc → told ≡ p → pc ≡ p
+on told is = omega arith
+
+pub off : {told pc p : ℕ} → told ≡ pc → (told ≡ p → ⊥) → pc ≡ p → ⊥
+off told other is = other (told ∙ is)

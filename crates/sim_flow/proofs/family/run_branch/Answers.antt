@@ -1,27 +1,23 @@
-use Rattle.std.proofs.Common.{arith}
+use Rattle.sim_rows.proofs.Common.{off, on}
 use Rattle.sim_flow.proofs.Branching
 use Rattle.sim_flow.proofs.family.run_branch.Goals as goal
 
 pub take_jump-requires : goal.take_jump-requires
 take_jump-requires g c =
-    let q = c.requires in
-    Branching.stands_taken c.args._on q.is q.stands q.dispatched c.find_target.ensures c.test_branch.ensures
-    (let a = c.pc.ensures.value in let t = c.if-pc-eq-TAKE.true in omega arith)
+    Branching.stands_taken c.args._on c.requires.is c.requires.stands c.requires.dispatched c.find_target.ensures c.test_branch.ensures
+    (on c.pc.ensures.value c.if-pc-eq-TAKE.true)
 
 pub clear_condition-requires : goal.clear_condition-requires
 clear_condition-requires g c =
-    let q = c.requires in
-    Branching.stands_passed c.args._on q.is q.stands q.dispatched c.find_target.ensures c.test_branch.ensures
-    (λ e. let a = c.pc.ensures.value in let t = c.if-pc-eq-TAKE.false in absurd (omega arith))
+    Branching.stands_passed c.args._on c.requires.is c.requires.stands c.requires.dispatched c.find_target.ensures c.test_branch.ensures
+    (off c.pc.ensures.value c.if-pc-eq-TAKE.false)
 
 pub returns-then-pc-eq-TAKE : goal.returns-then-pc-eq-TAKE
 returns-then-pc-eq-TAKE g c =
-    let q = c.requires in
-    Branching.takes c.args._on q.is q.stands q.dispatched c.find_target.ensures c.test_branch.ensures
-    (let a = c.pc.ensures.value in let t = c.if-pc-eq-TAKE.true in omega arith) c.take_jump.ensures
+    Branching.takes c.args._on c.requires.is c.requires.stands c.requires.dispatched c.find_target.ensures c.test_branch.ensures
+    (on c.pc.ensures.value c.if-pc-eq-TAKE.true) c.take_jump.ensures
 
 pub returns-else-pc-eq-TAKE : goal.returns-else-pc-eq-TAKE
 returns-else-pc-eq-TAKE g c =
-    let q = c.requires in
-    Branching.passes_on c.args._on q.is q.stands q.dispatched c.find_target.ensures c.test_branch.ensures
-    (λ e. let a = c.pc.ensures.value in let t = c.if-pc-eq-TAKE.false in absurd (omega arith)) c.clear_condition.ensures
+    Branching.passes_on c.args._on c.requires.is c.requires.stands c.requires.dispatched c.find_target.ensures c.test_branch.ensures
+    (off c.pc.ensures.value c.if-pc-eq-TAKE.false) c.clear_condition.ensures

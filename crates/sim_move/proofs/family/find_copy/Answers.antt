@@ -1,131 +1,74 @@
-use Rattle.std.proofs.Common.{◌<◌, ◌≡◌, arith}
-use Rattle.sim_rows.proofs.Common.{code_byte, GplState, GSTOP, is_view, MOVES, state_at_dispatch, view}
-use Rattle.sim_move.proofs.family.find_copy.Given.{Over}
-use Rattle.sim_move.proofs.family.find_copy.Goals.{After-find_target}
 use Rattle.sim_move.proofs.Copies
+use Rattle.sim_move.proofs.Copies.{code_fits, state}
+use Rattle.sim_rows.proofs.Common.{off, on}
 use Rattle.sim_move.proofs.family.find_copy.Goals as goal
-
--- What is known behind the target: a length was found.
-module _ (g : Over) (c : After-find_target g) where
-  abbrev s : GplState
-  s = state_at_dispatch (view c.args.machine.now)
-
-  fits : code_byte s < 256
-  fits = (is_view c.args.machine.now c.requires.stands.machine).grom.image.fits s.pc
-
-  away : c.find_length.new.machine.cpu.pc ≡ GSTOP → ⊥
-  away here = let p = c.pc.ensures.value in let r = c.if-pc-eq-GSTOP.false in absurd (omega arith)
 
 pub returns-then-pc-eq-GSTOP : goal.returns-then-pc-eq-GSTOP
 returns-then-pc-eq-GSTOP g c =
-    let s = state_at_dispatch (view c.args.machine.now) in
-    let fits = (is_view c.args.machine.now c.requires.stands.machine).grom.image.fits s.pc in
-    let here : c.find_length.new.machine.cpu.pc ≡ GSTOP = let p = c.pc.ensures.value in let r = c.if-pc-eq-GSTOP.true in omega arith in
-    Copies.no_length s c.args.machine.now c.find_length.new.machine c.args.steps.now c.find_length.new.steps fits c.find_length.ensures here
+    Copies.no_length (state c.args.machine.now) _ _ _ _ (code_fits c.requires.stands) c.find_length.ensures (on c.pc.ensures.value c.if-pc-eq-GSTOP.true)
 
 pub find_target-requires-clause-stands : goal.find_target-requires-clause-stands
 find_target-requires-clause-stands g c =
-    let s = state_at_dispatch (view c.args.machine.now) in
-    let fits = (is_view c.args.machine.now c.requires.stands.machine).grom.image.fits s.pc in
-    let away : c.find_length.new.machine.cpu.pc ≡ GSTOP → ⊥ = λ here. let p = c.pc.ensures.value in let r = c.if-pc-eq-GSTOP.false in absurd (omega arith) in
-    Copies.stands_target s c.args.machine.now c.find_length.new.machine c.args.steps.now c.find_length.new.steps fits c.find_length.ensures away
+    Copies.stands_target (state c.args.machine.now) _ _ _ _ (code_fits c.requires.stands) c.find_length.ensures (off c.pc.ensures.value c.if-pc-eq-GSTOP.false)
 
 pub find_target-requires-clause-idle : goal.find_target-requires-clause-idle
 find_target-requires-clause-idle g c =
-    let s = state_at_dispatch (view c.args.machine.now) in
-    let fits = (is_view c.args.machine.now c.requires.stands.machine).grom.image.fits s.pc in
-    let away : c.find_length.new.machine.cpu.pc ≡ GSTOP → ⊥ = λ here. let p = c.pc.ensures.value in let r = c.if-pc-eq-GSTOP.false in absurd (omega arith) in
-    Copies.idle_target s c.args.machine.now c.find_length.new.machine c.args.steps.now c.find_length.new.steps fits c.find_length.ensures away
+    Copies.idle_target (state c.args.machine.now) _ _ _ _ (code_fits c.requires.stands) c.find_length.ensures (off c.pc.ensures.value c.if-pc-eq-GSTOP.false)
 
 pub find_target-requires-clause-fetched : goal.find_target-requires-clause-fetched
 find_target-requires-clause-fetched g c =
-    let s = state_at_dispatch (view c.args.machine.now) in
-    let fits = (is_view c.args.machine.now c.requires.stands.machine).grom.image.fits s.pc in
-    let away : c.find_length.new.machine.cpu.pc ≡ GSTOP → ⊥ = λ here. let p = c.pc.ensures.value in let r = c.if-pc-eq-GSTOP.false in absurd (omega arith) in
-    Copies.fetched_target s c.args.machine.now c.find_length.new.machine c.args.steps.now c.find_length.new.steps fits c.find_length.ensures away
+    Copies.fetched_target (state c.args.machine.now) _ _ _ _ (code_fits c.requires.stands) c.find_length.ensures (off c.pc.ensures.value c.if-pc-eq-GSTOP.false)
 
 pub returns-then-pc-eq-GSTOP-2 : goal.returns-then-pc-eq-GSTOP-2
 returns-then-pc-eq-GSTOP-2 g c =
-    let at = (goal.at.returns-then-pc-eq-GSTOP-2 g c).After-find_target in
-    let there : c.find_target.new.machine.cpu.pc ≡ GSTOP = let p = c.pc-2.ensures.value in let r = c.if-pc-eq-GSTOP-2.true in omega arith in
-    Copies.no_target (s g at) c.args.machine.now c.find_length.new.machine c.args.steps.now c.find_length.new.steps (fits g at) c.find_length.ensures
-    (away g at) c.find_target.new.machine c.find_target.new.steps c.find_target.ensures there
+    Copies.no_target (state c.args.machine.now) _ _ _ _ (code_fits c.requires.stands) c.find_length.ensures (off c.pc.ensures.value c.if-pc-eq-GSTOP.false) _ _
+    c.find_target.ensures (on c.pc-2.ensures.value c.if-pc-eq-GSTOP-2.true)
 
 pub run_address-requires-clause-stands : goal.run_address-requires-clause-stands
 run_address-requires-clause-stands g c =
-    let at = (goal.at.run_address-requires-clause-stands g c).After-find_target in
-    let gone : c.find_target.new.machine.cpu.pc ≡ GSTOP → ⊥ = λ h. let p = c.pc-2.ensures.value in let r = c.if-pc-eq-GSTOP-2.false in absurd (omega arith) in
-    let other : c.find_target.new.machine.cpu.pc ≡ MOVES → ⊥ = λ there. let p = c.pc-3.ensures.value in let r = c.if-pc-ne-MOVES.true in absurd (omega arith) in
-    Copies.stands_source (s g at) c.args.machine.now c.find_length.new.machine c.args.steps.now c.find_length.new.steps (fits g at) c.find_length.ensures
-    (away g at) c.find_target.new.machine c.find_target.new.steps c.find_target.ensures gone c.requires.family other
+    Copies.stands_source (state c.args.machine.now) _ _ _ _ (code_fits c.requires.stands) c.find_length.ensures (off c.pc.ensures.value c.if-pc-eq-GSTOP.false)
+    _ _ c.find_target.ensures (off c.pc-2.ensures.value c.if-pc-eq-GSTOP-2.false) c.requires.family (off c.pc-3.ensures.value c.if-pc-ne-MOVES.true)
 
 pub run_address-requires-clause-idle : goal.run_address-requires-clause-idle
 run_address-requires-clause-idle g c =
-    let at = (goal.at.run_address-requires-clause-idle g c).After-find_target in
-    let gone : c.find_target.new.machine.cpu.pc ≡ GSTOP → ⊥ = λ h. let p = c.pc-2.ensures.value in let r = c.if-pc-eq-GSTOP-2.false in absurd (omega arith) in
-    let other : c.find_target.new.machine.cpu.pc ≡ MOVES → ⊥ = λ there. let p = c.pc-3.ensures.value in let r = c.if-pc-ne-MOVES.true in absurd (omega arith) in
-    Copies.idle_source (s g at) c.args.machine.now c.find_length.new.machine c.args.steps.now c.find_length.new.steps (fits g at) c.find_length.ensures
-    (away g at) c.find_target.new.machine c.find_target.new.steps c.find_target.ensures gone c.requires.family other
+    Copies.idle_source (state c.args.machine.now) _ _ _ _ (code_fits c.requires.stands) c.find_length.ensures (off c.pc.ensures.value c.if-pc-eq-GSTOP.false) _
+    _ c.find_target.ensures (off c.pc-2.ensures.value c.if-pc-eq-GSTOP-2.false) c.requires.family (off c.pc-3.ensures.value c.if-pc-ne-MOVES.true)
 
 pub run_address-requires-clause-fetched : goal.run_address-requires-clause-fetched
 run_address-requires-clause-fetched g c =
-    let at = (goal.at.run_address-requires-clause-fetched g c).After-find_target in
-    let gone : c.find_target.new.machine.cpu.pc ≡ GSTOP → ⊥ = λ h. let p = c.pc-2.ensures.value in let r = c.if-pc-eq-GSTOP-2.false in absurd (omega arith) in
-    let other : c.find_target.new.machine.cpu.pc ≡ MOVES → ⊥ = λ there. let p = c.pc-3.ensures.value in let r = c.if-pc-ne-MOVES.true in absurd (omega arith) in
-    Copies.fetched_source (s g at) c.args.machine.now c.find_length.new.machine c.args.steps.now c.find_length.new.steps (fits g at) c.find_length.ensures
-    (away g at) c.find_target.new.machine c.find_target.new.steps c.find_target.ensures gone c.requires.family other
+    Copies.fetched_source (state c.args.machine.now) _ _ _ _ (code_fits c.requires.stands) c.find_length.ensures (off c.pc.ensures.value c.if-pc-eq-GSTOP.false)
+    _ _ c.find_target.ensures (off c.pc-2.ensures.value c.if-pc-eq-GSTOP-2.false) c.requires.family (off c.pc-3.ensures.value c.if-pc-ne-MOVES.true)
 
 pub run_address-requires-clause-bytes : goal.run_address-requires-clause-bytes
 run_address-requires-clause-bytes g c =
-    let at = (goal.at.run_address-requires-clause-bytes g c).After-find_target in
-    let gone : c.find_target.new.machine.cpu.pc ≡ GSTOP → ⊥ = λ h. let p = c.pc-2.ensures.value in let r = c.if-pc-eq-GSTOP-2.false in absurd (omega arith) in
-    let other : c.find_target.new.machine.cpu.pc ≡ MOVES → ⊥ = λ there. let p = c.pc-3.ensures.value in let r = c.if-pc-ne-MOVES.true in absurd (omega arith) in
-    Copies.bytes_source (s g at) c.args.machine.now c.find_length.new.machine c.args.steps.now c.find_length.new.steps (fits g at) c.find_length.ensures
-    (away g at) c.find_target.new.machine c.find_target.new.steps c.find_target.ensures gone c.requires.family other
+    Copies.bytes_source (state c.args.machine.now) _ _ _ _ (code_fits c.requires.stands) c.find_length.ensures (off c.pc.ensures.value c.if-pc-eq-GSTOP.false) _
+    _ c.find_target.ensures (off c.pc-2.ensures.value c.if-pc-eq-GSTOP-2.false) c.requires.family (off c.pc-3.ensures.value c.if-pc-ne-MOVES.true)
 
 pub returns-then-pc-ne-MOVES : goal.returns-then-pc-ne-MOVES
 returns-then-pc-ne-MOVES g c =
-    let at = (goal.at.returns-then-pc-ne-MOVES g c).After-find_target in
-    let gone : c.find_target.new.machine.cpu.pc ≡ GSTOP → ⊥ = λ h. let p = c.pc-2.ensures.value in let r = c.if-pc-eq-GSTOP-2.false in absurd (omega arith) in
-    let other : c.find_target.new.machine.cpu.pc ≡ MOVES → ⊥ = λ there. let p = c.pc-3.ensures.value in let r = c.if-pc-ne-MOVES.true in absurd (omega arith) in
-    Copies.from_memory (s g at) c.args.machine.now c.find_length.new.machine c.args.steps.now c.find_length.new.steps (fits g at) c.find_length.ensures
-    (away g at) c.find_target.new.machine c.find_target.new.steps c.find_target.ensures gone c.requires.family other c.run_address.new.machine
-    c.run_address.new.steps c.run_address.ensures
+    Copies.from_memory (state c.args.machine.now) _ _ _ _ (code_fits c.requires.stands) c.find_length.ensures (off c.pc.ensures.value c.if-pc-eq-GSTOP.false) _
+    _ c.find_target.ensures (off c.pc-2.ensures.value c.if-pc-eq-GSTOP-2.false) c.requires.family (off c.pc-3.ensures.value c.if-pc-ne-MOVES.true) _ _
+    c.run_address.ensures
 
 pub index_source-requires : goal.index_source-requires
 index_source-requires g c =
-    let at = (goal.at.index_source-requires g c).After-find_target in
-    let here : c.find_target.new.machine.cpu.pc ≡ MOVES = let p = c.pc-3.ensures.value in let r = c.if-pc-ne-MOVES.false in omega arith in
-    let gone : c.find_target.new.machine.cpu.pc ≡ GSTOP → ⊥ = λ h. let p = c.pc-2.ensures.value in let r = c.if-pc-eq-GSTOP-2.false in absurd (omega arith) in
-    Copies.stands_grom (s g at) c.args.machine.now c.find_length.new.machine c.args.steps.now c.find_length.new.steps (fits g at) c.find_length.ensures
-    (away g at) c.find_target.new.machine c.find_target.new.steps c.find_target.ensures gone c.requires.family here
+    Copies.stands_grom (state c.args.machine.now) _ _ _ _ (code_fits c.requires.stands) c.find_length.ensures (off c.pc.ensures.value c.if-pc-eq-GSTOP.false) _
+    _ c.find_target.ensures (off c.pc-2.ensures.value c.if-pc-eq-GSTOP-2.false) c.requires.family (on c.pc-3.ensures.value c.if-pc-ne-MOVES.false)
 
 pub returns-then-pc-eq-GSTOP-3 : goal.returns-then-pc-eq-GSTOP-3
 returns-then-pc-eq-GSTOP-3 g c =
-    let at = (goal.at.returns-then-pc-eq-GSTOP-3 g c).After-find_target in
-    let gone : c.find_target.new.machine.cpu.pc ≡ GSTOP → ⊥ = λ h. let p = c.pc-2.ensures.value in let r = c.if-pc-eq-GSTOP-2.false in absurd (omega arith) in
-    let here : c.find_target.new.machine.cpu.pc ≡ MOVES = let p = c.pc-3.ensures.value in let r = c.if-pc-ne-MOVES.false in omega arith in
-    let there : c.index_source.new.machine.cpu.pc ≡ GSTOP = let p = c.pc-4.ensures.value in let r = c.if-pc-eq-GSTOP-3.true in omega arith in
-    Copies.no_source (s g at) c.args.machine.now c.find_length.new.machine c.args.steps.now c.find_length.new.steps (fits g at) c.find_length.ensures
-    (away g at) c.find_target.new.machine c.find_target.new.steps c.find_target.ensures gone here c.index_source.new.machine c.index_source.new.steps
-    c.index_source.ensures there
+    Copies.no_source (state c.args.machine.now) _ _ _ _ (code_fits c.requires.stands) c.find_length.ensures (off c.pc.ensures.value c.if-pc-eq-GSTOP.false) _ _
+    c.find_target.ensures (off c.pc-2.ensures.value c.if-pc-eq-GSTOP-2.false) (on c.pc-3.ensures.value c.if-pc-ne-MOVES.false) _ _ c.index_source.ensures
+    (on c.pc-4.ensures.value c.if-pc-eq-GSTOP-3.true)
 
 pub turn_to_source-requires : goal.turn_to_source-requires
 turn_to_source-requires g c =
-    let at = (goal.at.turn_to_source-requires g c).After-find_target in
-    let gone : c.find_target.new.machine.cpu.pc ≡ GSTOP → ⊥ = λ h. let p = c.pc-2.ensures.value in let r = c.if-pc-eq-GSTOP-2.false in absurd (omega arith) in
-    let here : c.find_target.new.machine.cpu.pc ≡ MOVES = let p = c.pc-3.ensures.value in let r = c.if-pc-ne-MOVES.false in omega arith in
-    let on : c.index_source.new.machine.cpu.pc ≡ GSTOP → ⊥ = λ h. let p = c.pc-4.ensures.value in let r = c.if-pc-eq-GSTOP-3.false in absurd (omega arith) in
-    Copies.stands_turning (s g at) c.args.machine.now c.find_length.new.machine c.args.steps.now c.find_length.new.steps (fits g at) c.find_length.ensures
-    (away g at) c.find_target.new.machine c.find_target.new.steps c.find_target.ensures gone here c.index_source.new.machine c.index_source.new.steps
-    c.index_source.ensures on c.requires.family
+    Copies.stands_turning (state c.args.machine.now) _ _ _ _ (code_fits c.requires.stands) c.find_length.ensures (off c.pc.ensures.value c.if-pc-eq-GSTOP.false)
+    _ _ c.find_target.ensures (off c.pc-2.ensures.value c.if-pc-eq-GSTOP-2.false) (on c.pc-3.ensures.value c.if-pc-ne-MOVES.false) _ _ c.index_source.ensures
+    (off c.pc-4.ensures.value c.if-pc-eq-GSTOP-3.false) c.requires.family
 
 pub returns : goal.returns
 returns g c =
-    let at = (goal.at.returns g c).After-find_target in
-    let gone : c.find_target.new.machine.cpu.pc ≡ GSTOP → ⊥ = λ h. let p = c.pc-2.ensures.value in let r = c.if-pc-eq-GSTOP-2.false in absurd (omega arith) in
-    let here : c.find_target.new.machine.cpu.pc ≡ MOVES = let p = c.pc-3.ensures.value in let r = c.if-pc-ne-MOVES.false in omega arith in
-    let on : c.index_source.new.machine.cpu.pc ≡ GSTOP → ⊥ = λ h. let p = c.pc-4.ensures.value in let r = c.if-pc-eq-GSTOP-3.false in absurd (omega arith) in
-    Copies.from_grom (s g at) c.args.machine.now c.find_length.new.machine c.args.steps.now c.find_length.new.steps (fits g at) c.find_length.ensures
-    (away g at) c.find_target.new.machine c.find_target.new.steps c.find_target.ensures gone here c.index_source.new.machine c.index_source.new.steps
-    c.index_source.ensures on c.turn_to_source.new.machine c.turn_to_source.new.steps c.turn_to_source.ensures
+    Copies.from_grom (state c.args.machine.now) _ _ _ _ (code_fits c.requires.stands) c.find_length.ensures (off c.pc.ensures.value c.if-pc-eq-GSTOP.false) _ _
+    c.find_target.ensures (off c.pc-2.ensures.value c.if-pc-eq-GSTOP-2.false) (on c.pc-3.ensures.value c.if-pc-ne-MOVES.false) _ _ c.index_source.ensures
+    (off c.pc-4.ensures.value c.if-pc-eq-GSTOP-3.false) _ _ c.turn_to_source.ensures

@@ -1,82 +1,52 @@
-use Rattle.std.proofs.Common.{ℕ, ◌≡◌, arith, subst}
-use Rattle.sim_rows.proofs.Common.{GOMOVE, GplState, GSTOP, operation_in, Stands, state_at_dispatch, view}
-use Rattle.sim_move.proofs.Copies.{entry_is}
-use Rattle.sim_move.proofs.family.run_move.Given.{Over}
-use Rattle.sim_move.proofs.family.run_move.Goals.{After-find_copy}
+use Rattle.sim_rows.proofs.Common.{off, on}
+use Rattle.sim_move.proofs.Copies.{stands_move, state}
 use Rattle.sim_move.proofs.Dispatch
 use Rattle.sim_move.proofs.family.run_move.Goals as goal
 
--- What is known behind the copy's front.
-module _ (g : Over) (c : After-find_copy g) where
-  abbrev s : GplState
-  s = state_at_dispatch (view c.args.machine.now)
-
-  stands : Stands c.args.machine.now GOMOVE
-  stands = subst (λ (p : ℕ). Stands c.args.machine.now p) (entry_is (operation_in s) c.requires.family) c.requires.stands
-
 pub reason_told-requires : goal.reason_told-requires
 reason_told-requires g c =
-    let at = (goal.at.reason_told-requires g c).After-find_copy in
-    let here : c.find_copy.new.machine.cpu.pc ≡ GSTOP = let p = c.pc.ensures.value in let r = c.if-pc-eq-GSTOP.true in omega arith in
-    Dispatch.workspace (s g at) c.args.machine.now c.find_copy.new.machine c.args.steps.now c.find_copy.new.steps (stands g at) c.requires.family
-    c.find_copy.ensures here
+    Dispatch.workspace (state c.args.machine.now) _ _ _ _ (stands_move c.requires) c.requires.family c.find_copy.ensures
+    (on c.pc.ensures.value c.if-pc-eq-GSTOP.true)
 
 pub returns-then-pc-eq-GSTOP : goal.returns-then-pc-eq-GSTOP
 returns-then-pc-eq-GSTOP g c =
-    let at = (goal.at.returns-then-pc-eq-GSTOP g c).After-find_copy in
-    let here : c.find_copy.new.machine.cpu.pc ≡ GSTOP = let p = c.pc.ensures.value in let r = c.if-pc-eq-GSTOP.true in omega arith in
-    Dispatch.stopped (s g at) c.args.machine.now c.find_copy.new.machine c.args.steps.now c.find_copy.new.steps (stands g at) c.requires.family
-    c.find_copy.ensures here c.reason_told.result c.reason_told.ensures
+    Dispatch.stopped (state c.args.machine.now) _ _ _ _ (stands_move c.requires) c.requires.family c.find_copy.ensures
+    (on c.pc.ensures.value c.if-pc-eq-GSTOP.true) c.reason_told.result c.reason_told.ensures
 
 pub copy_bytes-requires-clause-stands : goal.copy_bytes-requires-clause-stands
 copy_bytes-requires-clause-stands g c =
-    let at = (goal.at.copy_bytes-requires-clause-stands g c).After-find_copy in
-    let away : c.find_copy.new.machine.cpu.pc ≡ GSTOP → ⊥ = λ there. let p = c.pc.ensures.value in let r = c.if-pc-eq-GSTOP.false in absurd (omega arith) in
-    Dispatch.stands_copy (s g at) c.args.machine.now c.find_copy.new.machine c.args.steps.now c.find_copy.new.steps (stands g at) c.requires.family
-    c.find_copy.ensures away
+    Dispatch.stands_copy (state c.args.machine.now) _ _ _ _ (stands_move c.requires) c.requires.family c.find_copy.ensures
+    (off c.pc.ensures.value c.if-pc-eq-GSTOP.false)
 
 pub copy_bytes-requires-clause-idle : goal.copy_bytes-requires-clause-idle
 copy_bytes-requires-clause-idle g c =
-    let at = (goal.at.copy_bytes-requires-clause-idle g c).After-find_copy in
-    let away : c.find_copy.new.machine.cpu.pc ≡ GSTOP → ⊥ = λ there. let p = c.pc.ensures.value in let r = c.if-pc-eq-GSTOP.false in absurd (omega arith) in
-    Dispatch.idle_copy (s g at) c.args.machine.now c.find_copy.new.machine c.args.steps.now c.find_copy.new.steps (stands g at) c.requires.family
-    c.find_copy.ensures away
+    Dispatch.idle_copy (state c.args.machine.now) _ _ _ _ (stands_move c.requires) c.requires.family c.find_copy.ensures
+    (off c.pc.ensures.value c.if-pc-eq-GSTOP.false)
 
 pub copy_bytes-requires-clause-fetched : goal.copy_bytes-requires-clause-fetched
 copy_bytes-requires-clause-fetched g c =
-    let at = (goal.at.copy_bytes-requires-clause-fetched g c).After-find_copy in
-    let away : c.find_copy.new.machine.cpu.pc ≡ GSTOP → ⊥ = λ there. let p = c.pc.ensures.value in let r = c.if-pc-eq-GSTOP.false in absurd (omega arith) in
-    Dispatch.fetched_copy (s g at) c.args.machine.now c.find_copy.new.machine c.args.steps.now c.find_copy.new.steps (stands g at) c.requires.family
-    c.find_copy.ensures away
+    Dispatch.fetched_copy (state c.args.machine.now) _ _ _ _ (stands_move c.requires) c.requires.family c.find_copy.ensures
+    (off c.pc.ensures.value c.if-pc-eq-GSTOP.false)
 
 pub copy_bytes-requires-clause-source : goal.copy_bytes-requires-clause-source
 copy_bytes-requires-clause-source g c =
-    let at = (goal.at.copy_bytes-requires-clause-source g c).After-find_copy in
-    let away : c.find_copy.new.machine.cpu.pc ≡ GSTOP → ⊥ = λ there. let p = c.pc.ensures.value in let r = c.if-pc-eq-GSTOP.false in absurd (omega arith) in
-    Dispatch.source_copy (s g at) c.args.machine.now c.find_copy.new.machine c.args.steps.now c.find_copy.new.steps (stands g at) c.requires.family
-    c.find_copy.ensures away
+    Dispatch.source_copy (state c.args.machine.now) _ _ _ _ (stands_move c.requires) c.requires.family c.find_copy.ensures
+    (off c.pc.ensures.value c.if-pc-eq-GSTOP.false)
 
 pub copy_bytes-requires-clause-target : goal.copy_bytes-requires-clause-target
 copy_bytes-requires-clause-target g c =
-    let at = (goal.at.copy_bytes-requires-clause-target g c).After-find_copy in
-    let away : c.find_copy.new.machine.cpu.pc ≡ GSTOP → ⊥ = λ there. let p = c.pc.ensures.value in let r = c.if-pc-eq-GSTOP.false in absurd (omega arith) in
-    Dispatch.target_copy (s g at) c.args.machine.now c.find_copy.new.machine c.args.steps.now c.find_copy.new.steps (stands g at) c.requires.family
-    c.find_copy.ensures away
+    Dispatch.target_copy (state c.args.machine.now) _ _ _ _ (stands_move c.requires) c.requires.family c.find_copy.ensures
+    (off c.pc.ensures.value c.if-pc-eq-GSTOP.false)
 
 pub copy_bytes-requires-clause-registers : goal.copy_bytes-requires-clause-registers
 copy_bytes-requires-clause-registers g c =
-    let at = (goal.at.copy_bytes-requires-clause-registers g c).After-find_copy in
-    let away : c.find_copy.new.machine.cpu.pc ≡ GSTOP → ⊥ = λ there. let p = c.pc.ensures.value in let r = c.if-pc-eq-GSTOP.false in absurd (omega arith) in
-    Dispatch.registers_copy (s g at) c.args.machine.now c.find_copy.new.machine c.args.steps.now c.find_copy.new.steps (stands g at) c.requires.family
-    c.find_copy.ensures away
+    Dispatch.registers_copy (state c.args.machine.now) _ _ _ _ (stands_move c.requires) c.requires.family c.find_copy.ensures
+    (off c.pc.ensures.value c.if-pc-eq-GSTOP.false)
 
 pub returns : goal.returns
 returns g c =
-    let at = (goal.at.returns g c).After-find_copy in
-    let away : c.find_copy.new.machine.cpu.pc ≡ GSTOP → ⊥ = λ there. let p = c.pc.ensures.value in let r = c.if-pc-eq-GSTOP.false in absurd (omega arith) in
-    Dispatch.turned (s g at) c.args.machine.now c.find_copy.new.machine c.args.steps.now c.find_copy.new.steps (stands g at) c.requires.family
-    c.find_copy.ensures away c.copy_bytes.new.machine c.copy_bytes.new.steps c.copy_bytes.ensures
+    Dispatch.turned (state c.args.machine.now) _ _ _ _ (stands_move c.requires) c.requires.family c.find_copy.ensures
+    (off c.pc.ensures.value c.if-pc-eq-GSTOP.false) _ _ c.copy_bytes.ensures
 
 pub find_copy-requires-clause-stands : goal.find_copy-requires-clause-stands
-find_copy-requires-clause-stands g c =
-    subst (λ (p : ℕ). Stands c.args.machine.now p) (entry_is (operation_in (state_at_dispatch (view c.args.machine.now))) c.requires.family) c.requires.stands
+find_copy-requires-clause-stands g c = stands_move c.requires
