@@ -1,11 +1,11 @@
 -- The length, the target and the source, one after the other.
 use Rattle.std.proofs.Common.{ℕ, ◌%◌, ◌/◌, ◌<◌, ◌==◌, ◌∙◌, ◌≡◌, ◌≤◌, ap, arith, Bool, Err, Ok, Option, refl, Result, Some, subst, sym, true}
-use Rattle.sim_rows.proofs.Common.{◌>>=◌, ADDR, AtDispatch, barred_stops, code_byte, Comes, comes_as, comes_on, even, fetched_of, Finds, finds_of, FindsOperand, From}
-use Rattle.sim_rows.proofs.Common.{from_placed, FromGrom, FromMemory, GOMOVE, GplOperand, GplOperation, GplState, grom_at, GromIndexedToMemory, GromState}
+use Rattle.sim_rows.proofs.Common.{◌>>=◌, ADDR, AtDispatch, barred_stops, code_byte, Comes, comes_as, comes_on, even, fetched_of, Finds, finds_of, FindsOperand}
+use Rattle.sim_rows.proofs.Common.{From, from_placed, FromGrom, FromMemory, GOMOVE, GplOperand, GplOperation, GplState, grom_at, GromIndexedToMemory, GromState}
 use Rattle.sim_rows.proofs.Common.{GromToMemory, GromToRegisters, GSTOP, idle_of, index_by, indexed, is_view, IsFetched, length_of, MachineState}
 use Rattle.sim_rows.proofs.Common.{MemoryToMemory, most_of_address, most_to_copy, Move, MOVEB, MoveKind, MOVEL, MOVES, MOVEX, next_in_grom, operand_at}
-use Rattle.sim_rows.proofs.Common.{operation_entry, operation_in, operation_seen, origin_of, Place, place_of, Placed, PortsAreIdle, Reason, return_of, Stands, state_at_dispatch, stands_at}
-use Rattle.sim_rows.proofs.Common.{StoppedBy, target_of, To, ToMemory, ToRegisters, View, view, within_limit, word_at}
+use Rattle.sim_rows.proofs.Common.{operation_entry, operation_in, operation_seen, origin_of, Place, place_of, Placed, PortsAreIdle, Reason, return_of, Stands}
+use Rattle.sim_rows.proofs.Common.{stands_at, state_at_dispatch, StoppedBy, target_of, To, ToMemory, ToRegisters, View, view, within_limit, word_at}
 use Rattle.sim_copy.specs.Copying.{StandsTo}
 use Rattle.sim_move.specs.Family.{is_move}
 use Rattle.sim_move.specs.Moves.{Arrives, AtCopy, copy_in, FindsCopy, FindsLength, FindsTarget, IndexesSource, length_read, LengthTold, source_entry}

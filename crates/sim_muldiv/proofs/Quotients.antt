@@ -10,7 +10,8 @@ use Rattle.sim_rows.proofs.Common.{ones_set, operation_in, OVER, Place, place_in
 use Rattle.sim_rows.proofs.Common.{SeesFinished, shifted, SHOW, size_of, Source, SRL, Stands, state_of, STORE, store_then, stored_idle, StoresValue, Storing}
 use Rattle.sim_rows.proofs.Common.{storing_again, sum_of, swapped, Two, unchanged, value_at, value_same, View, view, Width, width_in, with_byte, with_overflow}
 use Rattle.sim_rows.proofs.Common.{with_quotient, with_value, Word}
-use Rattle.sim_muldiv.specs.Family.{AreVisible, Divided, dividend_in, Divides, EndsDivision, EndsQuotient, is_muldiv, IsReady, MayStore, MayStoreQuotient, second_in}
+use Rattle.sim_muldiv.specs.Family.{AreVisible, Divided, dividend_in, Divides, EndsDivision, EndsQuotient, is_muldiv, IsReady, MayStore, MayStoreQuotient}
+use Rattle.sim_muldiv.specs.Family.{second_in}
 use Rattle.sim_muldiv.proofs.Numbers.{byte_divides, byte_fits, divisor_down, high_of, low_of, no_first_word, quotient_fits, remainder_fits, together}
 use Rattle.sim_muldiv.proofs.Numbers.{word_divides}
 use Rattle.sim_muldiv.proofs.Turning.{loaded_is, ready_again, second_visible, width_if, width_there, word_fits_at, word_visible}
@@ -428,7 +429,8 @@ module _ {x a : MachineState} {t u : ℕ} (ready : IsReady x) (stands : Stands x
   pub byte_quotient_runs : a.cpu.pc ≡ DIVBY → (y : MachineState) (w : ℕ) → Divides a y u w → RunsRow (Two DIV) most_of_quotient_row x y t w
   byte_quotient_runs e = quotient_runs (byte_is fits byte z (goes e)).0 DIVBY (goes e) refl
 
-  pub word_quotient_runs : (a.cpu.pc ≡ OVER → ⊥) → (a.cpu.pc ≡ DIVBY → ⊥) → (y : MachineState) (w : ℕ) → Divides a y u w → RunsRow (Two DIV) most_of_quotient_row x y t w
+  pub word_quotient_runs : (a.cpu.pc ≡ OVER → ⊥) → (a.cpu.pc ≡ DIVBY → ⊥) → (y : MachineState) (w : ℕ) → Divides a y u w
+      → RunsRow (Two DIV) most_of_quotient_row x y t w
   word_quotient_runs e f =
       let b = word_is fits byte z (strays e) (strays f) in
       quotient_runs b.0 DIVW (ap (λ (k : Bool). way k byte z) b.0 ∙ ap (λ (k : Bool). way true k z) b.1) refl

@@ -224,7 +224,8 @@ told_at op s place source v u known a i is =
     let at : Told s place source (told (pieces.asking (shift_entry op) v).left (low_four (counted_word v))) =
     (let loaded = loaded_is op s place v.r.r9 known a.destination in
     record {
-      changed = changed_kept (unchanged (gone_on s)) v (told (pieces.asking (shift_entry op) v).left (low_four (counted_word v))) (row_changed s place source v a) refl;
+      changed = changed_kept (unchanged (gone_on s)) v (told (pieces.asking (shift_entry op) v).left (low_four (counted_word v)))
+          (row_changed s place source v a) refl;
       bytes_are = a.holds.bytes_are;
       to_place = record { address = a.to_place.address; space = a.to_place.space };
       value = loaded;

@@ -221,21 +221,19 @@ module _ (m : Memory) (v : View) (h : Shows m v) where
   with_word_sim (AtThePort p) r a w g = record { by = λ n e. absurd (cc) }
   with_word_sim Unknown r a w g = record { by = λ n e. absurd (cc) }
 
-  vdp_shows : {vdp : VdpState} → Shows (record m { vdp = vdp }) (record v { vdp = vdp })
-  vdp_shows =
-      record { pad = h.pad; cells = h.cells; spare = h.spare; low_part = h.low_part; high_part = h.high_part; rom = h.rom; code = h.code; vdp = refl; grom = h.grom }
-
-  grom_shows : {grom : GromState} → Shows (record m { grom = grom }) (record v { grom = grom })
-  grom_shows =
-      record { pad = h.pad; cells = h.cells; spare = h.spare; low_part = h.low_part; high_part = h.high_part; rom = h.rom; code = h.code; vdp = h.vdp; grom = refl }
+  -- a port is read or written
+  ports_show : {vdp vdp' : VdpState} {grom grom' : GromState} → vdp ≡ vdp' → grom ≡ grom' →
+      Shows (record m { vdp = vdp; grom = grom }) (record v { vdp = vdp'; grom = grom' })
+  ports_show d g =
+      record { pad = h.pad; cells = h.cells; spare = h.spare; low_part = h.low_part; high_part = h.high_part; rom = h.rom; code = h.code; vdp = d; grom = g }
 
   port_sim : (p : Port) → Sim (λ m p. (p.0, m)) (λ (p : ℕ × View). p.1) (Gives (port_read p m)) (Gives (port_seen p v))
-  port_sim VdpDataRead = rw h.vdp (sim_gives _ (port_seen VdpDataRead v) vdp_shows)
-  port_sim VdpStatusRead = rw h.vdp (sim_gives _ (port_seen VdpStatusRead v) vdp_shows)
+  port_sim VdpDataRead = rw h.vdp (sim_gives _ (port_seen VdpDataRead v) (ports_show refl h.grom))
+  port_sim VdpStatusRead = rw h.vdp (sim_gives _ (port_seen VdpStatusRead v) (ports_show refl h.grom))
   port_sim VdpDataWrite = sim_gives m (0, v) h
   port_sim VdpAddressWrite = sim_gives m (0, v) h
-  port_sim GromDataRead = rw h.grom (sim_gives _ (port_seen GromDataRead v) grom_shows)
-  port_sim GromAddressRead = rw h.grom (sim_gives _ (port_seen GromAddressRead v) grom_shows)
+  port_sim GromDataRead = rw h.grom (sim_gives _ (port_seen GromDataRead v) (ports_show h.vdp refl))
+  port_sim GromAddressRead = rw h.grom (sim_gives _ (port_seen GromAddressRead v) (ports_show h.vdp refl))
   port_sim GromDataWrite = sim_gives m (0, v) h
   port_sim GromAddressWrite = sim_gives m (0, v) h
 
@@ -251,12 +249,12 @@ module _ (m : Memory) (v : View) (h : Shows m v) where
   put_sim : (p : Port) (b : ℕ) → Sim (λ m v. m) (λ (v : View). v) (Gives (port_written p m b)) (Gives (port_put p v b))
   put_sim VdpDataRead b = sim_gives m v h
   put_sim VdpStatusRead b = sim_gives m v h
-  put_sim VdpDataWrite b = rw h.vdp (sim_gives _ (port_put VdpDataWrite v b) vdp_shows)
-  put_sim VdpAddressWrite b = rw h.vdp (sim_gives _ (port_put VdpAddressWrite v b) vdp_shows)
+  put_sim VdpDataWrite b = rw h.vdp (sim_gives _ (port_put VdpDataWrite v b) (ports_show refl h.grom))
+  put_sim VdpAddressWrite b = rw h.vdp (sim_gives _ (port_put VdpAddressWrite v b) (ports_show refl h.grom))
   put_sim GromDataRead b = sim_gives m v h
   put_sim GromAddressRead b = sim_gives m v h
   put_sim GromDataWrite b = sim_gives m v h
-  put_sim GromAddressWrite b = rw h.grom (sim_gives _ (port_put GromAddressWrite v b) grom_shows)
+  put_sim GromAddressWrite b = rw h.grom (sim_gives _ (port_put GromAddressWrite v b) (ports_show h.vdp refl))
 
   with_byte_sim : (s : Spot) (r : Region) (b : ℕ) → Agrees s r → Sim (λ m v. m) (λ (v : View). v) (Gives (byte_written_in r m b)) (with_byte_on s v b)
   with_byte_sim (Reg k) r b g =
