@@ -2,7 +2,7 @@
 use Rattle.std.proofs.Common.{ℕ, ⊎_elim, ◌%◌, ◌*◌, ◌+◌, ◌/◌, ◌<◌, ◌==◌, ◌≡◌, ◌≤◌, ap, arith, Bool, eqb, Err, false, List}
 use Rattle.std.proofs.Common.{nat_lt, not, Ok, refl, Result, slice_index, subst, sym, true}
 use Rattle.std.proofs.lemmas.Bool.{cases_eq, eq-eqb, eqb-true, le-leb, le-ltb, lt-leb, ltb-false, ltb-true, ne_eqb}
-use Rattle.sim_view.proofs.Common.{APTR, ASPACE, Exit, Goes, GSTOP, high, HoldsBytes, INDEX, index_at}
+use Rattle.sim_view.proofs.Common.{APTR, ASPACE, Exit, Goes, goes_in, GSTOP, high, HoldsBytes, INDEX, index_at}
 use Rattle.sim_view.proofs.Common.{indexed, is_visible, join, last_out, next_in_grom, operand_at, pick, pointed, ranged}
 use Rattle.sim_view.proofs.Common.{Reason, shifted, SLA, space_at, SRL, sum_of, View, with_index, Word, word_in}
 use Rattle.sim_view.specs.gpl_step_defs.declared.reason.Reason.TheVariants.{Cell}
@@ -149,52 +149,15 @@ pointer_read v w address form next h a =
     subst (λ (u : View). PointerRead v u address form next (pieces.pointer u)) (sym a.is)
     (pick (form / 16 % 2 == 1)
     (λ c. pick (nat_lt 0xC0 address)
-    (λ d. rw (indirect_bit form h, c, d, visible_word address true d, pieces.pointer) (
-      refl,
-      record {
-        within = omega arith;
-        to_is = refl;
-        holds = record {
-          r2 = address;
-          r4 = a.r4;
-          r5 = form / 32;
-          r6 = a.r6;
-          next = next;
-          is =
-              rw (form_down form h) refl;
-        };
-      },
-    ))
+    (λ d. rw (indirect_bit form h, c, d, visible_word address true d, pieces.pointer)
+    (refl, goes_in (omega arith) (record { r2 = address; r4 = a.r4; r5 = form / 32; r6 = a.r6; next = next; is = rw (form_down form h) refl })))
     (λ d. pick (address == 0x7C)
-    (λ f. rw (indirect_bit form h, c, d, f, visible_word address false d, pieces.pointer) (
-      refl,
-      record {
-        within = omega arith;
-        to_is = refl;
-        holds = record {
-          r2 = address;
-          r4 = a.r4;
-          r5 = form / 32;
-          r6 = a.r6;
-          next = next;
-          is =
-              rw (form_down form h) refl;
-        };
-      },
-    ))
     (λ f. rw (indirect_bit form h, c, d, f, visible_word address false d, pieces.pointer)
-    (record {
-      within = omega arith;
-      to_is = refl;
-      holds = record {
-        r4 = word_in v.cells address;
-        r6 = a.r6;
-        is =
-            rw (form_down form h) refl;
-      };
-    }))))
+    (refl, goes_in (omega arith) (record { r2 = address; r4 = a.r4; r5 = form / 32; r6 = a.r6; next = next; is = rw (form_down form h) refl })))
+    (λ f. rw (indirect_bit form h, c, d, f, visible_word address false d, pieces.pointer)
+    (goes_in (omega arith) (record { r4 = word_in v.cells address; r6 = a.r6; is = rw (form_down form h) refl })))))
     (λ c. rw (indirect_bit form h, c, pieces.pointer)
-    (record { within = omega arith; to_is = refl; holds = record { r4 = a.r4; r6 = a.r6; is = rw (form_down form h) refl } })))
+    (goes_in (omega arith) (record { r4 = a.r4; r6 = a.r6; is = rw (form_down form h) refl }))))
 
 -- ---- the index
 
@@ -215,34 +178,12 @@ index_read v w base form next h a =
     subst (λ (u : View). IndexRead v u base form next (pieces.index u)) (sym a.is)
     (pick (form / 64 % 2 == 1)
     (λ c. pick (nat_lt 0xC0 (slice_index v.grom.image next))
-    (λ d. rw (index_bit form h, c, d, visible_word (slice_index v.grom.image next) true d, pieces.index) (
-      refl,
-      record {
-        within = omega arith;
-        to_is = refl;
-        holds = record {
-          r2 = base;
-          r4 = slice_index v.grom.image next;
-          r5 = form / 32;
-          r6 = a.r6;
-          next =
-              next_in_grom next;
-          is = refl;
-        };
-      },
-    ))
+    (λ d. rw (index_bit form h, c, d, visible_word (slice_index v.grom.image next) true d, pieces.index)
+    (refl, goes_in (omega arith) (record { r2 = base; r4 = slice_index v.grom.image next; r5 = form / 32; r6 = a.r6; next = next_in_grom next; is = refl })))
     (λ d. rw (index_bit form h, c, d, visible_word (slice_index v.grom.image next) false d, pieces.index)
-    (record {
-      within = omega arith;
-      to_is = refl;
-      holds = record {
-        r4 = slice_index v.grom.image next;
-        r6 = word_in v.cells (slice_index v.grom.image next);
-        is = refl;
-      };
-    })))
+    (goes_in (omega arith) (record { r4 = slice_index v.grom.image next; r6 = word_in v.cells (slice_index v.grom.image next); is = refl }))))
     (λ c. rw (index_bit form h, c, pieces.index)
-    (record { within = omega arith; to_is = refl; holds = record { r4 = shifted SRL (form / 32) 2; r6 = a.r6; is = refl } })))
+    (goes_in (omega arith) (record { r4 = shifted SRL (form / 32) 2; r6 = a.r6; is = refl }))))
 
 -- ---- the range
 
@@ -277,30 +218,16 @@ range_read v w address form next h k a =
     (λ (z : form / 32 % 2 ≡ 0).
     pick (nat_lt 0xC2 address)
     (λ d. rw (space_bit form h, z, d, no_range v.r.r3 address d, pieces.range)
-    (refl, record { within = omega arith; to_is = refl; holds = record { r2 = address; r4 = a.r4; r5 = 0; r6 = a.r6; next = next; is = refl } }))
+    (refl, goes_in (omega arith) (record { r2 = address; r4 = a.r4; r5 = 0; r6 = a.r6; next = next; is = refl })))
     (λ d. pick (nat_lt 0xC2 (sum_of Word v.r.r3 address))
-    (λ f. rw (space_bit form h, z, d, f, visible_range v.r.r3 address true (ltb-false 0xC2 address d) k f, pieces.range) (
-      refl,
-      record {
-        within = omega arith;
-        to_is = refl;
-        holds = record {
-          r2 = address;
-          r4 = sum_of Word v.r.r3 address;
-          r5 = 0;
-          r6 = a.r6;
-          next = next;
-          is =
-              refl;
-        };
-      },
-    ))
+    (λ f. rw (space_bit form h, z, d, f, visible_range v.r.r3 address true (ltb-false 0xC2 address d) k f, pieces.range)
+    (refl, goes_in (omega arith) (record { r2 = address; r4 = sum_of Word v.r.r3 address; r5 = 0; r6 = a.r6; next = next; is = refl })))
     (λ f. rw (space_bit form h, z, d, f, visible_range v.r.r3 address false (ltb-false 0xC2 address d) k f, pieces.range)
-    (record { within = omega arith; to_is = refl; holds = record { r4 = sum_of Word v.r.r3 address; r6 = a.r6; is = refl } }))))
+    (goes_in (omega arith) (record { r4 = sum_of Word v.r.r3 address; r6 = a.r6; is = refl })))))
     (λ (n : form / 32 % 2 ≡ 0 → ⊥).
     let one : form / 32 % 2 ≡ 1 = two_spaces form n in
     rw (space_bit form h, one, pieces.range)
-    (record { within = omega arith; to_is = refl; holds = record { r4 = a.r4; r6 = a.r6; is = refl } }))
+    (goes_in (omega arith) (record { r4 = a.r4; r6 = a.r6; is = refl })))
     (cases_eq (form / 32 % 2) 0))
 
 -- ---- the range of an address in one byte
@@ -317,15 +244,9 @@ short_range_read v w address next h k a =
     subst (λ (u : View). RangeRead v u address 0 next (pieces.short_range u)) (sym a.is)
     (pick (nat_lt 4 v.r.r3)
     (λ c. pick (nat_lt 0xC2 (sum_of Word v.r.r3 address))
-    (λ f. rw (c, near_cell address h, f, visible_range v.r.r3 address true (omega arith) k f, pieces.short_range) (
-      refl,
-      record {
-        within = omega arith;
-        to_is = refl;
-        holds = record { r2 = address; r4 = sum_of Word v.r.r3 address; r5 = 0; r6 = a.r6; next = next; is = refl };
-      },
-    ))
+    (λ f. rw (c, near_cell address h, f, visible_range v.r.r3 address true (omega arith) k f, pieces.short_range)
+    (refl, goes_in (omega arith) (record { r2 = address; r4 = sum_of Word v.r.r3 address; r5 = 0; r6 = a.r6; next = next; is = refl })))
     (λ f. rw (c, near_cell address h, f, visible_range v.r.r3 address false (omega arith) k f, pieces.short_range)
-    (record { within = omega arith; to_is = refl; holds = record { r4 = sum_of Word v.r.r3 address; r6 = a.r6; is = refl } })))
+    (goes_in (omega arith) (record { r4 = sum_of Word v.r.r3 address; r6 = a.r6; is = refl }))))
     (λ c. rw (c, visible_short v.r.r3 address c h, pieces.short_range)
-    (record { within = omega arith; to_is = refl; holds = record { r4 = a.r4; r6 = a.r6; is = refl } })))
+    (goes_in (omega arith) (record { r4 = a.r4; r6 = a.r6; is = refl }))))

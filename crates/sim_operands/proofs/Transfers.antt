@@ -2,7 +2,7 @@
 use Rattle.std.proofs.Common.{ℕ, ◌%◌, ◌+◌, ◌/◌, ◌<◌, ◌==◌, ◌∙◌, ◌≡◌, ap, arith, Bool, false, if◌then◌else◌, nat_lt, None}
 use Rattle.std.proofs.Common.{refl, slice_index, subst, sym, true}
 use Rattle.std.proofs.lemmas.Bool.{eq-eqb, eqb-true, ltb-true, ne_eqb}
-use Rattle.sim_view.proofs.Common.{Byte, Exit, Goes, GromState, high, join, LDATA, low, next_in_vdp, NoOperation, pair_kind}
+use Rattle.sim_view.proofs.Common.{Byte, Exit, Goes, goes_in, GromState, high, join, LDATA, low, next_in_vdp, NoOperation, pair_kind}
 use Rattle.sim_view.proofs.Common.{PairKind, pick, plus, ReadSetup, RegisterWrite, SDATA, shifted, SLA, SREG, SRL, STREAM, sum_of, unchanged}
 use Rattle.sim_view.proofs.Common.{value_at, VdpState, View, with_register, with_value, Word}
 use Rattle.sim_view.proofs.Common.{WriteSetup}
@@ -24,20 +24,11 @@ loaded_by v = Loaded v (value_at (state_of v) (width_in v.r.r3) (place_in v.r.r5
 pub load_cells : (v : View) → v.r.r5 ≡ 0 → IsVisible v.r.r5 v.r.r2 v.r.r3 → Goes (pieces.load v) 17 (pieces.return_of v) (loaded_by v)
 load_cells v z h =
     pick (v.r.r3 == 1)
-    (λ c. rw (z, c, pieces.load) (record
-    { within = omega arith; to_is = refl; holds = record { r4 = v.r.r4; address = v.vdp.address; byte = v.vdp.fetched; is = rw c refl } }))
+    (λ c. rw (z, c, pieces.load)
+    (goes_in (omega arith) (record { r4 = v.r.r4; address = v.vdp.address; byte = v.vdp.fetched; is = rw c refl })))
     (λ c. let fits = second_fits v.r.r5 v.r.r2 v.r.r3 h z c in
-    rw (z, c, pieces.load) (record {
-      within = omega arith;
-      to_is = refl;
-      holds = record {
-        r4 = v.r.r4;
-        address = v.vdp.address;
-        byte = v.vdp.fetched;
-        is =
-            rw (c, behind_is v.r.r2 fits) refl;
-      };
-    }))
+    rw (z, c, pieces.load) (goes_in (omega arith)
+    (record { r4 = v.r.r4; address = v.vdp.address; byte = v.vdp.fetched; is = rw (c, behind_is v.r.r2 fits) refl })))
 
 -- ---- video memory
 
@@ -92,32 +83,14 @@ set_view v = record v { r = record v.r { r4 = v.r.r2 % 16384 }; vdp = reading_fr
 
 load_video_by : (v : View) → v.r.r5 ≡ 1 → v.vdp.held ≡ None → v.r.r2 < 65536 → Goes (pieces.load_video (set_view v)) 8 (pieces.return_of v) (loaded_by v)
 load_video_by v o h k =
+    let at = v.r.r2 % 16384 in
+    let next = next_in_vdp at in
     pick (v.r.r3 == 1)
     (λ c. rw (o, c, pieces.load_video)
-    (record {
-      within = omega arith;
-      to_is = refl;
-      holds = record {
-        r4 = v.r.r2 % 16384;
-        address = next_in_vdp (next_in_vdp (v.r.r2 % 16384));
-        byte =
-            slice_index v.vdp.memory (next_in_vdp (v.r.r2 % 16384));
-        is = rw (c, h) refl;
-      };
-    }))
-    (λ c. rw (o, c, pieces.load_video)
-    (record {
-      within = omega arith;
-      to_is = refl;
-      holds = record {
-        r4 = v.r.r2 % 16384;
-        address =
-            next_in_vdp (next_in_vdp (next_in_vdp (v.r.r2 % 16384)));
-        byte = slice_index v.vdp.memory (next_in_vdp (next_in_vdp (v.r.r2 % 16384)));
-        is =
-            rw (c, h, next_address v.r.r2 k) refl;
-      };
-    }))
+    (goes_in (omega arith) (record { r4 = at; address = next_in_vdp next; byte = slice_index v.vdp.memory next; is = rw (c, h) refl })))
+    (λ c. let last = next_in_vdp next in
+    rw (o, c, pieces.load_video) (goes_in (omega arith)
+    (record { r4 = at; address = next_in_vdp last; byte = slice_index v.vdp.memory last; is = rw (c, h, next_address v.r.r2 k) refl })))
 
 -- LOAD's second piece, after the first
 pub load_video : (v w : View) → (v.r.r5 == 1) ≡ true → v.vdp.held ≡ None → v.r.r2 < 65536 → w ≡ (pieces.load v).left →
@@ -164,9 +137,9 @@ store_byte : (v : View) → v.r.r8 ≡ 0 → (v.r.r3 == 1) ≡ true → Goes (pi
 store_byte v z c =
     pick (v.r.r7 == 0x7D)
     (λ d. rw (z, c, d, pieces.store_byte)
-    (record { within = omega arith; to_is = refl; holds = record { r4 = v.r.r4; r9 = v.r.r9; address = v.vdp.address; byte = v.vdp.fetched; is = refl } }))
+    (goes_in (omega arith) (record { r4 = v.r.r4; r9 = v.r.r9; address = v.vdp.address; byte = v.vdp.fetched; is = refl })))
     (λ d. rw (z, c, d, pieces.store_byte)
-    (record { within = omega arith; to_is = refl; holds = record { r4 = v.r.r4; r9 = v.r.r9; address = v.vdp.address; byte = v.vdp.fetched; is = refl } }))
+    (goes_in (omega arith) (record { r4 = v.r.r4; r9 = v.r.r9; address = v.vdp.address; byte = v.vdp.fetched; is = refl })))
 
 store_word : (v : View) → v.r.r8 ≡ 0 → (v.r.r3 == 1) ≡ false → v.r.r7 + 1 < 194 → Goes (pieces.store_word v) 16 (pieces.return_of v) (stored_by v)
 store_word v z c h =
@@ -174,45 +147,12 @@ store_word v z c h =
     pick (v.r.r7 == 0x7D)
     (λ d. let e = apart v.r.r7 d in
     rw (z, c, b, d, e, next_cell v.r.r7 false e, pieces.store_word)
-    (record {
-      within = omega arith;
-      to_is = refl;
-      holds = record {
-        r4 = v.r.r4;
-        r9 = v.r.r9;
-        address = v.vdp.address;
-        byte = v.vdp.fetched;
-        is =
-            refl;
-      };
-    }))
+    (goes_in (omega arith) (record { r4 = v.r.r4; r9 = v.r.r9; address = v.vdp.address; byte = v.vdp.fetched; is = refl })))
     (λ d. pick (v.r.r7 == 0x7C)
     (λ e. rw (z, c, b, d, e, next_cell v.r.r7 true e, pieces.store_word)
-    (record {
-      within = omega arith;
-      to_is = refl;
-      holds = record {
-        r4 = v.r.r4;
-        r9 = v.r.r9;
-        address = v.vdp.address;
-        byte = v.vdp.fetched;
-        is =
-            refl;
-      };
-    }))
+    (goes_in (omega arith) (record { r4 = v.r.r4; r9 = v.r.r9; address = v.vdp.address; byte = v.vdp.fetched; is = refl })))
     (λ e. rw (z, c, b, d, e, next_cell v.r.r7 false e, pieces.store_word)
-    (record {
-      within = omega arith;
-      to_is = refl;
-      holds = record {
-        r4 = v.r.r4;
-        r9 = v.r.r9;
-        address = v.vdp.address;
-        byte = v.vdp.fetched;
-        is =
-            refl;
-      };
-    })))
+    (goes_in (omega arith) (record { r4 = v.r.r4; r9 = v.r.r9; address = v.vdp.address; byte = v.vdp.fetched; is = refl }))))
 
 pub store_cells : (v : View) → v.r.r8 ≡ 0 → IsVisible v.r.r8 v.r.r7 v.r.r3 → Goes (pieces.store v) 16 (pieces.return_of v) (stored_by v)
 store_cells v z h =
@@ -244,33 +184,13 @@ store_sets v c h k =
 
 store_video_by : (v : View) → v.r.r8 ≡ 1 → v.vdp.held ≡ None → v.r.r7 < 65536 → Goes (pieces.store_video (written_view v)) 6 (pieces.return_of v) (stored_by v)
 store_video_by v o h k =
+    let at = v.r.r7 % 16384 in
     pick (v.r.r3 == 1)
     (λ c. rw (o, c, pieces.store_video)
-    (record {
-      within = omega arith;
-      to_is = refl;
-      holds = record {
-        r4 = v.r.r7 % 16384 + 0x4000;
-        r9 = v.r.r9;
-        address = next_in_vdp (v.r.r7 % 16384);
-        byte =
-            high v.r.r9;
-        is = rw h refl;
-      };
-    }))
+    (goes_in (omega arith) (record { r4 = at + 0x4000; r9 = v.r.r9; address = next_in_vdp at; byte = high v.r.r9; is = rw h refl })))
     (λ c. rw (o, c, pieces.store_video)
-    (record {
-      within = omega arith;
-      to_is = refl;
-      holds = record {
-        r4 = v.r.r7 % 16384 + 0x4000;
-        r9 = v.r.r9;
-        address =
-            next_in_vdp (next_in_vdp (v.r.r7 % 16384));
-        byte = low v.r.r9;
-        is = rw (h, next_address v.r.r7 k) refl;
-      };
-    }))
+    (goes_in (omega arith)
+    (record { r4 = at + 0x4000; r9 = v.r.r9; address = next_in_vdp (next_in_vdp at); byte = low v.r.r9; is = rw (h, next_address v.r.r7 k) refl })))
 
 pub store_video : (v w : View) → (v.r.r8 == 1) ≡ true → v.vdp.held ≡ None → v.r.r7 < 65536 → w ≡ (pieces.store v).left →
     Goes (pieces.store_video w) 6 (pieces.return_of v) (stored_by v)
@@ -294,16 +214,11 @@ register_is number h = omega arith
 
 pub store_register : (v : View) → v.vdp.held ≡ None → v.r.r7 < 8 → Goes (pieces.store_register v) 5 (pieces.return_of v)
     (Stored v (with_register v.r.r7 (of_register Byte v.r.r9) (unchanged (state_of v))))
-store_register v h k = record {
-  within = omega arith;
-  to_is = refl;
-  holds =
-      record {
-        r4 = sum_of Word v.r.r7 0x80;
-        r9 = v.r.r9;
-        address = v.vdp.address;
-        byte = v.vdp.fetched;
-        is =
-            rw (h, register_kind v.r.r7 k, register_is v.r.r7 k) refl;
-      };
-}
+store_register v h k =
+    goes_in (omega arith) (record {
+      r4 = sum_of Word v.r.r7 0x80;
+      r9 = v.r.r9;
+      address = v.vdp.address;
+      byte = v.vdp.fetched;
+      is = rw (h, register_kind v.r.r7 k, register_is v.r.r7 k) refl;
+    })

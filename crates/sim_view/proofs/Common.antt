@@ -2,7 +2,7 @@
 pub use Rattle.grom_defs.proofs.AddressLaws.{next-previous, previous-next}
 pub use Rattle.sim_view.proofs.Answers.{given}
 pub use Rattle.sim_view.proofs.Bridge.{holds_register, is_view, IsView, Leads, piece, reg_word}
-pub use Rattle.sim_view.proofs.Compose.{comes, comes_as, comes_on, comes_then, Goes, runs_then}
+pub use Rattle.sim_view.proofs.Compose.{comes, comes_as, comes_on, comes_then, Goes, goes_in, runs_then}
 pub use Rattle.sim_view.proofs.Lists.{high-join, join-bytes}
 pub use Rattle.sim_view.proofs.Parts.{leads, Part, part_then, Rest}
 pub use Rattle.sim_view.proofs.Places.{off, on, pick}

@@ -1,5 +1,5 @@
 -- One stretch after another.
-use Rattle.std.proofs.Common.{◌≡◌, ℕ, ◌+◌, ◌-◌, ◌<◌, ◌≤◌, false, sym, ap, subst, ◌∙◌, arith, ⊎_elim}
+use Rattle.std.proofs.Common.{refl, ◌≡◌, ℕ, ◌+◌, ◌-◌, ◌<◌, ◌≤◌, false, sym, ap, subst, ◌∙◌, arith, ⊎_elim}
 use Rattle.std.proofs.lemmas.Bool.{cases_order}
 use Rattle.sim_view.specs.Prelude.{Comes, Exit, Exits, is_end, MachineState, Runs, Stands, steps, View, view}
 use Rattle.tms_defs.specs.Accesses.{Answer, Gives, ◌>>=◌}
@@ -35,6 +35,10 @@ pub record Goes (e : Exit) (most to : ℕ) (Holds : View → Type 0) : Type 0 wh
   pub within : e.count ≤ most
   pub to_is : e.to ≡ to
   pub holds : Holds e.left
+
+-- an exit that is at hand
+pub goes_in : {P : View → Type 0} {n most to : ℕ} {w : View} → n ≤ most → P w → Goes (record { count = n; to = to; left = w }) most to P
+goes_in within holds = record { within = within; to_is = refl; holds = holds }
 
 pub goes_as : {e : Exit} {most to : ℕ} {Q : View → Type 0} (more : ℕ) (R : View → Type 0) → Goes e most to Q → most ≤ more → ((v : View) → Q v → R v) →
     Goes e more to R
