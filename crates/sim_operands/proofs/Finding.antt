@@ -63,7 +63,7 @@ module _ (x : MachineState) (s : ℕ) (stands : Stands x ADDR) (idle : PortsAreI
   found = address_read v (next_at v) (ready x.cpu.memory idle is) (is_view x stands.machine).grom.image long
 
   -- after the address
-  pub addressed : (y : MachineState) (t : ℕ) → Exits x y s t (pieces.address v) → Comes 13 x y s t APTR
+  addressed : (y : MachineState) (t : ℕ) → Exits x y s t (pieces.address v) → Comes 13 x y s t APTR
       (Addressed v found.address found.form found.next)
   addressed y t e = comes e found.goes
 
@@ -79,9 +79,9 @@ module _ (x : MachineState) (s : ℕ) (stands : Stands x ADDR) (idle : PortsAreI
       subst P (sym found.means) h
 
   -- a pointer that stops
-  pub pointer_stops : (y z : MachineState) (t u : ℕ) → Comes 13 x y s t APTR (Addressed v found.address found.form found.next) →
-      Exits y z t u (pieces.pointer (view y)) → eqb (pieces.pointer (view y)).to INDEX ≡ false → FindsOperand x z s u
-  pointer_stops y z t u c e f =
+  pub pointer_stops : (y z : MachineState) (t u : ℕ) → Exits x y s t (pieces.address v) → Exits y z t u (pieces.pointer (view y)) → eqb (pieces.pointer (view y)).to INDEX ≡ false → FindsOperand x z s u
+  pointer_stops y z t u e1 e f =
+      let c = addressed y t e1 in
       let a = stops (pointed (state_of v) (found.form / 16 % 2 == 1) found.address) (pointer_read v (view y) found.address found.form found.next
       found.form_fits c.holds) (λ base. elsewhere f) in
       whole z u (subst (split z u) (sym a.0) (comes_as 45 (Barred v Cell) (comes_then 13 7 c e a.1 refl) (omega arith) (λ w b. b)))
@@ -92,9 +92,9 @@ module _ (x : MachineState) (s : ℕ) (stands : Stands x ADDR) (idle : PortsAreI
     pub is_pointed : pointed (state_of v) (found.form / 16 % 2 == 1) found.address ≡ Ok base
     pub comes : Comes 23 x y s t INDEX (Addressed v base (found.form / 32) found.next)
 
-  pub pointer_goes : (y z : MachineState) (t u : ℕ) → Comes 13 x y s t APTR (Addressed v found.address found.form found.next) →
-      Exits y z t u (pieces.pointer (view y)) → eqb (pieces.pointer (view y)).to INDEX ≡ true → Pointed z u
-  pointer_goes y z t u c e f =
+  pub pointer_goes : (y z : MachineState) (t u : ℕ) → Exits x y s t (pieces.address v) → Exits y z t u (pieces.pointer (view y)) → eqb (pieces.pointer (view y)).to INDEX ≡ true → Pointed z u
+  pointer_goes y z t u e1 e f =
+      let c = addressed y t e1 in
       let a = gives (pointed (state_of v) (found.form / 16 % 2 == 1) found.address) (pointer_read v (view y) found.address found.form found.next
       found.form_fits c.holds) (there INDEX f refl) in
       record { base = a.0; is_pointed = a.1; comes = comes_then 13 10 c e a.2 refl }
