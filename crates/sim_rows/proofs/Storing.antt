@@ -1,7 +1,7 @@
 -- Results are stored, and the character goes to the screen.
 use Rattle.std.proofs.Common.{ℕ, ◌%◌, ◌*◌, ◌+◌, ◌<◌, ◌==◌, ◌||◌, ◌∙◌, ◌≡◌, ap, arith, Bool, false, List, refl, slice_index, slice_set, subst, sym, true}
 use Rattle.std.proofs.lemmas.Bool.{ne_eqb}
-use Rattle.sim_view.proofs.Common.{comes, comes_as, comes_on, IsView, previous-next}
+use Rattle.sim_view.proofs.Common.{comes, comes_as, comes_on, goes_in, IsView, previous-next}
 use Rattle.sim_rows.specs.Prelude.{Byte, Changed, Changes, Comes, Cpu, EndsRow, even, Exit, exit, Exits, finished, GplState, grom_at, GromState, GSTEP, high}
 use Rattle.sim_rows.specs.Prelude.{join, low, MachineState, marked_by, number_of_space, of_register, Place, place_in, PortsAreIdle, previous_in_grom}
 use Rattle.sim_rows.specs.Prelude.{return_of, Sees, shifted, SHOW, shown, size_of, SLA, Space, SRL, Stands, state_of, STORE, Stored, StoresResult}
@@ -198,22 +198,19 @@ exits_by : {x y : MachineState} {t u : ℕ} (d e : Exit) → d ≡ e → Exits x
 exits_by {x = x} {y = y} {t = t} {u = u} d e is h = subst (λ (k : Exit). Exits x y t u k) is h
 
 -- without a character the row has ended
-pub ends_plain : (x y : MachineState) (t u : ℕ) → (view x).r.r13 ≡ 0 → Exits x y t u (pieces.show (view x)) → EndsRow x y t u
-ends_plain x y t u none_marked e c h =
+pub ends_plain : {x y : MachineState} {t u : ℕ} → (view x).r.r13 ≡ 0 → Exits x y t u (pieces.show (view x)) → EndsRow x y t u
+ends_plain {x = x} {y = y} {t = t} {u = u} none_marked e c h =
     let v : View = view x in
     let none = mark_none c.shows v.r.r13 h.mark none_marked in
     let same : finished c ≡ c.state = ap (λ b. shown b c.state) none in
     let e2 = exits_by (pieces.show v) (exit 3 GSTEP v) (ends_by v none_marked) e in
-    let run : Comes 3 x y t u GSTEP (Sees c.state c.state.pc) = comes e2 (record {
-      within = omega arith;
-      to_is = refl;
-      holds = record { cells = h.cells; vdp = h.vdp; registers = h.registers; held = h.held; grom = h.grom };
-    }) in
+    let run : Comes 3 x y t u GSTEP (Sees c.state c.state.pc) =
+    comes e2 (goes_in (omega arith) (record { cells = h.cells; vdp = h.vdp; registers = h.registers; held = h.held; grom = h.grom })) in
     subst (λ (g : GplState). Comes most_of_show x y t u GSTEP (Sees g g.pc)) (sym same)
     (comes_as most_of_show (Sees c.state c.state.pc) run (omega arith) (λ w a. a))
 
-pub drawing : (x y : MachineState) (t u : ℕ) → ((view x).r.r13 ≡ 0 → ⊥) → Exits x y t u (pieces.show (view x)) → Stands y STORE × (view y ≡ drawn (view x))
-drawing x y t u some e = let e2 = exits_by (pieces.show (view x)) (exit 13 STORE (drawn (view x))) (draws_by (view x) some) e in (e2.stands, e2.shows)
+pub drawing : {x y : MachineState} {t u : ℕ} → ((view x).r.r13 ≡ 0 → ⊥) → Exits x y t u (pieces.show (view x)) → Stands y STORE × (view y ≡ drawn (view x))
+drawing {x = x} some e = let e2 = exits_by (pieces.show (view x)) (exit 13 STORE (drawn (view x))) (draws_by (view x) some) e in (e2.stands, e2.shows)
 
 screen_at : (row column r7 r4 : ℕ) → row < 256 → column < 256 → r7 < 65536 → r4 < 65536 →
     sum_of Word (shifted SLA (shifted SRL (join row (low r7)) 8) 5) (shifted SRL (join column (low r4)) 8) ≡ 32 * row + column
@@ -226,9 +223,9 @@ in_video : (address : ℕ) → address < 16384 → address % 16384 ≡ address
 in_video address h = omega arith
 
 -- the character goes to the screen
-pub ends_drawn : (x y z : MachineState) (t u w : ℕ) → IsView (view x) → ((view x).r.r13 ≡ 0 → ⊥) → Exits x y t u (pieces.show (view x)) →
+pub ends_drawn : {x y z : MachineState} {t u w : ℕ} → IsView (view x) → ((view x).r.r13 ≡ 0 → ⊥) → Exits x y t u (pieces.show (view x)) →
     ((view y).r.r8 < 2 → StoresValue y z u w) → EndsRow x z t w
-ends_drawn x y z t u w i some e store c h =
+ends_drawn {x = x} {y = y} {z = z} {t = t} {u = u} {w = w} i some e store c h =
     let v : View = view x in
     let one = mark_one c.shows v.r.r13 h.mark some in
     let e2 = exits_by (pieces.show v) (exit 13 STORE (drawn v)) (draws_by v some) e in
@@ -266,12 +263,9 @@ ends_drawn x y z t u w i some e store c h =
 
 -- ---- STO
 
-pub asks_store : (x y : MachineState) (t u : ℕ) → Exits x y t u (pieces.store_result (view x)) → (view y ≡ (pieces.store_result (view x)).left)
-asks_store x y t u e = e.shows
-
-pub finishes : (x a b y : MachineState) (t t1 t2 t3 : ℕ) → Exits x a t t1 (pieces.store_result (view x)) → StoresValue a b t1 t2 → EndsRow b y t2 t3 →
+pub finishes : {x a b y : MachineState} {t t1 t2 t3 : ℕ} → Exits x a t t1 (pieces.store_result (view x)) → StoresValue a b t1 t2 → EndsRow b y t2 t3 →
     StoresResult x y t t3
-finishes x a b y t t1 t2 t3 e l r c width place number h =
+finishes {x = x} {a = a} {b = b} {t = t} {t1 = t1} {t2 = t2} e l r c width place number h =
     let v : View = view x in
     let u : View = (pieces.store_result v).left in
     let c1 : Comes 2 x a t t1 STORE (λ w. w ≡ u) = comes e (record { within = omega arith; to_is = refl; holds = refl }) in

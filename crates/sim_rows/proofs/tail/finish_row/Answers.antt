@@ -33,5 +33,4 @@ pub returns : goal.returns
 returns g c =
     let e = c.store_result.ensures in
     let small : (view c.store_result.new.machine).r.r8 < 2 = subst (λ (v : View). v.r.r8 < 2) (sym e.shows) c.requires.space in
-    Storing.finishes c.args.machine.now c.store_result.new.machine c.run_store.new.machine c.end_row.new.machine c.args.steps.now c.store_result.new.steps
-    c.run_store.new.steps c.end_row.new.steps e (c.run_store.ensures.value small) c.end_row.ensures
+    Storing.finishes e (c.run_store.ensures.value small) c.end_row.ensures
