@@ -1,0 +1,6 @@
+use Rattle.sim_rows.proofs.Common.{piece}
+use Rattle.sim_copy.proofs.Paths
+use Rattle.sim_copy.proofs.pieces.set_target.Goals as goal
+
+pub returns : goal.returns
+returns g c = piece c.requires (Paths.set_target _) c.run_piece.ensures
