@@ -2,7 +2,7 @@
 use Rattle.std.proofs.Common.{ℕ, ◌<◌, ◌==◌, ◌∙◌, ◌≡◌, ◌≤◌, ap, arith, Bool, false, if◌then◌else◌, None, Option, refl, Some, subst, sym, true}
 use Rattle.sim_rows.proofs.Common.{Changes, COPY, From, is_end, MachineState, Stands, To, View}
 use Rattle.sim_copy.specs.Copying.{Copying}
-use Rattle.sim_copy.specs.Bytes.{AllCopied, AtByte, AtEnd, AtHead, ByRoutines, charged, Copied, CopiesAt, CopyingAt, MayGo, OnItsWay, OnWay, Routinely}
+use Rattle.sim_copy.specs.Bytes.{AllCopied, AtByte, AtEnd, AtHead, ByRoutines, charged, Copied, CopiesAt, CopyingAt, MayGo, OnItsWay, OnWay, Points, Routinely}
 use Rattle.sim_rows.specs.sim_operands.Pieces.{one_if}
 use Rattle.sim_copy.specs.Pieces.{CellsToCells, CellsToVideo, GromToCells, GromToVideo, head_of, VideoToCells, Way}
 use Rattle.sim_rows.specs.native_interp.declared.addresses.TheConstants.{COPYCC, COPYCV, COPYE, COPYGC, COPYGV, COPYVC}
@@ -18,12 +18,15 @@ way_at place =
     else if place == COPYGV then Some GromToVideo
     else None
 
+pub each : (P : Way → Type 0) → P CellsToCells → P VideoToCells → P GromToCells → P CellsToVideo → P GromToVideo → (way : Way) → P way
+each P a b c d e CellsToCells = a
+each P a b c d e VideoToCells = b
+each P a b c d e GromToCells = c
+each P a b c d e CellsToVideo = d
+each P a b c d e GromToVideo = e
+
 way_at_head : (way : Way) → way_at (head_of way) ≡ Some way
-way_at_head CellsToCells = refl
-way_at_head VideoToCells = refl
-way_at_head GromToCells = refl
-way_at_head CellsToVideo = refl
-way_at_head GromToVideo = refl
+way_at_head = each (λ way. way_at (head_of way) ≡ Some way) refl refl refl refl refl
 
 some_is : (a b : Way) → Some a ≡ Some b → a ≡ b
 some_is a b e = cc
@@ -62,11 +65,9 @@ module _ {p : ℕ} {v : View} where
 -- ---- how many bytes are left
 
 pub some_left : (way : Way) (v : View) → MayGo way v → 0 < v.r.r12
-some_left CellsToCells v k = k.0.some
-some_left VideoToCells v k = k.some
-some_left GromToCells v k = k.some
-some_left CellsToVideo v k = k.some
-some_left GromToVideo v k = k
+some_left way v =
+    each (λ way. MayGo way v → 0 < v.r.r12) (λ k. k.0.some) (λ (k : Points v.r.r7 v.r.r12). k.some) (λ (k : Points v.r.r7 v.r.r12). k.some)
+    (λ (k : Points v.r.r2 v.r.r12). k.some) (λ k. k) way
 
 -- a byte is left, and it does not go on a way
 pub at_byte : (p : ℕ) (v : View) → CopiesAt p v → 0 < v.r.r12 → ((way : Way) → p ≡ head_of way → ⊥) → (p ≡ COPY) × ByRoutines v
@@ -81,11 +82,7 @@ at_end p v (AtHead way e k) z = absurd (let s = some_left way v k in omega arith
 at_end p v (AtEnd e n) z = e
 
 head_runs : (way : Way) → is_end (head_of way) ≡ false
-head_runs CellsToCells = refl
-head_runs VideoToCells = refl
-head_runs GromToCells = refl
-head_runs CellsToVideo = refl
-head_runs GromToVideo = refl
+head_runs = each (λ way. is_end (head_of way) ≡ false) refl refl refl refl refl
 
 pub runs_on : (p : ℕ) (v : View) → CopiesAt p v → is_end p ≡ false
 runs_on p v (AtByte e k) = ap is_end e

@@ -9,7 +9,7 @@ use Rattle.sim_rows.proofs.Common.{ReadSetup, RegisterWrite, set_video_to, sum_o
 use Rattle.sim_copy.specs.Copying.{Copying, StandsFrom, StandsTo}
 use Rattle.sim_copy.proofs.Counting.{all_made, source_is, target_is}
 use Rattle.sim_copy.proofs.Marks.{cells_mark, video_mark}
-use Rattle.sim_copy.proofs.Places.{one_at_most}
+use Rattle.sim_copy.proofs.Places.{each, one_at_most}
 use Rattle.sim_copy.proofs.Routines.{source_in, target_in}
 use Rattle.sim_copy.specs.Bytes.{AllCopied, AtByte, AtEnd, AtHead, charged, CopiesAt, CopyingAt, from_on, GoesBack, in_memory, MayGo, OnItsWay}
 use Rattle.sim_copy.specs.Bytes.{Points, Routinely, seen, seen_on, to_memory, to_on}
@@ -80,11 +80,7 @@ pub record Starts (v : View) (e : Exit) : Type 0 where
   pub copying : (c : Changes) → (from : From) → (to : To) → (bytes : ℕ) → Copying c from to bytes v → CopyingAt e.to c from to bytes e.left
 
 head_charged : (way : Way) → charged (head_of way) ≡ 11
-head_charged CellsToCells = refl
-head_charged VideoToCells = refl
-head_charged GromToCells = refl
-head_charged CellsToVideo = refl
-head_charged GromToVideo = refl
+head_charged = each (λ way. charged (head_of way) ≡ 11) refl refl refl refl refl
 
 module _ (v : View) (i : IsView v) (held : v.vdp.held ≡ None) (fetched : IsFetched v.grom) (some : 0 < v.r.r12) where
   -- a copy that has come to its way

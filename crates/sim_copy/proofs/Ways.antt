@@ -6,7 +6,7 @@ use Rattle.std.proofs.Math.Nat.{pos_of_ne-zero}
 use Rattle.sim_rows.proofs.Common.{byte_from, Changed, Changes, comes, copied, difference_of, Exits, From, idle_grom, idle_told, idle_video, is_view}
 use Rattle.sim_rows.proofs.Common.{MachineState, marked_by, next_from, next_in_grom, next_in_vdp, next_to, pick, plus, sum_of, To, View, view, with_byte_to, with_pc}
 use Rattle.sim_rows.proofs.Common.{Word}
-use Rattle.sim_copy.proofs.Places.{at_pc, few_charged, may_go, on_way, one_at_most, some_left}
+use Rattle.sim_copy.proofs.Places.{at_pc, each, few_charged, may_go, on_way, one_at_most, some_left}
 use Rattle.sim_copy.specs.Bytes.{AllCopied, AtCopy, AtEnd, AtHead, Copied, CopiesAt, CopiesByte, CopyingAt, from_on, FromCells, GoesBack, MayGo}
 use Rattle.sim_copy.specs.Bytes.{OnItsWay, OnWay, OutOfGrom, Points, seen, seen_on, to_on}
 use Rattle.sim_copy.specs.Pieces.{CellsToCells, CellsToVideo, copy_on, first_cell, GromToCells, GromToVideo, head_of, VideoToCells, Way}
@@ -37,18 +37,10 @@ place_on way v k =
     (λ c. AtHead way (ap to c) (goes_on way v k (pos_of_ne-zero (eqb-false left 0 c))))
 
 held_on : (way : Way) (v : View) → v.vdp.held ≡ None → (copy_on way v).left.vdp.held ≡ None
-held_on CellsToCells v e = e
-held_on VideoToCells v e = refl
-held_on GromToCells v e = e
-held_on CellsToVideo v e = refl
-held_on GromToVideo v e = refl
+held_on way v e = each (λ way. (copy_on way v).left.vdp.held ≡ None) e refl e refl refl way
 
 idle_on : (way : Way) (v : View) → v.grom.half_written ≡ false → (copy_on way v).left.grom.half_written ≡ false
-idle_on CellsToCells v e = e
-idle_on VideoToCells v e = e
-idle_on GromToCells v e = refl
-idle_on CellsToVideo v e = e
-idle_on GromToVideo v e = refl
+idle_on way v e = each (λ way. (copy_on way v).left.grom.half_written ≡ false) e e refl e refl way
 
 -- ---- what is seen then
 
@@ -61,18 +53,10 @@ next_on CellsToVideo address = plus address 1
 next_on GromToVideo address = next_in_grom address
 
 next_from_on : (way : Way) (address : ℕ) → next_from (from_on way address) ≡ from_on way (next_on way address)
-next_from_on CellsToCells address = refl
-next_from_on VideoToCells address = refl
-next_from_on GromToCells address = refl
-next_from_on CellsToVideo address = refl
-next_from_on GromToVideo address = refl
+next_from_on way address = each (λ way. next_from (from_on way address) ≡ from_on way (next_on way address)) refl refl refl refl refl way
 
 next_to_on : (way : Way) (address : ℕ) → next_to (to_on way address) ≡ to_on way (plus address 1)
-next_to_on CellsToCells address = refl
-next_to_on VideoToCells address = refl
-next_to_on GromToCells address = refl
-next_to_on CellsToVideo address = refl
-next_to_on GromToVideo address = refl
+next_to_on way address = each (λ way. next_to (to_on way address) ≡ to_on way (plus address 1)) refl refl refl refl refl way
 
 -- A byte of this source and target, after other changes; video memory keeps the byte as the one fetched.
 abbrev byte_on : Way → Changes → ℕ → ℕ
@@ -93,11 +77,9 @@ base_on GromToVideo v c source = with_fetched (byte_on GromToVideo c source) v
 
 back_on : (way : Way) (v : View) (c : Changes) (source target : ℕ) → GoesBack c (from_on way source) v →
     GoesBack (more_on way c source target) (next_from (from_on way source)) (base_on way v c source)
-back_on CellsToCells v c source target g = g
-back_on VideoToCells v c source target g = g
-back_on GromToCells v c source target g = g
-back_on CellsToVideo v c source target g = g
-back_on GromToVideo v c source target g = g
+back_on way v c source target =
+    each (λ way. GoesBack c (from_on way source) v → GoesBack (more_on way c source target) (next_from (from_on way source)) (base_on way v c source))
+    (λ g. g) (λ g. g) (λ g. g) (λ g. g) (λ g. g) way
 
 one_less : (n : ℕ) → n < 65535 → difference_of Word (suc n) 1 ≡ n
 one_less n fits = omega arith
@@ -146,11 +128,7 @@ copied_on CellsToVideo v c source target g =
 copied_on GromToVideo v c source target g = OutOfGrom g.0 g.1 source (seen_changed v c 0 v.r.r2 v.r.r7 (target % 16384) v.vdp.fetched source)
 
 bytes_on : (way : Way) (v : View) (c : Changes) (bytes mark source target : ℕ) → (seen_on way v c bytes mark source target).r.r12 ≡ bytes
-bytes_on CellsToCells v c bytes mark source target = refl
-bytes_on VideoToCells v c bytes mark source target = refl
-bytes_on GromToCells v c bytes mark source target = refl
-bytes_on CellsToVideo v c bytes mark source target = refl
-bytes_on GromToVideo v c bytes mark source target = refl
+bytes_on way v c bytes mark source target = each (λ way. (seen_on way v c bytes mark source target).r.r12 ≡ bytes) refl refl refl refl refl way
 
 -- ---- on the machine
 
