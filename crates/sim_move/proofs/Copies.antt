@@ -1,14 +1,14 @@
 -- The length, the target and the source, one after the other.
 use Rattle.std.proofs.Common.{ℕ, ◌%◌, ◌/◌, ◌<◌, ◌==◌, ◌∙◌, ◌≡◌, ◌≤◌, ap, arith, Bool, Err, Ok, Option, refl, Result, Some, subst, sym, true}
-use Rattle.sim_rows.proofs.Common.{◌>>=◌, ADDR, barred_stops, code_byte, Comes, comes_as, comes_on, even, fetched_of, Finds, finds_of, FindsOperand, From}
+use Rattle.sim_rows.proofs.Common.{◌>>=◌, barred_stops, code_byte, Comes, comes_as, comes_on, even, fetched_of, Finds, finds_of, FindsOperand, From}
 use Rattle.sim_rows.proofs.Common.{from_placed, FromGrom, FromMemory, GOMOVE, GplOperand, GplOperation, GplState, grom_at, GromIndexedToMemory, GromState}
-use Rattle.sim_rows.proofs.Common.{GromToMemory, GromToRegisters, GSTOP, idle_of, index_by, indexed, is_view, IsFetched, length_of, MachineState}
+use Rattle.sim_rows.proofs.Common.{GromToMemory, GromToRegisters, GSTOP, idle_of, index_by, indexed, is_view, length_of, MachineState}
 use Rattle.sim_rows.proofs.Common.{MemoryToMemory, Move, MOVEB, MoveKind, MOVEL, MOVES, MOVEX, next_in_grom, operand_at, operation_entry, operation_in}
-use Rattle.sim_rows.proofs.Common.{origin_of, Place, place_of, Placed, PortsAreIdle, Reason, return_of, Stands, stands_at, StoppedBy, target_of, To, ToMemory}
+use Rattle.sim_rows.proofs.Common.{origin_of, Place, place_of, Placed, Reason, return_of, Stands, stands_at, StoppedBy, target_of, To, ToMemory}
 use Rattle.sim_rows.proofs.Common.{ToRegisters, View, view, within_limit, word_at}
 use Rattle.sim_copy.specs.Copying.{StandsTo}
 use Rattle.sim_move.specs.Family.{is_move}
-use Rattle.sim_move.specs.Moves.{Arrives, AtCopy, copy_in, FindsCopy, FindsLength, FindsTarget, IndexesSource, length_read, LengthTold, source_entry}
+use Rattle.sim_move.specs.Moves.{Arrives, AsksAddress, AsksTarget, AtCopy, copy_in, FindsCopy, FindsLength, FindsTarget, IndexesSource, length_read, LengthTold, source_entry}
 use Rattle.sim_move.specs.Moves.{source_read, SourceTold, target_in, target_read, TargetTold, TurnsToSource}
 use Rattle.sim_move.proofs.Codes.{has_index, told}
 use Rattle.sim_move.proofs.Arriving.{both, Found, found, missing}
@@ -56,14 +56,14 @@ module _ (s : GplState) (x a : MachineState) (t t1 : ℕ) (fits : code_byte s < 
     first : Found 70 x a t t1 MOVEL (LengthTold s (length_read s).1) (length_of s (length_read s).0)
     first = found 70 s x a t t1 MOVEL (LengthTold s (length_read s).1) (length_of s (length_read s).0) away one
 
-    pub stands_target : Stands a MOVEL
-    stands_target = first.comes.stands
-
-    pub idle_target : PortsAreIdle a.cpu.memory
-    idle_target = idle_of a.cpu.memory s (length_read s).1 first.comes.holds.holds.sees
-
-    pub fetched_target : IsFetched a.cpu.memory.grom
-    fetched_target = fetched_of a.cpu.memory s (length_read s).1 first.comes.holds.holds.sees
+    pub asks_target : AsksTarget a
+    asks_target =
+        let sees = first.comes.holds.holds.sees in
+        record {
+          stands = first.comes.stands;
+          idle = idle_of a.cpu.memory s (length_read s).1 sees;
+          fetched = fetched_of a.cpu.memory s (length_read s).1 sees;
+        }
 
     -- what is found behind the length
     abbrev Behind : MoveKind → MachineState → ℕ → Result (ℕ × To) Reason → Type 0
@@ -119,15 +119,6 @@ module _ (s : GplState) (x a : MachineState) (t t1 : ℕ) (fits : code_byte s < 
           f : Second MemoryToMemory
           f = second MemoryToMemory in_memory
 
-          pub stands_source : Stands b ADDR
-          stands_source = f.comes.stands
-
-          pub idle_source : PortsAreIdle b.cpu.memory
-          idle_source = idle_of b.cpu.memory s (target_read MemoryToMemory s).1 f.comes.holds.holds.sees
-
-          pub fetched_source : IsFetched b.cpu.memory.grom
-          fetched_source = fetched_of b.cpu.memory s (target_read MemoryToMemory s).1 f.comes.holds.holds.sees
-
           few : f.found.0 ≤ 16384
           unfolding bytes_of
           few =
@@ -137,8 +128,15 @@ module _ (s : GplState) (x a : MachineState) (t t1 : ℕ) (fits : code_byte s < 
               let same : q.0 ≡ f.found.0 = ap (bytes_of f.found) r.2 in
               omega arith
 
-          pub bytes_source : (view b).r.r3 ≤ 16384
-          bytes_source = let n = f.comes.holds.holds.bytes_are in let le = few in omega arith
+          pub asks_source : AsksAddress b
+          asks_source =
+              let h = f.comes.holds.holds in
+              record {
+                stands = f.comes.stands;
+                idle = idle_of b.cpu.memory s (target_read MemoryToMemory s).1 h.sees;
+                fetched = fetched_of b.cpu.memory s (target_read MemoryToMemory s).1 h.sees;
+                bytes = let n = h.bytes_are in let le = few in omega arith;
+              }
 
           module _ (y : MachineState) (t3 : ℕ) (finds_it : FindsOperand b y t2 t3) where
             abbrev operand : GplOperand × ℕ

@@ -1,11 +1,11 @@
 -- MOVE from its dispatch to the end of the step.
-use Rattle.std.proofs.Common.{ℕ, ◌*◌, ◌+◌, ◌<◌, ◌≡◌, ◌≤◌, ap, arith, Err, false, Ok, refl, Some, subst, sym, true}
+use Rattle.std.proofs.Common.{ℕ, ◌*◌, ◌+◌, ◌≡◌, ap, arith, Err, false, Ok, refl, Some, subst, sym, true}
 use Rattle.sim_rows.proofs.Common.{bound, bound_stop, Changes, comes_on, fetched_of, finished, From, FromGrom, FromMemory, GOMOVE, GplState, grom_at, GSTOP}
-use Rattle.sim_rows.proofs.Common.{idle_of, is_end, IsFetched, MachineState, matches, Move, MOVEB, MoveKind, number_of, operation_in, PortsAreIdle, reaches}
+use Rattle.sim_rows.proofs.Common.{idle_of, is_end, MachineState, matches, Move, MOVEB, MoveKind, number_of, operation_in, reaches}
 use Rattle.sim_rows.proofs.Common.{Reason, Sees, Stands, Stepped, Stopped, stops, To, Turned, turned_by, View, view, WORKSPACE}
 use Rattle.sim_copy.specs.Copying.{CopiesBytes, StandsFrom}
 use Rattle.sim_move.specs.Family.{is_move}
-use Rattle.sim_move.specs.Moves.{AtCopy, begun, copy_in, FindsCopy, source_read, target_read}
+use Rattle.sim_move.specs.Moves.{AtCopy, begun, copy_in, FindsCopy, MayCopy, source_read, target_read}
 use Rattle.sim_move.proofs.Arriving.{Found, found, Missing, missing}
 use Rattle.sim_move.proofs.Copies.{kind_of}
 use Rattle.sim_move.proofs.Lies.{FromLies, registers_there, source_lies, source_visible, target_lies, target_visible, ToLies}
@@ -59,29 +59,25 @@ module _ (s : GplState) (x a : MachineState) (t t1 : ℕ) (stands : Stands x GOM
       g : Found 187 x a t t1 MOVEB (AtCopy kind s) (copy_in kind s)
       g = found 187 s x a t t1 MOVEB (AtCopy kind s) (copy_in kind s) away (finds kind known)
 
-      pub stands_copy : Stands a MOVEB
-      stands_copy = g.comes.stands
-
-      pub idle_copy : PortsAreIdle a.cpu.memory
-      idle_copy = idle_of a.cpu.memory s (place_in_grom (begun kind s) g.found.1) (sees_of kind s g.found (view a) g.comes.holds)
-
-      pub fetched_copy : IsFetched a.cpu.memory.grom
-      fetched_copy = fetched_of a.cpu.memory s (place_in_grom (begun kind s) g.found.1) (sees_of kind s g.found (view a) g.comes.holds)
-
       to_lies : ToLies g.found.0.0 g.found.0.1
       to_lies = target_lies s g.found.0.0 (target_read kind s).0 g.found.0.1 (parts s kind g.found g.is).target
 
       from_lies : FromLies g.found.0.0 g.found.1
       from_lies = source_lies s g.found.0.0 (source_read kind s).0 g.found.1 (parts s kind g.found g.is).source
 
-      pub source_copy : (view a).r.r5 ≡ 0 → (view a).r.r2 + (view a).r.r12 ≤ 0xC2
-      source_copy = let h = g.comes.holds in source_visible g.found.0.0 (begun kind s) g.found.1 (view a) h.stands_from h.left from_lies
-
-      pub target_copy : (view a).r.r8 ≡ 0 → (view a).r.r7 + (view a).r.r12 ≤ 0xC2
-      target_copy = let h = g.comes.holds in target_visible g.found.0.0 g.found.0.1 (view a) h.stands_to h.left to_lies
-
-      pub registers_copy : 1 < (view a).r.r8 → (view a).r.r7 + (view a).r.r12 ≤ 8
-      registers_copy = let h = g.comes.holds in registers_there g.found.0.0 g.found.0.1 (view a) h.stands_to h.left to_lies
+      pub may_copy : MayCopy a
+      may_copy =
+          let h = g.comes.holds in
+          let at = place_in_grom (begun kind s) g.found.1 in
+          let sees = sees_of kind s g.found (view a) h in
+          record {
+            stands = g.comes.stands;
+            idle = idle_of a.cpu.memory s at sees;
+            fetched = fetched_of a.cpu.memory s at sees;
+            source = source_visible g.found.0.0 (begun kind s) g.found.1 (view a) h.stands_from h.left from_lies;
+            target = target_visible g.found.0.0 g.found.0.1 (view a) h.stands_to h.left to_lies;
+            registers = registers_there g.found.0.0 g.found.0.1 (view a) h.stands_to h.left to_lies;
+          }
 
       pub turned : (y : MachineState) (t2 : ℕ) → CopiesBytes a y t1 t2 → Turned s most_to_dispatch x y t t2 Stepped
       turned y t2 copies =

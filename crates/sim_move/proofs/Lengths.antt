@@ -4,9 +4,9 @@ use Rattle.sim_rows.proofs.Common.{◌>>=◌, ADDR, Asking, barred, behind_code,
 use Rattle.sim_rows.proofs.Common.{Finds, finds_of, FindsOperand, GplOperand, GplState, grom_at, GromState, GSTOP, Holds, holds_again, holds_loaded}
 use Rattle.sim_rows.proofs.Common.{idle_again, idle_of, in_register, IsFetched, IsVisible, last_out, length_at, length_of, lies_at, LOAD, Loaded, LoadsFrom}
 use Rattle.sim_rows.proofs.Common.{LoadsStream, LoadsValue, located, MachineState, MOVEL, MOVEN, number_of_space, operand_at, Place, place_in, place_is}
-use Rattle.sim_rows.proofs.Common.{place_lies, place_of, PortsAreIdle, previous-next, Reason, return_of, sees_again, space_small, SRL, Stands, state_of}
+use Rattle.sim_rows.proofs.Common.{place_lies, place_of, PortsAreIdle, previous-next, Reason, return_of, sees_again, space_small, SRL, state_of}
 use Rattle.sim_rows.proofs.Common.{streamed, value_at, value_same, View, view, visible_of, width_in, Word, word_at}
-use Rattle.sim_move.specs.Moves.{Arrives, AtPlace, FindsLength, Follows, LengthTold, LoadsFollowing, LoadsPlaced}
+use Rattle.sim_move.specs.Moves.{Arrives, AsksAddress, AsksLength, AtPlace, FindsLength, Follows, LengthTold, LoadsFollowing, LoadsPlaced}
 use Rattle.sim_move.proofs.Numbers.{odd_bit}
 use Rattle.sim_move.proofs.Ways.{first_way, second_way}
 use Rattle.sim_move.specs.Pieces as pieces
@@ -157,11 +157,12 @@ module _ (s : GplState) {x : MachineState} {t : ℕ} (d : Dispatched s (view x))
             });
           }
 
-      pub idle_direct : PortsAreIdle a.cpu.memory
-      idle_direct = idle_of a.cpu.memory s (behind_code s) direct.comes.holds.holds.sees
-
-      pub visible_direct : IsVisible (view a).r.r5 (view a).r.r2 (view a).r.r3
-      visible_direct = λ z. let n = direct.comes.holds.space in absurd (omega arith)
+      pub asks_direct : AsksLength a
+      asks_direct = record {
+        stands = direct.comes.stands;
+        idle = idle_of a.cpu.memory s (behind_code s) direct.comes.holds.holds.sees;
+        visible = λ z. let n = direct.comes.holds.space in absurd (omega arith);
+      }
 
       pub found_direct : (q : MachineState) (k : ℕ) → LoadsFollowing a q t1 k → FindsLength s x q t k
       found_direct q k l =
@@ -189,11 +190,15 @@ module _ (s : GplState) {x : MachineState} {t : ℕ} (d : Dispatched s (view x))
             });
           }
 
-      pub idle_asked : PortsAreIdle a.cpu.memory
-      idle_asked = idle_of a.cpu.memory s (behind_code s) asked.comes.holds.holds.sees
-
-      pub fetched_asked : IsFetched a.cpu.memory.grom
-      fetched_asked = fetched_of a.cpu.memory s (behind_code s) asked.comes.holds.holds.sees
+      pub asks_operand : AsksAddress a
+      asks_operand =
+          let h = asked.comes.holds.holds in
+          record {
+            stands = asked.comes.stands;
+            idle = idle_of a.cpu.memory s (behind_code s) h.sees;
+            fetched = fetched_of a.cpu.memory s (behind_code s) h.sees;
+            bytes = let n = h.bytes_are in omega arith;
+          }
 
       module _ (b : MachineState) (t2 : ℕ) (f : FindsOperand a b t1 t2) where
         finds : Finds a b t1 t2 operand.1 (place_of s 2 operand.0)
@@ -227,17 +232,15 @@ module _ (s : GplState) {x : MachineState} {t : ℕ} (d : Dispatched s (view x))
           placed : Placed
           placed = placed_by n (place_of s 2 operand.0) refl finds
 
-          pub stands_placed : Stands b MOVEN
-          stands_placed = placed.comes.stands
-
-          pub idle_placed : PortsAreIdle b.cpu.memory
-          idle_placed = idle_of b.cpu.memory s operand.1 placed.comes.holds.holds.sees
-
-          pub visible_placed : IsVisible (view b).r.r5 (view b).r.r2 (view b).r.r3
-          visible_placed =
+          pub asks_placed : AsksLength b
+          asks_placed =
               let h = placed.comes.holds in
-              visible_of placed.place 2 (view b).r.r5 (view b).r.r2 (view b).r.r3 h.from.space h.from.address h.holds.bytes_are (omega arith)
-              (lies_at 2 (place_of s 2 operand.0) placed.place (place_lies s 2 operand.0) placed.is_place)
+              record {
+                stands = placed.comes.stands;
+                idle = idle_of b.cpu.memory s operand.1 h.holds.sees;
+                visible = visible_of placed.place 2 (view b).r.r5 (view b).r.r2 (view b).r.r3 h.from.space h.from.address h.holds.bytes_are (omega arith)
+                    (lies_at 2 (place_of s 2 operand.0) placed.place (place_lies s 2 operand.0) placed.is_place);
+              }
 
           pub found_placed : (q : MachineState) (k : ℕ) → LoadsPlaced b q t2 k → FindsLength s x q t k
           found_placed q k l =

@@ -2,22 +2,18 @@
 use Rattle.std.proofs.Common.{ℕ, ◌+◌, ◌<◌, ◌∙◌, ◌≡◌, ◌≤◌, ap, arith, Bool, Err, false, if◌then◌else◌, nat_le, nat_lt, Ok, refl, Result, slice_index, Some}
 use Rattle.std.proofs.Common.{subst, sym, true}
 use Rattle.std.proofs.lemmas.Bool.{le-leb, lt-leb, ltb-false, ltb-true}
-use Rattle.sim_rows.proofs.Common.{◌>>=◌, ADDR, Asking, barred, code_byte, Comes, comes, comes_as, comes_on, comes_then, even, Exit, exit, Exits, Finds}
+use Rattle.sim_rows.proofs.Common.{◌>>=◌, ADDR, Asking, barred, code_byte, Comes, comes, comes_as, comes_on, comes_then, even, Exit, exit, Exits, fetched_again, Finds}
 use Rattle.sim_rows.proofs.Common.{finds_of, FindsOperand, from_placed, GplOperand, GplState, grom_at, GromIndexedToMemory, GromState, GromToMemory}
-use Rattle.sim_rows.proofs.Common.{GromToRegisters, GSTOP, Holds, holds_addressed, holds_again, idle_again, is_view, IsFetched, Length, LoadsFrom}
-use Rattle.sim_rows.proofs.Common.{MachineState, Memory, MemoryToMemory, Move, MOVEB, MOVED, MoveKind, MOVEL, MOVER, MOVES, MoveTarget, next_at, next_in_grom}
-use Rattle.sim_rows.proofs.Common.{number_of, operand_at, operation_in, past, Place, place_of, Placed, PortsAreIdle, Reason, Register, return_of, Stands}
-use Rattle.sim_rows.proofs.Common.{state_of, StoppedBy, sum_of, target_of, To, ToMemory, ToRegisters, View, view, view_of, Word}
+use Rattle.sim_rows.proofs.Common.{GromToRegisters, GSTOP, Holds, holds_addressed, holds_again, idle_again, is_view, Length, LoadsFrom}
+use Rattle.sim_rows.proofs.Common.{MachineState, MemoryToMemory, Move, MOVEB, MOVED, MoveKind, MOVEL, MOVER, MOVES, MoveTarget, next_at, next_in_grom}
+use Rattle.sim_rows.proofs.Common.{number_of, operand_at, operation_in, past, Place, place_of, Placed, Reason, Register, return_of, Stands}
+use Rattle.sim_rows.proofs.Common.{state_of, StoppedBy, sum_of, target_of, To, ToMemory, ToRegisters, View, view, Word}
 use Rattle.sim_rows.specs.gpl_defs.declared.instruction.MoveTarget.TheVariants as target
-use Rattle.sim_move.specs.Moves.{Arrives, FindsTarget, length_read, LengthTold, ReturnsToCopy, source_entry, target_in, target_read, TargetTold}
+use Rattle.sim_move.specs.Moves.{Arrives, AsksAddress, AsksTarget, FindsTarget, length_read, LengthTold, ReturnsToCopy, source_entry, target_in, target_read, TargetTold}
 use Rattle.sim_move.proofs.Codes.{is_low, to_memory, told}
 use Rattle.sim_move.proofs.Ways.{first_way, second_way}
 use Rattle.sim_move.specs.Pieces as pieces
 use Rattle.sim_rows.specs.sim_view.Bounds.{most_of_address}
-
-fetched_again : (m n : Memory) → (view_of n).grom ≡ (view_of m).grom → IsFetched m.grom → IsFetched n.grom
-unfolding view_of
-fetched_again m n e h = subst IsFetched (sym e) h
 
 -- what is found, by whether the length is within its limit
 abbrev by_limit : GplState → ℕ → MoveTarget → Bool → Result (ℕ × To) Reason
@@ -182,17 +178,15 @@ module _ {x a : MachineState} {t t1 : ℕ} (stands : Stands x MOVEL) (e : Exits 
       to_it : (nat_lt v.r.r0 0x38 ≡ true) × Exits x a t t1 to_place
       to_it = first_way x a t t1 MOVER (nat_lt v.r.r0 0x38) _ _ went.1 refl not_there
 
-      pub stands_place : Stands a ADDR
-      stands_place = to_it.1.stands
-
-      pub idle_place : PortsAreIdle x.cpu.memory → PortsAreIdle a.cpu.memory
-      idle_place i = idle_again x.cpu.memory a.cpu.memory (ap (λ (w : View). w.vdp) to_it.1.shows) (ap (λ (w : View). w.grom) to_it.1.shows) i
-
-      pub fetched_place : IsFetched x.cpu.memory.grom → IsFetched a.cpu.memory.grom
-      fetched_place i = fetched_again x.cpu.memory a.cpu.memory (ap (λ (w : View). w.grom) to_it.1.shows) i
-
-      pub bytes_place : (view a).r.r3 ≤ 16384
-      bytes_place = let n = ap (λ (w : View). w.r.r3) to_it.1.shows in let le = few in omega arith
+      pub asks_place : AsksTarget x → AsksAddress a
+      asks_place q =
+          let shows = to_it.1.shows in
+          record {
+            stands = to_it.1.stands;
+            idle = idle_again x.cpu.memory a.cpu.memory (ap (λ (w : View). w.vdp) shows) (ap (λ (w : View). w.grom) shows) q.idle;
+            fetched = fetched_again x.cpu.memory a.cpu.memory (ap (λ (w : View). w.grom) shows) q.fetched;
+            bytes = let n = ap (λ (w : View). w.r.r3) shows in let le = few in omega arith;
+          }
 
       asks : (s : GplState) (count : ℕ) → LengthTold s (length_read s).1 count v → Comes 7 x a t t1 ADDR
           (λ w. Asking s count (length_read s).1 MOVED w × (w.r.r12 ≡ count))

@@ -1,7 +1,8 @@
 -- The parts of MOVE up to its copy, for all states that may be there.
-use Rattle.std.specs.Prelude.{ℕ, ◌%◌, ◌/◌, ◌<◌, ◌==◌, ◌≡◌, Err, List, Ok, Result, Some}
+use Rattle.std.specs.Prelude.{ℕ, ◌%◌, ◌+◌, ◌/◌, ◌<◌, ◌==◌, ◌≡◌, ◌≤◌, Err, List, Ok, Result, Some}
 use Rattle.sim_rows.specs.Prelude.{◌>>=◌, ADDR, behind_code, Changes, code_byte, Comes, From, from_at, GplState}
-use Rattle.sim_rows.specs.Prelude.{grom_at, GSTOP, Holds, index_by, indexed, length_at, length_of, LoadsFrom}
+use Rattle.sim_rows.specs.Prelude.{grom_at, GSTOP, Holds, index_by, indexed, IsFetched, IsVisible, length_at}
+use Rattle.sim_rows.specs.Prelude.{length_of, LoadsFrom, MOVEN, PortsAreIdle, Stands, VISIBLE_CELLS}
 use Rattle.sim_rows.specs.Prelude.{MachineState, MemoryToMemory, Move, MOVEB, MoveKind, MOVEL, MoveLength, MOVES}
 use Rattle.sim_rows.specs.Prelude.{MoveSource, MoveTarget, MOVEX, operation_in, origin_of, Place, Reason, StoppedBy}
 use Rattle.sim_rows.specs.Prelude.{target_at, target_of, To, unchanged, value_at, View, view, within_limit, Word}
@@ -22,6 +23,34 @@ source_read kind s = from_at kind s.image (target_read kind s).1
 -- the changes of MOVE before the first byte: the next instruction is the one behind
 abbrev pub begun : MoveKind → GplState → Changes
 begun kind s = unchanged (record s { pc = (source_read kind s).1 })
+
+-- ADDR is asked for the place of an operand of MOVE.
+pub record AsksAddress (x : MachineState) : Type 0 where
+  pub stands : Stands x ADDR
+  pub idle : PortsAreIdle x.cpu.memory
+  pub fetched : IsFetched x.cpu.memory.grom
+  pub bytes : (view x).r.r3 ≤ 16384
+
+-- LOAD is to be asked for the length.
+pub record AsksLength (x : MachineState) : Type 0 where
+  pub stands : Stands x MOVEN
+  pub idle : PortsAreIdle x.cpu.memory
+  pub visible : let r = (view x).r in IsVisible r.r5 r.r2 r.r3
+
+-- The length is loaded, and the target is to be found.
+pub record AsksTarget (x : MachineState) : Type 0 where
+  pub stands : Stands x MOVEL
+  pub idle : PortsAreIdle x.cpu.memory
+  pub fetched : IsFetched x.cpu.memory.grom
+
+-- All is found, and the copy may begin.
+pub record MayCopy (x : MachineState) : Type 0 where
+  pub stands : Stands x MOVEB
+  pub idle : PortsAreIdle x.cpu.memory
+  pub fetched : IsFetched x.cpu.memory.grom
+  pub source : let r = (view x).r in r.r5 ≡ 0 → r.r2 + r.r12 ≤ VISIBLE_CELLS
+  pub target : let r = (view x).r in r.r8 ≡ 0 → r.r7 + r.r12 ≤ VISIBLE_CELLS
+  pub registers : let r = (view x).r in 1 < r.r8 → r.r7 + r.r12 ≤ 8
 
 -- The machine arrives at an address with what a definition gives, or stops by its reason.
 abbrev pub Arrives : {X : Type 0} → ℕ → GplState → MachineState → MachineState → ℕ → ℕ → ℕ

@@ -23,26 +23,12 @@ returns-then-pc-eq-GSTOP g c =
     let here : c.find_length.new.machine.cpu.pc ≡ GSTOP = let p = c.pc.ensures.value in let r = c.if-pc-eq-GSTOP.true in omega arith in
     Copies.no_length s c.args.machine.now c.find_length.new.machine c.args.steps.now c.find_length.new.steps fits c.find_length.ensures here
 
-pub find_target-requires-clause-stands : goal.find_target-requires-clause-stands
-find_target-requires-clause-stands g c =
+pub find_target-requires : goal.find_target-requires
+find_target-requires g c =
     let s = state_at_dispatch (view c.args.machine.now) in
     let fits = (is_view c.args.machine.now c.requires.stands.machine).grom.image.fits s.pc in
     let away : c.find_length.new.machine.cpu.pc ≡ GSTOP → ⊥ = λ here. let p = c.pc.ensures.value in let r = c.if-pc-eq-GSTOP.false in absurd (omega arith) in
-    Copies.stands_target s c.args.machine.now c.find_length.new.machine c.args.steps.now c.find_length.new.steps fits c.find_length.ensures away
-
-pub find_target-requires-clause-idle : goal.find_target-requires-clause-idle
-find_target-requires-clause-idle g c =
-    let s = state_at_dispatch (view c.args.machine.now) in
-    let fits = (is_view c.args.machine.now c.requires.stands.machine).grom.image.fits s.pc in
-    let away : c.find_length.new.machine.cpu.pc ≡ GSTOP → ⊥ = λ here. let p = c.pc.ensures.value in let r = c.if-pc-eq-GSTOP.false in absurd (omega arith) in
-    Copies.idle_target s c.args.machine.now c.find_length.new.machine c.args.steps.now c.find_length.new.steps fits c.find_length.ensures away
-
-pub find_target-requires-clause-fetched : goal.find_target-requires-clause-fetched
-find_target-requires-clause-fetched g c =
-    let s = state_at_dispatch (view c.args.machine.now) in
-    let fits = (is_view c.args.machine.now c.requires.stands.machine).grom.image.fits s.pc in
-    let away : c.find_length.new.machine.cpu.pc ≡ GSTOP → ⊥ = λ here. let p = c.pc.ensures.value in let r = c.if-pc-eq-GSTOP.false in absurd (omega arith) in
-    Copies.fetched_target s c.args.machine.now c.find_length.new.machine c.args.steps.now c.find_length.new.steps fits c.find_length.ensures away
+    Copies.asks_target s c.args.machine.now c.find_length.new.machine c.args.steps.now c.find_length.new.steps fits c.find_length.ensures away
 
 pub returns-then-pc-eq-GSTOP-2 : goal.returns-then-pc-eq-GSTOP-2
 returns-then-pc-eq-GSTOP-2 g c =
@@ -51,36 +37,12 @@ returns-then-pc-eq-GSTOP-2 g c =
     Copies.no_target (s g at) c.args.machine.now c.find_length.new.machine c.args.steps.now c.find_length.new.steps (fits g at) c.find_length.ensures
     (away g at) c.find_target.new.machine c.find_target.new.steps c.find_target.ensures there
 
-pub run_address-requires-clause-stands : goal.run_address-requires-clause-stands
-run_address-requires-clause-stands g c =
-    let at = (goal.at.run_address-requires-clause-stands g c).After-find_target in
+pub find_operand-requires : goal.find_operand-requires
+find_operand-requires g c =
+    let at = (goal.at.find_operand-requires g c).After-find_target in
     let gone : c.find_target.new.machine.cpu.pc ≡ GSTOP → ⊥ = λ h. let p = c.pc-2.ensures.value in let r = c.if-pc-eq-GSTOP-2.false in absurd (omega arith) in
     let other : c.find_target.new.machine.cpu.pc ≡ MOVES → ⊥ = λ there. let p = c.pc-3.ensures.value in let r = c.if-pc-ne-MOVES.true in absurd (omega arith) in
-    Copies.stands_source (s g at) c.args.machine.now c.find_length.new.machine c.args.steps.now c.find_length.new.steps (fits g at) c.find_length.ensures
-    (away g at) c.find_target.new.machine c.find_target.new.steps c.find_target.ensures gone c.requires.family other
-
-pub run_address-requires-clause-idle : goal.run_address-requires-clause-idle
-run_address-requires-clause-idle g c =
-    let at = (goal.at.run_address-requires-clause-idle g c).After-find_target in
-    let gone : c.find_target.new.machine.cpu.pc ≡ GSTOP → ⊥ = λ h. let p = c.pc-2.ensures.value in let r = c.if-pc-eq-GSTOP-2.false in absurd (omega arith) in
-    let other : c.find_target.new.machine.cpu.pc ≡ MOVES → ⊥ = λ there. let p = c.pc-3.ensures.value in let r = c.if-pc-ne-MOVES.true in absurd (omega arith) in
-    Copies.idle_source (s g at) c.args.machine.now c.find_length.new.machine c.args.steps.now c.find_length.new.steps (fits g at) c.find_length.ensures
-    (away g at) c.find_target.new.machine c.find_target.new.steps c.find_target.ensures gone c.requires.family other
-
-pub run_address-requires-clause-fetched : goal.run_address-requires-clause-fetched
-run_address-requires-clause-fetched g c =
-    let at = (goal.at.run_address-requires-clause-fetched g c).After-find_target in
-    let gone : c.find_target.new.machine.cpu.pc ≡ GSTOP → ⊥ = λ h. let p = c.pc-2.ensures.value in let r = c.if-pc-eq-GSTOP-2.false in absurd (omega arith) in
-    let other : c.find_target.new.machine.cpu.pc ≡ MOVES → ⊥ = λ there. let p = c.pc-3.ensures.value in let r = c.if-pc-ne-MOVES.true in absurd (omega arith) in
-    Copies.fetched_source (s g at) c.args.machine.now c.find_length.new.machine c.args.steps.now c.find_length.new.steps (fits g at) c.find_length.ensures
-    (away g at) c.find_target.new.machine c.find_target.new.steps c.find_target.ensures gone c.requires.family other
-
-pub run_address-requires-clause-bytes : goal.run_address-requires-clause-bytes
-run_address-requires-clause-bytes g c =
-    let at = (goal.at.run_address-requires-clause-bytes g c).After-find_target in
-    let gone : c.find_target.new.machine.cpu.pc ≡ GSTOP → ⊥ = λ h. let p = c.pc-2.ensures.value in let r = c.if-pc-eq-GSTOP-2.false in absurd (omega arith) in
-    let other : c.find_target.new.machine.cpu.pc ≡ MOVES → ⊥ = λ there. let p = c.pc-3.ensures.value in let r = c.if-pc-ne-MOVES.true in absurd (omega arith) in
-    Copies.bytes_source (s g at) c.args.machine.now c.find_length.new.machine c.args.steps.now c.find_length.new.steps (fits g at) c.find_length.ensures
+    Copies.asks_source (s g at) c.args.machine.now c.find_length.new.machine c.args.steps.now c.find_length.new.steps (fits g at) c.find_length.ensures
     (away g at) c.find_target.new.machine c.find_target.new.steps c.find_target.ensures gone c.requires.family other
 
 pub returns-then-pc-ne-MOVES : goal.returns-then-pc-ne-MOVES
@@ -89,8 +51,8 @@ returns-then-pc-ne-MOVES g c =
     let gone : c.find_target.new.machine.cpu.pc ≡ GSTOP → ⊥ = λ h. let p = c.pc-2.ensures.value in let r = c.if-pc-eq-GSTOP-2.false in absurd (omega arith) in
     let other : c.find_target.new.machine.cpu.pc ≡ MOVES → ⊥ = λ there. let p = c.pc-3.ensures.value in let r = c.if-pc-ne-MOVES.true in absurd (omega arith) in
     Copies.from_memory (s g at) c.args.machine.now c.find_length.new.machine c.args.steps.now c.find_length.new.steps (fits g at) c.find_length.ensures
-    (away g at) c.find_target.new.machine c.find_target.new.steps c.find_target.ensures gone c.requires.family other c.run_address.new.machine
-    c.run_address.new.steps c.run_address.ensures
+    (away g at) c.find_target.new.machine c.find_target.new.steps c.find_target.ensures gone c.requires.family other c.find_operand.new.machine
+    c.find_operand.new.steps c.find_operand.ensures
 
 pub index_source-requires : goal.index_source-requires
 index_source-requires g c =

@@ -28,46 +28,11 @@ returns-then-pc-eq-GSTOP g c =
     Dispatch.stopped (s g at) c.args.machine.now c.find_copy.new.machine c.args.steps.now c.find_copy.new.steps (stands g at) c.requires.family
     c.find_copy.ensures here c.reason_told.result c.reason_told.ensures
 
-pub copy_bytes-requires-clause-stands : goal.copy_bytes-requires-clause-stands
-copy_bytes-requires-clause-stands g c =
-    let at = (goal.at.copy_bytes-requires-clause-stands g c).After-find_copy in
+pub copy_found-requires : goal.copy_found-requires
+copy_found-requires g c =
+    let at = (goal.at.copy_found-requires g c).After-find_copy in
     let away : c.find_copy.new.machine.cpu.pc ≡ GSTOP → ⊥ = λ there. let p = c.pc.ensures.value in let r = c.if-pc-eq-GSTOP.false in absurd (omega arith) in
-    Dispatch.stands_copy (s g at) c.args.machine.now c.find_copy.new.machine c.args.steps.now c.find_copy.new.steps (stands g at) c.requires.family
-    c.find_copy.ensures away
-
-pub copy_bytes-requires-clause-idle : goal.copy_bytes-requires-clause-idle
-copy_bytes-requires-clause-idle g c =
-    let at = (goal.at.copy_bytes-requires-clause-idle g c).After-find_copy in
-    let away : c.find_copy.new.machine.cpu.pc ≡ GSTOP → ⊥ = λ there. let p = c.pc.ensures.value in let r = c.if-pc-eq-GSTOP.false in absurd (omega arith) in
-    Dispatch.idle_copy (s g at) c.args.machine.now c.find_copy.new.machine c.args.steps.now c.find_copy.new.steps (stands g at) c.requires.family
-    c.find_copy.ensures away
-
-pub copy_bytes-requires-clause-fetched : goal.copy_bytes-requires-clause-fetched
-copy_bytes-requires-clause-fetched g c =
-    let at = (goal.at.copy_bytes-requires-clause-fetched g c).After-find_copy in
-    let away : c.find_copy.new.machine.cpu.pc ≡ GSTOP → ⊥ = λ there. let p = c.pc.ensures.value in let r = c.if-pc-eq-GSTOP.false in absurd (omega arith) in
-    Dispatch.fetched_copy (s g at) c.args.machine.now c.find_copy.new.machine c.args.steps.now c.find_copy.new.steps (stands g at) c.requires.family
-    c.find_copy.ensures away
-
-pub copy_bytes-requires-clause-source : goal.copy_bytes-requires-clause-source
-copy_bytes-requires-clause-source g c =
-    let at = (goal.at.copy_bytes-requires-clause-source g c).After-find_copy in
-    let away : c.find_copy.new.machine.cpu.pc ≡ GSTOP → ⊥ = λ there. let p = c.pc.ensures.value in let r = c.if-pc-eq-GSTOP.false in absurd (omega arith) in
-    Dispatch.source_copy (s g at) c.args.machine.now c.find_copy.new.machine c.args.steps.now c.find_copy.new.steps (stands g at) c.requires.family
-    c.find_copy.ensures away
-
-pub copy_bytes-requires-clause-target : goal.copy_bytes-requires-clause-target
-copy_bytes-requires-clause-target g c =
-    let at = (goal.at.copy_bytes-requires-clause-target g c).After-find_copy in
-    let away : c.find_copy.new.machine.cpu.pc ≡ GSTOP → ⊥ = λ there. let p = c.pc.ensures.value in let r = c.if-pc-eq-GSTOP.false in absurd (omega arith) in
-    Dispatch.target_copy (s g at) c.args.machine.now c.find_copy.new.machine c.args.steps.now c.find_copy.new.steps (stands g at) c.requires.family
-    c.find_copy.ensures away
-
-pub copy_bytes-requires-clause-registers : goal.copy_bytes-requires-clause-registers
-copy_bytes-requires-clause-registers g c =
-    let at = (goal.at.copy_bytes-requires-clause-registers g c).After-find_copy in
-    let away : c.find_copy.new.machine.cpu.pc ≡ GSTOP → ⊥ = λ there. let p = c.pc.ensures.value in let r = c.if-pc-eq-GSTOP.false in absurd (omega arith) in
-    Dispatch.registers_copy (s g at) c.args.machine.now c.find_copy.new.machine c.args.steps.now c.find_copy.new.steps (stands g at) c.requires.family
+    Dispatch.may_copy (s g at) c.args.machine.now c.find_copy.new.machine c.args.steps.now c.find_copy.new.steps (stands g at) c.requires.family
     c.find_copy.ensures away
 
 pub returns : goal.returns
@@ -75,7 +40,7 @@ returns g c =
     let at = (goal.at.returns g c).After-find_copy in
     let away : c.find_copy.new.machine.cpu.pc ≡ GSTOP → ⊥ = λ there. let p = c.pc.ensures.value in let r = c.if-pc-eq-GSTOP.false in absurd (omega arith) in
     Dispatch.turned (s g at) c.args.machine.now c.find_copy.new.machine c.args.steps.now c.find_copy.new.steps (stands g at) c.requires.family
-    c.find_copy.ensures away c.copy_bytes.new.machine c.copy_bytes.new.steps c.copy_bytes.ensures
+    c.find_copy.ensures away c.copy_found.new.machine c.copy_found.new.steps c.copy_found.ensures
 
 pub find_copy-requires-clause-stands : goal.find_copy-requires-clause-stands
 find_copy-requires-clause-stands g c =
