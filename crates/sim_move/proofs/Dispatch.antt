@@ -24,7 +24,7 @@ grom_of c (FromGrom address) w h = h.grom
 sees_of : (kind : MoveKind) (s : GplState) (f : (ℕ × To) × From) (w : View) → AtCopy kind s f w → Sees s (place_in_grom (begun kind s) f.1) w
 sees_of kind s f w h = record { cells = h.cells; vdp = h.vdp; registers = h.registers; held = h.held; grom = grom_of (begun kind s) f.1 w h.stands_from }
 
-module _ (s : GplState) (x a : MachineState) (t t1 : ℕ) (stands : Stands x GOMOVE) (family : is_move (operation_in s) ≡ true) (finds : FindsCopy s x a t t1)
+module _ (s : GplState) {x a : MachineState} {t t1 : ℕ} (stands : Stands x GOMOVE) (family : is_move (operation_in s) ≡ true) (finds : FindsCopy s x a t t1)
   where
     kind : MoveKind
     kind = (kind_of (operation_in s) family).0
@@ -39,7 +39,7 @@ module _ (s : GplState) (x a : MachineState) (t t1 : ℕ) (stands : Stands x GOM
     -- a check fails
     module _ (here : a.cpu.pc ≡ GSTOP) where
       m : Missing 187 s x a t t1 (copy_in kind s)
-      m = missing 187 s x a t t1 MOVEB (AtCopy kind s) (copy_in kind s) (λ e. absurd (omega arith)) here (finds kind known)
+      m = missing 187 s x a t t1 MOVEB (AtCopy kind s) (copy_in kind s) (λ e. absurd (omega arith)) here (finds.by kind known)
 
       pub workspace : a.cpu.wp ≡ WORKSPACE
       workspace = m.comes.stands.wp
@@ -57,7 +57,7 @@ module _ (s : GplState) (x a : MachineState) (t t1 : ℕ) (stands : Stands x GOM
     -- all is found
     module _ (away : a.cpu.pc ≡ GSTOP → ⊥) where
       g : Found 187 x a t t1 MOVEB (AtCopy kind s) (copy_in kind s)
-      g = found 187 s x a t t1 MOVEB (AtCopy kind s) (copy_in kind s) away (finds kind known)
+      g = found 187 s x a t t1 MOVEB (AtCopy kind s) (copy_in kind s) away (finds.by kind known)
 
       to_lies : ToLies g.found.0.0 g.found.0.1
       to_lies = target_lies s g.found.0.0 (target_read kind s).0 g.found.0.1 (parts s kind g.found g.is).target
@@ -79,8 +79,8 @@ module _ (s : GplState) (x a : MachineState) (t t1 : ℕ) (stands : Stands x GOM
             registers = registers_there g.found.0.0 g.found.0.1 (view a) h.stands_to h.left to_lies;
           }
 
-      pub turned : (y : MachineState) (t2 : ℕ) → CopiesBytes a y t1 t2 → Turned s most_to_dispatch x y t t2 Stepped
-      turned y t2 copies =
+      pub turned : {y : MachineState} {t2 : ℕ} → CopiesBytes a y t1 t2 → Turned s most_to_dispatch x y t t2 Stepped
+      turned {y = y} {t2 = t2} copies =
           let bytes = g.found.0.0 in
           let next = finished (made s kind g.found) in
           let c = comes_on 187 (40 * bytes + 42) g.comes (copies (begun kind s) g.found.1 g.found.0.1 bytes g.comes.holds) refl in

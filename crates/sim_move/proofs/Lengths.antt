@@ -164,9 +164,9 @@ module _ (s : GplState) {x : MachineState} {t : ℕ} (d : Dispatched s (view x))
         visible = λ z. let n = direct.comes.holds.space in absurd (omega arith);
       }
 
-      pub found_direct : (q : MachineState) (k : ℕ) → LoadsFollowing a q t1 k → FindsLength s x q t k
-      found_direct q k l =
-          subst (FindsBy s x q t k) (sym direct.is_odd) (comes_as 70 _ (comes_on 6 18 direct.comes (l s direct.comes.holds) refl) (omega arith) (λ w b. b))
+      pub found_direct : {q : MachineState} {k : ℕ} → LoadsFollowing a q t1 k → FindsLength s x q t k
+      found_direct {q = q} {k = k} l =
+          record { by = subst (FindsBy s x q t k) (sym direct.is_odd) (comes_as 70 _ (comes_on 6 18 direct.comes (l s direct.comes.holds) refl) (omega arith) (λ w b. b)) }
 
     -- it is at an operand
     record Asked : Type 0 where
@@ -212,7 +212,7 @@ module _ (s : GplState) {x : MachineState} {t : ℕ} (d : Dispatched s (view x))
             subst P (sym is) (comes_as 70 _ (barred s 2 (behind_code s) MOVEN 7 reason x a b t t1 t2 asked.comes g) (omega arith) (λ w k. k))
 
         pub stopped : b.cpu.pc ≡ GSTOP → FindsLength s x b t t2
-        stopped there = subst (FindsBy s x b t t2) (sym asked.is_even) (stopped_by there (place_of s 2 operand.0) refl finds)
+        stopped there = record { by = subst (FindsBy s x b t t2) (sym asked.is_even) (stopped_by there (place_of s 2 operand.0) refl finds) }
 
         record Placed : Type 0 where
           pub place : Place
@@ -242,8 +242,10 @@ module _ (s : GplState) {x : MachineState} {t : ℕ} (d : Dispatched s (view x))
                     (lies_at 2 (place_of s 2 operand.0) placed.place (place_lies s 2 operand.0) placed.is_place);
               }
 
-          pub found_placed : (q : MachineState) (k : ℕ) → LoadsPlaced b q t2 k → FindsLength s x q t k
-          found_placed q k l =
+          pub found_placed : {q : MachineState} {k : ℕ} → LoadsPlaced b q t2 k → FindsLength s x q t k
+          found_placed {q = q} {k = k} l =
               let P : Result Place Reason → Type 0 = λ p. Arrives 70 s x q t k MOVEL (LengthTold s operand.1) (p >>= λ p. Ok (value_at s Word p)) in
-              subst (FindsBy s x q t k) (sym asked.is_even)
-              (subst P (sym placed.is_place) (comes_on 52 18 placed.comes (l s placed.place operand.1 placed.comes.holds) refl))
+              record {
+                by = subst (FindsBy s x q t k) (sym asked.is_even)
+                    (subst P (sym placed.is_place) (comes_on 52 18 placed.comes (l s placed.place operand.1 placed.comes.holds) refl));
+              }

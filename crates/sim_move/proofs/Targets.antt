@@ -65,16 +65,18 @@ module _ {x a : MachineState} {t t1 : ℕ} (stands : Stands x MOVEL) (e : Exits 
   at_stop here false e = absurd (not_stop (sym e.stands.pc ∙ here))
 
   pub too_long : a.cpu.pc ≡ GSTOP → FindsTarget x a t t1
-  too_long here s kind count fits known h =
-      let w = at_stop here (nat_lt 0x4000 v.r.r6) e in
-      let above : nat_lt 0x4000 count ≡ true = ap (nat_lt 0x4000) (sym h.count_is) ∙ w.0 in
-      let P : Bool → Type 0 = λ b. Arrives 57 s x a t t1 (source_entry kind) (TargetTold s kind (target_read kind s).1)
-      (by_limit s count (target_read kind s).0 b) in
-      subst P (sym above) (comes w.1 (record {
-        within = omega arith;
-        to_is = refl;
-        holds = stops_there s 2 (length_read s).1 Length v (record v { r = record v.r { r0 = 4 } }) h.holds refl refl refl refl;
-      }))
+  too_long here = record {
+    by = λ s kind count fits known h.
+        let w = at_stop here (nat_lt 0x4000 v.r.r6) e in
+        let above : nat_lt 0x4000 count ≡ true = ap (nat_lt 0x4000) (sym h.count_is) ∙ w.0 in
+        let P : Bool → Type 0 = λ b. Arrives 57 s x a t t1 (source_entry kind) (TargetTold s kind (target_read kind s).1)
+        (by_limit s count (target_read kind s).0 b) in
+        subst P (sym above) (comes w.1 (record {
+          within = omega arith;
+          to_is = refl;
+          holds = stops_there s 2 (length_read s).1 Length v (record v { r = record v.r { r0 = 4 } }) h.holds refl refl refl refl;
+        }));
+  }
 
   module _ (away : a.cpu.pc ≡ GSTOP → ⊥) where
     went : (nat_lt 0x4000 v.r.r6 ≡ false) × Exits x a t t1 goes_on
@@ -163,15 +165,16 @@ module _ {x a : MachineState} {t t1 : ℕ} (stands : Stands x MOVEL) (e : Exits 
               rw (some, by_limit) c2
 
       pub registers : FindsTarget x y t t2
-      registers s kind count fits known h =
-          let k = told (code_byte s) kind fits known in
-          let none : to_memory kind ≡ false = sym k.memory ∙ ap (λ n. nat_lt n 0x38) (sym h.holds.code) ∙ to_them.0 in
-          by kind none
+      registers = record {
+        by = λ s kind count fits known h.
+            let k = told (code_byte s) kind fits known in
+            by s kind count h (sym k.memory ∙ ap (λ n. nat_lt n 0x38) (sym h.holds.code) ∙ to_them.0);
+      }
         where
-          by : (kind : MoveKind) → to_memory kind ≡ false → Arrives 57 s x y t t2 (source_entry kind) (TargetTold s kind (target_read kind s).1)
+          by : (s : GplState) (kind : MoveKind) (count : ℕ) → LengthTold s (length_read s).1 count (view x) → to_memory kind ≡ false → Arrives 57 s x y t t2 (source_entry kind) (TargetTold s kind (target_read kind s).1)
               (target_in s count (target_read kind s).0)
-          by GromToRegisters none = within s GromToRegisters y t2 count h.count_is (by_sum s count h (nat_lt 8 (sum_of Word kept.grom.fetched kept.r.r6)) refl)
-          by _ none = absurd (cc)
+          by s GromToRegisters count h none = within s GromToRegisters y t2 count h.count_is (by_sum s count h (nat_lt 8 (sum_of Word kept.grom.fetched kept.r.r6)) refl)
+          by s _ count h none = absurd (cc)
 
     -- a place in memory
     module _ (not_there : a.cpu.pc ≡ MOVER → ⊥) where
@@ -241,10 +244,12 @@ module _ {x a : MachineState} {t t1 : ℕ} (stands : Stands x MOVEL) (e : Exits 
             subst P (sym (of_memory kind s m)) (subst Q (sym (then_ok (place_of s count (operand s).0) count)) r)
 
         pub stopped : b.cpu.pc ≡ GSTOP → FindsTarget x b t t2
-        stopped there s kind count fits known h =
-            within s kind b t2 count h.count_is
-            (found_as s kind count b t2 (kind_to_memory s kind count fits known h) (stopped_by there s kind count (operand s).1 h
-            (place_of s count (operand s).0) (finds s count h)))
+        stopped there = record {
+          by = λ s kind count fits known h.
+              within s kind b t2 count h.count_is
+              (found_as s kind count b t2 (kind_to_memory s kind count fits known h) (stopped_by there s kind count (operand s).1 h
+              (place_of s count (operand s).0) (finds s count h)));
+        }
 
         module _ (gone : b.cpu.pc ≡ GSTOP → ⊥) where
           -- where ADDR has led to, whatever the state
@@ -336,7 +341,9 @@ module _ {x a : MachineState} {t t1 : ℕ} (stands : Stands x MOVEL) (e : Exits 
             found_by s kind count fits known m h (Err reason) g = absurd (gone g.stands.pc)
 
             pub found : FindsTarget x y t t3
-            found s kind count fits known h =
-                let m = kind_to_memory s kind count fits known h in
-                within s kind y t3 count h.count_is
-                (found_as s kind count y t3 m (found_by s kind count fits known m h (place_of s count (operand s).0) (finds s count h)))
+            found = record {
+              by = λ s kind count fits known h.
+                  let m = kind_to_memory s kind count fits known h in
+                  within s kind y t3 count h.count_is
+                  (found_as s kind count y t3 m (found_by s kind count fits known m h (place_of s count (operand s).0) (finds s count h)));
+            }

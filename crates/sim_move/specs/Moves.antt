@@ -82,9 +82,8 @@ LoadsPlaced x y before after =
     (s : GplState) → (place : Place) → (next : ℕ) → AtPlace s place next (view x)
     → Comes 18 x y before after MOVEL (LengthTold s next (value_at s Word place))
 
-abbrev pub FindsLength : GplState → MachineState → MachineState → ℕ → ℕ → Type 0
-FindsLength s x y before after =
-    Arrives 70 s x y before after MOVEL (LengthTold s (length_read s).1) (length_of s (length_read s).0)
+pub record FindsLength (s : GplState) (x y : MachineState) (before after : ℕ) : Type 0 where
+  pub by : Arrives 70 s x y before after MOVEL (LengthTold s (length_read s).1) (length_of s (length_read s).0)
 
 -- Where the source begins: a source in memory at ADDR, one in GROM at MOVES.
 abbrev pub source_entry : MoveKind → ℕ
@@ -109,12 +108,11 @@ target_in s count target = do
   to ← target_of s bytes target
   Ok (bytes, to)
 
-abbrev pub FindsTarget : MachineState → MachineState → ℕ → ℕ → Type 0
-FindsTarget x y before after =
-    (s : GplState) → (kind : MoveKind) → (count : ℕ) → code_byte s < 256 → operation_in s ≡ Some (Move kind)
-    → LengthTold s (length_read s).1 count (view x)
-    → Arrives 57 s x y before after (source_entry kind) (TargetTold s kind (target_read kind s).1)
-    (target_in s count (target_read kind s).0)
+pub record FindsTarget (x y : MachineState) (before after : ℕ) : Type 0 where
+  pub by : (s : GplState) → (kind : MoveKind) → (count : ℕ) → code_byte s < 256 → operation_in s ≡ Some (Move kind)
+      → LengthTold s (length_read s).1 count (view x)
+      → Arrives 57 s x y before after (source_entry kind) (TargetTold s kind (target_read kind s).1)
+      (target_in s count (target_read kind s).0)
 
 -- At MOVEX a source's address in GROM, with its index, is in register 2.
 pub record SourceTold (v : View) (image : List ℕ) (next address : ℕ) (w : View) : Type 0 where
@@ -160,7 +158,6 @@ copy_in kind s = do
 abbrev pub AtCopy : MoveKind → GplState → (ℕ × To) × From → View → Type 0
 AtCopy kind s found w = Copying (begun kind s) found.1 found.0.1 found.0.0 w
 
-abbrev pub FindsCopy : GplState → MachineState → MachineState → ℕ → ℕ → Type 0
-FindsCopy s x y before after =
-    (kind : MoveKind) → operation_in s ≡ Some (Move kind)
-    → Arrives most_to_copy s x y before after MOVEB (AtCopy kind s) (copy_in kind s)
+pub record FindsCopy (s : GplState) (x y : MachineState) (before after : ℕ) : Type 0 where
+  pub by : (kind : MoveKind) → operation_in s ≡ Some (Move kind)
+      → Arrives most_to_copy s x y before after MOVEB (AtCopy kind s) (copy_in kind s)

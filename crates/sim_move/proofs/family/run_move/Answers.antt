@@ -18,29 +18,25 @@ pub reason_told-requires : goal.reason_told-requires
 reason_told-requires g c =
     let at = (goal.at.reason_told-requires g c).After-find_copy in
     let here : c.find_copy.new.machine.cpu.pc ≡ GSTOP = let p = c.pc.ensures.value in let r = c.if-pc-eq-GSTOP.true in omega arith in
-    Dispatch.workspace (s g at) c.args.machine.now c.find_copy.new.machine c.args.steps.now c.find_copy.new.steps (stands g at) c.requires.family
-    c.find_copy.ensures here
+    Dispatch.workspace (s g at) (stands g at) c.requires.family c.find_copy.ensures here
 
 pub returns-then-pc-eq-GSTOP : goal.returns-then-pc-eq-GSTOP
 returns-then-pc-eq-GSTOP g c =
     let at = (goal.at.returns-then-pc-eq-GSTOP g c).After-find_copy in
     let here : c.find_copy.new.machine.cpu.pc ≡ GSTOP = let p = c.pc.ensures.value in let r = c.if-pc-eq-GSTOP.true in omega arith in
-    Dispatch.stopped (s g at) c.args.machine.now c.find_copy.new.machine c.args.steps.now c.find_copy.new.steps (stands g at) c.requires.family
-    c.find_copy.ensures here c.reason_told.result c.reason_told.ensures
+    Dispatch.stopped (s g at) (stands g at) c.requires.family c.find_copy.ensures here c.reason_told.result c.reason_told.ensures
 
 pub copy_found-requires : goal.copy_found-requires
 copy_found-requires g c =
     let at = (goal.at.copy_found-requires g c).After-find_copy in
     let away : c.find_copy.new.machine.cpu.pc ≡ GSTOP → ⊥ = λ there. let p = c.pc.ensures.value in let r = c.if-pc-eq-GSTOP.false in absurd (omega arith) in
-    Dispatch.may_copy (s g at) c.args.machine.now c.find_copy.new.machine c.args.steps.now c.find_copy.new.steps (stands g at) c.requires.family
-    c.find_copy.ensures away
+    Dispatch.may_copy (s g at) (stands g at) c.requires.family c.find_copy.ensures away
 
 pub returns : goal.returns
 returns g c =
     let at = (goal.at.returns g c).After-find_copy in
     let away : c.find_copy.new.machine.cpu.pc ≡ GSTOP → ⊥ = λ there. let p = c.pc.ensures.value in let r = c.if-pc-eq-GSTOP.false in absurd (omega arith) in
-    Dispatch.turned (s g at) c.args.machine.now c.find_copy.new.machine c.args.steps.now c.find_copy.new.steps (stands g at) c.requires.family
-    c.find_copy.ensures away c.copy_found.new.machine c.copy_found.new.steps c.copy_found.ensures
+    Dispatch.turned (s g at) (stands g at) c.requires.family c.find_copy.ensures away c.copy_found.ensures
 
 pub find_copy-requires-clause-stands : goal.find_copy-requires-clause-stands
 find_copy-requires-clause-stands g c =

@@ -20,7 +20,7 @@ pub returns-then-pc-ne-ADDR : goal.returns-then-pc-ne-ADDR
 returns-then-pc-ne-ADDR g c =
     let s = state_at_dispatch (view c.args.machine.now) in
     let away : c.ask_length.new.machine.cpu.pc ≡ ADDR → ⊥ = λ here. let p = c.pc.ensures.value in let r = c.if-pc-ne-ADDR.true in absurd (omega arith) in
-    Lengths.found_direct s c.requires.dispatched c.ask_length.ensures away c.load_count.new.machine c.load_count.new.steps c.load_count.ensures.following
+    Lengths.found_direct s c.requires.dispatched c.ask_length.ensures away c.load_count.ensures.following
 
 pub find_operand-requires : goal.find_operand-requires
 find_operand-requires g c =
@@ -49,6 +49,5 @@ returns g c =
     let s = state_at_dispatch (view c.args.machine.now) in
     let b = c.find_operand.new.machine in
     let gone : b.cpu.pc ≡ GSTOP → ⊥ = λ there. let p = c.pc-2.ensures.value in let r = c.if-pc-eq-GSTOP.false in absurd (omega arith) in
-    Lengths.found_placed s c.requires.dispatched c.ask_length.ensures (here g at)
-    c.find_operand.new.machine c.find_operand.new.steps c.find_operand.ensures gone c.load_count-2.new.machine c.load_count-2.new.steps
+    Lengths.found_placed s c.requires.dispatched c.ask_length.ensures (here g at) c.find_operand.new.machine c.find_operand.new.steps c.find_operand.ensures gone
     c.load_count-2.ensures.placed
