@@ -58,16 +58,6 @@ rebuilt : (v : View) (cells memory registers : List ℕ) (held : Option ℕ) (gr
 rebuilt v cells memory registers held grom r2 r7 r12 r13 address byte a b c d e f g h i j k =
     rw (← a, ← b, ← c, ← d, ← e, ← f, ← g, ← h, ← i, ← j, ← k) refl
 
--- a view of a copy that has begun
-module _ (w : View) (c : Changes) (bytes mark next : ℕ) (cells : w.cells ≡ c.state.cells) (memory : w.vdp.memory ≡ c.state.vdp)
-    (registers : w.vdp.registers ≡ c.state.registers) (held : w.vdp.held ≡ None) (grom : w.grom ≡ grom_at c.state.image next) (left : w.r.r12 ≡ bytes)
-    (marks : w.r.r13 ≡ mark) where
-  is_seen : (r2 r7 address byte : ℕ) → w.r.r2 ≡ r2 → w.r.r7 ≡ r7 → w.vdp.address ≡ address → w.vdp.fetched ≡ byte →
-      w ≡ seen w c bytes mark r2 r7 address byte next
-  is_seen r2 r7 address byte f g j k =
-      rebuilt w c.state.cells c.state.vdp c.state.registers None (grom_at c.state.image next) r2 r7 bytes mark address byte cells memory registers held grom
-      f g left marks j k
-
 -- ---- the leaves
 
 -- how a copy begins
@@ -83,18 +73,34 @@ head_charged : (way : Way) → charged (head_of way) ≡ 11
 head_charged = each (λ way. charged (head_of way) ≡ 11) refl refl refl refl refl
 
 module _ (v : View) (i : IsView v) (held : v.vdp.held ≡ None) (fetched : IsFetched v.grom) (some : 0 < v.r.r12) where
+  -- what a beginning keeps: all but the pointers, registers 4 and 13, and the address of the video processor with the byte there
+  abbrev Same : View → Type 0
+  Same w =
+      w ≡ record v {
+        r = record v.r { r2 = w.r.r2; r4 = w.r.r4; r7 = w.r.r7; r13 = w.r.r13 };
+        vdp = record v.vdp { address = w.vdp.address; fetched = w.vdp.fetched };
+      }
+
+  is_seen : (w : View) → Same w → {c : Changes} {from : From} {to : To} {bytes : ℕ} → Copying c from to bytes v → (next : ℕ) →
+      v.grom ≡ grom_at c.state.image next → {mark r2 r7 address byte : ℕ} → w.r.r13 ≡ mark → w.r.r2 ≡ r2 → w.r.r7 ≡ r7 → w.vdp.address ≡ address →
+      w.vdp.fetched ≡ byte → w ≡ seen w c bytes mark r2 r7 address byte next
+  is_seen w same {c = c} {bytes = bytes} k next grom {mark = mark} {r2 = r2} {r7 = r7} {address = address} {byte = byte} m f g a b =
+      rebuilt w c.state.cells c.state.vdp c.state.registers None (grom_at c.state.image next) r2 r7 bytes mark address byte
+      (ap (λ (u : View). u.cells) same ∙ k.cells) (ap (λ (u : View). u.vdp.memory) same ∙ k.vdp) (ap (λ (u : View). u.vdp.registers) same ∙ k.registers)
+      (ap (λ (u : View). u.vdp.held) same ∙ held) (ap (λ (u : View). u.grom) same ∙ grom) f g (ap (λ (u : View). u.r.r12) same ∙ k.left) m a b
+
   -- a copy that has come to its way
-  on_way : (way : Way) (count : ℕ) (w : View) (source : ℕ) → count ≤ 18 → MayGo way w → w.vdp.held ≡ None → w.grom ≡ v.grom → w.r.r12 ≡ v.r.r12 →
-      source_in v ≡ from_on way source → target_in v ≡ to_on way v.r.r7 →
+  on_way : (way : Way) (count : ℕ) (w : View) (source : ℕ) → count ≤ 18 → MayGo way w → Same w → source_in v ≡ from_on way source →
+      target_in v ≡ to_on way v.r.r7 →
       ((c : Changes) → (bytes : ℕ) → Copying c (from_on way source) (to_on way v.r.r7) bytes v → GoesBack c (from_on way source) w
       × (w ≡ seen_on way w c bytes (marked_by (copied bytes (from_on way source) (to_on way v.r.r7) c).shows 0) source v.r.r7)) →
       Starts v (exit count (head_of way) w)
-  on_way way count w source few may none grom left from_is to_is is = record {
+  on_way way count w source few may same from_is to_is is = record {
     few = let e = head_charged way in omega arith;
     place = AtHead way refl may;
-    held = none;
-    grom = grom;
-    left = left;
+    held = ap (λ (u : View). u.vdp.held) same ∙ held;
+    grom = ap (λ (u : View). u.grom) same;
+    left = ap (λ (u : View). u.r.r12) same;
     copying = λ c from to bytes k.
         let f : from_on way source ≡ from = sym from_is ∙ source_is c from v k.stands_from in
         let o : to_on way v.r.r7 ≡ to = sym to_is ∙ target_is to v k.stands_to in
@@ -103,6 +109,10 @@ module _ (v : View) (i : IsView v) (held : v.vdp.held ≡ None) (fetched : IsFet
         (λ k. let s = is c bytes k in
         OnItsWay way refl (record { base = w; source = source; target = v.r.r7; from_is = refl; to_is = refl; back = s.0; is = s.1 })))) k;
   }
+
+  -- where the video processor is set to an address
+  abbrev kept : VdpState → VdpState
+  kept d = record v.vdp { address = d.address; fetched = d.fetched }
 
   -- the source and the target by the registers
   abbrev from_by : Bool → ℕ → From
@@ -157,13 +167,12 @@ module _ (v : View) (i : IsView v) (held : v.vdp.held ≡ None) (fetched : IsFet
     cells_to_cells : v.r.r5 ≡ 0 → v.r.r2 + v.r.r12 ≤ 0xC2 → Starts v (exit (14 + marking) COPYCC (from_cells (pointed_at v)))
     cells_to_cells e fits =
         let w : View = from_cells (pointed_at v) in
-        on_way CellsToCells (14 + marking) w v.r.r2 (few 14 (omega arith)) (pointer v.r.r2 v.r.r12 some fits, to_pointer) held refl refl (source_cells e)
+        on_way CellsToCells (14 + marking) w v.r.r2 (few 14 (omega arith)) (pointer v.r.r2 v.r.r12 some fits, to_pointer) refl (source_cells e)
         (target_cells target)
         (λ c bytes k. (
           let z = e in omega arith,
-          is_seen w c bytes (marked_by (copied bytes (in_memory Cpu v.r.r2) (to_memory Cpu v.r.r7) c).shows 0) c.state.pc
-              k.cells k.vdp k.registers held k.stands_from.grom k.left (marks c (in_memory Cpu v.r.r2) bytes k) (first_cell + v.r.r2) (first_cell + v.r.r7)
-              v.vdp.address v.vdp.fetched (pointer_is v.r.r2 (omega arith)) to_pointer_is refl refl,
+          is_seen w refl k c.state.pc k.stands_from.grom (marks c (in_memory Cpu v.r.r2) bytes k)
+              (pointer_is v.r.r2 (omega arith)) to_pointer_is refl refl,
         ))
 
     video_to_cells : v.r.r5 ≡ 1 → Starts v (exit (12 + marking + 5) COPYVC (set_source (pointed_at v)).left)
@@ -172,58 +181,52 @@ module _ (v : View) (i : IsView v) (held : v.vdp.held ≡ None) (fetched : IsFet
         let at : ℕ = v.r.r2 % 16384 in
         let set : w.vdp ≡ record v.vdp { address = next_in_vdp at; fetched = slice_index v.vdp.memory at } =
         ap (λ n. set_video_to n v.vdp) (cut v.r.r2 (i.r 2)) ∙ reads_at v.vdp at held (omega arith) in
-        let none : w.vdp.held ≡ None = ap (λ (d : VdpState). d.held) set ∙ held in
-        on_way VideoToCells (12 + marking + 5) w v.r.r2 (let m = one_at_most (is_marked v) in omega arith) to_pointer none refl refl (source_video e) (target_cells target)
+        let same = ap (λ (d : VdpState). record w { vdp = d }) (set ∙ ap kept (sym set)) in
+        on_way VideoToCells (12 + marking + 5) w v.r.r2 (let m = one_at_most (is_marked v) in omega arith) to_pointer same (source_video e)
+        (target_cells target)
         (λ c bytes k. (
           let z = e in omega arith,
-          is_seen w c bytes (marked_by (copied bytes (in_memory Vdp v.r.r2) (to_memory Cpu v.r.r7) c).shows 0) c.state.pc
-              k.cells (ap (λ (d : VdpState). d.memory) set ∙ k.vdp) (ap (λ (d : VdpState). d.registers) set ∙ k.registers) none k.stands_from.grom k.left
-              (marks c (in_memory Vdp v.r.r2) bytes k) v.r.r2 (first_cell + v.r.r7) (next_in_vdp at) (slice_index c.state.vdp at) refl to_pointer_is
+          is_seen w same k c.state.pc k.stands_from.grom (marks c (in_memory Vdp v.r.r2) bytes k) refl to_pointer_is
               (ap (λ (d : VdpState). d.address) set) (ap (λ (d : VdpState). d.fetched) set ∙ ap (λ (l : List ℕ). slice_index l at) k.vdp),
         ))
 
     grom_to_cells : 1 < v.r.r5 → Starts v (exit (13 + marking) COPYGC (pointed_at v))
     grom_to_cells l =
-        let w : View = pointed_at v in
-        on_way GromToCells (13 + marking) w (next_at v) (few 13 (omega arith)) to_pointer held refl refl (source_grom l) (target_cells target)
+        let from : From = FromGrom (next_at v) in
+        on_way GromToCells (13 + marking) (pointed_at v) (next_at v) (few 13 (omega arith)) to_pointer refl (source_grom l) (target_cells target)
         (λ c bytes k. (
           (k.stands_from.space, k.stands_from.back),
-          is_seen w c bytes (marked_by (copied bytes (FromGrom (next_at v))
-              (to_memory Cpu v.r.r7) c).shows 0) (next_at v) k.cells k.vdp k.registers held k.stands_from.grom k.left (marks c (FromGrom (next_at v)) bytes k)
-              v.r.r2 (first_cell + v.r.r7) v.vdp.address v.vdp.fetched refl to_pointer_is refl refl,
+          is_seen (pointed_at v) refl k (next_at v) k.stands_from.grom (marks c from bytes k)
+              refl to_pointer_is refl refl,
         ))
 
   module _ (target : v.r.r8 ≡ 1) where
     set : (target_set v).vdp ≡ record v.vdp { address = v.r.r7 % 16384 }
-    set =
-        ap (λ n. set_video_to (sum_of Word n 0x4000) v.vdp) (cut v.r.r7 (i.r 7)) ∙ writes_at v.vdp (v.r.r7 % 16384) held (omega arith)
+    set = ap (λ n. set_video_to (sum_of Word n 0x4000) v.vdp) (cut v.r.r7 (i.r 7)) ∙ writes_at v.vdp (v.r.r7 % 16384) held (omega arith)
 
-    none_held : (target_set v).vdp.held ≡ None
-    none_held = ap (λ (d : VdpState). d.held) set ∙ held
+    address_set : (target_set v).vdp.address ≡ v.r.r7 % 16384
+    address_set = ap (λ (d : VdpState). d.address) set
 
     cells_to_video : v.r.r5 ≡ 0 → v.r.r2 + v.r.r12 ≤ 0xC2 → Starts v (exit 15 COPYCV (from_cells (target_set v)))
     cells_to_video e fits =
         let w : View = from_cells (target_set v) in
-        on_way CellsToVideo 15 w v.r.r2 (omega arith) (pointer v.r.r2 v.r.r12 some fits) none_held refl refl (source_cells e) (target_video target)
+        let same = ap (λ (d : VdpState). record w { vdp = d }) (set ∙ ap kept (sym set)) in
+        on_way CellsToVideo 15 w v.r.r2 (omega arith) (pointer v.r.r2 v.r.r12 some fits) same (source_cells e) (target_video target)
         (λ c bytes k. (
           let z = e in omega arith,
-          is_seen w c bytes (marked_by (copied bytes (in_memory Cpu v.r.r2) (to_memory Vdp v.r.r7) c).shows 0) c.state.pc
-              k.cells (ap (λ (d : VdpState). d.memory) set ∙ k.vdp) (ap (λ (d : VdpState). d.registers) set ∙ k.registers) none_held k.stands_from.grom k.left
-              (k.mark ∙ video_mark bytes v.r.r7 (in_memory Cpu v.r.r2) c) (first_cell + v.r.r2) v.r.r7 (v.r.r7 % 16384) w.vdp.fetched
-              (pointer_is v.r.r2 (omega arith)) refl (ap (λ (d : VdpState). d.address) set) refl,
+          is_seen w same k c.state.pc k.stands_from.grom (k.mark ∙ video_mark bytes v.r.r7 (in_memory Cpu v.r.r2) c)
+              (pointer_is v.r.r2 (omega arith)) refl address_set refl,
         ))
 
     grom_to_video : 1 < v.r.r5 → Starts v (exit 14 COPYGV (target_set v))
     grom_to_video l =
         let w : View = target_set v in
-        on_way GromToVideo 14 w (next_at v) (omega arith) some none_held refl refl (source_grom l) (target_video target)
+        let same = ap (λ (d : VdpState). record w { vdp = d }) (set ∙ ap kept (sym set)) in
+        on_way GromToVideo 14 w (next_at v) (omega arith) some same (source_grom l) (target_video target)
         (λ c bytes k. (
           (k.stands_from.space, k.stands_from.back),
-          is_seen w c bytes (marked_by (copied bytes (FromGrom (next_at v))
-              (to_memory Vdp v.r.r7) c).shows 0) (next_at v) k.cells (ap (λ (d : VdpState). d.memory) set ∙ k.vdp)
-              (ap (λ (d : VdpState). d.registers) set ∙ k.registers) none_held k.stands_from.grom k.left
-              (k.mark ∙ video_mark bytes v.r.r7 (FromGrom (next_at v)) c) v.r.r2 v.r.r7 (v.r.r7 % 16384) w.vdp.fetched refl refl
-              (ap (λ (d : VdpState). d.address) set) refl,
+          is_seen w same k (next_at v) k.stands_from.grom
+              (k.mark ∙ video_mark bytes v.r.r7 (FromGrom (next_at v)) c) refl refl address_set refl,
         ))
 
   -- LOAD and STORE copy
