@@ -30,7 +30,7 @@ MEMORY = [
     ('GORTN', 'RTN, RTNC'),
     ('FETCHV', 'FETCH'),
     ('GORAND', 'RAND'),
-    ('GOMOVE', 'MOVE, with its stops'),
+    ('LONG', 'MOVE, with its stops'),
     ('GOALL', 'ALL'),
     ('GOBACK', 'BACK'),
 ]

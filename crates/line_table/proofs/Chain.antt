@@ -4,7 +4,7 @@ use Rattle.line_table.proofs.Counts.{most, name_count}
 use Rattle.line_table.proofs.Fronts.{Front, none_yet, with_block}
 use Rattle.line_table.proofs.FirstBlocks.{lines_000, lines_040, lines_080, lines_120, lines_160, lines_200, lines_240}
 use Rattle.line_table.proofs.SecondBlocks.{lines_280, lines_320, lines_360, lines_400, lines_440, lines_480, lines_520}
-use Rattle.line_table.proofs.ThirdBlocks.{lines_560, lines_600, lines_640, lines_680, lines_720, lines_760, lines_800, lines_840}
+use Rattle.line_table.proofs.ThirdBlocks.{lines_560, lines_600, lines_640, lines_680, lines_720, lines_760, lines_800, lines_840, lines_880}
 
 to_040 : Front 40 15
 to_040 = with_block 0 40 0 15 none_yet lines_000
@@ -63,15 +63,18 @@ to_720 = with_block 680 40 142 11 to_680 lines_680
 to_760 : Front 760 158
 to_760 = with_block 720 40 153 5 to_720 lines_720
 
-to_800 : Front 800 168
-to_800 = with_block 760 40 158 10 to_760 lines_760
+to_800 : Front 800 165
+to_800 = with_block 760 40 158 7 to_760 lines_760
 
-to_840 : Front 840 178
-to_840 = with_block 800 40 168 10 to_800 lines_800
+to_840 : Front 840 175
+to_840 = with_block 800 40 165 10 to_800 lines_800
 
-to_853 : Front 853 180
-to_853 = with_block 840 13 178 2 to_840 lines_840
+to_880 : Front 880 184
+to_880 = with_block 840 40 175 9 to_840 lines_840
+
+to_885 : Front 885 185
+to_885 = with_block 880 5 184 1 to_880 lines_880
 
 -- all of them
 pub to_last : Front most name_count
-to_last = to_853
+to_last = to_885

@@ -35,14 +35,18 @@ pub lines_720 : Block 720 40 153 5
 unfolding mnemonic form_of first_checks second_checks token_at tokens_from in_quotes operands_from fields registers directive statement_in said moved outcome
 lines_720 = refl
 
-pub lines_760 : Block 760 40 158 10
+pub lines_760 : Block 760 40 158 7
 unfolding mnemonic form_of first_checks second_checks token_at tokens_from in_quotes operands_from fields registers directive statement_in said moved outcome
 lines_760 = refl
 
-pub lines_800 : Block 800 40 168 10
+pub lines_800 : Block 800 40 165 10
 unfolding mnemonic form_of first_checks second_checks token_at tokens_from in_quotes operands_from fields registers directive statement_in said moved outcome
 lines_800 = refl
 
-pub lines_840 : Block 840 13 178 2
+pub lines_840 : Block 840 40 175 9
 unfolding mnemonic form_of first_checks second_checks token_at tokens_from in_quotes operands_from fields registers directive statement_in said moved outcome
 lines_840 = refl
+
+pub lines_880 : Block 880 5 184 1
+unfolding mnemonic form_of first_checks second_checks token_at tokens_from in_quotes operands_from fields registers directive statement_in said moved outcome
+lines_880 = refl

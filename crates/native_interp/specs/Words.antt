@@ -110,13 +110,19 @@ use Rattle.native_interp.specs.declared.addresses.TheConstants.{
   FETCHD,
   GORAND,
   RANDL,
+  LONG,
   GOMOVE,
   MOVEN,
   MOVEL,
   MOVED,
   MOVEB,
-  COPYC,
-  COPYG,
+  COPYCC,
+  SETR,
+  COPYVC,
+  COPYGC,
+  SETW,
+  COPYCV,
+  COPYGV,
   COPY,
   COPYS,
   COPYN,
@@ -127,7 +133,6 @@ use Rattle.native_interp.specs.declared.addresses.TheConstants.{
   MOVEX,
   MOVEW,
   MOVEK,
-  LONG,
   NOREG,
   GOALL,
   FILL,
@@ -192,12 +197,14 @@ flow_parts =
 -- MOVE, ALL and BACK
 abbrev pub copy_parts : List (ℕ × List ℕ)
 copy_parts =
-    (GOMOVE, copy.move) ∷ (MOVEN, copy.move_length) ∷ (MOVEL, copy.move_target) ∷ (MOVED, copy.move_source) ∷
-    (MOVEB, copy.move_begin) ∷ (COPYC, copy.copy_cells) ∷ (COPYG, copy.copy_grom) ∷ (COPY, copy.copy) ∷
+    (LONG, copy.length_stop) ∷ (GOMOVE, copy.move) ∷ (MOVEN, copy.move_length) ∷ (MOVEL, copy.move_target) ∷
+    (MOVED, copy.move_source) ∷ (MOVEB, copy.move_begin) ∷ (COPYCC, copy.copy_cells) ∷ (SETR, copy.set_source) ∷
+    (COPYVC, copy.copy_video) ∷ (COPYGC, copy.copy_grom) ∷ (SETW, copy.set_target) ∷
+    (COPYCV, copy.copy_cells_to_video) ∷ (COPYGV, copy.copy_grom_to_video) ∷ (COPY, copy.copy) ∷
     (COPYS, copy.copy_store) ∷ (COPYN, copy.copy_next) ∷ (COPYE, copy.copy_end) ∷ (MOVER, copy.move_registers) ∷
     (MOVES, copy.move_grom) ∷ (MOVEA, copy.move_index) ∷ (MOVEX, copy.move_where) ∷ (MOVEW, copy.move_seek) ∷
-    (MOVEK, copy.move_stream) ∷ (LONG, copy.length_stop) ∷ (NOREG, copy.register_stop) ∷ (GOALL, copy.all) ∷
-    (FILL, copy.all_fill) ∷ (GOBACK, copy.back) ∷ []
+    (MOVEK, copy.move_stream) ∷ (NOREG, copy.register_stop) ∷ (GOALL, copy.all) ∷ (FILL, copy.all_fill) ∷
+    (GOBACK, copy.back) ∷ []
 
 -- every part with its address
 abbrev pub routines : List (ℕ × List ℕ)

@@ -2,13 +2,13 @@
 //! Addresses in the interpreter. Profile: where the interpreter and its workspace stand.
 
 /// How many words the interpreter has.
-pub const WORD_COUNT: usize = 1130;
+pub const WORD_COUNT: usize = 1168;
 
 /// The interpreter's workspace: the address of its register 0.
 pub const WORKSPACE: u16 = 0x83E0;
 
 /// The address behind the interpreter's last word.
-pub const BEHIND: u16 = 0x28D4;
+pub const BEHIND: u16 = 0x2920;
 
 /// Where the words of the interpreter begin.
 pub const ORIGIN: u16 = 0x2000;
@@ -388,80 +388,95 @@ pub const RANDM: u16 = 0x2786;
 /// The part of RAND behind the seed: the limit.
 pub const RANDL: u16 = 0x279A;
 
+/// Stops by reason 4.
+pub const LONG: u16 = 0x27B0;
+
 /// The instruction MOVE.
-pub const GOMOVE: u16 = 0x27B0;
+pub const GOMOVE: u16 = 0x27B8;
 
 /// Loads the length of MOVE.
-pub const MOVEN: u16 = 0x27C4;
+pub const MOVEN: u16 = 0x27CC;
 
 /// The part of MOVE behind its length: the target.
-pub const MOVEL: u16 = 0x27C8;
+pub const MOVEL: u16 = 0x27D0;
 
 /// The part of MOVE behind its target: the source.
-pub const MOVED: u16 = 0x27DC;
+pub const MOVED: u16 = 0x27E4;
 
 /// Begins the copy of MOVE.
-pub const MOVEB: u16 = 0x27EA;
+pub const MOVEB: u16 = 0x27F2;
+
+/// The part of `MOVEB` behind the mark.
+pub const MOVEP: u16 = 0x280A;
 
 /// Copies a byte of MOVE from the cells to the cells.
-pub const COPYC: u16 = 0x27FA;
+pub const COPYCC: u16 = 0x281A;
 
-/// The part of `COPYC` behind the byte.
-pub const COPYCN: u16 = 0x2808;
+/// Sets the video processor's address to the source of MOVE.
+pub const SETR: u16 = 0x2822;
+
+/// Copies a byte of MOVE from video memory to the cells.
+pub const COPYVC: u16 = 0x2832;
 
 /// Copies a byte of MOVE from GROM to the cells.
-pub const COPYG: u16 = 0x2812;
+pub const COPYGC: u16 = 0x283C;
 
-/// The part of `COPYG` behind the byte.
-pub const COPYGN: u16 = 0x2820;
+/// Sets the video processor's address to the target of MOVE.
+pub const SETW: u16 = 0x2846;
+
+/// The part of `SETW` that writes the address.
+pub const SETWA: u16 = 0x2856;
+
+/// Copies a byte of MOVE from the cells to video memory.
+pub const COPYCV: u16 = 0x2868;
+
+/// Copies a byte of MOVE from GROM to video memory.
+pub const COPYGV: u16 = 0x2872;
 
 /// The part of `MOVEB` before bytes that LOAD and STORE copy.
-pub const COPYL: u16 = 0x282A;
+pub const COPYL: u16 = 0x287E;
 
 /// Asks LOAD for a byte of MOVE.
-pub const COPY: u16 = 0x282E;
+pub const COPY: u16 = 0x2882;
 
 /// Stores a byte of MOVE.
-pub const COPYS: u16 = 0x2832;
+pub const COPYS: u16 = 0x2886;
 
 /// Goes on to the next byte of MOVE.
-pub const COPYN: u16 = 0x2838;
+pub const COPYN: u16 = 0x288C;
 
 /// Ends the copy of MOVE.
-pub const COPYE: u16 = 0x2840;
+pub const COPYE: u16 = 0x2894;
 
 /// The part of MOVE whose target is the registers of the video chip.
-pub const MOVER: u16 = 0x284E;
+pub const MOVER: u16 = 0x28A2;
 
 /// The part of MOVE that tests whether all the registers are there.
-pub const MOVERC: u16 = 0x2856;
+pub const MOVERC: u16 = 0x28AA;
 
 /// The part of MOVE whose source is in GROM.
-pub const MOVES: u16 = 0x2864;
+pub const MOVES: u16 = 0x28B8;
 
 /// Adds the index to that source's address.
-pub const MOVEA: u16 = 0x286C;
+pub const MOVEA: u16 = 0x28C0;
 
 /// Asks for the address behind MOVE.
-pub const MOVEX: u16 = 0x287C;
+pub const MOVEX: u16 = 0x28D0;
 
 /// Keeps that address, and sets the GROM to the source.
-pub const MOVEW: u16 = 0x2880;
+pub const MOVEW: u16 = 0x28D4;
 
 /// Turns to the bytes that follow there.
-pub const MOVEK: u16 = 0x2888;
-
-/// Stops by reason 4.
-pub const LONG: u16 = 0x288E;
+pub const MOVEK: u16 = 0x28DC;
 
 /// Stops by reason 5.
-pub const NOREG: u16 = 0x2896;
+pub const NOREG: u16 = 0x28E2;
 
 /// The instruction ALL.
-pub const GOALL: u16 = 0x289E;
+pub const GOALL: u16 = 0x28EA;
 
 /// Stores a byte of ALL, or ends the step.
-pub const FILL: u16 = 0x28B4;
+pub const FILL: u16 = 0x2900;
 
 /// The instruction BACK.
-pub const GOBACK: u16 = 0x28C0;
+pub const GOBACK: u16 = 0x290C;

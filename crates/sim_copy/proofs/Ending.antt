@@ -1,15 +1,17 @@
--- The beginning and the end of the copy.
-use Rattle.std.proofs.Common.{ℕ, ◌*◌, ◌+◌, ◌<◌, ◌==◌, ◌∙◌, ◌≡◌, ◌≤◌, ap, arith, if◌then◌else◌, refl, subst, sym}
+-- The copy as a whole, and its end.
+use Rattle.std.proofs.Common.{ℕ, ◌*◌, ◌+◌, ◌<◌, ◌==◌, ◌∙◌, ◌≡◌, ◌≤◌, ap, arith, Bool, false, if◌then◌else◌, refl, subst, sym}
 use Rattle.std.proofs.lemmas.Bool.{ne_eqb}
-use Rattle.sim_rows.proofs.Common.{Changed, Changes, Comes, comes, comes_as, comes_on, copied, EndsRow, Exits, fetched_again, From, FromGrom, FromMemory, GSTEP}
-use Rattle.sim_rows.proofs.Common.{idle_again, IsFetched, MachineState, Place, PortsAreIdle, RESUME, SeesFinished, SHOW, space_small, Stands, To, ToMemory}
-use Rattle.sim_rows.proofs.Common.{ToRegisters, View, view, with_pc}
+use Rattle.sim_rows.proofs.Common.{Changed, Changes, Comes, comes, comes_as, comes_on, comes_then, copied, EndsRow, Exit, Exits, From, GromState, idle_again}
+use Rattle.sim_rows.proofs.Common.{idle_grom, idle_told, idle_video, is_end, is_view, IsFetched, MachineState, MOVEB, PortsAreIdle, RESUME, SeesFinished, SHOW}
+use Rattle.sim_rows.proofs.Common.{Stands, To, View, view, with_pc}
 use Rattle.sim_jumps.specs.Jumps.{ResumesRow}
-use Rattle.sim_copy.specs.Copying.{CopiesBytes, Copying, InGrom, InMemory, StandsFrom, StandsTo}
-use Rattle.sim_copy.proofs.Places.{at_end, at_pc, begins_few, begins_there, runs_on}
-use Rattle.sim_copy.specs.Bytes.{AtCopy, CopiesAt, CopiesRest, EndsCopy}
+use Rattle.sim_copy.specs.Copying.{CopiesBytes, Copying}
+use Rattle.sim_copy.proofs.Places.{at_end, at_pc, runs_on}
+use Rattle.sim_copy.proofs.Routines.{fetched_seen}
+use Rattle.sim_copy.proofs.Starting.{Starts, starts}
+use Rattle.sim_copy.specs.Bytes.{AtCopy, charged, CopiesAt, CopiesRest, CopyingAt, EndsCopy, FromCells, OutOfGrom, StartsCopy}
 use Rattle.sim_copy.specs.Pieces as pieces
-use Rattle.sim_rows.specs.native_interp.declared.addresses.TheConstants.{COPYE}
+use Rattle.sim_rows.specs.native_interp.declared.addresses.TheConstants.{COPYE, SETR, SETW}
 
 -- ---- the end
 
@@ -20,13 +22,8 @@ stands_ended {x = x} h none = subst (λ (p : ℕ). Stands x p) (at_end x.cpu.pc 
 abbrev behind : ℕ → ℕ
 behind space = if space == 2 then RESUME else SHOW
 
-near_end : (v : View) (place : Place) (c : Changes) → InMemory c place v → behind v.r.r5 ≡ SHOW
-near_end v place c f =
-    let small : v.r.r5 < 2 = space_small place.space v.r.r5 f.loads_from.space in
-    ap (λ b. if b then RESUME else SHOW) (ne_eqb v.r.r5 2 (λ e. omega arith))
-
-far_end : (v : View) (address : ℕ) (c : Changes) → InGrom c address v → behind v.r.r5 ≡ RESUME
-far_end v address c f = ap behind f.space
+near_end : (space : ℕ) → space < 2 → behind space ≡ SHOW
+near_end space small = ap (λ b. if b then RESUME else SHOW) (ne_eqb space 2 (λ e. omega arith))
 
 module _ {x a : MachineState} {t t1 : ℕ} (h : AtCopy x) (e : Exits x a t t1 (pieces.leave_copy (view x))) where
   abbrev v : View
@@ -40,72 +37,86 @@ module _ {x a : MachineState} {t t1 : ℕ} (h : AtCopy x) (e : Exits x a t t1 (p
 
   module _ (y : MachineState) (t2 : ℕ) where
     pub ends_memory : a.cpu.pc ≡ SHOW → EndsRow a y t1 t2 → EndsCopy x y t t2
-    ends_memory here row c k = by k.from k.copying.stands_from
-      where
-        by : (from : From) → StandsFrom c from v → Comes 35 x y t t2 GSTEP (SeesFinished c)
-        by (FromMemory place) f =
-            let q = k.copying in
-            let changed : Changed c (view a) = subst (λ (u : View). Changed c u) (sym e.shows)
-            (record { cells = q.cells; vdp = q.vdp; registers = q.registers; held = q.held; grom = f.grom; mark = q.mark }) in
-            comes_as 35 (SeesFinished c) (comes_on 3 29 (led SHOW (near_end v place c f)) (row c changed) refl) (omega arith) (λ w q. q)
-        by (FromGrom address) f = absurd (let p = e.stands.pc in let r = far_end v address c f in omega arith)
+    ends_memory here row c (FromCells near k) =
+        let changed : Changed c (view a) = subst (λ (u : View). Changed c u) (sym e.shows) k in
+        comes_as 35 (SeesFinished c) (comes_on 3 29 (led SHOW (near_end v.r.r5 near)) (row c changed) refl) (omega arith) (λ w q. q)
+    ends_memory here row c (OutOfGrom space back next k) = absurd (let p = e.stands.pc in let r = ap behind space in omega arith)
 
     pub ends_grom : (a.cpu.pc ≡ SHOW → ⊥) → ResumesRow a y t1 t2 → EndsCopy x y t t2
-    ends_grom elsewhere row c k = by k.from k.copying.stands_from
-      where
-        by : (from : From) → StandsFrom c from v → Comes 35 x y t t2 GSTEP (SeesFinished c)
-        by (FromMemory place) f = absurd (elsewhere (e.stands.pc ∙ near_end v place c f))
-        by (FromGrom address) f =
-            let q = k.copying in
-            let changed : Changed (with_pc address c) (view a) =
-            subst (λ (u : View). Changed (with_pc address c) u) (sym e.shows)
-            (record { cells = q.cells; vdp = q.vdp; registers = q.registers; held = q.held; grom = f.grom; mark = q.mark }) in
-            let back : (view a).r.r14 ≡ c.state.pc = ap (λ (u : View). u.r.r14) e.shows ∙ f.back in
-            comes_on 3 32 (led RESUME (far_end v address c f)) (row c address changed back) refl
+    ends_grom elsewhere row c (FromCells near k) = absurd (elsewhere (e.stands.pc ∙ near_end v.r.r5 near))
+    ends_grom elsewhere row c (OutOfGrom space back next k) =
+        let changed : Changed (with_pc next c) (view a) = subst (λ (u : View). Changed (with_pc next c) u) (sym e.shows) k in
+        comes_on 3 32 (led RESUME (ap behind space)) (row c next changed (ap (λ (u : View). u.r.r14) e.shows ∙ back)) refl
 
--- ---- the beginning
+-- ---- the beginning, of two pieces
 
-module _ {x a : MachineState} {t t1 : ℕ} (e : Exits x a t t1 (pieces.begin_copy (view x))) where
-  place : CopiesAt a.cpu.pc (view a)
-  place =
-      subst (λ (p : ℕ). CopiesAt p (view a)) (sym e.stands.pc)
-      (subst (λ (u : View). CopiesAt (pieces.begins_at (view x)) u) (sym e.shows) (begins_there (view x)))
+module _ {x y : MachineState} {s t : ℕ} (a : Exits x y s t (pieces.begin_copy (view x))) where
+  abbrev first : Exit
+  first = pieces.begin_copy (view x)
 
-  pub at_copy : PortsAreIdle x.cpu.memory → IsFetched x.cpu.memory.grom → (let r = (view x).r in r.r5 ≡ 0 → r.r2 + r.r12 ≤ 0xC2) →
-      (let r = (view x).r in r.r8 ≡ 0 → r.r7 + r.r12 ≤ 0xC2) →
-      (let r = (view x).r in 1 < r.r8 → r.r7 + r.r12 ≤ 8) → AtCopy a
-  at_copy idle fetched source target registers = record {
-    stands = at_pc a (pieces.begin_copy (view x)).to e.stands;
-    place = place;
-    idle = idle_again x.cpu.memory a.cpu.memory (ap (λ (u : View). u.vdp) e.shows) (ap (λ (u : View). u.grom) e.shows) idle;
-    fetched = fetched_again x.cpu.memory a.cpu.memory (ap (λ (u : View). u.grom) e.shows) fetched;
-    source = subst (λ (u : View). u.r.r5 ≡ 0 → u.r.r2 + u.r.r12 ≤ 0xC2) (sym e.shows) source;
-    target = subst (λ (u : View). u.r.r8 ≡ 0 → u.r.r7 + u.r.r12 ≤ 0xC2) (sym e.shows) target;
-    registers = subst (λ (u : View). 1 < u.r.r8 → u.r.r7 + u.r.r12 ≤ 8) (sym e.shows) registers;
+  abbrev begun_by : Bool → Bool → Exit
+  begun_by reads writes =
+      if reads then pieces.and_then first (pieces.set_source first.left)
+      else if writes then pieces.and_then first (pieces.set_target first.left)
+      else first
+
+  abbrev GoesTo : MachineState → ℕ → Exit → Type 0
+  GoesTo z u e = Comes e.count x z s u e.to (λ v. v ≡ e.left)
+
+  alone : GoesTo y t first
+  alone = comes a (record { within = omega arith; to_is = refl; holds = refl })
+
+  pub starts_alone : (y.cpu.pc ≡ SETR → ⊥) → (y.cpu.pc ≡ SETW → ⊥) → StartsCopy x y s t
+  starts_alone r w =
+      subst (GoesTo y t) (sym (ap (λ b. begun_by b (first.to == SETW)) (ne_eqb first.to SETR (λ e. r (a.stands.pc ∙ e)))
+      ∙ ap (begun_by false) (ne_eqb first.to SETW (λ e. w (a.stands.pc ∙ e))))) alone
+
+  -- a piece behind it
+  both : (p : ℕ) → is_end p ≡ false → first.to ≡ p → (piece : View → Exit) → {z : MachineState} {u : ℕ} → Exits y z t u (piece (view y)) →
+      GoesTo z u (pieces.and_then first (piece first.left))
+  both p runs is piece {z = z} {u = u} b =
+      let next : Exits y z t u (piece first.left) = subst (λ (v : View). Exits y z t u (piece v)) a.shows b in
+      comes_then first.count (piece first.left).count alone next (record { within = omega arith; to_is = refl; holds = refl }) (ap is_end is ∙ runs)
+
+  pub starts_source : y.cpu.pc ≡ SETR → {z : MachineState} {u : ℕ} → Exits y z t u (pieces.set_source (view y)) → StartsCopy x z s u
+  starts_source here {z = z} {u = u} b =
+      let to : first.to ≡ SETR = sym a.stands.pc ∙ here in
+      subst (GoesTo z u) (sym (ap (λ p. begun_by (p == SETR) (p == SETW)) to)) (both SETR refl to pieces.set_source b)
+
+  pub starts_target : y.cpu.pc ≡ SETW → {z : MachineState} {u : ℕ} → Exits y z t u (pieces.set_target (view y)) → StartsCopy x z s u
+  starts_target here {z = z} {u = u} b =
+      let to : first.to ≡ SETW = sym a.stands.pc ∙ here in
+      subst (GoesTo z u) (sym (ap (λ p. begun_by (p == SETR) (p == SETW)) to)) (both SETW refl to pieces.set_target b)
+
+-- ---- the whole
+
+module _ {x a : MachineState} {t t1 : ℕ} (e : StartsCopy x a t t1) (stands : Stands x MOVEB) (idle : PortsAreIdle x.cpu.memory)
+    (fetched : IsFetched x.cpu.memory.grom) (source : let r = (view x).r in r.r5 ≡ 0 → r.r2 + r.r12 ≤ 0xC2)
+    (target : let r = (view x).r in r.r8 ≡ 0 → r.r7 + r.r12 ≤ 0xC2) (registers : let r = (view x).r in 1 < r.r8 → r.r7 + r.r12 ≤ 8) where
+  begun : Starts (view x) (pieces.start_copy (view x))
+  begun = starts (view x) (is_view x stands.machine) (idle_video x.cpu.memory idle) (fetched_seen x.cpu.memory fetched) source target registers
+
+  pub at_copy : AtCopy a
+  at_copy = record {
+    stands = at_pc a (pieces.start_copy (view x)).to e.stands;
+    place = subst (λ (p : ℕ). CopiesAt p (view a)) (sym e.stands.pc) (subst (λ (u : View). CopiesAt (pieces.start_copy (view x)).to u) (sym e.holds) begun.place);
+    idle = idle_told a.cpu.memory (ap (λ (u : View). u.vdp.held) e.holds ∙ begun.held)
+        (ap (λ (u : View). u.grom.half_written) e.holds ∙ ap (λ (g : GromState). g.half_written) begun.grom ∙ idle_grom x.cpu.memory idle);
   }
 
-  from_again : (c : Changes) (from : From) → StandsFrom c from (view x) → StandsFrom c from (pieces.begin_copy (view x)).left
-  from_again c (FromMemory place) f = record { loads_from = record { address = f.loads_from.address; space = f.loads_from.space }; grom = f.grom }
-  from_again c (FromGrom address) f = record { space = f.space; grom = f.grom; back = f.back }
-
-  to_again : (to : To) → StandsTo to (view x) → StandsTo to (pieces.begin_copy (view x)).left
-  to_again (ToMemory place) f = record { address = f.address; space = f.space }
-  to_again (ToRegisters number) f = record { number_is = f.number_is; space = f.space }
+  copying : (c : Changes) (from : From) (to : To) (bytes : ℕ) → Copying c from to bytes (view x) → CopyingAt a.cpu.pc c from to bytes (view a)
+  copying c from to bytes k =
+      subst (λ (p : ℕ). CopyingAt p c from to bytes (view a)) (sym e.stands.pc)
+      (subst (λ (u : View). CopyingAt (pieces.start_copy (view x)).to c from to bytes u) (sym e.holds) (begun.copying c from to bytes k))
 
   pub copies_bytes : (b y : MachineState) (t2 t3 : ℕ) → CopiesRest a b t1 t2 → EndsCopy b y t2 t3 → CopiesBytes x y t t3
   copies_bytes b y t2 t3 rest end c from to bytes k =
-      let begun : Copying c from to bytes (view a) = subst (λ (u : View). Copying c from to bytes u) (sym e.shows) (record {
-        cells = k.cells;
-        vdp = k.vdp;
-        registers = k.registers;
-        held = k.held;
-        mark = k.mark;
-        stands_from = from_again c from k.stands_from;
-        stands_to = to_again to k.stands_to;
-        left = k.left;
-      }) in
       let whole : Changes = copied bytes from to c in
-      let c1 : Comes 7 x a t t1 a.cpu.pc (λ u. u ≡ (pieces.begin_copy (view x)).left) =
-      comes e (record { within = begins_few (view x); to_is = sym e.stands.pc; holds = refl }) in
-      let c2 = comes_on 7 (40 * bytes) c1 (rest c from to bytes begun) (runs_on a.cpu.pc (view a) place) in
-      comes_as (40 * bytes + 42) (SeesFinished whole) (comes_on (7 + 40 * bytes) 35 c2 (end whole c2.holds) refl) (omega arith) (λ w q. q)
+      let left : (view a).r.r12 ≡ bytes = ap (λ (u : View). u.r.r12) e.holds ∙ begun.left ∙ k.left in
+      let count : ℕ = (pieces.start_copy (view x)).count in
+      let runs : is_end (pieces.start_copy (view x)).to ≡ false = ap is_end (sym e.stands.pc) ∙ runs_on a.cpu.pc (view a) at_copy.place in
+      let c2 = comes_on count rest.most e rest.comes runs in
+      let few : count ≤ 7 + charged a.cpu.pc = subst (λ (p : ℕ). count ≤ 7 + charged p) (sym e.stands.pc) begun.few in
+      let within : rest.most + charged a.cpu.pc ≤ 40 * bytes = subst (λ (n : ℕ). rest.most + charged a.cpu.pc ≤ 40 * n) left rest.within in
+      comes_as (40 * bytes + 42) (SeesFinished whole)
+      (comes_on (count + rest.most) 35 c2 (end whole (rest.copies c from to bytes (copying c from to bytes k) left)) refl) (omega arith) (λ w q. q)

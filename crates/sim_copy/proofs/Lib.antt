@@ -1,6 +1,9 @@
 pub mod Paths
 pub mod Places
-pub mod Carrying
+pub mod Ways
+pub mod Routines
 pub mod Counting
-pub mod Straight
+pub mod Turns
+pub mod Marks
+pub mod Starting
 pub mod Ending

@@ -1,115 +1,145 @@
 -- The runs of the pieces on the view.
-use Rattle.std.proofs.Common.{[], ℕ, ◌<◌, ◌==◌, ◌∷◌, ◌≡◌, arith, false, List, nat_lt, refl, slice_index, slice_set, subst, sym, true}
+use Rattle.std.proofs.Common.{[], ℕ, ◌+◌, ◌-◌, ◌<◌, ◌==◌, ◌∷◌, ◌≡◌, arith, Bool, false, if◌then◌else◌, List, nat_lt, refl, subst, sym, true}
 pub use Rattle.sim_rows.proofs.Common.{piece}
-use Rattle.sim_rows.proofs.Common.{COPY, COPYN, COPYS, difference_of, Exit, exit, Leads, leads, LOAD, MOVEB, Part, part_then, past, pick, plus, Rest, RESUME}
-use Rattle.sim_rows.proofs.Common.{SHOW, spot_cell, STORE, sum_of, View, Word}
-use Rattle.sim_rows.specs.sim_operands.Pieces.{marked}
-use Rattle.sim_rows.specs.native_interp.declared.addresses.TheConstants.{COPYC, COPYCN, COPYE, COPYG, COPYGN}
+use Rattle.sim_rows.proofs.Common.{CHARACTER, COPY, COPYN, COPYS, difference_of, Exit, exit, Leads, leads, LOAD, MOVEB, not_limit, Part, part_then, pick, Rest}
+use Rattle.sim_rows.proofs.Common.{RESUME, set_video_to, SHOW, spot_cell, STORE, sum_of, View, Word}
+use Rattle.sim_rows.specs.native_interp.declared.addresses.TheConstants.{COPYCC, COPYCV, COPYE, COPYGC, COPYGV, COPYVC, MOVEP, SETR, SETW, SETWA}
+use Rattle.sim_copy.specs.Bytes.{MayGo, Points}
+use Rattle.sim_copy.specs.Pieces.{CellsToCells, CellsToVideo, first_cell, GromToCells, GromToVideo, VideoToCells}
 use Rattle.sim_copy.specs.Pieces as pieces
-
-abbrev begin_ends : List ℕ
-begin_ends = COPY ∷ COPYC ∷ COPYG ∷ COPYE ∷ []
-
-pub begin_copy : (v : View) → Leads begin_ends v MOVEB (pieces.begin_copy v)
-begin_copy v = record {
-  by = λ f q.
-      pick (v.r.r12 == 0)
-      (λ c. rw c refl)
-      (λ c. pick (v.r.r8 == 0)
-      (λ d. pick (v.r.r5 == 1)
-      (λ e. rw (c, d, e) refl)
-      (λ e. pick (nat_lt 1 v.r.r5)
-      (λ g. rw (c, d, e, g) refl)
-      (λ g. rw (c, d, e, g) refl)))
-      (λ d. rw (c, d) refl));
-}
-
--- a byte for the cells, and what follows
-abbrev cell_ends : List ℕ
-cell_ends = COPYC ∷ COPYE ∷ []
-
-abbrev grom_ends : List ℕ
-grom_ends = COPYG ∷ COPYE ∷ []
-
-abbrev with_cell : View → ℕ → View
-with_cell v byte = record v { r = record v.r { r13 = marked 0x7D v.r.r7 v.r.r13 }; cells = slice_set v.cells v.r.r7 byte }
-
-abbrev counted_on : ℕ → ℕ → View → Exit
-counted_on count to v =
-    exit count to
-    (record v { r = record v.r { r2 = sum_of Word v.r.r2 1; r7 = sum_of Word v.r.r7 1; r12 = difference_of Word v.r.r12 1 } })
-
-cell_plain : (v : View) → v.r.r2 < 194 → v.r.r7 < 194 → (v.r.r7 == 0x7D) ≡ false →
-    Part cell_ends 3 v COPYC (with_cell v (slice_index v.cells v.r.r2)) COPYCN
-cell_plain v s t c = record {
-  by = λ f. rw (spot_cell (plus 0x8300 v.r.r2) v.r.r2 (omega arith) s, spot_cell (plus 0x8300 v.r.r7) v.r.r7 (omega arith) t, c) refl;
-}
-
-cell_marked : (v : View) → v.r.r2 < 194 → v.r.r7 < 194 → (v.r.r7 == 0x7D) ≡ true →
-    Part cell_ends 4 v COPYC (with_cell v (slice_index v.cells v.r.r2)) COPYCN
-cell_marked v s t c = record {
-  by = λ f. rw (spot_cell (plus 0x8300 v.r.r2) v.r.r2 (omega arith) s, spot_cell (plus 0x8300 v.r.r7) v.r.r7 (omega arith) t, c) refl;
-}
-
-cell_more : (v : View) → (difference_of Word v.r.r12 1 == 0) ≡ false → Rest cell_ends 3 13 v COPYCN (counted_on 7 COPYC v)
-cell_more v c = record { by = λ f. rw c refl }
-
-cell_last : (v : View) → (difference_of Word v.r.r12 1 == 0) ≡ true → Rest cell_ends 3 13 v COPYCN (counted_on 8 COPYE v)
-cell_last v c = record { by = λ f. rw c refl }
-
-cell_more_marked : (v : View) → (difference_of Word v.r.r12 1 == 0) ≡ false → Rest cell_ends 4 12 v COPYCN (counted_on 8 COPYC v)
-cell_more_marked v c = record { by = λ f. rw c refl }
-
-cell_last_marked : (v : View) → (difference_of Word v.r.r12 1 == 0) ≡ true → Rest cell_ends 4 12 v COPYCN (counted_on 9 COPYE v)
-cell_last_marked v c = record { by = λ f. rw c refl }
 
 -- an exit by its cases
 rest_is : {ends : List ℕ} {made most : ℕ} {v : View} {p : ℕ} {e d : Exit} → d ≡ e → Rest ends made most v p e → Rest ends made most v p d
 rest_is {ends = ends} {made = made} {most = most} {v = v} {p = p} is rest = subst (λ (e : Exit). Rest ends made most v p e) (sym is) rest
 
-pub copy_cell : (v : View) → v.r.r2 < 194 → v.r.r7 < 194 → Leads cell_ends v COPYC (pieces.copy_cell v)
-copy_cell v s t =
-    let w : View = with_cell v (slice_index v.cells v.r.r2) in
-    leads cell_ends
-    (pick (v.r.r7 == 0x7D)
-    (λ c. pick (difference_of Word v.r.r12 1 == 0)
-    (λ d. rest_is (rw (c, d, pieces.copy_cell) refl) (part_then cell_ends 4 0 12 (cell_marked v s t c) (cell_last_marked w d)))
-    (λ d. rest_is (rw (c, d, pieces.copy_cell) refl) (part_then cell_ends 4 0 12 (cell_marked v s t c) (cell_more_marked w d))))
-    (λ c. pick (difference_of Word v.r.r12 1 == 0)
-    (λ d. rest_is (rw (c, d, pieces.copy_cell) refl) (part_then cell_ends 3 0 13 (cell_plain v s t c) (cell_last w d)))
-    (λ d. rest_is (rw (c, d, pieces.copy_cell) refl) (part_then cell_ends 3 0 13 (cell_plain v s t c) (cell_more w d)))))
+abbrev begin_ends : List ℕ
+begin_ends = COPYE ∷ COPY ∷ SETR ∷ SETW ∷ COPYCC ∷ COPYGC ∷ []
 
-abbrev with_next : View → View
-with_next v = with_cell (record v { grom = past v.grom }) v.grom.fetched
+-- MOVEB, up to MOVEP: a target in the cells, and whether there is a mark
+record InCells (v : View) : Type 0 where
+  some : (v.r.r12 == 0) ≡ false
+  no_video : (v.r.r8 == 1) ≡ false
+  no_registers : nat_lt 1 v.r.r8 ≡ false
 
-grom_plain : (v : View) → v.r.r7 < 194 → (v.r.r7 == 0x7D) ≡ false → Part grom_ends 3 v COPYG (with_next v) COPYGN
-grom_plain v t c = record { by = λ f. rw (spot_cell (plus 0x8300 v.r.r7) v.r.r7 (omega arith) t, c) refl }
+abbrev until : View → ℕ
+until v = difference_of Word CHARACTER v.r.r7
 
-grom_marked : (v : View) → v.r.r7 < 194 → (v.r.r7 == 0x7D) ≡ true → Part grom_ends 4 v COPYG (with_next v) COPYGN
-grom_marked v t c = record { by = λ f. rw (spot_cell (plus 0x8300 v.r.r7) v.r.r7 (omega arith) t, c) refl }
+abbrev marked : View → View
+marked v = record v { r = record v.r { r4 = until v; r13 = if pieces.is_marked v then 0xFFFF else v.r.r13 } }
 
-grom_more : (v : View) → (difference_of Word v.r.r12 1 == 0) ≡ false → Rest grom_ends 3 13 v COPYGN (counted_on 7 COPYG v)
-grom_more v c = record { by = λ f. rw c refl }
+unmarked_part : (v : View) → InCells v → pieces.is_marked v ≡ false → Part begin_ends 9 v MOVEB (marked v) MOVEP
+unmarked_part v i c = record { by = λ f. rw (i.some, i.no_video, i.no_registers, c) refl }
 
-grom_last : (v : View) → (difference_of Word v.r.r12 1 == 0) ≡ true → Rest grom_ends 3 13 v COPYGN (counted_on 8 COPYE v)
-grom_last v c = record { by = λ f. rw c refl }
+marked_part : (v : View) → InCells v → pieces.is_marked v ≡ true → Part begin_ends 10 v MOVEB (marked v) MOVEP
+marked_part v i c = record { by = λ f. rw (i.some, i.no_video, i.no_registers, c, not_limit (until v) v.r.r12 c) refl }
 
-grom_more_marked : (v : View) → (difference_of Word v.r.r12 1 == 0) ≡ false → Rest grom_ends 4 12 v COPYGN (counted_on 8 COPYG v)
-grom_more_marked v c = record { by = λ f. rw c refl }
+-- from MOVEP on, by the space of the source
+abbrev behind_mark : ℕ → View → Exit
+behind_mark count v =
+    let w : View = record v { r = record v.r { r7 = sum_of Word v.r.r7 first_cell } } in
+    if v.r.r5 == 1 then exit (count + 3) SETR w
+    else if nat_lt 1 v.r.r5 then exit (count + 4) COPYGC w
+    else exit (count + 5) COPYCC (pieces.from_cells w)
 
-grom_last_marked : (v : View) → (difference_of Word v.r.r12 1 == 0) ≡ true → Rest grom_ends 4 12 v COPYGN (counted_on 9 COPYE v)
-grom_last_marked v c = record { by = λ f. rw c refl }
+unmarked_rest : (v : View) → Rest begin_ends 9 7 v MOVEP (behind_mark 9 v)
+unmarked_rest v = record {
+  by = λ f.
+      pick (v.r.r5 == 1)
+      (λ c. rw c refl)
+      (λ c. pick (nat_lt 1 v.r.r5)
+      (λ d. rw (c, d) refl)
+      (λ d. rw (c, d) refl));
+}
 
-pub copy_grom : (v : View) → v.r.r7 < 194 → Leads grom_ends v COPYG (pieces.copy_grom v)
-copy_grom v t =
-    leads grom_ends
-    (pick (v.r.r7 == 0x7D)
-    (λ c. pick (difference_of Word v.r.r12 1 == 0)
-    (λ d. rest_is (rw (c, d, pieces.copy_grom) refl) (part_then grom_ends 4 0 12 (grom_marked v t c) (grom_last_marked (with_next v) d)))
-    (λ d. rest_is (rw (c, d, pieces.copy_grom) refl) (part_then grom_ends 4 0 12 (grom_marked v t c) (grom_more_marked (with_next v) d))))
-    (λ c. pick (difference_of Word v.r.r12 1 == 0)
-    (λ d. rest_is (rw (c, d, pieces.copy_grom) refl) (part_then grom_ends 3 0 13 (grom_plain v t c) (grom_last (with_next v) d)))
-    (λ d. rest_is (rw (c, d, pieces.copy_grom) refl) (part_then grom_ends 3 0 13 (grom_plain v t c) (grom_more (with_next v) d)))))
+marked_rest : (v : View) → Rest begin_ends 10 6 v MOVEP (behind_mark 10 v)
+marked_rest v = record {
+  by = λ f.
+      pick (v.r.r5 == 1)
+      (λ c. rw c refl)
+      (λ c. pick (nat_lt 1 v.r.r5)
+      (λ d. rw (c, d) refl)
+      (λ d. rw (c, d) refl));
+}
+
+-- the exit of a begin in the cells, by the mark
+begins_in_cells : (v : View) (marks : Bool) → InCells v → pieces.is_marked v ≡ marks →
+    pieces.begin_copy v ≡ behind_mark (if marks then 10 else 9) (marked v)
+begins_in_cells v true i c = rw (i.some, i.no_video, i.no_registers, c, pieces.begin_copy) refl
+begins_in_cells v false i c = rw (i.some, i.no_video, i.no_registers, c, pieces.begin_copy) refl
+
+pub begin_copy : (v : View) → Leads begin_ends v MOVEB (pieces.begin_copy v)
+begin_copy v =
+    pick (v.r.r12 == 0)
+    (λ c. record { by = λ f q. rw c refl })
+    (λ c. pick (v.r.r8 == 1)
+    (λ d. record { by = λ f q. rw (c, d) refl })
+    (λ d. pick (nat_lt 1 v.r.r8)
+    (λ e. record { by = λ f q. rw (c, d, e) refl })
+    (λ e. let i : InCells v = record { some = c; no_video = d; no_registers = e } in
+    leads begin_ends
+    (pick (pieces.is_marked v)
+    (λ m. rest_is (begins_in_cells v true i m) (part_then begin_ends 10 0 6 (marked_part v i m) (marked_rest (marked v))))
+    (λ m. rest_is (begins_in_cells v false i m) (part_then begin_ends 9 0 7 (unmarked_part v i m) (unmarked_rest (marked v))))))))
+
+pub set_source : (v : View) → Leads (COPYVC ∷ []) v SETR (pieces.set_source v)
+set_source v = record { by = λ f q. refl }
+
+abbrev target_ends : List ℕ
+target_ends = COPY ∷ COPYCV ∷ COPYGV ∷ []
+
+abbrev for_writing : View → View
+for_writing v = record v { r = record v.r { r4 = sum_of Word (pieces.video_at v.r.r7) 0x4000 } }
+
+target_told : (v : View) → (v.r.r5 == 1) ≡ false → Part target_ends 6 v SETW (for_writing v) SETWA
+target_told v c = record { by = λ f. rw c refl }
+
+target_cells : (v : View) → (v.r.r5 == 0) ≡ true → Rest target_ends 6 10 v SETWA (exit 11 COPYCV (pieces.from_cells (record v { vdp = set_video_to v.r.r4 v.vdp })))
+target_cells v c = record { by = λ f. rw c refl }
+
+target_grom : (v : View) → (v.r.r5 == 0) ≡ false → Rest target_ends 6 10 v SETWA (exit 10 COPYGV (record v { vdp = set_video_to v.r.r4 v.vdp }))
+target_grom v c = record { by = λ f. rw c refl }
+
+pub set_target : (v : View) → Leads target_ends v SETW (pieces.set_target v)
+set_target v =
+    pick (v.r.r5 == 1)
+    (λ c. record { by = λ f q. rw c refl })
+    (λ c. leads target_ends (pick (v.r.r5 == 0)
+    (λ d. rest_is (rw (c, d, pieces.set_target) refl) (part_then target_ends 6 0 10 (target_told v c) (target_cells (for_writing v) d)))
+    (λ d. rest_is (rw (c, d, pieces.set_target) refl) (part_then target_ends 6 0 10 (target_told v c) (target_grom (for_writing v) d)))))
+
+-- ---- a byte on its way
+
+cell_at : (pointer bytes : ℕ) → Points pointer bytes → (pointer ≡ 0x8300 + (pointer - 0x8300)) × (pointer - 0x8300 < 194)
+cell_at pointer bytes p =
+    let from = p.from in
+    let within = p.within in
+    let some = p.some in
+    (omega arith, omega arith)
+
+abbrev is_last : View → Bool
+is_last v = difference_of Word v.r.r12 1 == 0
+
+pub copy_cell : (v : View) → MayGo CellsToCells v → Leads (COPYCC ∷ COPYE ∷ []) v COPYCC (pieces.copy_on CellsToCells v)
+copy_cell v m = record {
+  by = λ f q.
+      let s = let h = cell_at v.r.r2 v.r.r12 m.0 in spot_cell v.r.r2 (v.r.r2 - 0x8300) h.0 h.1 in
+      let t = let h = cell_at v.r.r7 v.r.r12 m.1 in spot_cell v.r.r7 (v.r.r7 - 0x8300) h.0 h.1 in
+      pick (is_last v) (λ c. rw (s, t, c) refl) (λ c. rw (s, t, c) refl);
+}
+
+pub copy_video : (v : View) → MayGo VideoToCells v → Leads (COPYVC ∷ COPYE ∷ []) v COPYVC (pieces.copy_on VideoToCells v)
+copy_video v m = record { by = λ f q. let t = let h = cell_at v.r.r7 v.r.r12 m in spot_cell v.r.r7 (v.r.r7 - 0x8300) h.0 h.1 in pick (is_last v) (λ c. rw (t, c) refl) (λ c. rw (t, c) refl) }
+
+pub copy_grom : (v : View) → MayGo GromToCells v → Leads (COPYGC ∷ COPYE ∷ []) v COPYGC (pieces.copy_on GromToCells v)
+copy_grom v m = record { by = λ f q. let t = let h = cell_at v.r.r7 v.r.r12 m in spot_cell v.r.r7 (v.r.r7 - 0x8300) h.0 h.1 in pick (is_last v) (λ c. rw (t, c) refl) (λ c. rw (t, c) refl) }
+
+pub copy_cell_to_video : (v : View) → MayGo CellsToVideo v → Leads (COPYCV ∷ COPYE ∷ []) v COPYCV (pieces.copy_on CellsToVideo v)
+copy_cell_to_video v m = record { by = λ f q. let s = let h = cell_at v.r.r2 v.r.r12 m in spot_cell v.r.r2 (v.r.r2 - 0x8300) h.0 h.1 in pick (is_last v) (λ c. rw (s, c) refl) (λ c. rw (s, c) refl) }
+
+pub copy_grom_to_video : (v : View) → Leads (COPYGV ∷ COPYE ∷ []) v COPYGV (pieces.copy_on GromToVideo v)
+copy_grom_to_video v = record { by = λ f q. pick (is_last v) (λ c. rw c refl) (λ c. rw c refl) }
+
+-- ---- a byte by the routines, and the end
 
 pub next_byte : (v : View) → Leads (LOAD ∷ []) v COPY (pieces.next_byte v)
 next_byte v = record { by = λ f q. refl }
@@ -118,7 +148,7 @@ pub store_byte : (v : View) → Leads (STORE ∷ []) v COPYS (pieces.store_byte 
 store_byte v = record { by = λ f q. refl }
 
 pub count_byte : (v : View) → Leads (COPY ∷ COPYE ∷ []) v COPYN (pieces.count_byte v)
-count_byte v = record { by = λ f q. pick (difference_of Word v.r.r12 1 == 0) (λ c. rw c refl) (λ c. rw c refl) }
+count_byte v = record { by = λ f q. pick (is_last v) (λ c. rw c refl) (λ c. rw c refl) }
 
 pub leave_copy : (v : View) → Leads (SHOW ∷ RESUME ∷ []) v COPYE (pieces.leave_copy v)
 leave_copy v = record { by = λ f q. pick (v.r.r5 == 2) (λ c. rw c refl) (λ c. rw c refl) }

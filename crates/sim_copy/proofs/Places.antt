@@ -1,71 +1,108 @@
 -- Where a byte is copied.
-use Rattle.std.proofs.Common.{ℕ, ◌<◌, ◌==◌, ◌≡◌, ◌≤◌, ap, arith, Bool, false, nat_lt, refl, true}
-use Rattle.std.proofs.lemmas.Bool.{eqb-false, eqb-true, ltb-true}
-use Rattle.std.proofs.Math.Nat.{pos_of_ne-zero}
-use Rattle.sim_rows.proofs.Common.{COPY, is_end, MachineState, no_other, pick, Stands, View}
-use Rattle.sim_copy.specs.Bytes.{AtByte, AtCell, AtEnd, AtGrom, ByParts, CopiesAt, ToCells}
+use Rattle.std.proofs.Common.{ℕ, ◌<◌, ◌==◌, ◌∙◌, ◌≡◌, ◌≤◌, ap, arith, Bool, false, if◌then◌else◌, None, Option, refl, Some, subst, sym, true}
+use Rattle.sim_rows.proofs.Common.{Changes, COPY, From, is_end, MachineState, Stands, To, View}
+use Rattle.sim_copy.specs.Copying.{Copying}
+use Rattle.sim_copy.specs.Bytes.{AllCopied, AtByte, AtEnd, AtHead, ByRoutines, charged, Copied, CopiesAt, CopyingAt, MayGo, OnItsWay, OnWay, Points, Routinely}
 use Rattle.sim_rows.specs.sim_operands.Pieces.{one_if}
-use Rattle.sim_copy.specs.Pieces as pieces
-use Rattle.sim_rows.specs.native_interp.declared.addresses.TheConstants.{COPYC, COPYE, COPYG}
+use Rattle.sim_copy.specs.Pieces.{CellsToCells, CellsToVideo, GromToCells, GromToVideo, head_of, VideoToCells, Way}
+use Rattle.sim_rows.specs.native_interp.declared.addresses.TheConstants.{COPYCC, COPYCV, COPYE, COPYGC, COPYGV, COPYVC}
 
-pub at_cells : (p : ℕ) (v : View) → CopiesAt p v → p ≡ COPYC → (v.r.r5 ≡ 0) × ToCells v
-at_cells p v (AtByte e k) f = absurd (omega arith)
-at_cells p v (AtCell e s k) f = (s, k)
-at_cells p v (AtGrom e s k) f = absurd (omega arith)
-at_cells p v (AtEnd e z) f = absurd (omega arith)
+-- ---- the way of a place
 
-pub at_grom : (p : ℕ) (v : View) → CopiesAt p v → p ≡ COPYG → (1 < v.r.r5) × ToCells v
-at_grom p v (AtByte e k) f = absurd (omega arith)
-at_grom p v (AtCell e s k) f = absurd (omega arith)
-at_grom p v (AtGrom e s k) f = (s, k)
-at_grom p v (AtEnd e z) f = absurd (omega arith)
+abbrev way_at : ℕ → Option Way
+way_at place =
+    if place == COPYCC then Some CellsToCells
+    else if place == COPYVC then Some VideoToCells
+    else if place == COPYGC then Some GromToCells
+    else if place == COPYCV then Some CellsToVideo
+    else if place == COPYGV then Some GromToVideo
+    else None
 
-pub at_byte : (p : ℕ) (v : View) → CopiesAt p v → 0 < v.r.r12 → (p ≡ COPYC → ⊥) → (p ≡ COPYG → ⊥) → (p ≡ COPY) × ByParts v
-at_byte p v (AtByte e k) some f g = (e, k)
-at_byte p v (AtCell e s k) some f g = absurd (f e)
-at_byte p v (AtGrom e s k) some f g = absurd (g e)
-at_byte p v (AtEnd e z) some f g = absurd (omega arith)
+pub each : (P : Way → Type 0) → P CellsToCells → P VideoToCells → P GromToCells → P CellsToVideo → P GromToVideo → (way : Way) → P way
+each P a b c d e CellsToCells = a
+each P a b c d e VideoToCells = b
+each P a b c d e GromToCells = c
+each P a b c d e CellsToVideo = d
+each P a b c d e GromToVideo = e
+
+way_at_head : (way : Way) → way_at (head_of way) ≡ Some way
+way_at_head = each (λ way. way_at (head_of way) ≡ Some way) refl refl refl refl refl
+
+some_is : (a b : Way) → Some a ≡ Some b → a ≡ b
+some_is a b e = cc
+
+none_is : (a : Way) → Some a ≡ None → ⊥
+none_is a e = cc
+
+one_way : (p : ℕ) (a b : Way) → p ≡ head_of a → p ≡ head_of b → a ≡ b
+one_way p a b e f = some_is a b (sym (way_at_head a) ∙ ap way_at (sym e ∙ f) ∙ way_at_head b)
+
+no_way : (p : ℕ) (way : Way) → way_at p ≡ None → p ≡ head_of way → ⊥
+no_way p way n e = none_is way (sym (way_at_head way) ∙ ap way_at (sym e) ∙ n)
+
+module _ {p : ℕ} {v : View} where
+  pub may_go : CopiesAt p v → (way : Way) → p ≡ head_of way → MayGo way v
+  may_go (AtByte e k) way f = absurd (no_way p way (ap way_at e) f)
+  may_go (AtHead a e k) way f = subst (λ (w : Way). MayGo w v) (one_way p a way e f) k
+  may_go (AtEnd e z) way f = absurd (no_way p way (ap way_at e) f)
+
+  pub on_way : {c : Changes} {from : From} {to : To} {bytes : ℕ} → CopyingAt p c from to bytes v → (way : Way) → p ≡ head_of way → OnWay way c from to bytes v
+  on_way (Routinely e k) way f = absurd (no_way p way (ap way_at e) f)
+  on_way {c = c} {from = from} {to = to} {bytes = bytes} (OnItsWay a e k) way f =
+      subst (λ (w : Way). OnWay w c from to bytes v) (one_way p a way e f) k
+  on_way (AllCopied e z k) way f = absurd (no_way p way (ap way_at e) f)
+
+  pub routinely : {c : Changes} {from : From} {to : To} {bytes : ℕ} → CopyingAt p c from to bytes v → p ≡ COPY → Copying c from to bytes v
+  routinely (Routinely e k) f = k
+  routinely (OnItsWay a e k) f = absurd (no_way p a (ap way_at f) e)
+  routinely (AllCopied e z k) f = absurd (omega arith)
+
+  pub all_copied : {c : Changes} {from : From} {to : To} {bytes : ℕ} → CopyingAt p c from to bytes v → p ≡ COPYE → (bytes ≡ 0) × Copied c v
+  all_copied (Routinely e k) f = absurd (omega arith)
+  all_copied (OnItsWay a e k) f = absurd (no_way p a (ap way_at f) e)
+  all_copied (AllCopied e z k) f = (z, k)
+
+-- ---- how many bytes are left
+
+pub some_left : (way : Way) (v : View) → MayGo way v → 0 < v.r.r12
+some_left way v =
+    each (λ way. MayGo way v → 0 < v.r.r12) (λ k. k.0.some) (λ (k : Points v.r.r7 v.r.r12). k.some) (λ (k : Points v.r.r7 v.r.r12). k.some)
+    (λ (k : Points v.r.r2 v.r.r12). k.some) (λ k. k) way
+
+-- a byte is left, and it does not go on a way
+pub at_byte : (p : ℕ) (v : View) → CopiesAt p v → 0 < v.r.r12 → ((way : Way) → p ≡ head_of way → ⊥) → (p ≡ COPY) × ByRoutines v
+at_byte p v (AtByte e k) some f = (e, k)
+at_byte p v (AtHead way e k) some f = absurd (f way e)
+at_byte p v (AtEnd e z) some f = absurd (omega arith)
 
 -- none is left at COPYE alone
 pub at_end : (p : ℕ) (v : View) → CopiesAt p v → v.r.r12 ≡ 0 → p ≡ COPYE
 at_end p v (AtByte e k) z = absurd (let s = k.some in omega arith)
-at_end p v (AtCell e q k) z = absurd (let s = k.some in omega arith)
-at_end p v (AtGrom e q k) z = absurd (let s = k.some in omega arith)
+at_end p v (AtHead way e k) z = absurd (let s = some_left way v k in omega arith)
 at_end p v (AtEnd e n) z = e
+
+head_runs : (way : Way) → is_end (head_of way) ≡ false
+head_runs = each (λ way. is_end (head_of way) ≡ false) refl refl refl refl refl
 
 pub runs_on : (p : ℕ) (v : View) → CopiesAt p v → is_end p ≡ false
 runs_on p v (AtByte e k) = ap is_end e
-runs_on p v (AtCell e s k) = ap is_end e
-runs_on p v (AtGrom e s k) = ap is_end e
+runs_on p v (AtHead way e k) = ap is_end e ∙ head_runs way
 runs_on p v (AtEnd e z) = ap is_end e
 
 -- a machine where it is
 pub at_pc : (x : MachineState) (p : ℕ) → Stands x p → Stands x x.cpu.pc
 at_pc x p h = record { pc = refl; wp = h.wp; words = h.words; machine = h.machine }
 
--- where MOVEB leads
-pub begins_there : (v : View) → CopiesAt (pieces.begins_at v) (pieces.begin_copy v).left
-begins_there v =
-    pick (v.r.r12 == 0)
-    (λ c. rw (c, pieces.begins_at) (AtEnd refl (eqb-true v.r.r12 0 c)))
-    (λ c. let some : 0 < v.r.r12 = pos_of_ne-zero (eqb-false v.r.r12 0 c) in
-    pick (v.r.r8 == 0)
-    (λ d. let target : v.r.r8 ≡ 0 = eqb-true v.r.r8 0 d in
-    pick (v.r.r5 == 1)
-    (λ e. rw (c, d, e, pieces.begins_at) (AtByte refl (record { bytes_are = refl; some = some })))
-    (λ e. pick (nat_lt 1 v.r.r5)
-    (λ g. rw (c, d, e, g, pieces.begins_at) (AtGrom refl (ltb-true 1 v.r.r5 g) (record { target = target; some = some })))
-    (λ g. rw (c, d, e, g, pieces.begins_at) (AtCell refl (no_other v.r.r5 e g) (record { target = target; some = some })))))
-    (λ d. rw (c, d, pieces.begins_at) (AtByte refl (record { bytes_are = refl; some = some }))))
-
-pub begins_few : (v : View) → pieces.instructions_to_begin v ≤ 7
-begins_few v =
-    pick (v.r.r12 == 0)
-    (λ c. rw (c, pieces.instructions_to_begin) (omega arith))
-    (λ c. pick (v.r.r8 == 0)
-    (λ d. rw (c, d, pieces.instructions_to_begin) (omega arith))
-    (λ d. rw (c, d, pieces.instructions_to_begin) (omega arith)))
+-- ---- how many instructions
 
 pub one_at_most : (b : Bool) → one_if b ≤ 1
 one_at_most true = omega arith
 one_at_most false = omega arith
+
+pub few_charged : (p : ℕ) → charged p ≤ 11
+few_charged p = by (p == COPY) (p == COPYE)
+  where
+    by : (a b : Bool) → (if a then 0 else if b then 0 else 11) ≤ 11
+    by true b = omega arith
+    by false true = omega arith
+    by false false = omega arith

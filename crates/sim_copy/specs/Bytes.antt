@@ -1,97 +1,149 @@
--- One byte of the copy of MOVE, the bytes that are left, and the end.
-use Rattle.std.specs.Prelude.{ℕ, ◌*◌, ◌+◌, ◌<◌, ◌≡◌, ◌≤◌, if◌then◌else◌, nat_lt}
-use Rattle.sim_rows.specs.Prelude.{byte_from, Changes, Comes, copied, COPY, difference_of, From, FromGrom, FromMemory}
-use Rattle.sim_rows.specs.Prelude.{grom_at, GromState, GSTEP, IsFetched, MachineState, marked_by, next_at}
-use Rattle.sim_rows.specs.Prelude.{next_in_grom, place_in, PortsAreIdle, SeesFinished, Stands, state_of, sum_of, To}
-use Rattle.sim_rows.specs.Prelude.{ToMemory, ToRegisters, unchanged, View, view, VISIBLE_CELLS, with_byte_to, Word}
+-- Where the copy of MOVE stands at each byte, one byte of it, the bytes that are left, and the end.
+use Rattle.std.specs.Prelude.{ℕ, ◌%◌, ◌*◌, ◌+◌, ◌-◌, ◌<◌, ◌==◌, ◌≡◌, ◌≤◌, if◌then◌else◌, None, slice_index, suc}
+use Rattle.sim_rows.specs.Prelude.{byte_from, Changed, Changes, Comes, copied, COPY, Cpu, From, FromGrom, FromMemory}
+use Rattle.sim_rows.specs.Prelude.{grom_at, GSTEP, IsFetched, MachineState, marked_by, next_from, next_in_vdp, next_to}
+use Rattle.sim_rows.specs.Prelude.{PortsAreIdle, SeesFinished, Space, Stands, To, ToMemory, Vdp, View, view}
+use Rattle.sim_rows.specs.Prelude.{VISIBLE_CELLS, with_byte_to, with_pc}
 use Rattle.sim_copy.specs.Copying.{Copying}
+use Rattle.sim_copy.specs.Pieces.{CellsToCells, CellsToVideo, first_cell, GromToCells, GromToVideo, head_of}
+use Rattle.sim_copy.specs.Pieces.{start_copy, VideoToCells, Way}
 use Rattle.sim_rows.specs.sim_view.Bounds.{most_of_byte}
-use Rattle.sim_rows.specs.native_interp.declared.addresses.TheConstants.{COPYC, COPYE, COPYG}
+use Rattle.sim_rows.specs.native_interp.declared.addresses.TheConstants.{COPYE}
 
--- Bytes are left, whose target is in the cells.
-pub record ToCells (v : View) : Type 0 where
-  pub target : v.r.r8 ≡ 0
-  pub some : 0 < v.r.r12
+-- A pointer to cells, at which so many bytes may be, one at least.
+pub record Points (pointer bytes : ℕ) : Type 0 where
+  pub from : first_cell ≤ pointer
+  pub within : pointer + bytes ≤ first_cell + VISIBLE_CELLS
+  pub some : 0 < bytes
 
--- Bytes are left, which LOAD and STORE copy.
-pub record ByParts (v : View) : Type 0 where
+-- The bytes that are left may go on a way.
+abbrev pub MayGo : Way → View → Type 0
+MayGo CellsToCells v = Points v.r.r2 v.r.r12 × Points v.r.r7 v.r.r12
+MayGo VideoToCells v = Points v.r.r7 v.r.r12
+MayGo GromToCells v = Points v.r.r7 v.r.r12
+MayGo CellsToVideo v = Points v.r.r2 v.r.r12
+MayGo GromToVideo v = 0 < v.r.r12
+
+-- The bytes that are left go by the routines LOAD and STORE, to video memory or to registers.
+pub record ByRoutines (v : View) : Type 0 where
   pub bytes_are : v.r.r3 ≡ 1
   pub some : 0 < v.r.r12
+  pub source : v.r.r5 ≡ 0 → v.r.r2 + v.r.r12 ≤ VISIBLE_CELLS
+  pub beyond : 0 < v.r.r8
+  pub registers : 1 < v.r.r8 → v.r.r7 + v.r.r12 ≤ 8
+  pub fetched : IsFetched v.grom
 
--- Where a byte is copied: at COPYC from the cells to the cells, at COPYG from GROM to the cells, or at COPY, by LOAD and
--- STORE; with none left, at COPYE.
+-- Where a byte is copied: at COPY by the routines, or at the head of its way; with none left, at COPYE.
 pub data CopiesAt (place : ℕ) (v : View) : Type 0 where
-  AtByte : place ≡ COPY → ByParts v → CopiesAt place v
-  AtCell : place ≡ COPYC → v.r.r5 ≡ 0 → ToCells v → CopiesAt place v
-  AtGrom : place ≡ COPYG → 1 < v.r.r5 → ToCells v → CopiesAt place v
+  AtByte : place ≡ COPY → ByRoutines v → CopiesAt place v
+  AtHead : (way : Way) → place ≡ head_of way → MayGo way v → CopiesAt place v
   AtEnd : place ≡ COPYE → v.r.r12 ≡ 0 → CopiesAt place v
 
--- Where a byte is copied, or the copy ends: as many bytes as are left may be loaded and stored.
+-- Where a byte is copied, or the copy ends.
 pub record AtCopy (x : MachineState) : Type 0 where
   pub stands : Stands x x.cpu.pc
   pub place : CopiesAt x.cpu.pc (view x)
   pub idle : PortsAreIdle x.cpu.memory
-  pub fetched : IsFetched x.cpu.memory.grom
-  pub source : let r = (view x).r in r.r5 ≡ 0 → r.r2 + r.r12 ≤ VISIBLE_CELLS
-  pub target : let r = (view x).r in r.r8 ≡ 0 → r.r7 + r.r12 ≤ VISIBLE_CELLS
-  pub registers : let r = (view x).r in 1 < r.r8 → r.r7 + r.r12 ≤ 8
 
--- The source that registers 2 and 5 tell, and the target that registers 7 and 8 tell.
-abbrev pub source_in : View → From
-source_in v = if nat_lt v.r.r5 2 then FromMemory (place_in v.r.r5 v.r.r2) else FromGrom (next_at v)
+-- The source and the target of a way, by their addresses.
+abbrev pub in_memory : Space → ℕ → From
+in_memory space address = FromMemory (record { space = space; address = address })
 
-abbrev pub target_in : View → To
-target_in v = if nat_lt v.r.r8 2 then ToMemory (place_in v.r.r8 v.r.r7) else ToRegisters v.r.r7
+abbrev pub to_memory : Space → ℕ → To
+to_memory space address = ToMemory (record { space = space; address = address })
 
--- GROM behind a byte of a source: only one that lies in GROM moves it.
-abbrev pub grom_behind : From → GromState → GromState
-grom_behind (FromMemory place) grom = grom
-grom_behind (FromGrom address) grom = grom_at grom.image (next_in_grom address)
+abbrev pub from_on : Way → ℕ → From
+from_on CellsToCells address = in_memory Cpu address
+from_on VideoToCells address = in_memory Vdp address
+from_on GromToCells address = FromGrom address
+from_on CellsToVideo address = in_memory Cpu address
+from_on GromToVideo address = FromGrom address
 
--- what a byte changes that is copied
-abbrev pub byte_copied : View → Changes
-byte_copied v = with_byte_to (target_in v) (byte_from (source_in v) (state_of v)) (unchanged (state_of v))
+abbrev pub to_on : Way → ℕ → To
+to_on CellsToCells address = to_memory Cpu address
+to_on VideoToCells address = to_memory Cpu address
+to_on GromToCells address = to_memory Cpu address
+to_on CellsToVideo address = to_memory Vdp address
+to_on GromToVideo address = to_memory Vdp address
 
--- That is changed, and the source, the target and the count have gone on. Registers 4, 6, 9 and 11, and the address of
--- the video processor with the byte there, may have changed.
-pub record Counted (v w : View) : Type 0 where
-  pub r4 : ℕ
-  pub r6 : ℕ
-  pub r9 : ℕ
-  pub r11 : ℕ
-  pub address : ℕ
-  pub byte : ℕ
-  pub is : let c = byte_copied v in w ≡ record v {
-    r = record v.r {
-      r2 = sum_of Word v.r.r2 1;
-      r4 = r4;
-      r6 = r6;
-      r7 = sum_of Word v.r.r7 1;
-      r9 = r9;
-      r11 = r11;
-      r12 = difference_of Word v.r.r12 1;
-      r13 = marked_by c.shows v.r.r13;
-    };
-    cells = c.state.cells;
-    vdp = record v.vdp { memory = c.state.vdp; registers = c.state.registers; address = address; fetched = byte };
-    grom = grom_behind (source_in v) v.grom;
-  }
+-- What is seen on a way: the changes so far, the bytes that are left, the mark, both pointers, the address of the video
+-- processor with the byte there, and where GROM is.
+abbrev pub seen : View → Changes → ℕ → ℕ → ℕ → ℕ → ℕ → ℕ → ℕ → View
+seen v c bytes mark source target address byte next =
+    record v {
+      r = record v.r { r2 = source; r7 = target; r12 = bytes; r13 = mark };
+      cells = c.state.cells;
+      vdp = record { memory = c.state.vdp; registers = c.state.registers; address = address; fetched = byte; held = None };
+      grom = grom_at c.state.image next;
+    }
+
+abbrev pub seen_on : Way → View → Changes → ℕ → ℕ → ℕ → ℕ → View
+seen_on CellsToCells v c bytes mark from to =
+    seen v c bytes mark (first_cell + from) (first_cell + to) v.vdp.address v.vdp.fetched c.state.pc
+seen_on VideoToCells v c bytes mark from to =
+    let at = from % 16384 in
+    seen v c bytes mark v.r.r2 (first_cell + to) (next_in_vdp at) (slice_index c.state.vdp at) c.state.pc
+seen_on GromToCells v c bytes mark from to =
+    seen v c bytes mark v.r.r2 (first_cell + to) v.vdp.address v.vdp.fetched from
+seen_on CellsToVideo v c bytes mark from to =
+    seen v c bytes mark (first_cell + from) v.r.r7 (to % 16384) v.vdp.fetched c.state.pc
+seen_on GromToVideo v c bytes mark from to = seen v c bytes mark v.r.r2 v.r.r7 (to % 16384) v.vdp.fetched from
+
+-- Where the instruction goes on: register 5 has the space of the source, and behind one in GROM register 14 has the
+-- address of the next instruction.
+abbrev pub GoesBack : Changes → From → View → Type 0
+GoesBack c (FromMemory place) v = v.r.r5 < 2
+GoesBack c (FromGrom address) v = (v.r.r5 ≡ 2) × (v.r.r14 ≡ c.state.pc)
+
+-- A copy stands on a way. Its mark is there before the bytes are.
+pub record OnWay (way : Way) (c : Changes) (from : From) (to : To) (bytes : ℕ) (v : View) : Type 0 where
+  pub base : View
+  pub source : ℕ
+  pub target : ℕ
+  pub from_is : from ≡ from_on way source
+  pub to_is : to ≡ to_on way target
+  pub back : GoesBack c from base
+  pub is : v ≡ seen_on way base c bytes (marked_by (copied bytes from to c).shows 0) source target
+
+-- All bytes are copied.
+pub data Copied (c : Changes) (v : View) : Type 0 where
+  FromCells : v.r.r5 < 2 → Changed c v → Copied c v
+  OutOfGrom : v.r.r5 ≡ 2 → v.r.r14 ≡ c.state.pc → (next : ℕ) → Changed (with_pc next c) v → Copied c v
+
+-- A copy stands at a place.
+pub data CopyingAt (place : ℕ) (c : Changes) (from : From) (to : To) (bytes : ℕ) (v : View) : Type 0 where
+  Routinely : place ≡ COPY → Copying c from to bytes v → CopyingAt place c from to bytes v
+  OnItsWay : (way : Way) → place ≡ head_of way → OnWay way c from to bytes v → CopyingAt place c from to bytes v
+  AllCopied : place ≡ COPYE → bytes ≡ 0 → Copied c v → CopyingAt place c from to bytes v
+
+-- How many instructions of the beginning the first byte of a way is charged with.
+abbrev pub charged : ℕ → ℕ
+charged place = if place == COPY then 0 else if place == COPYE then 0 else 11
+
+-- The copy begins.
+abbrev pub StartsCopy : MachineState → MachineState → ℕ → ℕ → Type 0
+StartsCopy x y before after =
+    let begun = start_copy (view x) in Comes begun.count x y before after begun.to (λ v. v ≡ begun.left)
 
 -- A byte is copied, and the machine is where the next one is.
 pub record CopiesByte (x y : MachineState) (before after : ℕ) : Type 0 where
-  pub place : CopiesAt y.cpu.pc (view y)
-  pub comes : Comes most_of_byte x y before after y.cpu.pc (Counted (view x))
+  pub at : AtCopy y
+  pub left : (view y).r.r12 ≡ (view x).r.r12 - 1
+  pub most : ℕ
+  pub comes : Comes most x y before after y.cpu.pc (λ v. Unit {0})
+  pub within : most + charged x.cpu.pc ≤ most_of_byte + charged y.cpu.pc
+  pub copies : (c : Changes) → (from : From) → (to : To) → (bytes : ℕ)
+      → CopyingAt x.cpu.pc c from to (suc bytes) (view x)
+      → CopyingAt y.cpu.pc (with_byte_to to (byte_from from c.state) c) (next_from from) (next_to to) bytes (view y)
 
--- All bytes are copied, and none is left.
-pub record Copied (c : Changes) (w : View) : Type 0 where
-  pub from : From
-  pub to : To
-  pub copying : Copying c from to 0 w
-
-abbrev pub CopiesRest : MachineState → MachineState → ℕ → ℕ → Type 0
-CopiesRest x y before after =
-    (c : Changes) → (from : From) → (to : To) → (bytes : ℕ) → Copying c from to bytes (view x)
-    → Comes (most_of_byte * bytes) x y before after COPYE (Copied (copied bytes from to c))
+-- All bytes are copied that are left.
+pub record CopiesRest (x y : MachineState) (before after : ℕ) : Type 0 where
+  pub most : ℕ
+  pub comes : Comes most x y before after COPYE (λ v. Unit {0})
+  pub within : most + charged x.cpu.pc ≤ most_of_byte * (view x).r.r12
+  pub copies : (c : Changes) → (from : From) → (to : To) → (bytes : ℕ)
+      → CopyingAt x.cpu.pc c from to bytes (view x) → (view x).r.r12 ≡ bytes
+      → Copied (copied bytes from to c) (view y)
 
 -- The step ends with what was copied.
 abbrev pub EndsCopy : MachineState → MachineState → ℕ → ℕ → Type 0

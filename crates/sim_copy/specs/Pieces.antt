@@ -1,59 +1,134 @@
 -- What the pieces of MOVE's copy come to: how many instructions they have, where they end, and what they change of the
 -- view, in the words of the processor. Registers, cells and ports that are not named stay.
-use Rattle.std.specs.Prelude.{ℕ, ◌+◌, ◌==◌, if◌then◌else◌, nat_lt, not, slice_index, slice_set}
-use Rattle.sim_rows.specs.Prelude.{CHARACTER, COPY, COPYN, COPYS, difference_of, Exit, exit, LOAD, past, RESUME, SHOW}
-use Rattle.sim_rows.specs.Prelude.{STORE, sum_of, View, Word}
-use Rattle.sim_rows.specs.sim_operands.Pieces.{marked, one_if}
-use Rattle.sim_rows.specs.native_interp.declared.addresses.TheConstants.{COPYC, COPYE, COPYG}
+use Rattle.std.specs.Prelude.{ℕ, ◌+◌, ◌-◌, ◌==◌, Bool, if◌then◌else◌, nat_lt, slice_index, slice_set}
+use Rattle.sim_rows.specs.Prelude.{CHARACTER, COPY, COPYN, COPYS, difference_of, Exit, exit, LOAD, past, RESUME}
+use Rattle.sim_rows.specs.Prelude.{set_video_to, shifted, SHOW, SLA, SRL, STORE, sum_of, vdp_data_written, View, Word}
+use Rattle.sim_rows.specs.sim_operands.Pieces.{one_if, past_video}
+use Rattle.sim_rows.specs.native_interp.declared.addresses.TheConstants.{COPYCC, COPYCV, COPYE, COPYGC, COPYGV}
+use Rattle.sim_rows.specs.native_interp.declared.addresses.TheConstants.{COPYVC, SETR, SETW}
 
--- MOVEB: with no byte it goes to COPYE. Bytes for the cells are copied by COPYC from the cells and by COPYG from GROM,
--- all others by COPY, with 1 in register 3.
-abbrev pub begins_at : View → ℕ
-begins_at v =
-    if v.r.r12 == 0 then COPYE
-    else if not (v.r.r8 == 0) then COPY
-    else if v.r.r5 == 1 then COPY
-    else if nat_lt 1 v.r.r5 then COPYG
-    else COPYC
+-- the address of the first cell
+abbrev pub first_cell : ℕ
+first_cell = 0x8300
 
--- how many instructions MOVEB has
-abbrev pub instructions_to_begin : View → ℕ
-instructions_to_begin v =
-    if v.r.r12 == 0 then 2
-    else if not (v.r.r8 == 0) then 5
-    else 7
+-- LOAD and STORE copy each byte
+abbrev pub by_routines : View → View
+by_routines v = record v { r = record v.r { r3 = 1 } }
 
-abbrev pub begin_copy : View → Exit
-begin_copy v =
-    let width = if begins_at v == COPY then 1 else v.r.r3 in
-    exit (instructions_to_begin v) (begins_at v) (record v { r = record v.r { r3 = width } })
+-- MOVEB for a target in the cells, whose pointer comes into register 7: register 13 becomes the mark where a byte will
+-- go to the character's cell. A source in the cells has its pointer in register 2.
+abbrev pub is_marked : View → Bool
+is_marked v = nat_lt (difference_of Word CHARACTER v.r.r7) v.r.r12
 
--- The view behind a byte that was stored at the target in the cells: both places and the count have gone on.
-abbrev pub stored : View → ℕ → View
-stored v byte =
+abbrev pub pointed_at : View → View
+pointed_at v =
     record v {
       r = record v.r {
-        r2 = sum_of Word v.r.r2 1;
-        r7 = sum_of Word v.r.r7 1;
-        r12 = difference_of Word v.r.r12 1;
-        r13 = marked CHARACTER v.r.r7 v.r.r13;
+        r4 = difference_of Word CHARACTER v.r.r7;
+        r7 = sum_of Word v.r.r7 first_cell;
+        r13 = if is_marked v then 0xFFFF else v.r.r13;
       };
-      cells = slice_set v.cells v.r.r7 byte;
     }
 
--- COPYC: the byte is of the cells.
-abbrev pub copy_cell : View → Exit
-copy_cell v =
-    let last = difference_of Word v.r.r12 1 == 0 in
-    exit (7 + (one_if (v.r.r7 == CHARACTER) + one_if last)) (if last then COPYE else COPYC)
-    (stored v (slice_index v.cells v.r.r2))
+abbrev pub from_cells : View → View
+from_cells v = record v { r = record v.r { r2 = sum_of Word v.r.r2 first_cell } }
 
--- COPYG: the byte is the next of GROM.
-abbrev pub copy_grom : View → Exit
-copy_grom v =
-    let last = difference_of Word v.r.r12 1 == 0 in
-    exit (7 + (one_if (v.r.r7 == CHARACTER) + one_if last)) (if last then COPYE else COPYG)
-    (stored (record v { grom = past v.grom }) v.grom.fetched)
+abbrev pub begin_in_cells : View → Exit
+begin_in_cells v =
+    let marking = one_if (is_marked v) in
+    if v.r.r5 == 1 then exit (12 + marking) SETR (pointed_at v)
+    else if nat_lt 1 v.r.r5 then exit (13 + marking) COPYGC (pointed_at v)
+    else exit (14 + marking) COPYCC (from_cells (pointed_at v))
+
+-- MOVEB: with no byte it goes to COPYE. For video memory SETW goes on, and for registers COPY.
+abbrev pub begin_copy : View → Exit
+begin_copy v =
+    if v.r.r12 == 0 then exit 2 COPYE v
+    else if v.r.r8 == 1 then exit 4 SETW v
+    else if nat_lt 1 v.r.r8 then exit 6 COPY (by_routines v)
+    else begin_in_cells v
+
+-- an address cut to the 14 bits of video memory
+abbrev pub video_at : ℕ → ℕ
+video_at address = shifted SRL (shifted SLA address 2) 2
+
+-- SETR: the video processor is set to the source, for reading.
+abbrev pub set_source : View → Exit
+set_source v =
+    let at = video_at v.r.r2 in
+    exit 5 COPYVC (record v { r = record v.r { r4 = at }; vdp = set_video_to at v.vdp })
+
+-- SETW: the video processor is set to the target, for writing, but for a source in video memory too.
+abbrev pub target_set : View → View
+target_set v =
+    let at = sum_of Word (video_at v.r.r7) 0x4000 in
+    record v { r = record v.r { r4 = at }; vdp = set_video_to at v.vdp }
+
+abbrev pub set_target : View → Exit
+set_target v =
+    if v.r.r5 == 1 then exit 3 COPY (by_routines v)
+    else if v.r.r5 == 0 then exit 11 COPYCV (from_cells (target_set v))
+    else exit 10 COPYGV (target_set v)
+
+-- The beginning as a whole: MOVEB, with SETR or SETW behind it.
+abbrev pub and_then : Exit → Exit → Exit
+and_then first second = exit (first.count + second.count) second.to second.left
+
+abbrev pub start_copy : View → Exit
+start_copy v =
+    let begun = begin_copy v in
+    if begun.to == SETR then and_then begun (set_source begun.left)
+    else if begun.to == SETW then and_then begun (set_target begun.left)
+    else begun
+
+-- The ways on which a byte goes by one instruction.
+pub data Way : Type 0 where
+  CellsToCells : Way
+  VideoToCells : Way
+  GromToCells : Way
+  CellsToVideo : Way
+  GromToVideo : Way
+
+-- where a byte goes so
+abbrev pub head_of : Way → ℕ
+head_of CellsToCells = COPYCC
+head_of VideoToCells = COPYVC
+head_of GromToCells = COPYGC
+head_of CellsToVideo = COPYCV
+head_of GromToVideo = COPYGV
+
+-- The byte at the pointer of the source, and the view when it was read; the view when a byte was stored at the pointer
+-- of the target, or in video memory.
+abbrev pub cell_read : View → ℕ
+cell_read v = slice_index v.cells (v.r.r2 - first_cell)
+
+abbrev pub past_cell : View → View
+past_cell v = record v { r = record v.r { r2 = sum_of Word v.r.r2 1 } }
+
+abbrev pub in_cell : ℕ → View → View
+in_cell byte v =
+    record v {
+      r = record v.r { r7 = sum_of Word v.r.r7 1 };
+      cells = slice_set v.cells (v.r.r7 - first_cell) byte;
+    }
+
+abbrev pub in_video : ℕ → View → View
+in_video byte v = record v { vdp = vdp_data_written v.vdp byte }
+
+abbrev pub byte_moved : Way → View → View
+byte_moved CellsToCells v = in_cell (cell_read v) (past_cell v)
+byte_moved VideoToCells v = in_cell v.vdp.fetched (record v { vdp = past_video v.vdp })
+byte_moved GromToCells v = in_cell v.grom.fetched (record v { grom = past v.grom })
+byte_moved CellsToVideo v = in_video (cell_read v) (past_cell v)
+byte_moved GromToVideo v = in_video v.grom.fetched (record v { grom = past v.grom })
+
+-- COPYCC and its like: a byte goes, and the next one, or COPYE behind the last.
+abbrev pub copy_on : Way → View → Exit
+copy_on way v =
+    let left = difference_of Word v.r.r12 1 in
+    let moved = byte_moved way v in
+    exit (3 + one_if (left == 0)) (if left == 0 then COPYE else head_of way)
+    (record moved { r = record moved.r { r12 = left } })
 
 -- COPY: LOAD is asked for the next byte.
 abbrev pub next_byte : View → Exit

@@ -2,19 +2,34 @@
 
 ghost use Rattle.std.specs.Prelude.{◌+◌, ◌<◌, ◌≡◌, ◌≤◌};
 ghost use Rattle.sim_rows.specs.Prelude.{IsFetched, PortsAreIdle, Stands, view, VISIBLE_CELLS};
-ghost use Rattle.sim_copy.specs.Bytes.{AtCopy, ByParts, CopiesByte, CopiesRest, EndsCopy};
+ghost use Rattle.sim_copy.specs.Bytes.{AtCopy, ByRoutines, CopiesByte, CopiesRest, EndsCopy, StartsCopy};
 ghost use Rattle.sim_copy.specs.Copying.{CopiesBytes};
 ghost use Rattle.sim_rows.specs.native_interp.declared.addresses.TheConstants as address;
 
 use crate::pieces::{
-    begin_copy, copy_cell, copy_grom, count_byte, leave_copy, next_byte, store_byte,
+    begin_copy, copy_cell, copy_cell_to_video, copy_grom, copy_grom_to_video, copy_video,
+    count_byte, leave_copy, next_byte, set_source, set_target, store_byte,
 };
 use sim_jumps::resume_row;
-use sim_rows::labels::{COPYC, COPYG, SHOW};
+use sim_rows::labels::{COPYCC, COPYCV, COPYGC, COPYGV, COPYVC, SETR, SETW, SHOW};
 use sim_rows::processor::{Machine, Steps};
 use sim_rows::subroutines::{run_load, run_store};
 use sim_rows::{end_row, register};
 use std::sync::ledger::Ledger;
+
+/// Begins the copy: where the ports count by themselves, they are set.
+fn start_copy<L: Ledger>(machine: &mut Machine, steps: &mut Steps<L>)
+    requires { Stands machine.old address.MOVEB }
+    ensures { StartsCopy machine.old machine.new steps.old steps.new }
+{
+    begin_copy(machine, steps);
+    let place = machine.pc();
+    if place == SETR {
+        set_source(machine, steps);
+    } else if place == SETW {
+        set_target(machine, steps);
+    }
+}
 
 /// Copies a byte of those that are left.
 fn copy_byte<L: Ledger>(machine: &mut Machine, steps: &mut Steps<L>)
@@ -22,23 +37,27 @@ fn copy_byte<L: Ledger>(machine: &mut Machine, steps: &mut Steps<L>)
     requires left { 0 < (view machine.old).r.r12 }
     ensures { CopiesByte machine.old machine.new steps.old steps.new }
 {
-    machine.holds_bounds();
-    if machine.pc() == COPYC {
+    let place = machine.pc();
+    if place == COPYCC {
         copy_cell(machine, steps);
-        return;
-    }
-    if machine.pc() == COPYG {
+    } else if place == COPYVC {
+        copy_video(machine, steps);
+    } else if place == COPYGC {
         copy_grom(machine, steps);
-        return;
+    } else if place == COPYCV {
+        copy_cell_to_video(machine, steps);
+    } else if place == COPYGV {
+        copy_grom_to_video(machine, steps);
+    } else {
+        copy_by_routines(machine, steps);
     }
-    carry_byte(machine, steps);
 }
 
 /// Copies a byte of those that are left by LOAD and STORE.
-fn carry_byte<L: Ledger>(machine: &mut Machine, steps: &mut Steps<L>)
+fn copy_by_routines<L: Ledger>(machine: &mut Machine, steps: &mut Steps<L>)
     requires stands { Stands machine.old address.COPY }
     requires at { AtCopy machine.old }
-    requires left { ByParts (view machine.old) }
+    requires left { ByRoutines (view machine.old) }
     ensures { CopiesByte machine.old machine.new steps.old steps.new }
 {
     next_byte(machine, steps);
@@ -87,7 +106,7 @@ pub fn copy_bytes<L: Ledger>(machine: &mut Machine, steps: &mut Steps<L>)
     requires registers { let r = (view machine.old).r in 1 < r.r8 → r.r7 + r.r12 ≤ 8 }
     ensures { CopiesBytes machine.old machine.new steps.old steps.new }
 {
-    begin_copy(machine, steps);
+    start_copy(machine, steps);
     copy_rest(machine, steps);
     end_copy(machine, steps);
 }

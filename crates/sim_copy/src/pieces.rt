@@ -1,11 +1,20 @@
 //! The pieces of MOVE's copy.
 
-ghost use Rattle.std.specs.Prelude.{◌<◌};
-ghost use Rattle.sim_rows.specs.Prelude.{Exits, Stands, view, VISIBLE_CELLS};
+ghost use Rattle.sim_rows.specs.Prelude.{Exits, Stands, view};
 ghost use Rattle.sim_rows.specs.native_interp.declared.addresses.TheConstants as address;
+ghost use Rattle.sim_copy.specs.Bytes.{MayGo};
+ghost use Rattle.sim_copy.specs.Pieces.{
+  CellsToCells,
+  CellsToVideo,
+  GromToCells,
+  GromToVideo,
+  VideoToCells,
+};
 ghost use Rattle.sim_copy.specs.Pieces as piece;
 
-use sim_rows::labels::{COPY, COPYC, COPYE, COPYG, LOAD, RESUME, SHOW, STORE};
+use sim_rows::labels::{
+    COPY, COPYCC, COPYCV, COPYE, COPYGC, COPYGV, COPYVC, LOAD, RESUME, SETR, SETW, SHOW, STORE,
+};
 use sim_rows::processor::{Machine, Steps};
 use sim_rows::run_piece;
 use std::sync::ledger::Ledger;
@@ -15,26 +24,67 @@ pub fn begin_copy<L: Ledger>(machine: &mut Machine, steps: &mut Steps<L>)
     requires { Stands machine.old address.MOVEB }
     ensures { Exits machine.old machine.new steps.old steps.new (piece.begin_copy (view machine.old)) }
 {
-    run_piece(machine, steps, &[COPY, COPYC, COPYG, COPYE]);
+    run_piece(machine, steps, &[COPYE, COPY, SETR, SETW, COPYCC, COPYGC]);
+}
+
+/// The piece of MOVE that sets the video processor to the source.
+pub fn set_source<L: Ledger>(machine: &mut Machine, steps: &mut Steps<L>)
+    requires { Stands machine.old address.SETR }
+    ensures { Exits machine.old machine.new steps.old steps.new (piece.set_source (view machine.old)) }
+{
+    run_piece(machine, steps, &[COPYVC]);
+}
+
+/// The piece of MOVE that sets the video processor to the target.
+pub fn set_target<L: Ledger>(machine: &mut Machine, steps: &mut Steps<L>)
+    requires { Stands machine.old address.SETW }
+    ensures { Exits machine.old machine.new steps.old steps.new (piece.set_target (view machine.old)) }
+{
+    run_piece(machine, steps, &[COPY, COPYCV, COPYGV]);
 }
 
 /// The piece of the copy that copies a byte from the cells to the cells.
 pub fn copy_cell<L: Ledger>(machine: &mut Machine, steps: &mut Steps<L>)
-    requires stands { Stands machine.old address.COPYC }
-    requires source { (view machine.old).r.r2 < VISIBLE_CELLS }
-    requires target { (view machine.old).r.r7 < VISIBLE_CELLS }
-    ensures { Exits machine.old machine.new steps.old steps.new (piece.copy_cell (view machine.old)) }
+    requires stands { Stands machine.old address.COPYCC }
+    requires may_go { MayGo CellsToCells (view machine.old) }
+    ensures { Exits machine.old machine.new steps.old steps.new (piece.copy_on CellsToCells (view machine.old)) }
 {
-    run_piece(machine, steps, &[COPYC, COPYE]);
+    run_piece(machine, steps, &[COPYCC, COPYE]);
+}
+
+/// The piece of the copy that copies a byte from video memory to the cells.
+pub fn copy_video<L: Ledger>(machine: &mut Machine, steps: &mut Steps<L>)
+    requires stands { Stands machine.old address.COPYVC }
+    requires may_go { MayGo VideoToCells (view machine.old) }
+    ensures { Exits machine.old machine.new steps.old steps.new (piece.copy_on VideoToCells (view machine.old)) }
+{
+    run_piece(machine, steps, &[COPYVC, COPYE]);
 }
 
 /// The piece of the copy that copies a byte from GROM to the cells.
 pub fn copy_grom<L: Ledger>(machine: &mut Machine, steps: &mut Steps<L>)
-    requires stands { Stands machine.old address.COPYG }
-    requires target { (view machine.old).r.r7 < VISIBLE_CELLS }
-    ensures { Exits machine.old machine.new steps.old steps.new (piece.copy_grom (view machine.old)) }
+    requires stands { Stands machine.old address.COPYGC }
+    requires may_go { MayGo GromToCells (view machine.old) }
+    ensures { Exits machine.old machine.new steps.old steps.new (piece.copy_on GromToCells (view machine.old)) }
 {
-    run_piece(machine, steps, &[COPYG, COPYE]);
+    run_piece(machine, steps, &[COPYGC, COPYE]);
+}
+
+/// The piece of the copy that copies a byte from the cells to video memory.
+pub fn copy_cell_to_video<L: Ledger>(machine: &mut Machine, steps: &mut Steps<L>)
+    requires stands { Stands machine.old address.COPYCV }
+    requires may_go { MayGo CellsToVideo (view machine.old) }
+    ensures { Exits machine.old machine.new steps.old steps.new (piece.copy_on CellsToVideo (view machine.old)) }
+{
+    run_piece(machine, steps, &[COPYCV, COPYE]);
+}
+
+/// The piece of the copy that copies a byte from GROM to video memory.
+pub fn copy_grom_to_video<L: Ledger>(machine: &mut Machine, steps: &mut Steps<L>)
+    requires { Stands machine.old address.COPYGV }
+    ensures { Exits machine.old machine.new steps.old steps.new (piece.copy_on GromToVideo (view machine.old)) }
+{
+    run_piece(machine, steps, &[COPYGV, COPYE]);
 }
 
 /// The piece of the copy that asks LOAD for the next byte.

@@ -1,14 +1,14 @@
 -- The length, the target and the source, one after the other.
 use Rattle.std.proofs.Common.{ℕ, ◌%◌, ◌/◌, ◌<◌, ◌==◌, ◌∙◌, ◌≡◌, ◌≤◌, ap, arith, Bool, Err, Ok, Option, refl, Result, Some, subst, sym, true}
-use Rattle.sim_rows.proofs.Common.{◌>>=◌, ADDR, AtDispatch, barred_stops, code_byte, Comes, comes_as, comes_on, even, fetched_of, Finds, finds_of, FindsOperand}
-use Rattle.sim_rows.proofs.Common.{From, from_placed, FromGrom, FromMemory, GOMOVE, GplOperand, GplOperation, GplState, grom_at, GromIndexedToMemory, GromState}
-use Rattle.sim_rows.proofs.Common.{GromToMemory, GromToRegisters, GSTOP, idle_of, index_by, indexed, is_view, IsFetched, length_of, MachineState}
-use Rattle.sim_rows.proofs.Common.{MemoryToMemory, most_of_address, most_to_copy, Move, MOVEB, MoveKind, MOVEL, MOVES, MOVEX, next_in_grom, operand_at}
-use Rattle.sim_rows.proofs.Common.{operation_entry, operation_in, operation_seen, origin_of, Place, place_of, Placed, PortsAreIdle, Reason, return_of, Stands}
-use Rattle.sim_rows.proofs.Common.{stands_at, state_at_dispatch, StoppedBy, target_of, To, ToMemory, ToRegisters, View, view, within_limit, word_at}
+use Rattle.sim_rows.proofs.Common.{◌>>=◌, AtDispatch, barred_stops, code_byte, Comes, comes_as, comes_on, even, fetched_of, Finds, finds_of, FindsOperand, From}
+use Rattle.sim_rows.proofs.Common.{from_placed, FromGrom, FromMemory, GOMOVE, GplOperand, GplOperation, GplState, grom_at, GromIndexedToMemory, GromState}
+use Rattle.sim_rows.proofs.Common.{GromToMemory, GromToRegisters, GSTOP, idle_of, index_by, indexed, is_view, length_of, MachineState, MemoryToMemory}
+use Rattle.sim_rows.proofs.Common.{most_of_address, most_to_copy, Move, MOVEB, MoveKind, MOVEL, MOVES, MOVEX, next_in_grom, operand_at, operation_entry}
+use Rattle.sim_rows.proofs.Common.{operation_in, operation_seen, origin_of, Place, place_of, Placed, Reason, return_of, Stands, stands_at, state_at_dispatch}
+use Rattle.sim_rows.proofs.Common.{StoppedBy, target_of, To, ToMemory, ToRegisters, View, view, within_limit, word_at}
 use Rattle.sim_copy.specs.Copying.{StandsTo}
 use Rattle.sim_move.specs.Family.{is_move}
-use Rattle.sim_move.specs.Moves.{Arrives, AtCopy, copy_in, FindsCopy, FindsLength, FindsTarget, IndexesSource, length_read, LengthTold, source_entry}
+use Rattle.sim_move.specs.Moves.{Arrives, AsksAddress, AsksTarget, AtCopy, copy_in, FindsCopy, FindsLength, FindsTarget, IndexesSource, length_read, LengthTold, source_entry}
 use Rattle.sim_move.specs.Moves.{source_read, SourceTold, target_in, target_read, TargetTold, TurnsToSource}
 use Rattle.sim_move.proofs.Codes.{has_index, told}
 use Rattle.sim_move.proofs.Arriving.{both, Found, found, missing}
@@ -52,27 +52,29 @@ state x = state_at_dispatch (view x)
 pub code_fits : {x : MachineState} {p : ℕ} → Stands x p → code_byte (state x) < 256
 code_fits {x = x} stands = (is_view x stands.machine).grom.image.fits (state x).pc
 
-module _ (s : GplState) (x a : MachineState) (t t1 : ℕ) (fits : code_byte s < 256) (one : FindsLength s x a t t1) where
+module _ (s : GplState) {x a : MachineState} {t t1 : ℕ} (fits : code_byte s < 256) (one : FindsLength s x a t t1) where
   -- there is no length
   pub no_length : a.cpu.pc ≡ GSTOP → FindsCopy s x a t t1
-  no_length here kind known =
-      let m = missing 70 s x a t t1 MOVEL (LengthTold s (length_read s).1) (length_of s (length_read s).0) (λ e. absurd (omega arith)) here one in
-      let P : Result ℕ Reason → Type 0 = λ q. Arrives most_to_copy s x a t t1 MOVEB (AtCopy kind s)
-      (q >>= λ count. (target_in s count (target_read kind s).0 >>= λ found. (origin_of s found.0 (source_read kind s).0 >>= λ from. Ok (found, from)))) in
-      subst P (sym m.is) (comes_as 187 _ m.comes (omega arith) (λ w q. q))
+  no_length here = record {
+    by = λ kind known.
+        let m = missing 70 s x a t t1 MOVEL (LengthTold s (length_read s).1) (length_of s (length_read s).0) (λ e. absurd (omega arith)) here one.by in
+        let P : Result ℕ Reason → Type 0 = λ q. Arrives most_to_copy s x a t t1 MOVEB (AtCopy kind s)
+        (q >>= λ count. (target_in s count (target_read kind s).0 >>= λ found. (origin_of s found.0 (source_read kind s).0 >>= λ from. Ok (found, from)))) in
+        subst P (sym m.is) (comes_as 187 _ m.comes (omega arith) (λ w q. q));
+  }
 
   module _ (away : a.cpu.pc ≡ GSTOP → ⊥) where
     first : Found 70 x a t t1 MOVEL (LengthTold s (length_read s).1) (length_of s (length_read s).0)
-    first = found 70 s x a t t1 MOVEL (LengthTold s (length_read s).1) (length_of s (length_read s).0) away one
+    first = found 70 s x a t t1 MOVEL (LengthTold s (length_read s).1) (length_of s (length_read s).0) away one.by
 
-    pub stands_target : Stands a MOVEL
-    stands_target = first.comes.stands
-
-    pub idle_target : PortsAreIdle a.cpu.memory
-    idle_target = idle_of a.cpu.memory s (length_read s).1 first.comes.holds.holds.sees
-
-    pub fetched_target : IsFetched a.cpu.memory.grom
-    fetched_target = fetched_of a.cpu.memory s (length_read s).1 first.comes.holds.holds.sees
+    pub asks_target : AsksTarget a
+    asks_target =
+        let sees = first.comes.holds.holds.sees in
+        record {
+          stands = first.comes.stands;
+          idle = idle_of a.cpu.memory s (length_read s).1 sees;
+          fetched = fetched_of a.cpu.memory s (length_read s).1 sees;
+        }
 
     -- what is found behind the length
     abbrev Behind : MoveKind → MachineState → ℕ → Result (ℕ × To) Reason → Type 0
@@ -86,13 +88,15 @@ module _ (s : GplState) (x a : MachineState) (t t1 : ℕ) (fits : code_byte s < 
         (q >>= λ count. (target_in s count (target_read kind s).0 >>= λ found. (origin_of s found.0 (source_read kind s).0 >>= λ from. Ok (found, from)))) in
         subst P (sym first.is) h
 
-    module _ (b : MachineState) (t2 : ℕ) (two : FindsTarget a b t1 t2) where
+    module _ {b : MachineState} {t2 : ℕ} (two : FindsTarget a b t1 t2) where
       pub no_target : b.cpu.pc ≡ GSTOP → FindsCopy s x b t t2
-      no_target here kind known =
-          let m = missing 57 s a b t1 t2 (source_entry kind) (TargetTold s kind (target_read kind s).1) (target_in s first.found (target_read kind s).0)
-          (at_entry kind) here
-          (two s kind first.found fits known first.comes.holds) in
-          behind_length kind b t2 (subst (Behind kind b t2) (sym m.is) (comes_as 187 _ (comes_on 70 57 first.comes m.comes refl) (omega arith) (λ w q. q)))
+      no_target here = record {
+        by = λ kind known.
+            let m = missing 57 s a b t1 t2 (source_entry kind) (TargetTold s kind (target_read kind s).1) (target_in s first.found (target_read kind s).0)
+            (at_entry kind) here
+            (two.by s kind first.found fits known first.comes.holds) in
+            behind_length kind b t2 (subst (Behind kind b t2) (sym m.is) (comes_as 187 _ (comes_on 70 57 first.comes m.comes refl) (omega arith) (λ w q. q)));
+      }
 
       module _ (gone : b.cpu.pc ≡ GSTOP → ⊥) where
         abbrev Second : MoveKind → Type 0
@@ -101,7 +105,7 @@ module _ (s : GplState) (x a : MachineState) (t t1 : ℕ) (fits : code_byte s < 
         second : (kind : MoveKind) → operation_in s ≡ Some (Move kind) → Second kind
         second kind known =
             let f = found 57 s a b t1 t2 (source_entry kind) (TargetTold s kind (target_read kind s).1) (target_in s first.found (target_read kind s).0) gone
-            (two s kind first.found fits known first.comes.holds) in
+            (two.by s kind first.found fits known first.comes.holds) in
             record { found = f.found; is = f.is; comes = comes_on 70 57 first.comes f.comes refl }
 
         -- what is found behind the target
@@ -128,15 +132,6 @@ module _ (s : GplState) (x a : MachineState) (t t1 : ℕ) (fits : code_byte s < 
           f : Second MemoryToMemory
           f = second MemoryToMemory in_memory
 
-          pub stands_source : Stands b ADDR
-          stands_source = f.comes.stands
-
-          pub idle_source : PortsAreIdle b.cpu.memory
-          idle_source = idle_of b.cpu.memory s (target_read MemoryToMemory s).1 f.comes.holds.holds.sees
-
-          pub fetched_source : IsFetched b.cpu.memory.grom
-          fetched_source = fetched_of b.cpu.memory s (target_read MemoryToMemory s).1 f.comes.holds.holds.sees
-
           few : f.found.0 ≤ 16384
           unfolding bytes_of
           few =
@@ -146,8 +141,15 @@ module _ (s : GplState) (x a : MachineState) (t t1 : ℕ) (fits : code_byte s < 
               let same : q.0 ≡ f.found.0 = ap (bytes_of f.found) r.2 in
               omega arith
 
-          pub bytes_source : (view b).r.r3 ≤ 16384
-          bytes_source = let n = f.comes.holds.holds.bytes_are in let le = few in omega arith
+          pub asks_source : AsksAddress b
+          asks_source =
+              let h = f.comes.holds.holds in
+              record {
+                stands = f.comes.stands;
+                idle = idle_of b.cpu.memory s (target_read MemoryToMemory s).1 h.sees;
+                fetched = fetched_of b.cpu.memory s (target_read MemoryToMemory s).1 h.sees;
+                bytes = let n = h.bytes_are in let le = few in omega arith;
+              }
 
           module _ (y : MachineState) (t3 : ℕ) (finds_it : FindsOperand b y t2 t3) where
             abbrev operand : GplOperand × ℕ
@@ -195,12 +197,14 @@ module _ (s : GplState) (x a : MachineState) (t t1 : ℕ) (fits : code_byte s < 
                 (λ w k. barred_stops s f.found.0 (target_read MemoryToMemory s).1 reason (view b) w f.comes.holds.holds k)
 
             pub from_memory : FindsCopy s x y t t3
-            from_memory kind known =
-                let Q : Result ((ℕ × To) × From) Reason → Type 0 = Arrives most_to_copy s x y t t3 MOVEB (AtCopy MemoryToMemory s) in
-                let P : MoveKind → Type 0 = λ k. Arrives most_to_copy s x y t t3 MOVEB (AtCopy k s) (copy_in k s) in
-                subst P (sym (only kind known))
-                (behind_target MemoryToMemory f y t3 (subst Q (sym (then_from (place_of s f.found.0 operand.0)))
-                (by_place (place_of s f.found.0 operand.0) finds)))
+            from_memory = record {
+              by = λ kind known.
+                  let Q : Result ((ℕ × To) × From) Reason → Type 0 = Arrives most_to_copy s x y t t3 MOVEB (AtCopy MemoryToMemory s) in
+                  let P : MoveKind → Type 0 = λ k. Arrives most_to_copy s x y t t3 MOVEB (AtCopy k s) (copy_in k s) in
+                  subst P (sym (only kind known))
+                  (behind_target MemoryToMemory f y t3 (subst Q (sym (then_from (place_of s f.found.0 operand.0)))
+                  (by_place (place_of s f.found.0 operand.0) finds)));
+            }
 
         -- ---- a source in GROM
 
@@ -280,11 +284,13 @@ module _ (s : GplState) (x a : MachineState) (t t1 : ℕ) (fits : code_byte s < 
                 subst (λ (p : ℕ). Comes 127 x b t t2 p (TargetTold s kind (target_read kind s).1 f.found)) (in_grom kind known) f.comes
 
             pub no_source : c.cpu.pc ≡ GSTOP → FindsCopy s x c t t3
-            no_source there kind known =
-                let m = missing 39 s b c t2 t3 MOVEX (SourceTold (view b) s.image (index kind).1) (indexed s (index kind).0 (address kind).0)
-                (λ e. absurd (omega arith)) there (indexed_at kind known) in
-                let P : Result ℕ Reason → Type 0 = λ q. Arrives most_to_copy s x c t t3 MOVEB (AtCopy kind s) (q >>= from_address (second kind known).found) in
-                whole kind known c t3 (subst P (sym m.is) (comes_as 187 _ (comes_on 127 39 (to_source kind known) m.comes refl) (omega arith) (λ w q. q)))
+            no_source there = record {
+              by = λ kind known.
+                  let m = missing 39 s b c t2 t3 MOVEX (SourceTold (view b) s.image (index kind).1) (indexed s (index kind).0 (address kind).0)
+                  (λ e. absurd (omega arith)) there (indexed_at kind known) in
+                  let P : Result ℕ Reason → Type 0 = λ q. Arrives most_to_copy s x c t t3 MOVEB (AtCopy kind s) (q >>= from_address (second kind known).found) in
+                  whole kind known c t3 (subst P (sym m.is) (comes_as 187 _ (comes_on 127 39 (to_source kind known) m.comes refl) (omega arith) (λ w q. q)));
+            }
 
             module _ (on : c.cpu.pc ≡ GSTOP → ⊥) where
               third : (kind : MoveKind) (known : operation_in s ≡ Some (Move kind)) →
@@ -295,33 +301,35 @@ module _ (s : GplState) (x a : MachineState) (t t1 : ℕ) (fits : code_byte s < 
               pub stands_turning : is_move (operation_in s) ≡ true → Stands c MOVEX
               stands_turning family = let k = kind_of (operation_in s) family in (third k.0 k.1).comes.stands
 
-              pub from_grom : (y : MachineState) (t4 : ℕ) → TurnsToSource c y t3 t4 → FindsCopy s x y t t4
-              from_grom y t4 turns kind known =
-                  let f = second kind known in
-                  let h = f.comes.holds in
-                  let g = third kind known in
-                  let at = g.comes.holds.is in
-                  let grom : (view c).grom ≡ grom_at s.image (index kind).1 = ap (λ (u : View). u.grom) at in
-                  let small : (index kind).1 < 65536 =
-                  next_fits (index kind).1 (subst (λ (g : GromState). g.counter < 65536) grom (is_view c g.comes.stands.machine).grom.counter) in
-                  let turned = turns s.image (index kind).1 small grom in
-                  let r2 : (view c).r.r2 ≡ g.found = ap (λ (u : View). u.r.r2) at in
-                  let P : Result ℕ Reason → Type 0 = λ q. Arrives most_to_copy s x y t t4 MOVEB (AtCopy kind s) (q >>= from_address f.found) in
-                  whole kind known y t4 (subst P (sym g.is)
-                  (comes_as 187 (AtCopy kind s (f.found, FromGrom g.found)) (comes_on 166 21 (comes_on 127 39 (to_source kind known) g.comes refl) turned
-                  refl) (omega arith)
-                  (λ w k. let e = k.is in record {
-                    cells = ap (λ (u : View). u.cells) e ∙ ap (λ (u : View). u.cells) at ∙ h.holds.sees.cells;
-                    vdp = ap (λ (u : View). u.vdp.memory) e ∙ ap (λ (u : View). u.vdp.memory) at ∙ h.holds.sees.vdp;
-                    registers = ap (λ (u : View). u.vdp.registers) e ∙ ap (λ (u : View). u.vdp.registers) at ∙ h.holds.sees.registers;
-                    held = ap (λ (u : View). u.vdp.held) e ∙ ap (λ (u : View). u.vdp.held) at ∙ h.holds.sees.held;
-                    mark = ap (λ (u : View). u.r.r13) e ∙ ap (λ (u : View). u.r.r13) at ∙ h.holds.mark;
-                    stands_from = record {
-                      space = ap (λ (u : View). u.r.r5) e;
-                      grom = ap (λ (u : View). u.grom) e ∙ ap (grom_at s.image) r2;
-                      back = ap (λ (u : View). u.r.r14) e ∙ sym (next_is kind known);
-                    };
-                    stands_to = stands_again f.found.1 (view b) w h.stands_to (ap (λ (u : View). u.r.r7) e ∙ ap (λ (u : View). u.r.r7) at)
-                        (ap (λ (u : View). u.r.r8) e ∙ ap (λ (u : View). u.r.r8) at);
-                    left = ap (λ (u : View). u.r.r12) e ∙ ap (λ (u : View). u.r.r12) at ∙ h.left;
-                  })))
+              pub from_grom : {y : MachineState} {t4 : ℕ} → TurnsToSource c y t3 t4 → FindsCopy s x y t t4
+              from_grom {y = y} {t4 = t4} turns = record {
+                by = λ kind known.
+                    let f = second kind known in
+                    let h = f.comes.holds in
+                    let g = third kind known in
+                    let at = g.comes.holds.is in
+                    let grom : (view c).grom ≡ grom_at s.image (index kind).1 = ap (λ (u : View). u.grom) at in
+                    let small : (index kind).1 < 65536 =
+                    next_fits (index kind).1 (subst (λ (g : GromState). g.counter < 65536) grom (is_view c g.comes.stands.machine).grom.counter) in
+                    let turned = turns s.image (index kind).1 small grom in
+                    let r2 : (view c).r.r2 ≡ g.found = ap (λ (u : View). u.r.r2) at in
+                    let P : Result ℕ Reason → Type 0 = λ q. Arrives most_to_copy s x y t t4 MOVEB (AtCopy kind s) (q >>= from_address f.found) in
+                    whole kind known y t4 (subst P (sym g.is)
+                    (comes_as 187 (AtCopy kind s (f.found, FromGrom g.found)) (comes_on 166 21 (comes_on 127 39 (to_source kind known) g.comes refl) turned
+                    refl) (omega arith)
+                    (λ w k. let e = k.is in record {
+                      cells = ap (λ (u : View). u.cells) e ∙ ap (λ (u : View). u.cells) at ∙ h.holds.sees.cells;
+                      vdp = ap (λ (u : View). u.vdp.memory) e ∙ ap (λ (u : View). u.vdp.memory) at ∙ h.holds.sees.vdp;
+                      registers = ap (λ (u : View). u.vdp.registers) e ∙ ap (λ (u : View). u.vdp.registers) at ∙ h.holds.sees.registers;
+                      held = ap (λ (u : View). u.vdp.held) e ∙ ap (λ (u : View). u.vdp.held) at ∙ h.holds.sees.held;
+                      mark = ap (λ (u : View). u.r.r13) e ∙ ap (λ (u : View). u.r.r13) at ∙ h.holds.mark;
+                      stands_from = record {
+                        space = ap (λ (u : View). u.r.r5) e;
+                        grom = ap (λ (u : View). u.grom) e ∙ ap (grom_at s.image) r2;
+                        back = ap (λ (u : View). u.r.r14) e ∙ sym (next_is kind known);
+                      };
+                      stands_to = stands_again f.found.1 (view b) w h.stands_to (ap (λ (u : View). u.r.r7) e ∙ ap (λ (u : View). u.r.r7) at)
+                          (ap (λ (u : View). u.r.r8) e ∙ ap (λ (u : View). u.r.r8) at);
+                      left = ap (λ (u : View). u.r.r12) e ∙ ap (λ (u : View). u.r.r12) at ∙ h.left;
+                    })));
+              }

@@ -1,11 +1,11 @@
 -- MOVE from its dispatch to the end of the step.
-use Rattle.std.proofs.Common.{ℕ, ◌*◌, ◌+◌, ◌<◌, ◌≡◌, ◌≤◌, ap, arith, Err, false, Ok, refl, Some, subst, sym, true}
+use Rattle.std.proofs.Common.{ℕ, ◌*◌, ◌+◌, ◌≡◌, ap, arith, Err, false, Ok, refl, Some, subst, sym, true}
 use Rattle.sim_rows.proofs.Common.{bound, bound_stop, Changes, comes_on, fetched_of, finished, From, FromGrom, FromMemory, GOMOVE, GplState, grom_at, GSTOP}
-use Rattle.sim_rows.proofs.Common.{idle_of, is_end, IsFetched, MachineState, matches, most_to_dispatch, Move, MOVEB, MoveKind, number_of, operation_in}
-use Rattle.sim_rows.proofs.Common.{PortsAreIdle, reaches, Reason, Sees, Stands, Stepped, Stopped, stops, To, Turned, turned_by, View, view, WORKSPACE}
+use Rattle.sim_rows.proofs.Common.{idle_of, is_end, MachineState, matches, most_to_dispatch, Move, MOVEB, MoveKind, number_of, operation_in, reaches, Reason}
+use Rattle.sim_rows.proofs.Common.{Sees, Stands, Stepped, Stopped, stops, To, Turned, turned_by, View, view, WORKSPACE}
 use Rattle.sim_copy.specs.Copying.{CopiesBytes, StandsFrom}
 use Rattle.sim_move.specs.Family.{is_move}
-use Rattle.sim_move.specs.Moves.{AtCopy, begun, copy_in, FindsCopy, source_read, target_read}
+use Rattle.sim_move.specs.Moves.{AtCopy, begun, copy_in, FindsCopy, MayCopy, source_read, target_read}
 use Rattle.sim_move.proofs.Arriving.{Found, found, Missing, missing}
 use Rattle.sim_move.proofs.Copies.{kind_of}
 use Rattle.sim_move.proofs.Lies.{FromLies, registers_there, source_lies, source_visible, target_lies, target_visible, ToLies}
@@ -23,7 +23,7 @@ grom_of c (FromGrom address) w h = h.grom
 sees_of : (kind : MoveKind) (s : GplState) (f : (ℕ × To) × From) (w : View) → AtCopy kind s f w → Sees s (place_in_grom (begun kind s) f.1) w
 sees_of kind s f w h = record { cells = h.cells; vdp = h.vdp; registers = h.registers; held = h.held; grom = grom_of (begun kind s) f.1 w h.stands_from }
 
-module _ (s : GplState) (x a : MachineState) (t t1 : ℕ) (stands : Stands x GOMOVE) (family : is_move (operation_in s) ≡ true) (finds : FindsCopy s x a t t1)
+module _ (s : GplState) {x a : MachineState} {t t1 : ℕ} (stands : Stands x GOMOVE) (family : is_move (operation_in s) ≡ true) (finds : FindsCopy s x a t t1)
   where
     kind : MoveKind
     kind = (kind_of (operation_in s) family).0
@@ -38,7 +38,7 @@ module _ (s : GplState) (x a : MachineState) (t t1 : ℕ) (stands : Stands x GOM
     -- a check fails
     module _ (here : a.cpu.pc ≡ GSTOP) where
       m : Missing 187 s x a t t1 (copy_in kind s)
-      m = missing 187 s x a t t1 MOVEB (AtCopy kind s) (copy_in kind s) (λ e. absurd (omega arith)) here (finds kind known)
+      m = missing 187 s x a t t1 MOVEB (AtCopy kind s) (copy_in kind s) (λ e. absurd (omega arith)) here (finds.by kind known)
 
       pub workspace : a.cpu.wp ≡ WORKSPACE
       workspace = m.comes.stands.wp
@@ -56,16 +56,7 @@ module _ (s : GplState) (x a : MachineState) (t t1 : ℕ) (stands : Stands x GOM
     -- all is found
     module _ (away : a.cpu.pc ≡ GSTOP → ⊥) where
       g : Found 187 x a t t1 MOVEB (AtCopy kind s) (copy_in kind s)
-      g = found 187 s x a t t1 MOVEB (AtCopy kind s) (copy_in kind s) away (finds kind known)
-
-      pub stands_copy : Stands a MOVEB
-      stands_copy = g.comes.stands
-
-      pub idle_copy : PortsAreIdle a.cpu.memory
-      idle_copy = idle_of a.cpu.memory s (place_in_grom (begun kind s) g.found.1) (sees_of kind s g.found (view a) g.comes.holds)
-
-      pub fetched_copy : IsFetched a.cpu.memory.grom
-      fetched_copy = fetched_of a.cpu.memory s (place_in_grom (begun kind s) g.found.1) (sees_of kind s g.found (view a) g.comes.holds)
+      g = found 187 s x a t t1 MOVEB (AtCopy kind s) (copy_in kind s) away (finds.by kind known)
 
       to_lies : ToLies g.found.0.0 g.found.0.1
       to_lies = target_lies s g.found.0.0 (target_read kind s).0 g.found.0.1 (parts s kind g.found g.is).target
@@ -73,17 +64,22 @@ module _ (s : GplState) (x a : MachineState) (t t1 : ℕ) (stands : Stands x GOM
       from_lies : FromLies g.found.0.0 g.found.1
       from_lies = source_lies s g.found.0.0 (source_read kind s).0 g.found.1 (parts s kind g.found g.is).source
 
-      pub source_copy : (view a).r.r5 ≡ 0 → (view a).r.r2 + (view a).r.r12 ≤ 0xC2
-      source_copy = let h = g.comes.holds in source_visible g.found.0.0 (begun kind s) g.found.1 (view a) h.stands_from h.left from_lies
+      pub may_copy : MayCopy a
+      may_copy =
+          let h = g.comes.holds in
+          let at = place_in_grom (begun kind s) g.found.1 in
+          let sees = sees_of kind s g.found (view a) h in
+          record {
+            stands = g.comes.stands;
+            idle = idle_of a.cpu.memory s at sees;
+            fetched = fetched_of a.cpu.memory s at sees;
+            source = source_visible g.found.0.0 (begun kind s) g.found.1 (view a) h.stands_from h.left from_lies;
+            target = target_visible g.found.0.0 g.found.0.1 (view a) h.stands_to h.left to_lies;
+            registers = registers_there g.found.0.0 g.found.0.1 (view a) h.stands_to h.left to_lies;
+          }
 
-      pub target_copy : (view a).r.r8 ≡ 0 → (view a).r.r7 + (view a).r.r12 ≤ 0xC2
-      target_copy = let h = g.comes.holds in target_visible g.found.0.0 g.found.0.1 (view a) h.stands_to h.left to_lies
-
-      pub registers_copy : 1 < (view a).r.r8 → (view a).r.r7 + (view a).r.r12 ≤ 8
-      registers_copy = let h = g.comes.holds in registers_there g.found.0.0 g.found.0.1 (view a) h.stands_to h.left to_lies
-
-      pub turned : (y : MachineState) (t2 : ℕ) → CopiesBytes a y t1 t2 → Turned s most_to_dispatch x y t t2 Stepped
-      turned y t2 copies =
+      pub turned : {y : MachineState} {t2 : ℕ} → CopiesBytes a y t1 t2 → Turned s most_to_dispatch x y t t2 Stepped
+      turned {y = y} {t2 = t2} copies =
           let bytes = g.found.0.0 in
           let next = finished (made s kind g.found) in
           let c = comes_on 187 (40 * bytes + 42) g.comes (copies (begun kind s) g.found.1 g.found.0.1 bytes g.comes.holds) refl in

@@ -4,9 +4,9 @@ use Rattle.sim_rows.proofs.Common.{◌>>=◌, ADDR, Asking, barred, behind_code,
 use Rattle.sim_rows.proofs.Common.{Finds, finds_of, FindsOperand, GplOperand, GplState, grom_at, GromState, GSTOP, Holds, holds_again, holds_loaded, idle_again}
 use Rattle.sim_rows.proofs.Common.{idle_of, in_register, IsFetched, IsVisible, last_out, length_at, length_of, lies_at, LOAD, Loaded, LoadsFrom, LoadsStream}
 use Rattle.sim_rows.proofs.Common.{LoadsValue, located, MachineState, most_of_load, MOVEL, MOVEN, number_of_space, operand_at, Place, place_in, place_is}
-use Rattle.sim_rows.proofs.Common.{place_lies, place_of, PortsAreIdle, previous-next, Reason, return_of, sees_again, space_small, SRL, Stands, state_of}
-use Rattle.sim_rows.proofs.Common.{streamed, value_at, value_same, View, view, visible_of, width_in, Word, word_at}
-use Rattle.sim_move.specs.Moves.{Arrives, AtPlace, FindsLength, Follows, LengthTold, LoadsFollowing, LoadsPlaced}
+use Rattle.sim_rows.proofs.Common.{place_lies, place_of, PortsAreIdle, previous-next, Reason, return_of, sees_again, space_small, SRL, state_of, streamed}
+use Rattle.sim_rows.proofs.Common.{value_at, value_same, View, view, visible_of, width_in, Word, word_at}
+use Rattle.sim_move.specs.Moves.{Arrives, AsksAddress, AsksLength, AtPlace, FindsLength, Follows, LengthTold, LoadsFollowing, LoadsPlaced}
 use Rattle.sim_move.proofs.Numbers.{odd_bit}
 use Rattle.sim_move.proofs.Ways.{first_way, second_way}
 use Rattle.sim_move.specs.Pieces as pieces
@@ -156,15 +156,16 @@ module _ (s : GplState) {x : MachineState} {t : ℕ} (d : Dispatched s (view x))
             });
           }
 
-      pub idle_direct : PortsAreIdle a.cpu.memory
-      idle_direct = idle_of a.cpu.memory s (behind_code s) direct.comes.holds.holds.sees
+      pub asks_direct : AsksLength a
+      asks_direct = record {
+        stands = direct.comes.stands;
+        idle = idle_of a.cpu.memory s (behind_code s) direct.comes.holds.holds.sees;
+        visible = λ z. let n = direct.comes.holds.space in absurd (omega arith);
+      }
 
-      pub visible_direct : IsVisible (view a).r.r5 (view a).r.r2 (view a).r.r3
-      visible_direct = λ z. let n = direct.comes.holds.space in absurd (omega arith)
-
-      pub found_direct : (q : MachineState) (k : ℕ) → LoadsFollowing a q t1 k → FindsLength s x q t k
-      found_direct q k l =
-          subst (FindsBy s x q t k) (sym direct.is_odd) (comes_as 70 _ (comes_on 6 18 direct.comes (l s direct.comes.holds) refl) (omega arith) (λ w b. b))
+      pub found_direct : {q : MachineState} {k : ℕ} → LoadsFollowing a q t1 k → FindsLength s x q t k
+      found_direct {q = q} {k = k} l =
+          record { by = subst (FindsBy s x q t k) (sym direct.is_odd) (comes_as 70 _ (comes_on 6 18 direct.comes (l s direct.comes.holds) refl) (omega arith) (λ w b. b)) }
 
     -- it is at an operand
     record Asked : Type 0 where
@@ -188,11 +189,15 @@ module _ (s : GplState) {x : MachineState} {t : ℕ} (d : Dispatched s (view x))
             });
           }
 
-      pub idle_asked : PortsAreIdle a.cpu.memory
-      idle_asked = idle_of a.cpu.memory s (behind_code s) asked.comes.holds.holds.sees
-
-      pub fetched_asked : IsFetched a.cpu.memory.grom
-      fetched_asked = fetched_of a.cpu.memory s (behind_code s) asked.comes.holds.holds.sees
+      pub asks_operand : AsksAddress a
+      asks_operand =
+          let h = asked.comes.holds.holds in
+          record {
+            stands = asked.comes.stands;
+            idle = idle_of a.cpu.memory s (behind_code s) h.sees;
+            fetched = fetched_of a.cpu.memory s (behind_code s) h.sees;
+            bytes = let n = h.bytes_are in omega arith;
+          }
 
       module _ (b : MachineState) (t2 : ℕ) (f : FindsOperand a b t1 t2) where
         finds : Finds a b t1 t2 operand.1 (place_of s 2 operand.0)
@@ -206,7 +211,7 @@ module _ (s : GplState) {x : MachineState} {t : ℕ} (d : Dispatched s (view x))
             subst P (sym is) (comes_as 70 _ (barred s 2 (behind_code s) MOVEN 7 reason x a b t t1 t2 asked.comes g) (omega arith) (λ w k. k))
 
         pub stopped : b.cpu.pc ≡ GSTOP → FindsLength s x b t t2
-        stopped there = subst (FindsBy s x b t t2) (sym asked.is_even) (stopped_by there (place_of s 2 operand.0) refl finds)
+        stopped there = record { by = subst (FindsBy s x b t t2) (sym asked.is_even) (stopped_by there (place_of s 2 operand.0) refl finds) }
 
         record Placed : Type 0 where
           pub place : Place
@@ -226,20 +231,20 @@ module _ (s : GplState) {x : MachineState} {t : ℕ} (d : Dispatched s (view x))
           placed : Placed
           placed = placed_by n (place_of s 2 operand.0) refl finds
 
-          pub stands_placed : Stands b MOVEN
-          stands_placed = placed.comes.stands
-
-          pub idle_placed : PortsAreIdle b.cpu.memory
-          idle_placed = idle_of b.cpu.memory s operand.1 placed.comes.holds.holds.sees
-
-          pub visible_placed : IsVisible (view b).r.r5 (view b).r.r2 (view b).r.r3
-          visible_placed =
+          pub asks_placed : AsksLength b
+          asks_placed =
               let h = placed.comes.holds in
-              visible_of placed.place 2 (view b).r.r5 (view b).r.r2 (view b).r.r3 h.from.space h.from.address h.holds.bytes_are (omega arith)
-              (lies_at 2 (place_of s 2 operand.0) placed.place (place_lies s 2 operand.0) placed.is_place)
+              record {
+                stands = placed.comes.stands;
+                idle = idle_of b.cpu.memory s operand.1 h.holds.sees;
+                visible = visible_of placed.place 2 (view b).r.r5 (view b).r.r2 (view b).r.r3 h.from.space h.from.address h.holds.bytes_are (omega arith)
+                    (lies_at 2 (place_of s 2 operand.0) placed.place (place_lies s 2 operand.0) placed.is_place);
+              }
 
-          pub found_placed : (q : MachineState) (k : ℕ) → LoadsPlaced b q t2 k → FindsLength s x q t k
-          found_placed q k l =
+          pub found_placed : {q : MachineState} {k : ℕ} → LoadsPlaced b q t2 k → FindsLength s x q t k
+          found_placed {q = q} {k = k} l =
               let P : Result Place Reason → Type 0 = λ p. Arrives 70 s x q t k MOVEL (LengthTold s operand.1) (p >>= λ p. Ok (value_at s Word p)) in
-              subst (FindsBy s x q t k) (sym asked.is_even)
-              (subst P (sym placed.is_place) (comes_on 52 18 placed.comes (l s placed.place operand.1 placed.comes.holds) refl))
+              record {
+                by = subst (FindsBy s x q t k) (sym asked.is_even)
+                    (subst P (sym placed.is_place) (comes_on 52 18 placed.comes (l s placed.place operand.1 placed.comes.holds) refl));
+              }

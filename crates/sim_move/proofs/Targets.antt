@@ -2,21 +2,17 @@
 use Rattle.std.proofs.Common.{ℕ, ◌+◌, ◌<◌, ◌∙◌, ◌≡◌, ◌≤◌, ap, arith, Bool, Err, false, if◌then◌else◌, nat_le, nat_lt, Ok, refl, Result, slice_index, Some}
 use Rattle.std.proofs.Common.{subst, sym, true}
 use Rattle.std.proofs.lemmas.Bool.{le-leb, lt-leb, ltb-false, ltb-true}
-use Rattle.sim_rows.proofs.Common.{◌>>=◌, ADDR, Asking, barred, code_byte, Comes, comes, comes_as, comes_on, comes_then, even, Exit, exit, Exits, Finds}
-use Rattle.sim_rows.proofs.Common.{finds_of, FindsOperand, from_placed, GplOperand, GplState, grom_at, GromIndexedToMemory, GromState, GromToMemory}
-use Rattle.sim_rows.proofs.Common.{GromToRegisters, GSTOP, Holds, holds_addressed, holds_again, idle_again, is_view, IsFetched, Length, LoadsFrom, MachineState}
-use Rattle.sim_rows.proofs.Common.{Memory, MemoryToMemory, most_of_address, Move, MOVEB, MOVED, MoveKind, MOVEL, MOVER, MOVES, MoveTarget, next_at}
-use Rattle.sim_rows.proofs.Common.{next_in_grom, number_of, operand_at, operation_in, past, Place, place_of, Placed, PortsAreIdle, Reason, Register, return_of}
-use Rattle.sim_rows.proofs.Common.{Stands, state_of, StoppedBy, sum_of, target_of, To, ToMemory, ToRegisters, View, view, view_of, Word}
+use Rattle.sim_rows.proofs.Common.{◌>>=◌, ADDR, Asking, barred, code_byte, Comes, comes, comes_as, comes_on, comes_then, even, Exit, exit, Exits, fetched_again}
+use Rattle.sim_rows.proofs.Common.{Finds, finds_of, FindsOperand, from_placed, GplOperand, GplState, grom_at, GromIndexedToMemory, GromState, GromToMemory}
+use Rattle.sim_rows.proofs.Common.{GromToRegisters, GSTOP, Holds, holds_addressed, holds_again, idle_again, is_view, Length, LoadsFrom, MachineState}
+use Rattle.sim_rows.proofs.Common.{MemoryToMemory, most_of_address, Move, MOVEB, MOVED, MoveKind, MOVEL, MOVER, MOVES, MoveTarget, next_at, next_in_grom}
+use Rattle.sim_rows.proofs.Common.{number_of, operand_at, operation_in, past, Place, place_of, Placed, Reason, Register, return_of, Stands, state_of, StoppedBy}
+use Rattle.sim_rows.proofs.Common.{sum_of, target_of, To, ToMemory, ToRegisters, View, view, Word}
 use Rattle.sim_rows.specs.gpl_defs.declared.instruction.MoveTarget.TheVariants as target
-use Rattle.sim_move.specs.Moves.{Arrives, FindsTarget, length_read, LengthTold, ReturnsToCopy, source_entry, target_in, target_read, TargetTold}
+use Rattle.sim_move.specs.Moves.{Arrives, AsksAddress, AsksTarget, FindsTarget, length_read, LengthTold, ReturnsToCopy, source_entry, target_in, target_read, TargetTold}
 use Rattle.sim_move.proofs.Codes.{is_low, to_memory, told}
 use Rattle.sim_move.proofs.Ways.{first_way, second_way}
 use Rattle.sim_move.specs.Pieces as pieces
-
-fetched_again : (m n : Memory) → (view_of n).grom ≡ (view_of m).grom → IsFetched m.grom → IsFetched n.grom
-unfolding view_of
-fetched_again m n e h = subst IsFetched (sym e) h
 
 -- what is found, by whether the length is within its limit
 abbrev by_limit : GplState → ℕ → MoveTarget → Bool → Result (ℕ × To) Reason
@@ -68,16 +64,18 @@ module _ {x a : MachineState} {t t1 : ℕ} (stands : Stands x MOVEL) (e : Exits 
   at_stop here false e = absurd (not_stop (sym e.stands.pc ∙ here))
 
   pub too_long : a.cpu.pc ≡ GSTOP → FindsTarget x a t t1
-  too_long here s kind count fits known h =
-      let w = at_stop here (nat_lt 0x4000 v.r.r6) e in
-      let above : nat_lt 0x4000 count ≡ true = ap (nat_lt 0x4000) (sym h.count_is) ∙ w.0 in
-      let P : Bool → Type 0 = λ b. Arrives 57 s x a t t1 (source_entry kind) (TargetTold s kind (target_read kind s).1)
-      (by_limit s count (target_read kind s).0 b) in
-      subst P (sym above) (comes w.1 (record {
-        within = omega arith;
-        to_is = refl;
-        holds = stops_there s 2 (length_read s).1 Length v (record v { r = record v.r { r0 = 4 } }) h.holds refl refl refl refl;
-      }))
+  too_long here = record {
+    by = λ s kind count fits known h.
+        let w = at_stop here (nat_lt 0x4000 v.r.r6) e in
+        let above : nat_lt 0x4000 count ≡ true = ap (nat_lt 0x4000) (sym h.count_is) ∙ w.0 in
+        let P : Bool → Type 0 = λ b. Arrives 57 s x a t t1 (source_entry kind) (TargetTold s kind (target_read kind s).1)
+        (by_limit s count (target_read kind s).0 b) in
+        subst P (sym above) (comes w.1 (record {
+          within = omega arith;
+          to_is = refl;
+          holds = stops_there s 2 (length_read s).1 Length v (record v { r = record v.r { r0 = 4 } }) h.holds refl refl refl refl;
+        }));
+  }
 
   module _ (away : a.cpu.pc ≡ GSTOP → ⊥) where
     went : (nat_lt 0x4000 v.r.r6 ≡ false) × Exits x a t t1 goes_on
@@ -166,32 +164,31 @@ module _ {x a : MachineState} {t t1 : ℕ} (stands : Stands x MOVEL) (e : Exits 
               rw (some, by_limit) c2
 
       pub registers : FindsTarget x y t t2
-      registers s kind count fits known h =
-          let k = told (code_byte s) kind fits known in
-          let none : to_memory kind ≡ false = sym k.memory ∙ ap (λ n. nat_lt n 0x38) (sym h.holds.code) ∙ to_them.0 in
-          by kind none
+      registers = record {
+        by = λ s kind count fits known h.
+            let k = told (code_byte s) kind fits known in
+            by s kind count h (sym k.memory ∙ ap (λ n. nat_lt n 0x38) (sym h.holds.code) ∙ to_them.0);
+      }
         where
-          by : (kind : MoveKind) → to_memory kind ≡ false → Arrives 57 s x y t t2 (source_entry kind) (TargetTold s kind (target_read kind s).1)
+          by : (s : GplState) (kind : MoveKind) (count : ℕ) → LengthTold s (length_read s).1 count (view x) → to_memory kind ≡ false → Arrives 57 s x y t t2 (source_entry kind) (TargetTold s kind (target_read kind s).1)
               (target_in s count (target_read kind s).0)
-          by GromToRegisters none = within s GromToRegisters y t2 count h.count_is (by_sum s count h (nat_lt 8 (sum_of Word kept.grom.fetched kept.r.r6)) refl)
-          by _ none = absurd (cc)
+          by s GromToRegisters count h none = within s GromToRegisters y t2 count h.count_is (by_sum s count h (nat_lt 8 (sum_of Word kept.grom.fetched kept.r.r6)) refl)
+          by s _ count h none = absurd (cc)
 
     -- a place in memory
     module _ (not_there : a.cpu.pc ≡ MOVER → ⊥) where
       to_it : (nat_lt v.r.r0 0x38 ≡ true) × Exits x a t t1 to_place
       to_it = first_way x a t t1 MOVER (nat_lt v.r.r0 0x38) _ _ went.1 refl not_there
 
-      pub stands_place : Stands a ADDR
-      stands_place = to_it.1.stands
-
-      pub idle_place : PortsAreIdle x.cpu.memory → PortsAreIdle a.cpu.memory
-      idle_place i = idle_again x.cpu.memory a.cpu.memory (ap (λ (w : View). w.vdp) to_it.1.shows) (ap (λ (w : View). w.grom) to_it.1.shows) i
-
-      pub fetched_place : IsFetched x.cpu.memory.grom → IsFetched a.cpu.memory.grom
-      fetched_place i = fetched_again x.cpu.memory a.cpu.memory (ap (λ (w : View). w.grom) to_it.1.shows) i
-
-      pub bytes_place : (view a).r.r3 ≤ 16384
-      bytes_place = let n = ap (λ (w : View). w.r.r3) to_it.1.shows in let le = few in omega arith
+      pub asks_place : AsksTarget x → AsksAddress a
+      asks_place q =
+          let shows = to_it.1.shows in
+          record {
+            stands = to_it.1.stands;
+            idle = idle_again x.cpu.memory a.cpu.memory (ap (λ (w : View). w.vdp) shows) (ap (λ (w : View). w.grom) shows) q.idle;
+            fetched = fetched_again x.cpu.memory a.cpu.memory (ap (λ (w : View). w.grom) shows) q.fetched;
+            bytes = let n = ap (λ (w : View). w.r.r3) shows in let le = few in omega arith;
+          }
 
       asks : (s : GplState) (count : ℕ) → LengthTold s (length_read s).1 count v → Comes 7 x a t t1 ADDR
           (λ w. Asking s count (length_read s).1 MOVED w × (w.r.r12 ≡ count))
@@ -246,10 +243,12 @@ module _ {x a : MachineState} {t t1 : ℕ} (stands : Stands x MOVEL) (e : Exits 
             subst P (sym (of_memory kind s m)) (subst Q (sym (then_ok (place_of s count (operand s).0) count)) r)
 
         pub stopped : b.cpu.pc ≡ GSTOP → FindsTarget x b t t2
-        stopped there s kind count fits known h =
-            within s kind b t2 count h.count_is
-            (found_as s kind count b t2 (kind_to_memory s kind count fits known h) (stopped_by there s kind count (operand s).1 h
-            (place_of s count (operand s).0) (finds s count h)))
+        stopped there = record {
+          by = λ s kind count fits known h.
+              within s kind b t2 count h.count_is
+              (found_as s kind count b t2 (kind_to_memory s kind count fits known h) (stopped_by there s kind count (operand s).1 h
+              (place_of s count (operand s).0) (finds s count h)));
+        }
 
         module _ (gone : b.cpu.pc ≡ GSTOP → ⊥) where
           -- where ADDR has led to, whatever the state
@@ -341,7 +340,9 @@ module _ {x a : MachineState} {t t1 : ℕ} (stands : Stands x MOVEL) (e : Exits 
             found_by s kind count fits known m h (Err reason) g = absurd (gone g.stands.pc)
 
             pub found : FindsTarget x y t t3
-            found s kind count fits known h =
-                let m = kind_to_memory s kind count fits known h in
-                within s kind y t3 count h.count_is
-                (found_as s kind count y t3 m (found_by s kind count fits known m h (place_of s count (operand s).0) (finds s count h)))
+            found = record {
+              by = λ s kind count fits known h.
+                  let m = kind_to_memory s kind count fits known h in
+                  within s kind y t3 count h.count_is
+                  (found_as s kind count y t3 m (found_by s kind count fits known m h (place_of s count (operand s).0) (finds s count h)));
+            }

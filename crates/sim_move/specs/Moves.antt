@@ -1,7 +1,8 @@
 -- The parts of MOVE up to its copy, for all states that may be there.
-use Rattle.std.specs.Prelude.{ℕ, ◌%◌, ◌/◌, ◌<◌, ◌==◌, ◌≡◌, Err, List, Ok, Result, Some}
+use Rattle.std.specs.Prelude.{ℕ, ◌%◌, ◌+◌, ◌/◌, ◌<◌, ◌==◌, ◌≡◌, ◌≤◌, Err, List, Ok, Result, Some}
 use Rattle.sim_rows.specs.Prelude.{◌>>=◌, ADDR, behind_code, Changes, code_byte, Comes, From, from_at, GplState}
-use Rattle.sim_rows.specs.Prelude.{grom_at, GSTOP, Holds, index_by, indexed, length_at, length_of, LoadsFrom}
+use Rattle.sim_rows.specs.Prelude.{grom_at, GSTOP, Holds, index_by, indexed, IsFetched, IsVisible, length_at}
+use Rattle.sim_rows.specs.Prelude.{length_of, LoadsFrom, MOVEN, PortsAreIdle, Stands, VISIBLE_CELLS}
 use Rattle.sim_rows.specs.Prelude.{MachineState, MemoryToMemory, Move, MOVEB, MoveKind, MOVEL, MoveLength, MOVES}
 use Rattle.sim_rows.specs.Prelude.{MoveSource, MoveTarget, MOVEX, operation_in, origin_of, Place, Reason, StoppedBy}
 use Rattle.sim_rows.specs.Prelude.{target_at, target_of, To, unchanged, value_at, View, view, within_limit, Word}
@@ -22,6 +23,34 @@ source_read kind s = from_at kind s.image (target_read kind s).1
 -- the changes of MOVE before the first byte: the next instruction is the one behind
 abbrev pub begun : MoveKind → GplState → Changes
 begun kind s = unchanged (record s { pc = (source_read kind s).1 })
+
+-- ADDR is asked for the place of an operand of MOVE.
+pub record AsksAddress (x : MachineState) : Type 0 where
+  pub stands : Stands x ADDR
+  pub idle : PortsAreIdle x.cpu.memory
+  pub fetched : IsFetched x.cpu.memory.grom
+  pub bytes : (view x).r.r3 ≤ 16384
+
+-- LOAD is to be asked for the length.
+pub record AsksLength (x : MachineState) : Type 0 where
+  pub stands : Stands x MOVEN
+  pub idle : PortsAreIdle x.cpu.memory
+  pub visible : let r = (view x).r in IsVisible r.r5 r.r2 r.r3
+
+-- The length is loaded, and the target is to be found.
+pub record AsksTarget (x : MachineState) : Type 0 where
+  pub stands : Stands x MOVEL
+  pub idle : PortsAreIdle x.cpu.memory
+  pub fetched : IsFetched x.cpu.memory.grom
+
+-- All is found, and the copy may begin.
+pub record MayCopy (x : MachineState) : Type 0 where
+  pub stands : Stands x MOVEB
+  pub idle : PortsAreIdle x.cpu.memory
+  pub fetched : IsFetched x.cpu.memory.grom
+  pub source : let r = (view x).r in r.r5 ≡ 0 → r.r2 + r.r12 ≤ VISIBLE_CELLS
+  pub target : let r = (view x).r in r.r8 ≡ 0 → r.r7 + r.r12 ≤ VISIBLE_CELLS
+  pub registers : let r = (view x).r in 1 < r.r8 → r.r7 + r.r12 ≤ 8
 
 -- The machine arrives at an address with what a definition gives, or stops by its reason.
 abbrev pub Arrives : {X : Type 0} → ℕ → GplState → MachineState → MachineState → ℕ → ℕ → ℕ
@@ -53,9 +82,8 @@ LoadsPlaced x y before after =
     (s : GplState) → (place : Place) → (next : ℕ) → AtPlace s place next (view x)
     → Comes 18 x y before after MOVEL (LengthTold s next (value_at s Word place))
 
-abbrev pub FindsLength : GplState → MachineState → MachineState → ℕ → ℕ → Type 0
-FindsLength s x y before after =
-    Arrives 70 s x y before after MOVEL (LengthTold s (length_read s).1) (length_of s (length_read s).0)
+pub record FindsLength (s : GplState) (x y : MachineState) (before after : ℕ) : Type 0 where
+  pub by : Arrives 70 s x y before after MOVEL (LengthTold s (length_read s).1) (length_of s (length_read s).0)
 
 -- Where the source begins: a source in memory at ADDR, one in GROM at MOVES.
 abbrev pub source_entry : MoveKind → ℕ
@@ -80,12 +108,11 @@ target_in s count target = do
   to ← target_of s bytes target
   Ok (bytes, to)
 
-abbrev pub FindsTarget : MachineState → MachineState → ℕ → ℕ → Type 0
-FindsTarget x y before after =
-    (s : GplState) → (kind : MoveKind) → (count : ℕ) → code_byte s < 256 → operation_in s ≡ Some (Move kind)
-    → LengthTold s (length_read s).1 count (view x)
-    → Arrives 57 s x y before after (source_entry kind) (TargetTold s kind (target_read kind s).1)
-    (target_in s count (target_read kind s).0)
+pub record FindsTarget (x y : MachineState) (before after : ℕ) : Type 0 where
+  pub by : (s : GplState) → (kind : MoveKind) → (count : ℕ) → code_byte s < 256 → operation_in s ≡ Some (Move kind)
+      → LengthTold s (length_read s).1 count (view x)
+      → Arrives 57 s x y before after (source_entry kind) (TargetTold s kind (target_read kind s).1)
+      (target_in s count (target_read kind s).0)
 
 -- At MOVEX a source's address in GROM, with its index, is in register 2.
 pub record SourceTold (v : View) (image : List ℕ) (next address : ℕ) (w : View) : Type 0 where
@@ -131,7 +158,6 @@ copy_in kind s = do
 abbrev pub AtCopy : MoveKind → GplState → (ℕ × To) × From → View → Type 0
 AtCopy kind s found w = Copying (begun kind s) found.1 found.0.1 found.0.0 w
 
-abbrev pub FindsCopy : GplState → MachineState → MachineState → ℕ → ℕ → Type 0
-FindsCopy s x y before after =
-    (kind : MoveKind) → operation_in s ≡ Some (Move kind)
-    → Arrives most_to_copy s x y before after MOVEB (AtCopy kind s) (copy_in kind s)
+pub record FindsCopy (s : GplState) (x y : MachineState) (before after : ℕ) : Type 0 where
+  pub by : (kind : MoveKind) → operation_in s ≡ Some (Move kind)
+      → Arrives most_to_copy s x y before after MOVEB (AtCopy kind s) (copy_in kind s)

@@ -4,16 +4,17 @@ ghost use Rattle.std.specs.Prelude.{◌≡◌, true};
 ghost use Rattle.sim_rows.specs.Prelude.{AtDispatch, Dispatched, most_to_dispatch, number_of, operation_seen, Stands};
 ghost use Rattle.sim_rows.specs.Prelude.{state_at_dispatch, Turned, view, WORKSPACE};
 ghost use Rattle.sim_move.specs.Family.{is_move};
-ghost use Rattle.sim_move.specs.Moves.{FindsCopy};
+ghost use Rattle.sim_copy.specs.Copying.{CopiesBytes};
+ghost use Rattle.sim_move.specs.Moves.{FindsCopy, MayCopy};
 ghost use Rattle.sim_rows.specs.native_interp.declared.addresses.TheConstants as address;
 
 use crate::length::find_length;
+use crate::operand::find_operand;
 use crate::source::{index_source, turn_to_source};
 use crate::target::find_target;
 use sim_copy::copy_bytes;
 use sim_rows::labels::{GSTOP, MOVES, WORKSPACE};
 use sim_rows::processor::{Machine, Steps};
-use sim_rows::subroutines::run_address;
 use sim_rows::{Reason, Turn, register};
 use std::sync::ledger::Ledger;
 
@@ -33,7 +34,7 @@ fn find_copy<L: Ledger>(machine: &mut Machine, steps: &mut Steps<L>)
         return;
     }
     if machine.pc() != MOVES {
-        run_address(machine, steps);
+        find_operand(machine, steps);
         return;
     }
     index_source(machine, steps);
@@ -41,6 +42,14 @@ fn find_copy<L: Ledger>(machine: &mut Machine, steps: &mut Steps<L>)
         return;
     }
     turn_to_source(machine, steps);
+}
+
+/// Copies the bytes, once all is found.
+fn copy_found<L: Ledger>(machine: &mut Machine, steps: &mut Steps<L>)
+    requires { MayCopy machine.old }
+    ensures { CopiesBytes machine.old machine.new steps.old steps.new }
+{
+    copy_bytes(machine, steps);
 }
 
 /// The reason that register 0 tells at a stop.
@@ -70,6 +79,6 @@ pub fn run_move<L: Ledger>(machine: &mut Machine, steps: &mut Steps<L>) -> Turn
     if machine.pc() == GSTOP {
         return Turn::Stopped(reason_told(machine));
     }
-    copy_bytes(machine, steps);
+    copy_found(machine, steps);
     Turn::Stepped
 }

@@ -1,20 +1,19 @@
 //! The length of MOVE.
 
-ghost use Rattle.sim_rows.specs.Prelude.{Dispatched, IsVisible, PortsAreIdle, Stands, state_at_dispatch, view};
-ghost use Rattle.sim_move.specs.Moves.{FindsLength, LoadsFollowing, LoadsPlaced};
+ghost use Rattle.sim_rows.specs.Prelude.{Dispatched, Stands, state_at_dispatch, view};
+ghost use Rattle.sim_move.specs.Moves.{AsksLength, FindsLength, LoadsFollowing, LoadsPlaced};
 ghost use Rattle.sim_rows.specs.native_interp.declared.addresses.TheConstants as address;
 
+use crate::operand::find_operand;
 use crate::pieces::{ask_length, load_length};
 use sim_rows::labels::{ADDR, GSTOP};
 use sim_rows::processor::{Machine, Steps};
-use sim_rows::subroutines::{run_address, run_load};
+use sim_rows::subroutines::run_load;
 use std::sync::ledger::Ledger;
 
 /// Loads the length of MOVE, which follows in GROM or is at a place that was found.
 fn load_count<L: Ledger>(machine: &mut Machine, steps: &mut Steps<L>)
-    requires stands { Stands machine.old address.MOVEN }
-    requires idle { PortsAreIdle machine.old.cpu.memory }
-    requires visible { let r = (view machine.old).r in IsVisible r.r5 r.r2 r.r3 }
+    requires { AsksLength machine.old }
     ensures following { LoadsFollowing machine.old machine.new steps.old steps.new }
     ensures placed { LoadsPlaced machine.old machine.new steps.old steps.new }
 {
@@ -34,7 +33,7 @@ pub(crate) fn find_length<L: Ledger>(machine: &mut Machine, steps: &mut Steps<L>
         load_count(machine, steps);
         return;
     }
-    run_address(machine, steps);
+    find_operand(machine, steps);
     if machine.pc() == GSTOP {
         return;
     }

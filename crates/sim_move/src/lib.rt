@@ -3,6 +3,7 @@
 
 mod family;
 mod length;
+mod operand;
 mod pieces;
 mod source;
 mod target;

@@ -1,7 +1,7 @@
 -- The names that the proofs of a family cite, passed on from one place. Declares nothing.
-pub use Rattle.sim_view.proofs.Common.{comes, comes_as, comes_on, comes_then, given, Goes, high-join, is_view, IsView, Leads, leads, Part, part_then, pick}
-pub use Rattle.sim_view.proofs.Common.{off, on, piece, previous-next, reg_word, Rest}
-pub use Rattle.sim_view.specs.Bounds.{most_of_address, most_of_alu_row, most_of_case_row, most_of_exchange_row, most_of_load, most_of_product_row}
+pub use Rattle.sim_view.proofs.Common.{comes, comes_as, comes_on, comes_then, given, Goes, high-join, is_view, IsView, Leads, leads, off, on, Part, part_then}
+pub use Rattle.sim_view.proofs.Common.{pick, piece, previous-next, reg_word, Rest}
+pub use Rattle.sim_view.specs.Bounds.{most_of_address, most_of_alu_row, most_of_byte, most_of_case_row, most_of_exchange_row, most_of_load, most_of_product_row}
 pub use Rattle.sim_view.specs.Bounds.{most_of_quotient_row, most_of_shift_row, most_of_stack_row, most_of_store, most_to_copy}
 pub use Rattle.sim_operands.proofs.Addressing.{Answers, index_read, IndexRead, range_read, RangeRead}
 pub use Rattle.sim_operands.proofs.Facts.{at_most, byte_is, down, no_other, not_limit, spot_cell}
@@ -23,9 +23,9 @@ pub use Rattle.sim_rows.proofs.Telling.{stands_at}
 pub use Rattle.sim_rows.specs.Prelude.{◌>>=◌, absolute_flags, absolute_of, ABSV, ADDR, Addressed, ADDV, ALL, ANDV, Answer, AreTurns, ASPACE, AtDispatch, AtRow}
 pub use Rattle.sim_rows.specs.Prelude.{B, BACK, Barred, behind, behind_code, behind_first, bit_of, bound, bound_at, bound_by, BRANCH, Branch, branched, BTEST}
 pub use Rattle.sim_rows.specs.Prelude.{Byte, byte_at, byte_from, byte_in, bytes_by, bytes_or_none, CALL, CALLN, CALLS, CALLT, CARRY, CASE, CASEN, CASET, CASEV}
-pub use Rattle.sim_rows.specs.Prelude.{Cell, cells_at, CEQ, CEQV, CFALSE, CGE, CGEV, CGT, CGTV, CH, Changed, Changes, CHE, CHEV, CHV, CLOG, CLOGV, CLRV}
-pub use Rattle.sim_rows.specs.Prelude.{code_byte, Comes, complement_of, condition, conjunction_of, copied, COPY, COPYN, COPYS, COUNT, count_in, count_of, Cpu}
-pub use Rattle.sim_rows.specs.Prelude.{CTRUE, CZ, CZV, DECTV, destination_bytes, difference_flags, difference_of, Dispatched, DIV, DIVBY, DIVE, divided}
+pub use Rattle.sim_rows.specs.Prelude.{Cell, cells_at, CEQ, CEQV, CFALSE, CGE, CGEV, CGT, CGTV, CH, Changed, Changes, CHARACTER, CHE, CHEV, CHV, CLOG, CLOGV}
+pub use Rattle.sim_rows.specs.Prelude.{CLRV, code_byte, Comes, complement_of, condition, conjunction_of, copied, COPY, COPYN, COPYS, COUNT, count_in, count_of}
+pub use Rattle.sim_rows.specs.Prelude.{Cpu, CTRUE, CZ, CZV, DECTV, destination_bytes, difference_flags, difference_of, Dispatched, DIV, DIVBY, DIVE, divided}
 pub use Rattle.sim_rows.specs.Prelude.{division_of, DIVL, DIVQ, DIVS, DIVV, DIVW, double_at, double_word, drawn, Ended, EndsAs, EndsRow, even, EX, EXB}
 pub use Rattle.sim_rows.specs.Prelude.{exchanged, exclusive_or_of, executed, EXIT, Exit, exit, Exits, EXV, FETCH, FETCHA, FETCHB, FETCHD, FETCHK, FETCHN}
 pub use Rattle.sim_rows.specs.Prelude.{FETCHP, FETCHR, FETCHS, FETCHV, FILL, Finds, FindsOperand, finished, first_of, Flags, From, FromGrom, FromMemory, GBOOT}
@@ -37,19 +37,20 @@ pub use Rattle.sim_rows.specs.Prelude.{is_vdp_idle, is_visible, IsFetched, IsMac
 pub use Rattle.sim_rows.specs.Prelude.{last_out, Length, length_at, length_of, LOAD, Loaded, loaded_of, LoadsFrom, LoadsFromSource, LoadsStream, LoadsValue}
 pub use Rattle.sim_rows.specs.Prelude.{low, MachineState, marked_by, Matches, Memory, MemoryToMemory, modulus, most_to_dispatch, Move, MOVEA, MOVEB, MOVED}
 pub use Rattle.sim_rows.specs.Prelude.{moved, MOVEK, MoveKind, MOVEL, MoveLength, MOVEN, MOVER, MOVES, MoveSource, MoveTarget, MOVEW, MOVEX, MUL, MULB, MULV}
-pub use Rattle.sim_rows.specs.Prelude.{negation_flags, negation_of, NEGV, new_grom, next_at, next_from, next_in_grom, next_of, next_seed, next_to, number_of}
-pub use Rattle.sim_rows.specs.Prelude.{number_of_space, of_register, on_stack, One, one_more, OneName, ones_cleared, ones_set, Opcode, operands_of}
-pub use Rattle.sim_rows.specs.Prelude.{operation_at, operation_entry, operation_in, operation_seen, origin_of, ORV, OVER, OVF, past, Place, place_in, place_of}
-pub use Rattle.sim_rows.specs.Prelude.{Placed, Plain, PlainOp, plus, PortsAreIdle, previous_in_grom, product_of, PUSH, PUSHV, RAND, RANDL, RANDOM, ranged}
-pub use Rattle.sim_rows.specs.Prelude.{read_by, Reason, Register, repeated, repeated_sign, RESUME, return_of, row_entry, row_result, row_width, RTN, RTNC, RTNP}
-pub use Rattle.sim_rows.specs.Prelude.{run, Runs, RunsRow, second_by, SEED, SEEK, Sees, SeesFinished, SeesResult, set_to, set_video_to, shifted, shifted_left}
-pub use Rattle.sim_rows.specs.Prelude.{shifted_right, ShiftOp, SHOW, shown_by, signed, size_of, SLA, SLLB, SLLV, Source, source_at, source_of, Space, space_of}
-pub use Rattle.sim_rows.specs.Prelude.{SRA, SRAB, SRAV, SRC, SRCB, SRCV, SRL, SRLB, SRLV, Stack, Stands, STATB, state_at_dispatch, state_of, STATUS, Status}
-pub use Rattle.sim_rows.specs.Prelude.{status_byte, status_of, status_word, step, Stepped, steps, STO, Stopped, StoppedBy, STORE, Stored, StoresRegister}
-pub use Rattle.sim_rows.specs.Prelude.{StoresResult, StoresTo, StoresValue, Storing, STREAM, streamed, STV, SUBV, sum_flags, sum_of, swapped, TAKE, target_of}
-pub use Rattle.sim_rows.specs.Prelude.{To, ToMemory, ToRegisters, Turn, Turned, TurnedBy, TurnsBy, TurnsRow, Two, two, TwoName, unchanged, unit, UNKN, value_at}
-pub use Rattle.sim_rows.specs.Prelude.{Vdp, vdp_address_written, vdp_data_written, VdpState, View, view, WHERE, Width, width_in, with_byte, with_byte_from}
-pub use Rattle.sim_rows.specs.Prelude.{with_byte_in, with_byte_to, with_cell, with_condition, with_double, with_immediate, with_overflow, with_pc}
-pub use Rattle.sim_rows.specs.Prelude.{with_quotient, with_register, with_status, with_stop, with_tested, with_value, with_word, with_word_in, within_limit}
-pub use Rattle.sim_rows.specs.Prelude.{Word, word_at, word_in, word_of, word_or_byte, WORKSPACE, XORV}
+pub use Rattle.sim_rows.specs.Prelude.{negation_flags, negation_of, NEGV, new_grom, next_at, next_from, next_in_grom, next_in_vdp, next_of, next_seed, next_to}
+pub use Rattle.sim_rows.specs.Prelude.{NoOperation, number_of, number_of_space, of_register, on_stack, One, one_more, OneName, ones_cleared, ones_set, Opcode}
+pub use Rattle.sim_rows.specs.Prelude.{operands_of, operation_at, operation_entry, operation_in, operation_seen, origin_of, ORV, OVER, OVF, pair_kind, PairKind}
+pub use Rattle.sim_rows.specs.Prelude.{past, Place, place_in, place_of, Placed, Plain, PlainOp, plus, PortsAreIdle, previous_in_grom, product_of, PUSH, PUSHV}
+pub use Rattle.sim_rows.specs.Prelude.{RAND, RANDL, RANDOM, ranged, read_by, ReadSetup, Reason, Register, RegisterWrite, repeated, repeated_sign, RESUME}
+pub use Rattle.sim_rows.specs.Prelude.{return_of, row_entry, row_result, row_width, RTN, RTNC, RTNP, run, Runs, RunsRow, second_by, SEED, SEEK, Sees}
+pub use Rattle.sim_rows.specs.Prelude.{SeesFinished, SeesResult, set_to, set_video_to, shifted, shifted_left, shifted_right, ShiftOp, SHOW, shown_by, signed}
+pub use Rattle.sim_rows.specs.Prelude.{size_of, SLA, SLLB, SLLV, Source, source_at, source_of, Space, space_of, SRA, SRAB, SRAV, SRC, SRCB, SRCV, SRL, SRLB}
+pub use Rattle.sim_rows.specs.Prelude.{SRLV, Stack, Stands, STATB, state_at_dispatch, state_of, STATUS, Status, status_byte, status_of, status_word, step}
+pub use Rattle.sim_rows.specs.Prelude.{Stepped, steps, STO, Stopped, StoppedBy, STORE, Stored, StoresRegister, StoresResult, StoresTo, StoresValue, Storing}
+pub use Rattle.sim_rows.specs.Prelude.{STREAM, streamed, STV, SUBV, sum_flags, sum_of, swapped, TAKE, target_of, To, ToMemory, ToRegisters, Turn, Turned}
+pub use Rattle.sim_rows.specs.Prelude.{TurnedBy, TurnsBy, TurnsRow, Two, two, TwoName, unchanged, unit, UNKN, value_at, Vdp, vdp_address_written}
+pub use Rattle.sim_rows.specs.Prelude.{vdp_data_written, VdpState, View, view, WHERE, Width, width_in, with_byte, with_byte_from, with_byte_in, with_byte_to}
+pub use Rattle.sim_rows.specs.Prelude.{with_cell, with_condition, with_double, with_immediate, with_overflow, with_pc, with_quotient, with_register}
+pub use Rattle.sim_rows.specs.Prelude.{with_status, with_stop, with_tested, with_value, with_word, with_word_in, within_limit, Word, word_at, word_in, word_of}
+pub use Rattle.sim_rows.specs.Prelude.{word_or_byte, WORKSPACE, WriteSetup, XORV}
 unfoldable pub use Rattle.sim_rows.specs.Prelude.{after, operand_at, reading, view_of, zeros}

@@ -1,4 +1,4 @@
-use Rattle.sim_copy.proofs.Counting.{Turns}
+use Rattle.sim_copy.proofs.Turns.{Turns}
 use Rattle.sim_copy.proofs.copy.copy_rest.Given as goal
 
 abbrev pub invariant-loop : goal.invariant-loop

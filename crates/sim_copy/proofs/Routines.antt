@@ -1,18 +1,67 @@
--- A byte on its way from the source to the target.
+-- A byte that LOAD and STORE copy.
 use Rattle.std.proofs.Common.{ℕ, ◌<◌, ◌==◌, ◌∙◌, ◌≡◌, ap, arith, Bool, false, if◌then◌else◌, List, nat_lt, not, refl, subst, sym}
-use Rattle.std.proofs.lemmas.Bool.{eqb-false, eqb-true, ltb-false, ltb-true}
-use Rattle.std.proofs.Math.Nat.{pos_of_ne-zero}
-use Rattle.sim_rows.proofs.Common.{byte_from, Changes, Comes, comes, comes_as, comes_on, comes_then, COPY, COPYN, COPYS, Cpu, Exits, fetched_again, From}
+use Rattle.std.proofs.lemmas.Bool.{ltb-false, ltb-true}
+use Rattle.sim_rows.proofs.Common.{byte_from, Changes, Comes, comes, comes_as, comes_on, comes_then, COPY, COPYN, COPYS, Cpu, difference_of, Exits, From}
 use Rattle.sim_rows.proofs.Common.{FromGrom, FromMemory, GplState, grom_at, GromState, high, idle_again, idle_grom, idle_told, idle_video, in_register}
-use Rattle.sim_rows.proofs.Common.{IsFetched, IsVisible, join, LOAD, Loaded, LoadsStream, LoadsValue, MachineState, marked_by, most_of_load, most_of_store}
-use Rattle.sim_rows.proofs.Common.{next_at, of_register, pick, Place, place_in, PortsAreIdle, return_of, Space, Stands, state_of, STORE, Stored, StoresRegister}
-use Rattle.sim_rows.proofs.Common.{StoresValue, streamed, To, ToMemory, ToRegisters, unchanged, value_at, Vdp, View, view, width_in, with_byte_in, with_byte_to}
-use Rattle.sim_rows.proofs.Common.{with_value}
+use Rattle.sim_rows.proofs.Common.{IsFetched, IsVisible, join, LOAD, Loaded, LoadsStream, LoadsValue, MachineState, marked_by, Memory, most_of_byte}
+use Rattle.sim_rows.proofs.Common.{most_of_load, most_of_store, next_at, next_in_grom, of_register, pick, Place, place_in, PortsAreIdle, return_of, Space}
+use Rattle.sim_rows.proofs.Common.{Stands, state_of, STORE, Stored, StoresRegister, StoresValue, streamed, sum_of, To, ToMemory, ToRegisters, unchanged}
+use Rattle.sim_rows.proofs.Common.{value_at, Vdp, View, view, view_of, width_in, with_byte_in, with_byte_to, with_value, Word}
 use Rattle.sim_rows.specs.gpl_defs.Reading.{value_at as value_in}
-use Rattle.sim_copy.proofs.Places.{at_pc}
-use Rattle.sim_copy.specs.Bytes.{AtByte, AtCopy, AtEnd, ByParts, byte_copied, CopiesAt, CopiesByte, Counted, grom_behind, source_in, target_in}
+use Rattle.sim_copy.specs.Bytes.{AtCopy, ByRoutines}
 use Rattle.sim_copy.specs.Pieces as pieces
 use Rattle.sim_rows.specs.native_interp.declared.addresses.TheConstants.{COPYE}
+
+-- ---- what a byte changes
+
+-- The source that registers 2 and 5 tell, and the target that registers 7 and 8 tell.
+abbrev pub source_in : View → From
+source_in v = if nat_lt v.r.r5 2 then FromMemory (place_in v.r.r5 v.r.r2) else FromGrom (next_at v)
+
+abbrev pub target_in : View → To
+target_in v = if nat_lt v.r.r8 2 then ToMemory (place_in v.r.r8 v.r.r7) else ToRegisters v.r.r7
+
+-- GROM behind a byte of a source: only one that lies in GROM moves it.
+abbrev pub grom_behind : From → GromState → GromState
+grom_behind (FromMemory place) grom = grom
+grom_behind (FromGrom address) grom = grom_at grom.image (next_in_grom address)
+
+abbrev pub byte_copied : View → Changes
+byte_copied v = with_byte_to (target_in v) (byte_from (source_in v) (state_of v)) (unchanged (state_of v))
+
+-- That is changed, and the source, the target and the count have gone on. Registers 4, 6, 9 and 11, and the address of
+-- the video processor with the byte there, may have changed.
+pub record Counted (v w : View) : Type 0 where
+  pub r4 : ℕ
+  pub r6 : ℕ
+  pub r9 : ℕ
+  pub r11 : ℕ
+  pub address : ℕ
+  pub byte : ℕ
+  pub is : let c = byte_copied v in w ≡ record v {
+    r = record v.r {
+      r2 = sum_of Word v.r.r2 1;
+      r4 = r4;
+      r6 = r6;
+      r7 = sum_of Word v.r.r7 1;
+      r9 = r9;
+      r11 = r11;
+      r12 = difference_of Word v.r.r12 1;
+      r13 = marked_by c.shows v.r.r13;
+    };
+    cells = c.state.cells;
+    vdp = record v.vdp { memory = c.state.vdp; registers = c.state.registers; address = address; fetched = byte };
+    grom = grom_behind (source_in v) v.grom;
+  }
+
+-- how a machine's GROM and that of its view tell that a byte is fetched
+pub fetched_seen : (m : Memory) → IsFetched m.grom → IsFetched (view_of m).grom
+unfolding view_of
+fetched_seen m f = f
+
+fetched_told : (m : Memory) (g : GromState) → (view_of m).grom ≡ g → IsFetched g → IsFetched m.grom
+unfolding view_of
+fetched_told m g e f = subst IsFetched (sym e) f
 
 -- ---- LOAD
 
@@ -108,15 +157,7 @@ same_changes make (ToRegisters number) byte s pc image = refl
 abbrev asked : View → View
 asked v = record v { r = record v.r { r11 = COPYS } }
 
--- where it is then
-goes_on : (v w : View) → Counted v w → ByParts v → CopiesAt (if w.r.r12 == 0 then COPYE else COPY) w
-goes_on v w counted left =
-    pick (w.r.r12 == 0)
-    (λ c. AtEnd (ap (λ (b : Bool). if b then COPYE else COPY) c) (eqb-true w.r.r12 0 c))
-    (λ c. AtByte (ap (λ (b : Bool). if b then COPYE else COPY) c)
-    (record { bytes_are = ap (λ (u : View). u.r.r3) counted.is ∙ left.bytes_are; some = pos_of_ne-zero (eqb-false w.r.r12 0 c) }))
-
-module _ {x a : MachineState} {t t1 : ℕ} (h : AtCopy x) (left : ByParts (view x)) (e : Exits x a t t1 (pieces.next_byte (view x))) where
+module _ {x a : MachineState} {t t1 : ℕ} (h : AtCopy x) (left : ByRoutines (view x)) (e : Exits x a t t1 (pieces.next_byte (view x))) where
   abbrev v : View
   v = view x
 
@@ -124,7 +165,12 @@ module _ {x a : MachineState} {t t1 : ℕ} (h : AtCopy x) (left : ByParts (view 
   idle_asked = idle_again x.cpu.memory a.cpu.memory (ap (λ (u : View). u.vdp) e.shows) (ap (λ (u : View). u.grom) e.shows) h.idle
 
   fetched_asked : IsFetched a.cpu.memory.grom
-  fetched_asked = fetched_again x.cpu.memory a.cpu.memory (ap (λ (u : View). u.grom) e.shows) h.fetched
+  fetched_asked = fetched_told a.cpu.memory v.grom (ap (λ (u : View). u.grom) e.shows) left.fetched
+
+  pub visible_asked : IsVisible (view a).r.r5 (view a).r.r2 (view a).r.r3
+  visible_asked =
+      let near : IsVisible v.r.r5 v.r.r2 1 = λ z. let some = left.some in let le = left.source z in omega arith in
+      subst (λ (u : View). IsVisible u.r.r5 u.r.r2 u.r.r3) (sym e.shows) (subst (λ (n : ℕ). IsVisible v.r.r5 v.r.r2 n) (sym left.bytes_are) near)
 
   one_asked : (view a).r.r3 ≡ 1
   one_asked = ap (λ (u : View). u.r.r3) e.shows ∙ left.bytes_are
@@ -169,11 +215,11 @@ module _ {x a : MachineState} {t t1 : ℕ} (h : AtCopy x) (left : ByParts (view 
 
       pub visible_storing : IsVisible (view d).r.r8 (view d).r.r7 (view d).r.r3
       visible_storing =
-          let near : IsVisible v.r.r8 v.r.r7 1 = λ z. let some = left.some in let le = h.target z in omega arith in
+          let near : IsVisible v.r.r8 v.r.r7 1 = λ z. let b = left.beyond in absurd (omega arith) in
           subst (λ (u : View). IsVisible u.r.r8 u.r.r7 u.r.r3) (sym seen_d) (subst (λ (n : ℕ). IsVisible v.r.r8 v.r.r7 n) (sym left.bytes_are) near)
 
       there : 1 < (view d).r.r8 → (view d).r.r7 < 8
-      there = subst (λ (u : View). 1 < u.r.r8 → u.r.r7 < 8) (sym seen_d) (λ above. let some = left.some in let le = h.registers above in omega arith)
+      there = subst (λ (u : View). 1 < u.r.r8 → u.r.r7 < 8) (sym seen_d) (λ above. let some = left.some in let le = left.registers above in omega arith)
 
       one_storing : (view d).r.r3 ≡ 1
       one_storing = ap (λ (u : View). u.r.r3) seen_d ∙ left.bytes_are
@@ -221,25 +267,14 @@ module _ {x a : MachineState} {t t1 : ℕ} (h : AtCopy x) (left : ByParts (view 
                 is = seen_y;
               }
 
-          pub copies : CopiesByte x y t t5
-          copies =
+          pub goes : Comes most_of_byte x y t t5 y.cpu.pc (Counted v)
+          goes =
               let c1 : Comes 1 x a t t1 LOAD (λ u. u ≡ asked v) = comes e (record { within = omega arith; to_is = refl; holds = refl }) in
               let c2 = comes_on 1 17 c1 loaded refl in
               let c3 : Comes 20 x d t t3 STORE (λ u. u ≡ (pieces.store_byte (view b)).left) =
               comes_then 18 2 c2 e3 (record { within = omega arith; to_is = refl; holds = refl }) refl in
               let c4 = comes_on 20 16 c3 stored refl in
-              let c5 : Comes 40 x y t t5 (pieces.count_byte (view k)).to (λ u. u ≡ (pieces.count_byte (view k)).left) =
-              comes_then 36 4 c4 e5 (record { within = omega arith; to_is = refl; holds = refl }) refl in
-              let there : y.cpu.pc ≡ (if (view y).r.r12 == 0 then COPYE else COPY) =
-              e5.stands.pc ∙ ap (λ (n : ℕ). if n == 0 then COPYE else COPY) (sym (ap (λ (u : View). u.r.r12) e5.shows)) in
-              record {
-                place = subst (λ (p : ℕ). CopiesAt p (view y)) (sym there) (goes_on v (view y) counted left);
-                comes = record {
-                  count = c5.count;
-                  within = c5.within;
-                  counted = c5.counted;
-                  runs = c5.runs;
-                  holds = counted;
-                  stands = at_pc y (pieces.count_byte (view k)).to c5.stands;
-                };
-              }
+              comes_then 36 4 c4 e5 (record { within = omega arith; to_is = sym e5.stands.pc; holds = subst (Counted v) e5.shows counted }) refl
+
+          pub place_told : y.cpu.pc ≡ (if (view y).r.r12 == 0 then COPYE else COPY)
+          place_told = e5.stands.pc ∙ ap (λ (n : ℕ). if n == 0 then COPYE else COPY) (sym (ap (λ (u : View). u.r.r12) e5.shows))
