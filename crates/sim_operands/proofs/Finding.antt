@@ -79,7 +79,8 @@ module _ (x : MachineState) (s : ℕ) (stands : Stands x ADDR) (idle : PortsAreI
       subst P (sym found.means) h
 
   -- a pointer that stops
-  pub pointer_stops : (y z : MachineState) (t u : ℕ) → Exits x y s t (pieces.address v) → Exits y z t u (pieces.pointer (view y)) → eqb (pieces.pointer (view y)).to INDEX ≡ false → FindsOperand x z s u
+  pub pointer_stops : (y z : MachineState) (t u : ℕ) → Exits x y s t (pieces.address v) → Exits y z t u (pieces.pointer (view y)) →
+      eqb (pieces.pointer (view y)).to INDEX ≡ false → FindsOperand x z s u
   pointer_stops y z t u e1 e f =
       let c = addressed y t e1 in
       let a = stops (pointed (state_of v) (found.form / 16 % 2 == 1) found.address) (pointer_read v (view y) found.address found.form found.next
@@ -92,7 +93,8 @@ module _ (x : MachineState) (s : ℕ) (stands : Stands x ADDR) (idle : PortsAreI
     pub is_pointed : pointed (state_of v) (found.form / 16 % 2 == 1) found.address ≡ Ok base
     pub comes : Comes 23 x y s t INDEX (Addressed v base (found.form / 32) found.next)
 
-  pub pointer_goes : (y z : MachineState) (t u : ℕ) → Exits x y s t (pieces.address v) → Exits y z t u (pieces.pointer (view y)) → eqb (pieces.pointer (view y)).to INDEX ≡ true → Pointed z u
+  pub pointer_goes : (y z : MachineState) (t u : ℕ) → Exits x y s t (pieces.address v) → Exits y z t u (pieces.pointer (view y)) →
+      eqb (pieces.pointer (view y)).to INDEX ≡ true → Pointed z u
   pointer_goes y z t u e1 e f =
       let c = addressed y t e1 in
       let a = gives (pointed (state_of v) (found.form / 16 % 2 == 1) found.address) (pointer_read v (view y) found.address found.form found.next
