@@ -7,11 +7,11 @@ use std::test::Fail;
 
 /// The first lines of the listing: GBOOT; then GBOOT, GSTEP, GSTOP, GEXIT and the first entries of the table by code
 /// byte.
-const FRONT: &[u8] = b"entry >2274\n>2000 2274 228C 22CC 22CE 2700 2700 277C 22C2\n\
-      >2010 28C0 24BC 26B6 289E 22C2 2604 260E 24D4\n";
+const FRONT: &[u8] = b"entry >2274\n>2000 2274 228C 22CC 22CE 2722 2722 279A 22C2\n\
+      >2010 28DE 24BC 26B6 28BC 22C2 2604 260E 24D4\n";
 
 /// The last line: the end of BACK.
-const END: &[u8] = b">28D0 0460 228C\n";
+const END: &[u8] = b">28F0 228C\n";
 
 /// Whether `interp` lists the interpreter, over a source whose first call would fail.
 fn is_listed(alloc: Global) -> Result<bool, AllocError> {

@@ -9,69 +9,69 @@ use Rattle.line_table.proofs.ThirdBlocks.{lines_560, lines_600, lines_640, lines
 to_040 : Front 40 15
 to_040 = with_block 0 40 0 15 none_yet lines_000
 
-to_080 : Front 80 16
-to_080 = with_block 40 40 15 1 to_040 lines_040
+to_080 : Front 80 17
+to_080 = with_block 40 40 15 2 to_040 lines_040
 
-to_120 : Front 120 16
-to_120 = with_block 80 40 16 0 to_080 lines_080
+to_120 : Front 120 17
+to_120 = with_block 80 40 17 0 to_080 lines_080
 
-to_160 : Front 160 18
-to_160 = with_block 120 40 16 2 to_120 lines_120
+to_160 : Front 160 19
+to_160 = with_block 120 40 17 2 to_120 lines_120
 
 to_200 : Front 200 29
-to_200 = with_block 160 40 18 11 to_160 lines_160
+to_200 = with_block 160 40 19 10 to_160 lines_160
 
-to_240 : Front 240 37
-to_240 = with_block 200 40 29 8 to_200 lines_200
+to_240 : Front 240 38
+to_240 = with_block 200 40 29 9 to_200 lines_200
 
 to_280 : Front 280 48
-to_280 = with_block 240 40 37 11 to_240 lines_240
+to_280 = with_block 240 40 38 10 to_240 lines_240
 
-to_320 : Front 320 57
-to_320 = with_block 280 40 48 9 to_280 lines_280
+to_320 : Front 320 58
+to_320 = with_block 280 40 48 10 to_280 lines_280
 
-to_360 : Front 360 66
-to_360 = with_block 320 40 57 9 to_320 lines_320
+to_360 : Front 360 67
+to_360 = with_block 320 40 58 9 to_320 lines_320
 
 to_400 : Front 400 78
-to_400 = with_block 360 40 66 12 to_360 lines_360
+to_400 = with_block 360 40 67 11 to_360 lines_360
 
-to_440 : Front 440 90
-to_440 = with_block 400 40 78 12 to_400 lines_400
+to_440 : Front 440 91
+to_440 = with_block 400 40 78 13 to_400 lines_400
 
 to_480 : Front 480 102
-to_480 = with_block 440 40 90 12 to_440 lines_440
+to_480 = with_block 440 40 91 11 to_440 lines_440
 
-to_520 : Front 520 110
-to_520 = with_block 480 40 102 8 to_480 lines_480
+to_520 : Front 520 111
+to_520 = with_block 480 40 102 9 to_480 lines_480
 
 to_560 : Front 560 122
-to_560 = with_block 520 40 110 12 to_520 lines_520
+to_560 = with_block 520 40 111 11 to_520 lines_520
 
-to_600 : Front 600 128
-to_600 = with_block 560 40 122 6 to_560 lines_560
+to_600 : Front 600 129
+to_600 = with_block 560 40 122 7 to_560 lines_560
 
-to_640 : Front 640 136
-to_640 = with_block 600 40 128 8 to_600 lines_600
+to_640 : Front 640 138
+to_640 = with_block 600 40 129 9 to_600 lines_600
 
-to_680 : Front 680 142
-to_680 = with_block 640 40 136 6 to_640 lines_640
+to_680 : Front 680 144
+to_680 = with_block 640 40 138 6 to_640 lines_640
 
-to_720 : Front 720 153
-to_720 = with_block 680 40 142 11 to_680 lines_680
+to_720 : Front 720 155
+to_720 = with_block 680 40 144 11 to_680 lines_680
 
-to_760 : Front 760 158
-to_760 = with_block 720 40 153 5 to_720 lines_720
+to_760 : Front 760 160
+to_760 = with_block 720 40 155 5 to_720 lines_720
 
-to_800 : Front 800 168
-to_800 = with_block 760 40 158 10 to_760 lines_760
+to_800 : Front 800 170
+to_800 = with_block 760 40 160 10 to_760 lines_760
 
-to_840 : Front 840 178
-to_840 = with_block 800 40 168 10 to_800 lines_800
+to_840 : Front 840 180
+to_840 = with_block 800 40 170 10 to_800 lines_800
 
-to_853 : Front 853 180
-to_853 = with_block 840 13 178 2 to_840 lines_840
+to_860 : Front 860 183
+to_860 = with_block 840 20 180 3 to_840 lines_840
 
 -- all of them
 pub to_last : Front most name_count
-to_last = to_853
+to_last = to_860

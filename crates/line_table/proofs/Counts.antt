@@ -4,12 +4,12 @@ use Rattle.std.proofs.Common.{ℕ}
 
 -- the lines
 abbrev pub line_count : ℕ
-line_count = 854
+line_count = 861
 
 -- the lines before the last
 abbrev pub most : ℕ
-most = 853
+most = 860
 
 -- the names
 abbrev pub name_count : ℕ
-name_count = 180
+name_count = 183

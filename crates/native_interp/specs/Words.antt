@@ -93,12 +93,10 @@ use Rattle.native_interp.specs.declared.addresses.TheConstants.{
   PUSHV,
   FULL,
   GOCALL,
-  CALLT,
   CALLN,
   CALLS,
   RESUME,
   GORTN,
-  RTNP,
   FETCHV,
   FETCHN,
   FETCHP,
@@ -183,11 +181,11 @@ abbrev pub flow_parts : List (ℕ × List ℕ)
 flow_parts =
     (BRANCH, flow.target) ∷ (BTEST, flow.test_branch) ∷ (TAKE, flow.take_branch) ∷ (CASEV, flow.case_row) ∷
     (CASEN, flow.case_next) ∷ (CASET, flow.case_target) ∷ (PUSHV, flow.push) ∷ (FULL, flow.stack_full) ∷
-    (GOCALL, flow.call) ∷ (CALLT, flow.call_target) ∷ (CALLN, flow.call_next) ∷ (CALLS, flow.call_store) ∷
-    (RESUME, flow.resume) ∷ (GORTN, flow.rtn) ∷ (RTNP, flow.rtn_pointer) ∷ (FETCHV, flow.fetch_row) ∷
-    (FETCHN, flow.fetch_next) ∷ (FETCHP, flow.fetch_pointer) ∷ (FETCHA, flow.fetch_address) ∷
-    (FETCHR, flow.fetch_read) ∷ (FETCHK, flow.fetch_keep) ∷ (FETCHB, flow.fetch_behind) ∷
-    (FETCHS, flow.fetch_stack) ∷ (FETCHD, flow.fetch_store) ∷ (GORAND, flow.rand) ∷ (RANDL, flow.rand_limit) ∷ []
+    (GOCALL, flow.call) ∷ (CALLN, flow.call_next) ∷ (CALLS, flow.call_store) ∷ (RESUME, flow.resume) ∷
+    (GORTN, flow.rtn) ∷ (FETCHV, flow.fetch_row) ∷ (FETCHN, flow.fetch_next) ∷ (FETCHP, flow.fetch_pointer) ∷
+    (FETCHA, flow.fetch_address) ∷ (FETCHR, flow.fetch_read) ∷ (FETCHK, flow.fetch_keep) ∷
+    (FETCHB, flow.fetch_behind) ∷ (FETCHS, flow.fetch_stack) ∷ (FETCHD, flow.fetch_store) ∷ (GORAND, flow.rand) ∷
+    (RANDL, flow.rand_limit) ∷ []
 
 -- MOVE, ALL and BACK
 abbrev pub copy_parts : List (ℕ × List ℕ)

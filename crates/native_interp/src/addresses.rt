@@ -2,13 +2,13 @@
 //! Addresses in the interpreter. Profile: where the interpreter and its workspace stand.
 
 /// How many words the interpreter has.
-pub const WORD_COUNT: usize = 1130;
+pub const WORD_COUNT: usize = 1145;
 
 /// The interpreter's workspace: the address of its register 0.
 pub const WORKSPACE: u16 = 0x83E0;
 
 /// The address behind the interpreter's last word.
-pub const BEHIND: u16 = 0x28D4;
+pub const BEHIND: u16 = 0x28F2;
 
 /// Where the words of the interpreter begin.
 pub const ORIGIN: u16 = 0x2000;
@@ -335,133 +335,133 @@ pub const FULL: u16 = 0x26B2;
 pub const GOCALL: u16 = 0x26B6;
 
 /// The part of CALL behind its target: the pointer of the stack.
-pub const CALLT: u16 = 0x26C6;
+pub const CALLT: u16 = 0x26C0;
 
-/// The part of CALL behind the next address.
-pub const CALLN: u16 = 0x26DE;
+/// Tells the next address, which CALL stacks.
+pub const CALLN: u16 = 0x26D0;
 
 /// Stores the pointer and the address of CALL.
-pub const CALLS: u16 = 0x26E4;
+pub const CALLS: u16 = 0x26E6;
 
-/// Ends CALL, FETCH and a MOVE out of GROM: goes on at the address that was kept.
-pub const RESUME: u16 = 0x26F2;
+/// Ends FETCH and a MOVE out of GROM: goes on at the address that was kept.
+pub const RESUME: u16 = 0x2714;
 
 /// The instructions RTN and RTNC.
-pub const GORTN: u16 = 0x2700;
+pub const GORTN: u16 = 0x2722;
 
-/// The part of RTN and RTNC behind the stacked address.
-pub const RTNP: u16 = 0x271A;
+/// The part of RTN and RTNC that takes the word off the stack.
+pub const RTNW: u16 = 0x272E;
 
 /// The row of FETCH.
-pub const FETCHV: u16 = 0x272A;
+pub const FETCHV: u16 = 0x2748;
 
 /// The part of FETCH behind the next address.
-pub const FETCHN: u16 = 0x273E;
+pub const FETCHN: u16 = 0x275C;
 
 /// Loads the stacked address of FETCH.
-pub const FETCHP: u16 = 0x2744;
+pub const FETCHP: u16 = 0x2762;
 
 /// Sets the GROM to the stacked address.
-pub const FETCHA: u16 = 0x2750;
+pub const FETCHA: u16 = 0x276E;
 
 /// Reads the byte of FETCH.
-pub const FETCHR: u16 = 0x2754;
+pub const FETCHR: u16 = 0x2772;
 
 /// Keeps the byte of FETCH.
-pub const FETCHK: u16 = 0x2758;
+pub const FETCHK: u16 = 0x2776;
 
 /// The part of FETCH behind the address that follows its byte.
-pub const FETCHB: u16 = 0x275E;
+pub const FETCHB: u16 = 0x277C;
 
 /// Stores the address that follows the byte of FETCH.
-pub const FETCHS: u16 = 0x2764;
+pub const FETCHS: u16 = 0x2782;
 
 /// Stores the byte of FETCH.
-pub const FETCHD: u16 = 0x276A;
+pub const FETCHD: u16 = 0x2788;
 
 /// The instruction RAND.
-pub const GORAND: u16 = 0x277C;
+pub const GORAND: u16 = 0x279A;
 
 /// The part of RAND that makes the next seed.
-pub const RANDM: u16 = 0x2786;
+pub const RANDM: u16 = 0x27A4;
 
 /// The part of RAND behind the seed: the limit.
-pub const RANDL: u16 = 0x279A;
+pub const RANDL: u16 = 0x27B8;
 
 /// The instruction MOVE.
-pub const GOMOVE: u16 = 0x27B0;
+pub const GOMOVE: u16 = 0x27CE;
 
 /// Loads the length of MOVE.
-pub const MOVEN: u16 = 0x27C4;
+pub const MOVEN: u16 = 0x27E2;
 
 /// The part of MOVE behind its length: the target.
-pub const MOVEL: u16 = 0x27C8;
+pub const MOVEL: u16 = 0x27E6;
 
 /// The part of MOVE behind its target: the source.
-pub const MOVED: u16 = 0x27DC;
+pub const MOVED: u16 = 0x27FA;
 
 /// Begins the copy of MOVE.
-pub const MOVEB: u16 = 0x27EA;
+pub const MOVEB: u16 = 0x2808;
 
 /// Copies a byte of MOVE from the cells to the cells.
-pub const COPYC: u16 = 0x27FA;
+pub const COPYC: u16 = 0x2818;
 
 /// The part of `COPYC` behind the byte.
-pub const COPYCN: u16 = 0x2808;
+pub const COPYCN: u16 = 0x2826;
 
 /// Copies a byte of MOVE from GROM to the cells.
-pub const COPYG: u16 = 0x2812;
+pub const COPYG: u16 = 0x2830;
 
 /// The part of `COPYG` behind the byte.
-pub const COPYGN: u16 = 0x2820;
+pub const COPYGN: u16 = 0x283E;
 
 /// The part of `MOVEB` before bytes that LOAD and STORE copy.
-pub const COPYL: u16 = 0x282A;
+pub const COPYL: u16 = 0x2848;
 
 /// Asks LOAD for a byte of MOVE.
-pub const COPY: u16 = 0x282E;
+pub const COPY: u16 = 0x284C;
 
 /// Stores a byte of MOVE.
-pub const COPYS: u16 = 0x2832;
+pub const COPYS: u16 = 0x2850;
 
 /// Goes on to the next byte of MOVE.
-pub const COPYN: u16 = 0x2838;
+pub const COPYN: u16 = 0x2856;
 
 /// Ends the copy of MOVE.
-pub const COPYE: u16 = 0x2840;
+pub const COPYE: u16 = 0x285E;
 
 /// The part of MOVE whose target is the registers of the video chip.
-pub const MOVER: u16 = 0x284E;
+pub const MOVER: u16 = 0x286C;
 
 /// The part of MOVE that tests whether all the registers are there.
-pub const MOVERC: u16 = 0x2856;
+pub const MOVERC: u16 = 0x2874;
 
 /// The part of MOVE whose source is in GROM.
-pub const MOVES: u16 = 0x2864;
+pub const MOVES: u16 = 0x2882;
 
 /// Adds the index to that source's address.
-pub const MOVEA: u16 = 0x286C;
+pub const MOVEA: u16 = 0x288A;
 
 /// Asks for the address behind MOVE.
-pub const MOVEX: u16 = 0x287C;
+pub const MOVEX: u16 = 0x289A;
 
 /// Keeps that address, and sets the GROM to the source.
-pub const MOVEW: u16 = 0x2880;
+pub const MOVEW: u16 = 0x289E;
 
 /// Turns to the bytes that follow there.
-pub const MOVEK: u16 = 0x2888;
+pub const MOVEK: u16 = 0x28A6;
 
 /// Stops by reason 4.
-pub const LONG: u16 = 0x288E;
+pub const LONG: u16 = 0x28AC;
 
 /// Stops by reason 5.
-pub const NOREG: u16 = 0x2896;
+pub const NOREG: u16 = 0x28B4;
 
 /// The instruction ALL.
-pub const GOALL: u16 = 0x289E;
+pub const GOALL: u16 = 0x28BC;
 
 /// Stores a byte of ALL, or ends the step.
-pub const FILL: u16 = 0x28B4;
+pub const FILL: u16 = 0x28D2;
 
 /// The instruction BACK.
-pub const GOBACK: u16 = 0x28C0;
+pub const GOBACK: u16 = 0x28DE;

@@ -1,11 +1,12 @@
 -- The names that the proofs of a family cite, passed on from one place. Declares nothing.
-pub use Rattle.sim_view.proofs.Common.{comes, comes_as, comes_on, comes_then, given, Goes, high-join, is_view, IsView, leads, Leads, Part, part_then, pick}
+pub use Rattle.sim_view.proofs.Common.{comes, comes_as, comes_on, comes_then, given, Goes, high-join, join-bytes, is_view, IsView, leads, Leads, Part, part_then, pick}
 pub use Rattle.sim_view.proofs.Common.{piece, previous-next, reg_word, Rest}
 pub use Rattle.sim_operands.proofs.Addressing.{Answers, index_read, IndexRead, range_read, RangeRead}
 pub use Rattle.sim_operands.proofs.Facts.{at_most, byte_is, down, no_other, not_limit, spot_cell}
+pub use Rattle.sim_operands.proofs.Paths.{rest_is}
 pub use Rattle.sim_operands.proofs.Ready.{idle_grom, idle_video, ready, set_is}
 pub use Rattle.sim_rows.proofs.Again.{begins, fetched_again, idle_again, idle_told}
-pub use Rattle.sim_rows.proofs.Beginning.{from, just, known, located_at, lost, where_found}
+pub use Rattle.sim_rows.proofs.Beginning.{back_is, from, just, known, located_at, lost, where_found}
 pub use Rattle.sim_rows.proofs.Codes.{one_below, two_above}
 pub use Rattle.sim_rows.proofs.Ends.{fetched_of, idle_of, leaves, matches, reaches, same_state, state_at, stops, turned_by, turned_from}
 pub use Rattle.sim_rows.proofs.Facts.{not_above}
@@ -21,7 +22,7 @@ pub use Rattle.sim_rows.proofs.Telling.{stands_at}
 pub use Rattle.sim_rows.specs.Prelude.{◌>>=◌, ABS, absolute_flags, absolute_of, ABSV, ADD, ADDR, address_at, address_register, Addressed, ADDV, ALL, AND}
 pub use Rattle.sim_rows.specs.Prelude.{ANDV, Answer, APTR, AreTurns, ASPACE, AtDispatch, AtOperands, AtRow, B, BACK, Barred, behind, behind_code}
 pub use Rattle.sim_rows.specs.Prelude.{behind_first, bit_of, Boots, bound, bound_at, bound_by, Branch, BRANCH, branched, BTEST, Byte, byte_at, byte_from}
-pub use Rattle.sim_rows.specs.Prelude.{byte_in, ByteOp, bytes_by, bytes_or_none, CALL, CALLN, CALLS, CALLT, CARRY, CARRY_BIT, CASE, CASEN, CASET, CASEV, Cell}
+pub use Rattle.sim_rows.specs.Prelude.{byte_in, ByteOp, bytes_by, bytes_or_none, CALL, CALLN, CALLS, CARRY, CARRY_BIT, CASE, CASEN, CASET, CASEV, Cell}
 pub use Rattle.sim_rows.specs.Prelude.{cells_at, CEQ, CEQV, CFALSE, CGE, CGEV, CGT, CGTV, CH, Changed, Changes, CHARACTER, CHE, CHEV, CHV, CLOG, CLOGV, CLR}
 pub use Rattle.sim_rows.specs.Prelude.{CLRV, code_byte, code_register, COLUMN, Comes, complement_of, condition, CONDITION_BIT, conjunction_of, copied, COPY}
 pub use Rattle.sim_rows.specs.Prelude.{COPYN, COPYS, COUNT, count_in, count_of, Cpu, CTRUE, CZ, CZV, DEC, DECT, DECTV, destination_bytes, destination_size}
@@ -46,7 +47,7 @@ pub use Rattle.sim_rows.specs.Prelude.{operation_at, operation_entry, operation_
 pub use Rattle.sim_rows.specs.Prelude.{OVERFLOW_BIT, OVF, pair_kind, PairKind, past, Place, place_in, place_of, Placed, plain, Plain, PlainOp, plus, pointed}
 pub use Rattle.sim_rows.specs.Prelude.{PortsAreIdle, previous_in_grom, product_of, PUSH, PUSHV, RAND, RANDL, RANDOM, ranged, Reaches, read_by, ReadSetup}
 pub use Rattle.sim_rows.specs.Prelude.{Reason, Register, RegisterWrite, repeated, repeated_sign, result_of, RESUME, return_of, RETURN_STACK, ROW, row_entry}
-pub use Rattle.sim_rows.specs.Prelude.{row_result, row_width, RTN, RTNC, RTNP, run, Runs, RunsRow, RunsSteps, SDATA, second_by, second_of, SEED, SEEK, Sees}
+pub use Rattle.sim_rows.specs.Prelude.{row_result, row_width, RTN, RTNC, run, Runs, RunsRow, RunsSteps, SDATA, second_by, second_of, SEED, SEEK, Sees}
 pub use Rattle.sim_rows.specs.Prelude.{SeesFinished, SeesResult, set_to, set_video_to, shifted, shifted_left, shifted_right, ShiftOp, SHOW, shown, shown_by}
 pub use Rattle.sim_rows.specs.Prelude.{signed, size_of, SLA, SLL, SLLB, SLLV, Source, source_at, source_of, source_read, Sourced, Space, space_at, space_of}
 pub use Rattle.sim_rows.specs.Prelude.{SRA, SRAB, SRAV, SRC, SRCB, SRCV, SREG, SRL, SRLB, SRLV, ST, Stack, Stands, StandsBy, start, StartsRow, STATB}

@@ -1,9 +1,10 @@
 -- The runs of the pieces on the view.
-use Rattle.std.proofs.Common.{[], ℕ, ◌+◌, ◌<◌, ◌==◌, ◌∷◌, ◌≡◌, ◌≤◌, arith, false, List, nat_lt, refl, subst, slice_index, sym, true}
+use Rattle.std.proofs.Common.{[], ℕ, ◌+◌, ◌<◌, ◌==◌, ◌∷◌, ◌≡◌, ◌≤◌, arith, false, List, nat_lt, refl, slice_index, true}
 use Rattle.sim_view.proofs.Common.{high-join, IsView, join-bytes, Leads, leads, Part, part_then, pick, Rest}
 use Rattle.sim_rows.specs.Prelude.{ADDR, difference_of, even, Exit, exit, GO, GromState, GSTEP, high, INTERP, join, last_out, LOAD, low, OPS, OPVAL, past, ROW}
 use Rattle.sim_rows.specs.Prelude.{set_to, shifted, SHOW, SLA, SRL, STO, STORE, sum_of, UNIT, View, WHERE, WIDE, Word}
 use Rattle.sim_operands.proofs.Facts.{byte_is, down}
+use Rattle.sim_operands.proofs.Paths.{rest_is}
 use Rattle.sim_rows.proofs.Facts.{not_above, spot_rows, spot_table}
 use Rattle.sim_rows.specs.Pieces as pieces
 use Rattle.sim_view.specs.native_interp.declared.addresses.TheConstants.{GBACK, GCODE, OPSDST, OPSTWO, OPSVAL}
@@ -36,10 +37,6 @@ show v = record {
       (λ c. rw c refl)
       (λ c. rw c refl);
 }
-
--- an exit by its cases
-rest_is : {ends : List ℕ} {made most : ℕ} {v : View} {p : ℕ} {e d : Exit} → d ≡ e → Rest ends made most v p e → Rest ends made most v p d
-rest_is {ends = ends} {made = made} {most = most} {v = v} {p = p} is rest = subst (λ (e : Exit). Rest ends made most v p e) (sym is) rest
 
 -- GSTEP and WHERE, behind the two reads of the counter
 abbrev at_back : View → ℕ → View

@@ -3,7 +3,7 @@ pub use Rattle.sim_view.specs.Prelude.{◌>>=◌, ABS, absolute_flags, absolute_
 pub use Rattle.sim_view.specs.Prelude.{address_register, ADDV, ALL, AND, ANDV, Answer, APTR, AreTurns, ASPACE, B}
 pub use Rattle.sim_view.specs.Prelude.{BACK, behind, bit_of, Boots, bound, bound_at, bound_by, Branch, BRANCH}
 pub use Rattle.sim_view.specs.Prelude.{branched, BTEST, Byte, byte_at, byte_from, byte_in, ByteOp, bytes_or_none}
-pub use Rattle.sim_view.specs.Prelude.{CALL, CALLN, CALLS, CALLT, CARRY, CARRY_BIT, CASE, CASEN, CASET, CASEV, Cell}
+pub use Rattle.sim_view.specs.Prelude.{CALL, CALLN, CALLS, CARRY, CARRY_BIT, CASE, CASEN, CASET, CASEV, Cell}
 pub use Rattle.sim_view.specs.Prelude.{cells_at, CEQ, CEQV, CFALSE, CGE, CGEV, CGT, CGTV, CH, Changes, CHARACTER, CHE}
 pub use Rattle.sim_view.specs.Prelude.{CHEV, CHV, CLOG, CLOGV, CLR, CLRV, code_register, COLUMN, Comes, complement_of}
 pub use Rattle.sim_view.specs.Prelude.{condition, CONDITION_BIT, conjunction_of, copied, COPY, COPYN, COPYS, COUNT}
@@ -33,7 +33,7 @@ pub use Rattle.sim_view.specs.Prelude.{OPVAL, OR, origin, origin_of, ORV, OVER, 
 pub use Rattle.sim_view.specs.Prelude.{PairKind, Place, place_of, plain, Plain, PlainOp, plus, pointed, PortsAreIdle}
 pub use Rattle.sim_view.specs.Prelude.{previous_in_grom, product_of, PUSH, PUSHV, RAND, RANDL, RANDOM, ranged}
 pub use Rattle.sim_view.specs.Prelude.{Reaches, read_by, ReadSetup, Reason, Register, RegisterWrite, repeated}
-pub use Rattle.sim_view.specs.Prelude.{repeated_sign, RESUME, RETURN_STACK, ROW, row_entry, RTN, RTNC, RTNP, run}
+pub use Rattle.sim_view.specs.Prelude.{repeated_sign, RESUME, RETURN_STACK, ROW, row_entry, RTN, RTNC, run}
 pub use Rattle.sim_view.specs.Prelude.{Runs, RunsSteps, SDATA, SEED, SEEK, shifted, shifted_left, shifted_right}
 pub use Rattle.sim_view.specs.Prelude.{ShiftOp, SHOW, shown, shown_by, signed, size_of, SLA, SLL, SLLB, SLLV, Source}
 pub use Rattle.sim_view.specs.Prelude.{source_at, source_of, Space, space_at, space_of, SRA, SRAB, SRAV, SRC, SRCB}

@@ -6,7 +6,7 @@ use Rattle.sim_rows.proofs.Common.{operation_in, PortsAreIdle, PUSH, PUSHV, Reas
 use Rattle.sim_rows.proofs.Common.{Stopped, StoppedBy, StoresResult, Storing, sum_of, TurnsBy, TurnsRow, unchanged, value_at, View, view, Width, width_in}
 use Rattle.sim_rows.proofs.Common.{with_cell, Word}
 use Rattle.sim_stack.specs.Pieces.{offset_of, pointer_at}
-use Rattle.sim_stack.proofs.Room.{byte_back, goes_full, goes_on, no_room, one_more, one_stored, with_room}
+use Rattle.sim_stack.proofs.Room.{byte_back, first_way, no_room, one_more, one_stored, second_way, with_room}
 use Rattle.sim_stack.specs.Pieces as pieces
 use Rattle.sim_rows.specs.sim_view.Bounds.{most_of_stack_row}
 
@@ -56,7 +56,7 @@ module _ {x a : MachineState} {t u : ℕ} (stands : Stands x PUSHV) (e : Exits x
 
   pub stopped : a.cpu.pc ≡ GSTOP → TurnsRow (One PUSH) most_of_stack_row x a t u (Stopped Stack)
   stopped here s place source known at is =
-      let k = goes_full x a t u (nat_lt 0xC1 offset) (pieces.full 10 told) (exit 10 STO placed) e (λ q. absurd (omega arith)) here in
+      let k = first_way GSTOP x a t u (nat_lt 0xC1 offset) (pieces.full 10 told) (exit 10 STO placed) e (λ q. absurd (omega arith)) here in
       let h = at.holds in
       let full : on_stack 1 (top_in s) ≡ Err Stack = no_room 0xC1 1 (top_in s) refl (ap (nat_lt 0xC1) (sym (offset_top s h.sees.cells)) ∙ k.0) in
       let result : row_result (One PUSH) s place source ≡ Err Stack = ap (by_push s (value_at s (row_width s) place)) full in
@@ -69,7 +69,7 @@ module _ {x a : MachineState} {t u : ℕ} (stands : Stands x PUSHV) (e : Exits x
 
   module _ (elsewhere : a.cpu.pc ≡ GSTOP → ⊥) where
     went : (nat_lt 0xC1 offset ≡ false) × Exits x a t u (exit 10 STO placed)
-    went = goes_on x a t u (nat_lt 0xC1 offset) (pieces.full 10 told) (exit 10 STO placed) e refl elsewhere
+    went = second_way GSTOP x a t u (nat_lt 0xC1 offset) (pieces.full 10 told) (exit 10 STO placed) e refl elsewhere
 
     pub idle_pushed : PortsAreIdle x.cpu.memory → PortsAreIdle a.cpu.memory
     idle_pushed i = idle_again x.cpu.memory a.cpu.memory (ap (λ (v : View). v.vdp) went.1.shows) (ap (λ (v : View). v.grom) went.1.shows) i

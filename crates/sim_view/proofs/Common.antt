@@ -9,7 +9,7 @@ pub use Rattle.sim_view.proofs.Places.{pick}
 pub use Rattle.sim_view.proofs.Seen.{Cell, Code, spot, Spot}
 pub use Rattle.sim_view.specs.Prelude.{◌>>=◌, ABS, absolute_flags, absolute_of, ABSV, ADD, ADDR, address_at, address_register, ADDV, ALL, AND, ANDV, Answer}
 pub use Rattle.sim_view.specs.Prelude.{APTR, AreTurns, ASPACE, B, BACK, behind, bit_of, Boots, bound, bound_at, bound_by, Branch, BRANCH, branched, BTEST}
-pub use Rattle.sim_view.specs.Prelude.{Byte, byte_at, byte_from, byte_in, ByteOp, bytes_or_none, CALL, CALLN, CALLS, CALLT, CARRY, CARRY_BIT, CASE, CASEN}
+pub use Rattle.sim_view.specs.Prelude.{Byte, byte_at, byte_from, byte_in, ByteOp, bytes_or_none, CALL, CALLN, CALLS, CARRY, CARRY_BIT, CASE, CASEN}
 pub use Rattle.sim_view.specs.Prelude.{CASET, CASEV, cells_at, CEQ, CEQV, CFALSE, CGE, CGEV, CGT, CGTV, CH, Changes, CHARACTER, CHE, CHEV, CHV, CLOG, CLOGV}
 pub use Rattle.sim_view.specs.Prelude.{CLR, CLRV, code_register, COLUMN, Comes, complement_of, condition, CONDITION_BIT, conjunction_of, copied, COPY, COPYN}
 pub use Rattle.sim_view.specs.Prelude.{COPYS, COUNT, count_in, count_of, Cpu, CTRUE, CZ, CZV, DEC, DECT, DECTV, destination_size, difference_flags}
@@ -29,7 +29,7 @@ pub use Rattle.sim_view.specs.Prelude.{next_in_grom, next_in_vdp, next_seed, nex
 pub use Rattle.sim_view.specs.Prelude.{ones_cleared, ones_set, Opcode, operand_from, operation_at, operation_entry, OPS, OPTAB, OPVAL, OR, origin, origin_of}
 pub use Rattle.sim_view.specs.Prelude.{ORV, OVER, OVERFLOW_BIT, OVF, pair_kind, PairKind, Place, place_of, plain, Plain, PlainOp, plus, pointed, PortsAreIdle}
 pub use Rattle.sim_view.specs.Prelude.{previous_in_grom, product_of, PUSH, PUSHV, RAND, RANDL, RANDOM, ranged, Reaches, read_by, ReadSetup, Reason, Register}
-pub use Rattle.sim_view.specs.Prelude.{RegisterWrite, repeated, repeated_sign, RESUME, RETURN_STACK, ROW, row_entry, RTN, RTNC, RTNP, run, Runs, RunsSteps}
+pub use Rattle.sim_view.specs.Prelude.{RegisterWrite, repeated, repeated_sign, RESUME, RETURN_STACK, ROW, row_entry, RTN, RTNC, run, Runs, RunsSteps}
 pub use Rattle.sim_view.specs.Prelude.{SDATA, SEED, SEEK, shifted, shifted_left, shifted_right, ShiftOp, SHOW, shown, shown_by, signed, size_of, SLA, SLL}
 pub use Rattle.sim_view.specs.Prelude.{SLLB, SLLV, Source, source_at, source_of, Space, space_at, space_of, SRA, SRAB, SRAV, SRC, SRCB, SRCV, SREG, SRL, SRLB}
 pub use Rattle.sim_view.specs.Prelude.{SRLV, ST, Stack, Stands, StandsBy, start, STATB, STATUS, Status, status_byte, status_of, status_word, step, Stepped}

@@ -2,7 +2,7 @@
 
 /// The first lines of the interpreter's source: boot, the step and the stops, the routines, the operands and the
 /// end of a row, and ST, B and EXIT.
-pub const ROUTINE_LINES: [&str; 389] = [
+pub const ROUTINE_LINES: [&str; 390] = [
     "* The interpreter of GPL for the TMS9900.",
     "*",
     "* A byte stands in the high byte of a register, with 0 below it.",
@@ -41,6 +41,7 @@ pub const ROUTINE_LINES: [&str; 389] = [
     "R2LB   EQU >83E5",
     "R4LB   EQU >83E9",
     "R6LB   EQU >83ED",
+    "R7LB   EQU >83EF",
     "R9LB   EQU >83F3",
     "R14LB  EQU >83FD",
     "       DATA GBOOT,GSTEP,GSTOP",
