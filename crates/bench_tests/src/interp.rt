@@ -7,8 +7,8 @@ use std::test::Fail;
 
 /// The first lines of the listing: GBOOT; then GBOOT, GSTEP, GSTOP, GEXIT and the first entries of the table by code
 /// byte.
-const FRONT: &[u8] = b"entry >2274\n>2000 2274 228C 22CC 22CE 2722 2722 279A 22C2\n\
-      >2010 28DE 24BC 26B6 28BC 22C2 2604 260E 24D4\n";
+const FRONT: &[u8] = b"entry >2274\n>2000 2274 228C 22CC 22CE 2740 2740 27B8 22C2\n\
+      >2010 28FC 24C8 26D4 28DA 22C2 2622 262C 24E0\n";
 
 /// The last line: the end of BACK.
 const END: &[u8] = b">28F0 228C\n";

@@ -30,48 +30,48 @@ to_280 = with_block 240 40 38 10 to_240 lines_240
 to_320 : Front 320 58
 to_320 = with_block 280 40 48 10 to_280 lines_280
 
-to_360 : Front 360 67
-to_360 = with_block 320 40 58 9 to_320 lines_320
+to_360 : Front 360 65
+to_360 = with_block 320 40 58 7 to_320 lines_320
 
-to_400 : Front 400 78
-to_400 = with_block 360 40 67 11 to_360 lines_360
+to_400 : Front 400 74
+to_400 = with_block 360 40 65 9 to_360 lines_360
 
-to_440 : Front 440 91
-to_440 = with_block 400 40 78 13 to_400 lines_400
+to_440 : Front 440 89
+to_440 = with_block 400 40 74 15 to_400 lines_400
 
 to_480 : Front 480 102
-to_480 = with_block 440 40 91 11 to_440 lines_440
+to_480 = with_block 440 40 89 13 to_440 lines_440
 
-to_520 : Front 520 111
-to_520 = with_block 480 40 102 9 to_480 lines_480
+to_520 : Front 520 108
+to_520 = with_block 480 40 102 6 to_480 lines_480
 
-to_560 : Front 560 122
-to_560 = with_block 520 40 111 11 to_520 lines_520
+to_560 : Front 560 120
+to_560 = with_block 520 40 108 12 to_520 lines_520
 
-to_600 : Front 600 129
-to_600 = with_block 560 40 122 7 to_560 lines_560
+to_600 : Front 600 128
+to_600 = with_block 560 40 120 8 to_560 lines_560
 
-to_640 : Front 640 138
-to_640 = with_block 600 40 129 9 to_600 lines_600
+to_640 : Front 640 137
+to_640 = with_block 600 40 128 9 to_600 lines_600
 
 to_680 : Front 680 144
-to_680 = with_block 640 40 138 6 to_640 lines_640
+to_680 = with_block 640 40 137 7 to_640 lines_640
 
-to_720 : Front 720 155
-to_720 = with_block 680 40 144 11 to_680 lines_680
+to_720 : Front 720 153
+to_720 = with_block 680 40 144 9 to_680 lines_680
 
-to_760 : Front 760 160
-to_760 = with_block 720 40 155 5 to_720 lines_720
+to_760 : Front 760 159
+to_760 = with_block 720 40 153 6 to_720 lines_720
 
-to_800 : Front 800 170
-to_800 = with_block 760 40 160 10 to_760 lines_760
+to_800 : Front 800 166
+to_800 = with_block 760 40 159 7 to_760 lines_760
 
-to_840 : Front 840 180
-to_840 = with_block 800 40 170 10 to_800 lines_800
+to_840 : Front 840 177
+to_840 = with_block 800 40 166 11 to_800 lines_800
 
-to_860 : Front 860 183
-to_860 = with_block 840 20 180 3 to_840 lines_840
+to_875 : Front 875 185
+to_875 = with_block 840 35 177 8 to_840 lines_840
 
 -- all of them
 pub to_last : Front most name_count
-to_last = to_860
+to_last = to_875

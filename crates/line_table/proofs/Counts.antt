@@ -4,12 +4,12 @@ use Rattle.std.proofs.Common.{ℕ}
 
 -- the lines
 abbrev pub line_count : ℕ
-line_count = 861
+line_count = 876
 
 -- the lines before the last
 abbrev pub most : ℕ
-most = 860
+most = 875
 
 -- the names
 abbrev pub name_count : ℕ
-name_count = 183
+name_count = 185

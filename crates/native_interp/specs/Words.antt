@@ -26,10 +26,10 @@ use Rattle.native_interp.specs.declared.addresses.TheConstants.{
   SDATA,
   SREG,
   ROW,
-  OPS,
-  OPVAL,
-  UNIT,
   GO,
+  STROW,
+  OPSTWO,
+  OPVAL,
   SHOW,
   SHOWN,
   STV,
@@ -154,10 +154,10 @@ routine_parts =
     (SEEK, routine.seek) ∷ (FETCH, routine.fetch) ∷ (ADDR, routine.address) ∷ (APTR, routine.pointer) ∷
     (INDEX, routine.index) ∷ (ASPACE, routine.range) ∷ (LOAD, routine.load) ∷ (LDATA, routine.load_video) ∷
     (STREAM, routine.stream) ∷ (STORE, routine.store) ∷ (SDATA, routine.store_video) ∷
-    (SREG, routine.store_register) ∷ (ROW, routine.row) ∷ (OPS, routine.operands) ∷ (OPVAL, routine.source_value) ∷
-    (UNIT, routine.one_operand) ∷ (GO, routine.go_row) ∷ (SHOW, routine.show) ∷ (SHOWN, routine.show_character) ∷
-    (STV, routine.st) ∷ (STO, routine.store_result) ∷ (GOB, routine.branch) ∷ (GOTO, routine.go_to) ∷
-    (GOEXIT, routine.exit) ∷ []
+    (SREG, routine.store_register) ∷ (ROW, routine.row) ∷ (GO, routine.go_row) ∷ (STROW, routine.st_row) ∷
+    (OPSTWO, routine.source) ∷ (OPVAL, routine.source_value) ∷ (SHOW, routine.show) ∷
+    (SHOWN, routine.show_character) ∷ (STV, routine.st) ∷ (STO, routine.store_result) ∷ (GOB, routine.branch) ∷
+    (GOTO, routine.go_to) ∷ (GOEXIT, routine.exit) ∷ []
 
 -- the operations on one and two operands, and the tests of the status
 abbrev pub operation_parts : List (ℕ × List ℕ)

@@ -3,9 +3,9 @@ use Rattle.std.proofs.Common.{ℕ, ◌+◌, ◌<◌, ◌==◌, ◌∙◌, ◌≡
 use Rattle.std.proofs.lemmas.Bool.{eqb-false, eqb-true}
 use Rattle.sim_rows.proofs.Common.{AtRow, Byte, bytes_by, Changed, Changes, count_of, destination_bytes, even, Exit, exit, gone_on, GplState, in_register}
 use Rattle.sim_rows.proofs.Common.{is_grom_idle, is_vdp_idle, IsView, IsVisible, Memory, modulus, of_register, ones_set, operation_in, pick, Place}
-use Rattle.sim_rows.proofs.Common.{PortsAreIdle, repeated, repeated_sign, return_of, row_width, shifted, shifted_left, shifted_right, ShiftOp, size_of, SLA}
-use Rattle.sim_rows.proofs.Common.{Source, SRA, SRC, SRL, STO, StoresTo, Storing, swapped, Two, two, unchanged, value_at, VdpState, View, view_of, Width}
-use Rattle.sim_rows.proofs.Common.{width_in, with_value, Word}
+use Rattle.sim_rows.proofs.Common.{PortsAreIdle, reads_destination, repeated, repeated_sign, return_of, row_width, shifted, shifted_left, shifted_right}
+use Rattle.sim_rows.proofs.Common.{ShiftOp, size_of, SLA, Source, SRA, SRC, SRL, STO, StoresTo, Storing, swapped, Two, two, unchanged, value_at, VdpState}
+use Rattle.sim_rows.proofs.Common.{View, view_of, Width, width_in, with_value, Word}
 use Rattle.sim_shift.specs.Pieces.{counted, low_four}
 use Rattle.sim_shift.specs.Family.{name_of, shift_entry}
 use Rattle.sim_shift.proofs.Numbers.{arithmetic, count_of_byte, count_of_word, kept_left, kept_right, left, right, turned}
@@ -305,6 +305,12 @@ changed_by s place source v w a k =
       mark = k.mark ∙ h.mark;
     }
 
+reads : (op : ShiftOp) → reads_destination (Some (Two (name_of op))) ≡ true
+reads SRA = refl
+reads SRL = refl
+reads SLA = refl
+reads SRC = refl
+
 loaded_is : (op : ShiftOp) (s : GplState) (place : Place) (word : ℕ) → operation_in s ≡ Some (Two (name_of op)) →
     word ≡ in_register (width_in (destination_bytes s)) (value_at s (width_in (destination_bytes s)) place) →
     word ≡ in_register (row_width s) (value_at s (row_width s) place)
@@ -318,7 +324,7 @@ pub told_at : (op : ShiftOp) (s : GplState) (place : Place) (source : Source) (v
     u ≡ (pieces.asking (shift_entry op) v).left → Told s place source (pieces.take_count u).left
 told_at op s place source v u known a i is =
     let at : Told s place source (told (pieces.asking (shift_entry op) v).left (low_four (counted_word v))) =
-    (let loaded = loaded_is op s place v.r.r9 known a.destination in
+    (let loaded = loaded_is op s place v.r.r9 known (a.destination (ap reads_destination known ∙ reads op)) in
     record {
       changed = changed_by s place source v (told (pieces.asking (shift_entry op) v).left (low_four (counted_word v))) a
           (record { cells = refl; vdp = refl; grom = refl; bytes = refl; address = refl; space = refl; mark = refl });

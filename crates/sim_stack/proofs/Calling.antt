@@ -3,17 +3,17 @@ use Rattle.std.proofs.Common.{ℕ, ◌+◌, ◌<◌, ◌==◌, ◌||◌, ◌∙�
 use Rattle.std.proofs.Common.{refl, Result, slice_index, slice_set, Some, subst, sym, true}
 use Rattle.std.proofs.lemmas.Bool.{agree_below_at}
 use Rattle.sim_rows.proofs.Common.{◌>>=◌, at_most, back_is, behind_code, bound, bound_made, CALL, CALLN, CALLS, Changed, Changes, Comes, comes, comes_on}
-use Rattle.sim_rows.proofs.Common.{comes_then, Dispatched, EndsRow, Exit, exit, Exits, finished, from, GOCALL, Goes, GplOperation, GplState, grom_at}
-use Rattle.sim_rows.proofs.Common.{GromState, grown_by, GSTOP, high, idle_told, is_end, is_view, join, Jump, just, known, lost, low, MachineState, marked_by}
-use Rattle.sim_rows.proofs.Common.{matches, next_in_grom, on_stack, operation_in, past, plus, PortsAreIdle, reaches, Reason, set_is, shifted, SHOW, SLA, Stack}
-use Rattle.sim_rows.proofs.Common.{Stands, step, step_jump, Stepped, Stopped, StoppedBy, sum_of, Turned, turned_by, View, view, Word}
-use Rattle.sim_rows.proofs.Common.{word_at as word_in_grom}
+use Rattle.sim_rows.proofs.Common.{comes_then, Dispatched, EndsRow, Exit, exit, Exits, finished, first_way, from, GOCALL, Goes, GplOperation, GplState}
+use Rattle.sim_rows.proofs.Common.{grom_at, GromState, grown_by, GSTOP, high, idle_told, is_end, is_view, join, Jump, just, known, lost, low, MachineState}
+use Rattle.sim_rows.proofs.Common.{marked_by, matches, next_in_grom, on_stack, operation_in, past, plus, PortsAreIdle, reaches, Reason, second_way, set_is}
+use Rattle.sim_rows.proofs.Common.{shifted, SHOW, SLA, Stack, Stands, step, step_jump, Stepped, Stopped, StoppedBy, sum_of, Turned, turned_by, View, view}
+use Rattle.sim_rows.proofs.Common.{Word, word_at as word_in_grom}
 use Rattle.sim_rows.specs.Pieces.{at_first}
 use Rattle.sim_rows.specs.sim_operands.Pieces.{one_if}
 use Rattle.sim_stack.specs.Pieces.{offset_of, shows_at}
 use Rattle.sim_stack.specs.Family.{is_call}
 use Rattle.sim_stack.specs.Stacks.{gone_to}
-use Rattle.sim_stack.proofs.Room.{behind_is, first_way, no_room, second_way, stop_turned, two_more, with_room}
+use Rattle.sim_stack.proofs.Room.{behind_is, no_room, stop_turned, two_more, with_room}
 use Rattle.sim_stack.proofs.Locating.{next_fits}
 use Rattle.sim_stack.specs.Pieces as pieces
 use Rattle.sim_rows.specs.interp_defs.Interpreter.{most_to_dispatch}

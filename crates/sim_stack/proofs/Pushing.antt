@@ -1,12 +1,12 @@
 -- PUSH, from its row to the end of the step.
 use Rattle.std.proofs.Common.{ℕ, ◌<◌, ◌∙◌, ◌≡◌, ap, arith, Err, false, List, nat_lt, Ok, Option, refl, Result, slice_index, slice_set, Some, subst, sym}
-use Rattle.sim_rows.proofs.Common.{◌>>=◌, Byte, bytes_by, cells_at, Changes, Comes, comes, comes_as, comes_on, destination_bytes, exit, Exits, gone_on}
-use Rattle.sim_rows.proofs.Common.{GplOperation, GplState, grown_by, GSTEP, GSTOP, high, idle_again, in_register, is_view, MachineState, on_stack, One}
-use Rattle.sim_rows.proofs.Common.{operation_in, PortsAreIdle, PUSH, PUSHV, Reason, row_result, row_width, SeesFinished, size_of, Stack, Stands, Stepped, STO}
-use Rattle.sim_rows.proofs.Common.{Stopped, StoppedBy, StoresResult, Storing, sum_of, TurnsBy, TurnsRow, unchanged, value_at, View, view, Width, width_in}
-use Rattle.sim_rows.proofs.Common.{with_cell, Word}
+use Rattle.sim_rows.proofs.Common.{◌>>=◌, Byte, bytes_by, cells_at, Changes, Comes, comes, comes_as, comes_on, destination_bytes, exit, Exits, first_way}
+use Rattle.sim_rows.proofs.Common.{gone_on, GplOperation, GplState, grown_by, GSTEP, GSTOP, high, idle_again, in_register, is_view, MachineState, on_stack}
+use Rattle.sim_rows.proofs.Common.{One, operation_in, PortsAreIdle, PUSH, PUSHV, reads_destination, Reason, row_result, row_width, second_way}
+use Rattle.sim_rows.proofs.Common.{SeesFinished, size_of, Stack, Stands, Stepped, STO, Stopped, StoppedBy, StoresResult, Storing, sum_of, TurnsBy}
+use Rattle.sim_rows.proofs.Common.{TurnsRow, unchanged, value_at, View, view, Width, width_in, with_cell, Word}
 use Rattle.sim_stack.specs.Pieces.{offset_of, pointer_at}
-use Rattle.sim_stack.proofs.Room.{byte_back, first_way, no_room, one_more, one_stored, second_way, with_room}
+use Rattle.sim_stack.proofs.Room.{byte_back, no_room, one_more, one_stored, with_room}
 use Rattle.sim_stack.specs.Pieces as pieces
 use Rattle.sim_rows.specs.sim_view.Bounds.{most_of_stack_row}
 
@@ -85,7 +85,7 @@ module _ {x a : MachineState} {t u : ℕ} (stands : Stands x PUSHV) (e : Exits x
         let room : on_stack 1 top ≡ Ok top = with_room 0xC1 1 top refl (ap (nat_lt 0xC1) (sym (offset_top s h.sees.cells)) ∙ went.0) in
         let result : row_result (One PUSH) s place source ≡ Ok (with_cell top byte before) = ap (by_push s byte) room in
         let value : high (view x).r.r9 ≡ byte =
-        ap high at.destination
+        ap high (at.destination (ap reads_destination known))
         ∙ ap (λ (w : Width). high (in_register w (value_at s w place))) width
         ∙ byte_back (value_at s Byte place)
         ∙ ap (λ (w : Width). value_at s w place) (sym narrow) in

@@ -1,14 +1,14 @@
 -- FETCH, from its row to the end of the step.
 use Rattle.std.proofs.Common.{ℕ, ◌<◌, ◌∙◌, ◌≡◌, ◌≤◌, ap, arith, Err, false, List, nat_lt, Ok, refl, Result, slice_index, subst, sym}
-use Rattle.sim_rows.proofs.Common.{◌>>=◌, at_most, Changes, Comes, comes, comes_as, comes_on, exit, Exits, FETCHB, FETCHN, FETCHP, FETCHS, FETCHV, gone_on}
-use Rattle.sim_rows.proofs.Common.{GplState, grom_at, GromState, GSTEP, GSTOP, idle_told, idle_video, is_view, IsVisible, join, low, MachineState}
-use Rattle.sim_rows.proofs.Common.{next_in_grom, next_of, on_stack, One, Place, PortsAreIdle, Reason, row_result, SeesFinished, Stack, Stands, Stepped}
-use Rattle.sim_rows.proofs.Common.{Stopped, StoppedBy, TurnsBy, TurnsRow, unchanged, View, view, WHERE, with_byte_from, word_in}
+use Rattle.sim_rows.proofs.Common.{◌>>=◌, at_most, Changes, Comes, comes, comes_as, comes_on, exit, Exits, FETCHB, FETCHN, FETCHP, FETCHS, FETCHV}
+use Rattle.sim_rows.proofs.Common.{first_way, gone_on, GplState, grom_at, GromState, GSTEP, GSTOP, idle_told, idle_video, is_view, IsVisible, join, low}
+use Rattle.sim_rows.proofs.Common.{MachineState, next_in_grom, next_of, on_stack, One, Place, PortsAreIdle, Reason, row_result, second_way, SeesFinished}
+use Rattle.sim_rows.proofs.Common.{Stack, Stands, Stepped, Stopped, StoppedBy, TurnsBy, TurnsRow, unchanged, View, view, WHERE, with_byte_from, word_in}
 use Rattle.sim_rows.specs.gpl_defs.declared.instruction.OneName.TheVariants.{FETCH}
 use Rattle.sim_rows.specs.gpl_step_defs.Place.{word_at}
 use Rattle.sim_stack.specs.Pieces.{offset_of}
 use Rattle.sim_stack.specs.Stacks.{EndsFetch, fetched_at, FetchesStacked, Fetching, LoadsStacked, Located, Locates, SetAside, SetsAside}
-use Rattle.sim_stack.proofs.Room.{first_way, second_way, no_room, offset_above, with_room}
+use Rattle.sim_stack.proofs.Room.{no_room, offset_above, with_room}
 use Rattle.sim_stack.proofs.Locating.{later_fits, next_fits}
 use Rattle.sim_stack.specs.Pieces as pieces
 use Rattle.sim_rows.specs.sim_view.Bounds.{most_of_stack_row}

@@ -3,15 +3,15 @@ use Rattle.std.proofs.Common.{ℕ, ◌<◌, ◌==◌, ◌∙◌, ◌≡◌, ap, 
 use Rattle.std.proofs.Common.{slice_index, slice_set, Some, subst, sym, true}
 use Rattle.std.proofs.lemmas.Bool.{agree_below_at, eqb-true}
 use Rattle.sim_rows.proofs.Common.{◌>>=◌, behind_code, bound, bound_made, Changes, code_byte, code_fits, Comes, comes, comes_as, comes_on, difference_of}
-use Rattle.sim_rows.proofs.Common.{Dispatched, Exit, exit, Exits, finished, GORTN, GOTO, GplOperation, GplState, GSTEP, GSTOP, is_end, is_view}
-use Rattle.sim_rows.proofs.Common.{join, low, MachineState, matches, on_stack, operation_at, operation_in, Plain, reaches, Reason, RTN, RTNC, Sees}
-use Rattle.sim_rows.proofs.Common.{SeesFinished, Stack, Stands, step, step_plain, Stepped, Stopped, StoppedBy, TAKE, Turned, turned_by, View, view}
+use Rattle.sim_rows.proofs.Common.{Dispatched, Exit, exit, Exits, finished, first_way, GORTN, GOTO, GplOperation, GplState, GSTEP, GSTOP, is_end, is_view}
+use Rattle.sim_rows.proofs.Common.{join, low, MachineState, matches, on_stack, operation_at, operation_in, Plain, reaches, Reason, RTN, RTNC, second_way}
+use Rattle.sim_rows.proofs.Common.{Sees, SeesFinished, Stack, Stands, step, step_plain, Stepped, Stopped, StoppedBy, TAKE, Turned, turned_by, View, view}
 use Rattle.sim_rows.proofs.Common.{with_condition, Word, word_in}
 use Rattle.sim_jumps.specs.Jumps.{GoesOn, TakesBranch}
 use Rattle.sim_stack.specs.Pieces.{offset_of}
 use Rattle.sim_stack.specs.Family.{is_return}
 use Rattle.sim_stack.specs.Stacks.{gone_back, returned_by}
-use Rattle.sim_stack.proofs.Room.{first_way, no_room, offset_above, second_way, stop_turned, two_less, with_room}
+use Rattle.sim_stack.proofs.Room.{no_room, offset_above, stop_turned, two_less, with_room}
 use Rattle.sim_stack.specs.Pieces as pieces
 use Rattle.sim_rows.specs.interp_defs.Interpreter.{most_to_dispatch}
 

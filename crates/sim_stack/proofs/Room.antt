@@ -1,8 +1,8 @@
 -- Room on a stack: what the checks of the pieces say, and the stop by reason 3.
-use Rattle.std.proofs.Common.{ℕ, ◌+◌, ◌<◌, ◌∙◌, ◌≡◌, ◌≤◌, ap, arith, Bool, Err, false, if◌then◌else◌, nat_le, nat_lt, Ok, refl, Result, slice_index, sym}
+use Rattle.std.proofs.Common.{ℕ, ◌+◌, ◌<◌, ◌∙◌, ◌≡◌, ◌≤◌, ap, arith, Bool, Err, false, if◌then◌else◌, nat_le, nat_lt, Ok, refl, Result, slice_index}
 use Rattle.std.proofs.Common.{true}
 use Rattle.std.proofs.lemmas.Bool.{le-leb, lt-leb, ltb-false, ltb-true}
-use Rattle.sim_rows.proofs.Common.{bound, bound_stop, Comes, difference_of, Exit, Exits, GplState, grown_by, GSTOP, high, is_end, join, Loaded, low, MachineState}
+use Rattle.sim_rows.proofs.Common.{bound, bound_stop, Comes, difference_of, GplState, grown_by, GSTOP, high, is_end, join, Loaded, low, MachineState}
 use Rattle.sim_rows.proofs.Common.{on_stack, place_in, plus, reaches, Reason, Sees, Stack, step, Stopped, StoppedBy, stops, sum_of, Turned, turned_by, value_at, View}
 use Rattle.sim_rows.proofs.Common.{Word}
 use Rattle.sim_rows.specs.gpl_step_defs.Place.{word_at}
@@ -68,19 +68,6 @@ stack_alone bytes top = by (nat_le (top + bytes) 0xC2)
     by : (b : Bool) → OnlyStack (stacked_by top b)
     by true = tt
     by false = refl
-
--- ---- the piece's check
-
--- where it went of two ways
-pub first_way : (p : ℕ) (x a : MachineState) (t u : ℕ) (b : Bool) (first second : Exit) → Exits x a t u (if b then first else second) →
-    (second.to ≡ p → ⊥) → a.cpu.pc ≡ p → (b ≡ true) × Exits x a t u first
-first_way p x a t u true first second e other here = (refl, e)
-first_way p x a t u false first second e other here = absurd (other (sym e.stands.pc ∙ here))
-
-pub second_way : (p : ℕ) (x a : MachineState) (t u : ℕ) (b : Bool) (first second : Exit) → Exits x a t u (if b then first else second) →
-    first.to ≡ p → (a.cpu.pc ≡ p → ⊥) → (b ≡ false) × Exits x a t u second
-second_way p x a t u true first second e is elsewhere = absurd (elsewhere (e.stands.pc ∙ is))
-second_way p x a t u false first second e is elsewhere = (refl, e)
 
 -- ---- the stop
 

@@ -26,7 +26,7 @@ pub use Rattle.sim_view.specs.Prelude.{LDATA, Length, length_at, length_of, list
 pub use Rattle.sim_view.specs.Prelude.{most_to_dispatch, Move, MOVEA, MOVEB, moved, MOVED, MOVEK, MoveKind, MOVEL, MoveLength, MOVEN, MOVER, MOVES}
 pub use Rattle.sim_view.specs.Prelude.{MoveSource, MoveTarget, MOVEW, MOVEX, MUL, MULB, MULV, NEG, negation_flags, negation_of, NEGV, new_grom, next_from}
 pub use Rattle.sim_view.specs.Prelude.{next_in_grom, next_in_vdp, next_seed, next_to, NoOperation, number_of, on_stack, one, One, one_more, OneName}
-pub use Rattle.sim_view.specs.Prelude.{ones_cleared, ones_set, Opcode, operand_from, operation_at, operation_entry, OPS, OPTAB, OPVAL, OR, origin, origin_of}
+pub use Rattle.sim_view.specs.Prelude.{ones_cleared, ones_set, Opcode, operand_from, operation_at, operation_entry, OPTAB, OPVAL, OR, origin, origin_of}
 pub use Rattle.sim_view.specs.Prelude.{ORV, OVER, OVERFLOW_BIT, OVF, pair_kind, PairKind, Place, place_of, plain, Plain, PlainOp, plus, pointed, PortsAreIdle}
 pub use Rattle.sim_view.specs.Prelude.{previous_in_grom, product_of, PUSH, PUSHV, RAND, RANDL, RANDOM, ranged, Reaches, read_by, ReadSetup, Reason, Register}
 pub use Rattle.sim_view.specs.Prelude.{RegisterWrite, repeated, repeated_sign, RESUME, RETURN_STACK, ROW, row_entry, RTN, RTNC, run, Runs, RunsSteps}
@@ -34,7 +34,7 @@ pub use Rattle.sim_view.specs.Prelude.{SDATA, SEED, SEEK, shifted, shifted_left,
 pub use Rattle.sim_view.specs.Prelude.{SLLB, SLLV, Source, source_at, source_of, Space, space_at, space_of, SRA, SRAB, SRAV, SRC, SRCB, SRCV, SREG, SRL, SRLB}
 pub use Rattle.sim_view.specs.Prelude.{SRLV, ST, Stack, Stands, StandsBy, start, STATB, STATUS, Status, status_byte, status_of, status_word, step, Stepped}
 pub use Rattle.sim_view.specs.Prelude.{steps, STO, Stopped, STORE, STREAM, STV, SUB, SUBV, sum_flags, sum_of, swapped, TABLE, TAKE, target_at, target_of, To}
-pub use Rattle.sim_view.specs.Prelude.{ToMemory, ToRegisters, Turn, Turned, TurnedBy, two, Two, TwoName, unchanged, UNIT, UNKN, value_at, VALUE_STACK, Vdp}
+pub use Rattle.sim_view.specs.Prelude.{ToMemory, ToRegisters, Turn, Turned, TurnedBy, two, Two, TwoName, unchanged, UNKN, value_at, VALUE_STACK, Vdp}
 pub use Rattle.sim_view.specs.Prelude.{vdp_address_written, vdp_data_read, vdp_data_written, VdpState, view, View, VISIBLE_CELLS, WHERE, WIDE, Width}
 pub use Rattle.sim_view.specs.Prelude.{with_byte, with_byte_from, with_byte_in, with_byte_to, with_cell, with_condition, with_double, with_immediate}
 pub use Rattle.sim_view.specs.Prelude.{with_index, with_overflow, with_pc, with_quotient, with_register, with_status, with_stop, with_tested, with_value}
