@@ -7,7 +7,7 @@ STEP, ARITHMETIC = (f'crates/gpl_step_defs/specs/{it}.antt' for it in ('Step', '
 ROUTINES = ['WHERE', 'SEEK', 'FETCH', 'ADDR', 'ASHORT', 'APTR', 'INDEX', 'ASPACE', 'LOAD', 'LDATA', 'STREAM', 'STORE', 'SDATA',
             'SREG', 'COUNT']
 TAILS = ['STO', 'SHOW', 'GOTO', 'TAKE', 'RESUME', 'CTRUE', 'CFALSE', 'GSTEP', 'GSTOP', 'GEXIT']
-ROWS = ['ROW', 'WIDE', 'OPS', 'OPSDST', 'OPSVAL', 'OPVAL', 'GO']
+ROWS = ['ROW', 'OPSDST', 'OPSVAL', 'WIDE', 'WIDDST', 'WIDVAL', 'STROW', 'STDST', 'OPSTWO', 'OPVAL', 'GO']
 STEPS = ['GBOOT', 'GSTEP', 'UNKN']
 KINDS = {'plain': 'PlainOp', 'byte': 'ByteOp', 'go': 'GoOp', 'one': 'OneName', 'two': 'TwoName'}
 DEFINED = {'plain': ('plain', STEP), 'byte': ('with_immediate', STEP), 'go': ('jump', STEP), 'one': ('one', STEP),

@@ -9,72 +9,72 @@ use Rattle.line_table.proofs.ThirdBlocks.{lines_560, lines_600, lines_640, lines
 to_040 : Front 40 15
 to_040 = with_block 0 40 0 15 none_yet lines_000
 
-to_080 : Front 80 16
-to_080 = with_block 40 40 15 1 to_040 lines_040
+to_080 : Front 80 17
+to_080 = with_block 40 40 15 2 to_040 lines_040
 
-to_120 : Front 120 16
-to_120 = with_block 80 40 16 0 to_080 lines_080
+to_120 : Front 120 17
+to_120 = with_block 80 40 17 0 to_080 lines_080
 
-to_160 : Front 160 18
-to_160 = with_block 120 40 16 2 to_120 lines_120
+to_160 : Front 160 19
+to_160 = with_block 120 40 17 2 to_120 lines_120
 
 to_200 : Front 200 29
-to_200 = with_block 160 40 18 11 to_160 lines_160
+to_200 = with_block 160 40 19 10 to_160 lines_160
 
-to_240 : Front 240 37
-to_240 = with_block 200 40 29 8 to_200 lines_200
+to_240 : Front 240 38
+to_240 = with_block 200 40 29 9 to_200 lines_200
 
 to_280 : Front 280 48
-to_280 = with_block 240 40 37 11 to_240 lines_240
+to_280 = with_block 240 40 38 10 to_240 lines_240
 
-to_320 : Front 320 57
-to_320 = with_block 280 40 48 9 to_280 lines_280
+to_320 : Front 320 58
+to_320 = with_block 280 40 48 10 to_280 lines_280
 
-to_360 : Front 360 66
-to_360 = with_block 320 40 57 9 to_320 lines_320
+to_360 : Front 360 65
+to_360 = with_block 320 40 58 7 to_320 lines_320
 
-to_400 : Front 400 78
-to_400 = with_block 360 40 66 12 to_360 lines_360
+to_400 : Front 400 74
+to_400 = with_block 360 40 65 9 to_360 lines_360
 
-to_440 : Front 440 90
-to_440 = with_block 400 40 78 12 to_400 lines_400
+to_440 : Front 440 89
+to_440 = with_block 400 40 74 15 to_400 lines_400
 
 to_480 : Front 480 102
-to_480 = with_block 440 40 90 12 to_440 lines_440
+to_480 = with_block 440 40 89 13 to_440 lines_440
 
-to_520 : Front 520 110
-to_520 = with_block 480 40 102 8 to_480 lines_480
+to_520 : Front 520 108
+to_520 = with_block 480 40 102 6 to_480 lines_480
 
-to_560 : Front 560 122
-to_560 = with_block 520 40 110 12 to_520 lines_520
+to_560 : Front 560 120
+to_560 = with_block 520 40 108 12 to_520 lines_520
 
 to_600 : Front 600 128
-to_600 = with_block 560 40 122 6 to_560 lines_560
+to_600 = with_block 560 40 120 8 to_560 lines_560
 
-to_640 : Front 640 136
-to_640 = with_block 600 40 128 8 to_600 lines_600
+to_640 : Front 640 137
+to_640 = with_block 600 40 128 9 to_600 lines_600
 
-to_680 : Front 680 142
-to_680 = with_block 640 40 136 6 to_640 lines_640
+to_680 : Front 680 144
+to_680 = with_block 640 40 137 7 to_640 lines_640
 
 to_720 : Front 720 153
-to_720 = with_block 680 40 142 11 to_680 lines_680
+to_720 = with_block 680 40 144 9 to_680 lines_680
 
-to_760 : Front 760 158
-to_760 = with_block 720 40 153 5 to_720 lines_720
+to_760 : Front 760 160
+to_760 = with_block 720 40 153 7 to_720 lines_720
 
 to_800 : Front 800 165
-to_800 = with_block 760 40 158 7 to_760 lines_760
+to_800 = with_block 760 40 160 5 to_760 lines_760
 
-to_840 : Front 840 175
-to_840 = with_block 800 40 165 10 to_800 lines_800
+to_840 : Front 840 173
+to_840 = with_block 800 40 165 8 to_800 lines_800
 
-to_880 : Front 880 184
-to_880 = with_block 840 40 175 9 to_840 lines_840
+to_880 : Front 880 185
+to_880 = with_block 840 40 173 12 to_840 lines_840
 
-to_885 : Front 885 185
-to_885 = with_block 880 5 184 1 to_880 lines_880
+to_907 : Front 907 190
+to_907 = with_block 880 27 185 5 to_880 lines_880
 
 -- all of them
 pub to_last : Front most name_count
-to_last = to_885
+to_last = to_907

@@ -4,12 +4,12 @@ use Rattle.std.proofs.Common.{ℕ}
 
 -- the lines
 abbrev pub line_count : ℕ
-line_count = 886
+line_count = 908
 
 -- the lines before the last
 abbrev pub most : ℕ
-most = 885
+most = 907
 
 -- the names
 abbrev pub name_count : ℕ
-name_count = 185
+name_count = 190

@@ -72,6 +72,7 @@ use Rattle.native_interp.specs.declared.addresses.TheConstants.{
   OPTAB,
   UNKN,
   ROW,
+  STROW,
   STV,
   GOB,
   GOEXIT,
@@ -131,7 +132,7 @@ abbrev pub RoutinesStand : Type 0
 RoutinesStand = IsTrue (follow origin routines)
 
 -- Where the instruction of an operation begins: its own place, or that of the operands of all rows, where MUL and DIV
--- have a wider destination. A code byte that is no instruction's stops.
+-- have a wider destination, and ST reads nothing there. A code byte that is no instruction's stops.
 abbrev pub operation_entry : Option GplOperation → ℕ
 operation_entry (Some (Plain RTN)) = GORTN
 operation_entry (Some (Plain RTNC)) = GORTN
@@ -149,6 +150,7 @@ operation_entry (Some (Branch on)) = BRANCH
 operation_entry (Some (One op)) = ROW
 operation_entry (Some (Two MUL)) = WIDE
 operation_entry (Some (Two DIV)) = WIDE
+operation_entry (Some (Two ST)) = STROW
 operation_entry (Some (Two op)) = ROW
 operation_entry (Some (Move kind)) = GOMOVE
 operation_entry None = UNKN

@@ -2,7 +2,7 @@
 -- The words of branches, stacks and RAND.
 use Rattle.std.specs.Prelude.{ℕ, List, [], ◌∷◌}
 
--- >2644: BRANCH, the target of BR and BS
+-- >2662: BRANCH, the target of BR and BS
 --     BRANCH MOV R0,R6
 --            SLA R6,11
 --            SRL R6,3
@@ -16,7 +16,7 @@ target =
     0xC180 ∷ 0x0AB6 ∷ 0x0936 ∷ 0xD820 ∷ 0x9800 ∷ 0x83ED ∷ 0xC101 ∷ 0x09D4 ∷
     0x0AD4 ∷ 0xA184 ∷ []
 
--- >2658: BTEST, whether BR and BS are taken
+-- >2676: BTEST, whether BR and BS are taken
 --     BTEST  MOV R0,R4
 --            SRL R4,6
 --            JOC BSET
@@ -32,15 +32,15 @@ test_branch =
     0xC100 ∷ 0x0964 ∷ 0x1805 ∷ 0xD120 ∷ 0x837C ∷ 0x0A34 ∷ 0x18E9 ∷ 0x1004 ∷
     0xD120 ∷ 0x837C ∷ 0x0A34 ∷ 0x17E4 ∷ []
 
--- >2670: TAKE, a branch that is taken
+-- >268E: TAKE, a branch that is taken
 --     TAKE   LI R4,>2000
 --            SZCB R4,@PAD+>7C
 --            B @GOTO
 abbrev pub take_branch : List ℕ
 take_branch =
-    0x0204 ∷ 0x2000 ∷ 0x5804 ∷ 0x837C ∷ 0x0460 ∷ 0x24C6 ∷ []
+    0x0204 ∷ 0x2000 ∷ 0x5804 ∷ 0x837C ∷ 0x0460 ∷ 0x24D2 ∷ []
 
--- >267C: CASEV
+-- >269A: CASEV
 --     CASEV  CI R3,1
 --            JNE CASEW
 --            SRL R9,8
@@ -49,7 +49,7 @@ abbrev pub case_row : List ℕ
 case_row =
     0x0283 ∷ 0x0001 ∷ 0x1601 ∷ 0x0989 ∷ 0x06A0 ∷ 0x22D0 ∷ []
 
--- >2688: CASEN, the place in the table of CASE
+-- >26A6: CASEN, the place in the table of CASE
 --     CASEN  A R9,R9
 --            A R6,R9
 --            BL @SEEK
@@ -57,14 +57,14 @@ abbrev pub case_next : List ℕ
 case_next =
     0xA249 ∷ 0xA246 ∷ 0x06A0 ∷ 0x22E8 ∷ []
 
--- >2690: CASET, the end of CASE
+-- >26AE: CASET, the end of CASE
 --     CASET  MOV R9,R6
 --            JMP TAKE
 abbrev pub case_target : List ℕ
 case_target =
     0xC189 ∷ 0x10EE ∷ []
 
--- >2694: PUSHV
+-- >26B2: PUSHV
 --     PUSHV  CLR R12
 --            MOVB @DSTACK,R12
 --            AI R12,>0100
@@ -78,87 +78,86 @@ case_target =
 abbrev pub push : List ℕ
 push =
     0x04CC ∷ 0xD320 ∷ 0x8372 ∷ 0x022C ∷ 0x0100 ∷ 0xC1CC ∷ 0x0987 ∷ 0x0287 ∷
-    0x00C1 ∷ 0x1B05 ∷ 0xD80C ∷ 0x8372 ∷ 0x04C8 ∷ 0x0460 ∷ 0x24B4 ∷ []
+    0x00C1 ∷ 0x1B05 ∷ 0xD80C ∷ 0x8372 ∷ 0x04C8 ∷ 0x0460 ∷ 0x24C0 ∷ []
 
--- >26B2: FULL, a stack whose top is not visible
+-- >26D0: FULL, a stack whose top is not visible
 --     FULL   B @STK
 abbrev pub stack_full : List ℕ
 stack_full =
     0x0460 ∷ 0x22BC ∷ []
 
--- >26B6: GOCALL
---     GOCALL CLR R13
---            LI R3,2
---            MOVB @GRMRD,R14
+-- >26D4: GOCALL
+--     GOCALL MOVB @GRMRD,R14
 --            MOVB @GRMRD,@R14LB
-abbrev pub call : List ℕ
-call =
-    0x04CD ∷ 0x0203 ∷ 0x0002 ∷ 0xD3A0 ∷ 0x9800 ∷ 0xD820 ∷ 0x9800 ∷ 0x83FD ∷ []
-
--- >26C6: CALLT, the pointer of CALL
---     CALLT  CLR R12
---            MOVB @RSTACK,R12
---            AI R12,>0200
---            MOV R12,R7
+--     CALLT  MOVB @RSTACK,R7
+--            AI R7,>0200
 --            SRL R7,8
 --            CI R7,>C0
 --            JH FULL
---            BL @WHERE
-abbrev pub call_target : List ℕ
-call_target =
-    0x04CC ∷ 0xD320 ∷ 0x8373 ∷ 0x022C ∷ 0x0200 ∷ 0xC1CC ∷ 0x0987 ∷ 0x0287 ∷
-    0x00C0 ∷ 0x1BEC ∷ 0x06A0 ∷ 0x22D0 ∷ []
+abbrev pub call : List ℕ
+call =
+    0xD3A0 ∷ 0x9800 ∷ 0xD820 ∷ 0x9800 ∷ 0x83FD ∷ 0xD1E0 ∷ 0x8373 ∷ 0x0227 ∷
+    0x0200 ∷ 0x0987 ∷ 0x0287 ∷ 0x00C0 ∷ 0x1BF1 ∷ []
 
--- >26DE: CALLN, the address that CALL stacks
---     CALLN  MOV R6,R9
---            BL @SEEK
+-- >26EE: CALLN, the address that CALL stacks
+--     CALLN  MOVB @GRMRA,R9
+--            MOVB @GRMRA,@R9LB
+--            MOV R9,R4
+--            SLA R4,3
+--            JNE CBACK
+--            AI R9,>2000
+--     CBACK  DEC R9
 abbrev pub call_next : List ℕ
 call_next =
-    0xC246 ∷ 0x06A0 ∷ 0x22E8 ∷ []
+    0xD260 ∷ 0x9802 ∷ 0xD820 ∷ 0x9802 ∷ 0x83F3 ∷ 0xC109 ∷ 0x0A34 ∷ 0x1602 ∷
+    0x0229 ∷ 0x2000 ∷ 0x0609 ∷ []
 
--- >26E4: CALLS, the stores of CALL
---     CALLS  MOVB R12,@RSTACK
---            CLR R8
---            LI R11,RESUME
---            B @STORE
+-- >2704: CALLS, the stores of CALL
+--     CALLS  MOVB @R7LB,@RSTACK
+--            MOVB R14,@GRMWA
+--            MOVB @R14LB,@GRMWA
+--            MOVB R9,@PAD(R7)
+--            MOVB @R9LB,@PAD+1(R7)
+--            CLR R13
+--            CI R7,>7D
+--            JH CALLE
+--            CI R7,>7C
+--            JL CALLE
+--            SETO R13
+--     CALLE  B @SHOW
 abbrev pub call_store : List ℕ
 call_store =
-    0xD80C ∷ 0x8373 ∷ 0x04C8 ∷ 0x020B ∷ 0x26F2 ∷ 0x0460 ∷ 0x23CE ∷ []
+    0xD820 ∷ 0x83EF ∷ 0x8373 ∷ 0xD80E ∷ 0x9C02 ∷ 0xD820 ∷ 0x83FD ∷ 0x9C02 ∷
+    0xD9C9 ∷ 0x8300 ∷ 0xD9E0 ∷ 0x83F3 ∷ 0x8301 ∷ 0x04CD ∷ 0x0287 ∷ 0x007D ∷
+    0x1B04 ∷ 0x0287 ∷ 0x007C ∷ 0x1A01 ∷ 0x070D ∷ 0x0460 ∷ 0x2492 ∷ []
 
--- >26F2: RESUME, the end of CALL and FETCH
+-- >2732: RESUME, the end of FETCH
 --     RESUME MOVB R14,@GRMWA
 --            MOVB @R14LB,@GRMWA
 --            B @SHOW
 abbrev pub resume : List ℕ
 resume =
-    0xD80E ∷ 0x9C02 ∷ 0xD820 ∷ 0x83FD ∷ 0x9C02 ∷ 0x0460 ∷ 0x2486 ∷ []
+    0xD80E ∷ 0x9C02 ∷ 0xD820 ∷ 0x83FD ∷ 0x9C02 ∷ 0x0460 ∷ 0x2492 ∷ []
 
--- >2700: GORTN, RTN and RTNC
---     GORTN  CLR R12
---            MOVB @RSTACK,R12
---            MOV R12,R2
+-- >2740: GORTN, RTN and RTNC
+--     GORTN  MOVB @RSTACK,R2
 --            SRL R2,8
 --            CI R2,>C0
 --            JH FULL
---            LI R3,2
---            CLR R5
---            BL @LOAD
-abbrev pub rtn : List ℕ
-rtn =
-    0x04CC ∷ 0xD320 ∷ 0x8373 ∷ 0xC08C ∷ 0x0982 ∷ 0x0282 ∷ 0x00C0 ∷ 0x1BD1 ∷
-    0x0203 ∷ 0x0002 ∷ 0x04C5 ∷ 0x06A0 ∷ 0x2378 ∷ []
-
--- >271A: RTNP, the pointer of RTN and RTNC
---     RTNP   AI R12,>FE00
---            MOVB R12,@RSTACK
+--     RTNW   MOVB @PAD(R2),R6
+--            MOVB @PAD+1(R2),@R6LB
+--            DECT R2
+--            MOVB @R2LB,@RSTACK
 --            MOV R0,R0
 --            JEQ TAKE
 --            B @GOTO
-abbrev pub rtn_pointer : List ℕ
-rtn_pointer =
-    0x022C ∷ 0xFE00 ∷ 0xD80C ∷ 0x8373 ∷ 0xC000 ∷ 0x13A5 ∷ 0x0460 ∷ 0x24C6 ∷ []
+abbrev pub rtn : List ℕ
+rtn =
+    0xD0A0 ∷ 0x8373 ∷ 0x0982 ∷ 0x0282 ∷ 0x00C0 ∷ 0x1BC2 ∷ 0xD1A2 ∷ 0x8300 ∷
+    0xD822 ∷ 0x8301 ∷ 0x83ED ∷ 0x0642 ∷ 0xD820 ∷ 0x83E5 ∷ 0x8373 ∷ 0xC000 ∷
+    0x1396 ∷ 0x0460 ∷ 0x24D2 ∷ []
 
--- >272A: FETCHV
+-- >2766: FETCHV
 --     FETCHV MOVB @RSTACK,R2
 --            SRL R2,8
 --            CI R2,>C0
@@ -168,17 +167,17 @@ rtn_pointer =
 --            BL @WHERE
 abbrev pub fetch_row : List ℕ
 fetch_row =
-    0xD0A0 ∷ 0x8373 ∷ 0x0982 ∷ 0x0282 ∷ 0x00C0 ∷ 0x1BBE ∷ 0xC287 ∷ 0xC3C8 ∷
+    0xD0A0 ∷ 0x8373 ∷ 0x0982 ∷ 0x0282 ∷ 0x00C0 ∷ 0x1BAF ∷ 0xC287 ∷ 0xC3C8 ∷
     0x06A0 ∷ 0x22D0 ∷ []
 
--- >273E: FETCHN, the address where FETCH goes on
+-- >277A: FETCHN, the address where FETCH goes on
 --     FETCHN MOV R6,R14
 --            BL @SEEK
 abbrev pub fetch_next : List ℕ
 fetch_next =
     0xC386 ∷ 0x06A0 ∷ 0x22E8 ∷ []
 
--- >2744: FETCHP, the stacked address of FETCH
+-- >2780: FETCHP, the stacked address of FETCH
 --     FETCHP MOV R2,R7
 --            LI R3,2
 --            CLR R5
@@ -187,40 +186,40 @@ abbrev pub fetch_pointer : List ℕ
 fetch_pointer =
     0xC1C2 ∷ 0x0203 ∷ 0x0002 ∷ 0x04C5 ∷ 0x06A0 ∷ 0x2378 ∷ []
 
--- >2750: FETCHA, GROM at that address
+-- >278C: FETCHA, GROM at that address
 --     FETCHA BL @SEEK
 abbrev pub fetch_address : List ℕ
 fetch_address =
     0x06A0 ∷ 0x22E8 ∷ []
 
--- >2754: FETCHR, the byte there
+-- >2790: FETCHR, the byte there
 --     FETCHR BL @FETCH
 abbrev pub fetch_read : List ℕ
 fetch_read =
     0x06A0 ∷ 0x22F4 ∷ []
 
--- >2758: FETCHK, the byte is kept
+-- >2794: FETCHK, the byte is kept
 --     FETCHK MOV R6,R12
 --            BL @WHERE
 abbrev pub fetch_keep : List ℕ
 fetch_keep =
     0xC306 ∷ 0x06A0 ∷ 0x22D0 ∷ []
 
--- >275E: FETCHB, the address behind the byte
+-- >279A: FETCHB, the address behind the byte
 --     FETCHB MOV R6,R9
 --            BL @SEEK
 abbrev pub fetch_behind : List ℕ
 fetch_behind =
     0xC246 ∷ 0x06A0 ∷ 0x22E8 ∷ []
 
--- >2764: FETCHS, that address is stacked
+-- >27A0: FETCHS, that address is stacked
 --     FETCHS CLR R8
 --            BL @STORE
 abbrev pub fetch_stack : List ℕ
 fetch_stack =
     0x04C8 ∷ 0x06A0 ∷ 0x23CE ∷ []
 
--- >276A: FETCHD, the byte is stored
+-- >27A6: FETCHD, the byte is stored
 --     FETCHD MOV R10,R7
 --            MOV R15,R8
 --            MOV R12,R9
@@ -229,10 +228,10 @@ fetch_stack =
 --            B @STORE
 abbrev pub fetch_store : List ℕ
 fetch_store =
-    0xC1CA ∷ 0xC20F ∷ 0xC24C ∷ 0x0203 ∷ 0x0001 ∷ 0x020B ∷ 0x26F2 ∷ 0x0460 ∷
+    0xC1CA ∷ 0xC20F ∷ 0xC24C ∷ 0x0203 ∷ 0x0001 ∷ 0x020B ∷ 0x2732 ∷ 0x0460 ∷
     0x23CE ∷ []
 
--- >277C: GORAND
+-- >27B8: GORAND
 --     GORAND MOVB @PAD+>C1,R6
 --            SWPB R6
 --            MOVB @PAD+>C0,R6
@@ -247,7 +246,7 @@ rand =
     0xD1A0 ∷ 0x83C1 ∷ 0x06C6 ∷ 0xD1A0 ∷ 0x83C0 ∷ 0x0209 ∷ 0x6FE5 ∷ 0x3A46 ∷
     0x022A ∷ 0x7AB9 ∷ 0xD80A ∷ 0x83C0 ∷ 0x06CA ∷ 0xD80A ∷ 0x83C1 ∷ []
 
--- >279A: RANDL, the limit of RAND
+-- >27D6: RANDL, the limit of RAND
 --     RANDL  MOVB @GRMRD,R6
 --            SRL R6,8
 --            INC R6

@@ -2,40 +2,40 @@
 -- The words of sums, logic, exchange, shifts, products, quotients and comparisons.
 use Rattle.std.specs.Prelude.{ℕ, List, [], ◌∷◌}
 
--- >24D8: INCTV
+-- >24E4: INCTV
 --     INCTV  A R6,R6
 abbrev pub inct : List ℕ
 inct =
     0xA186 ∷ []
 
--- >24DA: ADDV
+-- >24E6: ADDV
 --     ADDV   A R6,R9
 --            JMP STAT
 abbrev pub add : List ℕ
 add =
     0xA246 ∷ 0x1006 ∷ []
 
--- >24DE: DECTV
+-- >24EA: DECTV
 --     DECTV  A R6,R6
 abbrev pub dect : List ℕ
 dect =
     0xA186 ∷ []
 
--- >24E0: SUBV
+-- >24EC: SUBV
 --     SUBV   S R6,R9
 --            JMP STAT
 abbrev pub sub : List ℕ
 sub =
     0x6246 ∷ 0x1003 ∷ []
 
--- >24E4: ABSV
+-- >24F0: ABSV
 --     ABSV   ABS R9
 --            JMP STAT
 abbrev pub abs : List ℕ
 abs =
     0x0749 ∷ 0x1001 ∷ []
 
--- >24E8: NEGV, with STAT, where the status is kept
+-- >24F4: NEGV, with STAT, where the status is kept
 --     NEGV   NEG R9
 --     STAT   STST R12
 --            SRL R12,11
@@ -45,14 +45,14 @@ abbrev pub neg : List ℕ
 neg =
     0x0509 ∷ 0x02CC ∷ 0x09BC ∷ 0x0ABC ∷ 0x06A0 ∷ 0x23CE ∷ []
 
--- >24F4: STATB, the status, behind the result
+-- >2500: STATB, the status, behind the result
 --     STATB  MOVB R12,@PAD+>7C
 --            B @SHOW
 abbrev pub set_status : List ℕ
 set_status =
-    0xD80C ∷ 0x837C ∷ 0x0460 ∷ 0x2486 ∷ []
+    0xD80C ∷ 0x837C ∷ 0x0460 ∷ 0x2492 ∷ []
 
--- >24FC: ANDV
+-- >2508: ANDV
 --     ANDV   INV R6
 --            SZC R6,R9
 --            JMP STO
@@ -60,35 +60,35 @@ abbrev pub and_ones : List ℕ
 and_ones =
     0x0546 ∷ 0x4246 ∷ 0x10D9 ∷ []
 
--- >2502: ORV
+-- >250E: ORV
 --     ORV    SOC R6,R9
 --            JMP STO
 abbrev pub or_ones : List ℕ
 or_ones =
     0xE246 ∷ 0x10D7 ∷ []
 
--- >2506: XORV
+-- >2512: XORV
 --     XORV   XOR R6,R9
 --            JMP STO
 abbrev pub exclusive_or : List ℕ
 exclusive_or =
     0x2A46 ∷ 0x10D5 ∷ []
 
--- >250A: INVV
+-- >2516: INVV
 --     INVV   INV R9
 --            JMP STO
 abbrev pub inv : List ℕ
 inv =
     0x0549 ∷ 0x10D3 ∷ []
 
--- >250E: CLRV
+-- >251A: CLRV
 --     CLRV   CLR R9
 --            JMP STO
 abbrev pub clr : List ℕ
 clr =
     0x04C9 ∷ 0x10D1 ∷ []
 
--- >2512: EXV
+-- >251E: EXV
 --     EXV    MOV R9,R12
 --            MOV R6,R9
 --            BL @STORE
@@ -96,7 +96,7 @@ abbrev pub ex : List ℕ
 ex =
     0xC309 ∷ 0xC246 ∷ 0x06A0 ∷ 0x23CE ∷ []
 
--- >251A: EXB, the source of EX
+-- >2526: EXB, the source of EX
 --     EXB    MOV R2,R7
 --            MOV R5,R8
 --            MOV R12,R9
@@ -105,7 +105,7 @@ abbrev pub ex_source : List ℕ
 ex_source =
     0xC1C2 ∷ 0xC205 ∷ 0xC24C ∷ 0x10C9 ∷ []
 
--- >2522: COUNT
+-- >252E: COUNT
 --     COUNT  MOV R6,R0
 --            CI R3,1
 --            JNE COUNTW
@@ -119,52 +119,52 @@ count =
     0xC006 ∷ 0x0283 ∷ 0x0001 ∷ 0x1601 ∷ 0x06C0 ∷ 0x0AC0 ∷ 0x09C0 ∷ 0x13C1 ∷
     0x045B ∷ []
 
--- >2534: SRAV
+-- >2540: SRAV
 --     SRAV   BL @COUNT
 abbrev pub sra : List ℕ
 sra =
-    0x06A0 ∷ 0x2522 ∷ []
+    0x06A0 ∷ 0x252E ∷ []
 
--- >2538: SRAB, the value of SRA
+-- >2544: SRAB, the value of SRA
 --     SRAB   SRA R9,0
 --            JMP STO
 abbrev pub sra_value : List ℕ
 sra_value =
     0x0809 ∷ 0x10BC ∷ []
 
--- >253C: SLLV
+-- >2548: SLLV
 --     SLLV   BL @COUNT
 abbrev pub sll : List ℕ
 sll =
-    0x06A0 ∷ 0x2522 ∷ []
+    0x06A0 ∷ 0x252E ∷ []
 
--- >2540: SLLB, the value of SLL
+-- >254C: SLLB, the value of SLL
 --     SLLB   SLA R9,0
 --            JMP STO
 abbrev pub sll_value : List ℕ
 sll_value =
     0x0A09 ∷ 0x10B8 ∷ []
 
--- >2544: SRLV
+-- >2550: SRLV
 --     SRLV   BL @COUNT
 abbrev pub srl : List ℕ
 srl =
-    0x06A0 ∷ 0x2522 ∷ []
+    0x06A0 ∷ 0x252E ∷ []
 
--- >2548: SRLB, the value of SRL
+-- >2554: SRLB, the value of SRL
 --     SRLB   SRL R9,0
 --            JMP STO
 abbrev pub srl_value : List ℕ
 srl_value =
     0x0909 ∷ 0x10B4 ∷ []
 
--- >254C: SRCV
+-- >2558: SRCV
 --     SRCV   BL @COUNT
 abbrev pub src : List ℕ
 src =
-    0x06A0 ∷ 0x2522 ∷ []
+    0x06A0 ∷ 0x252E ∷ []
 
--- >2550: SRCB, the value of SRC
+-- >255C: SRCB, the value of SRC
 --     SRCB   CI R3,1
 --            JNE SRCW
 --            MOV R9,R4
@@ -176,17 +176,25 @@ abbrev pub src_value : List ℕ
 src_value =
     0x0283 ∷ 0x0001 ∷ 0x1603 ∷ 0xC109 ∷ 0x06C4 ∷ 0xE244 ∷ 0x0B09 ∷ 0x10AA ∷ []
 
--- >2560: WIDE
+-- >256C: WIDE
 --     WIDE   MOV R0,R3
 --            SLA R3,15
 --            SRL R3,14
 --            INCT R3
---            B @OPS
+--            CLR R13
+--            BL @ADDR
+--     WIDDST MOV R2,R7
+--            MOV R5,R8
+--            BL @LOAD
+--     WIDVAL MOV R6,R9
+--            SRL R3,1
+--            B @OPSTWO
 abbrev pub wide : List ℕ
 wide =
-    0xC0C0 ∷ 0x0AF3 ∷ 0x09E3 ∷ 0x05C3 ∷ 0x0460 ∷ 0x243A ∷ []
+    0xC0C0 ∷ 0x0AF3 ∷ 0x09E3 ∷ 0x05C3 ∷ 0x04CD ∷ 0x06A0 ∷ 0x22FC ∷ 0xC1C2 ∷
+    0xC205 ∷ 0x06A0 ∷ 0x2378 ∷ 0xC246 ∷ 0x0913 ∷ 0x0460 ∷ 0x2478 ∷ []
 
--- >256C: MULV
+-- >258A: MULV
 --     MULV   CI R3,1
 --            JNE MULW
 --            SRL R9,8
@@ -199,17 +207,17 @@ wide =
 abbrev pub mul : List ℕ
 mul =
     0x0283 ∷ 0x0001 ∷ 0x1606 ∷ 0x0989 ∷ 0x0A89 ∷ 0x3A46 ∷ 0x0203 ∷ 0x0002 ∷
-    0x109B ∷ 0x3A46 ∷ 0x06A0 ∷ 0x23CE ∷ []
+    0x1092 ∷ 0x3A46 ∷ 0x06A0 ∷ 0x23CE ∷ []
 
--- >2584: MULB, the low word of a product
+-- >25A2: MULB, the low word of a product
 --     MULB   INCT R7
 --            MOV R10,R9
 --            JMP STO
 abbrev pub mul_low : List ℕ
 mul_low =
-    0x05C7 ∷ 0xC24A ∷ 0x1095 ∷ []
+    0x05C7 ∷ 0xC24A ∷ 0x108C ∷ []
 
--- >258A: DIVV
+-- >25A8: DIVV
 --     DIVV   C R9,R6
 --            JHE OVER
 --            CI R3,1
@@ -218,7 +226,7 @@ abbrev pub div : List ℕ
 div =
     0x8189 ∷ 0x1420 ∷ 0x0283 ∷ 0x0001 ∷ 0x1609 ∷ []
 
--- >2594: DIVBY, DIV of bytes
+-- >25B2: DIVBY, DIV of bytes
 --     DIVBY  MOV R9,R10
 --            CLR R9
 --            SRL R6,8
@@ -232,7 +240,7 @@ div_byte =
     0xC289 ∷ 0x04C9 ∷ 0x0986 ∷ 0x3E46 ∷ 0x06C9 ∷ 0xA24A ∷ 0x0203 ∷ 0x0002 ∷
     0x100C ∷ []
 
--- >25A6: DIVW, DIV of words
+-- >25C4: DIVW, DIV of words
 --     DIVW   MOV R6,R12
 --            MOV R7,R2
 --            INCT R2
@@ -242,7 +250,7 @@ abbrev pub div_word : List ℕ
 div_word =
     0xC306 ∷ 0xC087 ∷ 0x05C2 ∷ 0xC148 ∷ 0x06A0 ∷ 0x2378 ∷ []
 
--- >25B2: DIVL, its second word
+-- >25D0: DIVL, its second word
 --     DIVL   MOV R6,R10
 --            DIV R12,R9
 --            BL @STORE
@@ -250,28 +258,28 @@ abbrev pub div_loaded : List ℕ
 div_loaded =
     0xC286 ∷ 0x3E4C ∷ 0x06A0 ∷ 0x23CE ∷ []
 
--- >25BA: DIVQ, its remainder
+-- >25D8: DIVQ, its remainder
 --     DIVQ   INCT R7
 --            MOV R10,R9
 abbrev pub div_remainder : List ℕ
 div_remainder =
     0x05C7 ∷ 0xC24A ∷ []
 
--- >25BE: DIVS, the last word of DIV
+-- >25DC: DIVS, the last word of DIV
 --     DIVS   BL @STORE
 abbrev pub div_store : List ℕ
 div_store =
     0x06A0 ∷ 0x23CE ∷ []
 
--- >25C2: DIVE, the end of DIV
+-- >25E0: DIVE, the end of DIV
 --     DIVE   LI R4,>0800
 --            SZCB R4,@PAD+>7C
 --            B @SHOW
 abbrev pub div_end : List ℕ
 div_end =
-    0x0204 ∷ 0x0800 ∷ 0x5804 ∷ 0x837C ∷ 0x0460 ∷ 0x2486 ∷ []
+    0x0204 ∷ 0x0800 ∷ 0x5804 ∷ 0x837C ∷ 0x0460 ∷ 0x2492 ∷ []
 
--- >25CE: OVER, DIV without a quotient
+-- >25EC: OVER, DIV without a quotient
 --     OVER   LI R4,>0800
 --            SOCB R4,@PAD+>7C
 --            B @GSTEP
@@ -279,7 +287,7 @@ abbrev pub over : List ℕ
 over =
     0x0204 ∷ 0x0800 ∷ 0xF804 ∷ 0x837C ∷ 0x0460 ∷ 0x228C ∷ []
 
--- >25DA: CHV
+-- >25F8: CHV
 --     CHV    C R9,R6
 --            JH CTRUE
 --            JMP CFALSE
@@ -287,7 +295,7 @@ abbrev pub ch : List ℕ
 ch =
     0x8189 ∷ 0x1B27 ∷ 0x102C ∷ []
 
--- >25E0: CHEV
+-- >25FE: CHEV
 --     CHEV   C R9,R6
 --            JHE CTRUE
 --            JMP CFALSE
@@ -295,7 +303,7 @@ abbrev pub che : List ℕ
 che =
     0x8189 ∷ 0x1424 ∷ 0x1029 ∷ []
 
--- >25E6: CGTV
+-- >2604: CGTV
 --     CGTV   C R9,R6
 --            JGT CTRUE
 --            JMP CFALSE
@@ -303,7 +311,7 @@ abbrev pub cgt : List ℕ
 cgt =
     0x8189 ∷ 0x1521 ∷ 0x1026 ∷ []
 
--- >25EC: CGEV
+-- >260A: CGEV
 --     CGEV   C R6,R9
 --            JGT CFALSE
 --            JMP CTRUE
@@ -311,7 +319,7 @@ abbrev pub cge : List ℕ
 cge =
     0x8246 ∷ 0x1524 ∷ 0x101D ∷ []
 
--- >25F2: CEQV
+-- >2610: CEQV
 --     CEQV   C R9,R6
 --            JEQ CTRUE
 --            JMP CFALSE
@@ -319,7 +327,7 @@ abbrev pub ceq : List ℕ
 ceq =
     0x8189 ∷ 0x131B ∷ 0x1020 ∷ []
 
--- >25F8: CLOGV
+-- >2616: CLOGV
 --     CLOGV  CZC R6,R9
 --            JEQ CTRUE
 --            JMP CFALSE
@@ -327,7 +335,7 @@ abbrev pub clog : List ℕ
 clog =
     0x2646 ∷ 0x1318 ∷ 0x101D ∷ []
 
--- >25FE: CZV
+-- >261C: CZV
 --     CZV    MOV R9,R9
 --            JEQ CTRUE
 --            JMP CFALSE
@@ -335,7 +343,7 @@ abbrev pub cz : List ℕ
 cz =
     0xC249 ∷ 0x1315 ∷ 0x101A ∷ []
 
--- >2604: GOH
+-- >2622: GOH
 --     GOH    MOVB @PAD+>7C,R4
 --            SLA R4,1
 --            JOC CTRUE
@@ -344,7 +352,7 @@ abbrev pub test_h : List ℕ
 test_h =
     0xD120 ∷ 0x837C ∷ 0x0A14 ∷ 0x1810 ∷ 0x1015 ∷ []
 
--- >260E: GOGT
+-- >262C: GOGT
 --     GOGT   MOVB @PAD+>7C,R4
 --            SLA R4,2
 --            JOC CTRUE
@@ -353,7 +361,7 @@ abbrev pub test_gt : List ℕ
 test_gt =
     0xD120 ∷ 0x837C ∷ 0x0A24 ∷ 0x180B ∷ 0x1010 ∷ []
 
--- >2618: GOCARY
+-- >2636: GOCARY
 --     GOCARY MOVB @PAD+>7C,R4
 --            SLA R4,4
 --            JOC CTRUE
@@ -362,7 +370,7 @@ abbrev pub test_carry : List ℕ
 test_carry =
     0xD120 ∷ 0x837C ∷ 0x0A44 ∷ 0x1806 ∷ 0x100B ∷ []
 
--- >2622: GOOVF
+-- >2640: GOOVF
 --     GOOVF  MOVB @PAD+>7C,R4
 --            SLA R4,5
 --            JOC CTRUE
@@ -371,7 +379,7 @@ abbrev pub test_ovf : List ℕ
 test_ovf =
     0xD120 ∷ 0x837C ∷ 0x0A54 ∷ 0x1801 ∷ 0x1006 ∷ []
 
--- >262C: CTRUE, the condition holds
+-- >264A: CTRUE, the condition holds
 --     CTRUE  LI R4,>2000
 --            SOCB R4,@PAD+>7C
 --            B @GSTEP
@@ -379,7 +387,7 @@ abbrev pub condition_true : List ℕ
 condition_true =
     0x0204 ∷ 0x2000 ∷ 0xF804 ∷ 0x837C ∷ 0x0460 ∷ 0x228C ∷ []
 
--- >2638: CFALSE, it does not
+-- >2656: CFALSE, it does not
 --     CFALSE LI R4,>2000
 --            SZCB R4,@PAD+>7C
 --            B @GSTEP

@@ -270,52 +270,25 @@ store_register =
 --            SLA R3,15
 --            SRL R3,15
 --            INC R3
-abbrev pub row : List ℕ
-row =
-    0xC0C0 ∷ 0x0AF3 ∷ 0x09F3 ∷ 0x0583 ∷ []
-
--- >243A: OPS, the operands of a row
---     OPS    CLR R13
+--            CLR R13
 --            BL @ADDR
 --     OPSDST MOV R2,R7
 --            MOV R5,R8
 --            BL @LOAD
 --     OPSVAL MOV R6,R9
---            MOV R0,R3
---            SLA R3,15
---            SRL R3,15
---            INC R3
 --            CI R0,>A0
---            JL UNIT
---     OPSTWO MOV R0,R4
---            SRL R4,2
---            JNC OPSRC
---            LI R5,2
---            JMP OPVAL
---     OPSRC  BL @ADDR
-abbrev pub operands : List ℕ
-operands =
-    0x04CD ∷ 0x06A0 ∷ 0x22FC ∷ 0xC1C2 ∷ 0xC205 ∷ 0x06A0 ∷ 0x2378 ∷ 0xC246 ∷
-    0xC0C0 ∷ 0x0AF3 ∷ 0x09F3 ∷ 0x0583 ∷ 0x0280 ∷ 0x00A0 ∷ 0x1A0C ∷ 0xC100 ∷
-    0x0924 ∷ 0x1703 ∷ 0x0205 ∷ 0x0002 ∷ 0x1002 ∷ 0x06A0 ∷ 0x22FC ∷ []
-
--- >2468: OPVAL, the value of the source
---     OPVAL  LI R11,GO
---            B @LOAD
-abbrev pub source_value : List ℕ
-source_value =
-    0x020B ∷ 0x247E ∷ 0x0460 ∷ 0x2378 ∷ []
-
--- >2470: UNIT, where a row has one operand
---     UNIT   LI R6,>0100
+--            JHE OPSTWO
+--            LI R6,>0100
 --            CI R3,1
 --            JEQ GO
 --            LI R6,1
-abbrev pub one_operand : List ℕ
-one_operand =
-    0x0206 ∷ 0x0100 ∷ 0x0283 ∷ 0x0001 ∷ 0x1302 ∷ 0x0206 ∷ 0x0001 ∷ []
+abbrev pub row : List ℕ
+row =
+    0xC0C0 ∷ 0x0AF3 ∷ 0x09F3 ∷ 0x0583 ∷ 0x04CD ∷ 0x06A0 ∷ 0x22FC ∷ 0xC1C2 ∷
+    0xC205 ∷ 0x06A0 ∷ 0x2378 ∷ 0xC246 ∷ 0x0280 ∷ 0x00A0 ∷ 0x1414 ∷ 0x0206 ∷
+    0x0100 ∷ 0x0283 ∷ 0x0001 ∷ 0x1302 ∷ 0x0206 ∷ 0x0001 ∷ []
 
--- >247E: GO
+-- >245E: GO
 --     GO     MOV R0,R4
 --            MOV @OPTAB->80(R4),R4
 --            B *R4
@@ -323,7 +296,40 @@ abbrev pub go_row : List ℕ
 go_row =
     0xC100 ∷ 0xC124 ∷ 0x2188 ∷ 0x0454 ∷ []
 
--- >2486: SHOW
+-- >2466: STROW
+--     STROW  MOV R0,R3
+--            SLA R3,15
+--            SRL R3,15
+--            INC R3
+--            CLR R13
+--            BL @ADDR
+--     STDST  MOV R2,R7
+--            MOV R5,R8
+abbrev pub st_row : List ℕ
+st_row =
+    0xC0C0 ∷ 0x0AF3 ∷ 0x09F3 ∷ 0x0583 ∷ 0x04CD ∷ 0x06A0 ∷ 0x22FC ∷ 0xC1C2 ∷
+    0xC205 ∷ []
+
+-- >2478: OPSTWO, the source of a row of two operands
+--     OPSTWO MOV R0,R4
+--            SRL R4,2
+--            JNC OPSRC
+--            LI R11,GO
+--            B @STREAM
+--     OPSRC  BL @ADDR
+abbrev pub source : List ℕ
+source =
+    0xC100 ∷ 0x0924 ∷ 0x1704 ∷ 0x020B ∷ 0x245E ∷ 0x0460 ∷ 0x23BA ∷ 0x06A0 ∷
+    0x22FC ∷ []
+
+-- >248A: OPVAL, the value of the source
+--     OPVAL  LI R11,GO
+--            B @LOAD
+abbrev pub source_value : List ℕ
+source_value =
+    0x020B ∷ 0x245E ∷ 0x0460 ∷ 0x2378 ∷ []
+
+-- >2492: SHOW
 --     SHOW   MOV R13,R13
 --            JNE SHOWN
 --            B @GSTEP
@@ -331,7 +337,7 @@ abbrev pub show : List ℕ
 show =
     0xC34D ∷ 0x1602 ∷ 0x0460 ∷ 0x228C ∷ []
 
--- >248E: SHOWN, the character on the screen
+-- >249A: SHOWN, the character on the screen
 --     SHOWN  MOVB @PAD+>7E,R7
 --            SRL R7,8
 --            SLA R7,5
@@ -349,27 +355,27 @@ show_character =
     0xD260 ∷ 0x837D ∷ 0x0208 ∷ 0x0001 ∷ 0x0203 ∷ 0x0001 ∷ 0x020B ∷ 0x228C ∷
     0x0460 ∷ 0x23CE ∷ []
 
--- >24B2: STV
+-- >24BE: STV
 --     STV    MOV R6,R9
 abbrev pub st : List ℕ
 st =
     0xC246 ∷ []
 
--- >24B4: STO
+-- >24C0: STO
 --     STO    LI R11,SHOW
 --            B @STORE
 abbrev pub store_result : List ℕ
 store_result =
-    0x020B ∷ 0x2486 ∷ 0x0460 ∷ 0x23CE ∷ []
+    0x020B ∷ 0x2492 ∷ 0x0460 ∷ 0x23CE ∷ []
 
--- >24BC: GOB
+-- >24C8: GOB
 --     GOB    MOVB @GRMRD,R6
 --            MOVB @GRMRD,@R6LB
 abbrev pub branch : List ℕ
 branch =
     0xD1A0 ∷ 0x9800 ∷ 0xD820 ∷ 0x9800 ∷ 0x83ED ∷ []
 
--- >24C6: GOTO
+-- >24D2: GOTO
 --     GOTO   MOVB R6,@GRMWA
 --            MOVB @R6LB,@GRMWA
 --            B @GSTEP
@@ -377,7 +383,7 @@ abbrev pub go_to : List ℕ
 go_to =
     0xD806 ∷ 0x9C02 ∷ 0xD820 ∷ 0x83ED ∷ 0x9C02 ∷ 0x0460 ∷ 0x228C ∷ []
 
--- >24D4: GOEXIT
+-- >24E0: GOEXIT
 --     GOEXIT B @GEXIT
 abbrev pub exit : List ℕ
 exit =

@@ -26,10 +26,10 @@ use Rattle.native_interp.specs.declared.addresses.TheConstants.{
   SDATA,
   SREG,
   ROW,
-  OPS,
-  OPVAL,
-  UNIT,
   GO,
+  STROW,
+  OPSTWO,
+  OPVAL,
   SHOW,
   SHOWN,
   STV,
@@ -93,12 +93,10 @@ use Rattle.native_interp.specs.declared.addresses.TheConstants.{
   PUSHV,
   FULL,
   GOCALL,
-  CALLT,
   CALLN,
   CALLS,
   RESUME,
   GORTN,
-  RTNP,
   FETCHV,
   FETCHN,
   FETCHP,
@@ -161,10 +159,10 @@ routine_parts =
     (SEEK, routine.seek) ∷ (FETCH, routine.fetch) ∷ (ADDR, routine.address) ∷ (APTR, routine.pointer) ∷
     (INDEX, routine.index) ∷ (ASPACE, routine.range) ∷ (LOAD, routine.load) ∷ (LDATA, routine.load_video) ∷
     (STREAM, routine.stream) ∷ (STORE, routine.store) ∷ (SDATA, routine.store_video) ∷
-    (SREG, routine.store_register) ∷ (ROW, routine.row) ∷ (OPS, routine.operands) ∷ (OPVAL, routine.source_value) ∷
-    (UNIT, routine.one_operand) ∷ (GO, routine.go_row) ∷ (SHOW, routine.show) ∷ (SHOWN, routine.show_character) ∷
-    (STV, routine.st) ∷ (STO, routine.store_result) ∷ (GOB, routine.branch) ∷ (GOTO, routine.go_to) ∷
-    (GOEXIT, routine.exit) ∷ []
+    (SREG, routine.store_register) ∷ (ROW, routine.row) ∷ (GO, routine.go_row) ∷ (STROW, routine.st_row) ∷
+    (OPSTWO, routine.source) ∷ (OPVAL, routine.source_value) ∷ (SHOW, routine.show) ∷
+    (SHOWN, routine.show_character) ∷ (STV, routine.st) ∷ (STO, routine.store_result) ∷ (GOB, routine.branch) ∷
+    (GOTO, routine.go_to) ∷ (GOEXIT, routine.exit) ∷ []
 
 -- the operations on one and two operands, and the tests of the status
 abbrev pub operation_parts : List (ℕ × List ℕ)
@@ -188,11 +186,11 @@ abbrev pub flow_parts : List (ℕ × List ℕ)
 flow_parts =
     (BRANCH, flow.target) ∷ (BTEST, flow.test_branch) ∷ (TAKE, flow.take_branch) ∷ (CASEV, flow.case_row) ∷
     (CASEN, flow.case_next) ∷ (CASET, flow.case_target) ∷ (PUSHV, flow.push) ∷ (FULL, flow.stack_full) ∷
-    (GOCALL, flow.call) ∷ (CALLT, flow.call_target) ∷ (CALLN, flow.call_next) ∷ (CALLS, flow.call_store) ∷
-    (RESUME, flow.resume) ∷ (GORTN, flow.rtn) ∷ (RTNP, flow.rtn_pointer) ∷ (FETCHV, flow.fetch_row) ∷
-    (FETCHN, flow.fetch_next) ∷ (FETCHP, flow.fetch_pointer) ∷ (FETCHA, flow.fetch_address) ∷
-    (FETCHR, flow.fetch_read) ∷ (FETCHK, flow.fetch_keep) ∷ (FETCHB, flow.fetch_behind) ∷
-    (FETCHS, flow.fetch_stack) ∷ (FETCHD, flow.fetch_store) ∷ (GORAND, flow.rand) ∷ (RANDL, flow.rand_limit) ∷ []
+    (GOCALL, flow.call) ∷ (CALLN, flow.call_next) ∷ (CALLS, flow.call_store) ∷ (RESUME, flow.resume) ∷
+    (GORTN, flow.rtn) ∷ (FETCHV, flow.fetch_row) ∷ (FETCHN, flow.fetch_next) ∷ (FETCHP, flow.fetch_pointer) ∷
+    (FETCHA, flow.fetch_address) ∷ (FETCHR, flow.fetch_read) ∷ (FETCHK, flow.fetch_keep) ∷
+    (FETCHB, flow.fetch_behind) ∷ (FETCHS, flow.fetch_stack) ∷ (FETCHD, flow.fetch_store) ∷ (GORAND, flow.rand) ∷
+    (RANDL, flow.rand_limit) ∷ []
 
 -- MOVE, ALL and BACK
 abbrev pub copy_parts : List (ℕ × List ℕ)

@@ -2,13 +2,13 @@
 //! Addresses in the interpreter. Profile: where the interpreter and its workspace stand.
 
 /// How many words the interpreter has.
-pub const WORD_COUNT: usize = 1168;
+pub const WORD_COUNT: usize = 1198;
 
 /// The interpreter's workspace: the address of its register 0.
 pub const WORKSPACE: u16 = 0x83E0;
 
 /// The address behind the interpreter's last word.
-pub const BEHIND: u16 = 0x2920;
+pub const BEHIND: u16 = 0x295C;
 
 /// Where the words of the interpreter begin.
 pub const ORIGIN: u16 = 0x2000;
@@ -124,359 +124,365 @@ pub const SREG: u16 = 0x2420;
 /// Loads the operands of a row and goes to it.
 pub const ROW: u16 = 0x2432;
 
-/// `ROW` for the width in register 3.
-pub const OPS: u16 = 0x243A;
-
 /// The part of `ROW` behind the destination's place.
 pub const OPSDST: u16 = 0x2440;
 
 /// The part of `ROW` behind the destination's value.
 pub const OPSVAL: u16 = 0x2448;
 
-/// The part of `ROW` for a row of two operands.
-pub const OPSTWO: u16 = 0x2458;
-
-/// The part of `ROW` that loads the source.
-pub const OPVAL: u16 = 0x2468;
-
-/// The part of `ROW` that gives 1 as the source of a row of one operand.
-pub const UNIT: u16 = 0x2470;
-
 /// The part of `ROW` that goes to the row.
-pub const GO: u16 = 0x247E;
+pub const GO: u16 = 0x245E;
+
+/// Loads the source of ST, and goes to its row.
+pub const STROW: u16 = 0x2466;
+
+/// The part of `STROW` behind the destination's place.
+pub const STDST: u16 = 0x2474;
+
+/// The part of `ROW` that finds the source.
+pub const OPSTWO: u16 = 0x2478;
+
+/// The part of `ROW` that loads the source from its place.
+pub const OPVAL: u16 = 0x248A;
 
 /// Ends a row that stored.
-pub const SHOW: u16 = 0x2486;
+pub const SHOW: u16 = 0x2492;
 
 /// The part of `SHOW` that puts the character on the screen.
-pub const SHOWN: u16 = 0x248E;
+pub const SHOWN: u16 = 0x249A;
 
 /// The row of ST.
-pub const STV: u16 = 0x24B2;
+pub const STV: u16 = 0x24BE;
 
 /// Stores the value of a row.
-pub const STO: u16 = 0x24B4;
+pub const STO: u16 = 0x24C0;
 
 /// The instruction B.
-pub const GOB: u16 = 0x24BC;
+pub const GOB: u16 = 0x24C8;
 
 /// Goes on at an address.
-pub const GOTO: u16 = 0x24C6;
+pub const GOTO: u16 = 0x24D2;
 
 /// The instruction EXIT.
-pub const GOEXIT: u16 = 0x24D4;
+pub const GOEXIT: u16 = 0x24E0;
 
 /// The row of INCT.
-pub const INCTV: u16 = 0x24D8;
+pub const INCTV: u16 = 0x24E4;
 
 /// The row of ADD and INC.
-pub const ADDV: u16 = 0x24DA;
+pub const ADDV: u16 = 0x24E6;
 
 /// The row of DECT.
-pub const DECTV: u16 = 0x24DE;
+pub const DECTV: u16 = 0x24EA;
 
 /// The row of SUB and DEC.
-pub const SUBV: u16 = 0x24E0;
+pub const SUBV: u16 = 0x24EC;
 
 /// The row of ABS.
-pub const ABSV: u16 = 0x24E4;
+pub const ABSV: u16 = 0x24F0;
 
 /// The row of NEG, and the tail of all that set the status.
-pub const NEGV: u16 = 0x24E8;
+pub const NEGV: u16 = 0x24F4;
 
 /// Sets the status, once the result is stored.
-pub const STATB: u16 = 0x24F4;
+pub const STATB: u16 = 0x2500;
 
 /// The row of AND.
-pub const ANDV: u16 = 0x24FC;
+pub const ANDV: u16 = 0x2508;
 
 /// The row of OR.
-pub const ORV: u16 = 0x2502;
+pub const ORV: u16 = 0x250E;
 
 /// The row of XOR.
-pub const XORV: u16 = 0x2506;
+pub const XORV: u16 = 0x2512;
 
 /// The row of INV.
-pub const INVV: u16 = 0x250A;
+pub const INVV: u16 = 0x2516;
 
 /// The row of CLR.
-pub const CLRV: u16 = 0x250E;
+pub const CLRV: u16 = 0x251A;
 
 /// The row of EX.
-pub const EXV: u16 = 0x2512;
+pub const EXV: u16 = 0x251E;
 
 /// Stores the old destination of EX at the source, once the source is stored.
-pub const EXB: u16 = 0x251A;
+pub const EXB: u16 = 0x2526;
 
 /// Gives the count of a shift.
-pub const COUNT: u16 = 0x2522;
+pub const COUNT: u16 = 0x252E;
 
 /// The row of SRA.
-pub const SRAV: u16 = 0x2534;
+pub const SRAV: u16 = 0x2540;
 
 /// Shifts the value of SRA by its count.
-pub const SRAB: u16 = 0x2538;
+pub const SRAB: u16 = 0x2544;
 
 /// The row of SLL.
-pub const SLLV: u16 = 0x253C;
+pub const SLLV: u16 = 0x2548;
 
 /// Shifts the value of SLL by its count.
-pub const SLLB: u16 = 0x2540;
+pub const SLLB: u16 = 0x254C;
 
 /// The row of SRL.
-pub const SRLV: u16 = 0x2544;
+pub const SRLV: u16 = 0x2550;
 
 /// Shifts the value of SRL by its count.
-pub const SRLB: u16 = 0x2548;
+pub const SRLB: u16 = 0x2554;
 
 /// The row of SRC.
-pub const SRCV: u16 = 0x254C;
+pub const SRCV: u16 = 0x2558;
 
 /// Turns the value of SRC by its count.
-pub const SRCB: u16 = 0x2550;
+pub const SRCB: u16 = 0x255C;
 
 /// Loads the operands of MUL and DIV and goes to their row.
-pub const WIDE: u16 = 0x2560;
+pub const WIDE: u16 = 0x256C;
+
+/// The part of `WIDE` behind the destination's place.
+pub const WIDDST: u16 = 0x257A;
+
+/// The part of `WIDE` behind the destination's value.
+pub const WIDVAL: u16 = 0x2582;
 
 /// The row of MUL.
-pub const MULV: u16 = 0x256C;
+pub const MULV: u16 = 0x258A;
 
 /// Stores the low word of a product, once the high word is stored.
-pub const MULB: u16 = 0x2584;
+pub const MULB: u16 = 0x25A2;
 
 /// The row of DIV.
-pub const DIVV: u16 = 0x258A;
+pub const DIVV: u16 = 0x25A8;
 
 /// The part of DIV for bytes.
-pub const DIVBY: u16 = 0x2594;
+pub const DIVBY: u16 = 0x25B2;
 
 /// The part of DIV for words.
-pub const DIVW: u16 = 0x25A6;
+pub const DIVW: u16 = 0x25C4;
 
 /// The part of DIV for words, once the second word of the destination is loaded.
-pub const DIVL: u16 = 0x25B2;
+pub const DIVL: u16 = 0x25D0;
 
 /// Takes the remainder of a DIV of words, once the quotient is stored.
-pub const DIVQ: u16 = 0x25BA;
+pub const DIVQ: u16 = 0x25D8;
 
 /// Stores the last word of DIV.
-pub const DIVS: u16 = 0x25BE;
+pub const DIVS: u16 = 0x25DC;
 
 /// Ends DIV, once all is stored: the overflow is cleared.
-pub const DIVE: u16 = 0x25C2;
+pub const DIVE: u16 = 0x25E0;
 
 /// Ends a DIV whose quotient does not fit: the overflow is set.
-pub const OVER: u16 = 0x25CE;
+pub const OVER: u16 = 0x25EC;
 
 /// The row of CH.
-pub const CHV: u16 = 0x25DA;
+pub const CHV: u16 = 0x25F8;
 
 /// The row of CHE.
-pub const CHEV: u16 = 0x25E0;
+pub const CHEV: u16 = 0x25FE;
 
 /// The row of CGT.
-pub const CGTV: u16 = 0x25E6;
+pub const CGTV: u16 = 0x2604;
 
 /// The row of CGE.
-pub const CGEV: u16 = 0x25EC;
+pub const CGEV: u16 = 0x260A;
 
 /// The row of CEQ.
-pub const CEQV: u16 = 0x25F2;
+pub const CEQV: u16 = 0x2610;
 
 /// The row of CLOG.
-pub const CLOGV: u16 = 0x25F8;
+pub const CLOGV: u16 = 0x2616;
 
 /// The row of CZ.
-pub const CZV: u16 = 0x25FE;
+pub const CZV: u16 = 0x261C;
 
 /// The instruction H.
-pub const GOH: u16 = 0x2604;
+pub const GOH: u16 = 0x2622;
 
 /// The instruction GT.
-pub const GOGT: u16 = 0x260E;
+pub const GOGT: u16 = 0x262C;
 
 /// The instruction CARRY.
-pub const GOCARY: u16 = 0x2618;
+pub const GOCARY: u16 = 0x2636;
 
 /// The instruction OVF.
-pub const GOOVF: u16 = 0x2622;
+pub const GOOVF: u16 = 0x2640;
 
 /// Sets the condition.
-pub const CTRUE: u16 = 0x262C;
+pub const CTRUE: u16 = 0x264A;
 
 /// Clears the condition.
-pub const CFALSE: u16 = 0x2638;
+pub const CFALSE: u16 = 0x2656;
 
 /// The instructions BR and BS.
-pub const BRANCH: u16 = 0x2644;
+pub const BRANCH: u16 = 0x2662;
 
 /// The part of BR and BS that tests the condition.
-pub const BTEST: u16 = 0x2658;
+pub const BTEST: u16 = 0x2676;
 
 /// Clears the condition and goes on at an address.
-pub const TAKE: u16 = 0x2670;
+pub const TAKE: u16 = 0x268E;
 
 /// The row of CASE.
-pub const CASEV: u16 = 0x267C;
+pub const CASEV: u16 = 0x269A;
 
 /// The part of CASE behind the next address.
-pub const CASEN: u16 = 0x2688;
+pub const CASEN: u16 = 0x26A6;
 
 /// Goes on in the table of CASE.
-pub const CASET: u16 = 0x2690;
+pub const CASET: u16 = 0x26AE;
 
 /// The row of PUSH.
-pub const PUSHV: u16 = 0x2694;
+pub const PUSHV: u16 = 0x26B2;
 
 /// Goes to the stop by reason 3.
-pub const FULL: u16 = 0x26B2;
+pub const FULL: u16 = 0x26D0;
 
 /// The instruction CALL.
-pub const GOCALL: u16 = 0x26B6;
+pub const GOCALL: u16 = 0x26D4;
 
 /// The part of CALL behind its target: the pointer of the stack.
-pub const CALLT: u16 = 0x26C6;
+pub const CALLT: u16 = 0x26DE;
 
-/// The part of CALL behind the next address.
-pub const CALLN: u16 = 0x26DE;
+/// Tells the next address, which CALL stacks.
+pub const CALLN: u16 = 0x26EE;
 
 /// Stores the pointer and the address of CALL.
-pub const CALLS: u16 = 0x26E4;
+pub const CALLS: u16 = 0x2704;
 
-/// Ends CALL, FETCH and a MOVE out of GROM: goes on at the address that was kept.
-pub const RESUME: u16 = 0x26F2;
+/// Ends FETCH and a MOVE out of GROM: goes on at the address that was kept.
+pub const RESUME: u16 = 0x2732;
 
 /// The instructions RTN and RTNC.
-pub const GORTN: u16 = 0x2700;
+pub const GORTN: u16 = 0x2740;
 
-/// The part of RTN and RTNC behind the stacked address.
-pub const RTNP: u16 = 0x271A;
+/// The part of RTN and RTNC that takes the word off the stack.
+pub const RTNW: u16 = 0x274C;
 
 /// The row of FETCH.
-pub const FETCHV: u16 = 0x272A;
+pub const FETCHV: u16 = 0x2766;
 
 /// The part of FETCH behind the next address.
-pub const FETCHN: u16 = 0x273E;
+pub const FETCHN: u16 = 0x277A;
 
 /// Loads the stacked address of FETCH.
-pub const FETCHP: u16 = 0x2744;
+pub const FETCHP: u16 = 0x2780;
 
 /// Sets the GROM to the stacked address.
-pub const FETCHA: u16 = 0x2750;
+pub const FETCHA: u16 = 0x278C;
 
 /// Reads the byte of FETCH.
-pub const FETCHR: u16 = 0x2754;
+pub const FETCHR: u16 = 0x2790;
 
 /// Keeps the byte of FETCH.
-pub const FETCHK: u16 = 0x2758;
+pub const FETCHK: u16 = 0x2794;
 
 /// The part of FETCH behind the address that follows its byte.
-pub const FETCHB: u16 = 0x275E;
+pub const FETCHB: u16 = 0x279A;
 
 /// Stores the address that follows the byte of FETCH.
-pub const FETCHS: u16 = 0x2764;
+pub const FETCHS: u16 = 0x27A0;
 
 /// Stores the byte of FETCH.
-pub const FETCHD: u16 = 0x276A;
+pub const FETCHD: u16 = 0x27A6;
 
 /// The instruction RAND.
-pub const GORAND: u16 = 0x277C;
+pub const GORAND: u16 = 0x27B8;
 
 /// The part of RAND that makes the next seed.
-pub const RANDM: u16 = 0x2786;
+pub const RANDM: u16 = 0x27C2;
 
 /// The part of RAND behind the seed: the limit.
-pub const RANDL: u16 = 0x279A;
+pub const RANDL: u16 = 0x27D6;
 
 /// Stops by reason 4.
-pub const LONG: u16 = 0x27B0;
+pub const LONG: u16 = 0x27EC;
 
 /// The instruction MOVE.
-pub const GOMOVE: u16 = 0x27B8;
+pub const GOMOVE: u16 = 0x27F4;
 
 /// Loads the length of MOVE.
-pub const MOVEN: u16 = 0x27CC;
+pub const MOVEN: u16 = 0x2808;
 
 /// The part of MOVE behind its length: the target.
-pub const MOVEL: u16 = 0x27D0;
+pub const MOVEL: u16 = 0x280C;
 
 /// The part of MOVE behind its target: the source.
-pub const MOVED: u16 = 0x27E4;
+pub const MOVED: u16 = 0x2820;
 
 /// Begins the copy of MOVE.
-pub const MOVEB: u16 = 0x27F2;
+pub const MOVEB: u16 = 0x282E;
 
 /// The part of `MOVEB` behind the mark.
-pub const MOVEP: u16 = 0x280A;
+pub const MOVEP: u16 = 0x2846;
 
 /// Copies a byte of MOVE from the cells to the cells.
-pub const COPYCC: u16 = 0x281A;
+pub const COPYCC: u16 = 0x2856;
 
 /// Sets the video processor's address to the source of MOVE.
-pub const SETR: u16 = 0x2822;
+pub const SETR: u16 = 0x285E;
 
 /// Copies a byte of MOVE from video memory to the cells.
-pub const COPYVC: u16 = 0x2832;
+pub const COPYVC: u16 = 0x286E;
 
 /// Copies a byte of MOVE from GROM to the cells.
-pub const COPYGC: u16 = 0x283C;
+pub const COPYGC: u16 = 0x2878;
 
 /// Sets the video processor's address to the target of MOVE.
-pub const SETW: u16 = 0x2846;
+pub const SETW: u16 = 0x2882;
 
 /// The part of `SETW` that writes the address.
-pub const SETWA: u16 = 0x2856;
+pub const SETWA: u16 = 0x2892;
 
 /// Copies a byte of MOVE from the cells to video memory.
-pub const COPYCV: u16 = 0x2868;
+pub const COPYCV: u16 = 0x28A4;
 
 /// Copies a byte of MOVE from GROM to video memory.
-pub const COPYGV: u16 = 0x2872;
+pub const COPYGV: u16 = 0x28AE;
 
 /// The part of `MOVEB` before bytes that LOAD and STORE copy.
-pub const COPYL: u16 = 0x287E;
+pub const COPYL: u16 = 0x28BA;
 
 /// Asks LOAD for a byte of MOVE.
-pub const COPY: u16 = 0x2882;
+pub const COPY: u16 = 0x28BE;
 
 /// Stores a byte of MOVE.
-pub const COPYS: u16 = 0x2886;
+pub const COPYS: u16 = 0x28C2;
 
 /// Goes on to the next byte of MOVE.
-pub const COPYN: u16 = 0x288C;
+pub const COPYN: u16 = 0x28C8;
 
 /// Ends the copy of MOVE.
-pub const COPYE: u16 = 0x2894;
+pub const COPYE: u16 = 0x28D0;
 
 /// The part of MOVE whose target is the registers of the video chip.
-pub const MOVER: u16 = 0x28A2;
+pub const MOVER: u16 = 0x28DE;
 
 /// The part of MOVE that tests whether all the registers are there.
-pub const MOVERC: u16 = 0x28AA;
+pub const MOVERC: u16 = 0x28E6;
 
 /// The part of MOVE whose source is in GROM.
-pub const MOVES: u16 = 0x28B8;
+pub const MOVES: u16 = 0x28F4;
 
 /// Adds the index to that source's address.
-pub const MOVEA: u16 = 0x28C0;
+pub const MOVEA: u16 = 0x28FC;
 
 /// Asks for the address behind MOVE.
-pub const MOVEX: u16 = 0x28D0;
+pub const MOVEX: u16 = 0x290C;
 
 /// Keeps that address, and sets the GROM to the source.
-pub const MOVEW: u16 = 0x28D4;
+pub const MOVEW: u16 = 0x2910;
 
 /// Turns to the bytes that follow there.
-pub const MOVEK: u16 = 0x28DC;
+pub const MOVEK: u16 = 0x2918;
 
 /// Stops by reason 5.
-pub const NOREG: u16 = 0x28E2;
+pub const NOREG: u16 = 0x291E;
 
 /// The instruction ALL.
-pub const GOALL: u16 = 0x28EA;
+pub const GOALL: u16 = 0x2926;
 
 /// Stores a byte of ALL, or ends the step.
-pub const FILL: u16 = 0x2900;
+pub const FILL: u16 = 0x293C;
 
 /// The instruction BACK.
-pub const GOBACK: u16 = 0x290C;
+pub const GOBACK: u16 = 0x2948;

@@ -3,9 +3,9 @@ use Rattle.std.proofs.Common.{ℕ, ◌<◌, ◌∙◌, ◌≡◌, ◌≤◌, ◌
 use Rattle.sim_rows.proofs.Common.{◌>>=◌, absolute_flags, absolute_of, AtRow, Byte, bytes_by, changed_again, Changes, code_byte, complement_of, conjunction_of}
 use Rattle.sim_rows.proofs.Common.{destination_bytes, difference_flags, difference_of, exclusive_or_of, Exit, exit, first_of, Flags, gone_on, GplOperation}
 use Rattle.sim_rows.proofs.Common.{GplState, GromState, has_source, in_register, IsView, join, modulus, negation_flags, negation_of, of_register, one_below}
-use Rattle.sim_rows.proofs.Common.{OneName, ones_cleared, ones_set, operands_of, operation_in, Place, Reason, row_changed, row_result, row_width, second_by}
-use Rattle.sim_rows.proofs.Common.{size_of, Source, STATB, status_byte, STO, STORE, Storing, sum_flags, sum_of, unchanged, unit, value_at, View, Width}
-use Rattle.sim_rows.proofs.Common.{width_again, width_in, with_status, with_value, Word}
+use Rattle.sim_rows.proofs.Common.{OneName, ones_cleared, ones_set, operands_of, operation_in, Place, reads_destination, Reason, row_changed, row_result}
+use Rattle.sim_rows.proofs.Common.{row_width, second_by, size_of, Source, STATB, status_byte, STO, STORE, Storing, sum_flags, sum_of, unchanged, unit, value_at}
+use Rattle.sim_rows.proofs.Common.{View, Width, width_again, width_in, with_status, with_value, Word}
 use Rattle.sim_rows.specs.gpl_defs.declared.instruction.OneName.TheVariants as one
 use Rattle.sim_rows.specs.gpl_defs.declared.instruction.TwoName.TheVariants as two
 use Rattle.sim_rows.specs.gpl_defs.declared.instruction.GplOperation.TheVariants as operation
@@ -82,17 +82,17 @@ module _ (v : View) (i : IsView v) (s : GplState) (place : Place) (source : Sour
   abbrev c : Changes
   c = unchanged (gone_on s)
 
-  -- the destination takes the bytes of one value
+  -- the destination's value is read, and takes the bytes of one
   abbrev IsSingle : Type 0
-  IsSingle = destination_bytes s ≡ size_of w
+  IsSingle = (destination_bytes s ≡ size_of w) × (reads_destination (operation_in s) ≡ true)
 
-  single : (op : GplOperation) → operation_in s ≡ Some op → bytes_by (Some op) w ≡ size_of w → IsSingle
-  single op o e = ap (λ q. bytes_by q w) o ∙ e
+  single : (op : GplOperation) → operation_in s ≡ Some op → bytes_by (Some op) w ≡ size_of w → reads_destination (Some op) ≡ true → IsSingle
+  single op o e r = (ap (λ q. bytes_by q w) o ∙ e, ap reads_destination o ∙ r)
 
   destination_is : IsSingle → v.r.r9 ≡ in_register w x
   destination_is e =
       let at : Width → ℕ = λ u. in_register u (value_at s u place) in
-      a.destination ∙ ap (λ n. at (width_in n)) e ∙ ap at (width_again w)
+      a.destination e.1 ∙ ap (λ n. at (width_in n)) e.0 ∙ ap at (width_again w)
 
   x_fits : IsSingle → x < modulus w
   x_fits e = fits w x v.r.r9 (i.r 9) (destination_is e)
@@ -198,46 +198,46 @@ module _ (v : View) (i : IsView v) (s : GplState) (place : Place) (source : Sour
 
   pub made : (op : GplOperation) → is_alu (Some op) ≡ true → operation_in s ≡ Some op → operands_of s ≡ Ok (place, source) → Made op
   made (operation.One one.ABS) f o e =
-      let b = single (operation.One one.ABS) o refl in
+      let b = single (operation.One one.ABS) o refl refl in
       inr (flagged (operation.One one.ABS) v.r.r6 (absolute_of Word v.r.r9) (absolute_of w x) (status_byte (absolute_flags w x))
       (absolute_flags Word v.r.r9) (omega arith)
       (first (λ p. of_register w (absolute_of Word p)) b ∙ Numbers.absolute_is w x (x_fits b))
       (first (λ p. status_byte (absolute_flags Word p)) b ∙ Numbers.absolute_status w x (x_fits b)) refl)
   made (operation.One one.NEG) f o e =
-      let b = single (operation.One one.NEG) o refl in
+      let b = single (operation.One one.NEG) o refl refl in
       inr (flagged (operation.One one.NEG) v.r.r6 (negation_of Word v.r.r9) (negation_of w x) (status_byte (negation_flags w x))
       (negation_flags Word v.r.r9) (omega arith)
       (first (λ p. of_register w (negation_of Word p)) b ∙ Numbers.negation_is w x (x_fits b))
       (first (λ p. status_byte (negation_flags Word p)) b ∙ Numbers.negation_status w x (x_fits b)) refl)
   made (operation.One one.INV) f o e =
-      let b = single (operation.One one.INV) o refl in
+      let b = single (operation.One one.INV) o refl refl in
       inl (plain (operation.One one.INV) v.r.r6 (complement_of Word v.r.r9) (complement_of w x) (omega arith)
       (first (λ p. of_register w (complement_of Word p)) b ∙ Numbers.complement_is w x (x_fits b)) refl)
   made (operation.One one.CLR) f o e = inl (plain (operation.One one.CLR) v.r.r6 0 0 (omega arith) (Numbers.zero_is (row_width s)) refl)
   made (operation.One one.INC) f o e =
-      inr (adds (operation.One one.INC) v.r.r6 1 (omega arith) (single (operation.One one.INC) o refl) (one_fits w 1 (omega arith))
+      inr (adds (operation.One one.INC) v.r.r6 1 (omega arith) (single (operation.One one.INC) o refl refl) (one_fits w 1 (omega arith))
       (unit_in one.INC o e) refl)
-  made (operation.One one.DEC) f o e = inr (subtracts (operation.One one.DEC) v.r.r6 1 (omega arith) (single (operation.One one.DEC) o refl)
+  made (operation.One one.DEC) f o e = inr (subtracts (operation.One one.DEC) v.r.r6 1 (omega arith) (single (operation.One one.DEC) o refl refl)
       (one_fits w 1 (omega arith)) (unit_in one.DEC o e) refl)
   made (operation.One one.INCT) f o e =
-      inr (adds (operation.One one.INCT) (sum_of Word v.r.r6 v.r.r6) 2 (omega arith) (single (operation.One one.INCT) o refl) (one_fits w 2 (omega arith))
+      inr (adds (operation.One one.INCT) (sum_of Word v.r.r6 v.r.r6) 2 (omega arith) (single (operation.One one.INCT) o refl refl) (one_fits w 2 (omega arith))
       (twice_in one.INCT o e) refl)
   made (operation.One one.DECT) f o e =
-      inr (subtracts (operation.One one.DECT) (sum_of Word v.r.r6 v.r.r6) 2 (omega arith) (single (operation.One one.DECT) o refl)
+      inr (subtracts (operation.One one.DECT) (sum_of Word v.r.r6 v.r.r6) 2 (omega arith) (single (operation.One one.DECT) o refl refl)
       (one_fits w 2 (omega arith)) (twice_in one.DECT o e) refl)
-  made (operation.Two two.ADD) f o e = inr (adds (operation.Two two.ADD) v.r.r6 y (omega arith) (single (operation.Two two.ADD) o refl) y_fits a.value refl)
+  made (operation.Two two.ADD) f o e = inr (adds (operation.Two two.ADD) v.r.r6 y (omega arith) (single (operation.Two two.ADD) o refl refl) y_fits a.value refl)
   made (operation.Two two.SUB) f o e =
-      inr (subtracts (operation.Two two.SUB) v.r.r6 y (omega arith) (single (operation.Two two.SUB) o refl) y_fits a.value refl)
+      inr (subtracts (operation.Two two.SUB) v.r.r6 y (omega arith) (single (operation.Two two.SUB) o refl refl) y_fits a.value refl)
   made (operation.Two two.AND) f o e =
-      let b = single (operation.Two two.AND) o refl in
+      let b = single (operation.Two two.AND) o refl refl in
       inl (plain (operation.Two two.AND) (complement_of Word v.r.r6) (ones_cleared Word v.r.r9 (complement_of Word v.r.r6)) (conjunction_of x y) (omega arith)
       (both (λ p q. of_register w (ones_cleared Word p (complement_of Word q))) b ∙ Numbers.common_is w x y (x_fits b) y_fits) refl)
   made (operation.Two two.OR) f o e =
-      let b = single (operation.Two two.OR) o refl in
+      let b = single (operation.Two two.OR) o refl refl in
       inl (plain (operation.Two two.OR) v.r.r6 (ones_set v.r.r9 v.r.r6) (ones_set x y) (omega arith)
       (both (λ p q. of_register w (ones_set p q)) b ∙ Numbers.ones_are w x y (x_fits b) y_fits) refl)
   made (operation.Two two.XOR) f o e =
-      let b = single (operation.Two two.XOR) o refl in
+      let b = single (operation.Two two.XOR) o refl refl in
       inl (plain (operation.Two two.XOR) v.r.r6 (exclusive_or_of v.r.r9 v.r.r6) (exclusive_or_of x y) (omega arith)
       (both (λ p q. of_register w (exclusive_or_of p q)) b ∙ Numbers.exclusive_is w x y (x_fits b) y_fits) refl)
   made (operation.Two two.ST) f o e =

@@ -3,8 +3,8 @@ use Rattle.std.proofs.Common.{ℕ, ◌+◌, ◌<◌, ◌==◌, ◌∙◌, ◌≡
 use Rattle.std.proofs.Common.{slice_set, Some, subst, sym, true}
 use Rattle.sim_rows.proofs.Common.{Byte, bytes_by, CEQ, CGE, CGT, CH, CHE, CLOG, Comes, comes, comes_then, CTRUE, CZ, Exits, Goes, gone_on, GplOperation}
 use Rattle.sim_rows.proofs.Common.{GplState, GSTEP, in_register, is_end, IsView, loaded_of, MachineState, modulus, next_of, One, ones_cleared, ones_set}
-use Rattle.sim_rows.proofs.Common.{operation_in, Place, row_result, row_width, RunsRow, Sees, SeesFinished, SeesResult, signed, Source, Stands, Two, unchanged}
-use Rattle.sim_rows.proofs.Common.{value_at, View, view, Width, width_in, with_condition, Word}
+use Rattle.sim_rows.proofs.Common.{operation_in, Place, reads_destination, row_result, row_width, RunsRow, Sees, SeesFinished, SeesResult, signed, Source, ST}
+use Rattle.sim_rows.proofs.Common.{Stands, Two, unchanged, value_at, View, view, Width, width_in, with_condition, Word}
 use Rattle.sim_compare.specs.Pieces.{end_of, told}
 use Rattle.sim_compare.specs.Family.{compared, comparison, ending, is_comparison, IsTold}
 use Rattle.sim_compare.proofs.Numbers.{at_most, at_most_signed, below_in_register, equal_in_register, number_fits, ones_in_register, order_in_register}
@@ -125,6 +125,13 @@ loaded_is op e s place is =
     let width : Option GplOperation → Width = λ o. width_in (bytes_by o (row_width s)) in
     ap (λ (w : Width). in_register w (value_at s w place)) (ap width is ∙ sized op e (row_width s))
 
+-- each reads the destination
+reads : (op : GplOperation) → is_comparison (Some op) ≡ true → reads_destination (Some op) ≡ true
+reads (One _) e = refl
+reads (Two ST) e = absurd (cc)
+reads (Two _) e = refl
+reads _ e = absurd (cc)
+
 -- A comparison of the operands in registers 9 and 6, to the end of the step.
 pub runs : (op : GplOperation) → is_comparison (Some op) ≡ true → {x a y : MachineState} {t u v : ℕ} → IsView (view x) →
     Exits x a t u (comparison op (view x)) →
@@ -133,7 +140,7 @@ runs op e {x = x} {a = a} {y = y} {t = t} {u = u} {v = v} bounds first second s 
     let width = row_width s in
     let value = value_at s width place in
     let w = view x in
-    let nine = row.destination ∙ loaded_is op e s place is in
+    let nine = row.destination (ap reads_destination is ∙ reads op e) ∙ loaded_is op e s place is in
     let x_fits = number_fits width value (subst (λ (n : ℕ). n < 65536) nine (bounds.r 9)) in
     let y_fits = number_fits width source.number (subst (λ (n : ℕ). n < 65536) row.value (bounds.r 6)) in
     let b = flag_is op e w width value source.number nine row.value x_fits y_fits in

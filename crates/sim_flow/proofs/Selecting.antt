@@ -2,9 +2,9 @@
 use Rattle.std.proofs.Common.{ℕ, ◌*◌, ◌<◌, ◌==◌, ◌∙◌, ◌≡◌, ap, arith, Option, refl, Some, subst}
 use Rattle.sim_rows.proofs.Common.{AtRow, bytes_by, CASE, CASEN, CASET, CASEV, Comes, comes, comes_on, comes_then, destination_bytes, Exit, exit, Exits, from}
 use Rattle.sim_rows.proofs.Common.{Goes, GplOperation, GplState, grom_at, GromState, GSTEP, in_register, is_view, IsView, just, known, loaded_of, located_at}
-use Rattle.sim_rows.proofs.Common.{lost, MachineState, most_of_case_row, next_of, One, operation_in, Place, plus, return_of, row_result, row_width, RunsRow}
-use Rattle.sim_rows.proofs.Common.{SEEK, Sees, SeesResult, set_is, size_of, Source, Stands, sum_of, TAKE, value_at, View, view, WHERE, where_found, Width}
-use Rattle.sim_rows.proofs.Common.{width_again, width_in, Word}
+use Rattle.sim_rows.proofs.Common.{lost, MachineState, most_of_case_row, next_of, One, operation_in, Place, plus, reads_destination, return_of, row_result}
+use Rattle.sim_rows.proofs.Common.{row_width, RunsRow, SEEK, Sees, SeesResult, set_is, size_of, Source, Stands, sum_of, TAKE, value_at, View, view, WHERE}
+use Rattle.sim_rows.proofs.Common.{where_found, Width, width_again, width_in, Word}
 use Rattle.sim_jumps.specs.Jumps.{TakesBranch}
 use Rattle.sim_rows.specs.sim_operands.Pieces as operands
 use Rattle.sim_rows.specs.Pieces as rows
@@ -46,7 +46,7 @@ module _ (s : GplState) (place : Place) (source : Source) (v : View) (e : operat
   asked = (pieces.ask_table v).left
 
   value_is : asked.r.r9 ≡ number
-  value_is = number_is (row_width s) v.r.r3 v.r.r9 number row.holds.bytes_are (row.destination ∙ loaded_is s place e) (i.r 9)
+  value_is = number_is (row_width s) v.r.r3 v.r.r9 number row.holds.bytes_are (row.destination (ap reads_destination e) ∙ loaded_is s place e) (i.r 9)
 
   abbrev located : View
   located = located_at asked s.image (next_of s)

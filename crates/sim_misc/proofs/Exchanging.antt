@@ -5,10 +5,10 @@ use Rattle.std.proofs.lemmas.Bool.{agree_below_at}
 use Rattle.sim_rows.proofs.Common.{◌>>=◌, AtRow, behind_first, both, Byte, bytes_by, changed_again, ChangedFrom, Changes, code_byte, code_fits, Comes, comes}
 use Rattle.sim_rows.proofs.Common.{comes_on, comes_then, destination_bytes, EX, EXB, exchanged, Exits, gone_on, GplOperation, GplState, GSTEP, has_source}
 use Rattle.sim_rows.proofs.Common.{idle_again, in_register, is_immediate, is_view, IsMachine, IsVisible, LoadsFrom, LoadsFromSource, MachineState}
-use Rattle.sim_rows.proofs.Common.{most_of_store, of_register, operand_at, operands_of, operation_at, operation_in, Place, place_of, PortsAreIdle, Reason}
-use Rattle.sim_rows.proofs.Common.{return_of, row_changed, row_result, row_width, second_by, SeesFinished, SeesResult, size_of, Source, source_at, source_of}
-use Rattle.sim_rows.proofs.Common.{Stands, STO, STORE, store_then, stored_idle, StoresResult, StoresValue, Storing, Two, two_above, unchanged, value_at, View}
-use Rattle.sim_rows.proofs.Common.{view, Width, width_again, width_in, with_value, Word, word_of}
+use Rattle.sim_rows.proofs.Common.{most_of_store, of_register, operand_at, operands_of, operation_at, operation_in, Place, place_of, PortsAreIdle}
+use Rattle.sim_rows.proofs.Common.{reads_destination, Reason, return_of, row_changed, row_result, row_width, second_by, SeesFinished, SeesResult, size_of}
+use Rattle.sim_rows.proofs.Common.{Source, source_at, source_of, Stands, STO, STORE, store_then, stored_idle, StoresResult, StoresValue, Storing, Two}
+use Rattle.sim_rows.proofs.Common.{two_above, unchanged, value_at, View, view, Width, width_again, width_in, with_value, Word, word_of}
 use Rattle.sim_misc.specs.Pieces as pieces
 
 -- ---- the source of EX has a place
@@ -143,7 +143,7 @@ module _ {x y z p : MachineState} {t u v w : ℕ} (e1 : Exits x y t u (pieces.ke
         comes_on 3 16 c1 c2 refl
 
     old_is : (view z).r.r12 ≡ in_register width (value_at s width place)
-    old_is = first.holds.keeps.r12 ∙ ap (λ (b : View). b.r.r12) e1.shows ∙ loaded_is s place (view x).r.r9 known a.destination
+    old_is = first.holds.keeps.r12 ∙ ap (λ (b : View). b.r.r12) e1.shows ∙ loaded_is s place (view x).r.r9 known (a.destination (ap reads_destination known))
 
     storing_second : (at : Place) → source.place ≡ Some at → Storing between width at (value_at s width place) (view p)
     storing_second at place_is =

@@ -2,9 +2,9 @@
 use Rattle.std.proofs.Common.{ℕ, ◌%◌, ◌*◌, ◌+◌, ◌/◌, ◌<◌, ◌∙◌, ◌≡◌, ap, arith, refl, Some, subst, sym, true}
 use Rattle.sim_rows.proofs.Common.{AtRow, behind, Byte, byte_at, changed_again, ChangedFrom, Comes, comes, comes_as, comes_on, comes_then, even, Exits, gone_on}
 use Rattle.sim_rows.proofs.Common.{GplState, GSTEP, high, idle_again, in_register, is_view, IsVisible, join, MachineState, most_of_product_row, most_of_store}
-use Rattle.sim_rows.proofs.Common.{MUL, MULB, MULV, next_of, operation_in, Place, PortsAreIdle, return_of, row_changed, row_width, RunsRow, SeesFinished}
-use Rattle.sim_rows.proofs.Common.{shifted, size_of, SLA, Source, SRL, Stands, STO, STORE, store_then, stored_idle, StoresResult, StoresValue, Storing, Two}
-use Rattle.sim_rows.proofs.Common.{unchanged, value_at, View, view, Width, width_in, with_double, with_value, Word}
+use Rattle.sim_rows.proofs.Common.{MUL, MULB, MULV, next_of, operation_in, Place, PortsAreIdle, reads_destination, return_of, row_changed, row_width, RunsRow}
+use Rattle.sim_rows.proofs.Common.{SeesFinished, shifted, size_of, SLA, Source, SRL, Stands, STO, STORE, store_then, stored_idle, StoresResult, StoresValue}
+use Rattle.sim_rows.proofs.Common.{Storing, Two, unchanged, value_at, View, view, Width, width_in, with_double, with_value, Word}
 use Rattle.sim_muldiv.specs.Family.{is_muldiv, IsReady}
 use Rattle.sim_muldiv.proofs.Numbers.{byte_product, high_of}
 use Rattle.sim_muldiv.proofs.Turning.{as_byte, as_word, byte_fits_at, exits_by, first_visible, loaded_is, second_visible, width_there, word_visible}
@@ -42,7 +42,7 @@ module _ {x a : MachineState} {t u : ℕ} (ready : IsReady x) (byte : width_in (
       Storing (unchanged (gone_on s)) Word place (value_at s Byte place * source.number) (pieces.multiply_bytes v).left
   storing s place source is row width =
       let i = is_view x stands.machine in
-      let nine : v.r.r9 ≡ value_at s Word place = row.destination ∙ loaded_is s place (is_mul s is) in
+      let nine : v.r.r9 ≡ value_at s Word place = row.destination (ap reads_destination is) ∙ loaded_is s place (is_mul s is) in
       let six : v.r.r6 ≡ join source.number 0 = row.value ∙ ap (λ (w : Width). in_register w source.number) width in
       let more : high v.r.r9 ≡ value_at s Byte place = ap high nine ∙ high_of (byte_at s place) (byte_at s (behind 1 place))
       (byte_fits_at s (next_of s) v row.holds.sees i (behind 1 place)) in
@@ -130,7 +130,7 @@ module _ {x a : MachineState} {t u : ℕ} (ready : IsReady x) (word : width_in (
           let width : row_width s ≡ Word = sym (width_there s place source p row) ∙ word in
           let c = unchanged (gone_on s) in
           let number = value_at s Word place * source.number in
-          let nine : p.r.r9 ≡ value_at s Word place = row.destination ∙ loaded_is s place (is_mul s is) in
+          let nine : p.r.r9 ≡ value_at s Word place = row.destination (ap reads_destination is) ∙ loaded_is s place (is_mul s is) in
           let six : p.r.r6 ≡ source.number = row.value ∙ ap (λ (k : Width). in_register k source.number) width in
           let product : p.r.r9 * p.r.r6 ≡ number = rw (nine, six) refl in
           let three : p.r.r3 ≡ 2 = row.holds.bytes_are ∙ ap (λ (k : Width). size_of k) width in

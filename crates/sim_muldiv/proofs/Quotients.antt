@@ -6,10 +6,10 @@ use Rattle.sim_rows.proofs.Common.{AtRow, behind, Byte, Changed, changed_again, 
 use Rattle.sim_rows.proofs.Common.{DIVE, divided, DIVL, DIVQ, DIVS, DIVV, DIVW, double_at, double_word, EndsRow, even, exit, Exits, Goes, gone_on, GplState}
 use Rattle.sim_rows.proofs.Common.{GSTEP, has_quotient, high, idle_again, idle_grom, idle_told, idle_video, in_register, is_end, is_view, IsVisible, join, LOAD}
 use Rattle.sim_rows.proofs.Common.{Loaded, LoadsValue, MachineState, most_of_load, most_of_quotient_row, most_of_store, next_of, number_of_space, ones_cleared}
-use Rattle.sim_rows.proofs.Common.{ones_set, operation_in, OVER, Place, place_in, place_is, PortsAreIdle, return_of, row_changed, row_width, RunsRow}
-use Rattle.sim_rows.proofs.Common.{SeesFinished, shifted, SHOW, size_of, Source, SRL, Stands, state_of, STORE, store_then, stored_idle, StoresValue, Storing}
-use Rattle.sim_rows.proofs.Common.{storing_again, sum_of, swapped, Two, unchanged, value_at, value_same, View, view, Width, width_in, with_byte, with_overflow}
-use Rattle.sim_rows.proofs.Common.{with_quotient, with_value, Word}
+use Rattle.sim_rows.proofs.Common.{ones_set, operation_in, OVER, Place, place_in, place_is, PortsAreIdle, reads_destination, return_of, row_changed, row_width}
+use Rattle.sim_rows.proofs.Common.{RunsRow, SeesFinished, shifted, SHOW, size_of, Source, SRL, Stands, state_of, STORE, store_then, stored_idle, StoresValue}
+use Rattle.sim_rows.proofs.Common.{Storing, storing_again, sum_of, swapped, Two, unchanged, value_at, value_same, View, view, Width, width_in, with_byte}
+use Rattle.sim_rows.proofs.Common.{with_overflow, with_quotient, with_value, Word}
 use Rattle.sim_muldiv.specs.Family.{AreVisible, Divided, dividend_in, Divides, EndsDivision, EndsQuotient, is_muldiv, IsReady, MayStore, MayStoreQuotient}
 use Rattle.sim_muldiv.specs.Family.{second_in}
 use Rattle.sim_muldiv.proofs.Numbers.{byte_divides, byte_fits, divisor_down, high_of, low_of, no_first_word, quotient_fits, remainder_fits, together}
@@ -101,7 +101,7 @@ module _ {x a : MachineState} {t u : ℕ} (ready : IsReady x) (byte : width_in (
       let c = unchanged (gone_on s) in
       let dividend = value_at s Word place in
       let divisor = source.number in
-      let nine : v.r.r9 ≡ dividend = row.destination ∙ loaded_is s place (is_div s is) in
+      let nine : v.r.r9 ≡ dividend = row.destination (ap reads_destination is) ∙ loaded_is s place (is_div s is) in
       let six : v.r.r6 ≡ join divisor 0 = row.value ∙ ap (λ (k : Width). in_register k divisor) width in
       let small = byte_fits divisor (subst (λ (n : ℕ). n < 65536) six (i.r 6)) in
       let down : shifted SRL v.r.r6 8 ≡ divisor = ap (λ (n : ℕ). shifted SRL n 8) six ∙ divisor_down divisor small in
@@ -258,7 +258,7 @@ module _ {x a : MachineState} {t u : ℕ} (ready : IsReady x) (word : width_in (
       let c = unchanged (gone_on s) in
       let divisor = source.number in
       let dividend = double_at s Word place in
-      let nine : n.r.r9 ≡ value_at s Word place = row.destination ∙ loaded_is s place (is_div s is) in
+      let nine : n.r.r9 ≡ value_at s Word place = row.destination (ap reads_destination is) ∙ loaded_is s place (is_div s is) in
       let six : n.r.r6 ≡ divisor = row.value ∙ ap (λ (k : Width). in_register k divisor) width in
       let h = row.holds.sees in
       let at : place_in n.r.r8 (sum_of Word n.r.r7 2) ≡ behind 2 place =
@@ -384,7 +384,7 @@ module _ {x a : MachineState} {t u : ℕ} (ready : IsReady x) (stands : Stands x
   fits_is : (s : GplState) (place : Place) (source : Source) → operation_in s ≡ Some (Two DIV) → AtRow s place source z →
       fits ≡ has_quotient (row_width s) (double_at s (row_width s) place) source.number
   fits_is s place source is row =
-      fits_by s place source.number (row.destination ∙ loaded_is s place (is_div s is)) (word_fits_at s (next_of s) z row.holds.sees
+      fits_by s place source.number (row.destination (ap reads_destination is) ∙ loaded_is s place (is_div s is)) (word_fits_at s (next_of s) z row.holds.sees
       (is_view x stands.machine) (behind 2 place)) (row_width s) row.value
 
   abbrev by : GplState → Place → ℕ → Bool → Changes

@@ -43,7 +43,7 @@ pub seek : (v : View) → Leads [] v SEEK (pieces.seek v)
 seek v = record { by = λ f q. refl }
 
 -- an exit by its cases
-rest_is : {ends : List ℕ} {made most : ℕ} {v : View} {p : ℕ} {e d : Exit} → d ≡ e → Rest ends made most v p e → Rest ends made most v p d
+pub rest_is : {ends : List ℕ} {made most : ℕ} {v : View} {p : ℕ} {e d : Exit} → d ≡ e → Rest ends made most v p e → Rest ends made most v p d
 rest_is {ends = ends} {made = made} {most = most} {v = v} {p = p} is rest = subst (λ (e : Exit). Rest ends made most v p e) (sym is) rest
 
 -- ADDR, part by part

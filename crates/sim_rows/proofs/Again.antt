@@ -1,6 +1,6 @@
 -- What a machine keeps whose view has the same ports, and where a run begins.
-use Rattle.std.proofs.Common.{ℕ, ◌<◌, ◌∙◌, ◌≡◌, ap, arith, false, is_none, None, not, refl, subst, sym}
-use Rattle.sim_rows.specs.Prelude.{Comes, GromState, IsFetched, MachineState, Memory, PortsAreIdle, Runs, Stands, VdpState, View, view, view_of}
+use Rattle.std.proofs.Common.{ℕ, ◌<◌, ◌∙◌, ◌≡◌, ap, arith, Bool, false, if◌then◌else◌, is_none, None, not, refl, subst, sym, true}
+use Rattle.sim_rows.specs.Prelude.{Comes, Exit, Exits, GromState, IsFetched, MachineState, Memory, PortsAreIdle, Runs, Stands, VdpState, View, view, view_of}
 
 pub idle_again : (m n : Memory) → (view_of n).vdp ≡ (view_of m).vdp → (view_of n).grom ≡ (view_of m).grom → PortsAreIdle m → PortsAreIdle n
 unfolding view_of
@@ -14,6 +14,17 @@ fetched_again m n g f = subst IsFetched (sym g) f
 pub idle_told : (m : Memory) → (view_of m).vdp.held ≡ None → (view_of m).grom.half_written ≡ false → PortsAreIdle m
 unfolding view_of
 idle_told m h g = record { vdp = ap is_none h; grom = ap not g }
+
+-- where it went of two ways
+pub first_way : (p : ℕ) (x a : MachineState) (t u : ℕ) (b : Bool) (first second : Exit) → Exits x a t u (if b then first else second) →
+    (second.to ≡ p → ⊥) → a.cpu.pc ≡ p → (b ≡ true) × Exits x a t u first
+first_way p x a t u true first second e other here = (refl, e)
+first_way p x a t u false first second e other here = absurd (other (sym e.stands.pc ∙ here))
+
+pub second_way : (p : ℕ) (x a : MachineState) (t u : ℕ) (b : Bool) (first second : Exit) → Exits x a t u (if b then first else second) →
+    first.to ≡ p → (a.cpu.pc ≡ p → ⊥) → (b ≡ false) × Exits x a t u second
+second_way p x a t u true first second e is elsewhere = absurd (elsewhere (e.stands.pc ∙ is))
+second_way p x a t u false first second e is elsewhere = (refl, e)
 
 nothing_before : (before : ℕ) → 0 < before → before < 0 → ⊥
 nothing_before before a b = omega arith

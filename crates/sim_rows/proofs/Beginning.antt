@@ -19,14 +19,14 @@ entry_is code h =
     eqb-true (even (slice_index INTERP (pieces.first_entry + code))) (operation_entry (operation_at code)) (agree_below_at leads (λ _. true) 256 code refl h)
 
 -- the address before the counter
-back_is : (at : ℕ) → at < 65536 → pieces.address_before (next_in_grom at) ≡ at
+pub back_is : (at : ℕ) → at < 65536 → pieces.address_before (next_in_grom at) ≡ at
 back_is at h =
     pick (pieces.at_first (next_in_grom at))
     (λ c. let e : shifted SLA (next_in_grom at) 3 ≡ 0 = eqb-true (shifted SLA (next_in_grom at) 3) 0 c in rw (c, pieces.address_before) (omega arith))
     (λ c. let e : 0 < shifted SLA (next_in_grom at) 3 = pos_of_ne-zero (eqb-false (shifted SLA (next_in_grom at) 3) 0 c) in rw (c, pieces.address_before)
     (omega arith))
 
-one_at_most : (b : Bool) → one_if b ≤ 1
+pub one_at_most : (b : Bool) → one_if b ≤ 1
 one_at_most true = omega arith
 one_at_most false = omega arith
 

@@ -1,18 +1,20 @@
 -- The names that the proofs of a family cite, passed on from one place. Declares nothing.
-pub use Rattle.sim_view.proofs.Common.{comes, comes_as, comes_on, comes_then, given, Goes, high-join, is_view, IsView, Leads, leads, off, on, Part, part_then}
-pub use Rattle.sim_view.proofs.Common.{pick, piece, previous-next, reg_word, Rest}
+pub use Rattle.sim_view.proofs.Common.{comes, comes_as, comes_on, comes_then, given, Goes, high-join, is_view, IsView, join-bytes, Leads, leads, off, on, Part}
+pub use Rattle.sim_view.proofs.Common.{part_then, pick, piece, previous-next, reg_word, Rest}
+pub use Rattle.sim_view.specs.Bounds.{most_of_stack_row}
 pub use Rattle.sim_view.specs.Bounds.{most_of_address, most_of_alu_row, most_of_byte, most_of_case_row, most_of_exchange_row, most_of_load, most_of_product_row}
-pub use Rattle.sim_view.specs.Bounds.{most_of_quotient_row, most_of_shift_row, most_of_stack_row, most_of_store, most_to_copy}
+pub use Rattle.sim_view.specs.Bounds.{most_of_quotient_row, most_of_shift_row, most_of_store, most_to_copy}
 pub use Rattle.sim_operands.proofs.Addressing.{Answers, index_read, IndexRead, range_read, RangeRead}
 pub use Rattle.sim_operands.proofs.Facts.{at_most, byte_is, down, no_other, not_limit, spot_cell}
+pub use Rattle.sim_operands.proofs.Paths.{rest_is}
 pub use Rattle.sim_operands.proofs.Ready.{idle_grom, idle_video, ready, set_is}
-pub use Rattle.sim_rows.proofs.Again.{begins, fetched_again, idle_again, idle_told}
-pub use Rattle.sim_rows.proofs.Beginning.{from, just, known, located_at, lost, where_found}
+pub use Rattle.sim_rows.proofs.Again.{begins, fetched_again, first_way, idle_again, idle_told, second_way}
+pub use Rattle.sim_rows.proofs.Beginning.{back_is, from, just, known, located_at, lost, where_found}
 pub use Rattle.sim_rows.proofs.Codes.{one_below, two_above}
 pub use Rattle.sim_rows.proofs.Ends.{fetched_of, idle_of, leaves, matches, reaches, same_state, state_at, stops, turned_by, turned_from}
 pub use Rattle.sim_rows.proofs.Facts.{not_above}
-pub use Rattle.sim_rows.proofs.Fronting.{Asking, barred, barred_stops, finds_of, from_placed, holds_addressed, holds_again, holds_loaded, located, place_is}
-pub use Rattle.sim_rows.proofs.Fronting.{sees_again, space_small}
+pub use Rattle.sim_rows.proofs.Fronting.{barred, barred_stops, finds_of, from_placed, holds_addressed, holds_again, holds_loaded, located, place_is, sees_again}
+pub use Rattle.sim_rows.proofs.Fronting.{space_small}
 pub use Rattle.sim_rows.proofs.Operands.{value_same, visible_of}
 pub use Rattle.sim_rows.proofs.Places.{Lies, lies_at, place_lies}
 pub use Rattle.sim_rows.proofs.Rowing.{both, destination_visible, row_changed}
@@ -20,9 +22,9 @@ pub use Rattle.sim_rows.proofs.Sources.{code_fits}
 pub use Rattle.sim_rows.proofs.Steps.{bound_made, bound_stop, place_same, step_branch, step_byte, step_jump, step_move, step_none, step_plain}
 pub use Rattle.sim_rows.proofs.Storing.{changed_again, ChangedFrom, store_then, stored_idle, storing_again, value_keeps, width_again}
 pub use Rattle.sim_rows.proofs.Telling.{stands_at}
-pub use Rattle.sim_rows.specs.Prelude.{◌>>=◌, absolute_flags, absolute_of, ABSV, ADDR, Addressed, ADDV, ALL, ANDV, Answer, AreTurns, ASPACE, AtDispatch, AtRow}
-pub use Rattle.sim_rows.specs.Prelude.{B, BACK, Barred, behind, behind_code, behind_first, bit_of, bound, bound_at, bound_by, BRANCH, Branch, branched, BTEST}
-pub use Rattle.sim_rows.specs.Prelude.{Byte, byte_at, byte_from, byte_in, bytes_by, bytes_or_none, CALL, CALLN, CALLS, CALLT, CARRY, CASE, CASEN, CASET, CASEV}
+pub use Rattle.sim_rows.specs.Prelude.{◌>>=◌, absolute_flags, absolute_of, ABSV, ADDR, Addressed, ADDV, ALL, ANDV, Answer, AreTurns, Asking, ASPACE, AtDispatch}
+pub use Rattle.sim_rows.specs.Prelude.{AtRow, B, BACK, Barred, behind, behind_code, behind_first, bit_of, bound, bound_at, bound_by, BRANCH, Branch, branched}
+pub use Rattle.sim_rows.specs.Prelude.{BTEST, Byte, byte_at, byte_from, byte_in, bytes_by, bytes_or_none, CALL, CALLN, CALLS, CARRY, CASE, CASEN, CASET, CASEV}
 pub use Rattle.sim_rows.specs.Prelude.{Cell, cells_at, CEQ, CEQV, CFALSE, CGE, CGEV, CGT, CGTV, CH, Changed, Changes, CHARACTER, CHE, CHEV, CHV, CLOG, CLOGV}
 pub use Rattle.sim_rows.specs.Prelude.{CLRV, code_byte, Comes, complement_of, condition, conjunction_of, copied, COPY, COPYN, COPYS, COUNT, count_in, count_of}
 pub use Rattle.sim_rows.specs.Prelude.{Cpu, CTRUE, CZ, CZV, DECTV, destination_bytes, difference_flags, difference_of, Dispatched, DIV, DIVBY, DIVE, divided}
@@ -41,14 +43,14 @@ pub use Rattle.sim_rows.specs.Prelude.{negation_flags, negation_of, NEGV, new_gr
 pub use Rattle.sim_rows.specs.Prelude.{NoOperation, number_of, number_of_space, of_register, on_stack, One, one_more, OneName, ones_cleared, ones_set, Opcode}
 pub use Rattle.sim_rows.specs.Prelude.{operands_of, operation_at, operation_entry, operation_in, operation_seen, origin_of, ORV, OVER, OVF, pair_kind, PairKind}
 pub use Rattle.sim_rows.specs.Prelude.{past, Place, place_in, place_of, Placed, Plain, PlainOp, plus, PortsAreIdle, previous_in_grom, product_of, PUSH, PUSHV}
-pub use Rattle.sim_rows.specs.Prelude.{RAND, RANDL, RANDOM, ranged, read_by, ReadSetup, Reason, Register, RegisterWrite, repeated, repeated_sign, RESUME}
-pub use Rattle.sim_rows.specs.Prelude.{return_of, row_entry, row_result, row_width, RTN, RTNC, RTNP, run, Runs, RunsRow, second_by, SEED, SEEK, Sees}
-pub use Rattle.sim_rows.specs.Prelude.{SeesFinished, SeesResult, set_to, set_video_to, shifted, shifted_left, shifted_right, ShiftOp, SHOW, shown_by, signed}
-pub use Rattle.sim_rows.specs.Prelude.{size_of, SLA, SLLB, SLLV, Source, source_at, source_of, Space, space_of, SRA, SRAB, SRAV, SRC, SRCB, SRCV, SRL, SRLB}
-pub use Rattle.sim_rows.specs.Prelude.{SRLV, Stack, Stands, STATB, state_at_dispatch, state_of, STATUS, Status, status_byte, status_of, status_word, step}
-pub use Rattle.sim_rows.specs.Prelude.{Stepped, steps, STO, Stopped, StoppedBy, STORE, Stored, StoresRegister, StoresResult, StoresTo, StoresValue, Storing}
-pub use Rattle.sim_rows.specs.Prelude.{STREAM, streamed, STV, SUBV, sum_flags, sum_of, swapped, TAKE, target_of, To, ToMemory, ToRegisters, Turn, Turned}
-pub use Rattle.sim_rows.specs.Prelude.{TurnedBy, TurnsBy, TurnsRow, Two, two, TwoName, unchanged, unit, UNKN, value_at, Vdp, vdp_address_written}
+pub use Rattle.sim_rows.specs.Prelude.{RAND, RANDL, RANDOM, ranged, read_by, reads_destination, ReadSetup, Reason, Register, RegisterWrite, repeated}
+pub use Rattle.sim_rows.specs.Prelude.{repeated_sign, RESUME, return_of, row_entry, row_result, row_width, RTN, RTNC, run, Runs, RunsRow, second_by, SEED, SEEK}
+pub use Rattle.sim_rows.specs.Prelude.{Sees, SeesFinished, SeesResult, set_to, set_video_to, shifted, shifted_left, shifted_right, ShiftOp, SHOW, shown_by}
+pub use Rattle.sim_rows.specs.Prelude.{signed, size_of, SLA, SLLB, SLLV, Source, source_at, source_of, Space, space_of, SRA, SRAB, SRAV, SRC, SRCB, SRCV, SRL}
+pub use Rattle.sim_rows.specs.Prelude.{SRLB, SRLV, ST, Stack, Stands, STATB, state_at_dispatch, state_of, STATUS, Status, status_byte, status_of, status_word}
+pub use Rattle.sim_rows.specs.Prelude.{step, Stepped, steps, STO, Stopped, StoppedBy, STORE, Stored, StoresRegister, StoresResult, StoresTo, StoresValue}
+pub use Rattle.sim_rows.specs.Prelude.{Storing, STREAM, streamed, STV, SUBV, sum_flags, sum_of, swapped, TAKE, target_of, To, ToMemory, ToRegisters, Turn}
+pub use Rattle.sim_rows.specs.Prelude.{Turned, TurnedBy, TurnsBy, TurnsRow, Two, two, TwoName, unchanged, unit, UNKN, value_at, Vdp, vdp_address_written}
 pub use Rattle.sim_rows.specs.Prelude.{vdp_data_written, VdpState, View, view, WHERE, Width, width_in, with_byte, with_byte_from, with_byte_in, with_byte_to}
 pub use Rattle.sim_rows.specs.Prelude.{with_cell, with_condition, with_double, with_immediate, with_overflow, with_pc, with_quotient, with_register}
 pub use Rattle.sim_rows.specs.Prelude.{with_status, with_stop, with_tested, with_value, with_word, with_word_in, within_limit, Word, word_at, word_in, word_of}

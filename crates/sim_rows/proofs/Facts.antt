@@ -1,5 +1,5 @@
 -- Facts about numbers that the pieces need.
-use Rattle.std.proofs.Common.{ℕ, ◌%◌, ◌&&◌, ◌*◌, ◌+◌, ◌-◌, ◌/◌, ◌<◌, ◌==◌, ◌≡◌, ◌≤◌, ap, arith, Bool, false, nat_lt, not, refl, true}
+use Rattle.std.proofs.Common.{ℕ, ◌%◌, ◌&&◌, ◌*◌, ◌+◌, ◌-◌, ◌/◌, ◌<◌, ◌==◌, ◌≡◌, ◌≤◌, ◌||◌, ap, arith, Bool, false, nat_lt, not, refl, true}
 use Rattle.std.proofs.lemmas.Bool.{eq-eqb, le-leb, le-ltb, lt-leb, lt-ltb, ltb-false, ltb-true, ne_eqb}
 use Rattle.sim_view.proofs.Common.{Code, spot}
 use Rattle.sim_rows.specs.Pieces.{first_entry, first_row}
@@ -36,3 +36,12 @@ not_above limit number false c = by (nat_lt limit number) refl
     by true d = refl
     by false d = let l : limit ≤ number = ltb-false number limit c in let m : number ≤ limit =
         ltb-false limit number d in rw (eq-eqb number limit (omega arith)) refl
+
+-- from a limit on
+pub from_limit : (limit number : ℕ) (below : Bool) → nat_lt number limit ≡ below → (nat_lt limit number || (number == limit)) ≡ not below
+from_limit limit number below c = by (nat_lt limit number) (number == limit) (not_above limit number below c)
+  where
+    by : (a b : Bool) → (not a && not b) ≡ below → (a || b) ≡ not below
+    by true b e = ap not e
+    by false true e = ap not e
+    by false false e = ap not e

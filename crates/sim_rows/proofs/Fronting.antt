@@ -1,14 +1,16 @@
 -- The operands of a row, piece by piece: the first operand is asked for and found.
 use Rattle.std.proofs.Common.{ℕ, ◌%◌, ◌*◌, ◌+◌, ◌<◌, ◌==◌, ◌∙◌, ◌≡◌, ap, arith, Bool, false, List, refl, Result, subst, sym, true}
 use Rattle.std.proofs.lemmas.Bool.{eq-eqb, eqb-true}
-use Rattle.sim_view.proofs.Common.{comes_as, comes_on, Goes, previous-next}
-use Rattle.sim_rows.specs.Prelude.{ADDR, Addressed, AtOperands, Barred, behind_code, code_byte, Comes, Cpu, destination_bytes, Dispatched, even, Finds}
-use Rattle.sim_rows.specs.Prelude.{FindsOperand, GplState, grom_at, GromState, GSTOP, Holds, Loaded, LoadsFrom, MachineState, next_at, number_of_space}
-use Rattle.sim_rows.specs.Prelude.{operand_at, OPS, Place, place_in, place_of, Placed, previous_in_grom, Reason, return_of, row_width, Sees, shifted, size_of}
-use Rattle.sim_rows.specs.Prelude.{SLA, Space, SRL, state_of, StoppedBy, sum_of, Vdp, VdpState, View, view, width_in, Word, word_or_byte}
+use Rattle.sim_view.proofs.Common.{comes, comes_as, comes_on, Goes, is_view, previous-next}
+use Rattle.sim_rows.specs.Prelude.{ADDR, Addressed, Asking, AtDispatch, Barred, behind_code, behind_destination, code_byte, Comes, Cpu, destination_bytes, Dispatched}
+use Rattle.sim_rows.specs.Prelude.{even, Exits, Finds, FindsOperand, GplState, grom_at, GromState, GSTOP, Holds, is_row, Loaded, LoadsFrom, MachineState, next_at}
+use Rattle.sim_rows.specs.Prelude.{number_of_space, operand_at, operation_in, Place, place_in, place_of, Placed, previous_in_grom, Reason, return_of, ROW}
+use Rattle.sim_rows.specs.Prelude.{row_width, Sees, size_of, Space, state_at_dispatch, state_of, StoppedBy, Vdp, VdpState, View, view, WIDE, width_in}
+use Rattle.sim_rows.specs.Prelude.{word_or_byte}
+use Rattle.sim_rows.proofs.Entries.{Kind, narrow, storer, wide}
 use Rattle.sim_rows.proofs.Steps.{place_same}
 use Rattle.sim_rows.specs.Pieces as pieces
-use Rattle.sim_view.specs.native_interp.declared.addresses.TheConstants.{OPSDST}
+use Rattle.sim_view.specs.native_interp.declared.addresses.TheConstants.{OPSDST, STDST, STROW, WIDDST}
 use Rattle.sim_view.specs.Bounds.{most_of_address}
 
 -- ---- numbers
@@ -17,7 +19,7 @@ use Rattle.sim_view.specs.Bounds.{most_of_address}
 pub width_is : (code : ℕ) → code < 256 → pieces.width_of_code code ≡ code % 2 + 1
 width_is code h = omega arith
 
-twice_is : (code : ℕ) → code < 256 → sum_of Word (shifted SRL (shifted SLA code 15) 14) 2 ≡ 2 * (code % 2 + 1)
+twice_is : (code : ℕ) → code < 256 → pieces.twice_of_code code ≡ 2 * (code % 2 + 1)
 twice_is code h = omega arith
 
 pub size_is : (code : ℕ) → size_of (word_or_byte (code % 2 == 1)) ≡ code % 2 + 1
@@ -141,59 +143,73 @@ finds_of s t bytes at x y before after h same f =
     let to : Result Place Reason → Type 0 = λ r. Finds x y before after read.1 r in
     subst to (place_same (state_of v) t bytes read.0 (h.sees.cells ∙ sym same)) f3
 
--- ---- the width of the first operand
-
-pub row_sets : (s : GplState) (v : View) → Dispatched s v → code_byte s < 256 → destination_bytes s ≡ size_of (row_width s) →
-    Goes (pieces.row_width v) 4 OPS (AtOperands s)
-row_sets s v d h e = record {
-  within = omega arith;
-  to_is = refl;
-  holds = record {
-    sees = sees_again s (behind_code s) v (pieces.row_width v).left d.sees refl refl refl;
-    code = d.code;
-    address = d.address;
-    bytes_are = ap pieces.width_of_code d.code ∙ width_is (code_byte s) h ∙ sym (size_is (code_byte s)) ∙ sym e;
-  };
-}
-
-pub wide_sets : (s : GplState) (v : View) → Dispatched s v → code_byte s < 256 → destination_bytes s ≡ 2 * size_of (row_width s) →
-    Goes (pieces.wide_width v) 5 OPS (AtOperands s)
-wide_sets s v d h e = record {
-  within = omega arith;
-  to_is = refl;
-  holds = record {
-    sees = sees_again s (behind_code s) v (pieces.wide_width v).left d.sees refl refl refl;
-    code = d.code;
-    address = d.address;
-    bytes_are =
-        ap (λ n. sum_of Word (shifted SRL (shifted SLA n 15) 14) 2) d.code ∙ twice_is (code_byte s) h ∙ ap (λ n. 2 * n) (sym (size_is (code_byte s))) ∙ sym e;
-  };
-}
-
 -- ---- the first operand
 
--- ADDR is asked for it
-pub record Asking (s : GplState) (bytes at to : ℕ) (w : View) : Type 0 where
-  pub holds : Holds s bytes at w
-  pub link : w.r.r11 ≡ to
+narrow_is : (s : GplState) (v : View) → v.r.r0 ≡ code_byte s → code_byte s < 256 → pieces.width_of_code v.r.r0 ≡ size_of (row_width s)
+narrow_is s v e h = ap pieces.width_of_code e ∙ width_is (code_byte s) h ∙ sym (size_is (code_byte s))
 
-pub asks : (s : GplState) (v : View) → AtOperands s v → Goes (pieces.ask_first v) 2 ADDR (Asking s (destination_bytes s) (behind_code s) OPSDST)
-asks s v d = record {
+wide_is : (s : GplState) (v : View) → v.r.r0 ≡ code_byte s → code_byte s < 256 → pieces.twice_of_code v.r.r0 ≡ 2 * size_of (row_width s)
+wide_is s v e h = ap pieces.twice_of_code e ∙ twice_is (code_byte s) h ∙ ap (λ n. 2 * n) (sym (size_is (code_byte s)))
+
+-- ADDR is asked for it
+asks : (s : GplState) (v : View) (bytes link : ℕ) → Dispatched s v → bytes ≡ destination_bytes s →
+    Goes (pieces.ask_place bytes link v) 6 ADDR (Asking s (destination_bytes s) (behind_code s) link)
+asks s v bytes link d e = record {
   within = omega arith;
   to_is = refl;
   holds = record {
-    holds =
-        record {
-          sees = sees_again s (behind_code s) v (pieces.ask_first v).left d.sees refl refl refl;
-          code = d.code;
-          address = d.address;
-          bytes_are =
-              d.bytes_are;
-          mark = refl;
-        };
+    holds = record {
+      sees = sees_again s (behind_code s) v (pieces.ask_place bytes link v).left d.sees refl refl refl;
+      code = d.code;
+      address = d.address;
+      bytes_are = e;
+      mark = refl;
+    };
     link = refl;
   };
 }
+
+module _ {x : MachineState} (at : AtDispatch is_row x) where
+  abbrev s : GplState
+  s = state_at_dispatch (view x)
+
+  pub fits : code_byte s < 256
+  fits = (is_view x at.stands.machine).grom.image.fits s.pc
+
+  abbrev Asks : MachineState → ℕ → ℕ → Type 0
+  Asks y t u = Comes 6 x y t u ADDR (Asking s (destination_bytes s) (behind_code s) (behind_destination (operation_in s)))
+
+  asks_at : {y : MachineState} {t u : ℕ} (bytes link : ℕ) → bytes ≡ destination_bytes s → behind_destination (operation_in s) ≡ link →
+      Exits x y t u (pieces.ask_place bytes link (view x)) → Asks y t u
+  asks_at {y = y} {t = t} {u = u} bytes link size is e =
+      subst (λ (n : ℕ). Comes 6 x y t u ADDR (Asking s (destination_bytes s) (behind_code s) n)) (sym is)
+      (comes e (asks s (view x) bytes link at.dispatched size))
+
+  module _ {y : MachineState} {t u : ℕ} where
+    pub asks_stored : x.cpu.pc ≡ STROW → Exits x y t u (pieces.ask_stored (view x)) → Asks y t u
+    asks_stored here e =
+        let k = (storer (operation_in s) at.family (sym at.stands.pc ∙ here)).kind in
+        let n = narrow_is s (view x) at.dispatched.code fits in
+        let b = k.bytes (row_width s) in
+        asks_at (pieces.width_of_code (view x).r.r0) STDST (omega arith) k.label_is e
+
+    pub asks_wide : x.cpu.pc ≡ WIDE → Exits x y t u (pieces.ask_wide (view x)) → Asks y t u
+    asks_wide here e =
+        let k = (wide (operation_in s) at.family (sym at.stands.pc ∙ here)).kind in
+        let n = wide_is s (view x) at.dispatched.code fits in
+        let b = k.bytes (row_width s) in
+        asks_at (pieces.twice_of_code (view x).r.r0) WIDDST (omega arith) k.label_is e
+
+  module _ (not_wide : x.cpu.pc ≡ WIDE → ⊥) (not_stored : x.cpu.pc ≡ STROW → ⊥) where
+    pub narrow_here : Kind (operation_in s) ROW OPSDST 1
+    narrow_here = narrow (operation_in s) at.family (λ e. not_wide (at.stands.pc ∙ e)) (λ e. not_stored (at.stands.pc ∙ e))
+
+    pub asks_first : {y : MachineState} {t u : ℕ} → Exits x y t u (pieces.ask_first (view x)) → Asks y t u
+    asks_first e =
+        let k = narrow_here in
+        let n = narrow_is s (view x) at.dispatched.code fits in
+        let b = k.bytes (row_width s) in
+        asks_at (pieces.width_of_code (view x).r.r0) OPSDST (omega arith) k.label_is e
 
 -- it is found, or not
 pub record Located (s : GplState) (bytes : ℕ) (place : Place) (next : ℕ) (w : View) : Type 0 where

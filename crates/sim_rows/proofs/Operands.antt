@@ -3,16 +3,19 @@ use Rattle.std.proofs.Common.{ℕ, ◌%◌, ◌*◌, ◌+◌, ◌-◌, ◌/◌, 
 use Rattle.std.proofs.Common.{refl, slice_index, Some, subst, sym, true}
 use Rattle.std.proofs.lemmas.Bool.{eq-eqb, eqb-true}
 use Rattle.sim_view.proofs.Common.{comes_as, comes_on, comes_then}
-use Rattle.sim_rows.specs.Prelude.{ADDR, Addressed, Barred, behind_first, Byte, byte_in, code_byte, Comes, Cpu, destination_bytes, even, Exits, Found, GO}
-use Rattle.sim_rows.specs.Prelude.{GplState, GSTOP, Holds, Immediate, in_register, INTERP, is_row, IsVisible, join, Kept, last_out, LOAD, Loaded, LoadsFrom}
+use Rattle.sim_rows.specs.Prelude.{ADDR, Addressed, Barred, behind_first, Byte, byte_in, code_byte, Comes, Cpu, destination_bytes, even, Exits, GO}
+use Rattle.sim_rows.specs.Prelude.{GplState, GSTOP, Holds, in_register, INTERP, is_end, is_row, IsVisible, join, Kept, last_out, LOAD, Loaded, LoadsFrom}
 use Rattle.sim_rows.specs.Prelude.{LoadsFromSource, LoadsValue, MachineState, number_of_space, operation_in, OPVAL, Place, place_in, Placed, plus, Reason}
-use Rattle.sim_rows.specs.Prelude.{return_of, row_entry, row_width, size_of, Source, Sourced, Space, SRL, state_of, StoppedBy, StoresTo, unit, value_at}
-use Rattle.sim_rows.specs.Prelude.{Valued, Vdp, View, view, Width, width_in, Word, word_of, word_or_byte}
+use Rattle.sim_rows.specs.Prelude.{reads_destination, return_of, row_entry, row_width, shifted, size_of, Source, Sourced, Space, SRL, state_of, StoppedBy}
+use Rattle.sim_rows.specs.Prelude.{StoresTo, unit, value_at, Vdp, View, view, Width, width_in, Word, word_of, word_or_byte}
 use Rattle.sim_rows.proofs.Codes.{row_is}
-use Rattle.sim_rows.proofs.Fronting.{barred_stops, from_placed, holds_addressed, holds_again, holds_loaded, Located, place_is, size_is, width_is}
+use Rattle.sim_rows.proofs.Fronting.{barred_stops, from_placed, holds_addressed, holds_again, holds_loaded, Located, place_is}
 use Rattle.sim_rows.specs.Pieces as pieces
-use Rattle.sim_view.specs.native_interp.declared.addresses.TheConstants.{OPSDST, OPSVAL}
+use Rattle.sim_view.specs.native_interp.declared.addresses.TheConstants.{OPSTWO}
 use Rattle.sim_view.specs.Bounds.{most_of_address, most_of_load}
+
+not_both : (b : Bool) → b ≡ true → b ≡ false → ⊥
+not_both b f g = cc
 
 -- ---- a value is one of cells and video memory alone
 
@@ -37,9 +40,6 @@ pub record Loading (s : GplState) (bytes : ℕ) (place kept : Place) (next to : 
 -- a width is no longer than the bytes that are told
 not_one : (bytes : ℕ) → (bytes == 1) ≡ false → bytes ≡ 1 → ⊥
 not_one bytes f m = not_both (bytes == 1) (eq-eqb bytes 1 m) f
-  where
-    not_both : (b : Bool) → b ≡ true → b ≡ false → ⊥
-    not_both b f g = cc
 
 size_within : (bytes : ℕ) → 0 < bytes → size_of (width_in bytes) ≤ bytes
 size_within bytes some = by (bytes == 1) refl
@@ -94,126 +94,132 @@ loads s bytes place kept next to most x y z t u w even_to c d =
       before = ap (λ (u : View). u.r.r9) a.is;
     })
 
--- the first operand's place is asked for, and kept
-pub asks_first : (s : GplState) (bytes : ℕ) (place : Place) (next most : ℕ) (x y z : MachineState) (t u w : ℕ) →
-    Comes most x y t u OPSDST (Located s bytes place next) → Exits y z u w (pieces.load_first (view y)) →
-    Comes (most + 3) x z t w LOAD (Loading s bytes place place next OPSVAL)
-asks_first s bytes place next most x y z t u w c e =
-    let h = c.holds.holds in
-    let f = c.holds.from in
-    let v : View = view y in
-    comes_then most 3 c e (record {
-      within = omega arith;
-      to_is = refl;
-      holds = record {
-        holds = holds_again s bytes bytes next v (pieces.load_first v).left h refl refl refl refl refl refl h.bytes_are;
-        from = record { address = f.address; space = f.space };
-        to_place = record { address = f.address; space = f.space };
-        link = refl;
-      };
-    }) refl
+-- ---- the destination is kept
 
--- ---- the second operand
-
-immediate_bit : (code : ℕ) → code < 256 → last_out SRL code 2 ≡ (code / 2 % 2 == 1)
-immediate_bit code h = let n : (65536 * 0 + code) / 2 % 2 ≡ code / 2 % 2 = omega arith in ap (λ (k : ℕ). eqb k 1) n
-
-width_kept : (s : GplState) (bytes next : ℕ) (v : View) → code_byte s < 256 → Holds s bytes next v → pieces.width_of_code v.r.r0 ≡ size_of (row_width s)
-width_kept s bytes next v h d = ap pieces.width_of_code d.code ∙ width_is (code_byte s) h ∙ sym (size_is (code_byte s))
-
--- register 9 has the value, register 3 the width
-told : (s : GplState) (kept : Place) (v w : View) → code_byte s < 256 → Valued s kept v → w.cells ≡ v.cells → w.vdp ≡ v.vdp → w.grom ≡ v.grom →
-    w.r.r0 ≡ v.r.r0 → w.r.r1 ≡ v.r.r1 → w.r.r13 ≡ v.r.r13 → w.r.r3 ≡ pieces.width_of_code v.r.r0 → w.r.r7 ≡ v.r.r7 → w.r.r8 ≡ v.r.r8 → w.r.r9 ≡ v.r.r6 →
-    Kept s kept (behind_first s) w
-told s kept v w fits a c d g r0 r1 r13 r3 r7 r8 r9 = record {
-  holds = holds_again s (destination_bytes s) (size_of (row_width s)) (behind_first s) v w a.holds c d g r0 r1 r13
-      (r3 ∙ width_kept s (destination_bytes s) (behind_first s) v fits a.holds);
-  to_place = record { address = r7 ∙ a.to_place.address; space = r8 ∙ a.to_place.space };
-  destination = r9 ∙ a.value;
-}
+halved : (w : Width) → shifted SRL (2 * size_of w) 1 ≡ size_of w
+halved Byte = refl
+halved Word = refl
 
 -- with its value, the source is there
 pub sourced : {s : GplState} {place : Place} {source : Source} {next : ℕ} {w : View} → Kept s place next w → LoadsFromSource source.place w →
     w.r.r6 ≡ in_register (row_width s) source.number → Sourced s place source next w
 sourced k f v = record { holds = k.holds; to_place = k.to_place; destination = k.destination; from_source = f; value = v }
 
--- a row of one operand
-units_by : (s : GplState) (kept : Place) (most : ℕ) (x y z : MachineState) (t u w : ℕ) → code_byte s < 256 → nat_lt (code_byte s) 0xA0 ≡ true →
-    Comes most x y t u OPSVAL (Valued s kept) → Exits y z u w (pieces.second_operand (view y)) → (b : Bool) → word_of s ≡ b →
-    Comes (most + 11) x z t w GO (Sourced s kept unit (behind_first s))
-units_by s kept most x y z t u w fits one c e b is =
-    let v : View = view y in
-    let a = c.holds in
-    let low : nat_lt v.r.r0 0xA0 ≡ true = ap (λ n. nat_lt n 0xA0) a.holds.code ∙ one in
-    let size : (b : Bool) → word_of s ≡ b → pieces.width_of_code v.r.r0 ≡ size_of (word_or_byte b) =
-    λ b f. width_kept s (destination_bytes s) (behind_first s) v fits a.holds ∙ ap (λ b. size_of (word_or_byte b)) f in
-    by b is size
-  where
-    by : (b : Bool) → word_of s ≡ b → ((b : Bool) → word_of s ≡ b → pieces.width_of_code (view y).r.r0 ≡ size_of (word_or_byte b)) →
-        Comes (most + 11) x z t w GO (Sourced s kept unit (behind_first s))
-    by true is size =
-        let v : View = view y in
-        let a = c.holds in
-        let low : nat_lt v.r.r0 0xA0 ≡ true = ap (λ n. nat_lt n 0xA0) a.holds.code ∙ one in
-        let word : (pieces.width_of_code v.r.r0 == 1) ≡ false = ap (λ n. n == 1) (size true is) in
-        comes_then most 11 c e (rw (low, word, pieces.second_operand) (record {
-          within = omega arith;
-          to_is = refl;
-          holds = sourced (told s kept v _ fits a refl refl refl refl refl refl refl refl refl refl) tt (sym (ap (λ b. in_register (word_or_byte b) 1) is));
-        })) refl
-    by false is size =
-        let v : View = view y in
-        let a = c.holds in
-        let low : nat_lt v.r.r0 0xA0 ≡ true = ap (λ n. nat_lt n 0xA0) a.holds.code ∙ one in
-        let byte : (pieces.width_of_code v.r.r0 == 1) ≡ true = ap (λ n. n == 1) (size false is) in
-        comes_then most 11 c e (rw (low, byte, pieces.second_operand) (record {
-          within = omega arith;
-          to_is = refl;
-          holds = sourced (told s kept v _ fits a refl refl refl refl refl refl refl refl refl refl) tt (sym (ap (λ b. in_register (word_or_byte b) 1) is));
-        })) refl
+module _ (s : GplState) (place : Place) where
+  abbrev bytes : ℕ
+  bytes = destination_bytes s
 
-pub units : (s : GplState) (kept : Place) (most : ℕ) (x y z : MachineState) (t u w : ℕ) → code_byte s < 256 → nat_lt (code_byte s) 0xA0 ≡ true →
-    Comes most x y t u OPSVAL (Valued s kept) → Exits y z u w (pieces.second_operand (view y)) →
-    Comes (most + 11) x z t w GO (Sourced s kept unit (behind_first s))
-units s kept most x y z t u w fits one c e = units_by s kept most x y z t u w fits one c e (word_of s) refl
+  abbrev next : ℕ
+  next = behind_first s
 
--- an immediate source
-pub immediates : (s : GplState) (kept : Place) (most : ℕ) (x y z : MachineState) (t u w : ℕ) → code_byte s < 256 → nat_lt (code_byte s) 0xA0 ≡ false →
-    (code_byte s / 2 % 2 == 1) ≡ true →
-    Comes most x y t u OPSVAL (Valued s kept) → Exits y z u w (pieces.second_operand (view y)) →
-    Comes (most + 12) x z t w OPVAL (Immediate s kept (behind_first s))
-immediates s kept most x y z t u w fits two is c e =
-    let v : View = view y in
-    let a = c.holds in
-    let high : nat_lt v.r.r0 0xA0 ≡ false = ap (λ n. nat_lt n 0xA0) a.holds.code ∙ two in
-    let bit : last_out SRL v.r.r0 2 ≡ true = ap (λ n. last_out SRL n 2) a.holds.code ∙ immediate_bit (code_byte s) fits ∙ is in
-    comes_then most 12 c e (rw (high, bit, pieces.second_operand) (record {
-      within = omega arith;
-      to_is = refl;
-      holds = record { kept = told s kept v _ fits a refl refl refl refl refl refl refl refl refl refl; space = refl };
-    })) refl
+  module _ {x y : MachineState} {t u : ℕ} where
+    -- its place was found
+    module _ {label : ℕ} (c : Comes 51 x y t u label (Located s bytes place next)) (goes : is_end label ≡ false) where
+      -- ST does not load it
+      pub stored : (z : MachineState) (w : ℕ) → bytes ≡ size_of (row_width s) → reads_destination (operation_in s) ≡ false →
+          Exits y z u w (pieces.keep_stored (view y)) → Comes 78 x z t w OPSTWO (Kept s place next)
+      stored z w single unread e =
+          let h = c.holds.holds in
+          comes_as 78 _ (comes_then 51 2 c e (record {
+            within = omega arith;
+            to_is = refl;
+            holds = record {
+              holds = holds_again s bytes (size_of (row_width s)) next (view y) (pieces.keep_stored (view y)).left h refl refl refl refl refl refl
+                  (h.bytes_are ∙ single);
+              to_place = record { address = c.holds.from.address; space = c.holds.from.space };
+              destination = λ reads. absurd (not_both (reads_destination (operation_in s)) reads unread);
+            };
+          }) goes) (omega arith) (λ v a. a)
 
--- a source at a place, which is asked for
+      -- LOAD is asked for its value
+      pub asks_value : (link : ℕ) (z : MachineState) (w : ℕ) → Exits y z u w (pieces.load_kept link (view y)) →
+          Comes 54 x z t w LOAD (Loading s bytes place place next link)
+      asks_value link z w e =
+          let f = c.holds.from in
+          let v : View = view y in
+          comes_then 51 3 c e (record {
+            within = omega arith;
+            to_is = refl;
+            holds = record {
+              holds = holds_again s bytes bytes next v (pieces.load_kept link v).left c.holds.holds refl refl refl refl refl refl c.holds.holds.bytes_are;
+              from = record { address = f.address; space = f.space };
+              to_place = record { address = f.address; space = f.space };
+              link = refl;
+            };
+          }) goes
+
+    -- its value was loaded
+    module _ {label r9 : ℕ} (c : Comes 71 x y t u label (LoadedFrom s bytes place place next r9)) (goes : is_end label ≡ false) where
+      abbrev v : View
+      v = view y
+
+      keeps : (q : View) → q.cells ≡ v.cells → q.vdp ≡ v.vdp → q.grom ≡ v.grom → q.r.r0 ≡ v.r.r0 → q.r.r1 ≡ v.r.r1 → q.r.r13 ≡ v.r.r13 →
+          q.r.r3 ≡ size_of (row_width s) → q.r.r7 ≡ v.r.r7 → q.r.r8 ≡ v.r.r8 → q.r.r9 ≡ v.r.r6 → Kept s place next q
+      keeps q a b g r0 r1 r13 r3 r7 r8 nine = record {
+        holds = holds_again s bytes (size_of (row_width s)) next v q c.holds.holds a b g r0 r1 r13 r3;
+        to_place = record { address = r7 ∙ c.holds.to_place.address; space = r8 ∙ c.holds.to_place.space };
+        destination = λ reads. nine ∙ c.holds.value;
+      }
+
+      -- MUL and DIV
+      pub wide : {z : MachineState} {w : ℕ} → bytes ≡ 2 * size_of (row_width s) → Exits y z u w (pieces.keep_wide v) → Comes 78 x z t w OPSTWO (Kept s place next)
+      wide twice e =
+          comes_as 78 _ (comes_then 71 3 c e (record {
+            within = omega arith;
+            to_is = refl;
+            holds = keeps (pieces.keep_wide v).left refl refl refl refl refl refl
+                (ap (λ n. shifted SRL n 1) (c.holds.holds.bytes_are ∙ twice) ∙ halved (row_width s)) refl refl refl;
+          }) goes) (omega arith) (λ v a. a)
+
+      module _ {z : MachineState} {w : ℕ} (single : bytes ≡ size_of (row_width s)) (e : Exits y z u w (pieces.keep_first v)) where
+        size : v.r.r3 ≡ size_of (row_width s)
+        size = c.holds.holds.bytes_are ∙ single
+
+        pub two : nat_lt (code_byte s) 0xA0 ≡ false → Comes 78 x z t w OPSTWO (Kept s place next)
+        two above =
+            let high : nat_lt v.r.r0 0xA0 ≡ false = ap (λ n. nat_lt n 0xA0) c.holds.holds.code ∙ above in
+            comes_as 78 _ (comes_then 71 3 c e (rw (high, pieces.keep_first) (record {
+              within = omega arith;
+              to_is = refl;
+              holds = keeps _ refl refl refl refl refl refl size refl refl refl;
+            })) goes) (omega arith) (λ v a. a)
+
+        -- a row of one operand has 1 for the source
+        one_by : nat_lt (code_byte s) 0xA0 ≡ true → (b : Bool) → word_of s ≡ b → Comes 78 x z t w GO (Sourced s place unit next)
+        one_by below true is =
+            let low : nat_lt v.r.r0 0xA0 ≡ true = ap (λ n. nat_lt n 0xA0) c.holds.holds.code ∙ below in
+            let word : (v.r.r3 == 1) ≡ false = ap (λ n. n == 1) (size ∙ ap (λ b. size_of (word_or_byte b)) is) in
+            comes_then 71 7 c e (rw (low, word, pieces.keep_first) (record {
+              within = omega arith;
+              to_is = refl;
+              holds = sourced (keeps _ refl refl refl refl refl refl size refl refl refl) tt (sym (ap (λ b. in_register (word_or_byte b) 1) is));
+            })) goes
+        one_by below false is =
+            let low : nat_lt v.r.r0 0xA0 ≡ true = ap (λ n. nat_lt n 0xA0) c.holds.holds.code ∙ below in
+            let byte : (v.r.r3 == 1) ≡ true = ap (λ n. n == 1) (size ∙ ap (λ b. size_of (word_or_byte b)) is) in
+            comes_then 71 7 c e (rw (low, byte, pieces.keep_first) (record {
+              within = omega arith;
+              to_is = refl;
+              holds = sourced (keeps _ refl refl refl refl refl refl size refl refl refl) tt (sym (ap (λ b. in_register (word_or_byte b) 1) is));
+            })) goes
+
+        pub one : nat_lt (code_byte s) 0xA0 ≡ true → Comes 78 x z t w GO (Sourced s place unit next)
+        one below = one_by below (word_of s) refl
+
+-- ---- the second operand's place
+
+pub immediate_bit : (code : ℕ) → code < 256 → last_out SRL code 2 ≡ (code / 2 % 2 == 1)
+immediate_bit code h = let n : (65536 * 0 + code) / 2 % 2 ≡ code / 2 % 2 = omega arith in ap (λ (k : ℕ). eqb k 1) n
+
+-- it is asked for
 pub record Operand (s : GplState) (place : Place) (next : ℕ) (w : View) : Type 0 where
   pub kept : Kept s place next w
   pub link : w.r.r11 ≡ OPVAL
 
-pub operands : (s : GplState) (kept : Place) (most : ℕ) (x y z : MachineState) (t u w : ℕ) → code_byte s < 256 → nat_lt (code_byte s) 0xA0 ≡ false →
-    (code_byte s / 2 % 2 == 1) ≡ false →
-    Comes most x y t u OPSVAL (Valued s kept) → Exits y z u w (pieces.second_operand (view y)) →
-    Comes (most + 12) x z t w ADDR (Operand s kept (behind_first s))
-operands s kept most x y z t u w fits two is c e =
-    let v : View = view y in
-    let a = c.holds in
-    let high : nat_lt v.r.r0 0xA0 ≡ false = ap (λ n. nat_lt n 0xA0) a.holds.code ∙ two in
-    let bit : last_out SRL v.r.r0 2 ≡ false = ap (λ n. last_out SRL n 2) a.holds.code ∙ immediate_bit (code_byte s) fits ∙ is in
-    comes_then most 12 c e (rw (high, bit, pieces.second_operand) (record {
-      within = omega arith;
-      to_is = refl;
-      holds = record { kept = told s kept v _ fits a refl refl refl refl refl refl refl refl refl refl; link = refl };
-    })) refl
-
--- ---- the second operand's place
+-- it is found
+pub record Found (s : GplState) (place source : Place) (next : ℕ) (w : View) : Type 0 where
+  pub kept : Kept s place next w
+  pub from : LoadsFrom source w
 
 -- what ADDR keeps of the destination
 kept_addressed : (s : GplState) (kept : Place) (at next : ℕ) (v w : View) {address form : ℕ} → Kept s kept at v → Addressed v address form next w →
@@ -221,33 +227,33 @@ kept_addressed : (s : GplState) (kept : Place) (at next : ℕ) (v w : View) {add
 kept_addressed s kept at next v w q a = record {
   holds = holds_addressed s (size_of (row_width s)) at next v w q.holds a;
   to_place = record { address = ap (λ (u : View). u.r.r7) a.is ∙ q.to_place.address; space = ap (λ (u : View). u.r.r8) a.is ∙ q.to_place.space };
-  destination = ap (λ (u : View). u.r.r9) a.is ∙ q.destination;
+  destination = λ reads. ap (λ (u : View). u.r.r9) a.is ∙ q.destination reads;
 }
 
-pub finds_second : (s : GplState) (kept place : Place) (at next most : ℕ) (x y z : MachineState) (t u w : ℕ) → Comes most x y t u ADDR (Operand s kept at) →
-    Comes most_of_address y z u w (return_of (view y)) (Placed (view y) next place) →
-    Comes (most + most_of_address) x z t w OPVAL (Found s kept place next)
-finds_second s kept place at next most x y z t u w c d =
-    let e : return_of (view y) ≡ OPVAL = ap even c.holds.link in
-    let d2 : Comes most_of_address y z u w OPVAL (Placed (view y) next place) =
-    subst (λ (p : ℕ). Comes most_of_address y z u w p (Placed (view y) next place)) e d in
-    comes_as (most + most_of_address) (Found s kept place next) (comes_on most 45 c d2 refl) (omega arith)
-    (λ v a. record { kept = kept_addressed s kept at next (view y) v c.holds.kept a; from = from_placed next place (view y) v a })
+module _ (s : GplState) (kept : Place) (at : ℕ) {x y z : MachineState} {t u w : ℕ} (c : Comes 4 x y t u ADDR (Operand s kept at)) where
+  pub finds_second : (place : Place) (next : ℕ) → Comes most_of_address y z u w (return_of (view y)) (Placed (view y) next place) →
+      Comes 49 x z t w OPVAL (Found s kept place next)
+  finds_second place next d =
+      let d2 : Comes most_of_address y z u w OPVAL (Placed (view y) next place) =
+      subst (λ (p : ℕ). Comes most_of_address y z u w p (Placed (view y) next place)) (ap even c.holds.link) d in
+      comes_as 49 (Found s kept place next) (comes_on 4 45 c d2 refl) (omega arith)
+      (λ v a. record { kept = kept_addressed s kept at next (view y) v c.holds.kept a; from = from_placed next place (view y) v a })
 
-pub bars_second : (s : GplState) (kept : Place) (at most : ℕ) (reason : Reason) (x y z : MachineState) (t u w : ℕ) →
-    Comes most x y t u ADDR (Operand s kept at) → Comes most_of_address y z u w GSTOP (Barred (view y) reason) →
-    Comes (most + most_of_address) x z t w GSTOP (StoppedBy s reason)
-bars_second s kept at most reason x y z t u w c d =
-    comes_as (most + most_of_address) (StoppedBy s reason) (comes_on most 45 c d refl) (omega arith) (λ v a. barred_stops s (size_of (row_width s)) at reason
-    (view y) v c.holds.kept.holds a)
+  pub bars_second : (reason : Reason) → Comes most_of_address y z u w GSTOP (Barred (view y) reason) → Comes 49 x z t w GSTOP (StoppedBy s reason)
+  bars_second reason d =
+      comes_as 49 (StoppedBy s reason) (comes_on 4 45 c d refl) (omega arith) (λ v a. barred_stops s (size_of (row_width s)) at reason
+      (view y) v c.holds.kept.holds a)
 
 -- ---- the second dispatch
 
-pub goes_to_row : (s : GplState) (kept : Place) (source : Source) (next most : ℕ) (x y z : MachineState) (t u w : ℕ) → code_byte s < 256 →
-    is_row (operation_in s) ≡ true →
-    Comes most x y t u GO (Sourced s kept source next) → Exits y z u w (pieces.go_to_row (view y)) →
+from_again : (place : Option Place) (v w : View) → LoadsFromSource place v → w.r.r2 ≡ v.r.r2 → w.r.r5 ≡ v.r.r5 → LoadsFromSource place w
+from_again None v w f a b = tt
+from_again (Some place) v w f a b = record { address = a ∙ f.address; space = b ∙ f.space }
+
+pub goes_to_row : (s : GplState) (kept : Place) (source : Source) (next most : ℕ) {x y z : MachineState} {t u w : ℕ} → code_byte s < 256 →
+    is_row (operation_in s) ≡ true → Comes most x y t u GO (Sourced s kept source next) → Exits y z u w (pieces.go_to_row (view y)) →
     Comes (most + 3) x z t w (row_entry (operation_in s)) (Sourced s kept source next)
-goes_to_row s kept source next most x y z t u w fits row c e =
+goes_to_row s kept source next most {y = y} fits row c e =
     let q = c.holds in
     let v : View = view y in
     comes_then most 3 c e (record {
@@ -262,7 +268,3 @@ goes_to_row s kept source next most x y z t u w fits row c e =
         value = q.value;
       };
     }) refl
-  where
-    from_again : (place : Option Place) (v w : View) → LoadsFromSource place v → w.r.r2 ≡ v.r.r2 → w.r.r5 ≡ v.r.r5 → LoadsFromSource place w
-    from_again None v w f a b = tt
-    from_again (Some place) v w f a b = record { address = a ∙ f.address; space = b ∙ f.space }

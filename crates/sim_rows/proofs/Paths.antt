@@ -1,24 +1,53 @@
 -- The runs of the pieces on the view.
-use Rattle.std.proofs.Common.{[], ℕ, ◌+◌, ◌<◌, ◌==◌, ◌∷◌, ◌≡◌, ◌≤◌, arith, false, List, nat_lt, refl, subst, slice_index, sym, true}
+use Rattle.std.proofs.Common.{[], ℕ, ◌+◌, ◌<◌, ◌==◌, ◌∷◌, ◌≡◌, ◌≤◌, arith, false, nat_lt, refl, slice_index, true}
 use Rattle.sim_view.proofs.Common.{high-join, IsView, join-bytes, Leads, leads, Part, part_then, pick, Rest}
-use Rattle.sim_rows.specs.Prelude.{ADDR, difference_of, even, Exit, exit, GO, GromState, GSTEP, high, INTERP, join, last_out, LOAD, low, OPS, OPVAL, past, ROW}
-use Rattle.sim_rows.specs.Prelude.{set_to, shifted, SHOW, SLA, SRL, STO, STORE, sum_of, UNIT, View, WHERE, WIDE, Word}
+use Rattle.sim_rows.specs.Prelude.{ADDR, difference_of, even, Exit, exit, GO, GromState, GSTEP, high, INTERP, join, last_out, LOAD, low, OPVAL, past, ROW}
+use Rattle.sim_rows.specs.Prelude.{set_to, shifted, SHOW, SLA, SRL, STO, STORE, STREAM, sum_of, View, WHERE, WIDE, Word}
 use Rattle.sim_operands.proofs.Facts.{byte_is, down}
-use Rattle.sim_rows.proofs.Facts.{not_above, spot_rows, spot_table}
+use Rattle.sim_operands.proofs.Paths.{rest_is}
+use Rattle.sim_rows.proofs.Facts.{from_limit, spot_rows, spot_table}
 use Rattle.sim_rows.specs.Pieces as pieces
-use Rattle.sim_view.specs.native_interp.declared.addresses.TheConstants.{GBACK, GCODE, OPSDST, OPSTWO, OPSVAL}
+use Rattle.sim_view.specs.native_interp.declared.addresses.TheConstants.{GBACK, GCODE, OPSDST, OPSTWO, OPSVAL, STDST, STROW, WIDDST, WIDVAL}
+use Rattle.sim_view.specs.grom_defs.declared.size.TheConstants.{GROM_SIZE}
 
-pub row_width : (v : View) → Leads (OPS ∷ []) v ROW (pieces.row_width v)
-row_width v = record { by = λ f q. refl }
-
-pub wide_width : (v : View) → Leads (OPS ∷ []) v WIDE (pieces.wide_width v)
-wide_width v = record { by = λ f q. refl }
-
-pub ask_first : (v : View) → Leads (ADDR ∷ []) v OPS (pieces.ask_first v)
+pub ask_first : (v : View) → Leads (ADDR ∷ []) v ROW (pieces.ask_first v)
 ask_first v = record { by = λ f q. refl }
+
+pub ask_stored : (v : View) → Leads (ADDR ∷ []) v STROW (pieces.ask_stored v)
+ask_stored v = record { by = λ f q. refl }
+
+pub ask_wide : (v : View) → Leads (ADDR ∷ []) v WIDE (pieces.ask_wide v)
+ask_wide v = record { by = λ f q. refl }
 
 pub load_first : (v : View) → Leads (LOAD ∷ []) v OPSDST (pieces.load_first v)
 load_first v = record { by = λ f q. refl }
+
+pub load_wide : (v : View) → Leads (LOAD ∷ []) v WIDDST (pieces.load_wide v)
+load_wide v = record { by = λ f q. refl }
+
+pub keep_stored : (v : View) → Leads (OPSTWO ∷ []) v STDST (pieces.keep_stored v)
+keep_stored v = record { by = λ f q. refl }
+
+pub keep_first : (v : View) → Leads (GO ∷ OPSTWO ∷ []) v OPSVAL (pieces.keep_first v)
+keep_first v = record {
+  by = λ f q.
+      pick (nat_lt v.r.r0 0xA0)
+      (λ c. pick (v.r.r3 == 1)
+      (λ d. rw (from_limit 0xA0 v.r.r0 true c, c, d) refl)
+      (λ d. rw (from_limit 0xA0 v.r.r0 true c, c, d) refl))
+      (λ c. rw (from_limit 0xA0 v.r.r0 false c, c) refl);
+}
+
+pub keep_wide : (v : View) → Leads (OPSTWO ∷ []) v WIDVAL (pieces.keep_wide v)
+keep_wide v = record { by = λ f q. refl }
+
+pub ask_second : (v : View) → Leads (STREAM ∷ ADDR ∷ []) v OPSTWO (pieces.ask_second v)
+ask_second v = record {
+  by = λ f q.
+      pick (last_out SRL v.r.r0 2)
+      (λ c. rw c refl)
+      (λ c. rw c refl);
+}
 
 pub load_second : (v : View) → Leads (LOAD ∷ []) v OPVAL (pieces.load_second v)
 load_second v = record { by = λ f q. refl }
@@ -37,16 +66,12 @@ show v = record {
       (λ c. rw c refl);
 }
 
--- an exit by its cases
-rest_is : {ends : List ℕ} {made most : ℕ} {v : View} {p : ℕ} {e d : Exit} → d ≡ e → Rest ends made most v p e → Rest ends made most v p d
-rest_is {ends = ends} {made = made} {most = most} {v = v} {p = p} is rest = subst (λ (e : Exit). Rest ends made most v p e) (sym is) rest
-
 -- GSTEP and WHERE, behind the two reads of the counter
 abbrev at_back : View → ℕ → View
 at_back v word =
     record v { r = record v.r { r1 = word; r4 = shifted SLA v.grom.counter 3 }; grom = pieces.read_once (pieces.read_once v.grom) }
 
-step_first : (v : View) → pieces.at_first v.grom.counter ≡ true → Part [] 6 v GSTEP (at_back v (sum_of Word v.grom.counter 0x2000)) GBACK
+step_first : (v : View) → pieces.at_first v.grom.counter ≡ true → Part [] 6 v GSTEP (at_back v (sum_of Word v.grom.counter GROM_SIZE)) GBACK
 step_first v c = record {
   by = λ f.
       let n = v.grom.counter in
@@ -104,7 +129,7 @@ pub dispatch : (v : View) → IsView v → Leads [] v GSTEP (pieces.dispatch v)
 dispatch v i =
     leads []
     (pick (pieces.at_first v.grom.counter)
-    (λ c. rest_is {ends = []} (rw (c, pieces.dispatch) refl) (part_then [] 6 0 10 (step_first v c) (back_first v i (sum_of Word v.grom.counter 0x2000))))
+    (λ c. rest_is {ends = []} (rw (c, pieces.dispatch) refl) (part_then [] 6 0 10 (step_first v c) (back_first v i (sum_of Word v.grom.counter GROM_SIZE))))
     (λ c. rest_is {ends = []} (rw (c, pieces.dispatch) refl) (part_then [] 5 0 11 (step_next v c) (back_next v i v.grom.counter))))
 
 pub where_next : (v : View) → Leads [] v WHERE (pieces.where_next v)
@@ -115,42 +140,3 @@ where_next v = record {
       (λ c. rw (high-join (low n) n, byte_is (low n) (omega arith), high-join (high n) v.r.r6, join-bytes n, c) refl)
       (λ c. rw (high-join (low n) n, byte_is (low n) (omega arith), high-join (high n) v.r.r6, join-bytes n, c) refl);
 }
-
--- OPS, behind LOAD, part by part
-abbrev told : View → View
-told v = record v { r = record v.r { r3 = pieces.width_of_code v.r.r0; r9 = v.r.r6 } }
-
-abbrev ends : List ℕ
-ends = ADDR ∷ OPVAL ∷ GO ∷ []
-
-unit_row : (v : View) → nat_lt v.r.r0 0xA0 ≡ true → Part ends 7 v OPSVAL (told v) UNIT
-unit_row v c = record { by = λ f. rw (not_above 0xA0 v.r.r0 true c) refl }
-
-two_rows : (v : View) → nat_lt v.r.r0 0xA0 ≡ false → Part ends 7 v OPSVAL (told v) OPSTWO
-two_rows v c = record { by = λ f. rw (not_above 0xA0 v.r.r0 false c) refl }
-
-unit_byte : (v : View) → (v.r.r3 == 1) ≡ true → Rest ends 7 9 v UNIT (exit 10 GO (record v { r = record v.r { r6 = 0x0100 } }))
-unit_byte v c = record { by = λ f. rw c refl }
-
-unit_word : (v : View) → (v.r.r3 == 1) ≡ false → Rest ends 7 9 v UNIT (exit 11 GO (record v { r = record v.r { r6 = 1 } }))
-unit_word v c = record { by = λ f. rw c refl }
-
-abbrev form : View → View
-form v = record v { r = record v.r { r4 = shifted SRL v.r.r0 2 } }
-
-immediate : (v : View) → last_out SRL v.r.r0 2 ≡ true → Rest ends 7 9 v OPSTWO (exit 12 OPVAL (record (form v) { r = record (form v).r { r5 = 2 } }))
-immediate v c = record { by = λ f. rw c refl }
-
-operand : (v : View) → last_out SRL v.r.r0 2 ≡ false → Rest ends 7 9 v OPSTWO (exit 11 ADDR (record (form v) { r = record (form v).r { r11 = OPVAL } }))
-operand v c = record { by = λ f. rw c refl }
-
-pub second_operand : (v : View) → Leads ends v OPSVAL (pieces.second_operand v)
-second_operand v =
-    leads ends
-    (pick (nat_lt v.r.r0 0xA0)
-    (λ c. pick (pieces.width_of_code v.r.r0 == 1)
-    (λ d. rest_is (rw (c, d, pieces.second_operand) refl) (part_then ends 7 0 9 (unit_row v c) (unit_byte (told v) d)))
-    (λ d. rest_is (rw (c, d, pieces.second_operand) refl) (part_then ends 7 0 9 (unit_row v c) (unit_word (told v) d))))
-    (λ c. pick (last_out SRL v.r.r0 2)
-    (λ d. rest_is (rw (c, d, pieces.second_operand) refl) (part_then ends 7 0 9 (two_rows v c) (immediate (told v) d)))
-    (λ d. rest_is (rw (c, d, pieces.second_operand) refl) (part_then ends 7 0 9 (two_rows v c) (operand (told v) d)))))

@@ -1,15 +1,19 @@
--- From OPVAL to the entry of a row.
-use Rattle.std.proofs.Common.{ℕ, ⊎_elim, ◌<◌, ◌==◌, ◌∙◌, ◌≡◌, ◌≤◌, ap, arith, Bool, false, List, None, not, refl, slice_index, Some, subst, sym, true}
-use Rattle.std.proofs.lemmas.Bool.{cases_lt}
-use Rattle.sim_view.proofs.Common.{comes, comes_as, comes_on, IsView, previous-next}
-use Rattle.sim_rows.specs.Prelude.{code_byte, Comes, even, Exits, GO, GplState, grom_at, GromState, in_register, IsFetched, IsVisible, LOAD, LoadsImmediate}
-use Rattle.sim_rows.specs.Prelude.{LoadsPlaced, LoadsStream, LoadsValue, MachineState, next_at, previous_in_grom, return_of, row_width, Sees, size_of}
-use Rattle.sim_rows.specs.Prelude.{Sourced, Stands, streamed, value_at, View, view, Width, width_in, word_of, word_or_byte}
+-- From OPSTWO until the source is loaded.
+use Rattle.std.proofs.Common.{ℕ, ◌<◌, ◌==◌, ◌∙◌, ◌≡◌, ap, arith, Bool, Err, false, if◌then◌else◌, List, None, not, Ok, refl, Result}
+use Rattle.std.proofs.Common.{slice_index, Some, subst, sym, true}
+use Rattle.sim_view.proofs.Common.{comes, comes_as, comes_then, IsView, previous-next}
+use Rattle.sim_rows.specs.Prelude.{◌>>=◌, ADDR, behind_first, code_byte, Comes, Exit, exit, Exits, Finds, FindsOperand, GO, gone_on, GplOperand, GplSource}
+use Rattle.sim_rows.specs.Prelude.{GplState, grom_at, GromState, GSTOP, has_source, in_register, is_immediate, Kept, last_out, LOAD, LoadsBy}
+use Rattle.sim_rows.specs.Prelude.{LoadsValue, MachineState, next_at, next_of, operand_at, OPVAL, Place, place_of, Reason, row_width, second_by, second_of, Sees}
+use Rattle.sim_rows.specs.Prelude.{shifted, size_of, Source, source_at, source_of, source_read, Sourced, SRL, Stands, STREAM, streamed, value_at, View}
+use Rattle.sim_rows.specs.Prelude.{view, Width, width_in, word_of, word_or_byte}
 use Rattle.sim_view.specs.gpl_defs.Reading.{value_at as value_in}
-use Rattle.sim_rows.proofs.Ends.{fetched_of}
-use Rattle.sim_rows.proofs.Again.{fetched_again}
-use Rattle.sim_rows.proofs.Fronting.{holds_again, space_small, width_of_size}
-use Rattle.sim_rows.proofs.Operands.{goes_to_row, Loading, loads}
+use Rattle.sim_operands.proofs.Transfers.{streams}
+use Rattle.sim_rows.proofs.Again.{first_way, second_way}
+use Rattle.sim_rows.proofs.Beginning.{from, known}
+use Rattle.sim_rows.proofs.Fronting.{finds_of, holds_again, space_small, width_of_size}
+use Rattle.sim_rows.proofs.Operands.{bars_second, finds_second, Found, immediate_bit, Loading, loads, Operand, value_same}
+use Rattle.sim_rows.specs.sim_operands.Pieces as operands
 use Rattle.sim_rows.specs.Pieces as pieces
 
 -- the code byte is one where the view shows the image
@@ -18,110 +22,191 @@ code_fits s next v i h =
     let P : List ℕ → Type 0 = λ image. slice_index image s.pc < 256 in
     subst P (ap (λ (g : GromState). g.image) h.grom) (i.grom.image.fits s.pc)
 
--- LOAD keeps the code byte and returns
-pub kept_code : (a b : MachineState) (t u : ℕ) → ((view a).r.r5 < 2 → LoadsValue a b t u) →
-    (1 < (view a).r.r5 → IsFetched a.cpu.memory.grom → LoadsStream a b t u) → IsFetched a.cpu.memory.grom →
-    ((view b).r.r0 ≡ (view a).r.r0) × Stands b (return_of (view a))
-kept_code a b t u value stream fetched =
-    ⊎_elim
-    (λ (l : (view a).r.r5 < 2). let c = value l in (ap (λ (v : View). v.r.r0) c.holds.is, c.stands))
-    (λ (g : 2 ≤ (view a).r.r5). let c = stream (omega arith) fetched in (ap (λ (v : View). v.r.r0) c.holds, c.stands))
-    (cases_lt (view a).r.r5 2)
-
 -- words are told by the width in register 3
 word_is : (w : Bool) → not (size_of (word_or_byte w) == 1) ≡ w
 word_is true = refl
 word_is false = refl
 
-module _ (x a b y : MachineState) (t t1 t2 t3 : ℕ) (i : IsView (view x)) (e1 : Exits x a t t1 (pieces.load_second (view x)))
-    (e3 : Exits b y t2 t3 (pieces.go_to_row (view b))) where
-  -- a source at a place
-  pub placed : ((view a).r.r5 < 2 → LoadsValue a b t1 t2) → LoadsPlaced x y t t3
-  placed l s place source next row f =
-      let v : View = view x in
-      let fits = code_fits s next v i f.kept.holds.sees in
-      let size = size_of (row_width s) in
-      let c1 : Comes 2 x a t t1 LOAD (Loading s size source place next GO) = comes e1 (record {
+module _ {x a : MachineState} {t t1 : ℕ} (e : Exits x a t t1 (pieces.ask_second (view x))) where
+  abbrev v : View
+  v = view x
+
+  abbrev pub told : ℕ → View
+  told link = record v { r = record v.r { r4 = shifted SRL v.r.r0 2; r11 = link } }
+
+  module _ (here : a.cpu.pc ≡ STREAM) where
+    streaming : (last_out SRL v.r.r0 2 ≡ true) × Exits x a t t1 (exit 5 STREAM (told GO))
+    streaming = first_way STREAM x a t t1 (last_out SRL v.r.r0 2) (exit 5 STREAM (told GO)) (exit 4 ADDR (told OPVAL)) e (λ q. absurd (omega arith)) here
+
+    pub stands_streaming : Stands a STREAM
+    stands_streaming = streaming.1.stands
+
+  module _ (away : a.cpu.pc ≡ STREAM → ⊥) where
+    asking : (last_out SRL v.r.r0 2 ≡ false) × Exits x a t t1 (exit 4 ADDR (told OPVAL))
+    asking = second_way STREAM x a t t1 (last_out SRL v.r.r0 2) (exit 5 STREAM (told GO)) (exit 4 ADDR (told OPVAL)) e refl away
+
+    pub stands_asking : Stands a ADDR
+    stands_asking = asking.1.stands
+
+    pub shows_asking : view a ≡ told OPVAL
+    shows_asking = asking.1.shows
+
+  module _ (i : IsView v) (s : GplState) (place : Place) (has : has_source s ≡ true) (k : Kept s place (behind_first s) v) where
+    abbrev next : ℕ
+    next = behind_first s
+
+    -- what the source is
+    bit_is : last_out SRL v.r.r0 2 ≡ is_immediate s
+    bit_is = ap (λ n. last_out SRL n 2) k.holds.code ∙ immediate_bit (code_byte s) (code_fits s next v i k.holds.sees)
+
+    abbrev read_by : Bool → GplSource × ℕ
+    read_by b = source_at b (word_of s) s.image next
+
+    next_is : (b : Bool) → is_immediate s ≡ b → next_of s ≡ (read_by b).1
+    next_is b bit = ap (λ (o : Bool). if o then (source_read s).1 else next) has ∙ ap (λ (i : Bool). (read_by i).1) bit
+
+    second_is : (b : Bool) → is_immediate s ≡ b → second_of s ≡ source_of (gone_on s) (row_width s) (read_by b).0
+    second_is b bit = ap (λ (o : Bool). second_by o s) has ∙ ap (λ (i : Bool). source_of (gone_on s) (row_width s) (read_by i).0) bit
+
+    -- it is there
+    loaded : {y : MachineState} {u : ℕ} (source : Source) (b : Bool) → is_immediate s ≡ b → second_of s ≡ Ok source →
+        Comes 68 x y t u GO (Sourced s place source (read_by b).1) → LoadsBy s place x y t u true (second_of s)
+    loaded {y = y} {u = u} source b bit second c =
+        subst (λ (r : Result Source Reason). LoadsBy s place x y t u true r) (sym second)
+        (refl, subst (λ (n : ℕ). Comes 68 x y t u GO (Sourced s place source n)) (sym (next_is b bit)) c)
+
+    -- ---- an immediate source
+
+    module _ (here : a.cpu.pc ≡ STREAM) {b : MachineState} {t2 : ℕ} (e2 : Exits a b t1 t2 (operands.stream (view a))) where
+      abbrev set : View
+      set = record (told GO) { grom = grom_at s.image next }
+
+      abbrev read : ℕ × ℕ
+      read = value_in (word_of s) s.image next
+
+      streamed_is : Comes 12 x b t t2 GO (λ w. w ≡ streamed set)
+      streamed_is =
+          let by : GromState → Exit = λ g. operands.stream (record (told GO) { grom = g }) in
+          let c : Comes 5 x a t t1 STREAM (λ w. w ≡ told GO) = comes (streaming here).1 (record { within = omega arith; to_is = refl; holds = refl }) in
+          comes_then 5 7 c e2 (from operands.stream c.holds (known (ap by k.holds.sees.grom) (streams set (ap (grom_at s.image) (sym (previous-next next)))))) refl
+
+      read_is : value_in (not (v.r.r3 == 1)) s.image (next_at set) ≡ read
+      read_is =
+          ap (λ (b : Bool). value_in b s.image (next_at set)) (ap (λ (n : ℕ). not (n == 1)) k.holds.bytes_are ∙ word_is (word_of s))
+          ∙ ap (λ (n : ℕ). value_in (word_of s) s.image n) (previous-next next)
+
+      pub immediate : LoadsBy s place x b t t2 true (second_of s)
+      immediate =
+          let bit = sym bit_is ∙ (streaming here).0 in
+          loaded (record { number = read.0; place = None }) true bit (second_is true bit)
+          (comes_as 68 _ streamed_is (omega arith) (λ w is. record {
+            holds = record {
+              sees = record {
+                cells = ap (λ (q : View). q.cells) is ∙ k.holds.sees.cells;
+                vdp = ap (λ (q : View). q.vdp.memory) is ∙ k.holds.sees.vdp;
+                registers = ap (λ (q : View). q.vdp.registers) is ∙ k.holds.sees.registers;
+                held = ap (λ (q : View). q.vdp.held) is ∙ k.holds.sees.held;
+                grom = ap (λ (q : View). q.grom) is ∙ ap (λ (r : ℕ × ℕ). grom_at s.image r.1) read_is;
+              };
+              code = ap (λ (q : View). q.r.r0) is ∙ k.holds.code;
+              address = ap (λ (q : View). q.r.r1) is ∙ k.holds.address;
+              bytes_are = ap (λ (q : View). q.r.r3) is ∙ k.holds.bytes_are;
+              mark = ap (λ (q : View). q.r.r13) is ∙ k.holds.mark;
+            };
+            to_place = record { address = ap (λ (q : View). q.r.r7) is ∙ k.to_place.address; space = ap (λ (q : View). q.r.r8) is ∙ k.to_place.space };
+            destination = λ reads. ap (λ (q : View). q.r.r9) is ∙ k.destination reads;
+            from_source = tt;
+            value = ap (λ (q : View). q.r.r6) is ∙ ap (λ (n : ℕ). in_register (width_in n) (value_in (not (v.r.r3 == 1)) s.image (next_at set)).0)
+                k.holds.bytes_are
+                ∙ ap (λ (w : Width). in_register w (value_in (not (v.r.r3 == 1)) s.image (next_at set)).0) (width_of_size (word_of s))
+                ∙ ap (λ (r : ℕ × ℕ). in_register (row_width s) r.0) read_is;
+          }))
+
+    -- ---- a source at a place
+
+    abbrev operand : GplOperand × ℕ
+    operand = operand_at s.image next
+
+    abbrev source_place : Result Place Reason
+    source_place = place_of (gone_on s) (size_of (row_width s)) operand.0
+
+    abbrev made_at : Place → Source
+    made_at p = record { number = value_at (gone_on s) (row_width s) p; place = Some p }
+
+    module _ (away : a.cpu.pc ≡ STREAM → ⊥) where
+      second_place : second_of s ≡ (source_place >>= λ p. Ok (made_at p))
+      second_place = second_is false (sym bit_is ∙ (asking away).0)
+
+      asked : Comes 4 x a t t1 ADDR (Operand s place next)
+      asked = comes (asking away).1 (record {
         within = omega arith;
         to_is = refl;
         holds = record {
-          holds = holds_again s size size next v (pieces.load_second v).left f.kept.holds refl refl refl refl refl refl f.kept.holds.bytes_are;
-          from = record { address = f.from.address; space = f.from.space };
-          to_place = record { address = f.kept.to_place.address; space = f.kept.to_place.space };
+          kept = record {
+            holds = holds_again s (size_of (row_width s)) (size_of (row_width s)) next v (told OPVAL) k.holds refl refl refl refl refl refl k.holds.bytes_are;
+            to_place = record { address = k.to_place.address; space = k.to_place.space };
+            destination = k.destination;
+          };
           link = refl;
         };
-      }) in
-      let r9 : (view a).r.r9 ≡ v.r.r9 = ap (λ (w : View). w.r.r9) e1.shows in
-      let c2 = loads s size source place next GO 2 x a b t t1 t2 refl c1 (l (space_small source.space (view a).r.r5 c1.holds.from.space)) in
-      let width : width_in size ≡ row_width s = width_of_size (word_of s) in
-      let number : ℕ = value_at s (row_width s) source in
-      let c3 : Comes 19 x b t t2 GO (Sourced s place (record { number = number; place = Some source }) next) = comes_as 19 _ c2 (omega arith) (λ w h. record {
-        holds = h.holds;
-        to_place = h.to_place;
-        destination = h.before ∙ r9 ∙ f.kept.destination;
-        from_source = h.from;
-        value = h.value ∙ ap (λ (u : Width). in_register u (value_at s u source)) width;
-      }) in
-      goes_to_row s place (record { number = number; place = Some source }) next 19 x b y t t2 t3 fits row c3 e3
+      })
 
-  -- an immediate source
-  pub immediate : (1 < (view a).r.r5 → IsFetched a.cpu.memory.grom → LoadsStream a b t1 t2) → LoadsImmediate x y t t3
-  immediate l s place next row f =
-      let v : View = view x in
-      let k = f.kept in
-      let fits = code_fits s next v i k.holds.sees in
-      let size = size_of (row_width s) in
-      let u : View = (pieces.load_second v).left in
-      let c1 : Comes 2 x a t t1 LOAD (λ w. w ≡ u) = comes e1 (record { within = omega arith; to_is = refl; holds = refl }) in
-      let two : (view a).r.r5 ≡ 2 = ap (λ (w : View). w.r.r5) c1.holds ∙ f.space in
-      let sees : Sees s next (view a) = subst (λ (w : View). Sees s next w) (sym c1.holds)
-      (record { cells = k.holds.sees.cells; vdp = k.holds.sees.vdp; registers = k.holds.sees.registers; held = k.holds.sees.held; grom = k.holds.sees.grom })
-      in
-      let d = l (omega arith) (fetched_of a.cpu.memory s next sees) in
-      let e : return_of (view a) ≡ GO = ap (λ (w : View). even w.r.r11) c1.holds in
-      let d2 : Comes 11 a b t1 t2 GO (λ w. w ≡ streamed (view a)) = subst (λ (p : ℕ). Comes 11 a b t1 t2 p (λ w. w ≡ streamed (view a))) e d in
-      let d3 : Comes 11 a b t1 t2 GO (λ w. w ≡ streamed u) = subst (λ (q : View). Comes 11 a b t1 t2 GO (λ w. w ≡ streamed q)) c1.holds d2 in
-      let word : not (u.r.r3 == 1) ≡ word_of s = ap (λ (n : ℕ). not (n == 1)) k.holds.bytes_are ∙ word_is (word_of s) in
-      let image : u.grom.image ≡ s.image = ap (λ (g : GromState). g.image) k.holds.sees.grom in
-      let at : next_at u ≡ next = ap (λ (g : GromState). previous_in_grom g.counter) k.holds.sees.grom ∙ previous-next next in
-      let read : value_in (not (u.r.r3 == 1)) u.grom.image (next_at u) ≡ value_in (word_of s) s.image next =
-      ap (λ (b : Bool). value_in b u.grom.image (next_at u)) word ∙ ap (λ (l : List ℕ). value_in (word_of s) l (next_at u)) image
-      ∙ ap (λ (n : ℕ). value_in (word_of s) s.image n) at in
-      let value = value_in (word_of s) s.image next in
-      let c3 : Comes 13 x b t t2 GO (Sourced s place (record { number = value.0; place = None }) value.1) =
-      comes_as 13 _ (comes_on 2 11 c1 d3 refl) (omega arith) (λ w is. record {
-        holds = record {
-          sees = record {
-            cells = ap (λ (q : View). q.cells) is ∙ k.holds.sees.cells;
-            vdp = ap (λ (q : View). q.vdp.memory) is ∙ k.holds.sees.vdp;
-            registers = ap (λ (q : View). q.vdp.registers) is ∙ k.holds.sees.registers;
-            held = ap (λ (q : View). q.vdp.held) is ∙ k.holds.sees.held;
-            grom = ap (λ (q : View). q.grom) is ∙ ap (λ (r : ℕ × ℕ). grom_at u.grom.image r.1) read ∙ ap (λ (l : List ℕ). grom_at l value.1) image;
-          };
-          code = ap (λ (q : View). q.r.r0) is ∙ k.holds.code;
-          address = ap (λ (q : View). q.r.r1) is ∙ k.holds.address;
-          bytes_are = ap (λ (q : View). q.r.r3) is ∙ k.holds.bytes_are;
-          mark = ap (λ (q : View). q.r.r13) is ∙ k.holds.mark;
-        };
-        to_place = record { address = ap (λ (q : View). q.r.r7) is ∙ k.to_place.address; space = ap (λ (q : View). q.r.r8) is ∙ k.to_place.space };
-        destination = ap (λ (q : View). q.r.r9) is ∙ k.destination;
-        from_source = tt;
-        value = ap (λ (q : View). q.r.r6) is ∙ ap (λ (n : ℕ). in_register (width_in n) (value_in (not (u.r.r3 == 1)) u.grom.image (next_at u)).0)
-            k.holds.bytes_are
-            ∙ ap (λ (w : Width). in_register w (value_in (not (u.r.r3 == 1)) u.grom.image (next_at u)).0) (width_of_size (word_of s))
-            ∙ ap (λ (r : ℕ × ℕ). in_register (row_width s) r.0) read;
-      }) in
-      goes_to_row s place (record { number = value.0; place = None }) value.1 13 x b y t t2 t3 fits row c3 e3
+      module _ (b : MachineState) (t2 : ℕ) (f : FindsOperand a b t1 t2) where
+        finds : Finds a b t1 t2 operand.1 source_place
+        finds = finds_of s (gone_on s) (size_of (row_width s)) next a b t1 t2 asked.holds.kept.holds refl f
 
--- LOAD is asked for with the place as it was, and comes back to GO
-pub visible_there : (x a : MachineState) (t t1 : ℕ) → Exits x a t t1 (pieces.load_second (view x)) → (let r = (view x).r in IsVisible r.r5 r.r2 r.r3) →
-    (let r = (view a).r in IsVisible r.r5 r.r2 r.r3)
-visible_there x a t t1 e h = subst (λ (v : View). IsVisible v.r.r5 v.r.r2 v.r.r3) (sym e.shows) h
+        pub bars : b.cpu.pc ≡ GSTOP → LoadsBy s place x b t t2 false (second_of s)
+        bars here = by source_place refl finds
+          where
+            by : (r : Result Place Reason) → source_place ≡ r → Finds a b t1 t2 operand.1 r → LoadsBy s place x b t t2 false (second_of s)
+            by (Ok source) is g = let there = (finds_second s place next asked source operand.1 g).stands.pc in absurd (omega arith)
+            by (Err reason) is g =
+                subst (λ (r : Result Source Reason). LoadsBy s place x b t t2 false r)
+                (sym (second_place ∙ ap (λ (r : Result Place Reason). r >>= λ p. Ok (made_at p)) is)) (refl, bars_second s place next asked reason g)
 
-pub at_go : (x a b : MachineState) (t t1 t2 : ℕ) → Exits x a t t1 (pieces.load_second (view x)) → ((view a).r.r5 < 2 → LoadsValue a b t1 t2) →
-    (1 < (view a).r.r5 → IsFetched a.cpu.memory.grom → LoadsStream a b t1 t2) →
-    IsFetched x.cpu.memory.grom → ((view b).r.r0 ≡ (view x).r.r0) × Stands b GO
-at_go x a b t t1 t2 e value stream fetched =
-    let r = kept_code a b t1 t2 value stream (fetched_again x.cpu.memory a.cpu.memory (ap (λ (v : View). v.grom) e.shows) fetched) in
-    let to : return_of (view a) ≡ GO = ap (λ (v : View). even v.r.r11) e.shows in
-    (r.0 ∙ ap (λ (v : View). v.r.r0) e.shows, subst (λ (p : ℕ). Stands b p) to r.1)
+        -- it was found
+        pub record SourceAt : Type 0 where
+          pub source : Place
+          pub is_place : source_place ≡ Ok source
+          pub comes : Comes 49 x b t t2 OPVAL (Found s place source operand.1)
+
+        module _ (elsewhere : b.cpu.pc ≡ GSTOP → ⊥) where
+          found : SourceAt
+          found = by source_place refl finds
+            where
+              by : (r : Result Place Reason) → source_place ≡ r → Finds a b t1 t2 operand.1 r → SourceAt
+              by (Ok source) is g = record { source = source; is_place = is; comes = finds_second s place next asked source operand.1 g }
+              by (Err reason) is g = absurd (elsewhere g.stands.pc)
+
+          module _ {c d : MachineState} {t3 t4 : ℕ} (e3 : Exits b c t2 t3 (pieces.load_second (view b))) (l : (view c).r.r5 < 2 → LoadsValue c d t3 t4) where
+            loading : Comes 51 x c t t3 LOAD (Loading s (size_of (row_width s)) found.source place operand.1 GO)
+            loading =
+                let h = found.comes.holds in
+                comes_then 49 2 found.comes e3 (record {
+                  within = omega arith;
+                  to_is = refl;
+                  holds = record {
+                    holds = holds_again s (size_of (row_width s)) (size_of (row_width s)) operand.1 (view b) (pieces.load_second (view b)).left h.kept.holds
+                        refl refl refl refl refl refl h.kept.holds.bytes_are;
+                    from = record { address = h.from.address; space = h.from.space };
+                    to_place = record { address = h.kept.to_place.address; space = h.kept.to_place.space };
+                    link = refl;
+                  };
+                }) refl
+
+            pub placed : LoadsBy s place x d t t4 true (second_of s)
+            placed =
+                let h = found.comes.holds in
+                let width : width_in (size_of (row_width s)) ≡ row_width s = width_of_size (word_of s) in
+                let nine : (view c).r.r9 ≡ (view b).r.r9 = ap (λ (w : View). w.r.r9) e3.shows in
+                let run = loads s (size_of (row_width s)) found.source place operand.1 GO 51 x c d t t3 t4 refl loading
+                (l (space_small found.source.space (view c).r.r5 loading.holds.from.space)) in
+                loaded (made_at found.source) false (sym bit_is ∙ (asking away).0)
+                (second_place ∙ ap (λ (r : Result Place Reason). r >>= λ p. Ok (made_at p)) found.is_place) (comes_as 68 _ run (omega arith) (λ w q. record {
+                  holds = q.holds;
+                  to_place = q.to_place;
+                  destination = λ reads. q.before ∙ nine ∙ h.kept.destination reads;
+                  from_source = q.from;
+                  value = q.value ∙ ap (λ (u : Width). in_register u (value_at s u found.source)) width
+                      ∙ ap (in_register (row_width s)) (value_same s (gone_on s) (row_width s) found.source refl refl);
+                }))

@@ -1,94 +1,104 @@
--- The beginning of a row.
-use Rattle.std.proofs.Common.{ℕ, ◌*◌, ◌<◌, ◌∙◌, ◌≡◌, ap, arith, Bool, Err, false, None, Ok, Option, refl, Result, Some, subst, sym, true}
-use Rattle.sim_view.proofs.Common.{comes, comes_as, comes_on, previous-next}
-use Rattle.sim_rows.specs.Prelude.{AtOperands, behind_code, bytes_by, code_byte, Comes, Dispatched, DIV, Exits, GplOperation, GplState, GromState, is_row}
-use Rattle.sim_rows.specs.Prelude.{LoadsOperands, MachineState, MUL, operands_of, operation_entry, operation_in, OPS, Place, previous_in_grom, Reason, ROW}
-use Rattle.sim_rows.specs.Prelude.{row_width, size_of, Source, Stands, StartsRow, state_at_dispatch, View, view, WIDE, Width}
-use Rattle.sim_view.specs.gpl_defs.declared.instruction.GplOperation.TheVariants as operation
-use Rattle.sim_rows.proofs.Ends.{same_state}
-use Rattle.sim_rows.proofs.Fronting.{row_sets, wide_sets}
+-- The beginning of a row: its destination, its source, and the second dispatch.
+use Rattle.std.proofs.Common.{ℕ, ◌<◌, ◌≡◌, ap, arith, Bool, Err, false, if◌then◌else◌, None, Ok, Option, refl, Result, subst, sym, true}
+use Rattle.sim_view.proofs.Common.{comes_as, comes_on}
+use Rattle.sim_rows.specs.Prelude.{◌>>=◌, behind_first, code_byte, Comes, Exits, first_of, GO, GplOperation, GplState, has_source, is_row, Kept}
+use Rattle.sim_rows.specs.Prelude.{KeepsDestination, AtRow, LoadsBy, LoadsDestination, LoadsOperands, MachineState, next_of, operands_of, operation_in, Place}
+use Rattle.sim_rows.specs.Prelude.{Reason, second_by, second_of, Source, source_read, Sourced, Stands, StartsRow, unit, view}
+use Rattle.sim_rows.proofs.Operands.{goes_to_row}
 use Rattle.sim_rows.specs.Pieces as pieces
-
--- ---- the rows of twice the width
-
-wide_bytes : (o : Option GplOperation) (w : Width) → is_row o ≡ true → operation_entry o ≡ WIDE → bytes_by o w ≡ 2 * size_of w
-wide_bytes (Some (operation.Two MUL)) w row e = refl
-wide_bytes (Some (operation.Two DIV)) w row e = refl
-wide_bytes (Some (operation.Two _)) w row e = absurd (omega arith)
-wide_bytes (Some (operation.One _)) w row e = absurd (omega arith)
-wide_bytes _ w row e = absurd (cc)
-
--- and those of one
-narrow_bytes : (o : Option GplOperation) (w : Width) → is_row o ≡ true → (operation_entry o ≡ WIDE → ⊥) → (operation_entry o ≡ ROW) × (bytes_by o w ≡ size_of w)
-narrow_bytes (Some (operation.Two MUL)) w row n = absurd (n refl)
-narrow_bytes (Some (operation.Two DIV)) w row n = absurd (n refl)
-narrow_bytes (Some (operation.Two _)) w row n = (refl, refl)
-narrow_bytes (Some (operation.One _)) w row n = (refl, refl)
-narrow_bytes _ w row n = absurd (cc)
+use Rattle.sim_view.specs.native_interp.declared.addresses.TheConstants.{OPSTWO}
 
 pub stands_at : {p : ℕ} (q : ℕ) (x : MachineState) → x.cpu.pc ≡ q → Stands x p → Stands x q
 stands_at q x e s = record { pc = e; wp = s.wp; words = s.words; machine = s.machine }
 
-pub stands_row : (s : GplState) (x : MachineState) → (x.cpu.pc ≡ WIDE → ⊥) → is_row (operation_in s) ≡ true → Stands x (operation_entry (operation_in s)) →
-    Stands x ROW
-stands_row s x away row stands = stands_at ROW x (stands.pc ∙ (narrow_bytes (operation_in s) (row_width s) row (λ e. away (stands.pc ∙ e))).0) stands
+not_both : (b : Bool) → b ≡ true → b ≡ false → ⊥
+not_both b e f = cc
 
-pub wide : (s : GplState) (x y : MachineState) (t u : ℕ) → code_byte s < 256 → x.cpu.pc ≡ WIDE → is_row (operation_in s) ≡ true →
-    Stands x (operation_entry (operation_in s)) → Dispatched s (view x) →
-    Exits x y t u (pieces.wide_width (view x)) → Comes 5 x y t u OPS (AtOperands s)
-wide s x y t u fits here row stands d e = comes e (wide_sets s (view x) d fits (wide_bytes (operation_in s) (row_width s) row (sym stands.pc ∙ here)))
+-- both operands by their parts
+abbrev Loads : GplState → MachineState → MachineState → ℕ → ℕ → Bool → Result Place Reason → Result Source Reason → Type 0
+Loads s x y t u went first second = LoadsOperands s x y t u went (first >>= λ place. (second >>= λ source. Ok (place, source)))
 
-pub narrow : (s : GplState) (x y : MachineState) (t u : ℕ) → code_byte s < 256 → (x.cpu.pc ≡ WIDE → ⊥) → is_row (operation_in s) ≡ true →
-    Stands x (operation_entry (operation_in s)) → Dispatched s (view x) →
-    Exits x y t u (pieces.row_width (view x)) → Comes 5 x y t u OPS (AtOperands s)
-narrow s x y t u fits away row stands d e =
-    comes_as 5 _ (comes e (row_sets s (view x) d fits (narrow_bytes (operation_in s) (row_width s) row (λ e. away (stands.pc ∙ e))).1)) (omega arith) (λ v a. a)
+module _ (s : GplState) (x b : MachineState) (t u : ℕ) where
+  -- the destination is not visible
+  pub barred : LoadsDestination s x b t u false (first_of s) → LoadsOperands s x b t u false (operands_of s)
+  barred l = by (first_of s) l
+    where
+      by : (r : Result Place Reason) → LoadsDestination s x b t u false r → Loads s x b t u false r (second_of s)
+      by (Ok place) l = absurd (not_both false l.0 refl)
+      by (Err reason) l = (refl, comes_as 129 _ l.1 (omega arith) (λ v a. a))
 
--- ---- the state that is shown at OPS is the one at the dispatch
+  -- it was kept
+  pub record Begun : Type 0 where
+    pub place : Place
+    pub is_place : first_of s ≡ Ok place
+    pub keeps : KeepsDestination s place x b t u (has_source s)
 
-pub shown_again : (s : GplState) (w : View) → AtOperands s w → state_at_dispatch w ≡ s
-shown_again s w a =
-    let h = a.sees in
-    let counter = ap (λ (g : GromState). previous_in_grom (previous_in_grom g.counter)) h.grom in
-    same_state w.cells s.cells w.vdp.memory s.vdp w.vdp.registers s.registers (previous_in_grom (previous_in_grom w.grom.counter)) s.pc w.grom.image s.image
-    h.cells h.vdp h.registers (counter ∙ ap previous_in_grom (previous-next (behind_code s)) ∙ previous-next s.pc) (ap (λ (g : GromState). g.image) h.grom)
+  pub begun : LoadsDestination s x b t u true (first_of s) → Begun
+  begun l = by (first_of s) refl l
+    where
+      by : (r : Result Place Reason) → first_of s ≡ r → LoadsDestination s x b t u true r → Begun
+      by (Ok place) e l = record { place = place; is_place = e; keeps = l.1 }
+      by (Err reason) e l = absurd (not_both true refl l.0)
 
-pub again : (s : GplState) (w : View) → AtOperands s w → AtOperands (state_at_dispatch w) w
-again s w a = subst (λ (z : GplState). AtOperands z w) (sym (shown_again s w a)) a
+  module _ (k : Begun) where
+    loads : (y : MachineState) (v : ℕ) (went : Bool) → Loads s x y t v went (Ok k.place) (second_of s) → LoadsOperands s x y t v went (operands_of s)
+    loads y v went h = subst (λ (r : Result Place Reason). Loads s x y t v went r (second_of s)) (sym k.is_place) h
 
-pub row_again : (s : GplState) (w : View) → AtOperands s w → is_row (operation_in s) ≡ true → is_row (operation_in (state_at_dispatch w)) ≡ true
-row_again s w a row = subst (λ (z : GplState). is_row (operation_in z) ≡ true) (sym (shown_again s w a)) row
+    -- a row of one operand
+    pub one : (b.cpu.pc ≡ OPSTWO → ⊥) → LoadsOperands s x b t u true (operands_of s)
+    one elsewhere = by (has_source s) refl k.keeps
+      where
+        by : (n : Bool) → has_source s ≡ n → KeepsDestination s k.place x b t u n → LoadsOperands s x b t u true (operands_of s)
+        by true has c = absurd (elsewhere c.stands.pc)
+        by false has c =
+            let next : next_of s ≡ behind_first s = ap (λ (n : Bool). if n then (source_read s).1 else behind_first s) has in
+            loads b u true (subst (λ (r : Result Source Reason). Loads s x b t u true (Ok k.place) r) (sym (ap (λ (n : Bool). second_by n s) has))
+            (refl, subst (λ (n : ℕ). Comes 146 x b t u GO (Sourced s k.place unit n)) (sym next) (comes_as 146 _ c (omega arith) (λ v a. a))))
 
--- ---- both operands, from the dispatch
+    -- one of two
+    pub record TwoOperands : Type 0 where
+      pub has : has_source s ≡ true
+      pub comes : Comes 78 x b t u OPSTWO (Kept s k.place (behind_first s))
 
-loaded_by : (s : GplState) (x a y : MachineState) (t t1 u : ℕ) (told : Option GplOperation) (went : Bool) → Comes 5 x a t t1 OPS (AtOperands s) →
-    told ≡ operation_in s → went ≡ true → (r : Result (Place × Source) Reason) →
-    LoadsOperands s a y t1 u went r → StartsRow s x y t u told r
-loaded_by s x a y t t1 u told went c e went_on (Ok o) l = (e, comes_on 5 146 c l.1 refl)
-loaded_by s x a y t t1 u told went c e went_on (Err reason) l = absurd (not_both went went_on l.0)
-  where
-    not_both : (b : Bool) → b ≡ true → b ≡ false → ⊥
-    not_both b f g = cc
+    pub two : b.cpu.pc ≡ OPSTWO → TwoOperands
+    two here = by (has_source s) refl k.keeps
+      where
+        by : (n : Bool) → has_source s ≡ n → KeepsDestination s k.place x b t u n → TwoOperands
+        by true has c = record { has = has; comes = c }
+        by false has c = let there = c.stands.pc in absurd (omega arith)
 
-barred_by : (s : GplState) (x a y : MachineState) (t t1 u : ℕ) (went : Bool) → Comes 5 x a t t1 OPS (AtOperands s) → went ≡ false →
-    (r : Result (Place × Source) Reason) → LoadsOperands s a y t1 u went r → StartsRow s x y t u None r
-barred_by s x a y t t1 u went c stopped (Ok o) l = absurd (not_both went l.0 stopped)
-  where
-    not_both : (b : Bool) → b ≡ true → b ≡ false → ⊥
-    not_both b f g = cc
-barred_by s x a y t t1 u went c stopped (Err reason) l = (refl, comes_on 5 124 c l.1 refl)
+    pub loaded : (o : TwoOperands) (y : MachineState) (v : ℕ) (went : Bool) → LoadsBy s k.place b y u v went (second_of s) →
+        LoadsOperands s x y t v went (operands_of s)
+    loaded o y v went l = loads y v went (by (second_of s) l)
+      where
+        by : (r : Result Source Reason) → LoadsBy s k.place b y u v went r → Loads s x y t v went (Ok k.place) r
+        by (Ok source) l = (l.0, comes_on 78 68 o.comes l.1 refl)
+        by (Err reason) l = (l.0, comes_as 129 _ (comes_on 78 49 o.comes l.1 refl) (omega arith) (λ v a. a))
 
-at_state : (s z : GplState) (a y : MachineState) (t1 u : ℕ) (went : Bool) → z ≡ s → LoadsOperands z a y t1 u went (operands_of z) →
-    LoadsOperands s a y t1 u went (operands_of s)
-at_state s z a y t1 u went e l = subst (λ (q : GplState). LoadsOperands q a y t1 u went (operands_of q)) e l
+module _ (s : GplState) (x y : MachineState) (t u : ℕ) where
+  -- an operand is not visible
+  pub stopped : LoadsOperands s x y t u false (operands_of s) → StartsRow s x y t u None (operands_of s)
+  stopped l = by (operands_of s) l
+    where
+      by : (r : Result (Place × Source) Reason) → LoadsOperands s x y t u false r → StartsRow s x y t u None r
+      by (Ok o) l = absurd (not_both false l.0 refl)
+      by (Err reason) l = (refl, l.1)
 
-pub loaded : (s : GplState) (x a y : MachineState) (t t1 u : ℕ) (told : Option GplOperation) (went : Bool) → Comes 5 x a t t1 OPS (AtOperands s) →
-    told ≡ operation_in s → went ≡ true →
-    (let z = state_at_dispatch (view a) in LoadsOperands z a y t1 u went (operands_of z)) → StartsRow s x y t u told (operands_of s)
-loaded s x a y t t1 u told went c e went_on l =
-    loaded_by s x a y t t1 u told went c e went_on (operands_of s) (at_state s (state_at_dispatch (view a)) a y t1 u went (shown_again s (view a) c.holds) l)
+  -- both are there
+  pub record Ready : Type 0 where
+    pub operands : Place × Source
+    pub are : operands_of s ≡ Ok operands
+    pub comes : Comes 146 x y t u GO (AtRow s operands.0 operands.1)
 
-pub barred : (s : GplState) (x a y : MachineState) (t t1 u : ℕ) (went : Bool) → Comes 5 x a t t1 OPS (AtOperands s) → went ≡ false →
-    (let z = state_at_dispatch (view a) in LoadsOperands z a y t1 u went (operands_of z)) → StartsRow s x y t u None (operands_of s)
-barred s x a y t t1 u went c stopped l =
-    barred_by s x a y t t1 u went c stopped (operands_of s) (at_state s (state_at_dispatch (view a)) a y t1 u went (shown_again s (view a) c.holds) l)
+  pub ready : LoadsOperands s x y t u true (operands_of s) → Ready
+  ready l = by (operands_of s) refl l
+    where
+      by : (r : Result (Place × Source) Reason) → operands_of s ≡ r → LoadsOperands s x y t u true r → Ready
+      by (Ok o) e l = record { operands = o; are = e; comes = l.1 }
+      by (Err reason) e l = absurd (not_both true refl l.0)
+
+  pub starts : (k : Ready) (z : MachineState) (v : ℕ) (told : Option GplOperation) → code_byte s < 256 → is_row (operation_in s) ≡ true →
+      Exits y z u v (pieces.go_to_row (view y)) → told ≡ operation_in s → StartsRow s x z t v told (operands_of s)
+  starts k z v told fits row e is =
+      subst (λ (r : Result (Place × Source) Reason). StartsRow s x z t v told r) (sym k.are)
+      (is, comes_as 151 _ (goes_to_row s k.operands.0 k.operands.1 (next_of s) 146 fits row k.comes e) (omega arith) (λ v a. a))

@@ -3,11 +3,12 @@
 -- cells and ports that are not named stay.
 use Rattle.std.specs.Prelude.{ℕ, Bool, ◌+◌, ◌-◌, ◌/◌, ◌==◌, if◌then◌else◌, nat_lt, slice_index}
 use Rattle.sim_view.specs.Prelude.{ADDR, CHARACTER, COLUMN, difference_of, even, Exit, GO, grom_address_read}
-use Rattle.sim_view.specs.Prelude.{GromState, GSTEP, INTERP, join, last_out, LOAD, low, OPS, OPTAB, OPVAL, origin}
-use Rattle.sim_view.specs.Prelude.{shifted, SHOW, SLA, SRL, STORE, sum_of, TABLE, View, Word}
+use Rattle.sim_view.specs.Prelude.{GromState, GSTEP, INTERP, join, last_out, LOAD, low, OPTAB, OPVAL, origin}
+use Rattle.sim_view.specs.Prelude.{shifted, SHOW, SLA, SRL, STORE, STREAM, sum_of, TABLE, View, Word}
+use Rattle.sim_view.specs.grom_defs.declared.size.TheConstants.{GROM_SIZE}
 use Rattle.sim_view.specs.gpl_step_defs.declared.cells.TheConstants.{ROW}
 use Rattle.sim_operands.specs.Pieces.{exit, one_if, past, return_of, set_to}
-use Rattle.sim_view.specs.native_interp.declared.addresses.TheConstants.{OPSDST, OPSVAL}
+use Rattle.sim_view.specs.native_interp.declared.addresses.TheConstants.{OPSDST, OPSTWO, OPSVAL, STDST, WIDDST, WIDVAL}
 
 -- the numbers of the first words of both tables, among the words of the interpreter
 abbrev pub first_entry : ℕ
@@ -27,7 +28,7 @@ at_first counter = shifted SLA counter 3 == 0
 -- the address before a counter, in its GROM
 abbrev pub address_before : ℕ → ℕ
 address_before counter =
-    difference_of Word (if at_first counter then sum_of Word counter 0x2000 else counter) 1
+    difference_of Word (if at_first counter then sum_of Word counter GROM_SIZE else counter) 1
 
 -- GSTEP: the address before the counter comes into register 1, and GROM is set to it again; the byte there comes into
 -- register 0, and the first table leads on by it.
@@ -50,43 +51,62 @@ where_next v =
       grom = read_once (read_once v.grom);
     })
 
--- ROW: the width of the operands.
+-- ROW, STROW and WIDE: the place of the first operand is asked for, of so many bytes; nothing was stored yet.
+abbrev pub ask_place : ℕ → ℕ → View → Exit
+ask_place bytes link v = exit 6 ADDR (record v { r = record v.r { r3 = bytes; r11 = link; r13 = 0 } })
+
 abbrev pub width_of_code : ℕ → ℕ
 width_of_code code = sum_of Word (shifted SRL (shifted SLA code 15) 15) 1
 
-abbrev pub row_width : View → Exit
-row_width v = exit 4 OPS (record v { r = record v.r { r3 = width_of_code v.r.r0 } })
+abbrev pub twice_of_code : ℕ → ℕ
+twice_of_code code = sum_of Word (shifted SRL (shifted SLA code 15) 14) 2
 
--- WIDE: twice that width.
-abbrev pub wide_width : View → Exit
-wide_width v =
-    exit 5 OPS (record v { r = record v.r { r3 = sum_of Word (shifted SRL (shifted SLA v.r.r0 15) 14) 2 } })
-
--- OPS: the place of the first operand is asked for; nothing was stored yet.
 abbrev pub ask_first : View → Exit
-ask_first v = exit 2 ADDR (record v { r = record v.r { r13 = 0; r11 = OPSDST } })
+ask_first v = ask_place (width_of_code v.r.r0) OPSDST v
 
--- OPS, behind ADDR: the value there is asked for, and the place is kept as the destination.
+abbrev pub ask_stored : View → Exit
+ask_stored v = ask_place (width_of_code v.r.r0) STDST v
+
+abbrev pub ask_wide : View → Exit
+ask_wide v = ask_place (twice_of_code v.r.r0) WIDDST v
+
+-- OPSDST and WIDDST: the value there is asked for, and the place is kept as the destination.
+abbrev pub load_kept : ℕ → View → Exit
+load_kept link v = exit 3 LOAD (record v { r = record v.r { r7 = v.r.r2; r8 = v.r.r5; r11 = link } })
+
 abbrev pub load_first : View → Exit
-load_first v = exit 3 LOAD (record v { r = record v.r { r7 = v.r.r2; r8 = v.r.r5; r11 = OPSVAL } })
+load_first v = load_kept OPSVAL v
 
--- OPS, behind LOAD: the second operand is an immediate value, or its place is asked for; a row of one operand has 1.
-abbrev pub second_operand : View → Exit
-second_operand v =
-    let width = width_of_code v.r.r0 in
-    let told = record v { r = record v.r { r3 = width; r9 = v.r.r6 } } in
+abbrev pub load_wide : View → Exit
+load_wide v = load_kept WIDVAL v
+
+-- STDST: the place is kept as the destination.
+abbrev pub keep_stored : View → Exit
+keep_stored v = exit 2 OPSTWO (record v { r = record v.r { r7 = v.r.r2; r8 = v.r.r5 } })
+
+-- OPSVAL: the value is kept; a row of one operand has 1 for the source.
+abbrev pub keep_first : View → Exit
+keep_first v =
+    let kept = record v { r = record v.r { r9 = v.r.r6 } } in
     if nat_lt v.r.r0 0xA0
     then (
-    if width == 1
-    then exit 10 GO (record told { r = record told.r { r6 = 0x0100 } })
-    else exit 11 GO (record told { r = record told.r { r6 = 1 } })
+    if v.r.r3 == 1
+    then exit 6 GO (record kept { r = record kept.r { r6 = 0x0100 } })
+    else exit 7 GO (record kept { r = record kept.r { r6 = 1 } })
     )
-    else (
-    let form = record told { r = record told.r { r4 = shifted SRL v.r.r0 2 } } in
+    else exit 3 OPSTWO kept
+
+-- WIDVAL: the value is kept, and the source has half the bytes.
+abbrev pub keep_wide : View → Exit
+keep_wide v = exit 3 OPSTWO (record v { r = record v.r { r3 = shifted SRL v.r.r3 1; r9 = v.r.r6 } })
+
+-- OPSTWO: an immediate source is asked for, or the place of the source.
+abbrev pub ask_second : View → Exit
+ask_second v =
+    let form = record v { r = record v.r { r4 = shifted SRL v.r.r0 2 } } in
     if last_out SRL v.r.r0 2
-    then exit 12 OPVAL (record form { r = record form.r { r5 = 2 } })
-    else exit 11 ADDR (record form { r = record form.r { r11 = OPVAL } })
-    )
+    then exit 5 STREAM (record form { r = record form.r { r11 = GO } })
+    else exit 4 ADDR (record form { r = record form.r { r11 = OPVAL } })
 
 -- OPVAL: the value of the second operand is asked for.
 abbrev pub load_second : View → Exit

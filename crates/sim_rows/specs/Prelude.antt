@@ -3,7 +3,7 @@ pub use Rattle.sim_view.specs.Prelude.{◌>>=◌, ABS, absolute_flags, absolute_
 pub use Rattle.sim_view.specs.Prelude.{address_register, ADDV, ALL, AND, ANDV, Answer, APTR, AreTurns, ASPACE, B}
 pub use Rattle.sim_view.specs.Prelude.{BACK, behind, bit_of, Boots, bound, bound_at, bound_by, Branch, BRANCH}
 pub use Rattle.sim_view.specs.Prelude.{branched, BTEST, Byte, byte_at, byte_from, byte_in, ByteOp, bytes_or_none}
-pub use Rattle.sim_view.specs.Prelude.{CALL, CALLN, CALLS, CALLT, CARRY, CARRY_BIT, CASE, CASEN, CASET, CASEV, Cell}
+pub use Rattle.sim_view.specs.Prelude.{CALL, CALLN, CALLS, CARRY, CARRY_BIT, CASE, CASEN, CASET, CASEV, Cell}
 pub use Rattle.sim_view.specs.Prelude.{cells_at, CEQ, CEQV, CFALSE, CGE, CGEV, CGT, CGTV, CH, Changes, CHARACTER, CHE}
 pub use Rattle.sim_view.specs.Prelude.{CHEV, CHV, CLOG, CLOGV, CLR, CLRV, code_register, COLUMN, Comes, complement_of}
 pub use Rattle.sim_view.specs.Prelude.{condition, CONDITION_BIT, conjunction_of, copied, COPY, COPYN, COPYS, COUNT}
@@ -28,12 +28,12 @@ pub use Rattle.sim_view.specs.Prelude.{MOVEK, MoveKind, MOVEL, MoveLength, MOVEN
 pub use Rattle.sim_view.specs.Prelude.{MoveTarget, MOVEW, MOVEX, MUL, MULB, MULV, NEG, negation_flags, negation_of}
 pub use Rattle.sim_view.specs.Prelude.{NEGV, new_grom, next_from, next_in_grom, next_in_vdp, next_seed, next_to}
 pub use Rattle.sim_view.specs.Prelude.{NoOperation, number_of, on_stack, one, One, one_more, OneName, ones_cleared}
-pub use Rattle.sim_view.specs.Prelude.{ones_set, Opcode, operand_from, operation_at, operation_entry, OPS, OPTAB}
+pub use Rattle.sim_view.specs.Prelude.{ones_set, Opcode, operand_from, operation_at, operation_entry, OPTAB}
 pub use Rattle.sim_view.specs.Prelude.{OPVAL, OR, origin, origin_of, ORV, OVER, OVERFLOW_BIT, OVF, pair_kind}
 pub use Rattle.sim_view.specs.Prelude.{PairKind, Place, place_of, plain, Plain, PlainOp, plus, pointed, PortsAreIdle}
 pub use Rattle.sim_view.specs.Prelude.{previous_in_grom, product_of, PUSH, PUSHV, RAND, RANDL, RANDOM, ranged}
 pub use Rattle.sim_view.specs.Prelude.{Reaches, read_by, ReadSetup, Reason, Register, RegisterWrite, repeated}
-pub use Rattle.sim_view.specs.Prelude.{repeated_sign, RESUME, RETURN_STACK, ROW, row_entry, RTN, RTNC, RTNP, run}
+pub use Rattle.sim_view.specs.Prelude.{repeated_sign, RESUME, RETURN_STACK, ROW, row_entry, RTN, RTNC, run}
 pub use Rattle.sim_view.specs.Prelude.{Runs, RunsSteps, SDATA, SEED, SEEK, shifted, shifted_left, shifted_right}
 pub use Rattle.sim_view.specs.Prelude.{ShiftOp, SHOW, shown, shown_by, signed, size_of, SLA, SLL, SLLB, SLLV, Source}
 pub use Rattle.sim_view.specs.Prelude.{source_at, source_of, Space, space_at, space_of, SRA, SRAB, SRAV, SRC, SRCB}
@@ -41,7 +41,7 @@ pub use Rattle.sim_view.specs.Prelude.{SRCV, SREG, SRL, SRLB, SRLV, ST, Stack, S
 pub use Rattle.sim_view.specs.Prelude.{Status, status_byte, status_of, status_word, step, Stepped, steps, STO}
 pub use Rattle.sim_view.specs.Prelude.{Stopped, STORE, STREAM, STV, SUB, SUBV, sum_flags, sum_of, swapped, TABLE}
 pub use Rattle.sim_view.specs.Prelude.{TAKE, target_at, target_of, To, ToMemory, ToRegisters, Turn, Turned, TurnedBy}
-pub use Rattle.sim_view.specs.Prelude.{two, Two, TwoName, unchanged, UNIT, UNKN, value_at, VALUE_STACK, Vdp}
+pub use Rattle.sim_view.specs.Prelude.{two, Two, TwoName, unchanged, UNKN, value_at, VALUE_STACK, Vdp}
 pub use Rattle.sim_view.specs.Prelude.{vdp_address_written, vdp_data_read, vdp_data_written, VdpState, view, View}
 pub use Rattle.sim_view.specs.Prelude.{VISIBLE_CELLS, WHERE, WIDE, Width, with_byte, with_byte_from, with_byte_in}
 pub use Rattle.sim_view.specs.Prelude.{with_byte_to, with_cell, with_condition, with_double, with_immediate}
@@ -56,10 +56,10 @@ pub use Rattle.sim_operands.specs.Subroutines.{StoresRegister, StoresValue, stre
 pub use Rattle.sim_operands.specs.Values.{in_register, IsVisible, number_of_space, of_register, width_in}
 pub use Rattle.sim_rows.specs.Results.{Changed, EndsRow, HasStarted, result_of, row_result, RunsRow, SeesFinished, SeesResult}
 pub use Rattle.sim_rows.specs.Results.{StartsRow, StoresResult, Storing, TurnsBy, TurnsRow}
-pub use Rattle.sim_rows.specs.Rows.{AtEntry, AtOperands, AtRow, behind_first, bytes_by, destination_bytes, first_of}
-pub use Rattle.sim_rows.specs.Rows.{Found, gone_on, has_source, Holds, Immediate, is_immediate, is_row, Kept}
-pub use Rattle.sim_rows.specs.Rows.{loaded_of, LoadsDestination, LoadsFrom, LoadsFromSource, LoadsImmediate}
-pub use Rattle.sim_rows.specs.Rows.{LoadsOperands, LoadsPlaced, next_of, operands_of, row_width, second_by, second_of}
-pub use Rattle.sim_rows.specs.Rows.{source_read, Sourced, StoresTo, unit, Valued, word_of}
+pub use Rattle.sim_rows.specs.Rows.{Asking, AtEntry, AtRow, behind_destination, behind_first, bytes_by}
+pub use Rattle.sim_rows.specs.Rows.{destination_bytes, first_of, gone_on, has_source, Holds, is_immediate, is_row}
+pub use Rattle.sim_rows.specs.Rows.{Kept, KeepsDestination, loaded_of, LoadsBy, LoadsDestination, LoadsFrom}
+pub use Rattle.sim_rows.specs.Rows.{LoadsFromSource, LoadsOperands, LoadsSource, next_of, operands_of}
+pub use Rattle.sim_rows.specs.Rows.{reads_destination, row_width, second_by, second_of, source_read, Sourced, StoresTo, unit, word_of}
 pub use Rattle.sim_rows.specs.States.{AtDispatch, behind_code, code_byte, Dispatched, Ended, operation_in}
 pub use Rattle.sim_rows.specs.States.{operation_seen, Sees, state_at_dispatch, StoppedBy}

@@ -1,14 +1,14 @@
 -- The operands of a row, and views of the machine up to the row's entry.
 use Rattle.std.specs.Prelude.{ℕ, ◌%◌, ◌/◌, ◌==◌, ◌≡◌, Bool, Err, false, if◌then◌else◌, nat_lt, ◌<◌, None, not, Ok}
 use Rattle.std.specs.Prelude.{Option, Result, Some, true}
-use Rattle.sim_view.specs.Prelude.{◌>>=◌, Comes, destination_size, GplOperation, GplSource, GplState, GSTOP}
+use Rattle.sim_view.specs.Prelude.{◌>>=◌, Comes, destination_size, GO, GplOperation, GplSource, GplState, GSTOP}
 use Rattle.sim_view.specs.Prelude.{IsFetched, MachineState, One, operand_at, Place, place_of, PortsAreIdle}
 use Rattle.sim_view.specs.Prelude.{Reason, row_entry, size_of, Source, source_at, source_of, Stands, Two, value_at}
 use Rattle.sim_view.specs.Prelude.{View, view, Width, word_or_byte}
-use Rattle.sim_view.specs.gpl_defs.Reading.{value_at as value_in}
+use Rattle.sim_view.specs.gpl_defs.declared.instruction.TwoName.TheVariants.{DIV, MUL, ST}
 use Rattle.sim_operands.specs.Values.{in_register, IsVisible, number_of_space, width_in}
 use Rattle.sim_rows.specs.States.{behind_code, code_byte, operation_in, Sees, StoppedBy}
-use Rattle.sim_view.specs.native_interp.declared.addresses.TheConstants.{OPSVAL}
+use Rattle.sim_view.specs.native_interp.declared.addresses.TheConstants.{OPSDST, OPSTWO, STDST, WIDDST}
 
 -- The operations whose operands are loaded in one way, before a second table leads on to the row of each.
 abbrev pub is_row : Option GplOperation → Bool
@@ -99,27 +99,37 @@ abbrev pub loaded_of : GplState → Place → ℕ
 loaded_of s place =
     let width = width_in (destination_bytes s) in in_register width (value_at s width place)
 
--- The destination's place is in registers 7 and 8, and its value in register 9.
+-- ADDR is asked for the place of an operand of so many bytes, and returns to an address.
+pub record Asking (s : GplState) (bytes at to : ℕ) (w : View) : Type 0 where
+  pub holds : Holds s bytes at w
+  pub link : w.r.r11 ≡ to
+
+-- where it returns to with that of the destination
+abbrev pub behind_destination : Option GplOperation → ℕ
+behind_destination (Some (Two MUL)) = WIDDST
+behind_destination (Some (Two DIV)) = WIDDST
+behind_destination (Some (Two ST)) = STDST
+behind_destination _ = OPSDST
+
+-- ST alone asks nothing of its destination's value.
+abbrev pub reads_destination : Option GplOperation → Bool
+reads_destination (Some (Two ST)) = false
+reads_destination _ = true
+
+abbrev pub KeepsValue : GplState → Place → View → Type 0
+KeepsValue s place w = reads_destination (operation_in s) ≡ true → w.r.r9 ≡ loaded_of s place
+
+-- At OPSTWO: the destination's place is in registers 7 and 8, and its value in register 9.
 pub record Kept (s : GplState) (place : Place) (next : ℕ) (w : View) : Type 0 where
   pub holds : Holds s (size_of (row_width s)) next w
   pub to_place : StoresTo place w
-  pub destination : w.r.r9 ≡ loaded_of s place
+  pub destination : KeepsValue s place w
 
--- At OPVAL: so, and the source is the immediate value that follows, or its place is in registers 2 and 5.
-pub record Immediate (s : GplState) (place : Place) (next : ℕ) (w : View) : Type 0 where
-  pub kept : Kept s place next w
-  pub space : w.r.r5 ≡ 2
-
-pub record Found (s : GplState) (place source : Place) (next : ℕ) (w : View) : Type 0 where
-  pub kept : Kept s place next w
-  pub from : LoadsFrom source w
-
--- The destination's place is in registers 7 and 8 and its value in register 9; the source's place, if it has one, is in
--- registers 2 and 5, and its value in register 6.
+-- So, and the source's place, if it has one, is in registers 2 and 5, and its value in register 6.
 pub record Sourced (s : GplState) (place : Place) (source : Source) (next : ℕ) (w : View) : Type 0 where
   pub holds : Holds s (size_of (row_width s)) next w
   pub to_place : StoresTo place w
-  pub destination : w.r.r9 ≡ loaded_of s place
+  pub destination : KeepsValue s place w
   pub from_source : LoadsFromSource source.place w
   pub value : w.r.r6 ≡ in_register (row_width s) source.number
 
@@ -127,47 +137,37 @@ pub record Sourced (s : GplState) (place : Place) (source : Source) (next : ℕ)
 abbrev pub AtRow : GplState → Place → Source → View → Type 0
 AtRow s place source w = Sourced s place source (next_of s) w
 
--- At OPS: the number of bytes of the destination is in register 3.
-pub record AtOperands (s : GplState) (w : View) : Type 0 where
-  pub sees : Sees s (behind_code s) w
-  pub code : w.r.r0 ≡ code_byte s
-  pub address : w.r.r1 ≡ s.pc
-  pub bytes_are : w.r.r3 ≡ destination_bytes s
+-- The destination is found and kept, or the program stops. A row of one operand goes on at GO.
+abbrev pub KeepsDestination : GplState → Place → MachineState → MachineState → ℕ → ℕ → Bool → Type 0
+KeepsDestination s place x y before after true = Comes 78 x y before after OPSTWO (Kept s place (behind_first s))
+KeepsDestination s place x y before after false =
+    Comes 78 x y before after GO (Sourced s place unit (behind_first s))
 
--- The destination's value was loaded.
-pub record Valued (s : GplState) (place : Place) (w : View) : Type 0 where
-  pub holds : Holds s (destination_bytes s) (behind_first s) w
-  pub to_place : StoresTo place w
-  pub value : w.r.r6 ≡ loaded_of s place
-
--- The destination is found and its value loaded, or the program stops.
 abbrev pub LoadsDestination : GplState → MachineState → MachineState → ℕ → ℕ → Bool → Result Place Reason → Type 0
 LoadsDestination s x y before after went (Ok place) =
-    (went ≡ true) × Comes 67 x y before after OPSVAL (Valued s place)
+    (went ≡ true) × KeepsDestination s place x y before after (has_source s)
 LoadsDestination s x y before after went (Err reason) =
-    (went ≡ false) × Comes 47 x y before after GSTOP (StoppedBy s reason)
+    (went ≡ false) × Comes 51 x y before after GSTOP (StoppedBy s reason)
 
--- Both operands are there at the entry of the row, or the program stops.
+-- From OPSTWO the value of the source is loaded, or the program stops.
+abbrev pub LoadsBy : GplState → Place → MachineState → MachineState → ℕ → ℕ → Bool → Result Source Reason → Type 0
+LoadsBy s place x y before after went (Ok source) =
+    (went ≡ true) × Comes 68 x y before after GO (Sourced s place source (next_of s))
+LoadsBy s place x y before after went (Err reason) =
+    (went ≡ false) × Comes 49 x y before after GSTOP (StoppedBy s reason)
+
+abbrev pub LoadsSource : MachineState → MachineState → ℕ → ℕ → Bool → Type 0
+LoadsSource x y before after went =
+    (s : GplState) → (place : Place) → has_source s ≡ true → Kept s place (behind_first s) (view x)
+    → LoadsBy s place x y before after went (second_of s)
+
+-- Both operands are there, or the program stops.
 abbrev pub LoadsOperands : GplState → MachineState → MachineState → ℕ → ℕ → Bool
     → Result (Place × Source) Reason → Type 0
 LoadsOperands s x y before after went (Ok operands) =
-    (went ≡ true) × Comes 146 x y before after (row_entry (operation_in s)) (AtRow s operands.0 operands.1)
+    (went ≡ true) × Comes 146 x y before after GO (AtRow s operands.0 operands.1)
 LoadsOperands s x y before after went (Err reason) =
-    (went ≡ false) × Comes 124 x y before after GSTOP (StoppedBy s reason)
-
--- From OPVAL the value of the source is loaded, and the machine comes to the entry of the row.
-abbrev pub LoadsPlaced : MachineState → MachineState → ℕ → ℕ → Type 0
-LoadsPlaced x y before after =
-    (s : GplState) → (place source : Place) → (next : ℕ) → is_row (operation_in s) ≡ true
-    → Found s place source next (view x) → Comes 22 x y before after (row_entry (operation_in s))
-    (Sourced s place (record { number = value_at s (row_width s) source; place = Some source }) next)
-
-abbrev pub LoadsImmediate : MachineState → MachineState → ℕ → ℕ → Type 0
-LoadsImmediate x y before after =
-    (s : GplState) → (place : Place) → (next : ℕ) → is_row (operation_in s) ≡ true → Immediate s place next (view x)
-    → let read = value_in (word_of s) s.image next in
-    Comes 16 x y before after (row_entry (operation_in s))
-    (Sourced s place (record { number = read.0; place = None }) read.1)
+    (went ≡ false) × Comes 129 x y before after GSTOP (StoppedBy s reason)
 
 -- A machine at the entry of the row of an operation, which is one of a family: the operands are loaded, the ports are
 -- idle, and a value may be stored at the destination.

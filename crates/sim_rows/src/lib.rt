@@ -8,8 +8,8 @@ mod step;
 mod tail;
 
 pub use row::{
-    ask_first, go_to_row, load_destination, load_first, load_operands, load_second, load_source,
-    row_width, second_operand, start_row, wide_width,
+    ask_first, ask_second, ask_stored, ask_wide, go_to_row, keep_first, keep_stored, keep_wide,
+    load_first, load_second, load_wide, start_row,
 };
 pub use step::{begin_step, dispatch, operation_told, where_next};
 pub use tail::{end_row, finish_row, show, store_result};

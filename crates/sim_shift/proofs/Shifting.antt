@@ -3,9 +3,9 @@ use Rattle.std.proofs.Common.{ℕ, ◌+◌, ◌<◌, ◌==◌, ◌∙◌, ◌≡
 use Rattle.std.proofs.lemmas.Bool.{eqb-false, eqb-true}
 use Rattle.sim_rows.proofs.Common.{AtRow, Byte, bytes_by, Changed, changed_again, Changes, count_of, destination_bytes, even, Exit, exit, gone_on, GplState}
 use Rattle.sim_rows.proofs.Common.{GromState, in_register, is_grom_idle, is_vdp_idle, IsView, IsVisible, Memory, modulus, of_register, ones_set, operation_in}
-use Rattle.sim_rows.proofs.Common.{pick, Place, PortsAreIdle, repeated, repeated_sign, return_of, row_changed, row_width, shifted, shifted_left, shifted_right}
-use Rattle.sim_rows.proofs.Common.{ShiftOp, size_of, SLA, Source, SRA, SRC, SRL, STO, StoresTo, Storing, swapped, Two, two, unchanged, value_at, VdpState, View}
-use Rattle.sim_rows.proofs.Common.{view_of, Width, width_in, with_value, Word}
+use Rattle.sim_rows.proofs.Common.{pick, Place, PortsAreIdle, reads_destination, repeated, repeated_sign, return_of, row_changed, row_width, shifted}
+use Rattle.sim_rows.proofs.Common.{shifted_left, shifted_right, ShiftOp, size_of, SLA, Source, SRA, SRC, SRL, STO, StoresTo, Storing, swapped, Two, two}
+use Rattle.sim_rows.proofs.Common.{unchanged, value_at, VdpState, View, view_of, Width, width_in, with_value, Word}
 use Rattle.sim_shift.specs.Pieces.{counted, low_four}
 use Rattle.sim_shift.specs.Family.{name_of, shift_entry}
 use Rattle.sim_shift.proofs.Numbers.{arithmetic, count_of_byte, count_of_word, kept_left, kept_right, left, right, turned}
@@ -192,6 +192,12 @@ number_is op width x count v e f g h k =
     ∙ ap (λ (n : ℕ). of_register width (pieces.shifts op (record v { r = record v.r { r0 = n; r3 = size_of width; r9 = in_register width x } })).left.r.r9) g
     ∙ number_in op width x count v h k
 
+reads : (op : ShiftOp) → reads_destination (Some (Two (name_of op))) ≡ true
+reads SRA = refl
+reads SRL = refl
+reads SLA = refl
+reads SRC = refl
+
 -- ---- from the row to STO
 
 pub entry_even : (op : ShiftOp) → (even (shift_entry op) ≡ shift_entry op) × (eqb (even (shift_entry op)) STO ≡ false)
@@ -222,7 +228,7 @@ pub told_at : (op : ShiftOp) (s : GplState) (place : Place) (source : Source) (v
     u ≡ (pieces.asking (shift_entry op) v).left → Told s place source (pieces.take_count u).left
 told_at op s place source v u known a i is =
     let at : Told s place source (told (pieces.asking (shift_entry op) v).left (low_four (counted_word v))) =
-    (let loaded = loaded_is op s place v.r.r9 known a.destination in
+    (let loaded = loaded_is op s place v.r.r9 known (a.destination (ap reads_destination known ∙ reads op)) in
     record {
       changed = changed_kept (unchanged (gone_on s)) v (told (pieces.asking (shift_entry op) v).left (low_four (counted_word v)))
           (row_changed s place source v a) refl;

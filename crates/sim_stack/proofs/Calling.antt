@@ -1,86 +1,21 @@
 -- CALL, from its dispatch to the end of the step.
-use Rattle.std.proofs.Common.{ℕ, ◌<◌, ◌∙◌, ◌≡◌, ap, arith, Err, false, List, nat_lt, Ok, Option, refl, Result, slice_index, slice_set, Some, subst, sym, true}
-use Rattle.sim_rows.proofs.Common.{◌>>=◌, at_most, behind_code, bound, bound_made, CALL, CALLN, CALLS, CALLT, cells_at, ChangedFrom, Changes, Comes, comes}
-use Rattle.sim_rows.proofs.Common.{comes_as, comes_on, comes_then, Dispatched, Exit, exit, Exits, finished, GOCALL, Goes, GplOperation, GplState, grom_at}
-use Rattle.sim_rows.proofs.Common.{GromState, grown_by, GSTOP, high, idle_again, idle_told, is_end, is_view, IsVisible, Jump, known, MachineState, matches}
-use Rattle.sim_rows.proofs.Common.{most_of_store, most_to_dispatch, on_stack, operation_in, PortsAreIdle, reaches, Reason, RESUME, return_of, Stack, Stands}
-use Rattle.sim_rows.proofs.Common.{step, step_jump, Stepped, Stopped, StoppedBy, STORE, store_then, stored_idle, StoresValue, Storing, sum_of, Turned}
-use Rattle.sim_rows.proofs.Common.{turned_by, unchanged, View, view, WHERE, with_cell, with_value, Word, word_at as word_in_grom}
-use Rattle.sim_jumps.specs.Jumps.{ResumesRow}
-use Rattle.sim_stack.specs.Pieces.{offset_of, pointer_at}
+use Rattle.std.proofs.Common.{ℕ, ◌+◌, ◌<◌, ◌==◌, ◌||◌, ◌∙◌, ◌≡◌, ◌≤◌, ap, arith, Bool, Err, false, if◌then◌else◌, List, nat_lt, Ok, Option}
+use Rattle.std.proofs.Common.{refl, Result, slice_index, slice_set, Some, subst, sym, true}
+use Rattle.std.proofs.lemmas.Bool.{agree_below_at}
+use Rattle.sim_rows.proofs.Common.{◌>>=◌, at_most, back_is, behind_code, bound, bound_made, CALL, CALLN, CALLS, Changed, Changes, Comes, comes, comes_on}
+use Rattle.sim_rows.proofs.Common.{comes_then, Dispatched, EndsRow, Exit, exit, Exits, finished, first_way, from, GOCALL, Goes, GplOperation, GplState, grom_at}
+use Rattle.sim_rows.proofs.Common.{GromState, grown_by, GSTOP, high, idle_told, is_end, is_view, join, Jump, just, known, lost, low, MachineState, marked_by}
+use Rattle.sim_rows.proofs.Common.{matches, most_to_dispatch, next_in_grom, on_stack, operation_in, past, plus, PortsAreIdle, reaches, Reason, second_way}
+use Rattle.sim_rows.proofs.Common.{set_is, shifted, SHOW, SLA, Stack, Stands, step, step_jump, Stepped, Stopped, StoppedBy, sum_of, Turned, turned_by, View}
+use Rattle.sim_rows.proofs.Common.{view, Word, word_at as word_in_grom}
+use Rattle.sim_rows.specs.Pieces.{at_first}
+use Rattle.sim_rows.specs.sim_operands.Pieces.{one_if}
+use Rattle.sim_stack.specs.Pieces.{offset_of, shows_at}
 use Rattle.sim_stack.specs.Family.{is_call}
-use Rattle.sim_stack.specs.Stacks.{Called, EndsCall, gone_to, Located, Locates, Stacking}
-use Rattle.sim_stack.proofs.Room.{goes_full, goes_on, no_room, stop_turned, two_more, two_stored, with_room}
+use Rattle.sim_stack.specs.Stacks.{gone_to}
+use Rattle.sim_stack.proofs.Room.{behind_is, no_room, stop_turned, two_more, with_room}
 use Rattle.sim_stack.proofs.Locating.{next_fits}
 use Rattle.sim_stack.specs.Pieces as pieces
-
--- ---- the address that follows
-
-reads : (x y : MachineState) (t u : ℕ) → Exits x y t u (pieces.read_target (view x)) → (s : GplState) → Dispatched s (view x) →
-    Comes 11 x y t u CALLT (Called s)
-reads x y t u e s d =
-    let v : View = view x in
-    let word = word_in_grom s.image (behind_code s) in
-    let read : View = record v { r = record v.r { r3 = 2; r13 = 0; r14 = word.0 }; grom = grom_at s.image word.1 } in
-    let read_by : GromState → Exit = λ g. pieces.read_target (record v { grom = g }) in
-    let read_is : pieces.read_target v ≡ exit 4 CALLT read = ap read_by d.sees.grom in
-    comes e (known read_is (record {
-      within = omega arith;
-      to_is = refl;
-      holds = record {
-        sees = record { cells = d.sees.cells; vdp = d.sees.vdp; registers = d.sees.registers; held = d.sees.held; grom = refl };
-        address = d.address;
-        bytes_are = refl;
-        target = refl;
-        mark = refl;
-      };
-    }))
-
--- ---- from CALLS on
-
-module _ {x a : MachineState} {t t1 : ℕ} (e1 : Exits x a t t1 (pieces.store_next (view x))) where
-  pub idle_asked : PortsAreIdle x.cpu.memory → PortsAreIdle a.cpu.memory
-  idle_asked i = idle_again x.cpu.memory a.cpu.memory (ap (λ (v : View). v.vdp) e1.shows) (ap (λ (v : View). v.grom) e1.shows) i
-
-  space_asked : (view a).r.r8 < 2
-  space_asked = let z = ap (λ (v : View). v.r.r8) e1.shows in omega arith
-
-  module _ {b : MachineState} {t2 : ℕ} (may : (view a).r.r8 < 2 → StoresValue a b t1 t2) where
-    stored : StoresValue a b t1 t2
-    stored = may space_asked
-
-    pub stands_stored : Stands b RESUME
-    stands_stored = subst (λ (p : ℕ). Stands b p) (ap return_of e1.shows) stored.stands
-
-    pub idle_stored : PortsAreIdle x.cpu.memory → PortsAreIdle b.cpu.memory
-    idle_stored i = stored_idle a b t1 t2 (idle_asked i) stored
-
-    pub ends : (y : MachineState) (t3 : ℕ) → ResumesRow b y t2 t3 → EndsCall x y t t3
-    ends y t3 resumes s top target h =
-        let before : Changes = with_cell 0x73 top (unchanged s) in
-        let after : Changes = with_value Word (cells_at top) s.pc before in
-        let storing : Storing before Word (cells_at top) s.pc (view a) =
-        subst (λ (v : View). Storing before Word (cells_at top) s.pc v) (sym e1.shows) (record {
-          changed = record {
-            cells = ap (λ (l : List ℕ). slice_set l 0x73 (high (view x).r.r12)) h.changed.cells ∙ ap (slice_set s.cells 0x73) h.pointer;
-            vdp = h.changed.vdp;
-            registers = h.changed.registers;
-            held = h.changed.held;
-            grom = h.changed.grom;
-            mark = h.changed.mark;
-          };
-          bytes_are = h.bytes_are;
-          to_place = record { address = h.top_is; space = refl };
-          value = h.next_is;
-        }) in
-        let c1 : Comes 4 x a t t1 STORE (λ v. v ≡ (pieces.store_next (view x)).left) =
-        comes e1 (record { within = omega arith; to_is = refl; holds = refl }) in
-        let c2 : Comes most_of_store a b t1 t2 RESUME (ChangedFrom after (view a)) =
-        subst (λ (n : ℕ). Comes most_of_store a b t1 t2 n (ChangedFrom after (view a))) (ap return_of e1.shows)
-        (store_then before Word (cells_at top) s.pc a b t1 t2 storing stored) in
-        let back : (view b).r.r14 ≡ target = ap (λ (v : View). v.r.r14) stored.holds.is ∙ ap (λ (v : View). v.r.r14) e1.shows ∙ h.target_is in
-        let c3 : Comes 20 x b t t2 RESUME (ChangedFrom after (view a)) = comes_on 4 16 c1 c2 refl in
-        comes_as 56 _ (comes_on 20 32 c3 (resumes (gone_to s top target) s.pc c3.holds.changed back) refl) (omega arith) (λ w q. q)
 
 -- ---- the step
 
@@ -106,119 +41,152 @@ step_by s r family is = step_jump s CALL (call_is (operation_in s) family) ∙ a
 bound_call : (s next : GplState) → is_call (operation_in s) ≡ true → step s ≡ Ok next → bound s ≡ 440
 bound_call s next family is = bound_made s next (Some (Jump CALL)) (call_is (operation_in s) family) is
 
+-- ---- numbers
+
+low_is : (byte : ℕ) → byte < 256 → low byte ≡ byte
+low_is byte h = omega arith
+
+grown_small : (byte : ℕ) → grown_by 2 byte < 256
+grown_small byte = omega arith
+
+one_at_most : (b : Bool) → 6 + one_if b ≤ 7
+one_at_most true = omega arith
+one_at_most false = omega arith
+
+twelve_at_most : (b c : Bool) → (if b then 9 else if c then 11 else 12) ≤ 12
+twelve_at_most true c = omega arith
+twelve_at_most false true = omega arith
+twelve_at_most false false = omega arith
+
+-- the word at an offset has the character's cell
+abbrev shows_by : ℕ → Bool
+shows_by top = (plus top 1 == 0x7D) || ((top == 0x7D) || false)
+
+shows_is : (top : ℕ) → top < 256 → shows_at top ≡ shows_by top
+shows_is top h = agree_below_at shows_at shows_by 256 top refl h
+
 -- ---- from the dispatch on
 
-module _ (s : GplState) {x a b : MachineState} {t t1 t2 : ℕ} (stands : Stands x GOCALL) (d : Dispatched s (view x)) (family : is_call (operation_in s) ≡ true)
-    (read : Exits x a t t1 (pieces.read_target (view x))) (e : Exits a b t1 t2 (pieces.keep_target (view a))) where
-  called : Comes 11 x a t t1 CALLT (Called s)
-  called = reads x a t t1 read s d
-
-  abbrev pointer : ℕ
-  pointer = sum_of Word (pointer_at 0x73 (view a)) 0x0200
+module _ (s : GplState) {x a : MachineState} {t t1 : ℕ} (stands : Stands x GOCALL) (d : Dispatched s (view x)) (family : is_call (operation_in s) ≡ true)
+    (read : Exits x a t t1 (pieces.read_target (view x))) where
+  abbrev v : View
+  v = view x
 
   abbrev offset : ℕ
-  offset = offset_of pointer
+  offset = offset_of (sum_of Word (join (slice_index v.cells 0x73) (low v.r.r7)) 0x0200)
+
+  -- the word that follows was read
+  abbrev told_by : GromState → View
+  told_by grom = record v { r = record v.r { r7 = offset; r14 = join grom.fetched (past grom).fetched }; grom = past (past grom) }
 
   abbrev told : View
-  told = record (view a) { r = record (view a).r { r7 = offset; r12 = pointer } }
+  told = told_by (grom_at s.image (behind_code s))
 
-  abbrev placed : View
-  placed = record told { r = record told.r { r11 = CALLN } }
-
-  small : slice_index (view a).cells 0x73 < 256
-  small = (is_view a called.stands.machine).cells 0x73
+  went_by : Exits x a t t1 (if nat_lt 0xC0 offset then pieces.full 10 told else exit 7 CALLN told)
+  went_by =
+      subst (λ (g : GromState). Exits x a t t1 (if nat_lt 0xC0 offset then pieces.full 10 (told_by g) else exit 7 CALLN (told_by g))) d.sees.grom read
 
   offset_top : offset ≡ top_in s
-  offset_top = two_more (slice_index (view a).cells 0x73) small ∙ ap (λ (l : List ℕ). grown_by 2 (slice_index l 0x73)) called.holds.sees.cells
+  offset_top =
+      two_more (slice_index v.cells 0x73) (low v.r.r7) ((is_view x stands.machine).cells 0x73) (omega arith)
+      ∙ ap (λ (l : List ℕ). grown_by 2 (slice_index l 0x73)) d.sees.cells
 
-  pointer_top : high pointer ≡ top_in s
-  pointer_top = two_stored (slice_index (view a).cells 0x73) small ∙ ap (λ (l : List ℕ). grown_by 2 (slice_index l 0x73)) called.holds.sees.cells
+  small : top_in s < 256
+  small = grown_small (slice_index s.cells 0x73)
 
   start : is_end x.cpu.pc ≡ false
   start = ap is_end stands.pc
 
-  pub stopped : b.cpu.pc ≡ GSTOP → Turned s most_to_dispatch x b t t2 (Stopped Stack)
+  pub stopped : a.cpu.pc ≡ GSTOP → Turned s most_to_dispatch x a t t1 (Stopped Stack)
   stopped here =
-      let k = goes_full a b t1 t2 (nat_lt 0xC0 offset) (pieces.full 10 told) (exit 8 WHERE placed) e (λ q. absurd (omega arith)) here in
+      let k = first_way GSTOP x a t t1 (nat_lt 0xC0 offset) (pieces.full 10 told) (exit 7 CALLN told) went_by (λ q. absurd (omega arith)) here in
       let full : on_stack 2 (top_in s) ≡ Err Stack = no_room 0xC0 2 (top_in s) refl (ap (nat_lt 0xC0) (sym offset_top) ∙ k.0) in
-      let h = called.holds in
-      let ended : Goes (pieces.full 10 told) 11 GSTOP (StoppedBy s Stack) = record {
+      let c : Comes 10 x a t t1 GSTOP (StoppedBy s Stack) = comes k.1 (record {
         within = omega arith;
         to_is = refl;
-        holds = record { ended = record { cells = h.sees.cells; vdp = h.sees.vdp; registers = h.sees.registers; address = h.address }; reason_is = refl };
-      } in
-      stop_turned s x b t t2 22 start (step_by s (Err Stack) family full) (comes_then 11 11 called k.1 ended refl) (omega arith)
+        holds = record { ended = record { cells = d.sees.cells; vdp = d.sees.vdp; registers = d.sees.registers; address = d.address }; reason_is = refl };
+      }) in
+      stop_turned s x a t t1 10 start (step_by s (Err Stack) family full) c (omega arith)
 
-  module _ (elsewhere : b.cpu.pc ≡ GSTOP → ⊥) where
-    went : (nat_lt 0xC0 offset ≡ false) × Exits a b t1 t2 (exit 8 WHERE placed)
-    went = goes_on a b t1 t2 (nat_lt 0xC0 offset) (pieces.full 10 told) (exit 8 WHERE placed) e refl elsewhere
+  module _ (elsewhere : a.cpu.pc ≡ GSTOP → ⊥) where
+    went : (nat_lt 0xC0 offset ≡ false) × Exits x a t t1 (exit 7 CALLN told)
+    went = second_way GSTOP x a t t1 (nat_lt 0xC0 offset) (pieces.full 10 told) (exit 7 CALLN told) went_by refl elsewhere
 
-    pub stands_where : Stands b WHERE
-    stands_where = went.1.stands
+    pub stands_finding : Stands a CALLN
+    stands_finding = went.1.stands
 
-    pub link_where : (view b).r.r11 ≡ CALLN
-    link_where = ap (λ (v : View). v.r.r11) went.1.shows
+    -- the next address, and the one that is called
+    abbrev at : ℕ
+    at = (read_in s).1
 
-    module _ {c : MachineState} {t3 : ℕ} (locates : Locates CALLS b c t2 t3) where
-      grom_is : (view b).grom ≡ grom_at s.image (read_in s).1
-      grom_is = ap (λ (v : View). v.grom) went.1.shows ∙ called.holds.sees.grom
+    abbrev target : ℕ
+    target = (read_in s).0
 
-      fits : (read_in s).1 < 65536
-      fits = next_fits (read_in s).1 (subst (λ (g : GromState). g.counter < 65536) grom_is (is_view b went.1.stands.machine).grom.counter)
+    at_fits : at < 65536
+    at_fits = next_fits at (subst (λ (w : View). w.grom.counter < 65536) went.1.shows (is_view a went.1.stands.machine).grom.counter)
 
-      located : Comes 18 b c t2 t3 CALLS (Located (view b) s.image (read_in s).1 CALLS)
-      located = locates s.image (read_in s).1 fits grom_is
+    target_fits : target < 65536
+    target_fits = subst (λ (w : View). w.r.r14 < 65536) went.1.shows ((is_view a went.1.stands.machine).r 14)
 
-      pub stands_storing : Stands c CALLS
-      stands_storing = located.stands
+    abbrev located : View
+    located = record told { r = record told.r { r4 = shifted SLA (next_in_grom at) 3; r9 = at }; grom = lost s.image at }
 
-      pub idle_storing : PortsAreIdle c.cpu.memory
-      idle_storing =
-          idle_told c.cpu.memory
-          (ap (λ (v : View). v.vdp.held) located.holds.is ∙ ap (λ (v : View). v.vdp.held) went.1.shows ∙ called.holds.sees.held)
-          (ap (λ (v : View). v.grom.half_written) located.holds.is)
+    finds : Goes (pieces.find_next told) 7 CALLS (λ w. w ≡ located)
+    finds =
+        let to : ℕ → Exit = λ n. exit (6 + one_if (at_first (next_in_grom at))) CALLS (record located { r = record located.r { r9 = n } }) in
+        known (ap to (back_is at at_fits)) (just (to at) 7 CALLS (one_at_most (at_first (next_in_grom at))) refl)
 
-      offset_kept : (view c).r.r7 ≡ offset
-      offset_kept = ap (λ (v : View). v.r.r7) located.holds.is ∙ ap (λ (v : View). v.r.r7) went.1.shows
+    module _ {b : MachineState} {t2 : ℕ} (find : Exits a b t1 t2 (pieces.find_next (view a))) where
+      found : Comes 14 x b t t2 CALLS (λ w. w ≡ located)
+      found =
+          let c : Comes 7 x a t t1 CALLN (λ w. w ≡ told) = comes went.1 (record { within = omega arith; to_is = refl; holds = refl }) in
+          comes_then 7 7 c find (from pieces.find_next c.holds finds) refl
 
-      bytes_kept : (view c).r.r3 ≡ 2
-      bytes_kept = ap (λ (v : View). v.r.r3) located.holds.is ∙ ap (λ (v : View). v.r.r3) went.1.shows ∙ called.holds.bytes_are
+      pub stands_storing : Stands b CALLS
+      stands_storing = found.stands
 
-      pub visible_storing : IsVisible 0 (view c).r.r7 (view c).r.r3
-      visible_storing =
-          let near = at_most 0xC0 offset went.0 in
-          let fits : IsVisible 0 offset 2 = λ z. omega arith in
-          subst (λ (n : ℕ). IsVisible 0 (view c).r.r7 n) (sym bytes_kept) (subst (λ (n : ℕ). IsVisible 0 n 2) (sym offset_kept) fits)
+      pub visible_storing : (view b).r.r7 ≤ 0xC0
+      visible_storing = subst (λ (w : View). w.r.r7 ≤ 0xC0) (sym found.holds) (at_most 0xC0 offset went.0)
 
-      stacking : Stacking (beyond s) (top_in s) (read_in s).0 (view c)
-      stacking =
-          let is = located.holds.is in
-          let shows = went.1.shows in
-          let h = called.holds in
-          record {
-            changed = record {
-              cells = ap (λ (v : View). v.cells) is ∙ ap (λ (v : View). v.cells) shows ∙ h.sees.cells;
-              vdp = ap (λ (v : View). v.vdp.memory) is ∙ ap (λ (v : View). v.vdp.memory) shows ∙ h.sees.vdp;
-              registers = ap (λ (v : View). v.vdp.registers) is ∙ ap (λ (v : View). v.vdp.registers) shows ∙ h.sees.registers;
-              held = ap (λ (v : View). v.vdp.held) is ∙ ap (λ (v : View). v.vdp.held) shows ∙ h.sees.held;
-              grom = ap (λ (v : View). v.grom) is;
-              mark = ap (λ (v : View). v.r.r13) is ∙ ap (λ (v : View). v.r.r13) shows ∙ h.mark;
-            };
-            bytes_are = bytes_kept;
-            top_is = offset_kept ∙ offset_top;
-            pointer = ap (λ (v : View). high v.r.r12) is ∙ ap (λ (v : View). high v.r.r12) shows ∙ pointer_top;
-            next_is = ap (λ (v : View). v.r.r9) is;
-            target_is = ap (λ (v : View). v.r.r14) is ∙ ap (λ (v : View). v.r.r14) shows ∙ h.target;
-          }
+      -- the pointer and the next address are stored, and GROM goes on at the one that is called
+      abbrev after : Changes
+      after = gone_to (beyond s) (top_in s) target
 
-      pub turned : (y : MachineState) (t4 : ℕ) → EndsCall c y t3 t4 → Turned s most_to_dispatch x y t t4 Stepped
-      turned y t4 ends_call =
-          let room : on_stack 2 (top_in s) ≡ Ok (top_in s) = with_room 0xC0 2 (top_in s) refl (ap (nat_lt 0xC0) (sym offset_top) ∙ went.0) in
-          let is = step_by s (Ok (top_in s)) family room in
-          let next = finished (gone_to (beyond s) (top_in s) (read_in s).0) in
-          let c2 : Comes 20 x b t t2 WHERE (λ v. v ≡ placed) =
-          comes_then 11 9 called went.1 (record { within = omega arith; to_is = refl; holds = refl }) refl in
-          let c3 = comes_on 20 18 c2 located refl in
-          let c4 = comes_on 38 56 c3 (ends_call (beyond s) (top_in s) (read_in s).0 stacking) refl in
-          let b = bound_call s next family is in
-          turned_by x y t t4 29 Stepped s (Ok next) is (refl, reaches 29 (bound s) c4 start refl (omega arith), matches next y c4.stands c4.holds)
+      abbrev stored : List ℕ → ℕ → ℕ → ℕ → List ℕ
+      stored cells pointer top second = slice_set (slice_set (slice_set cells 0x73 pointer) top (high at)) second (low at)
+
+      stores : Goes (pieces.store_next located) 12 SHOW (Changed after)
+      stores = record {
+        within = twelve_at_most (nat_lt 0x7D offset) (nat_lt offset 0x7C);
+        to_is = refl;
+        holds = record {
+          cells = ap (λ (l : List ℕ). stored l (low offset) offset (offset + 1)) d.sees.cells
+              ∙ ap (λ (n : ℕ). stored s.cells (low n) n (n + 1)) offset_top
+              ∙ ap (λ (n : ℕ). stored s.cells n (top_in s) (top_in s + 1)) (low_is (top_in s) small)
+              ∙ ap (λ (n : ℕ). stored s.cells (top_in s) (top_in s) n) (sym (behind_is (top_in s) small));
+          vdp = d.sees.vdp;
+          registers = d.sees.registers;
+          held = d.sees.held;
+          grom = set_is (lost s.image at) target refl target_fits;
+          mark = ap (λ (n : ℕ). marked_by (shows_at n) 0) offset_top ∙ ap (λ (b : Bool). marked_by b 0) (shows_is (top_in s) small);
+        };
+      }
+
+      module _ {c : MachineState} {t3 : ℕ} (store : Exits b c t2 t3 (pieces.store_next (view b))) where
+        ending : Comes 26 x c t t3 SHOW (Changed after)
+        ending = comes_then 14 12 found store (from pieces.store_next found.holds stores) refl
+
+        pub stands_ending : Stands c SHOW
+        stands_ending = ending.stands
+
+        pub idle_ending : PortsAreIdle c.cpu.memory
+        idle_ending = idle_told c.cpu.memory ending.holds.held (ap (λ (g : GromState). g.half_written) ending.holds.grom)
+
+        pub turned : (y : MachineState) (t4 : ℕ) → EndsRow c y t3 t4 → Turned s most_to_dispatch x y t t4 Stepped
+        turned y t4 ends =
+            let room : on_stack 2 (top_in s) ≡ Ok (top_in s) = with_room 0xC0 2 (top_in s) refl (ap (nat_lt 0xC0) (sym offset_top) ∙ went.0) in
+            let is = step_by s (Ok (top_in s)) family room in
+            let run = comes_on 26 29 ending (ends after ending.holds) refl in
+            let b = bound_call s (finished after) family is in
+            turned_by x y t t4 29 Stepped s (Ok (finished after)) is
+            (refl, reaches 29 (bound s) run start refl (omega arith), matches (finished after) y run.stands run.holds)

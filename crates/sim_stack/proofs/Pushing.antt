@@ -1,12 +1,12 @@
 -- PUSH, from its row to the end of the step.
 use Rattle.std.proofs.Common.{ℕ, ◌<◌, ◌∙◌, ◌≡◌, ap, arith, Err, false, List, nat_lt, Ok, Option, refl, Result, slice_index, slice_set, Some, subst, sym}
-use Rattle.sim_rows.proofs.Common.{◌>>=◌, Byte, bytes_by, cells_at, Changes, Comes, comes, comes_as, comes_on, destination_bytes, exit, Exits, gone_on}
-use Rattle.sim_rows.proofs.Common.{GplOperation, GplState, grown_by, GSTEP, GSTOP, high, idle_again, in_register, is_view, MachineState, most_of_stack_row}
-use Rattle.sim_rows.proofs.Common.{on_stack, One, operation_in, PortsAreIdle, PUSH, PUSHV, Reason, row_result, row_width, SeesFinished, size_of, Stack, Stands}
-use Rattle.sim_rows.proofs.Common.{Stepped, STO, Stopped, StoppedBy, StoresResult, Storing, sum_of, TurnsBy, TurnsRow, unchanged, value_at, View, view, Width}
-use Rattle.sim_rows.proofs.Common.{width_in, with_cell, Word}
+use Rattle.sim_rows.proofs.Common.{◌>>=◌, Byte, bytes_by, cells_at, Changes, Comes, comes, comes_as, comes_on, destination_bytes, exit, Exits, first_way}
+use Rattle.sim_rows.proofs.Common.{gone_on, GplOperation, GplState, grown_by, GSTEP, GSTOP, high, idle_again, in_register, is_view, MachineState}
+use Rattle.sim_rows.proofs.Common.{most_of_stack_row, on_stack, One, operation_in, PortsAreIdle, PUSH, PUSHV, reads_destination, Reason, row_result, row_width}
+use Rattle.sim_rows.proofs.Common.{second_way, SeesFinished, size_of, Stack, Stands, Stepped, STO, Stopped, StoppedBy, StoresResult, Storing, sum_of, TurnsBy}
+use Rattle.sim_rows.proofs.Common.{TurnsRow, unchanged, value_at, View, view, Width, width_in, with_cell, Word}
 use Rattle.sim_stack.specs.Pieces.{offset_of, pointer_at}
-use Rattle.sim_stack.proofs.Room.{byte_back, goes_full, goes_on, no_room, one_more, one_stored, with_room}
+use Rattle.sim_stack.proofs.Room.{byte_back, no_room, one_more, one_stored, with_room}
 use Rattle.sim_stack.specs.Pieces as pieces
 
 -- ---- the byte
@@ -55,7 +55,7 @@ module _ {x a : MachineState} {t u : ℕ} (stands : Stands x PUSHV) (e : Exits x
 
   pub stopped : a.cpu.pc ≡ GSTOP → TurnsRow (One PUSH) most_of_stack_row x a t u (Stopped Stack)
   stopped here s place source known at is =
-      let k = goes_full x a t u (nat_lt 0xC1 offset) (pieces.full 10 told) (exit 10 STO placed) e (λ q. absurd (omega arith)) here in
+      let k = first_way GSTOP x a t u (nat_lt 0xC1 offset) (pieces.full 10 told) (exit 10 STO placed) e (λ q. absurd (omega arith)) here in
       let h = at.holds in
       let full : on_stack 1 (top_in s) ≡ Err Stack = no_room 0xC1 1 (top_in s) refl (ap (nat_lt 0xC1) (sym (offset_top s h.sees.cells)) ∙ k.0) in
       let result : row_result (One PUSH) s place source ≡ Err Stack = ap (by_push s (value_at s (row_width s) place)) full in
@@ -68,7 +68,7 @@ module _ {x a : MachineState} {t u : ℕ} (stands : Stands x PUSHV) (e : Exits x
 
   module _ (elsewhere : a.cpu.pc ≡ GSTOP → ⊥) where
     went : (nat_lt 0xC1 offset ≡ false) × Exits x a t u (exit 10 STO placed)
-    went = goes_on x a t u (nat_lt 0xC1 offset) (pieces.full 10 told) (exit 10 STO placed) e refl elsewhere
+    went = second_way GSTOP x a t u (nat_lt 0xC1 offset) (pieces.full 10 told) (exit 10 STO placed) e refl elsewhere
 
     pub idle_pushed : PortsAreIdle x.cpu.memory → PortsAreIdle a.cpu.memory
     idle_pushed i = idle_again x.cpu.memory a.cpu.memory (ap (λ (v : View). v.vdp) went.1.shows) (ap (λ (v : View). v.grom) went.1.shows) i
@@ -84,7 +84,7 @@ module _ {x a : MachineState} {t u : ℕ} (stands : Stands x PUSHV) (e : Exits x
         let room : on_stack 1 top ≡ Ok top = with_room 0xC1 1 top refl (ap (nat_lt 0xC1) (sym (offset_top s h.sees.cells)) ∙ went.0) in
         let result : row_result (One PUSH) s place source ≡ Ok (with_cell top byte before) = ap (by_push s byte) room in
         let value : high (view x).r.r9 ≡ byte =
-        ap high at.destination
+        ap high (at.destination (ap reads_destination known))
         ∙ ap (λ (w : Width). high (in_register w (value_at s w place))) width
         ∙ byte_back (value_at s Byte place)
         ∙ ap (λ (w : Width). value_at s w place) (sym narrow) in

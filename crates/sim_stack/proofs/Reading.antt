@@ -1,14 +1,14 @@
 -- FETCH, from its row to the end of the step.
 use Rattle.std.proofs.Common.{ℕ, ◌<◌, ◌∙◌, ◌≡◌, ◌≤◌, ap, arith, Err, false, List, nat_lt, Ok, refl, Result, slice_index, subst, sym}
-use Rattle.sim_rows.proofs.Common.{◌>>=◌, at_most, Changes, Comes, comes, comes_as, comes_on, exit, Exits, FETCHB, FETCHN, FETCHP, FETCHS, FETCHV, gone_on}
-use Rattle.sim_rows.proofs.Common.{GplState, grom_at, GromState, GSTEP, GSTOP, idle_told, idle_video, is_view, IsVisible, join, low, MachineState}
-use Rattle.sim_rows.proofs.Common.{most_of_stack_row, next_in_grom, next_of, on_stack, One, Place, PortsAreIdle, Reason, row_result, SeesFinished, Stack}
-use Rattle.sim_rows.proofs.Common.{Stands, Stepped, Stopped, StoppedBy, TurnsBy, TurnsRow, unchanged, View, view, WHERE, with_byte_from, word_in}
+use Rattle.sim_rows.proofs.Common.{◌>>=◌, at_most, Changes, Comes, comes, comes_as, comes_on, exit, Exits, FETCHB, FETCHN, FETCHP, FETCHS, FETCHV, first_way}
+use Rattle.sim_rows.proofs.Common.{gone_on, GplState, grom_at, GromState, GSTEP, GSTOP, idle_told, idle_video, is_view, IsVisible, join, low, MachineState}
+use Rattle.sim_rows.proofs.Common.{most_of_stack_row, next_in_grom, next_of, on_stack, One, Place, PortsAreIdle, Reason, row_result, second_way, SeesFinished}
+use Rattle.sim_rows.proofs.Common.{Stack, Stands, Stepped, Stopped, StoppedBy, TurnsBy, TurnsRow, unchanged, View, view, WHERE, with_byte_from, word_in}
 use Rattle.sim_rows.specs.gpl_defs.declared.instruction.OneName.TheVariants.{FETCH}
 use Rattle.sim_rows.specs.gpl_step_defs.Place.{word_at}
 use Rattle.sim_stack.specs.Pieces.{offset_of}
 use Rattle.sim_stack.specs.Stacks.{EndsFetch, fetched_at, FetchesStacked, Fetching, LoadsStacked, Located, Locates, SetAside, SetsAside}
-use Rattle.sim_stack.proofs.Room.{goes_full, goes_on, no_room, offset_above, with_room}
+use Rattle.sim_stack.proofs.Room.{no_room, offset_above, with_room}
 use Rattle.sim_stack.proofs.Locating.{later_fits, next_fits}
 use Rattle.sim_stack.specs.Pieces as pieces
 
@@ -38,7 +38,7 @@ module _ {x a : MachineState} {t t1 : ℕ} (stands : Stands x FETCHV) (e : Exits
 
   pub stopped : a.cpu.pc ≡ GSTOP → TurnsRow (One FETCH) most_of_stack_row x a t t1 (Stopped Stack)
   stopped here s place source known at is =
-      let k = goes_full x a t t1 (nat_lt 0xC0 offset) (pieces.full 7 told) (exit 7 WHERE placed) e (λ q. absurd (omega arith)) here in
+      let k = first_way GSTOP x a t t1 (nat_lt 0xC0 offset) (pieces.full 7 told) (exit 7 WHERE placed) e (λ q. absurd (omega arith)) here in
       let h = at.holds in
       let full : on_stack 2 (top_in s) ≡ Err Stack = no_room 0xC0 2 (top_in s) refl (ap (nat_lt 0xC0) (sym (offset_top s h.sees.cells)) ∙ k.0) in
       let result : row_result (One FETCH) s place source ≡ Err Stack = ap (by_fetch s place) full in
@@ -51,7 +51,7 @@ module _ {x a : MachineState} {t t1 : ℕ} (stands : Stands x FETCHV) (e : Exits
 
   module _ (elsewhere : a.cpu.pc ≡ GSTOP → ⊥) where
     went : (nat_lt 0xC0 offset ≡ false) × Exits x a t t1 (exit 7 WHERE placed)
-    went = goes_on x a t t1 (nat_lt 0xC0 offset) (pieces.full 7 told) (exit 7 WHERE placed) e refl elsewhere
+    went = second_way GSTOP x a t t1 (nat_lt 0xC0 offset) (pieces.full 7 told) (exit 7 WHERE placed) e refl elsewhere
 
     pub stands_where : Stands a WHERE
     stands_where = went.1.stands
@@ -67,7 +67,7 @@ module _ {x a : MachineState} {t t1 : ℕ} (stands : Stands x FETCHV) (e : Exits
       fits : at < 65536
       fits = next_fits at (subst (λ (g : GromState). g.counter < 65536) grom (is_view x stands.machine).grom.counter)
 
-      set : Comes 18 a b t1 t2 FETCHP (SetAside (view a) image at FETCHP)
+      set : Comes 18 a b t1 t2 FETCHP (SetAside (view a) image at)
       set = sets image at fits (ap (λ (v : View). v.grom) went.1.shows ∙ grom)
 
       abbrev set_of : View → View
@@ -122,12 +122,12 @@ module _ {x a : MachineState} {t t1 : ℕ} (stands : Stands x FETCHV) (e : Exits
           pub link_locating : (view d).r.r11 ≡ FETCHB
           link_locating = ap (λ (v : View). v.r.r11) seen_d
 
-          module _ {f : MachineState} {t5 : ℕ} (locates : Locates FETCHS d f t4 t5) where
+          module _ {f : MachineState} {t5 : ℕ} (locates : Locates d f t4 t5) where
             -- the address behind the byte
             abbrev next : ℕ
             next = next_in_grom (view c).r.r6
 
-            located : Comes 18 d f t4 t5 FETCHS (Located (view d) image next FETCHS)
+            located : Comes 18 d f t4 t5 FETCHS (Located (view d) image next)
             located = locates image next (later_fits (view c).r.r6 ((is_view c loads.stands.machine).r 6)) (ap (λ (v : View). v.grom) fetched.holds)
 
             abbrev located_of : View → View
@@ -170,7 +170,7 @@ module _ {x a : MachineState} {t t1 : ℕ} (stands : Stands x FETCHV) (e : Exits
                   ap (λ (v : View). v.r.r12) seen_f
                   ∙ ap (λ (n : ℕ). join (slice_index image n) 0) (sym (ap (λ (v : View). v.r.r6) seen_c) ∙ word_is)
 
-              comes_storing : Comes 75 x f t t5 FETCHS (Located (view d) image next FETCHS)
+              comes_storing : Comes 75 x f t t5 FETCHS (Located (view d) image next)
               comes_storing =
                   let c1 : Comes 7 x a t t1 WHERE (λ v. v ≡ placed) = comes went.1 (record { within = omega arith; to_is = refl; holds = refl }) in
                   let c2 = comes_on 7 18 c1 set refl in
@@ -180,7 +180,7 @@ module _ {x a : MachineState} {t t1 : ℕ} (stands : Stands x FETCHV) (e : Exits
 
     -- the row ends with what FETCH changes
     pub reads : (b c d f y : MachineState) (t2 t3 t4 t5 t6 : ℕ) → SetsAside a b t1 t2 → LoadsStacked b c t2 t3 → FetchesStacked c d t3 t4 →
-        Locates FETCHS d f t4 t5 → EndsFetch f y t5 t6 → TurnsRow (One FETCH) most_of_stack_row x y t t6 Stepped
+        Locates d f t4 t5 → EndsFetch f y t5 t6 → TurnsRow (One FETCH) most_of_stack_row x y t t6 Stepped
     reads b c d f y t2 t3 t4 t5 t6 sets loads fetches locates ends s place source known at is =
         let h = at.holds in
         let image : List ℕ = s.image in

@@ -1,10 +1,10 @@
 -- Room on a stack: what the checks of the pieces say, and the stop by reason 3.
-use Rattle.std.proofs.Common.{ℕ, ◌+◌, ◌<◌, ◌∙◌, ◌≡◌, ◌≤◌, ap, arith, Bool, Err, false, if◌then◌else◌, nat_le, nat_lt, Ok, refl, Result, slice_index, sym}
+use Rattle.std.proofs.Common.{ℕ, ◌+◌, ◌<◌, ◌∙◌, ◌≡◌, ◌≤◌, ap, arith, Bool, Err, false, if◌then◌else◌, nat_le, nat_lt, Ok, refl, Result, slice_index}
 use Rattle.std.proofs.Common.{true}
 use Rattle.std.proofs.lemmas.Bool.{le-leb, lt-leb, ltb-false, ltb-true}
-use Rattle.sim_rows.proofs.Common.{bound, bound_stop, Comes, Exit, Exits, GplState, grown_by, GSTOP, high, is_end, join, Loaded, MachineState, most_to_dispatch}
-use Rattle.sim_rows.proofs.Common.{on_stack, place_in, plus, reaches, Reason, Sees, Stack, step, Stopped, StoppedBy, stops, sum_of, Turned, turned_by, value_at}
-use Rattle.sim_rows.proofs.Common.{View, Word}
+use Rattle.sim_rows.proofs.Common.{bound, bound_stop, Comes, difference_of, GplState, grown_by, GSTOP, high, is_end, join, Loaded, low, MachineState}
+use Rattle.sim_rows.proofs.Common.{most_to_dispatch, on_stack, place_in, plus, reaches, Reason, Sees, Stack, step, Stopped, StoppedBy, stops, sum_of, Turned}
+use Rattle.sim_rows.proofs.Common.{turned_by, value_at, View, Word}
 use Rattle.sim_rows.specs.gpl_step_defs.Place.{word_at}
 use Rattle.sim_stack.specs.Pieces.{offset_of}
 
@@ -22,19 +22,16 @@ one_more byte h = omega arith
 pub one_stored : (byte : ℕ) → byte < 256 → high (sum_of Word (join byte 0) 0x0100) ≡ grown_by 1 byte
 one_stored byte h = omega arith
 
-pub two_more : (byte : ℕ) → byte < 256 → offset_of (sum_of Word (join byte 0) 0x0200) ≡ grown_by 2 byte
-two_more byte h = omega arith
+pub two_more : (byte less : ℕ) → byte < 256 → less < 256 → offset_of (sum_of Word (join byte less) 0x0200) ≡ grown_by 2 byte
+two_more byte less h k = omega arith
 
-pub two_stored : (byte : ℕ) → byte < 256 → high (sum_of Word (join byte 0) 0x0200) ≡ grown_by 2 byte
-two_stored byte h = omega arith
-
-pub two_less : (byte : ℕ) → byte < 256 → high (sum_of Word (join byte 0) 0xFE00) ≡ grown_by 254 byte
+pub two_less : (byte : ℕ) → byte < 256 → low (difference_of Word byte 2) ≡ grown_by 254 byte
 two_less byte h = omega arith
 
 pub byte_back : (byte : ℕ) → high (join byte 0) ≡ byte
 byte_back byte = omega arith
 
-behind_is : (top : ℕ) → top < 256 → plus top 1 ≡ top + 1
+pub behind_is : (top : ℕ) → top < 256 → plus top 1 ≡ top + 1
 behind_is top h = omega arith
 
 -- the word that LOAD reads
@@ -70,18 +67,6 @@ stack_alone bytes top = by (nat_le (top + bytes) 0xC2)
     by : (b : Bool) → OnlyStack (stacked_by top b)
     by true = tt
     by false = refl
-
--- ---- the piece's check
-
-pub goes_full : (x a : MachineState) (t u : ℕ) (b : Bool) (stop go : Exit) → Exits x a t u (if b then stop else go) → (go.to ≡ GSTOP → ⊥) → a.cpu.pc ≡ GSTOP →
-    (b ≡ true) × Exits x a t u stop
-goes_full x a t u true stop go e other here = (refl, e)
-goes_full x a t u false stop go e other here = absurd (other (sym e.stands.pc ∙ here))
-
-pub goes_on : (x a : MachineState) (t u : ℕ) (b : Bool) (stop go : Exit) → Exits x a t u (if b then stop else go) → stop.to ≡ GSTOP → (a.cpu.pc ≡ GSTOP → ⊥) →
-    (b ≡ false) × Exits x a t u go
-goes_on x a t u true stop go e is elsewhere = absurd (elsewhere (e.stands.pc ∙ is))
-goes_on x a t u false stop go e is elsewhere = (refl, e)
 
 -- ---- the stop
 

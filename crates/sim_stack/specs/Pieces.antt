@@ -1,10 +1,12 @@
 -- What the pieces of CALL, RTN, PUSH and FETCH come to: how many instructions they have, where they end, and what they
 -- change of the view, in the words of the processor. Registers, cells and ports that are not named stay.
-use Rattle.std.specs.Prelude.{ℕ, ◌==◌, if◌then◌else◌, nat_lt, slice_index, slice_set}
-use Rattle.sim_rows.specs.Prelude.{CALLN, CALLS, CALLT, Exit, exit, FETCH, FETCHA, FETCHB, FETCHD, FETCHK, FETCHN}
-use Rattle.sim_rows.specs.Prelude.{FETCHP, FETCHR, FETCHS, GOTO, GSTOP, high, join, LOAD, low, RESUME, RETURN_STACK}
-use Rattle.sim_rows.specs.Prelude.{past, RTNP, SEEK, shifted, SRL, STO, STORE, sum_of, TAKE, VALUE_STACK, View}
-use Rattle.sim_rows.specs.Prelude.{WHERE, Word}
+use Rattle.std.specs.Prelude.{ℕ, ◌&&◌, ◌+◌, ◌==◌, Bool, if◌then◌else◌, nat_lt, not, slice_index, slice_set}
+use Rattle.sim_rows.specs.Prelude.{CALLN, CALLS, difference_of, Exit, exit, FETCH, FETCHA, FETCHB, FETCHD, FETCHK, FETCHN}
+use Rattle.sim_rows.specs.Prelude.{FETCHP, FETCHR, FETCHS, GOTO, GSTOP, high, join, LOAD, low, marked_by, RESUME}
+use Rattle.sim_rows.specs.Prelude.{past, RETURN_STACK, SEEK, set_to, shifted, SHOW, SLA, SRL, STO, STORE, sum_of, TAKE}
+use Rattle.sim_rows.specs.Prelude.{VALUE_STACK, View, WHERE, Word, word_in}
+use Rattle.sim_rows.specs.Pieces.{address_before, at_first, read_once}
+use Rattle.sim_rows.specs.sim_operands.Pieces.{one_if}
 
 -- A pointer of a stack in the high half of a register, with nothing below it, and the offset that it says.
 abbrev pub pointer_at : ℕ → View → ℕ
@@ -17,53 +19,54 @@ offset_of pointer = shifted SRL pointer 8
 abbrev pub full : ℕ → View → Exit
 full count v = exit count GSTOP (record v { r = record v.r { r0 = 3 } })
 
--- GORTN: LOAD is asked for the word on the stack, if it may be read.
-abbrev pub ask_return : View → Exit
-ask_return v =
-    let pointer = pointer_at RETURN_STACK v in
-    let told = record v { r = record v.r { r2 = offset_of pointer; r12 = pointer } } in
-    if nat_lt 0xC0 (offset_of pointer)
-    then full 9 told
-    else exit 9 LOAD (record told { r = record told.r { r3 = 2; r5 = 0; r11 = RTNP } })
-
--- RTNP: the word is taken off the stack; RTN, whose code byte is 0, goes on at TAKE.
+-- GORTN: the word is taken off the stack, if it may be read; RTN, whose code byte is 0, goes on at TAKE.
 abbrev pub take_return : View → Exit
 take_return v =
-    let pointer = sum_of Word v.r.r12 0xFE00 in
-    let taken = record v { r = record v.r { r12 = pointer }; cells = slice_set v.cells RETURN_STACK (high pointer) } in
-    if v.r.r0 == 0 then exit 4 TAKE taken else exit 5 GOTO taken
+    let offset = offset_of (join (slice_index v.cells RETURN_STACK) (low v.r.r2)) in
+    if nat_lt 0xC0 offset
+    then full 7 (record v { r = record v.r { r2 = offset } })
+    else (
+    let less = difference_of Word offset 2 in
+    let taken = record v {
+      r = record v.r { r2 = less; r6 = word_in v.cells offset };
+      cells = slice_set v.cells RETURN_STACK (low less);
+    } in
+    if v.r.r0 == 0 then exit 10 TAKE taken else exit 11 GOTO taken
+    )
 
--- GOCALL: nothing was stored yet, and the word that follows is the target.
+-- GOCALL: the word that follows is the target, if there is room for the next address on the stack.
 abbrev pub read_target : View → Exit
 read_target v =
     let second = past v.grom in
-    exit 4 CALLT (record v {
-      r = record v.r { r3 = 2; r13 = 0; r14 = join v.grom.fetched second.fetched };
+    let offset = offset_of (sum_of Word (join (slice_index v.cells RETURN_STACK) (low v.r.r7)) 0x0200) in
+    let told = record v {
+      r = record v.r { r7 = offset; r14 = join v.grom.fetched second.fetched };
       grom = past second;
+    } in
+    if nat_lt 0xC0 offset then full 10 told else exit 7 CALLN told
+
+-- CALLN: the next address is the value to store.
+abbrev pub find_next : View → Exit
+find_next v =
+    let counter = v.grom.counter in
+    exit (6 + one_if (at_first counter)) CALLS (record v {
+      r = record v.r { r4 = shifted SLA counter 3; r9 = address_before counter };
+      grom = read_once (read_once v.grom);
     })
 
--- CALLT: WHERE is asked for the next address, if there is room for it on the stack.
-abbrev pub keep_target : View → Exit
-keep_target v =
-    let pointer = sum_of Word (pointer_at RETURN_STACK v) 0x0200 in
-    let told = record v { r = record v.r { r7 = offset_of pointer; r12 = pointer } } in
-    if nat_lt 0xC0 (offset_of pointer)
-    then full 10 told
-    else exit 8 WHERE (record told { r = record told.r { r11 = CALLN } })
+-- CALLS: the pointer is stored, then the address, which may lie over the character's cell; and GROM goes on at the
+-- target.
+abbrev pub shows_at : ℕ → Bool
+shows_at offset = not (nat_lt 0x7D offset) && not (nat_lt offset 0x7C)
 
--- CALLN and FETCHB: the next address is the value to store, and GROM is set to it again.
-abbrev pub keep_next : ℕ → View → Exit
-keep_next to v = exit 2 SEEK (record v { r = record v.r { r9 = v.r.r6; r11 = to } })
-
-abbrev pub keep_call_next : View → Exit
-keep_call_next v = keep_next CALLS v
-
--- CALLS: the pointer is stored, and STORE is asked for the next address.
 abbrev pub store_next : View → Exit
 store_next v =
-    exit 4 STORE (record v {
-      r = record v.r { r8 = 0; r11 = RESUME };
-      cells = slice_set v.cells RETURN_STACK (high v.r.r12);
+    let count = if nat_lt 0x7D v.r.r7 then 9 else if nat_lt v.r.r7 0x7C then 11 else 12 in
+    let pointed = slice_set v.cells RETURN_STACK (low v.r.r7) in
+    exit count SHOW (record v {
+      r = record v.r { r13 = marked_by (shows_at v.r.r7) 0 };
+      cells = slice_set (slice_set pointed v.r.r7 (high v.r.r9)) (v.r.r7 + 1) (low v.r.r9);
+      grom = set_to v.r.r14 v.grom;
     })
 
 -- PUSHV: the pointer is stored, and the byte is to go to the stack, if there is room for it.
@@ -106,8 +109,9 @@ ask_byte v = exit 1 FETCH (record v { r = record v.r { r11 = FETCHK } })
 abbrev pub keep_byte : View → Exit
 keep_byte v = exit 2 WHERE (record v { r = record v.r { r11 = FETCHB; r12 = v.r.r6 } })
 
+-- FETCHB: that address is the value to store, and GROM is set to it.
 abbrev pub keep_stacked_next : View → Exit
-keep_stacked_next v = keep_next FETCHS v
+keep_stacked_next v = exit 2 SEEK (record v { r = record v.r { r9 = v.r.r6; r11 = FETCHS } })
 
 -- FETCHS: STORE is asked for that address, which goes to the stack.
 abbrev pub store_stacked : View → Exit

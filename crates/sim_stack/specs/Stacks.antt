@@ -1,21 +1,13 @@
 -- Parts of CALL, RTN, PUSH and FETCH, for all states that may be there.
 use Rattle.std.specs.Prelude.{ℕ, ◌<◌, ◌==◌, ◌≡◌, false, if◌then◌else◌, List, slice_index}
-use Rattle.sim_rows.specs.Prelude.{behind_code, Changed, Changes, Comes, FETCHA, FETCHB, FETCHP}
-use Rattle.sim_rows.specs.Prelude.{GplState, grom_at, grown_by, GSTEP, high, join, Loaded, MachineState, next_in_grom}
-use Rattle.sim_rows.specs.Prelude.{number_of_space, Place, RETURN_STACK, Sees, SeesFinished, unchanged, View, view}
-use Rattle.sim_rows.specs.Prelude.{WHERE, with_byte, with_cell, with_condition, with_pc, with_word}
-use Rattle.sim_rows.specs.Prelude.{word_at as word_in_grom, word_in}
+use Rattle.sim_rows.specs.Prelude.{Changed, Changes, Comes, FETCHA, FETCHB, FETCHP, FETCHS, GplState, grom_at}
+use Rattle.sim_rows.specs.Prelude.{grown_by, GSTEP, join, Loaded, MachineState, next_in_grom, number_of_space, Place}
+use Rattle.sim_rows.specs.Prelude.{RETURN_STACK, SeesFinished, unchanged, View, view, WHERE, with_byte, with_cell}
+use Rattle.sim_rows.specs.Prelude.{with_condition, with_pc, with_word, word_in}
 use Rattle.sim_rows.specs.gpl_step_defs.Place.{word_at}
 use Rattle.sim_stack.specs.Pieces.{ask_stacked}
 
 -- RTN and RTNC
-
--- At RTNP the word on the stack is in register 6, and the pointer in the high half of register 12.
-pub record Returning (s : GplState) (code top next : ℕ) (w : View) : Type 0 where
-  pub sees : Sees s next w
-  pub code_is : w.r.r0 ≡ code
-  pub pointer : w.r.r12 ≡ join top 0
-  pub word : w.r.r6 ≡ word_at s top
 
 -- What they change, where the word at the top may be read: RTN, whose code byte is 0, clears the condition too.
 abbrev pub gone_back : GplState → ℕ → Changes
@@ -24,68 +16,40 @@ gone_back s top = with_pc (word_at s top) (with_cell RETURN_STACK (grown_by 254 
 abbrev pub returned_by : ℕ → GplState → ℕ → Changes
 returned_by code s top = if code == 0 then with_condition false (gone_back s top) else gone_back s top
 
-abbrev pub EndsReturn : MachineState → MachineState → ℕ → ℕ → Type 0
-EndsReturn x y before after =
-    (s : GplState) → (code top next : ℕ) → top < 256 → Returning s code top next (view x)
-    → Comes 14 x y before after GSTEP (SeesFinished (returned_by code s top))
-
 -- The next address
 
 -- Register 9 has the address of the byte that GROM gives next; registers 4 and 6 may have changed.
-pub record Located (v : View) (image : List ℕ) (at to : ℕ) (w : View) : Type 0 where
+pub record Located (v : View) (image : List ℕ) (at : ℕ) (w : View) : Type 0 where
   pub r4 : ℕ
   pub r6 : ℕ
   pub is : w ≡ record v {
-    r = record v.r { r4 = r4; r6 = r6; r9 = at; r11 = to };
+    r = record v.r { r4 = r4; r6 = r6; r9 = at; r11 = FETCHS };
     grom = grom_at image at;
   }
 
 -- The same of register 14.
-pub record SetAside (v : View) (image : List ℕ) (at to : ℕ) (w : View) : Type 0 where
+pub record SetAside (v : View) (image : List ℕ) (at : ℕ) (w : View) : Type 0 where
   pub r4 : ℕ
   pub r6 : ℕ
   pub is : w ≡ record v {
-    r = record v.r { r4 = r4; r6 = r6; r11 = to; r14 = at };
+    r = record v.r { r4 = r4; r6 = r6; r11 = FETCHP; r14 = at };
     grom = grom_at image at;
   }
 
-abbrev pub Locates : ℕ → MachineState → MachineState → ℕ → ℕ → Type 0
-Locates to x y before after =
+abbrev pub Locates : MachineState → MachineState → ℕ → ℕ → Type 0
+Locates x y before after =
     (image : List ℕ) → (at : ℕ) → at < 65536 → (view x).grom ≡ grom_at image at
-    → Comes 18 x y before after to (Located (view x) image at to)
+    → Comes 18 x y before after FETCHS (Located (view x) image at)
 
 abbrev pub SetsAside : MachineState → MachineState → ℕ → ℕ → Type 0
 SetsAside x y before after =
     (image : List ℕ) → (at : ℕ) → at < 65536 → (view x).grom ≡ grom_at image at
-    → Comes 18 x y before after FETCHP (SetAside (view x) image at FETCHP)
+    → Comes 18 x y before after FETCHP (SetAside (view x) image at)
 
 -- CALL
 
--- At CALLT the address that follows is in register 14.
-pub record Called (s : GplState) (w : View) : Type 0 where
-  pub sees : Sees s (word_in_grom s.image (behind_code s)).1 w
-  pub address : w.r.r1 ≡ s.pc
-  pub bytes_are : w.r.r3 ≡ 2
-  pub target : w.r.r14 ≡ (word_in_grom s.image (behind_code s)).0
-  pub mark : w.r.r13 ≡ 0
-
--- At CALLS: the top of the stack in register 7 and in the high half of register 12, the next address in register 9, and
--- the one that is called in register 14.
-pub record Stacking (s : GplState) (top target : ℕ) (w : View) : Type 0 where
-  pub changed : Changed (unchanged s) w
-  pub bytes_are : w.r.r3 ≡ 2
-  pub top_is : w.r.r7 ≡ top
-  pub pointer : high w.r.r12 ≡ top
-  pub next_is : w.r.r9 ≡ s.pc
-  pub target_is : w.r.r14 ≡ target
-
 abbrev pub gone_to : GplState → ℕ → ℕ → Changes
 gone_to s top target = with_pc target (with_word top s.pc (with_cell RETURN_STACK top (unchanged s)))
-
-abbrev pub EndsCall : MachineState → MachineState → ℕ → ℕ → Type 0
-EndsCall x y before after =
-    (s : GplState) → (top target : ℕ) → Stacking s top target (view x)
-    → Comes 56 x y before after GSTEP (SeesFinished (gone_to s top target))
 
 -- FETCH
 

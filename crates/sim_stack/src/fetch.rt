@@ -57,7 +57,7 @@ fn fetch_stacked<L: Ledger>(machine: &mut Machine, steps: &mut Steps<L>)
 fn locate_stacked<L: Ledger>(machine: &mut Machine, steps: &mut Steps<L>)
     requires stands { Stands machine.old address.WHERE }
     requires link { (view machine.old).r.r11 ≡ address.FETCHB }
-    ensures { Locates address.FETCHS machine.old machine.new steps.old steps.new }
+    ensures { Locates machine.old machine.new steps.old steps.new }
 {
     where_next(machine, steps);
     keep_stacked_next(machine, steps);

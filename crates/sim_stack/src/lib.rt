@@ -11,7 +11,6 @@ mod returns;
 
 pub use family::run_stack;
 pub use pieces::{
-    ask_byte, ask_return, ask_stacked, keep_back, keep_byte, keep_call_next, keep_place,
-    keep_stacked_next, keep_target, push_pointer, read_target, seek_stacked, store_byte,
-    store_next, store_stacked, take_return,
+    ask_byte, ask_stacked, find_next, keep_back, keep_byte, keep_place, keep_stacked_next,
+    push_pointer, read_target, seek_stacked, store_byte, store_next, store_stacked, take_return,
 };

@@ -1,44 +1,38 @@
 //! The pieces of CALL, RTN, RTNC, PUSH and FETCH.
 
+ghost use Rattle.std.specs.Prelude.{◌≤◌};
 ghost use Rattle.sim_rows.specs.Prelude.{Exits, Stands, view};
 ghost use Rattle.sim_rows.specs.native_interp.declared.addresses.TheConstants as address;
 ghost use Rattle.sim_stack.specs.Pieces as piece;
 
-use sim_rows::labels::{CALLT, FETCH, GOTO, LOAD, SEEK, STO, STORE, TAKE, WHERE};
+use sim_rows::labels::{CALLN, CALLS, FETCH, GOTO, LOAD, SEEK, SHOW, STO, STORE, TAKE, WHERE};
 use sim_rows::processor::{Machine, Steps};
 use sim_rows::run_piece;
 use std::sync::ledger::Ledger;
 
-/// The piece of CALL that reads the address that follows.
+/// The piece of CALL that reads the address that follows and grows the stack's pointer, or stops by reason 3.
 pub fn read_target<L: Ledger>(machine: &mut Machine, steps: &mut Steps<L>)
     requires { Stands machine.old address.GOCALL }
     ensures { Exits machine.old machine.new steps.old steps.new (piece.read_target (view machine.old)) }
 {
-    run_piece(machine, steps, &[CALLT]);
+    run_piece(machine, steps, &[CALLN]);
 }
 
-/// The piece of CALL that takes the stack's pointer and asks WHERE for the next address, or stops by reason 3.
-pub fn keep_target<L: Ledger>(machine: &mut Machine, steps: &mut Steps<L>)
-    requires { Stands machine.old address.CALLT }
-    ensures { Exits machine.old machine.new steps.old steps.new (piece.keep_target (view machine.old)) }
-{
-    run_piece(machine, steps, &[WHERE]);
-}
-
-/// The piece of CALL that keeps the next address and asks SEEK for it.
-pub fn keep_call_next<L: Ledger>(machine: &mut Machine, steps: &mut Steps<L>)
+/// The piece of CALL that tells the next address.
+pub fn find_next<L: Ledger>(machine: &mut Machine, steps: &mut Steps<L>)
     requires { Stands machine.old address.CALLN }
-    ensures { Exits machine.old machine.new steps.old steps.new (piece.keep_call_next (view machine.old)) }
+    ensures { Exits machine.old machine.new steps.old steps.new (piece.find_next (view machine.old)) }
 {
-    run_piece(machine, steps, &[SEEK]);
+    run_piece(machine, steps, &[CALLS]);
 }
 
-/// The piece of CALL that stores the pointer and asks STORE for the next address.
+/// The piece of CALL that stores the pointer and the next address, and goes on at the one that is called.
 pub fn store_next<L: Ledger>(machine: &mut Machine, steps: &mut Steps<L>)
-    requires { Stands machine.old address.CALLS }
+    requires stands { Stands machine.old address.CALLS }
+    requires visible { (view machine.old).r.r7 ≤ 0xC0 }
     ensures { Exits machine.old machine.new steps.old steps.new (piece.store_next (view machine.old)) }
 {
-    run_piece(machine, steps, &[STORE]);
+    run_piece(machine, steps, &[SHOW]);
 }
 
 /// The piece of FETCH that keeps the operand's place and asks WHERE for the next address, or stops by reason 3.
@@ -121,17 +115,9 @@ pub fn push_pointer<L: Ledger>(machine: &mut Machine, steps: &mut Steps<L>)
     run_piece(machine, steps, &[STO]);
 }
 
-/// The piece of RTN that asks LOAD for the word on the stack, or stops by reason 3.
-pub fn ask_return<L: Ledger>(machine: &mut Machine, steps: &mut Steps<L>)
-    requires { Stands machine.old address.GORTN }
-    ensures { Exits machine.old machine.new steps.old steps.new (piece.ask_return (view machine.old)) }
-{
-    run_piece(machine, steps, &[LOAD]);
-}
-
-/// The piece of RTN that takes the word off the stack. RTN goes on at TAKE, and RTNC at GOTO.
+/// The piece of RTN that takes the word off the stack, or stops by reason 3. RTN goes on at TAKE, and RTNC at GOTO.
 pub fn take_return<L: Ledger>(machine: &mut Machine, steps: &mut Steps<L>)
-    requires { Stands machine.old address.RTNP }
+    requires { Stands machine.old address.GORTN }
     ensures { Exits machine.old machine.new steps.old steps.new (piece.take_return (view machine.old)) }
 {
     run_piece(machine, steps, &[TAKE, GOTO]);

@@ -81,7 +81,7 @@ pub use Rattle.gpl_step_defs.specs.declared.status_bits.TheConstants.{OVERFLOW_B
 pub use Rattle.native_interp.specs.Entries.{operation_entry, row_entry}
 pub use Rattle.native_interp.specs.Words.{origin}
 pub use Rattle.native_interp.specs.declared.addresses.TheConstants.{ABSV, ADDR, ADDV, ANDV, APTR, ASPACE, BRANCH}
-pub use Rattle.native_interp.specs.declared.addresses.TheConstants.{BTEST, CALLN, CALLS, CALLT, CASEN, CASET, CASEV}
+pub use Rattle.native_interp.specs.declared.addresses.TheConstants.{BTEST, CALLN, CALLS, CASEN, CASET, CASEV}
 pub use Rattle.native_interp.specs.declared.addresses.TheConstants.{CEQV, CFALSE, CGEV, CGTV, CHEV, CHV, CLOGV, CLRV}
 pub use Rattle.native_interp.specs.declared.addresses.TheConstants.{COPY, COPYN, COPYS, COUNT, CTRUE, CZV, DECTV}
 pub use Rattle.native_interp.specs.declared.addresses.TheConstants.{DIVBY, DIVE, DIVL, DIVQ, DIVS, DIVV, DIVW, EXB}
@@ -92,10 +92,10 @@ pub use Rattle.native_interp.specs.declared.addresses.TheConstants.{GOCARY, GOEX
 pub use Rattle.native_interp.specs.declared.addresses.TheConstants.{GORTN, GOTO, GSTEP, GSTOP, INCTV, INDEX, INVV}
 pub use Rattle.native_interp.specs.declared.addresses.TheConstants.{LDATA, LOAD, MOVEA, MOVEB, MOVED, MOVEK, MOVEL}
 pub use Rattle.native_interp.specs.declared.addresses.TheConstants.{MOVEN, MOVER, MOVES, MOVEW, MOVEX, MULB, MULV}
-pub use Rattle.native_interp.specs.declared.addresses.TheConstants.{NEGV, OPS, OPTAB, OPVAL, ORV, OVER, PUSHV, RANDL}
-pub use Rattle.native_interp.specs.declared.addresses.TheConstants.{RESUME, ROW, RTNP, SDATA, SEEK, SHOW, SLLB, SLLV}
+pub use Rattle.native_interp.specs.declared.addresses.TheConstants.{NEGV, OPTAB, OPVAL, ORV, OVER, PUSHV, RANDL}
+pub use Rattle.native_interp.specs.declared.addresses.TheConstants.{RESUME, ROW, SDATA, SEEK, SHOW, SLLB, SLLV}
 pub use Rattle.native_interp.specs.declared.addresses.TheConstants.{SRAB, SRAV, SRCB, SRCV, SREG, SRLB, SRLV, STATB}
-pub use Rattle.native_interp.specs.declared.addresses.TheConstants.{STO, STORE, STREAM, STV, SUBV, TABLE, TAKE, UNIT}
+pub use Rattle.native_interp.specs.declared.addresses.TheConstants.{STO, STORE, STREAM, STV, SUBV, TABLE, TAKE}
 pub use Rattle.native_interp.specs.declared.addresses.TheConstants.{UNKN, WHERE, WIDE, WORKSPACE, XORV}
 pub use Rattle.native_interp.specs.declared.words.TheConstants.{INTERP}
 pub use Rattle.interp_defs.specs.Boot.{HoldsEntry, IsBoot}

@@ -1,7 +1,7 @@
 //! The lines of sums, logic, exchange, shifts, products, quotients and comparisons.
 
 /// The next lines of the interpreter's source: the operations on one and two operands, and the tests of the status.
-pub const OPERATION_LINES: [&str; 182] = [
+pub const OPERATION_LINES: [&str; 190] = [
     "* INCT, ADD, INC, DECT, SUB, DEC, ABS, NEG: R12 keeps the status",
     "* while the result is stored. INCT, DECT double the 1 in R6. At",
     "* most 7, then STORE. Changes R4, R6, R9, R11 to R13. STATB: the",
@@ -75,12 +75,20 @@ pub const OPERATION_LINES: [&str; 182] = [
     "SRCW   SRC R9,0",
     "       JMP STO",
     "* WIDE: ROW for MUL and DIV. The destination has twice the",
-    "* width, and R9 is its first word. 5, then OPS. Changes R3.",
+    "* width, and R9 is its first word. At most 129. Changes R2 to",
+    "* R9, R11, R13.",
     "WIDE   MOV R0,R3",
     "       SLA R3,15",
     "       SRL R3,14",
     "       INCT R3",
-    "       B @OPS",
+    "       CLR R13",
+    "       BL @ADDR",
+    "WIDDST MOV R2,R7",
+    "       MOV R5,R8",
+    "       BL @LOAD",
+    "WIDVAL MOV R6,R9",
+    "       SRL R3,1",
+    "       B @OPSTWO",
     "* MUL: the product of bytes is one word in R9. At most 7. Goes",
     "* to STO. The product of words is R9 and R10. 4, then STORE.",
     "* MULB: the low word goes behind. 3. Changes R3, R4, R7, R9 to",

@@ -1,90 +1,142 @@
-use Rattle.std.proofs.Common.{◌≡◌, arith}
-use Rattle.sim_rows.specs.Prelude.{ADDR, behind_code, behind_first, Comes, destination_bytes, GplState, GSTOP, LOAD, operation_in, state_at_dispatch, view}
-use Rattle.sim_rows.specs.Prelude.{word_of}
-use Rattle.sim_view.specs.native_interp.declared.addresses.TheConstants.{OPSDST, OPSVAL}
+use Rattle.std.proofs.Common.{◌<◌, ◌≡◌, arith}
+use Rattle.sim_view.proofs.Common.{on}
+use Rattle.sim_rows.specs.Prelude.{behind_code, GSTOP, operation_in, ROW, state_at_dispatch, view, WIDE, word_of}
+use Rattle.sim_view.specs.native_interp.declared.addresses.TheConstants.{OPSDST, OPSVAL, STROW, WIDDST, WIDVAL}
+use Rattle.std.proofs.Common.{refl}
 use Rattle.sim_rows.proofs.Ends.{fetched_of, idle_of}
-use Rattle.sim_rows.proofs.Fronting.{Asking}
-use Rattle.sim_rows.proofs.Operands as operands
+use Rattle.sim_rows.proofs.Entries.{Kind}
+use Rattle.sim_rows.proofs.Fronting.{narrow_here}
 use Rattle.sim_rows.proofs.Loading
 use Rattle.sim_rows.proofs.row.load_destination.Given.{Over}
-use Rattle.sim_rows.proofs.row.load_destination.Goals.{After-ask_first, After-load_first}
+use Rattle.sim_rows.proofs.row.load_destination.Goals.{After-load_first, After-load_wide, After-run_address}
 use Rattle.sim_rows.proofs.row.load_destination.Goals as goal
 
--- What is known behind the piece that asks for the destination.
-module _ (g : Over) (c : After-ask_first g) where
-  abbrev s : GplState
-  s = state_at_dispatch (view c.args.machine.now)
+-- What is known behind ADDR: how many bytes were asked for.
+module _ (g : Over) (c : After-run_address g) where
+  some : 0 < (view c.ask_destination.new.machine).r.r3
+  some =
+      let s = state_at_dispatch (view c.args.machine.now) in
+      let n = (Loading.some_bytes (operation_in s) (word_of s)).0 in
+      let b = c.ask_destination.ensures.holds.holds.bytes_are in
+      omega arith
 
-  asked : Comes 2 c.args.machine.now c.ask_first.new.machine c.args.steps.now c.ask_first.new.steps ADDR
-      (Asking s (destination_bytes s) (behind_code s) OPSDST)
-  asked = Loading.asking s c.args.machine.now c.args.steps.now c.requires.operands c.ask_first.new.machine c.ask_first.new.steps c.ask_first.ensures
+-- What is known behind a piece that asks for the value: the destination was found.
+module _ (g : Over) (c : After-load_wide g) where
+  wide_there : c.run_address.new.machine.cpu.pc ≡ GSTOP → ⊥
+  wide_there here = let a = c.pc.ensures.value in let b = c.if-pc-eq-GSTOP.false in absurd (omega arith)
 
--- What is known behind the piece that asks for its value: it was found.
+  is_wide : c.args.machine.now.cpu.pc ≡ WIDE
+  is_wide = let a = c.pc-entry.ensures.value in let b = c.if-entry-eq-WIDE.true in omega arith
+
 module _ (g : Over) (c : After-load_first g) where
-  abbrev from : GplState
-  from = state_at_dispatch (view c.args.machine.now)
+  first_there : c.run_address.new.machine.cpu.pc ≡ GSTOP → ⊥
+  first_there here = let a = c.pc.ensures.value in let b = c.if-pc-eq-GSTOP.false in absurd (omega arith)
 
-  found : Loading.Destination from c.args.machine.now c.args.steps.now c.requires.operands c.run_address.new.machine c.run_address.new.steps
-  found =
-      Loading.found from c.args.machine.now c.args.steps.now c.requires.operands c.ask_first.new.machine c.run_address.new.machine c.ask_first.new.steps
-      c.run_address.new.steps
-      (Loading.asking from c.args.machine.now c.args.steps.now c.requires.operands c.ask_first.new.machine c.ask_first.new.steps c.ask_first.ensures)
-      (λ here. let a = c.pc.ensures.value in let b = c.if-pc-eq-GSTOP.false in absurd (omega arith)) c.run_address.ensures
-
-  loading : Comes 50 c.args.machine.now c.load_first.new.machine c.args.steps.now c.load_first.new.steps LOAD
-      (operands.Loading from (destination_bytes from) found.place found.place (behind_first from) OPSVAL)
-  loading =
-      Loading.loading from c.args.machine.now c.args.steps.now c.requires.operands c.run_address.new.machine c.load_first.new.machine c.run_address.new.steps
-      c.load_first.new.steps found c.load_first.ensures
+  is_first : Kind (operation_in (state_at_dispatch (view c.args.machine.now))) ROW OPSDST 1
+  is_first =
+      narrow_here c.requires (λ here. let a = c.pc-entry.ensures.value in let b = c.if-entry-eq-WIDE.false in absurd (omega arith))
+      (λ here. let a = c.pc-entry.ensures.value in let b = c.if-entry-eq-STROW.false in absurd (omega arith))
 
 pub run_address-requires-clause-idle : goal.run_address-requires-clause-idle
 run_address-requires-clause-idle g c =
-    let at = (goal.at.run_address-requires-clause-idle g c).After-ask_first in
-    idle_of c.ask_first.new.machine.cpu.memory (s g at) (behind_code (s g at)) (asked g at).holds.holds.sees
+    let s = state_at_dispatch (view c.args.machine.now) in
+    idle_of c.ask_destination.new.machine.cpu.memory s (behind_code s) c.ask_destination.ensures.holds.holds.sees
 
 pub run_address-requires-clause-fetched : goal.run_address-requires-clause-fetched
 run_address-requires-clause-fetched g c =
-    let at = (goal.at.run_address-requires-clause-fetched g c).After-ask_first in
-    fetched_of c.ask_first.new.machine.cpu.memory (s g at) (behind_code (s g at)) (asked g at).holds.holds.sees
+    let s = state_at_dispatch (view c.args.machine.now) in
+    fetched_of c.ask_destination.new.machine.cpu.memory s (behind_code s) c.ask_destination.ensures.holds.holds.sees
 
 pub run_address-requires-clause-bytes : goal.run_address-requires-clause-bytes
 run_address-requires-clause-bytes g c =
-    let at = (goal.at.run_address-requires-clause-bytes g c).After-ask_first in
-    let is = (asked g at).holds.holds.bytes_are in
-    let few = (Loading.some_bytes (operation_in (s g at)) (word_of (s g at))).1 in
+    let s = state_at_dispatch (view c.args.machine.now) in
+    let n = (Loading.some_bytes (operation_in s) (word_of s)).1 in
+    let b = c.ask_destination.ensures.holds.holds.bytes_are in
     omega arith
 
 pub returns-then-pc-eq-GSTOP : goal.returns-then-pc-eq-GSTOP
-returns-then-pc-eq-GSTOP g c =
-    let at = (goal.at.returns-then-pc-eq-GSTOP g c).After-ask_first in
-    let here : c.run_address.new.machine.cpu.pc ≡ GSTOP = let a = c.pc.ensures.value in let b = c.if-pc-eq-GSTOP.true in omega arith in
-    Loading.stops (s g at) c.args.machine.now c.args.steps.now c.requires.operands c.ask_first.new.machine c.run_address.new.machine c.ask_first.new.steps
-    c.run_address.new.steps (asked g at) here c.run_address.ensures
+returns-then-pc-eq-GSTOP g c = Loading.stops c.requires c.ask_destination.ensures _ _ c.run_address.ensures (on c.pc.ensures.value c.if-pc-eq-GSTOP.true)
 
-pub load_first-requires : goal.load_first-requires
-load_first-requires g c =
-    let at = (goal.at.load_first-requires g c).After-ask_first in
+pub keep_stored-requires : goal.keep_stored-requires
+keep_stored-requires g c =
     let elsewhere : c.run_address.new.machine.cpu.pc ≡ GSTOP → ⊥ = λ here. let a = c.pc.ensures.value in let b = c.if-pc-eq-GSTOP.false in
     absurd (omega arith) in
-    let place = Loading.found (s g at) c.args.machine.now c.args.steps.now c.requires.operands c.ask_first.new.machine c.run_address.new.machine
-    c.ask_first.new.steps c.run_address.new.steps (asked g at) elsewhere c.run_address.ensures in
-    place.comes.stands
+    let here : c.args.machine.now.cpu.pc ≡ STROW = let a = c.pc-entry.ensures.value in let b = c.if-entry-eq-STROW.true in omega arith in
+    Loading.stands_stored c.requires c.ask_destination.ensures _ _ c.run_address.ensures elsewhere here
+
+pub returns-then-entry-eq-STROW : goal.returns-then-entry-eq-STROW
+returns-then-entry-eq-STROW g c =
+    let elsewhere : c.run_address.new.machine.cpu.pc ≡ GSTOP → ⊥ = λ here. let a = c.pc.ensures.value in let b = c.if-pc-eq-GSTOP.false in
+    absurd (omega arith) in
+    let here : c.args.machine.now.cpu.pc ≡ STROW = let a = c.pc-entry.ensures.value in let b = c.if-entry-eq-STROW.true in omega arith in
+    Loading.stored c.requires c.ask_destination.ensures _ _ c.run_address.ensures elsewhere here
+    c.keep_stored.ensures
+
+pub load_wide-requires : goal.load_wide-requires
+load_wide-requires g c =
+    let elsewhere : c.run_address.new.machine.cpu.pc ≡ GSTOP → ⊥ = λ here. let a = c.pc.ensures.value in let b = c.if-pc-eq-GSTOP.false in
+    absurd (omega arith) in
+    let here : c.args.machine.now.cpu.pc ≡ WIDE = let a = c.pc-entry.ensures.value in let b = c.if-entry-eq-WIDE.true in omega arith in
+    Loading.stands_wide c.requires c.ask_destination.ensures _ _ c.run_address.ensures elsewhere here
 
 pub run_load-requires-clause-idle : goal.run_load-requires-clause-idle
 run_load-requires-clause-idle g c =
-    let at = (goal.at.run_load-requires-clause-idle g c).After-load_first in
-    idle_of c.load_first.new.machine.cpu.memory (from g at) (behind_first (from g at)) (loading g at).holds.holds.sees
+    let at = (goal.at.run_load-requires-clause-idle g c).After-load_wide in
+    let o = Loading.wide_here c.requires c.ask_destination.ensures _ _ c.run_address.ensures
+    (wide_there g at) (is_wide g at) in
+    Loading.idle_loading c.requires c.ask_destination.ensures _ _ c.run_address.ensures
+    (wide_there g at) WIDVAL WIDDST o.kind.label_is refl c.load_wide.ensures
 
 pub run_load-requires-clause-visible : goal.run_load-requires-clause-visible
 run_load-requires-clause-visible g c =
-    let at = (goal.at.run_load-requires-clause-visible g c).After-load_first in
-    let place = (found g at).place in
-    Loading.visible_at (from g at) (destination_bytes (from g at)) place place (behind_first (from g at)) OPSVAL (view c.load_first.new.machine)
-    (loading g at).holds (Loading.some_bytes (operation_in (from g at)) (word_of (from g at))).0
-    (Loading.first_visible (from g at) place (found g at).is_place)
+    let at = (goal.at.run_load-requires-clause-visible g c).After-load_wide in
+    let o = Loading.wide_here c.requires c.ask_destination.ensures _ _ c.run_address.ensures
+    (wide_there g at) (is_wide g at) in
+    Loading.visible_loading c.requires c.ask_destination.ensures _ _ c.run_address.ensures
+    (wide_there g at) WIDVAL WIDDST o.kind.label_is refl c.load_wide.ensures (some g (goal.at.run_load-requires-clause-visible g c).After-run_address)
+
+pub keep_wide-requires : goal.keep_wide-requires
+keep_wide-requires g c =
+    let at = (goal.at.keep_wide-requires g c).After-load_wide in
+    let o = Loading.wide_here c.requires c.ask_destination.ensures _ _ c.run_address.ensures
+    (wide_there g at) (is_wide g at) in
+    (Loading.value c.requires c.ask_destination.ensures _ _ c.run_address.ensures
+    (wide_there g at) WIDVAL WIDDST o.kind.label_is refl c.load_wide.ensures refl c.run_load.ensures.value).stands
+
+pub returns-then-entry-eq-WIDE : goal.returns-then-entry-eq-WIDE
+returns-then-entry-eq-WIDE g c =
+    let at = (goal.at.returns-then-entry-eq-WIDE g c).After-load_wide in
+    Loading.kept_wide c.requires c.ask_destination.ensures _ _ c.run_address.ensures
+    (wide_there g at) (is_wide g at) c.run_load.ensures.value c.load_wide.ensures c.keep_wide.ensures
+
+pub load_first-requires : goal.load_first-requires
+load_first-requires g c =
+    let elsewhere : c.run_address.new.machine.cpu.pc ≡ GSTOP → ⊥ = λ here. let a = c.pc.ensures.value in let b = c.if-pc-eq-GSTOP.false in
+    absurd (omega arith) in
+    let kind = narrow_here c.requires (λ here. let a = c.pc-entry.ensures.value in let b = c.if-entry-eq-WIDE.false in absurd (omega arith))
+    (λ here. let a = c.pc-entry.ensures.value in let b = c.if-entry-eq-STROW.false in absurd (omega arith)) in
+    Loading.stands_first c.requires c.ask_destination.ensures _ _ c.run_address.ensures elsewhere kind
+
+pub run_load-requires-2-clause-idle : goal.run_load-requires-2-clause-idle
+run_load-requires-2-clause-idle g c =
+    let at = (goal.at.run_load-requires-2-clause-idle g c).After-load_first in
+    Loading.idle_loading c.requires c.ask_destination.ensures _ _ c.run_address.ensures
+    (first_there g at) OPSVAL OPSDST (is_first g at).label_is refl c.load_first.ensures
+
+pub run_load-requires-2-clause-visible : goal.run_load-requires-2-clause-visible
+run_load-requires-2-clause-visible g c =
+    let at = (goal.at.run_load-requires-2-clause-visible g c).After-load_first in
+    Loading.visible_loading c.requires c.ask_destination.ensures _ _ c.run_address.ensures
+    (first_there g at) OPSVAL OPSDST (is_first g at).label_is refl c.load_first.ensures (some g (goal.at.run_load-requires-2-clause-visible g c).After-run_address)
+
+pub keep_first-requires : goal.keep_first-requires
+keep_first-requires g c =
+    let at = (goal.at.keep_first-requires g c).After-load_first in
+    (Loading.value c.requires c.ask_destination.ensures _ _ c.run_address.ensures
+    (first_there g at) OPSVAL OPSDST (is_first g at).label_is refl c.load_first.ensures refl c.run_load-2.ensures.value).stands
 
 pub returns : goal.returns
 returns g c =
     let at = (goal.at.returns g c).After-load_first in
-    Loading.loaded (from g at) c.args.machine.now c.args.steps.now c.requires.operands c.run_address.new.machine c.load_first.new.machine
-    c.run_load.new.machine c.run_address.new.steps c.load_first.new.steps c.run_load.new.steps (found g at) (loading g at) c.run_load.ensures.value
+    Loading.kept_first c.requires c.ask_destination.ensures _ _ c.run_address.ensures
+    (first_there g at) (is_first g at) c.run_load-2.ensures.value c.load_first.ensures c.keep_first.ensures

@@ -1,45 +1,53 @@
-use Rattle.std.proofs.Common.{◌∙◌, ◌≡◌, ap, arith}
-use Rattle.sim_view.proofs.Common.{is_view}
-use Rattle.sim_rows.specs.Prelude.{code_byte, operation_at, state_at_dispatch, view}
+use Rattle.std.proofs.Common.{◌∙◌, ◌≡◌, ap, arith, Bool, subst, true}
+use Rattle.sim_rows.specs.Prelude.{code_byte, GplState, LoadsOperands, operands_of, operation_at, state_at_dispatch, view}
+use Rattle.sim_rows.proofs.Codes.{row_code}
+use Rattle.sim_rows.proofs.Fronting.{fits}
 use Rattle.sim_rows.proofs.Telling
+use Rattle.sim_rows.proofs.row.start_row.Given.{Over}
+use Rattle.sim_rows.proofs.row.start_row.Goals.{After-load_operands}
 use Rattle.sim_rows.proofs.row.start_row.Goals as goal
+
+-- What is known behind the operands: they are there.
+module _ (g : Over) (c : After-load_operands g) (went : c.load_operands.result ≡ true) where
+  abbrev s : GplState
+  s = state_at_dispatch (view c.args.machine.now)
+
+  ready : Telling.Ready s c.args.machine.now c.load_operands.new.machine c.args.steps.now c.load_operands.new.steps
+  ready =
+      Telling.ready s c.args.machine.now c.load_operands.new.machine c.args.steps.now c.load_operands.new.steps
+      (subst (λ (b : Bool). LoadsOperands s c.args.machine.now c.load_operands.new.machine c.args.steps.now c.load_operands.new.steps b (operands_of s))
+      went c.load_operands.ensures)
 
 pub overflow_cast-code : goal.overflow_cast-code
 overflow_cast-code g c =
-    let x = c.args.machine.now in
-    let s = state_at_dispatch (view x) in
-    let fits = (is_view x c.requires.stands.machine).grom.image.fits s.pc in
-    let kept : (view x).r.r0 ≡ code_byte s = c.requires.dispatched.code in
+    let small = fits c.requires in
+    let kept : (view c.args.machine.now).r.r0 ≡ code_byte (state_at_dispatch (view c.args.machine.now)) = c.requires.dispatched.code in
     let a = c.register-code.ensures in omega arith
 
-pub load_operands-requires-clause-stands : goal.load_operands-requires-clause-stands
-load_operands-requires-clause-stands g c = c.tell_width.ensures.stands
+pub go_to_row-requires-clause-stands : goal.go_to_row-requires-clause-stands
+go_to_row-requires-clause-stands g c =
+    let at = (goal.at.go_to_row-requires-clause-stands g c).After-load_operands in
+    (ready g at c.if-not-load_operands.false).comes.stands
 
-pub load_operands-requires-clause-operands : goal.load_operands-requires-clause-operands
-load_operands-requires-clause-operands g c =
-    Telling.again (state_at_dispatch (view c.args.machine.now)) (view c.tell_width.new.machine) c.tell_width.ensures.holds
+pub go_to_row-requires-clause-low : goal.go_to_row-requires-clause-low
+go_to_row-requires-clause-low g c =
+    let at = (goal.at.go_to_row-requires-clause-low g c).After-load_operands in
+    let code = (ready g at c.if-not-load_operands.false).comes.holds.holds.code in
+    let low = (row_code (code_byte (s g at c.if-not-load_operands.false)) (fits c.requires) c.requires.family).0 in omega arith
 
-pub load_operands-requires-clause-row : goal.load_operands-requires-clause-row
-load_operands-requires-clause-row g c =
-    Telling.row_again (state_at_dispatch (view c.args.machine.now)) (view c.tell_width.new.machine) c.tell_width.ensures.holds c.requires.family
-
-pub returns-then-not-load_operands : goal.returns-then-not-load_operands
-returns-then-not-load_operands g c =
-    record {
-      starts = Telling.barred (state_at_dispatch (view c.args.machine.now)) c.args.machine.now c.tell_width.new.machine c.load_operands.new.machine
-          c.args.steps.now c.tell_width.new.steps c.load_operands.new.steps
-          c.load_operands.result c.tell_width.ensures c.if-not-load_operands.true c.load_operands.ensures;
-    }
+pub go_to_row-requires-clause-high : goal.go_to_row-requires-clause-high
+go_to_row-requires-clause-high g c =
+    let at = (goal.at.go_to_row-requires-clause-high g c).After-load_operands in
+    let code = (ready g at c.if-not-load_operands.false).comes.holds.holds.code in
+    let high = (row_code (code_byte (s g at c.if-not-load_operands.false)) (fits c.requires) c.requires.family).1 in omega arith
 
 pub returns : goal.returns
 returns g c =
-    let x = c.args.machine.now in
-    let s = state_at_dispatch (view x) in
-    let fits = (is_view x c.requires.stands.machine).grom.image.fits s.pc in
-    let kept : (view x).r.r0 ≡ code_byte s = c.requires.dispatched.code in
-    let code : c.register-code.result ≡ code_byte s = let a = c.register-code.ensures in omega arith in
+    let at = (goal.at.returns g c).After-load_operands in
+    let small = fits c.requires in
+    let kept : (view c.args.machine.now).r.r0 ≡ code_byte (state_at_dispatch (view c.args.machine.now)) = c.requires.dispatched.code in
+    let code : c.register-code.result ≡ code_byte (state_at_dispatch (view c.args.machine.now)) = let a = c.register-code.ensures in omega arith in
     record {
-      starts = Telling.loaded s x c.tell_width.new.machine c.load_operands.new.machine c.args.steps.now c.tell_width.new.steps
-          c.load_operands.new.steps c.operation_at.result
-          c.load_operands.result c.tell_width.ensures (c.operation_at.ensures ∙ ap operation_at code) c.if-not-load_operands.false c.load_operands.ensures;
+      starts = Telling.starts (state_at_dispatch (view c.args.machine.now)) _ _ _ _ (ready g at c.if-not-load_operands.false) _ _ c.operation_at.result
+          small c.requires.family c.go_to_row.ensures (c.operation_at.ensures ∙ ap operation_at code);
     }

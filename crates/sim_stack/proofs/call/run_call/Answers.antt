@@ -1,49 +1,54 @@
 use Rattle.std.proofs.Common.{◌≡◌, arith}
-use Rattle.sim_rows.proofs.Common.{GSTOP, state_at_dispatch, view}
+use Rattle.sim_rows.proofs.Common.{GSTOP, on, state_at_dispatch, view}
 use Rattle.sim_stack.proofs.Calling
 use Rattle.sim_stack.proofs.call.run_call.Given.{Over}
 use Rattle.sim_stack.proofs.call.run_call.Goals as goal
-use Rattle.sim_stack.proofs.call.run_call.Goals.{After-locate_next}
+use Rattle.sim_stack.proofs.call.run_call.Goals.{After-find_next}
 
--- What is known once the next address is located: the stack is not full.
-module _ (g : Over) (c : After-locate_next g) where
-  elsewhere : c.keep_target.new.machine.cpu.pc ≡ GSTOP → ⊥
+-- What is known behind the piece that reads the target: the stack is not full.
+module _ (g : Over) (c : After-find_next g) where
+  elsewhere : c.read_target.new.machine.cpu.pc ≡ GSTOP → ⊥
   elsewhere here = let p = c.pc.ensures.value in let r = c.if-pc-eq-GSTOP.false in absurd (omega arith)
-
-pub keep_target-requires : goal.keep_target-requires
-keep_target-requires g c = c.read_target.ensures.stands
 
 pub returns-then-pc-eq-GSTOP : goal.returns-then-pc-eq-GSTOP
 returns-then-pc-eq-GSTOP g c =
     let s = state_at_dispatch (view c.args.machine.now) in
     let q = c.requires in
-    let here : c.keep_target.new.machine.cpu.pc ≡ GSTOP = let p = c.pc.ensures.value in let r = c.if-pc-eq-GSTOP.true in omega arith in
-    Calling.stopped s q.stands q.dispatched q.family c.read_target.ensures c.keep_target.ensures here
+    Calling.stopped s q.stands q.dispatched q.family c.read_target.ensures (on c.pc.ensures.value c.if-pc-eq-GSTOP.true)
 
-pub end_call-requires-clause-stands : goal.end_call-requires-clause-stands
-end_call-requires-clause-stands g c =
-    let at = (goal.at.end_call-requires-clause-stands g c).After-locate_next in
+pub find_next-requires : goal.find_next-requires
+find_next-requires g c =
     let s = state_at_dispatch (view c.args.machine.now) in
-    Calling.stands_storing s c.requires.stands c.requires.dispatched c.requires.family c.read_target.ensures
-    c.keep_target.ensures (elsewhere g at) c.locate_next.ensures
+    let q = c.requires in
+    let elsewhere : c.read_target.new.machine.cpu.pc ≡ GSTOP → ⊥ = λ here. let p = c.pc.ensures.value in let r = c.if-pc-eq-GSTOP.false in
+    absurd (omega arith) in
+    Calling.stands_finding s q.stands q.dispatched q.family c.read_target.ensures elsewhere
 
-pub end_call-requires-clause-idle : goal.end_call-requires-clause-idle
-end_call-requires-clause-idle g c =
-    let at = (goal.at.end_call-requires-clause-idle g c).After-locate_next in
+pub store_next-requires-clause-stands : goal.store_next-requires-clause-stands
+store_next-requires-clause-stands g c =
+    let at = (goal.at.store_next-requires-clause-stands g c).After-find_next in
     let s = state_at_dispatch (view c.args.machine.now) in
-    Calling.idle_storing s c.requires.stands c.requires.dispatched c.requires.family c.read_target.ensures
-    c.keep_target.ensures (elsewhere g at) c.locate_next.ensures
+    let q = c.requires in
+    Calling.stands_storing s q.stands q.dispatched q.family c.read_target.ensures (elsewhere g at) c.find_next.ensures
 
-pub end_call-requires-clause-visible : goal.end_call-requires-clause-visible
-end_call-requires-clause-visible g c =
-    let at = (goal.at.end_call-requires-clause-visible g c).After-locate_next in
+pub store_next-requires-clause-visible : goal.store_next-requires-clause-visible
+store_next-requires-clause-visible g c =
+    let at = (goal.at.store_next-requires-clause-visible g c).After-find_next in
     let s = state_at_dispatch (view c.args.machine.now) in
-    Calling.visible_storing s c.requires.stands c.requires.dispatched c.requires.family c.read_target.ensures
-    c.keep_target.ensures (elsewhere g at) c.locate_next.ensures
+    let q = c.requires in
+    Calling.visible_storing s q.stands q.dispatched q.family c.read_target.ensures (elsewhere g at) c.find_next.ensures
+
+pub end_row-requires-clause-idle : goal.end_row-requires-clause-idle
+end_row-requires-clause-idle g c =
+    let at = (goal.at.end_row-requires-clause-idle g c).After-find_next in
+    let s = state_at_dispatch (view c.args.machine.now) in
+    let q = c.requires in
+    Calling.idle_ending s q.stands q.dispatched q.family c.read_target.ensures (elsewhere g at) c.find_next.ensures c.store_next.ensures
 
 pub returns : goal.returns
 returns g c =
-    let at = (goal.at.returns g c).After-locate_next in
+    let at = (goal.at.returns g c).After-find_next in
     let s = state_at_dispatch (view c.args.machine.now) in
-    Calling.turned s c.requires.stands c.requires.dispatched c.requires.family c.read_target.ensures
-    c.keep_target.ensures (elsewhere g at) c.locate_next.ensures c.end_call.new.machine c.end_call.new.steps c.end_call.ensures
+    let q = c.requires in
+    Calling.turned s q.stands q.dispatched q.family c.read_target.ensures (elsewhere g at) c.find_next.ensures c.store_next.ensures
+    _ _ c.end_row.ensures

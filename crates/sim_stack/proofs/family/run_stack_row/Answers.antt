@@ -16,4 +16,4 @@ pub run_row-requires-clause-byte : goal.run_row-requires-clause-byte
 run_row-requires-clause-byte g c = byte_row c.requires c.in-Some.is c.start_row.ensures
 
 pub returns : goal.returns
-returns g c = turned c.requires c.in-Some.is c.start_row.ensures c.run_row.new.machine c.run_row.new.steps c.run_row.result c.run_row.ensures
+returns g c = turned c.requires c.in-Some.is c.start_row.ensures _ _ c.run_row.result c.run_row.ensures

@@ -1,5 +1,5 @@
 use Rattle.std.proofs.Common.{◌≡◌, arith}
-use Rattle.sim_rows.proofs.Common.{grom_at, GSTOP, next_at, ready, view}
+use Rattle.sim_rows.proofs.Common.{grom_at, GSTOP, next_at, on, ready, view}
 use Rattle.sim_stack.proofs.fetch.run_fetched.Given.{Over}
 use Rattle.sim_stack.proofs.fetch.run_fetched.Goals.{After-set_aside}
 use Rattle.sim_stack.proofs.Reading
@@ -14,9 +14,7 @@ module _ (g : Over) (c : After-set_aside g) where
   grom = ready c.args.machine.now.cpu.memory c.requires.idle c.requires.fetched
 
 pub returns-then-pc-eq-GSTOP : goal.returns-then-pc-eq-GSTOP
-returns-then-pc-eq-GSTOP g c =
-    let here : c.keep_place.new.machine.cpu.pc ≡ GSTOP = let p = c.pc.ensures.value in let r = c.if-pc-eq-GSTOP.true in omega arith in
-    Reading.stopped c.requires.stands c.keep_place.ensures here
+returns-then-pc-eq-GSTOP g c = Reading.stopped c.requires.stands c.keep_place.ensures (on c.pc.ensures.value c.if-pc-eq-GSTOP.true)
 
 pub load_stacked-requires-clause-stands : goal.load_stacked-requires-clause-stands
 load_stacked-requires-clause-stands g c =
