@@ -1,14 +1,15 @@
 //! The first checks of a line.
 
-ghost use Rattle.std.specs.Prelude.{◌≡◌, ◌≤◌, ◌+◌, length, true, IfOk};
+ghost use Rattle.std.specs.Prelude.{◌≡◌, ◌≤◌, ◌+◌, length, Ok, IfOk, IfErr};
 ghost use Rattle.source_defs.specs.Fields as lines;
 ghost use Rattle.asm_defs.specs.Locations as places;
 ghost use Rattle.asm_defs.specs.FirstChecks as spec;
-ghost use Rattle.asm_checks.specs.Answers.{Gives};
+ghost use Rattle.asm_text.specs.GivenFields.{defined_fields, FieldsLieInside};
+ghost use Rattle.asm_checks.specs.Answers.{Fails, Gives};
 ghost use Rattle.asm_checks.specs.Defined.{defined_statement, NamesOnly};
 ghost use Rattle.asm_checks.specs.Moves.{defined_move, MovesLittle};
 ghost use Rattle.asm_checks.specs.Checks.{defined_before, defined_said, defined_checked, IsSaid, KnowsPlaces};
-ghost use Rattle.asm_checks.specs.Checks.{ListsNames, listed_in};
+ghost use Rattle.asm_checks.specs.Checks.{ListsNames, listed_in, said_in, LooksNew, IsChecked, failure_behind};
 ghost use Rattle.asm_checks.specs.Moves.{MovesWithin};
 
 use crate::failure::Failure;
@@ -19,7 +20,7 @@ use crate::titles::title_in;
 use crate::values::Scope;
 use asm_defs::{AsmCause, Location, Part};
 use asm_forms::Skeleton;
-use asm_text::{Name, Symbols, fields, is_quoted};
+use asm_text::{Fields, Name, Symbols, fields, is_quoted};
 use object_tags::MOST_NAMES;
 use std::alloc::{AllocError, Global};
 
@@ -63,23 +64,28 @@ pub struct Checked<'a> {
 }
 
 impl Before<'_> {
-    /// A line by the first checks.
+    /// A line by the first checks, but for whether its label is new, which the label's definition tells. A refusal is
+    /// that of all first checks.
     pub fn checked<'b>(&self, text: &'b [u8]) -> Result<Checked<'b>, Failure>
         requires { KnowsPlaces self.now }
-        ensures checked { Gives defined_checked result (spec.checked (defined_before self.now) text.now) }
+        ensures checked { IfOk result (IsChecked (defined_before self.now) text.now) }
+        ensures refused { IfErr result (λ failure. Fails failure (spec.checked (defined_before self.now) text.now)) }
         ensures line { IfOk result (λ checked. IsSaid checked.said) }
         ensures listed { IfOk result (λ checked. ListsNames checked.said) }
         ensures within { IfOk result (λ checked. MovesWithin checked.moved) }
     {
         let said = self.said(text)?;
-        let moved = self.moved(&said)?;
-        Ok(Checked { said, moved })
+        match self.moved(&said) {
+            Ok(moved) => Ok(Checked { said, moved }),
+            Err(failure) => Err(self.behind_label(&said.label, failure)),
+        }
     }
 
-    /// What a line says, whose names are new.
+    /// What a line says, whose names of REF are new.
     #[tactic(auto, unfolding(asm_defs::specs::FirstChecks::said))]
     fn said<'b>(&self, text: &'b [u8]) -> Result<Said<'b>, Failure>
-        ensures said { Gives defined_said result (spec.said (defined_before self.now) text.now) }
+        ensures said { IfOk result (LooksNew (defined_before self.now) text.now) }
+        ensures refused { IfErr result (λ failure. Fails failure (spec.said (defined_before self.now) text.now)) }
         ensures line { IfOk result IsSaid }
         ensures listed { IfOk result ListsNames }
     {
@@ -87,10 +93,22 @@ impl Before<'_> {
             Ok(found) => found,
             Err(error) => return Err(Failure::Refused(AsmCause::Text(error))),
         };
-        if self.knows_label(&found.label) {
-            return Err(Failure::Refused(AsmCause::DuplicateLabel));
+        match self.said_in(text, &found) {
+            Ok(said) => Ok(said),
+            Err(failure) => Err(self.behind_label(&found.label, failure)),
         }
-        let (statement, skeleton) = statement_in(text, &found)?;
+    }
+
+    /// What a line with its fields says.
+    fn said_in<'b>(&self, text: &'b [u8], found: &Fields) -> Result<Said<'b>, Failure>
+        requires read { lines.fields text.now ≡ Ok (defined_fields found.now) }
+        requires inside { FieldsLieInside text.now found.now }
+        requires length { length text.now ≤ 256 }
+        ensures said { Gives defined_said result (said_in (defined_before self.now) text.now (defined_fields found.now)) }
+        ensures line { IfOk result IsSaid }
+        ensures listed { IfOk result ListsNames }
+    {
+        let (statement, skeleton) = statement_in(text, found)?;
         let listed = listed_names(self.alloc, &statement)?;
         if self.takes_known(found.label, &statement, listed.as_slice()) {
             return Err(Failure::Refused(AsmCause::DuplicateLabel));
@@ -101,6 +119,17 @@ impl Before<'_> {
             skeleton,
             listed,
         })
+    }
+
+    /// Why a line is not taken, where its label stands before another reason.
+    fn behind_label(&self, label: &Option<Name>, failure: Failure) -> Failure
+        ensures { result ≡ failure_behind (spec.any_known self.now.symbols.now (spec.label_in label.now)) failure }
+    {
+        if self.knows_label(label) {
+            Failure::Refused(AsmCause::DuplicateLabel)
+        } else {
+            failure
+        }
     }
 
     /// Whether a label stands for something already.

@@ -10,31 +10,40 @@ ghost use Rattle.source_defs.specs.Layout.{with_names};
 ghost use Rattle.asm_text.specs.GivenValues.{defined_value};
 ghost use Rattle.asm_defs.specs.FirstChecks.{label_entry, external_entries};
 
+use asm_checks::Failure;
+use asm_defs::AsmCause;
 use asm_text::{DefineError, Name, Symbols, Value};
 use std::alloc::AllocError;
 
-/// Defines a label and names of REF, of which none stands for anything yet. Where memory is wanting none is defined.
+/// Defines a label and names of REF, where the label stands for nothing yet, as none of the names does. After a failure
+/// none is defined.
 #[tactic(auto, using(crate::proofs::NameLaws::taken_back, crate::proofs::NameLaws::grown_on))]
 pub(crate) fn define_line(
     symbols: &mut Symbols,
     label: Option<Name>,
     value: Value,
     refs: &[Name],
-) -> Result<(), AllocError>
+) -> Result<(), Failure>
+    ensures fresh { OnOk result (any_known symbols.old (label_in label) ≡ false) }
+    ensures known { IfErr result (IsKnownLabel symbols.old label) }
     ensures defined { OnOk result (symbols.new
         ≡ with_names (with_names symbols.old (label_entry label (defined_value value))) (external_entries refs.now)) }
     ensures grows { OnOk result (Grows symbols.old symbols.new) }
     ensures unchanged { OnErr result (symbols.new ≡ symbols.old) }
 {
     let Some(name) = label else {
-        return define_refs(symbols, refs);
+        return Ok(define_refs(symbols, refs)?);
     };
-    define(symbols, name, value)?;
+    match symbols.define(name, value) {
+        Ok(()) => {}
+        Err(DefineError::Duplicate) => return Err(Failure::Refused(AsmCause::DuplicateLabel)),
+        Err(DefineError::Memory) => return Err(Failure::Memory),
+    }
     match define_refs(symbols, refs) {
         Ok(()) => Ok(()),
         Err(error) => {
             symbols.remove(&name);
-            Err(error)
+            Err(Failure::from(error))
         }
     }
 }

@@ -11,7 +11,7 @@ ghost use Rattle.asm_core.specs.Keeping.{SameWork, StandsStill};
 use crate::define::define_line;
 use crate::lines::AsmLines;
 use crate::pending::Pending;
-use asm_checks::{Before, Checked, Statement};
+use asm_checks::{Before, Checked, Failure, Statement};
 use std::alloc::AllocError;
 
 impl AsmLines {
@@ -35,7 +35,7 @@ impl AsmLines {
         &mut self,
         waiting: Option<Pending>,
         checked: &Checked<'_>,
-    ) -> Result<(), AllocError>
+    ) -> Result<(), Failure>
         requires { ListsNames checked.now.said }
         ensures kept { OnOk result (Keeps self.old waiting checked.now self.new) }
         ensures unchanged { OnErr result (IsUnchanged self.old self.new) }
@@ -55,7 +55,7 @@ impl AsmLines {
     }
 
     /// Adds a line with its names. Where memory is wanting no name of it is defined.
-    fn add(&mut self, waiting: Option<Pending>, checked: &Checked<'_>) -> Result<(), AllocError>
+    fn add(&mut self, waiting: Option<Pending>, checked: &Checked<'_>) -> Result<(), Failure>
         requires { ListsNames checked.now.said }
         ensures kept { OnOk result (Keeps self.old waiting checked.now self.new) }
         ensures names { OnErr result (self.new.symbols ≡ self.old.symbols) }
@@ -86,7 +86,7 @@ impl AsmLines {
     }
 
     /// Defines the label and the names of REF.
-    fn define_names(&mut self, checked: &Checked<'_>) -> Result<(), AllocError>
+    fn define_names(&mut self, checked: &Checked<'_>) -> Result<(), Failure>
         requires { ListsNames checked.now.said }
         ensures defined { OnOk result (self.new.symbols ≡ names_with self.old.symbols checked.now) }
         ensures grows { OnOk result (Grows self.old.symbols self.new.symbols) }

@@ -35,9 +35,13 @@ impl AsmLines {
             Ok(checked) => checked,
             Err(failure) => return Err(self.refusal(failure)),
         };
-        self.work(text, &checked)?;
-        self.advance(&checked);
-        Ok(())
+        match self.work(text, &checked) {
+            Ok(()) => {
+                self.advance(&checked);
+                Ok(())
+            }
+            Err(failure) => Err(self.refusal(failure)),
+        }
     }
 
     /// Counts a line that says nothing.
@@ -53,7 +57,7 @@ impl AsmLines {
     }
 
     /// Adds a line: its names, and what is known of it. Behind a line that is refused only the names count.
-    fn work(&mut self, text: &[u8], checked: &Checked<'_>) -> Result<(), AllocError>
+    fn work(&mut self, text: &[u8], checked: &Checked<'_>) -> Result<(), Failure>
         requires taken { self.old.taken < 2 ^ 32 - 1 }
         requires line { IsSaid checked.now.said }
         requires listed { ListsNames checked.now.said }
