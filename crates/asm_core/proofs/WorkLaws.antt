@@ -1,8 +1,12 @@
 -- A builder with one line more.
-use Rattle.std.proofs.Common.{◌≡◌, ◌+◌, ◌++◌, List, ℕ, Ok, Err, true, false, Some, None, refl, sym, ap, subst, ◌∙◌, append-nil}
+use Rattle.std.proofs.Common.{◌≡◌, ◌+◌, ◌++◌, List, length, ℕ, Ok, Err, true, false, Some, None, refl, sym, ap, subst, ◌∙◌, append-nil}
 use Rattle.std.specs.Prelude.{Result, Option, OnOk, IsErrAnd, is_some}
 use Rattle.std.proofs.Common.{Vec, Global}
-use Rattle.asm_defs.specs.FirstChecks.{defs_in, refs_in}
+use Rattle.asm_defs.specs.declared.causes.AsmCause.TheVariants.{DuplicateLabel}
+use Rattle.asm_defs.specs.FirstChecks.{any_known, label_in, defs_in, refs_in, check}
+use Rattle.asm_checks.specs.Answers.{Causes}
+use Rattle.asm_checks.specs.declared.failure.Failure.{Failure}
+use Rattle.asm_checks.specs.declared.failure.Failure.TheVariants as failure
 use Rattle.source_defs.specs.Symbols.{Names}
 use Rattle.source_defs.specs.Growing.{Grows}
 use Rattle.asm_defs.specs.declared.location.Location.{Location}
@@ -18,8 +22,8 @@ use Rattle.asm_core.specs.declared.lines.AsmLines.{AsmLines}
 use Rattle.asm_core.specs.Assembling.{AssemblesBy}
 use Rattle.asm_core.specs.declared.error.AsmError.{AsmError}
 use Rattle.asm_core.specs.declared.error.AsmError.TheVariants.{Memory}
-use Rattle.asm_core.specs.Building.{IsWorked, ImageOf, IsGoing, IsBehind, Takes}
-use Rattle.asm_core.specs.Keeping.{names_with, Keeps, IsUnchanged, SameWork, StandsStill}
+use Rattle.asm_core.specs.Building.{IsWorked, ImageOf, IsGoing, IsBehind, Takes, refusal_at}
+use Rattle.asm_core.specs.Keeping.{names_with, KnowsLabel, Keeps, IsUnchanged, SameWork, StandsStill}
 use Rattle.asm_core.specs.Emitting.{SameLines, SameKnown, Emits}
 use Rattle.asm_core.specs.Adding.{Adds, IsAsBefore, WorksIn}
 use Rattle.asm_core.proofs.WorkedLaws.{worked_stopped, emits_worked}
@@ -98,6 +102,17 @@ pub takes_none : {A : Type 0} (lines : List Line) (text : List ℕ) (result : Re
     → IsBehind lines new → Takes lines text result new
 takes_none lines text (Ok value) new wants is = absurd wants
 takes_none lines text (Err error) new wants is = subst (λ (error : AsmError). Takes {A = Unit {0}} lines text (Err error) new) (sym wants) is
+
+-- a line whose label stands for something already, or memory was wanting
+pub takes_failed : (A : Type 0) (lines : List Line) (text : List ℕ) (names : Names) (label : Option (List ℕ)) (failure : Failure) (new : AsmLines)
+    → KnowsLabel names label failure → (any_known names (label_in label) ≡ true → check lines (length lines + 1) text ≡ Err DuplicateLabel)
+    → new.taken ≡ length lines → IsBehind lines new → Takes {A = A} lines text (Err (refusal_at (new.taken + 1) failure)) new
+takes_failed A lines text names label failure.Memory new knows known count is = is
+takes_failed A lines text names label (failure.Refused cause) new knows known count is = (
+  ap (λ taken. taken + 1) count,
+  subst (λ cause. Causes cause (check lines (length lines + 1) text)) (sym knows.0) (known knows.1),
+  is,
+)
 
 none_is : (refused : Option Refused) → is_some refused ≡ false → refused ≡ None
 none_is None none = refl

@@ -1,6 +1,6 @@
 //! A line that a builder takes.
 
-ghost use Rattle.std.specs.Prelude.{◌≡◌, ◌<◌, ◌≤◌, ◌+◌, ◌-◌, ◌^◌, ◌||◌, true, max, List, OnOk, OnErr};
+ghost use Rattle.std.specs.Prelude.{◌≡◌, ◌<◌, ◌≤◌, ◌+◌, ◌-◌, ◌^◌, ◌||◌, true, false, max, List, OnOk, OnErr, IfErr};
 ghost use Rattle.asm_defs.specs.Locations as places;
 ghost use Rattle.asm_defs.specs.Modules.{title_by};
 ghost use Rattle.asm_defs.specs.FirstChecks as spec;
@@ -9,7 +9,7 @@ ghost use Rattle.asm_checks.specs.Defined.{defined_statement};
 ghost use Rattle.asm_checks.specs.Moves.{defined_move, MovesWithin};
 ghost use Rattle.asm_checks.specs.Checks.{IsSaid, ListsNames};
 ghost use Rattle.asm_core.specs.Assembling.{HasRoom};
-ghost use Rattle.asm_core.specs.Keeping.{IsUnchanged, SameWork, StandsStill};
+ghost use Rattle.asm_core.specs.Keeping.{KnowsLabel, IsUnchanged, SameWork, StandsStill};
 ghost use Rattle.asm_core.specs.Adding.{Adds, Counts, IsAsBefore};
 ghost use Rattle.asm_core.specs.Building.{IsBehind, Takes, refusal_at};
 
@@ -56,7 +56,8 @@ impl AsmLines {
         Ok(())
     }
 
-    /// Adds a line: its names, and what is known of it. Behind a line that is refused only the names count.
+    /// Adds a line, whose label has to be new: its names, and what is known of it. Behind a line that is refused only the
+    /// names count.
     fn work(&mut self, text: &[u8], checked: &Checked<'_>) -> Result<(), Failure>
         requires taken { self.old.taken < 2 ^ 32 - 1 }
         requires line { IsSaid checked.now.said }
@@ -64,6 +65,8 @@ impl AsmLines {
         requires within { MovesWithin checked.now.moved }
         requires room { HasRoom (places.behind self.old.location checked.now.moved.gap) text.now (defined_statement checked.now.said.statement) }
         ensures added { OnOk result (Adds self.old text.now checked.now self.new) }
+        ensures fresh { OnOk result (spec.any_known self.old.symbols (spec.label_in checked.now.said.label) ≡ false) }
+        ensures known { IfErr result (KnowsLabel self.old.symbols checked.now.said.label) }
         ensures unchanged { OnErr result (IsAsBefore self.old self.new) }
         ensures still { StandsStill self.old self.new }
     {
