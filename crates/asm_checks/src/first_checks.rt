@@ -1,15 +1,14 @@
 //! The first checks of a line.
 
-ghost use Rattle.std.specs.Prelude.{◌≡◌, ◌≤◌, ◌+◌, length, Ok, IfOk, IfErr};
+ghost use Rattle.std.specs.Prelude.{◌≡◌, ◌≤◌, ◌+◌, length, true, IfOk};
 ghost use Rattle.source_defs.specs.Fields as lines;
 ghost use Rattle.asm_defs.specs.Locations as places;
 ghost use Rattle.asm_defs.specs.FirstChecks as spec;
-ghost use Rattle.asm_text.specs.GivenFields.{defined_fields, FieldsLieInside};
 ghost use Rattle.asm_checks.specs.Answers.{Fails, Gives};
 ghost use Rattle.asm_checks.specs.Defined.{defined_statement, NamesOnly};
 ghost use Rattle.asm_checks.specs.Moves.{defined_move, MovesLittle};
 ghost use Rattle.asm_checks.specs.Checks.{defined_before, defined_said, defined_checked, IsSaid, KnowsPlaces};
-ghost use Rattle.asm_checks.specs.Checks.{ListsNames, listed_in, said_in, LooksNew, IsChecked, failure_behind};
+ghost use Rattle.asm_checks.specs.Checks.{ListsNames, listed_in, said_as_new, checked_as_new};
 ghost use Rattle.asm_checks.specs.Moves.{MovesWithin};
 
 use crate::failure::Failure;
@@ -20,7 +19,7 @@ use crate::titles::title_in;
 use crate::values::Scope;
 use asm_defs::{AsmCause, Location, Part};
 use asm_forms::Skeleton;
-use asm_text::{Fields, Name, Symbols, fields, is_quoted};
+use asm_text::{Name, Symbols, fields, is_quoted};
 use object_tags::MOST_NAMES;
 use std::alloc::{AllocError, Global};
 
@@ -64,28 +63,37 @@ pub struct Checked<'a> {
 }
 
 impl Before<'_> {
-    /// A line by the first checks, but for whether its label is new, which the label's definition tells. A refusal is
-    /// that of all first checks.
+    /// A line by the first checks, but for whether its label is new, which is told where the label is defined.
     pub fn checked<'b>(&self, text: &'b [u8]) -> Result<Checked<'b>, Failure>
         requires { KnowsPlaces self.now }
-        ensures checked { IfOk result (IsChecked (defined_before self.now) text.now) }
-        ensures refused { IfErr result (λ failure. Fails failure (spec.checked (defined_before self.now) text.now)) }
+        ensures checked { Gives defined_checked result (checked_as_new (defined_before self.now) text.now) }
         ensures line { IfOk result (λ checked. IsSaid checked.said) }
         ensures listed { IfOk result (λ checked. ListsNames checked.said) }
         ensures within { IfOk result (λ checked. MovesWithin checked.moved) }
     {
         let said = self.said(text)?;
-        match self.moved(&said) {
-            Ok(moved) => Ok(Checked { said, moved }),
-            Err(failure) => Err(self.behind_label(&said.label, failure)),
+        let moved = self.moved(&said)?;
+        Ok(Checked { said, moved })
+    }
+
+    /// Why the first checks refuse a line that they refuse with any label: a label that stands for something already comes
+    /// before another reason.
+    pub fn failure_of(&self, text: &[u8], failure: Failure) -> Failure
+        requires { Fails failure (checked_as_new (defined_before self.now) text.now) }
+        ensures { Fails result (spec.checked (defined_before self.now) text.now) }
+    {
+        match fields(text) {
+            Ok(found) if self.knows_label(&found.label) => {
+                Failure::Refused(AsmCause::DuplicateLabel)
+            }
+            _ => failure,
         }
     }
 
     /// What a line says, whose names of REF are new.
-    #[tactic(auto, unfolding(asm_defs::specs::FirstChecks::said))]
+    #[tactic(auto, unfolding(crate::specs::Checks::said_as_new))]
     fn said<'b>(&self, text: &'b [u8]) -> Result<Said<'b>, Failure>
-        ensures said { IfOk result (LooksNew (defined_before self.now) text.now) }
-        ensures refused { IfErr result (λ failure. Fails failure (spec.said (defined_before self.now) text.now)) }
+        ensures said { Gives defined_said result (said_as_new (defined_before self.now) text.now) }
         ensures line { IfOk result IsSaid }
         ensures listed { IfOk result ListsNames }
     {
@@ -93,22 +101,7 @@ impl Before<'_> {
             Ok(found) => found,
             Err(error) => return Err(Failure::Refused(AsmCause::Text(error))),
         };
-        match self.said_in(text, &found) {
-            Ok(said) => Ok(said),
-            Err(failure) => Err(self.behind_label(&found.label, failure)),
-        }
-    }
-
-    /// What a line with its fields says.
-    fn said_in<'b>(&self, text: &'b [u8], found: &Fields) -> Result<Said<'b>, Failure>
-        requires read { lines.fields text.now ≡ Ok (defined_fields found.now) }
-        requires inside { FieldsLieInside text.now found.now }
-        requires length { length text.now ≤ 256 }
-        ensures said { Gives defined_said result (said_in (defined_before self.now) text.now (defined_fields found.now)) }
-        ensures line { IfOk result IsSaid }
-        ensures listed { IfOk result ListsNames }
-    {
-        let (statement, skeleton) = statement_in(text, found)?;
+        let (statement, skeleton) = statement_in(text, &found)?;
         let listed = listed_names(self.alloc, &statement)?;
         if self.takes_known(found.label, &statement, listed.as_slice()) {
             return Err(Failure::Refused(AsmCause::DuplicateLabel));
@@ -119,17 +112,6 @@ impl Before<'_> {
             skeleton,
             listed,
         })
-    }
-
-    /// Why a line is not taken, where its label stands before another reason.
-    fn behind_label(&self, label: &Option<Name>, failure: Failure) -> Failure
-        ensures { result ≡ failure_behind (spec.any_known self.now.symbols.now (spec.label_in label.now)) failure }
-    {
-        if self.knows_label(label) {
-            Failure::Refused(AsmCause::DuplicateLabel)
-        } else {
-            failure
-        }
     }
 
     /// Whether a label stands for something already.

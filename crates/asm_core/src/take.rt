@@ -33,7 +33,7 @@ impl AsmLines {
         }
         let checked = match self.known().checked(text) {
             Ok(checked) => checked,
-            Err(failure) => return Err(self.refusal(failure)),
+            Err(failure) => return Err(self.refusal(self.known().failure_of(text, failure))),
         };
         match self.work(text, &checked) {
             Ok(()) => {

@@ -7,15 +7,15 @@ use Rattle.asm_defs.specs.Locations.{Line, location, reached, relocatable, behin
 use Rattle.asm_defs.specs.FirstChecks as spec
 use Rattle.asm_defs.specs.FirstChecks.{Before, known_of, line_of, location_behind, defs_in, refs_in, is_end}
 use Rattle.asm_defs.specs.Modules.{title_by}
-use Rattle.asm_defs.proofs.CheckLaws.{checked_within, checked_titled, checked_said, moved_room}
-use Rattle.asm_checks.specs.Checks.{defined_said, defined_checked, IsChecked}
-use Rattle.asm_checks.proofs.Labels.{checked_new, checked_known}
+use Rattle.asm_defs.proofs.CheckLaws.{checked_within, checked_titled, checked_said}
+use Rattle.asm_checks.specs.Checks.{defined_checked, checked_as_new}
+use Rattle.asm_checks.proofs.Labels.{checked_new, checked_known, has_room}
 use Rattle.asm_core.specs.Building.{Takes}
 use Rattle.asm_core.specs.declared.error.AsmError.{AsmError}
 use Rattle.asm_core.specs.Keeping.{known_in, names_with}
 use Rattle.asm_core.specs.Adding.{IsNext}
 use Rattle.asm_core.proofs.CountLaws.{counted}
-use Rattle.asm_core.proofs.HeldLaws.{has_room}
+use Rattle.asm_core.proofs.HeldLaws as held
 use Rattle.asm_core.proofs.LineLaws.{location_more, names_more, known_same}
 use Rattle.asm_core.proofs.WorkLaws.{works_same, still_behind, takes_none, takes_failed}
 use Rattle.asm_core.proofs.lines.AsmLines.take.Goals as goal
@@ -33,45 +33,44 @@ returns-then-is_comment_line c = λ lines is.
 pub work-requires-clause-room : goal.work-requires-clause-room
 work-requires-clause-room c =
     let found = defined_checked c.in-Ok.checked in
-    let line = defined_said c.in-Ok.checked.said in
-    let is : IsChecked (known_in c.args.self.now) c.args.text.now c.in-Ok.checked =
-    subst (λ (before : Before). IsChecked before c.args.text.now c.in-Ok.checked) c.known.ensures.known c.in-Ok.ensures.checked in
+    let is : checked_as_new (known_in c.args.self.now) c.args.text.now ≡ Ok found =
+    ap (λ (before : Before). checked_as_new before c.args.text.now) (sym c.known.ensures.known) ∙ c.in-Ok.ensures.checked in
     record {
-      room = has_room (known_in c.args.self.now) c.args.text.now line found c.args.self.now.placed is.said.says is.moved;
-      fits = omega (arith, moved_room (known_in c.args.self.now) line found c.args.self.now.placed is.moved);
+      room = held.has_room (known_in c.args.self.now) c.args.text.now found c.args.self.now.placed is;
+      fits = omega (arith, has_room (known_in c.args.self.now) c.args.text.now found is c.args.self.now.placed);
     }
 
 pub returns : goal.returns
 returns c = λ lines is.
-    let line : IsChecked (known_in c.args.self.now) c.args.text.now c.in-Ok.checked =
-    subst (λ (before : Before). IsChecked before c.args.text.now c.in-Ok.checked) c.known.ensures.known c.in-Ok.ensures.checked in
+    let is_new : checked_as_new (known_in c.args.self.now) c.args.text.now ≡ Ok (defined_checked c.in-Ok.checked) =
+    ap (λ (before : Before). checked_as_new before c.args.text.now) (sym c.known.ensures.known) ∙ c.in-Ok.ensures.checked in
     let behind = still_behind lines c.args.self.now c.work.new.self c.in-Err-work.ensures.unchanged c.work.ensures.still is in
     let failed = takes_failed (Unit {0}) lines c.args.text.now c.args.self.now.symbols c.in-Ok.checked.said.label c.in-Err-work.failure c.work.new.self
     c.in-Err-work.ensures.known
     (λ known.
     ap (λ answer. answer >>= λ found. Ok (line_of (length lines + 1) found))
     (ap (λ (before : Before). spec.checked before c.args.text.now) (sym (known_same lines c.args.self.now is))
-    ∙ checked_known (known_in c.args.self.now) c.args.text.now c.in-Ok.checked line known))
+    ∙ checked_known (known_in c.args.self.now) c.args.text.now (defined_checked c.in-Ok.checked) is_new known))
     behind.taken behind in
     subst (λ (error : AsmError). Takes {A = Unit {0}} lines c.args.text.now (Err error) c.work.new.self) (sym c.refusal-in-Err-work.ensures) failed
 
 pub advance-requires-clause-place : goal.advance-requires-clause-place
 advance-requires-clause-place c =
     let found = defined_checked c.in-Ok.checked in
-    let line : IsChecked (known_in c.args.self.now) c.args.text.now c.in-Ok.checked =
-    subst (λ (before : Before). IsChecked before c.args.text.now c.in-Ok.checked) c.known.ensures.known c.in-Ok.ensures.checked in
+    let is_new : checked_as_new (known_in c.args.self.now) c.args.text.now ≡ Ok (defined_checked c.in-Ok.checked) =
+    ap (λ (before : Before). checked_as_new before c.args.text.now) (sym c.known.ensures.known) ∙ c.in-Ok.ensures.checked in
     let known : spec.checked (known_in c.args.self.now) c.args.text.now ≡ Ok found =
-    checked_new (known_in c.args.self.now) c.args.text.now c.in-Ok.checked line c.in-Ok-work.ensures.fresh in
+    checked_new (known_in c.args.self.now) c.args.text.now (defined_checked c.in-Ok.checked) is_new c.in-Ok-work.ensures.fresh in
     subst (λ (from : Location). is_in_part (location_behind from found.move) ≡ true) (sym c.work.ensures.still.location)
     (checked_within (known_in c.args.self.now) c.args.text.now found known)
 
 pub advance-requires-clause-titled : goal.advance-requires-clause-titled
 advance-requires-clause-titled c =
     let found = defined_checked c.in-Ok.checked in
-    let line : IsChecked (known_in c.args.self.now) c.args.text.now c.in-Ok.checked =
-    subst (λ (before : Before). IsChecked before c.args.text.now c.in-Ok.checked) c.known.ensures.known c.in-Ok.ensures.checked in
+    let is_new : checked_as_new (known_in c.args.self.now) c.args.text.now ≡ Ok (defined_checked c.in-Ok.checked) =
+    ap (λ (before : Before). checked_as_new before c.args.text.now) (sym c.known.ensures.known) ∙ c.in-Ok.ensures.checked in
     let known : spec.checked (known_in c.args.self.now) c.args.text.now ≡ Ok found =
-    checked_new (known_in c.args.self.now) c.args.text.now c.in-Ok.checked line c.in-Ok-work.ensures.fresh in
+    checked_new (known_in c.args.self.now) c.args.text.now (defined_checked c.in-Ok.checked) is_new c.in-Ok-work.ensures.fresh in
     checked_titled (known_in c.args.self.now) c.args.text.now found known
 
 pub returns-in-Ok-work : goal.returns-in-Ok-work
@@ -79,10 +78,10 @@ returns-in-Ok-work c = λ lines is.
     let found = defined_checked c.in-Ok.checked in
     let number = length lines + 1 in
     let next_line : Line = line_of number found in
-    let line : IsChecked (known_in c.args.self.now) c.args.text.now c.in-Ok.checked =
-    subst (λ (before : Before). IsChecked before c.args.text.now c.in-Ok.checked) c.known.ensures.known c.in-Ok.ensures.checked in
+    let is_new : checked_as_new (known_in c.args.self.now) c.args.text.now ≡ Ok (defined_checked c.in-Ok.checked) =
+    ap (λ (before : Before). checked_as_new before c.args.text.now) (sym c.known.ensures.known) ∙ c.in-Ok.ensures.checked in
     let known : spec.checked (known_in c.args.self.now) c.args.text.now ≡ Ok found =
-    checked_new (known_in c.args.self.now) c.args.text.now c.in-Ok.checked line c.in-Ok-work.ensures.fresh in
+    checked_new (known_in c.args.self.now) c.args.text.now (defined_checked c.in-Ok.checked) is_new c.in-Ok-work.ensures.fresh in
     let checked : spec.checked (known_of lines) c.args.text.now ≡ Ok found =
     ap (λ (before : Before). spec.checked before c.args.text.now) (sym (known_same lines c.args.self.now is)) ∙ known in
     let added = c.in-Ok-work.ensures.added in
