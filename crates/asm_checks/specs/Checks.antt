@@ -1,5 +1,5 @@
 -- What the first checks of the code find, as the definitions have it.
-use Rattle.std.specs.Prelude.{◌≡◌, ◌≤◌, ℕ, true, List, [], Result}
+use Rattle.std.specs.Prelude.{◌≡◌, ◌≤◌, ℕ, List, [], Result, IsTrue}
 use Rattle.source_defs.specs.Refusals.{◌>>=◌, unless}
 use Rattle.source_defs.specs.Fields.{fields}
 use Rattle.asm_defs.specs.declared.causes.AsmCause.{AsmCause}
@@ -54,7 +54,7 @@ pub record IsSaid (said : Said) : Type 0 where
 
 -- the locations that were reached lie in their parts
 pub record KnowsPlaces (before : Before) : Type 0 where
-  pub location : is_in_part before.location ≡ true
+  pub location : IsTrue (is_in_part before.location)
   pub reached : before.reached ≤ 65535
 
 -- by what is known of the lines before

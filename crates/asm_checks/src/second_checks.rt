@@ -1,6 +1,6 @@
 //! The second checks of a line, and what it places.
 
-ghost use Rattle.std.specs.Prelude.{◌≡◌, ◌≤◌, map, IfOk, true, length};
+ghost use Rattle.std.specs.Prelude.{◌≡◌, ◌≤◌, map, IfOk, true, length, IsTrue};
 ghost use Rattle.source_defs.specs.Symbols.{look_up};
 ghost use Rattle.asm_text.specs.GivenValues.{defined_value};
 ghost use Rattle.source_defs.specs.Operands.{operand_texts};
@@ -190,7 +190,7 @@ impl Scope<'_> {
 
     /// Whether the names of DEF stand for something here.
     fn check_defs(&self, field: &[u8]) -> Result<(), Failure>
-        requires { said.all_names (operand_texts field.now) ≡ true }
+        requires { IsTrue (said.all_names (operand_texts field.now)) }
         ensures { Gives (λ _. spec.Nothing) result
             (spec.defs_known (look_up self.now.symbols.now) self.now.at (said.upper_names (operand_texts field.now))) }
     {

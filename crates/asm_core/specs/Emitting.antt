@@ -1,5 +1,5 @@
 -- What a builder emits of a line.
-use Rattle.std.specs.Prelude.{◌≡◌, ◌+◌, Bool, true, false, List, [], ◌∷◌, ◌++◌, Option, Some, None, Result, Ok, Err}
+use Rattle.std.specs.Prelude.{◌≡◌, ◌+◌, Bool, true, false, List, [], ◌∷◌, ◌++◌, Option, Some, None, Result, Ok, Err, IsTrue}
 use Rattle.source_defs.specs.Refusals.{seen}
 use Rattle.object_defs.specs.Modules.{Reference}
 use Rattle.asm_defs.specs.declared.causes.AsmCause.{AsmCause}
@@ -29,7 +29,7 @@ pub record SameLines (old new : AsmLines) : Type 0 where
 -- the bytes that a line places behind others at a place
 abbrev pub AreContents : Location → List Content → List Settled → Settled → Type 0
 AreContents at given earlier line =
-    (line.at ≡ at) × ((references : List Reference) → is_placed_in at.part ≡ true → given ≡ contents references earlier line)
+    (line.at ≡ at) × ((references : List Reference) → IsTrue (is_placed_in at.part) → given ≡ contents references earlier line)
 
 -- a line is placed behind others, and whether it has room
 pub record Places {A : Type 0} (earlier : List Settled) (line : Settled) (result : Result A AsmCause) (image : Option Image) : Type 0 where

@@ -1,5 +1,5 @@
 -- What a builder keeps of a line.
-use Rattle.std.specs.Prelude.{◌≡◌, ⊤, ℕ, true, List, ◌++◌, length, take, Option, option_to_list}
+use Rattle.std.specs.Prelude.{◌≡◌, ⊤, ℕ, List, ◌++◌, length, take, Option, option_to_list, IsTrue}
 use Rattle.source_defs.specs.Growing.{Grows}
 use Rattle.source_defs.specs.Symbols.{Names}
 use Rattle.source_defs.specs.Layout.{with_names}
@@ -33,7 +33,7 @@ names_with names checked =
 -- a label stands for something already, or memory was wanting
 abbrev pub KnowsLabel : Names → Option (List ℕ) → Failure → Type 0
 KnowsLabel names label Memory = ⊤
-KnowsLabel names label (Refused cause) = (cause ≡ DuplicateLabel) × (any_known names (label_in label) ≡ true)
+KnowsLabel names label (Refused cause) = (cause ≡ DuplicateLabel) × IsTrue (any_known names (label_in label))
 
 -- the line is kept with its names
 pub record Keeps (old : AsmLines) (waiting : Option Pending) (checked : Checked) (new : AsmLines) : Type 0 where

@@ -1,6 +1,6 @@
 //! The names that a line defines.
 
-ghost use Rattle.std.specs.Prelude.{◌≡◌, false, Some, None, OnOk, OnErr, IfErr};
+ghost use Rattle.std.specs.Prelude.{◌≡◌, false, Some, None, OnOk, OnErr, IfErr, IsFalse};
 ghost use Rattle.std.specs.FinMap.{find, get, insert};
 ghost use Rattle.std.specs.Ordering.{nat_cmp};
 ghost use Rattle.std.specs.Cmp.Lexicographic.{slice_cmp};
@@ -25,7 +25,7 @@ pub(crate) fn define_line(
     value: Value,
     refs: &[Name],
 ) -> Result<(), Failure>
-    ensures fresh { OnOk result (any_known symbols.old (label_in label) ≡ false) }
+    ensures fresh { OnOk result (IsFalse (any_known symbols.old (label_in label))) }
     ensures known { IfErr result (KnowsLabel symbols.old label) }
     ensures defined { OnOk result (symbols.new
         ≡ with_names (with_names symbols.old (label_entry label (defined_value value))) (external_entries refs.now)) }

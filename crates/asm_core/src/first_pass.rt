@@ -1,6 +1,6 @@
 //! The first pass over a line: what it comes to by the names that are known.
 
-ghost use Rattle.std.specs.Prelude.{◌≡◌, ◌≤◌, ◌+◌, IfOk, true, not};
+ghost use Rattle.std.specs.Prelude.{◌≡◌, ◌≤◌, ◌+◌, IfOk, true, not, IsTrue};
 ghost use Rattle.asm_defs.specs.Memory as memory;
 ghost use Rattle.asm_defs.specs.Growing.{size_said, held_place};
 ghost use Rattle.asm_checks.specs.Defined.{defined_statement};
@@ -91,7 +91,7 @@ impl FirstPass<'_> {
 
     /// The line, as it waits for names.
     fn pending(&self, text: &[u8]) -> Result<Pending, AllocError>
-        requires { has_room self.now.at text.now ≡ true }
+        requires { IsTrue (has_room self.now.at text.now) }
         ensures { IfOk result (IsPending self.now.number self.now.at text.now) }
     {
         Ok(Pending {

@@ -1,6 +1,6 @@
 //! What a builder keeps of a line.
 
-ghost use Rattle.std.specs.Prelude.{◌≡◌, ◌++◌, false, OnOk, OnErr, IfErr, option_to_list};
+ghost use Rattle.std.specs.Prelude.{◌≡◌, ◌++◌, false, OnOk, OnErr, IfErr, option_to_list, IsFalse};
 ghost use Rattle.source_defs.specs.Growing.{Grows};
 ghost use Rattle.asm_defs.specs.FirstChecks.{any_known, label_in, defs_in, refs_in};
 ghost use Rattle.asm_checks.specs.Defined.{defined_statement};
@@ -39,7 +39,7 @@ impl AsmLines {
     ) -> Result<(), Failure>
         requires { ListsNames checked.now.said }
         ensures kept { OnOk result (Keeps self.old waiting checked.now self.new) }
-        ensures fresh { OnOk result (any_known self.old.symbols (label_in checked.now.said.label) ≡ false) }
+        ensures fresh { OnOk result (IsFalse (any_known self.old.symbols (label_in checked.now.said.label))) }
         ensures known { IfErr result (KnowsLabel self.old.symbols checked.now.said.label) }
         ensures unchanged { OnErr result (IsUnchanged self.old self.new) }
         ensures work { SameWork self.old self.new }
@@ -61,7 +61,7 @@ impl AsmLines {
     fn add(&mut self, waiting: Option<Pending>, checked: &Checked<'_>) -> Result<(), Failure>
         requires { ListsNames checked.now.said }
         ensures kept { OnOk result (Keeps self.old waiting checked.now self.new) }
-        ensures fresh { OnOk result (any_known self.old.symbols (label_in checked.now.said.label) ≡ false) }
+        ensures fresh { OnOk result (IsFalse (any_known self.old.symbols (label_in checked.now.said.label))) }
         ensures known { IfErr result (KnowsLabel self.old.symbols checked.now.said.label) }
         ensures names { OnErr result (self.new.symbols ≡ self.old.symbols) }
         ensures starts { OnErr result (StartsAs self.old self.new) }
@@ -94,7 +94,7 @@ impl AsmLines {
     fn define_names(&mut self, checked: &Checked<'_>) -> Result<(), Failure>
         requires { ListsNames checked.now.said }
         ensures defined { OnOk result (self.new.symbols ≡ names_with self.old.symbols checked.now) }
-        ensures fresh { OnOk result (any_known self.old.symbols (label_in checked.now.said.label) ≡ false) }
+        ensures fresh { OnOk result (IsFalse (any_known self.old.symbols (label_in checked.now.said.label))) }
         ensures known { IfErr result (KnowsLabel self.old.symbols checked.now.said.label) }
         ensures grows { OnOk result (Grows self.old.symbols self.new.symbols) }
         ensures unchanged { OnErr result (self.new.symbols ≡ self.old.symbols) }

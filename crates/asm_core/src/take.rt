@@ -1,6 +1,6 @@
 //! A line that a builder takes.
 
-ghost use Rattle.std.specs.Prelude.{◌≡◌, ◌<◌, ◌≤◌, ◌+◌, ◌-◌, ◌^◌, ◌||◌, true, false, max, List, OnOk, OnErr, IfErr};
+ghost use Rattle.std.specs.Prelude.{◌≡◌, ◌<◌, ◌≤◌, ◌+◌, ◌-◌, ◌^◌, ◌||◌, true, false, max, List, OnOk, OnErr, IfErr, IsTrue, IsFalse};
 ghost use Rattle.asm_defs.specs.Locations as places;
 ghost use Rattle.asm_defs.specs.Modules.{title_by};
 ghost use Rattle.asm_defs.specs.FirstChecks as spec;
@@ -65,7 +65,7 @@ impl AsmLines {
         requires within { MovesWithin checked.now.moved }
         requires room { HasRoom (places.behind self.old.location checked.now.moved.gap) text.now (defined_statement checked.now.said.statement) }
         ensures added { OnOk result (Adds self.old text.now checked.now self.new) }
-        ensures fresh { OnOk result (spec.any_known self.old.symbols (spec.label_in checked.now.said.label) ≡ false) }
+        ensures fresh { OnOk result (IsFalse (spec.any_known self.old.symbols (spec.label_in checked.now.said.label))) }
         ensures known { IfErr result (KnowsLabel self.old.symbols checked.now.said.label) }
         ensures unchanged { OnErr result (IsAsBefore self.old self.new) }
         ensures still { StandsStill self.old self.new }
@@ -100,8 +100,8 @@ impl AsmLines {
     fn advance(&mut self, checked: &Checked<'_>)
         requires taken { self.old.taken < 2 ^ 32 - 1 }
         requires within { MovesWithin checked.now.moved }
-        requires place { places.is_in_part (spec.location_behind self.old.location (defined_move checked.now.moved))
-            ≡ true }
+        requires place { IsTrue
+            (places.is_in_part (spec.location_behind self.old.location (defined_move checked.now.moved))) }
         requires titled { IsTitled (defined_statement checked.now.said.statement) }
         ensures location { self.new.location ≡ spec.location_behind self.old.location (defined_move checked.now.moved) }
         ensures reached { self.new.reached ≡ max self.old.reached (places.relocatable self.new.location) }

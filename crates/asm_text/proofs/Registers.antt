@@ -1,16 +1,14 @@
 -- A text that is a name alone, and one that is the name of a register.
-use Rattle.std.proofs.Common.{◌≡◌, ℕ, ◌+◌, ◌<◌, ◌≤◌, ◌⊎◌, inl, inr, Bool, true, false, List, [], ◌∷◌, cond, length, get_or, Some, None, Ok, Err, refl, sym, ap, ◌∙◌, arith}
+use Rattle.std.proofs.Common.{◌≡◌, ℕ, ◌<◌, ◌≤◌, ◌⊎◌, inl, inr, Bool, true, false, List, cond, length, get_or, Some, None, Ok, Err, refl, sym, ap, ◌∙◌, arith}
 use Rattle.std.specs.Prelude.{Option, Result, not, nat_lt, nat_le, map, slice_range, ◌==◌, ◌&&◌, if◌then◌else◌}
-use Rattle.std.specs.List.{list_all}
 use Rattle.std.specs.FinMap.{get}
-use Rattle.std.specs.Option.{option_map}
 use Rattle.std.proofs.lemmas.Bool.{cases_lt, ltb-true, agree_below_at, eqb-true}
 use Rattle.std.proofs.lemmas.Bool.Decides.{nat_tests}
 use Rattle.std.proofs.lemmas.Grind.{common_steps}
 use Rattle.std.proofs.lemmas.List.Folds.{list_all_at}
 use Rattle.source_defs.specs.Characters.{is_digit, is_letter, upper_case}
 use Rattle.source_defs.specs.Names.{is_letter_or_digit, all_letters_or_digits, is_name}
-use Rattle.source_defs.specs.Least.{end_of, IsLeastPlace}
+use Rattle.source_defs.specs.Least.{IsLeastPlace}
 use Rattle.source_defs.specs.Tokens.{Token, Name, token_to, token_at, name_end, is_hexadecimal_sign}
 use Rattle.source_defs.specs.declared.causes.ExprError.{ExprError}
 use Rattle.source_defs.specs.declared.causes.ExprError.TheVariants.{BadToken}

@@ -1,5 +1,5 @@
 -- What a builder keeps of the lines that it has taken.
-use Rattle.std.specs.Prelude.{◌≡◌, ℕ, ◌+◌, false, List, ◌∷◌, length, Result, Ok, Err, ◌<◌, ◌-◌, ◌^◌}
+use Rattle.std.specs.Prelude.{◌≡◌, ℕ, ◌+◌, false, List, ◌∷◌, length, Result, Ok, Err, ◌<◌, ◌-◌, ◌^◌, IsFalse}
 use Rattle.std.specs.List.{AllByRecursion}
 use Rattle.source_defs.specs.Refusals.{Refusal, ◌>>=◌}
 use Rattle.source_defs.specs.Symbols.{Names}
@@ -49,7 +49,7 @@ pub record HasTaken (texts : List (List ℕ)) (builder : GplLines) : Type 0 wher
 
 -- no line that it has taken ends the source
 abbrev pub IsOpen : GplLines → Type 0
-IsOpen builder = builder.ended ≡ false
+IsOpen builder = IsFalse builder.ended
 
 -- it has taken fewer lines than can be counted
 abbrev pub CanCount : GplLines → Type 0

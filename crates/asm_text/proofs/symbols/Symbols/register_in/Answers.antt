@@ -1,4 +1,4 @@
-use Rattle.std.proofs.Common.{◌≡◌, Ok, subst, refl, sym, ap, ◌∙◌}
+use Rattle.std.proofs.Common.{◌≡◌, Ok, subst, refl}
 use Rattle.std.specs.FinMap.{get}
 use Rattle.source_defs.specs.Symbols.{Names}
 use Rattle.source_defs.specs.Expression.{Absolute, expression}
