@@ -85,7 +85,12 @@ module _ (before : spec.Before) (text : List ℕ) where
     keeps e =
         let a = bound (spec.as_expr (spec.move before.names before.location before.reached line.statement)) _ found e in
         let b = bound (unless (spec.is_too_far before line.statement a.0) Overflow a.0) _ found a.2 in
-        let c = let_through (spec.is_bad before line.label line.statement) BadDirective (record { label = line.label; statement = line.statement; move = b.0 }) found b.2 in
+        let c = let_through (spec.is_bad before line.label line.statement) BadDirective (record {
+          label = line.label;
+          statement = line.statement;
+          move =
+              b.0;
+        }) found b.2 in
         ap said_in c
 
   -- what the first checks let through but for its label

@@ -76,8 +76,8 @@ impl Before<'_> {
         Ok(Checked { said, moved })
     }
 
-    /// Why the first checks refuse a line that they refuse with any label: a label that stands for something already comes
-    /// before another reason.
+    /// Why the first checks refuse a line that they refuse with any label: a label that stands for something already
+    /// comes before another reason.
     pub fn failure_of(&self, text: &[u8], failure: Failure) -> Failure
         requires { Fails failure (checked_as_new (defined_before self.now) text.now) }
         ensures { Fails result (spec.checked (defined_before self.now) text.now) }
@@ -162,7 +162,8 @@ impl Before<'_> {
         requires places { KnowsPlaces self.now }
         requires within { MovesWithin moved.now }
         requires listed { ListsNames said.now }
-        ensures { result ≡ spec.is_too_far (defined_before self.now) (defined_statement said.now.statement) (defined_move moved.now) }
+        ensures { result ≡ spec.is_too_far (defined_before self.now) (defined_statement said.now.statement)
+            (defined_move moved.now) }
     {
         !is_in_part(location_behind(self.location, moved)) || self.lists_too_many(said)
     }

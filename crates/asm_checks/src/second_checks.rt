@@ -120,7 +120,8 @@ impl Scope<'_> {
     #[tactic(auto, using(crate::proofs::Failures::form_fails))]
     fn instruction_outcome(&self, skeleton: &Skeleton<'_>) -> Result<Outcome, Failure>
         ensures { Gives defined_outcome result
-            (words_by (second_checks (look_up self.now.symbols.now) (places.value_of self.now.at) (defined_skeleton skeleton.now))) }
+            (words_by (second_checks (look_up self.now.symbols.now) (places.value_of self.now.at)
+            (defined_skeleton skeleton.now))) }
     {
         let placed = words_of(self.alloc, skeleton, self.symbols, value_at(self.at))?;
         Ok(Outcome::Instruction(placed))

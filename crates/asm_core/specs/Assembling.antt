@@ -39,7 +39,8 @@ pub record ComesTo (known : Names) (at : Location) (statement : Statement) (give
   pub gives : GivesBytes at found given
 
 -- or it waits, and zeros hold its places
-pub record IsHeld (number : ℕ) (at : Location) (text : List ℕ) (statement : Statement) (pending : Pending) (given : List Content) : Type 0 where
+pub record IsHeld (number : ℕ) (at : Location) (text : List ℕ) (statement : Statement) (pending : Pending)
+    (given : List Content) : Type 0 where
   pub is : IsPending number at text pending
   pub gives : GivesBytes at (held_place at statement).outcome given
 
@@ -51,11 +52,13 @@ pub record IsRefused (known : Names) (at : Location) (statement : Statement) (ca
 abbrev pub AssemblesBy : Names → ℕ → Location → List ℕ → Statement → Option Pending → Emitted → Type 0
 AssemblesBy known number at text statement None (Bytes given) = ComesTo known at statement given.items
 AssemblesBy known number at text statement None (Refused cause) = IsRefused known at statement cause
-AssemblesBy known number at text statement (Some pending) (Bytes given) = IsHeld number at text statement pending given.items
+AssemblesBy known number at text statement (Some pending) (Bytes given) = IsHeld number at text statement pending
+    given.items
 AssemblesBy known number at text statement (Some pending) (Refused cause) = ⊥
 
 abbrev pub Assembles : Names → ℕ → Location → List ℕ → Statement → Assembled → Type 0
-Assembles known number at text statement assembled = AssemblesBy known number at text statement assembled.waiting assembled.emitted
+Assembles known number at text statement assembled = AssemblesBy known number at text statement assembled.waiting
+    assembled.emitted
 
 -- the bytes that a line emits end before its part does
 abbrev pub EmittedFits : Location → Emitted → Type 0

@@ -1,5 +1,6 @@
 -- What a builder keeps of the lines that it has taken.
-use Rattle.std.specs.Prelude.{◌≡◌, ℕ, ◌+◌, ◌-◌, ◌<◌, ◌^◌, ◌⊎◌, List, [], ◌∷◌, length, Option, Some, None, IsTrue, IsFalse}
+use Rattle.std.specs.Prelude.{◌≡◌, ℕ, ◌+◌, ◌-◌, ◌<◌, ◌^◌, ◌⊎◌, List, [], ◌∷◌, length, Option, Some, None, IsTrue}
+use Rattle.std.specs.Prelude.{IsFalse}
 use Rattle.std.specs.Prelude.{Result, Ok, Err}
 use Rattle.source_defs.specs.Orders.{onto}
 use Rattle.source_defs.specs.Symbols.{Names, look_up}
@@ -51,7 +52,8 @@ AreKnown known before [] (found ∷ founds) waiting = ⊥
 AreKnown known before (line ∷ lines) [] waiting = ⊥
 AreKnown known before (line ∷ lines) (found ∷ founds) waiting =
     (IsKnown known before line found × AreKnown known (line ∷ before) lines founds waiting)
-    ⊎ ((others : List Pending) × IsWaiting before line found waiting others × AreKnown known (line ∷ before) lines founds others)
+    ⊎ ((others : List Pending) × IsWaiting before line found waiting others
+    × AreKnown known (line ∷ before) lines founds others)
 
 -- what the lines place, whatever the names that others define; there is no image of no lines
 abbrev pub ImageOf : List Settled → Option Image → Type 0

@@ -41,8 +41,10 @@ impl AsmLines {
         requires taken { self.now.taken < 2 ^ 32 - 1 }
         requires line { IsSaid checked.now.said }
         requires within { MovesWithin checked.now.moved }
-        requires room { HasRoom (places.behind self.now.location checked.now.moved.gap) text.now (defined_statement checked.now.said.statement) }
-        ensures { IfOk result (Assembles self.now.symbols (self.now.taken + 1) (places.behind self.now.location checked.now.moved.gap)
+        requires room { HasRoom (places.behind self.now.location checked.now.moved.gap) text.now
+            (defined_statement checked.now.said.statement) }
+        ensures { IfOk result (Assembles self.now.symbols (self.now.taken + 1)
+            (places.behind self.now.location checked.now.moved.gap)
             text.now (defined_statement checked.now.said.statement)) }
     {
         let first_pass = FirstPass {

@@ -54,7 +54,8 @@ impl FirstPass<'_> {
         requires line { IsSaid said.now }
         requires room { HasRoom self.now.at text.now (defined_statement said.now.statement) }
         ensures { IfOk result
-            (Assembles self.now.symbols.now self.now.number self.now.at text.now (defined_statement said.now.statement)) }
+            (Assembles self.now.symbols.now self.now.number self.now.at text.now
+            (defined_statement said.now.statement)) }
     {
         let scope = Scope {
             alloc: self.alloc,
@@ -105,7 +106,8 @@ impl FirstPass<'_> {
     fn zeros(&self, said: &Said<'_>) -> Result<Vec<Content>, AllocError>
         requires little { MovesLittle said.now.statement }
         requires fits { self.now.at.number + size_said (defined_statement said.now.statement) ≤ 65536 }
-        ensures { IfOk result (λ zeros. GivesBytes self.now.at (held_place self.now.at (defined_statement said.now.statement)).outcome zeros.items) }
+        ensures { IfOk result (λ zeros. GivesBytes self.now.at
+            (held_place self.now.at (defined_statement said.now.statement)).outcome zeros.items) }
     {
         vec![in self.alloc; Content::Byte(0); size_said(&said.statement) as usize]
     }

@@ -5,7 +5,8 @@ ghost use Rattle.source_defs.specs.Growing.{Grows};
 ghost use Rattle.asm_defs.specs.FirstChecks.{any_known, label_in, defs_in, refs_in};
 ghost use Rattle.asm_checks.specs.Defined.{defined_statement};
 ghost use Rattle.asm_checks.specs.Checks.{defined_before, KnowsPlaces, ListsNames};
-ghost use Rattle.asm_core.specs.Keeping.{known_in, names_with, KnowsLabel, Keeps, IsUnchanged, StartsAs, SameLists, SameNames};
+ghost use Rattle.asm_core.specs.Keeping.{known_in, names_with, KnowsLabel, Keeps, IsUnchanged, StartsAs, SameLists};
+ghost use Rattle.asm_core.specs.Keeping.{SameNames};
 ghost use Rattle.asm_core.specs.Keeping.{SameWork, StandsStill};
 
 use crate::define::define_line;
@@ -30,8 +31,8 @@ impl AsmLines {
         }
     }
 
-    /// Keeps the names of a line, whose label has to be new, and the line where it waits. After a failure nothing of it is
-    /// kept.
+    /// Keeps the names of a line, whose label has to be new, and the line where it waits. After a failure nothing of it
+    /// is kept.
     pub(crate) fn keep(
         &mut self,
         waiting: Option<Pending>,

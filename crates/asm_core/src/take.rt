@@ -1,6 +1,7 @@
 //! A line that a builder takes.
 
-ghost use Rattle.std.specs.Prelude.{◌≡◌, ◌<◌, ◌≤◌, ◌+◌, ◌-◌, ◌^◌, ◌||◌, true, false, max, List, OnOk, OnErr, IfErr, IsTrue, IsFalse};
+ghost use Rattle.std.specs.Prelude.{◌≡◌, ◌<◌, ◌≤◌, ◌+◌, ◌-◌, ◌^◌, ◌||◌, true, false, max, List, OnOk, OnErr, IfErr};
+ghost use Rattle.std.specs.Prelude.{IsTrue, IsFalse};
 ghost use Rattle.asm_defs.specs.Locations as places;
 ghost use Rattle.asm_defs.specs.Modules.{title_by};
 ghost use Rattle.asm_defs.specs.FirstChecks as spec;
@@ -56,14 +57,15 @@ impl AsmLines {
         Ok(())
     }
 
-    /// Adds a line, whose label has to be new: its names, and what is known of it. Behind a line that is refused only the
-    /// names count.
+    /// Adds a line, whose label has to be new: its names, and what is known of it. Behind a line that is refused only
+    /// the names count.
     fn work(&mut self, text: &[u8], checked: &Checked<'_>) -> Result<(), Failure>
         requires taken { self.old.taken < 2 ^ 32 - 1 }
         requires line { IsSaid checked.now.said }
         requires listed { ListsNames checked.now.said }
         requires within { MovesWithin checked.now.moved }
-        requires room { HasRoom (places.behind self.old.location checked.now.moved.gap) text.now (defined_statement checked.now.said.statement) }
+        requires room { HasRoom (places.behind self.old.location checked.now.moved.gap) text.now
+            (defined_statement checked.now.said.statement) }
         ensures added { OnOk result (Adds self.old text.now checked.now self.new) }
         ensures fresh { OnOk result (IsFalse (spec.any_known self.old.symbols (spec.label_in checked.now.said.label))) }
         ensures known { IfErr result (KnowsLabel self.old.symbols checked.now.said.label) }

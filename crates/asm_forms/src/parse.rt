@@ -25,7 +25,8 @@ use std::alloc::Global;
 fn second_checks(scope: &Scope<'_>, skeleton: &Skeleton<'_>) -> Result<Placed, FormError>
     requires { IsNotExternal scope.now.here }
     ensures { Gives words_in result
-        (second.second_checks (look_up scope.now.symbols.now) (defined_value scope.now.here) (defined_skeleton skeleton.now)) }
+        (second.second_checks (look_up scope.now.symbols.now) (defined_value scope.now.here)
+        (defined_skeleton skeleton.now)) }
 {
     match skeleton {
         Skeleton::Word(word) => Ok(one_word(*word)),
@@ -69,7 +70,8 @@ pub fn parse_instr(
     requires sized { IsOk (first.line_size (operation_in line.now fields.now) (operands_in line.now fields.now)) }
     requires here { IsNotExternal here }
     ensures { Gives words_in result
-        (line_words (look_up symbols.now) (defined_value here) (operation_in line.now fields.now) (operands_in line.now fields.now)) }
+        (line_words (look_up symbols.now) (defined_value here) (operation_in line.now fields.now)
+        (operands_in line.now fields.now)) }
 {
     let skeleton = line_checks(line, fields)?;
     words_of(alloc, &skeleton, symbols, here)

@@ -57,7 +57,8 @@ impl Scope<'_> {
     ) -> Result<UpToTwo<Operand>, FormError>
         requires { IsNotExternal self.now.here }
         ensures { Gives (items_of defined_operand) result
-            (spec.all_valued (look_up self.now.symbols.now) (defined_value self.now.here) (slots_in slots) (items_of defined_form forms.now)) }
+            (spec.all_valued (look_up self.now.symbols.now) (defined_value self.now.here) (slots_in slots)
+            (items_of defined_form forms.now)) }
     {
         match (slots, forms) {
             (UpToTwo::One(slot), UpToTwo::One(form) | UpToTwo::Two(form, _))

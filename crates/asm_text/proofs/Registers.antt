@@ -29,7 +29,8 @@ not_true false e = refl
 ends : (text : List ℕ) → all_letters_or_digits text ≡ true → name_end text 0 ≡ length text
 ends text all = by (cases_lt (name_end text 0) (length text)) (least_places_are_least (λ k. not (is_letter_or_digit (get_or text k 0))) text 0 (omega arith))
   where
-    by : (name_end text 0 < length text) ⊎ (length text ≤ name_end text 0) → IsLeastPlace (λ k. not (is_letter_or_digit (get_or text k 0))) text 0 (name_end text 0) → name_end text 0 ≡ length text
+    by : (name_end text 0 < length text) ⊎ (length text ≤ name_end text 0)
+        → IsLeastPlace (λ k. not (is_letter_or_digit (get_or text k 0))) text 0 (name_end text 0) → name_end text 0 ≡ length text
     by (inl lt) least =
         let other : is_letter_or_digit (get_or text (name_end text 0) 0) ≡ false = not_true _ (least.passes lt) in
         cc (list_all_at is_letter_or_digit text (name_end text 0) 0 lt other, all)
@@ -64,7 +65,8 @@ name_alone text name =
     let sign : is_hexadecimal_sign (get_or text 0 0) ≡ false = grind (arith, nat_tests) in
     let digit : is_digit (get_or text 0 0) ≡ false = grind (arith, nat_tests) in
     let whole : slice_range text 0 (length text) ≡ text = grind (arith, common_steps) in
-    by_kind _ _ _ _ _ _ _ sign digit letter ∙ ap (token_of text) end ∙ (ap (λ field. field_token (is_name field) field (length text)) whole ∙ ap (λ b. field_token b text (length text)) name)
+    by_kind _ _ _ _ _ _ _ sign digit letter ∙ ap (token_of text) end ∙ (ap (λ field. field_token (is_name field) field (length text)) whole
+    ∙ ap (λ b. field_token b text (length text)) name)
 
 -- the number that a register stands for
 abbrev number_of : Option defined.Value → ℕ → Bool

@@ -40,4 +40,5 @@ returns c =
     let bytes = with_items_is c.self.inside.bytes c.write_at.new.to (omega (arith, kept.0.bytes_size)) in
     let marks = with_items_is c.self.inside.marks c.mark_at.new.marks (omega (arith, kept.0.marks_size)) in
     let image : image_of (with_items c.self.inside.bytes c.write_at.new.to).items (with_items c.self.inside.marks c.mark_at.new.marks).items ≡ placed (image_of c.self.inside.bytes.items c.self.inside.marks.items) c.from-place.result c.args.bytes.now = rw (bytes, marks) kept.1 in
-    image ∙ ap (λ (at : ℕ). placed (image_of c.self.inside.bytes.items c.self.inside.marks.items) at c.args.bytes.now) c.from-place.ensures ∙ ap (λ (m : Image). placed m c.args.at c.args.bytes.now) c.self.view_is
+    image ∙ ap (λ (at : ℕ). placed (image_of c.self.inside.bytes.items c.self.inside.marks.items) at c.args.bytes.now) c.from-place.ensures
+    ∙ ap (λ (m : Image). placed m c.args.at c.args.bytes.now) c.self.view_is

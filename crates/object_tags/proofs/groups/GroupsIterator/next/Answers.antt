@@ -25,7 +25,9 @@ steps c =
     sym c.self.view_is ∙ (first_group line at inside c.self.inside.form found is ∙ ap (λ (gs : List FoundGroup). found ∷ gs) (left c))
   where
     left : (c : goal.After-self-2)
-        → cond (ends_line (defined_found c.found_with-found.result)) [] (groups_from c.self.inside.form (take (c.self.inside.at + 1) c.self.inside.line.now) (size_found c.self.inside.form (defined_found c.found_with-found.result)) (drop (c.self.inside.at + 1) c.self.inside.line.now))
+        → cond (ends_line (defined_found c.found_with-found.result)) []
+        (groups_from c.self.inside.form (take (c.self.inside.at + 1) c.self.inside.line.now)
+        (size_found c.self.inside.form (defined_found c.found_with-found.result)) (drop (c.self.inside.at + 1) c.self.inside.line.now))
         ≡ c.if-ends_line.self
     left c = elim c.if-ends_line.branch [
       | then-ends_line w ↦ rw (sym (w.if-ends_line.ensures {u = tt})) (sym (w.self-is ∙ (w.new.ensures ∙ none_left c.self.inside.form)))
