@@ -171,7 +171,8 @@ IsImage-more (b ∷ bs) bytes marks low high at is some above within fits =
     let end : max (max high (at + 1)) (suc at + length bs) ≡ max high (at + suc (length bs)) = omega arith in
     let wrote = image_of-set bytes marks at b same lt_bytes in
     let first = IsImage-set bytes marks low high at b low is lt low_is in
-    let rest = IsImage-more bs (set bytes at b) (set marks at true) low (max high (at + 1)) (suc at) first (omega arith) (omega arith) (omega arith) (omega arith) in
+    let rest = IsImage-more bs (set bytes at b) (set marks at true) low (max high (at + 1)) (suc at) first (omega arith) (omega arith) (omega arith)
+    (omega arith) in
     (rw (← end) rest.0, rest.1 ∙ ap (λ (m : Image). placed m (suc at) bs) wrote ∙ ap (λ (n : ℕ). placed (insert (image_of bytes marks) at b) n bs) next)
 
 -- one byte or more, written one after the other to the tables and ends, are so written to the image, and keep what holds of every image
@@ -188,7 +189,8 @@ IsImage-sets b bs bytes marks low high at next_low is fits low_is =
     let end : max (max high (at + 1)) (suc at + length bs) ≡ max high (at + suc (length bs)) = omega arith in
     let wrote = image_of-set bytes marks at b same lt_bytes in
     let first = IsImage-set bytes marks low high at b next_low is lt low_is in
-    let rest = IsImage-more bs (set bytes at b) (set marks at true) next_low (max high (at + 1)) (suc at) first (omega arith) above (omega arith) (omega arith) in
+    let rest = IsImage-more bs (set bytes at b) (set marks at true) next_low (max high (at + 1)) (suc at) first (omega arith) above (omega arith)
+    (omega arith) in
     (rw (← end) rest.0, rest.1 ∙ ap (λ (m : Image). placed m (suc at) bs) wrote ∙ ap (λ (n : ℕ). placed (insert (image_of bytes marks) at b) n bs) next)
 
 -- one byte or more over the bytes of the table from an address on, and as many marks, are writes to the image one after the other

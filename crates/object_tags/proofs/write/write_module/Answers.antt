@@ -35,7 +35,8 @@ returns-clause-text c =
     composed w0 w1 w2 w3 w4 w5 (Group (header_text m.size m.name) ∷ []) (map Placed m.pieces)
     (map (λ definition. Group (definition_text definition)) (map defined_def m.defs))
     (map (λ reference. Group (reference_text reference)) (map defined_ref m.refs)) (entry_items m.entry) header pieces defined_defs defined_refs entry in
-    let text : whole w5 [] ≡ written (defined_module m) = all ∙ begins w0 (items_of (defined_module m)) c.new-writer.ensures.text c.new-writer.ensures.line c.new-writer.ensures.number in
+    let text : whole w5 [] ≡ written (defined_module m) = all ∙ begins w0 (items_of (defined_module m)) c.new-writer.ensures.text c.new-writer.ensures.line
+    c.new-writer.ensures.number in
     subst (λ (bytes : List ℕ). IfOk c.finish.result (λ found. found.items ≡ bytes)) text c.finish.ensures
 
 pub returns-clause-read_again : goal.returns-clause-read_again

@@ -20,7 +20,8 @@ steps c =
     let found : FoundGroup = defined_found c.found_with-found.result in
     let sum : complement ((c.self.inside.total + get_or line at 0) % 65536) ≡ checksum (take at line ++ get_or line at 0 ∷ []) =
     next_checksum line at inside c.self.inside.total c.self.invariant.2 in
-    let is : found ≡ found_with c.self.inside.form (checksum (take at line ++ get_or line at 0 ∷ [])) (get_or line at 0) (tag_at c.self.inside.form at (get_or line at 0)) (drop (at + 1) line) =
+    let is : found ≡ found_with c.self.inside.form (checksum (take at line ++ get_or line at 0 ∷ [])) (get_or line at 0)
+    (tag_at c.self.inside.form at (get_or line at 0)) (drop (at + 1) line) =
     c.found_with-found.ensures ∙ rw (c.complement.ensures, c.from.ensures, sum, c.tag_at-tag.ensures, c.behind-fields.ensures) refl in
     sym c.self.view_is ∙ (first_group line at inside c.self.inside.form found is ∙ ap (λ (gs : List FoundGroup). found ∷ gs) (left c))
   where
