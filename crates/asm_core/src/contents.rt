@@ -1,6 +1,6 @@
 //! The bytes of what a line comes to.
 
-ghost use Rattle.std.specs.Prelude.{◌≡◌, ◌≤◌, ◌+◌, ◌*◌, map, true, length, IfOk, OnOk, IsTrue};
+ghost use Rattle.std.specs.Prelude.{◌≡◌, ◌≤◌, ◌+◌, ◌*◌, map, length, IfOk, OnOk, IsTrue};
 ghost use Rattle.object_tags.specs.Seen.{defined_ref};
 ghost use Rattle.asm_forms.specs.Placed.{defined_word, defined_words};
 ghost use Rattle.asm_defs.specs.Memory as spec;

@@ -1,6 +1,6 @@
 //! The names that a line defines.
 
-ghost use Rattle.std.specs.Prelude.{◌≡◌, false, Some, None, OnOk, OnErr, IfErr, IsFalse};
+ghost use Rattle.std.specs.Prelude.{◌≡◌, Some, None, OnOk, OnErr, IfErr, IsFalse};
 ghost use Rattle.std.specs.FinMap.{find, get, insert};
 ghost use Rattle.std.specs.Ordering.{nat_cmp};
 ghost use Rattle.std.specs.Cmp.Lexicographic.{slice_cmp};

@@ -1,6 +1,6 @@
 //! The first pass over a line: what it comes to by the names that are known.
 
-ghost use Rattle.std.specs.Prelude.{◌≡◌, ◌≤◌, ◌+◌, IfOk, true, not, IsTrue};
+ghost use Rattle.std.specs.Prelude.{◌≡◌, ◌≤◌, ◌+◌, IfOk, not, IsTrue};
 ghost use Rattle.asm_defs.specs.Memory as memory;
 ghost use Rattle.asm_defs.specs.Growing.{size_said, held_place};
 ghost use Rattle.asm_checks.specs.Defined.{defined_statement};

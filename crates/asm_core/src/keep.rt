@@ -1,6 +1,6 @@
 //! What a builder keeps of a line.
 
-ghost use Rattle.std.specs.Prelude.{◌≡◌, ◌++◌, false, OnOk, OnErr, IfErr, option_to_list, IsFalse};
+ghost use Rattle.std.specs.Prelude.{◌≡◌, ◌++◌, OnOk, OnErr, IfErr, option_to_list, IsFalse};
 ghost use Rattle.source_defs.specs.Growing.{Grows};
 ghost use Rattle.asm_defs.specs.FirstChecks.{any_known, label_in, defs_in, refs_in};
 ghost use Rattle.asm_checks.specs.Defined.{defined_statement};

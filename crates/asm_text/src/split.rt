@@ -1,7 +1,7 @@
 //! A line as fields.
 
 ghost use Rattle.std.specs.Prelude.{◌≡◌, ◌≤◌, ◌<◌, ◌-◌, ◌++◌, ◌↔◌, ◌&&◌, IsTrue};
-ghost use Rattle.std.specs.Prelude.{ℕ, Some, None, Ok, length, take, map, replicate, slice_range, true, nat_le};
+ghost use Rattle.std.specs.Prelude.{ℕ, Some, None, Ok, length, take, map, replicate, slice_range, nat_le};
 ghost use Rattle.std.specs.Prelude.{is_some, IfOk, IfSome, if◌then◌else◌};
 ghost use Rattle.source_defs.specs.Fields as spec;
 ghost use Rattle.source_defs.specs.Characters.{upper_case};
