@@ -14,16 +14,19 @@ use Rattle.asm_checks.specs.Answers.{Gives}
 use Rattle.asm_checks.specs.Defined.{IsLeftOf, LeavesSkeleton, defined_statement}
 use Rattle.asm_checks.specs.Outcomes.{defined_outcome, words_by}
 use Rattle.asm_checks.specs.declared.statement.Statement.{Statement}
-use Rattle.asm_checks.specs.declared.statement.Statement.TheVariants.{Nothing, Instruction, Aorg, Rorg, Dorg, Bss, Bes, Even, Equ, Data, Byte, Text, Def, Ref, Idt, Titl, End}
+use Rattle.asm_checks.specs.declared.statement.Statement.TheVariants.{Nothing, Instruction, Aorg, Rorg, Dorg, Bss, Bes, Even, Equ, Data, Byte, Text, Def, Ref}
+use Rattle.asm_checks.specs.declared.statement.Statement.TheVariants.{Idt, Titl, End}
 use Rattle.asm_checks.specs.declared.failure.Failure.{Failure}
 use Rattle.asm_checks.specs.declared.second_checks.Outcome.{Outcome}
 
-module _ (look : List ℕ → Option Value) (at : Location) (size : ℕ) (operation field : List ℕ) (skeleton : Skeleton) (is : IsLeftOf operation field size skeleton) where
+module _ (look : List ℕ → Option Value) (at : Location) (size : ℕ) (operation field : List ℕ) (skeleton : Skeleton)
+    (is : IsLeftOf operation field size skeleton) where
   comes : spec.outcome look at (said.Instruction size operation field) ≡ words_by (second_checks look (value_of at) (defined_skeleton skeleton))
   unfolding spec.outcome
   comes = ap (λ skeleton. words_by (skeleton >>= λ skeleton. second_checks look (value_of at) skeleton)) is.checked
 
-  pub instruction_given : (result : Result Outcome Failure) → Gives defined_outcome result (words_by (second_checks look (value_of at) (defined_skeleton skeleton)))
+  pub instruction_given : (result : Result Outcome Failure) → Gives defined_outcome result
+      (words_by (second_checks look (value_of at) (defined_skeleton skeleton)))
       → Gives defined_outcome result (spec.outcome look at (said.Instruction size operation field))
   instruction_given result given = subst (Gives defined_outcome result) (sym comes) given
 

@@ -3,3 +3,4 @@ pub mod Failures
 pub mod Padding
 pub mod Listed
 pub mod Instructions
+pub mod Labels

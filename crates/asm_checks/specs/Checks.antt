@@ -1,10 +1,14 @@
 -- What the first checks of the code find, as the definitions have it.
-use Rattle.std.specs.Prelude.{◌≡◌, ◌≤◌, ℕ, true, List, []}
+use Rattle.std.specs.Prelude.{◌≡◌, ◌≤◌, ℕ, List, [], Result, IsTrue}
+use Rattle.source_defs.specs.Refusals.{◌>>=◌, unless}
+use Rattle.source_defs.specs.Fields.{fields}
+use Rattle.asm_defs.specs.declared.causes.AsmCause.{AsmCause}
+use Rattle.asm_defs.specs.declared.causes.AsmCause.TheVariants.{DuplicateLabel}
 use Rattle.asm_defs.specs.Locations.{is_in_part}
 use Rattle.asm_defs.specs.FirstChecks as spec
 use Rattle.asm_checks.specs.Defined.{defined_statement, KeepsSkeleton, NamesOnly}
 use Rattle.asm_checks.specs.Moves.{defined_move, MovesLittle}
-use Rattle.asm_defs.specs.Statements.{upper_names}
+use Rattle.asm_defs.specs.Statements.{upper_names, as_text, statement_in}
 use Rattle.source_defs.specs.Operands.{operand_texts}
 use Rattle.asm_checks.specs.declared.statement.Statement.{Statement}
 use Rattle.asm_checks.specs.declared.statement.Statement.TheVariants.{Def, Ref}
@@ -50,5 +54,19 @@ pub record IsSaid (said : Said) : Type 0 where
 
 -- the locations that were reached lie in their parts
 pub record KnowsPlaces (before : Before) : Type 0 where
-  pub location : is_in_part before.location ≡ true
+  pub location : IsTrue (is_in_part before.location)
   pub reached : before.reached ≤ 65535
+
+-- by what is known of the lines before
+module _ (before : spec.Before) where
+  -- what a line says, whose names of REF are new, and whose label may stand for something already
+  unfoldable pub said_as_new : List ℕ → Result spec.Said AsmCause
+  said_as_new text = do
+    found ← as_text (fields text)
+    statement ← statement_in text found
+    unless (spec.is_taken before.names found.label (spec.refs_in statement)) DuplicateLabel
+        (record { label = found.label; statement = statement })
+
+  -- and where it leads
+  abbrev pub checked_as_new : List ℕ → Result spec.Checked AsmCause
+  checked_as_new text = said_as_new text >>= spec.moved before

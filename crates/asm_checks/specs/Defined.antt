@@ -1,5 +1,5 @@
 -- What the code finds in a line, as the definitions have it.
-use Rattle.std.specs.Prelude.{ℕ, List, Option, Some, None, Ok, true, ⊤, ◌≡◌}
+use Rattle.std.specs.Prelude.{ℕ, List, Option, Some, None, Ok, ⊤, ◌≡◌, IsTrue}
 use Rattle.std.specs.Option.{option_map}
 use Rattle.source_defs.specs.Operands.{operand_texts}
 use Rattle.instruction_defs.specs.FirstChecks.{first_checks, size_of}
@@ -48,8 +48,8 @@ defined_statement (End text) = spec.End (option_map (λ found. found.now) text)
 
 -- the operands of DEF and REF are names
 abbrev pub NamesOnly : Statement → Type 0
-NamesOnly (Def field) = spec.all_names (operand_texts field.now) ≡ true
-NamesOnly (Ref field) = spec.all_names (operand_texts field.now) ≡ true
+NamesOnly (Def field) = IsTrue (spec.all_names (operand_texts field.now))
+NamesOnly (Ref field) = IsTrue (spec.all_names (operand_texts field.now))
 NamesOnly _ = ⊤
 
 -- a statement that is no instruction

@@ -1,14 +1,14 @@
 //! The first checks of a line.
 
-ghost use Rattle.std.specs.Prelude.{◌≡◌, ◌≤◌, ◌+◌, length, true, IfOk};
+ghost use Rattle.std.specs.Prelude.{◌≡◌, ◌≤◌, ◌+◌, IfOk};
 ghost use Rattle.source_defs.specs.Fields as lines;
 ghost use Rattle.asm_defs.specs.Locations as places;
 ghost use Rattle.asm_defs.specs.FirstChecks as spec;
-ghost use Rattle.asm_checks.specs.Answers.{Gives};
+ghost use Rattle.asm_checks.specs.Answers.{Fails, Gives};
 ghost use Rattle.asm_checks.specs.Defined.{defined_statement, NamesOnly};
 ghost use Rattle.asm_checks.specs.Moves.{defined_move, MovesLittle};
 ghost use Rattle.asm_checks.specs.Checks.{defined_before, defined_said, defined_checked, IsSaid, KnowsPlaces};
-ghost use Rattle.asm_checks.specs.Checks.{ListsNames, listed_in};
+ghost use Rattle.asm_checks.specs.Checks.{ListsNames, listed_in, said_as_new, checked_as_new};
 ghost use Rattle.asm_checks.specs.Moves.{MovesWithin};
 
 use crate::failure::Failure;
@@ -63,10 +63,10 @@ pub struct Checked<'a> {
 }
 
 impl Before<'_> {
-    /// A line by the first checks.
+    /// A line by the first checks, but for whether its label is new, which is told where the label is defined.
     pub fn checked<'b>(&self, text: &'b [u8]) -> Result<Checked<'b>, Failure>
         requires { KnowsPlaces self.now }
-        ensures checked { Gives defined_checked result (spec.checked (defined_before self.now) text.now) }
+        ensures checked { Gives defined_checked result (checked_as_new (defined_before self.now) text.now) }
         ensures line { IfOk result (λ checked. IsSaid checked.said) }
         ensures listed { IfOk result (λ checked. ListsNames checked.said) }
         ensures within { IfOk result (λ checked. MovesWithin checked.moved) }
@@ -76,10 +76,24 @@ impl Before<'_> {
         Ok(Checked { said, moved })
     }
 
-    /// What a line says, whose names are new.
-    #[tactic(auto, unfolding(asm_defs::specs::FirstChecks::said))]
+    /// Why the first checks refuse a line that they refuse with any label: a label that stands for something already
+    /// comes before another reason.
+    pub fn failure_of(&self, text: &[u8], failure: Failure) -> Failure
+        requires { Fails failure (checked_as_new (defined_before self.now) text.now) }
+        ensures { Fails result (spec.checked (defined_before self.now) text.now) }
+    {
+        match fields(text) {
+            Ok(found) if self.knows_label(&found.label) => {
+                Failure::Refused(AsmCause::DuplicateLabel)
+            }
+            _ => failure,
+        }
+    }
+
+    /// What a line says, whose names of REF are new.
+    #[tactic(auto, unfolding(crate::specs::Checks::said_as_new))]
     fn said<'b>(&self, text: &'b [u8]) -> Result<Said<'b>, Failure>
-        ensures said { Gives defined_said result (spec.said (defined_before self.now) text.now) }
+        ensures said { Gives defined_said result (said_as_new (defined_before self.now) text.now) }
         ensures line { IfOk result IsSaid }
         ensures listed { IfOk result ListsNames }
     {
@@ -87,9 +101,6 @@ impl Before<'_> {
             Ok(found) => found,
             Err(error) => return Err(Failure::Refused(AsmCause::Text(error))),
         };
-        if self.knows_label(&found.label) {
-            return Err(Failure::Refused(AsmCause::DuplicateLabel));
-        }
         let (statement, skeleton) = statement_in(text, &found)?;
         let listed = listed_names(self.alloc, &statement)?;
         if self.takes_known(found.label, &statement, listed.as_slice()) {
@@ -151,7 +162,8 @@ impl Before<'_> {
         requires places { KnowsPlaces self.now }
         requires within { MovesWithin moved.now }
         requires listed { ListsNames said.now }
-        ensures { result ≡ spec.is_too_far (defined_before self.now) (defined_statement said.now.statement) (defined_move moved.now) }
+        ensures { result ≡ spec.is_too_far (defined_before self.now) (defined_statement said.now.statement)
+            (defined_move moved.now) }
     {
         !is_in_part(location_behind(self.location, moved)) || self.lists_too_many(said)
     }

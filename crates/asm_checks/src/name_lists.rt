@@ -1,6 +1,6 @@
 //! The names of DEF and REF.
 
-ghost use Rattle.std.specs.Prelude.{◌≡◌, true, IfOk};
+ghost use Rattle.std.specs.Prelude.{◌≡◌, true, IfOk, IsTrue};
 ghost use Rattle.source_defs.specs.Refusals.{seen};
 ghost use Rattle.source_defs.specs.Operands.{operand_texts};
 ghost use Rattle.asm_defs.specs.Statements as spec;
@@ -11,7 +11,7 @@ use asm_text::{OperandError, is_name, operands};
 pub(crate) fn names_of(field: &[u8]) -> Result<&[u8], OperandError>
     ensures names { seen (λ found. spec.upper_names (operand_texts found.now)) result
         ≡ spec.names_in (operand_texts field.now) }
-    ensures all { IfOk result (λ found. spec.all_names (operand_texts found.now) ≡ true) }
+    ensures all { IfOk result (λ found. IsTrue (spec.all_names (operand_texts found.now))) }
 {
     if operands(field).next().is_none() {
         return Err(OperandError::Count);

@@ -1,6 +1,6 @@
 //! The names that a line defines or refers to.
 
-ghost use Rattle.std.specs.Prelude.{◌≡◌, true, IfOk};
+ghost use Rattle.std.specs.Prelude.{◌≡◌, true, IfOk, IsTrue};
 ghost use Rattle.source_defs.specs.Operands.{operand_texts};
 ghost use Rattle.asm_defs.specs.Statements.{all_names, upper_names};
 ghost use Rattle.asm_defs.specs.FirstChecks as spec;
@@ -10,7 +10,7 @@ use std::alloc::{AllocError, Global};
 
 /// The names of a field, in upper case. Each of its operands is a name.
 pub(crate) fn names_in(alloc: Global, field: &[u8]) -> Result<Vec<Name>, AllocError>
-    requires { all_names (operand_texts field.now) ≡ true }
+    requires { IsTrue (all_names (operand_texts field.now)) }
     ensures { IfOk result (λ names. names.items ≡ upper_names (operand_texts field.now)) }
 {
     let mut names = Vec::new(alloc);

@@ -1,6 +1,6 @@
 //! The second checks of a line, and what it places.
 
-ghost use Rattle.std.specs.Prelude.{◌≡◌, ◌≤◌, map, IfOk, true, length};
+ghost use Rattle.std.specs.Prelude.{◌≡◌, ◌≤◌, map, IfOk, true, length, IsTrue};
 ghost use Rattle.source_defs.specs.Symbols.{look_up};
 ghost use Rattle.asm_text.specs.GivenValues.{defined_value};
 ghost use Rattle.source_defs.specs.Operands.{operand_texts};
@@ -120,7 +120,8 @@ impl Scope<'_> {
     #[tactic(auto, using(crate::proofs::Failures::form_fails))]
     fn instruction_outcome(&self, skeleton: &Skeleton<'_>) -> Result<Outcome, Failure>
         ensures { Gives defined_outcome result
-            (words_by (second_checks (look_up self.now.symbols.now) (places.value_of self.now.at) (defined_skeleton skeleton.now))) }
+            (words_by (second_checks (look_up self.now.symbols.now) (places.value_of self.now.at)
+            (defined_skeleton skeleton.now))) }
     {
         let placed = words_of(self.alloc, skeleton, self.symbols, value_at(self.at))?;
         Ok(Outcome::Instruction(placed))
@@ -190,7 +191,7 @@ impl Scope<'_> {
 
     /// Whether the names of DEF stand for something here.
     fn check_defs(&self, field: &[u8]) -> Result<(), Failure>
-        requires { said.all_names (operand_texts field.now) ≡ true }
+        requires { IsTrue (said.all_names (operand_texts field.now)) }
         ensures { Gives (λ _. spec.Nothing) result
             (spec.defs_known (look_up self.now.symbols.now) self.now.at (said.upper_names (operand_texts field.now))) }
     {

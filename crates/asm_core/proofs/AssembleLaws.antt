@@ -88,7 +88,8 @@ pub comes_within : (look : List ℕ → Option Value) (at : Location) (statement
 comes_within look at statement skeleton found is e =
     outcome_size look at (defined_statement statement) found (sized statement skeleton is) e
 
-pub gives : (at : Location) (found : Outcome) (given : List Content) → at.number + bytes_in found ≤ 65536 → given ≡ contents_by at [] found → GivesBytes at found given
+pub gives : (at : Location) (found : Outcome) (given : List Content) → at.number + bytes_in found ≤ 65536 → given ≡ contents_by at [] found
+    → GivesBytes at found given
 gives at found given within is =
     let size : length given ≡ bytes_in found = ap length is ∙ contents_length at [] found in
     record { bytes = λ placed. is; within = omega (arith, within, size) }

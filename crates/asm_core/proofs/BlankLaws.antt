@@ -77,7 +77,8 @@ module _ (at : Location) where
     pub room_for_nothing : word_count earlier ≤ 32768 → with_room earlier nothing_placed ≡ Ok nothing_placed
     room_for_nothing most = has_room earlier nothing_placed (omega (arith, most, count_same_here)) refl
 
-    content_same : (references : List Reference) (part : Part) (p : ℕ) → content_at references (nothing_placed ∷ earlier) part p ≡ content_at references earlier part p
+    content_same : (references : List Reference) (part : Part) (p : ℕ) → content_at references (nothing_placed ∷ earlier) part p
+        ≡ content_at references earlier part p
     content_same references part p = rw (covers_none part p) refl
 
     image_same : (references : List Reference) (image : Image) → IsImage references earlier image → IsImage references (nothing_placed ∷ earlier) image
@@ -91,7 +92,8 @@ module _ (at : Location) where
     image_still (Some image) some is = λ references. image_same references image (is references)
 
 -- the lines that stand have no more words than a module may have
-most_of : (words : ℕ) (over : Bool) (line : Settled) → (if nat_lt 32768 words then Err Overflow else if over then Err Overlap else Ok line) ≡ Ok line → words ≤ 32768
+most_of : (words : ℕ) (over : Bool) (line : Settled) → (if nat_lt 32768 words then Err Overflow else if over then Err Overlap else Ok line) ≡ Ok line
+    → words ≤ 32768
 most_of words over line e = by (nat_lt 32768 words) refl e
   where
     by : (full : Bool) → nat_lt 32768 words ≡ full → (if full then Err Overflow else if over then Err Overlap else Ok line) ≡ Ok line → words ≤ 32768

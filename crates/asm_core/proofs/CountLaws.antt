@@ -29,7 +29,8 @@ module _ (lines : List Line) (names : Names) (line : Line) (says : line.statemen
   worked_on None is =
       nothing_more names names (unchanged names) lines line image waiting is image' says
       (λ placed. image_still (place lines line) (onto [] is.founds) image' ready (made (onto [] is.founds) placed))
-  worked_on (Some refused) is = worked_stopped names names (unchanged names) lines line (Some refused) (Some refused) image image' waiting waiting refl refl refl is
+  worked_on (Some refused) is = worked_stopped names names (unchanged names) lines line (Some refused)
+      (Some refused) image image' waiting waiting refl refl refl is
 
 module _ (lines : List Line) (text : List ℕ) (old new : AsmLines) (none : fields text ≡ Ok no_fields) (counts : Counts old new) (is : IsBehind lines old) where
   abbrev line : Line

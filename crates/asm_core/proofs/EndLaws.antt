@@ -23,9 +23,11 @@ use Rattle.asm_core.specs.Finishing.{RefusesAt, AreResolved, StopsBehind, Knows,
 use Rattle.asm_core.proofs.ResolveLaws.{settled_stopped, refuses_on}
 
 -- the lines before the one that is refused, or all
-worked_refused : (lines : List Line) (known : Names) (image : Option Image) (waiting : List Pending) (refused : Option Refused) → IsWorked lines known image waiting refused
+worked_refused : (lines : List Line) (known : Names) (image : Option Image) (waiting : List Pending) (refused : Option Refused)
+    → IsWorked lines known image waiting refused
     → (error : AsmError)
-    → ((order : List Line) (founds : List Settled) → AreKnown known [] order founds waiting → AllStand [] founds → RefusesAt error (settled (settle known) (onto [] order)))
+    → ((order : List Line) (founds : List Settled) → AreKnown known [] order founds waiting → AllStand [] founds
+    → RefusesAt error (settled (settle known) (onto [] order)))
     → RefusesAt error (settled (settle known) lines)
 worked_refused lines known image waiting None is error refuses =
     refuses_on error (settled (settle known) (onto [] is.order)) (settled (settle known) lines)
@@ -56,9 +58,11 @@ module _ (lines : List Line) (old new : AsmLines) (is : IsBehind lines old) (sam
       → RefusesAt error (module_behind lines)
   ends_refused error refuses = whole error (worked_refused lines new.symbols old.image new.waiting.items new.refused works error refuses)
 
-  module _ (unused : List Reference) (first last : Output) (done : (order : List Line) (founds : List Settled) → AreKnown new.symbols [] order founds new.waiting.items → AllStand [] founds → AreResolved unused order founds new.symbols first last) where
+  module _ (unused : List Reference) (first last : Output) (done : (order : List Line) (founds : List Settled)
+      → AreKnown new.symbols [] order founds new.waiting.items → AllStand [] founds → AreResolved unused order founds new.symbols first last) where
     pub ends_stopped : (refused : Refused) → new.refused ≡ Some refused → (error : AsmError)
-        → ((lines : List Line) (waiting : List Pending) (done : List Settled) → (is : IsStopped refused lines new.symbols waiting) → StopsBehind new.symbols lines is.order is.founds done error)
+        → ((lines : List Line) (waiting : List Pending) (done : List Settled) → (is : IsStopped refused lines new.symbols waiting)
+        → StopsBehind new.symbols lines is.order is.founds done error)
         → RefusesAt error (module_behind lines)
     ends_stopped refused some error stops =
         let stopped : IsStopped refused lines new.symbols new.waiting.items = subst (IsWorked lines new.symbols old.image new.waiting.items) some works in

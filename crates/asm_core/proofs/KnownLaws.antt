@@ -95,7 +95,8 @@ module _ (known more : Names) (grows : Grows known more) where
       )
 
 -- the next line that waits, with the lines before it, which are settled
-pub record NextHeld (names : Names) (unused : List Reference) (before rest : List Line) (done all_founds : List Settled) (pending : Pending) (others : List Pending) : Type 0 where
+pub record NextHeld (names : Names) (unused : List Reference) (before rest : List Line) (done all_founds : List Settled) (pending : Pending)
+    (others : List Pending) : Type 0 where
   pub lines : List Line
   pub line : Line
   pub left : List Line
@@ -125,7 +126,8 @@ module _ (known : Names) (unused : List Reference) where
       → settle known before done line ≡ Ok found → settled (settle known) (line ∷ before) ≡ Ok (found ∷ done)
   settled_more before line done found e f = rw e (rw f refl)
 
-  pub next_held : (before rest : List Line) (done founds : List Settled) (pending : Pending) (others : List Pending) → AreKnown known before rest founds (pending ∷ others)
+  pub next_held : (before rest : List Line) (done founds : List Settled) (pending : Pending) (others : List Pending)
+      → AreKnown known before rest founds (pending ∷ others)
       → AllStand done founds → settled (settle known) before ≡ Ok done → NextHeld known unused before rest done founds pending others
   next_held before [] done [] pending others are stand is = cc are
   next_held before [] done (found ∷ founds) pending others are stand is = absurd are

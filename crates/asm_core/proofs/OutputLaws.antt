@@ -38,7 +38,8 @@ module _ (unused : List Reference) (at : Location) (found : Outcome) (within : a
   dummy_filled output dummy = λ done others held stand fills holds.
       let line : Settled = record { at = at; outcome = found } in
       record {
-        image = image_filled unused done held line fills others stand [] (λ placed. cc (placed, dummy)) (omega (arith, within)) output.image output.image holds.image (nothing_laid at output.image);
+        image = image_filled unused done held line fills others stand [] (λ placed. cc (placed, dummy))
+            (omega (arith, within)) output.image output.image holds.image (nothing_laid at output.image);
         references = holds.references ∙ sym (dummy_uses at (references_of unused done) found dummy);
       }
 
@@ -50,7 +51,8 @@ module _ (unused : List Reference) (at : Location) (found : Outcome) (within : a
       let size : length given ≡ bytes_in found = ap length contents ∙ contents_length at (map defined_ref old.references.items) found in
       record {
         image = image_filled unused done held line fills others stand given
-            (λ placed. contents ∙ ap (λ references. contents_by at references found) holds.references) (omega (arith, within, size)) old.image new.image holds.image laid;
+            (λ placed. contents ∙ ap (λ references. contents_by at references found) holds.references)
+            (omega (arith, within, size)) old.image new.image holds.image laid;
         references = uses ∙ ap (λ references. behind_by at references found) holds.references;
       }
 

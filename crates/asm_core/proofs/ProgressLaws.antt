@@ -25,7 +25,8 @@ use Rattle.asm_core.proofs.ResolveLaws.{settled_more, settled_stops, settled_sto
 use Rattle.asm_core.proofs.ResolveLaws.{real}
 
 -- lines are settled up to some that wait, and what is known of the others stands behind them
-pub record IsSoFar (unused : List Reference) (names : Names) (order : List Line) (founds : List Settled) (waiting : List Pending) (old new : Output) : Type 0 where
+pub record IsSoFar (unused : List Reference) (names : Names) (order : List Line) (founds : List Settled) (waiting : List Pending)
+    (old new : Output) : Type 0 where
   pub before : List Line
   pub rest : List Line
   pub done : List Settled
@@ -53,7 +54,8 @@ first_so_far unused names order founds waiting output known stand = record {
 }
 
 -- the lines before the next one that waits are done
-output_on : (unused : List Reference) (done earlier left later : List Settled) (found : Settled) (output : Output) → onto done left ≡ onto earlier (found ∷ later)
+output_on : (unused : List Reference) (done earlier left later : List Settled) (found : Settled) (output : Output)
+    → onto done left ≡ onto earlier (found ∷ later)
     → references_of unused earlier ≡ references_of unused done
     → entry earlier ≡ entry done → IsOutput unused done left output
     → IsOutput unused earlier (found ∷ later) output
@@ -65,7 +67,8 @@ output_on unused done earlier left later found output founds references entry is
   entry = is.entry ∙ sym entry;
 }
 
-module _ (unused : List Reference) (names : Names) (order : List Line) (founds : List Settled) (pending : Pending) (others : List Pending) (first old new : Output) (so_far : IsSoFar unused names order founds (pending ∷ others) first old) where
+module _ (unused : List Reference) (names : Names) (order : List Line) (founds : List Settled) (pending : Pending) (others : List Pending)
+    (first old new : Output) (so_far : IsSoFar unused names order founds (pending ∷ others) first old) where
   next : NextHeld names unused so_far.before so_far.rest so_far.done so_far.left pending others
   next = next_held names unused so_far.before so_far.rest so_far.done so_far.left pending others so_far.known so_far.stand so_far.settled
 

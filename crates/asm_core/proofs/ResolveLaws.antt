@@ -69,7 +69,8 @@ module _ (known : Names) where
   settle_same before line first second same = room_by before line first second same (outcome (look_up known) (place before line) line.statement)
 
   -- a line that waited, at the place that was held for it
-  module _ (unused : List Reference) (before : List Line) (line : Line) (pending : Pending) (is : IsOf before line pending) (old new : Output) (settled_by : IsResolved unused known pending old new) where
+  module _ (unused : List Reference) (before : List Line) (line : Line) (pending : Pending) (is : IsOf before line pending) (old new : Output)
+      (settled_by : IsResolved unused known pending old new) where
     abbrev pub real : Settled
     real = record { at = pending.at; outcome = settled_by.found }
 

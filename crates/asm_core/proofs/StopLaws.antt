@@ -24,14 +24,16 @@ use Rattle.asm_core.specs.Resolving.{IsResolved, answer_to}
 use Rattle.asm_core.specs.Finishing.{RefusesAt}
 use Rattle.asm_core.proofs.ResolveLaws.{settled_stops, settled_stopped, answer_is, settle_by, settle_same, settle_filled, refuses_by, real}
 
-module _ (known : Names) (lines : List Line) (waiting : List Pending) (refused : Refused) (is : IsStopped refused lines known waiting) (done : List Settled) (so_far : settled (settle known) (onto [] is.order) ≡ Ok done) (same : SamePlaces (onto [] is.founds) done) where
+module _ (known : Names) (lines : List Line) (waiting : List Pending) (refused : Refused) (is : IsStopped refused lines known waiting) (done : List Settled)
+    (so_far : settled (settle known) (onto [] is.order) ≡ Ok done) (same : SamePlaces (onto [] is.founds) done) where
   abbrev before : List Line
   before = onto [] is.order
 
   abbrev held : Settled
   held = held_place (place before is.line) is.line.statement
 
-  refused_by : (cause : AsmCause) → settle known before done is.line ≡ Err cause → settled (settle known) lines ≡ Err (record { line = is.line.number; cause = cause })
+  refused_by : (cause : AsmCause) → settle known before done is.line ≡ Err cause
+      → settled (settle known) lines ≡ Err (record { line = is.line.number; cause = cause })
   refused_by cause e =
       ap (settled (settle known)) is.all
       ∙ settled_stopped known is.later (is.line ∷ before) _ (settled_stops known before is.line done cause so_far e)
@@ -53,7 +55,8 @@ module _ (known : Names) (lines : List Line) (waiting : List Pending) (refused :
       (λ cause e. refused_by cause e ∙ ap (λ number. Err (record { line = number; cause = cause })) (sym is.number))
 
   -- its values are not, and it has no room
-  pub still_refused : (unused : List Reference) (old new : Output) (pending : Pending) → refused.waiting ≡ Some pending → IsResolved unused known pending old new
+  pub still_refused : (unused : List Reference) (old new : Output) (pending : Pending) → refused.waiting ≡ Some pending
+      → IsResolved unused known pending old new
       → RefusesAt (refusal_at refused.line (failure.Refused refused.cause)) (settled (settle known) lines)
   still_refused unused old new pending some by =
       let refuses = subst (Refuses known before (onto [] is.founds) is.line refused.cause) some is.refuses in

@@ -228,7 +228,8 @@ module_text lines found most room =
           (pieces_even (content_at start found part.Absolute) part.Absolute 0 part_words);
       words = all_fit relocatable absolute (words_in found part.Relocatable) (words_in found part.Absolute)
           (pieces_count start found part.Relocatable) (pieces_count start found part.Absolute) room;
-      defs = same_fit (length (map (definition_in (names lines)) (defs lines))) (length (defs lines)) (length-map {B = Definition} (defs lines) (definition_in (names lines))) most.defs;
+      defs = same_fit (length (map (definition_in (names lines)) (defs lines))) (length (defs lines))
+          (length-map {B = Definition} (defs lines) (definition_in (names lines))) most.defs;
       refs = same_fit (length (references_of start found)) (length (refs lines))
           (references_length start found ∙ length-map {B = Reference} (refs lines) unused) most.refs;
     }

@@ -1,8 +1,12 @@
 -- A builder with one line more.
-use Rattle.std.proofs.Common.{◌≡◌, ◌+◌, ◌++◌, List, ℕ, Ok, Err, true, false, Some, None, refl, sym, ap, subst, ◌∙◌, append-nil}
+use Rattle.std.proofs.Common.{◌≡◌, ◌+◌, ◌++◌, List, length, ℕ, Ok, Err, true, false, Some, None, refl, sym, ap, subst, ◌∙◌, append-nil}
 use Rattle.std.specs.Prelude.{Result, Option, OnOk, IsErrAnd, is_some}
 use Rattle.std.proofs.Common.{Vec, Global}
-use Rattle.asm_defs.specs.FirstChecks.{defs_in, refs_in}
+use Rattle.asm_defs.specs.declared.causes.AsmCause.TheVariants.{DuplicateLabel}
+use Rattle.asm_defs.specs.FirstChecks.{any_known, label_in, defs_in, refs_in, check}
+use Rattle.asm_checks.specs.Answers.{Causes}
+use Rattle.asm_checks.specs.declared.failure.Failure.{Failure}
+use Rattle.asm_checks.specs.declared.failure.Failure.TheVariants as failure
 use Rattle.source_defs.specs.Symbols.{Names}
 use Rattle.source_defs.specs.Growing.{Grows}
 use Rattle.asm_defs.specs.declared.location.Location.{Location}
@@ -18,8 +22,8 @@ use Rattle.asm_core.specs.declared.lines.AsmLines.{AsmLines}
 use Rattle.asm_core.specs.Assembling.{AssemblesBy}
 use Rattle.asm_core.specs.declared.error.AsmError.{AsmError}
 use Rattle.asm_core.specs.declared.error.AsmError.TheVariants.{Memory}
-use Rattle.asm_core.specs.Building.{IsWorked, ImageOf, IsGoing, IsBehind, Takes}
-use Rattle.asm_core.specs.Keeping.{names_with, Keeps, IsUnchanged, SameWork, StandsStill}
+use Rattle.asm_core.specs.Building.{IsWorked, ImageOf, IsGoing, IsBehind, Takes, refusal_at}
+use Rattle.asm_core.specs.Keeping.{names_with, KnowsLabel, Keeps, IsUnchanged, SameWork, StandsStill}
 use Rattle.asm_core.specs.Emitting.{SameLines, SameKnown, Emits}
 use Rattle.asm_core.specs.Adding.{Adds, IsAsBefore, WorksIn}
 use Rattle.asm_core.proofs.WorkedLaws.{worked_stopped, emits_worked}
@@ -36,17 +40,20 @@ kept_by old text checked new some same keeps = record {
   refs = keeps.refs;
   names = keeps.names;
   worked = λ lines line next works.
-      worked_stopped old.symbols new.symbols keeps.grows lines line old.refused new.refused old.image new.image old.waiting.items new.waiting.items some same.refused
+      worked_stopped old.symbols new.symbols keeps.grows lines line old.refused new.refused old.image new.image old.waiting.items new.waiting.items some
+      same.refused
       (keeps.waits ∙ append-nil old.waiting.items) works;
 }
 
-pub kept_stopped : {A E : Type 0} (old : AsmLines) (text : List ℕ) (checked : Checked) (new : AsmLines) (result : Result A E) → is_some old.refused ≡ true → SameWork old new
+pub kept_stopped : {A E : Type 0} (old : AsmLines) (text : List ℕ) (checked : Checked) (new : AsmLines) (result : Result A E) → is_some old.refused ≡ true
+    → SameWork old new
     → OnOk result (Keeps old None checked new) → OnOk result (Adds old text checked new)
 kept_stopped old text checked new (Ok value) some same keeps = kept_by old text checked new some same keeps
 kept_stopped old text checked new (Err error) some same keeps = tt
 
 -- the image is ready, and nothing else has changed
-going_by : (lines : List Line) (names : Names) (image image' : Option Image) (waiting : List Pending) → ((founds : List Settled) → ImageOf founds image → ImageOf founds image')
+going_by : (lines : List Line) (names : Names) (image image' : Option Image) (waiting : List Pending)
+    → ((founds : List Settled) → ImageOf founds image → ImageOf founds image')
     → IsGoing lines names image waiting → IsGoing lines names image' waiting
 going_by lines names image image' waiting made is = record {
   order = is.order;
@@ -58,7 +65,8 @@ going_by lines names image image' waiting made is = record {
 }
 
 worked_by : (lines : List Line) (names : Names) (image image' : Option Image) (waiting : List Pending) (refused : Option Refused)
-    → ((founds : List Settled) → ImageOf founds image → ImageOf founds image') → IsWorked lines names image waiting refused → IsWorked lines names image' waiting refused
+    → ((founds : List Settled) → ImageOf founds image → ImageOf founds image') → IsWorked lines names image waiting refused
+    → IsWorked lines names image' waiting refused
 worked_by lines names image image' waiting None made is = going_by lines names image image' waiting made is
 worked_by lines names image image' waiting (Some refused) made is = is
 
@@ -94,10 +102,22 @@ still_behind lines old new before still is = record {
   worked = before.worked lines is.worked;
 }
 
-pub takes_none : {A : Type 0} (lines : List Line) (text : List ℕ) (result : Result A AsmError) (new : AsmLines) → IsErrAnd result (λ (error : AsmError). error ≡ Memory)
+pub takes_none : {A : Type 0} (lines : List Line) (text : List ℕ) (result : Result A AsmError) (new : AsmLines)
+    → IsErrAnd result (λ (error : AsmError). error ≡ Memory)
     → IsBehind lines new → Takes lines text result new
 takes_none lines text (Ok value) new wants is = absurd wants
 takes_none lines text (Err error) new wants is = subst (λ (error : AsmError). Takes {A = Unit {0}} lines text (Err error) new) (sym wants) is
+
+-- a line whose label stands for something already, or memory was wanting
+pub takes_failed : (A : Type 0) (lines : List Line) (text : List ℕ) (names : Names) (label : Option (List ℕ)) (failure : Failure) (new : AsmLines)
+    → KnowsLabel names label failure → (any_known names (label_in label) ≡ true → check lines (length lines + 1) text ≡ Err DuplicateLabel)
+    → new.taken ≡ length lines → IsBehind lines new → Takes {A = A} lines text (Err (refusal_at (new.taken + 1) failure)) new
+takes_failed A lines text names label failure.Memory new knows known count is = is
+takes_failed A lines text names label (failure.Refused cause) new knows known count is = (
+  ap (λ taken. taken + 1) count,
+  subst (λ cause. Causes cause (check lines (length lines + 1) text)) (sym knows.0) (known knows.1),
+  is,
+)
 
 none_is : (refused : Option Refused) → is_some refused ≡ false → refused ≡ None
 none_is None none = refl
@@ -108,9 +128,11 @@ going_is : (lines : List Line) (names : Names) (image : Option Image) (waiting :
 going_is lines names image waiting None none is = is
 going_is lines names image waiting (Some refused) none is = cc none
 
-pub worked : (old ready kept new : AsmLines) (text : List ℕ) (checked : Checked) (waiting : Option Pending) (emitted : Emitted) (at : Location) → is_some old.refused ≡ false
+pub worked : (old ready kept new : AsmLines) (text : List ℕ) (checked : Checked) (waiting : Option Pending) (emitted : Emitted) (at : Location)
+    → is_some old.refused ≡ false
     → SameLines old ready → ((founds : List Settled) → ImageOf founds old.image → ImageOf founds ready.image) → at ≡ behind ready.location checked.moved.gap
-    → AssemblesBy ready.symbols (ready.taken + 1) at text (defined_statement checked.said.statement) waiting emitted → Keeps ready waiting checked kept → SameWork ready kept
+    → AssemblesBy ready.symbols (ready.taken + 1) at text (defined_statement checked.said.statement) waiting emitted → Keeps ready waiting checked kept
+    → SameWork ready kept
     → StandsStill ready kept → SameKnown kept new → Emits kept at emitted (is_some waiting) new → Adds old text checked new
 worked old ready kept new text checked waiting emitted at none same made is_at assembles keeps work still known emits = record {
   defs = known.names.defs ∙ (keeps.defs ∙ ap (λ (names : List (List ℕ)). names ++ defs_in (defined_statement checked.said.statement)) same.known.names.defs);
@@ -119,8 +141,10 @@ worked old ready kept new text checked waiting emitted at none same made is_at a
   worked = λ lines line next works.
       let going = going_is lines old.symbols old.image old.waiting.items old.refused none works in
       let going_on = going_by lines old.symbols old.image ready.image old.waiting.items made going in
-      let begun : IsGoing lines ready.symbols ready.image ready.waiting.items = rw (same.known.names.symbols, ap (λ (waiting : Vec Pending Global). waiting.items) same.waiting) going_on in
-      emits_worked ready.symbols new.symbols (subst (Grows ready.symbols) (sym known.names.symbols) keeps.grows) lines line ready.image ready.waiting.items begun
+      let begun : IsGoing lines ready.symbols ready.image ready.waiting.items =
+      rw (same.known.names.symbols, ap (λ (waiting : Vec Pending Global). waiting.items) same.waiting) going_on in
+      emits_worked ready.symbols new.symbols (subst (Grows ready.symbols) (sym known.names.symbols) keeps.grows) lines line ready.image ready.waiting.items
+      begun
       kept new at text (is_at ∙ (ap (λ (from : Location). behind from checked.moved.gap) same.known.still.location ∙ next.at)) next.said
       (ap (λ taken. taken + 1) (still.taken ∙ same.known.still.taken) ∙ next.number) work.image (work.refused ∙ (same.refused ∙ none_is old.refused none))
       (defined_statement checked.said.statement) next.statement (ready.taken + 1) (ap (λ taken. taken + 1) same.known.still.taken ∙ next.number)

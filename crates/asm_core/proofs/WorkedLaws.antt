@@ -70,7 +70,8 @@ module _ (known more : Names) (grows : Grows known more) (lines : List Line) (li
     still : AreKnown more [] going.order going.founds waiting
     still = known_still known more grows [] going.order going.founds waiting going.known
 
-    goes_on : (image' : Option Image) (waiting' : List Pending) (found : Settled) → AreKnown more [] (going.order ++ line ∷ []) (going.founds ++ found ∷ []) waiting'
+    goes_on : (image' : Option Image) (waiting' : List Pending) (found : Settled)
+        → AreKnown more [] (going.order ++ line ∷ []) (going.founds ++ found ∷ []) waiting'
         → StandsBehind earlier found → ImageOf (found ∷ earlier) image' → IsGoing (line ∷ lines) more image' waiting'
     goes_on image' waiting' found known stand placed = record {
       order = going.order ++ line ∷ [];
@@ -82,7 +83,8 @@ module _ (known more : Names) (grows : Grows known more) (lines : List Line) (li
     }
 
     -- a line that says nothing
-    pub nothing_more : (image' : Option Image) → line.statement ≡ said.Nothing → (ImageOf earlier image → ImageOf (nothing_placed (place lines line) ∷ earlier) image')
+    pub nothing_more : (image' : Option Image) → line.statement ≡ said.Nothing
+        → (ImageOf earlier image → ImageOf (nothing_placed (place lines line) ∷ earlier) image')
         → IsGoing (line ∷ lines) more image' waiting
     nothing_more image' says made =
         let found = nothing_placed (place lines line) in
@@ -109,7 +111,8 @@ module _ (known more : Names) (grows : Grows known more) (lines : List Line) (li
           (subst (λ before. Refuses known before earlier line cause held) going.all refuses);
     }
 
-    module _ (old new : AsmLines) (at : Location) (text : List ℕ) (is_at : at ≡ place lines line) (is_said : said_of text ≡ Ok line.statement) (is_number : old.taken + 1 ≡ line.number) (is_image : old.image ≡ image) (none : old.refused ≡ None) where
+    module _ (old new : AsmLines) (at : Location) (text : List ℕ) (is_at : at ≡ place lines line) (is_said : said_of text ≡ Ok line.statement)
+        (is_number : old.taken + 1 ≡ line.number) (is_image : old.image ≡ image) (none : old.refused ≡ None) where
       abbrev Worked : Type 0
       Worked = IsWorked (line ∷ lines) more new.image new.waiting.items new.refused
 
@@ -124,7 +127,8 @@ module _ (known more : Names) (grows : Grows known more) (lines : List Line) (li
       by_going is same = subst (λ (refused : Option Refused). IsWorked (line ∷ lines) more new.image new.waiting.items refused) (sym (same ∙ none)) is
 
       -- a line that comes to something
-      module _ (statement : Statement) (is_statement : statement ≡ line.statement) (given : List Content) (comes : ComesTo known at statement given) (is_waiting : old.waiting.items ≡ waiting) where
+      module _ (statement : Statement) (is_statement : statement ≡ line.statement) (given : List Content) (comes : ComesTo known at statement given)
+          (is_waiting : old.waiting.items ≡ waiting) where
         abbrev found : Settled
         found = record { at = place lines line; outcome = comes.found }
 
@@ -164,14 +168,16 @@ module _ (known more : Names) (grows : Grows known more) (lines : List Line) (li
               ∙ ap (λ (at : Location). contents_by at (references_of references earlier) comes.found) is_at),
         )
 
-        pub comes_worked : ((earlier : List Settled) (line : Settled) → ImageOf earlier old.image → AreContents at given earlier line → ByRoom old earlier line false new (with_room earlier line))
+        pub comes_worked : ((earlier : List Settled) (line : Settled) → ImageOf earlier old.image → AreContents at given earlier line
+            → ByRoom old earlier line false new (with_room earlier line))
             → Worked
         comes_worked emits =
             comes_by (with_room earlier found) refl
             (emits earlier found (subst (ImageOf earlier) (sym is_image) going.image) contents_are)
 
       -- a line that waits
-      module _ (number : ℕ) (is_taken : number ≡ line.number) (statement : Statement) (is_statement : statement ≡ line.statement) (pending : Pending) (given : List Content) (held : IsHeld number at text statement pending given) (is_waiting : old.waiting.items ≡ waiting ++ pending ∷ []) where
+      module _ (number : ℕ) (is_taken : number ≡ line.number) (statement : Statement) (is_statement : statement ≡ line.statement) (pending : Pending)
+          (given : List Content) (held : IsHeld number at text statement pending given) (is_waiting : old.waiting.items ≡ waiting ++ pending ∷ []) where
         abbrev place_held : Settled
         place_held = held_place (place lines line) line.statement
 
@@ -188,17 +194,20 @@ module _ (known more : Names) (grows : Grows known more) (lines : List Line) (li
             (goes_on new.image new.waiting.items place_held
             (subst (AreKnown more [] (going.order ++ line ∷ []) (going.founds ++ place_held ∷ [])) (sym (by.1 ∙ is_waiting))
             (held_more more [] going.order going.founds waiting line place_held pending still
-            (subst (λ before. IsWaiting before line place_held (pending ∷ []) []) going.all (record { first = pending; is = is_of; held = refl; others = refl }))))
+            (subst (λ before. IsWaiting before line place_held (pending ∷ []) []) going.all
+            (record { first = pending; is = is_of; held = refl; others = refl }))))
             (record { room = has_own_room earlier place_held other room; stands = refl }) by.2)
             by.0
         waits_by (Err cause) room by = by_refusal cause (Some pending) (is_of, room_causes earlier place_held cause room) (by waiting pending is_waiting)
 
-        same_contents : (references : List Reference) → contents_by at [] (held_place at statement).outcome ≡ contents_by (place lines line) (references_of references earlier) place_held.outcome
+        same_contents : (references : List Reference) → contents_by at [] (held_place at statement).outcome
+            ≡ contents_by (place lines line) (references_of references earlier) place_held.outcome
         same_contents references =
             ap (λ (at : Location). contents_by at [] (held_place at statement).outcome) is_at
             ∙ ap (λ (statement : Statement). contents_by (place lines line) [] (held_place (place lines line) statement).outcome) is_statement
 
-        pub waits_worked : ((earlier : List Settled) (line : Settled) → ImageOf earlier old.image → AreContents at given earlier line → ByRoom old earlier line true new (with_room earlier line))
+        pub waits_worked : ((earlier : List Settled) (line : Settled) → ImageOf earlier old.image → AreContents at given earlier line
+            → ByRoom old earlier line true new (with_room earlier line))
             → Worked
         waits_worked emits =
             waits_by (with_room earlier place_held) refl
@@ -206,7 +215,8 @@ module _ (known more : Names) (grows : Grows known more) (lines : List Line) (li
             (sym is_at, λ references placed. held.gives.bytes placed ∙ same_contents references))
 
       -- a line that is refused
-      module _ (statement : Statement) (is_statement : statement ≡ line.statement) (cause : AsmCause) (refused : IsRefused known at statement cause) (is_waiting : old.waiting.items ≡ waiting) where
+      module _ (statement : Statement) (is_statement : statement ≡ line.statement) (cause : AsmCause) (refused : IsRefused known at statement cause)
+          (is_waiting : old.waiting.items ≡ waiting) where
         answer_is : outcome (look_up known) at statement ≡ outcome (look_up known) (place lines line) line.statement
         answer_is =
             ap (λ (at : Location). outcome (look_up known) at statement) is_at
@@ -225,7 +235,8 @@ module _ (known more : Names) (grows : Grows known more) (lines : List Line) (li
             (stop.0, stop.1 ∙ is_waiting)
 
       pub emits_worked : (statement : Statement) → statement ≡ line.statement → (number : ℕ) → number ≡ line.number → (held : Option Pending) (what : Emitted)
-          → AssemblesBy known number at text statement held what → old.waiting.items ≡ waiting ++ option_to_list held → Emits old at what (is_some held) new → Worked
+          → AssemblesBy known number at text statement held what → old.waiting.items ≡ waiting ++ option_to_list held → Emits old at what (is_some held) new
+          → Worked
       emits_worked statement same number taken None (emitted.Bytes given) assembles is_waiting emits =
           comes_worked statement same given.items assembles (is_waiting ∙ append-nil waiting) emits
       emits_worked statement same number taken None (emitted.Refused cause) assembles is_waiting emits =

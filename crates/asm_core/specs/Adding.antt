@@ -11,7 +11,8 @@ use Rattle.asm_core.specs.Keeping.{names_with, SameNames}
 use Rattle.asm_core.specs.Building.{ImageOf, IsWorked}
 
 -- a line is the next, behind others
-pub record IsNext (builder : AsmLines) (text : List ℕ) (checked : Checked) (lines : List Line) (line : Line) : Type 0 where
+pub record IsNext (builder : AsmLines) (text : List ℕ) (checked : Checked) (lines : List Line)
+    (line : Line) : Type 0 where
   pub at : behind builder.location checked.moved.gap ≡ place lines line
   pub number : builder.taken + 1 ≡ line.number
   pub said : said_of text ≡ Ok line.statement
@@ -25,7 +26,8 @@ pub record Adds (old : AsmLines) (text : List ℕ) (checked : Checked) (new : As
   pub defs : new.defs.items ≡ old.defs.items ++ defs_in (defined_statement checked.said.statement)
   pub refs : new.refs.items ≡ old.refs.items ++ refs_in (defined_statement checked.said.statement)
   pub names : new.symbols ≡ names_with old.symbols checked
-  pub worked : (lines : List Line) (line : Line) → IsNext old text checked lines line → WorksIn lines old → WorksIn (line ∷ lines) new
+  pub worked : (lines : List Line) (line : Line) → IsNext old text checked lines line → WorksIn lines old
+      → WorksIn (line ∷ lines) new
 
 -- nothing is added
 pub record IsAsBefore (old new : AsmLines) : Type 0 where

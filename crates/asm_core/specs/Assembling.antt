@@ -1,5 +1,5 @@
 -- What the first pass makes of a line, while names are still to come.
-use Rattle.std.specs.Prelude.{◌≡◌, ⊤, ℕ, ◌+◌, ◌≤◌, true, false, List, [], length, Option, Some, None, Ok}
+use Rattle.std.specs.Prelude.{◌≡◌, ⊤, ℕ, ◌+◌, ◌≤◌, List, [], length, Option, Some, None, Ok, IsTrue, IsFalse}
 use Rattle.source_defs.specs.Symbols.{Names, look_up}
 use Rattle.asm_defs.specs.declared.causes.AsmCause.{AsmCause}
 use Rattle.asm_defs.specs.declared.content.Content.{Content}
@@ -17,12 +17,12 @@ use Rattle.asm_core.specs.declared.first_pass.Assembled.{Assembled}
 
 -- a line has room at its place
 pub record HasRoom (at : Location) (text : List ℕ) (statement : Statement) : Type 0 where
-  pub room : has_room at text ≡ true
+  pub room : IsTrue (has_room at text)
   pub fits : at.number + size_said statement ≤ 65536
 
 -- the bytes of what a line comes to at a place; those in the part of dummy lines do not count
 pub record GivesBytes (at : Location) (outcome : Outcome) (given : List Content) : Type 0 where
-  pub bytes : is_placed_in at.part ≡ true → given ≡ contents_by at [] outcome
+  pub bytes : IsTrue (is_placed_in at.part) → given ≡ contents_by at [] outcome
   pub within : at.number + length given ≤ 65536
 
 -- a line by its number, its place and its text
@@ -35,27 +35,30 @@ pub record IsPending (count : ℕ) (place : Location) (line : List ℕ) (pending
 pub record ComesTo (known : Names) (at : Location) (statement : Statement) (given : List Content) : Type 0 where
   pub found : Outcome
   pub comes : outcome (look_up known) at statement ≡ Ok found
-  pub stands : stands found ≡ true
+  pub stands : IsTrue (stands found)
   pub gives : GivesBytes at found given
 
 -- or it waits, and zeros hold its places
-pub record IsHeld (number : ℕ) (at : Location) (text : List ℕ) (statement : Statement) (pending : Pending) (given : List Content) : Type 0 where
+pub record IsHeld (number : ℕ) (at : Location) (text : List ℕ) (statement : Statement) (pending : Pending)
+    (given : List Content) : Type 0 where
   pub is : IsPending number at text pending
   pub gives : GivesBytes at (held_place at statement).outcome given
 
 -- or it is refused, whatever names are still to come
 pub record IsRefused (known : Names) (at : Location) (statement : Statement) (cause : AsmCause) : Type 0 where
   pub causes : Causes cause (outcome (look_up known) at statement)
-  pub closed : is_open cause ≡ false
+  pub closed : IsFalse (is_open cause)
 
 abbrev pub AssemblesBy : Names → ℕ → Location → List ℕ → Statement → Option Pending → Emitted → Type 0
 AssemblesBy known number at text statement None (Bytes given) = ComesTo known at statement given.items
 AssemblesBy known number at text statement None (Refused cause) = IsRefused known at statement cause
-AssemblesBy known number at text statement (Some pending) (Bytes given) = IsHeld number at text statement pending given.items
+AssemblesBy known number at text statement (Some pending) (Bytes given) = IsHeld number at text statement pending
+    given.items
 AssemblesBy known number at text statement (Some pending) (Refused cause) = ⊥
 
 abbrev pub Assembles : Names → ℕ → Location → List ℕ → Statement → Assembled → Type 0
-Assembles known number at text statement assembled = AssemblesBy known number at text statement assembled.waiting assembled.emitted
+Assembles known number at text statement assembled = AssemblesBy known number at text statement assembled.waiting
+    assembled.emitted
 
 -- the bytes that a line emits end before its part does
 abbrev pub EmittedFits : Location → Emitted → Type 0

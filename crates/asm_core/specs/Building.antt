@@ -1,5 +1,6 @@
 -- What a builder keeps of the lines that it has taken.
-use Rattle.std.specs.Prelude.{◌≡◌, ℕ, ◌+◌, ◌-◌, ◌<◌, ◌^◌, true, false, ◌⊎◌, List, [], ◌∷◌, length, Option, Some, None}
+use Rattle.std.specs.Prelude.{◌≡◌, ℕ, ◌+◌, ◌-◌, ◌<◌, ◌^◌, ◌⊎◌, List, [], ◌∷◌, length, Option, Some, None, IsTrue}
+use Rattle.std.specs.Prelude.{IsFalse}
 use Rattle.std.specs.Prelude.{Result, Ok, Err}
 use Rattle.source_defs.specs.Orders.{onto}
 use Rattle.source_defs.specs.Symbols.{Names, look_up}
@@ -51,7 +52,8 @@ AreKnown known before [] (found ∷ founds) waiting = ⊥
 AreKnown known before (line ∷ lines) [] waiting = ⊥
 AreKnown known before (line ∷ lines) (found ∷ founds) waiting =
     (IsKnown known before line found × AreKnown known (line ∷ before) lines founds waiting)
-    ⊎ ((others : List Pending) × IsWaiting before line found waiting others × AreKnown known (line ∷ before) lines founds others)
+    ⊎ ((others : List Pending) × IsWaiting before line found waiting others
+    × AreKnown known (line ∷ before) lines founds others)
 
 -- what the lines place, whatever the names that others define; there is no image of no lines
 abbrev pub ImageOf : List Settled → Option Image → Type 0
@@ -70,7 +72,7 @@ pub record IsGoing (lines : List Line) (names : Names) (placed : Option Image) (
 -- the second checks refuse a line behind others, whatever names are still to come
 abbrev pub Refuses : Names → List Line → List Settled → Line → AsmCause → Option Pending → Type 0
 Refuses known before earlier line cause None =
-    (is_closed is_open (outcome (look_up known) (place before line) line.statement) ≡ true)
+    IsTrue (is_closed is_open (outcome (look_up known) (place before line) line.statement))
     × Causes cause (settle known before earlier line)
 Refuses known before earlier line cause (Some pending) =
     IsOf before line pending × Causes cause (with_room earlier (held_place (place before line) line.statement))
@@ -129,7 +131,7 @@ pub record HasTaken (texts : List (List ℕ)) (builder : AsmLines) : Type 0 wher
 
 -- no line that it has taken ends the source
 abbrev pub IsOpen : AsmLines → Type 0
-IsOpen builder = builder.ended ≡ false
+IsOpen builder = IsFalse builder.ended
 
 -- it has taken fewer lines than can be counted
 abbrev pub CanCount : AsmLines → Type 0

@@ -1,5 +1,6 @@
 -- What a builder emits of a line.
 use Rattle.std.specs.Prelude.{◌≡◌, ◌+◌, Bool, true, false, List, [], ◌∷◌, ◌++◌, Option, Some, None, Result, Ok, Err}
+use Rattle.std.specs.Prelude.{IsTrue}
 use Rattle.source_defs.specs.Refusals.{seen}
 use Rattle.object_defs.specs.Modules.{Reference}
 use Rattle.asm_defs.specs.declared.causes.AsmCause.{AsmCause}
@@ -29,20 +30,24 @@ pub record SameLines (old new : AsmLines) : Type 0 where
 -- the bytes that a line places behind others at a place
 abbrev pub AreContents : Location → List Content → List Settled → Settled → Type 0
 AreContents at given earlier line =
-    (line.at ≡ at) × ((references : List Reference) → is_placed_in at.part ≡ true → given ≡ contents references earlier line)
+    (line.at ≡ at) × ((references : List Reference) → IsTrue (is_placed_in at.part)
+    → given ≡ contents references earlier line)
 
 -- a line is placed behind others, and whether it has room
-pub record Places {A : Type 0} (earlier : List Settled) (line : Settled) (result : Result A AsmCause) (image : Option Image) : Type 0 where
+pub record Places {A : Type 0} (earlier : List Settled) (line : Settled) (result : Result A AsmCause)
+    (image : Option Image) : Type 0 where
   pub room : seen (λ _. line) result ≡ with_room earlier line
   pub placed : ImageOf (line ∷ earlier) image
 
 -- the next line is refused; where it waits, it is the last that does
 abbrev pub Stops : AsmLines → AsmCause → Bool → AsmLines → Type 0
 Stops old cause false new =
-    (new.refused ≡ Some (record { line = old.taken + 1; cause = cause; waiting = None })) × (new.waiting.items ≡ old.waiting.items)
+    (new.refused ≡ Some (record { line = old.taken + 1; cause = cause; waiting = None }))
+    × (new.waiting.items ≡ old.waiting.items)
 Stops old cause true new =
     (front : List Pending) (last : Pending) → old.waiting.items ≡ front ++ last ∷ []
-    → (new.refused ≡ Some (record { line = old.taken + 1; cause = cause; waiting = Some last })) × (new.waiting.items ≡ front)
+    → (new.refused ≡ Some (record { line = old.taken + 1; cause = cause; waiting = Some last }))
+    × (new.waiting.items ≡ front)
 
 -- a line was placed, or is refused since it has no room
 abbrev pub ByRoom : AsmLines → List Settled → Settled → Bool → AsmLines → Result Settled AsmCause → Type 0

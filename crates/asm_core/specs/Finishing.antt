@@ -33,21 +33,24 @@ RefusesAt (At line (cause.Form (form.Expr expr.Memory))) defined = ⊥
 RefusesAt (At line refused) defined = defined ≡ Err (record { line = line; cause = refused })
 
 -- the lines were settled, and what was known of each takes as much room
-pub record AreResolved (unused : List Reference) (order : List Line) (founds : List Settled) (known : Names) (old new : Output) : Type 0 where
+pub record AreResolved (unused : List Reference) (order : List Line) (founds : List Settled) (known : Names)
+    (old new : Output) : Type 0 where
   pub done : List Settled
   pub settled : settled (settle known) (onto [] order) ≡ Ok done
   pub places : SamePlaces (onto [] founds) done
   pub output : IsOutput unused [] founds old → IsOutput unused done [] new
 
 -- or one is refused
-abbrev pub ResolvesAll : {A : Type 0} → List Reference → List Line → List Settled → Names → Result A AsmError → Output → Output → Type 0
+abbrev pub ResolvesAll : {A : Type 0} → List Reference → List Line → List Settled → Names → Result A AsmError → Output
+    → Output → Type 0
 ResolvesAll unused order founds known (Ok _) old new = AreResolved unused order founds known old new
 ResolvesAll unused order founds known (Err error) old new = RefusesAt error (settled (settle known) (onto [] order))
 
 -- lines are refused where those before the refused one are settled
 abbrev pub StopsBehind : Names → List Line → List Line → List Settled → List Settled → AsmError → Type 0
 StopsBehind known lines order founds done error =
-    settled (settle known) (onto [] order) ≡ Ok done → SamePlaces (onto [] founds) done → RefusesAt error (settled (settle known) lines)
+    settled (settle known) (onto [] order) ≡ Ok done → SamePlaces (onto [] founds) done
+    → RefusesAt error (settled (settle known) lines)
 
 -- what a builder keeps for the module of its lines
 pub record Knows (lines : List Line) (builder : AsmLines) : Type 0 where

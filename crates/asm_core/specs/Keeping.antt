@@ -1,12 +1,15 @@
 -- What a builder keeps of a line.
-use Rattle.std.specs.Prelude.{◌≡◌, ◌++◌, length, take, Option, option_to_list}
+use Rattle.std.specs.Prelude.{◌≡◌, ⊤, ℕ, List, ◌++◌, length, take, Option, option_to_list, IsTrue}
 use Rattle.source_defs.specs.Growing.{Grows}
 use Rattle.source_defs.specs.Symbols.{Names}
 use Rattle.source_defs.specs.Layout.{with_names}
 use Rattle.asm_text.specs.GivenValues.{defined_value}
-use Rattle.asm_defs.specs.FirstChecks.{Before, label_entry, external_entries, defs_in, refs_in}
+use Rattle.asm_defs.specs.declared.causes.AsmCause.TheVariants.{DuplicateLabel}
+use Rattle.asm_defs.specs.FirstChecks.{Before, any_known, label_in, label_entry, external_entries, defs_in, refs_in}
 use Rattle.asm_checks.specs.Defined.{defined_statement}
 use Rattle.asm_checks.specs.declared.first_checks.Checked.{Checked}
+use Rattle.asm_checks.specs.declared.failure.Failure.{Failure}
+use Rattle.asm_checks.specs.declared.failure.Failure.TheVariants.{Refused, Memory}
 use Rattle.asm_core.specs.declared.lines.AsmLines.{AsmLines}
 use Rattle.asm_core.specs.declared.pending.Pending.{Pending}
 
@@ -26,6 +29,11 @@ abbrev pub names_with : Names → Checked → Names
 names_with names checked =
     with_names (with_names names (label_entry checked.said.label (defined_value checked.moved.label)))
     (external_entries (refs_in (defined_statement checked.said.statement)))
+
+-- a label stands for something already, or memory was wanting
+abbrev pub KnowsLabel : Names → Option (List ℕ) → Failure → Type 0
+KnowsLabel names label Memory = ⊤
+KnowsLabel names label (Refused cause) = (cause ≡ DuplicateLabel) × IsTrue (any_known names (label_in label))
 
 -- the line is kept with its names
 pub record Keeps (old : AsmLines) (waiting : Option Pending) (checked : Checked) (new : AsmLines) : Type 0 where

@@ -11,4 +11,5 @@ ModulesHaveTexts = (source : List ℕ) (m : Module) → module_of_source source 
 
 -- the law, which is proved: the module of some lines is that of their text
 abbrev pub LinesMakeTexts : Type 0
-LinesMakeTexts = (texts : List (List ℕ)) → AllByRecursion IsOneLine texts → module_of_source (text_of texts) ≡ module_of_lines texts
+LinesMakeTexts = (texts : List (List ℕ)) → AllByRecursion IsOneLine texts
+    → module_of_source (text_of texts) ≡ module_of_lines texts

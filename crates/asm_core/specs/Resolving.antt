@@ -32,12 +32,15 @@ pub record IsOutput (unused : List Reference) (done others : List Settled) (outp
 -- a line comes to the place that was held for it
 abbrev pub FillsBytes : List Reference → Location → Outcome → Output → Output → Type 0
 FillsBytes unused at found old new =
-    (done others : List Settled) (held : Settled) → AllStand (held ∷ done) others → FillsPlace held (record { at = at; outcome = found })
-    → HoldsBytes unused done (held ∷ others) old → HoldsBytes unused (record { at = at; outcome = found } ∷ done) others new
+    (done others : List Settled) (held : Settled) → AllStand (held ∷ done) others
+    → FillsPlace held (record { at = at; outcome = found })
+    → HoldsBytes unused done (held ∷ others) old → HoldsBytes unused
+    (record { at = at; outcome = found } ∷ done) others new
 
 abbrev pub Fills : List Reference → Location → Outcome → Output → Output → Type 0
 Fills unused at found old new =
-    (done others : List Settled) (held : Settled) → AllStand (held ∷ done) others → FillsPlace held (record { at = at; outcome = found })
+    (done others : List Settled) (held : Settled) → AllStand (held ∷ done) others
+    → FillsPlace held (record { at = at; outcome = found })
     → IsOutput unused done (held ∷ others) old → IsOutput unused (record { at = at; outcome = found } ∷ done) others new
 
 -- what a line that waited comes to

@@ -1,6 +1,6 @@
 //! The calls of a builder.
 
-ghost use Rattle.std.specs.Prelude.{◌≡◌, ◌↔◌, ◌<◌, ◌-◌, ◌^◌, ℕ, false, List, [], length};
+ghost use Rattle.std.specs.Prelude.{◌≡◌, ◌↔◌, ◌<◌, ◌-◌, ◌^◌, ℕ, false, List, [], length, IsFalse};
 ghost use Rattle.std.specs.List.{AllByRecursion};
 ghost use Rattle.source_defs.specs.Layout.{has_ended};
 ghost use Rattle.asm_defs.specs.Modules.{module_of_lines, module_of_source, title};
@@ -57,7 +57,7 @@ impl AsmLines {
 
     /// Whether a line that ends the source was taken.
     pub fn is_ended(&self) -> bool
-        ensures open { (result ≡ false) ↔ IsOpen self.now }
+        ensures open { IsFalse result ↔ IsOpen self.now }
         ensures ended { (texts : List (List ℕ)) → (taken : HasTaken texts self.now) → result ≡ has_ended taken.lines }
     {
         self.ended

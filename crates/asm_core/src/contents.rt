@@ -1,6 +1,6 @@
 //! The bytes of what a line comes to.
 
-ghost use Rattle.std.specs.Prelude.{◌≡◌, ◌≤◌, ◌+◌, ◌*◌, map, true, length, IfOk, OnOk};
+ghost use Rattle.std.specs.Prelude.{◌≡◌, ◌≤◌, ◌+◌, ◌*◌, map, length, IfOk, OnOk, IsTrue};
 ghost use Rattle.object_tags.specs.Seen.{defined_ref};
 ghost use Rattle.asm_forms.specs.Placed.{defined_word, defined_words};
 ghost use Rattle.asm_defs.specs.Memory as spec;
@@ -23,7 +23,7 @@ pub(crate) fn contents(
     at: Location,
     outcome: &Outcome,
 ) -> Result<Vec<Content>, AllocError>
-    requires placed { spec.is_placed_in at.part ≡ true }
+    requires placed { IsTrue (spec.is_placed_in at.part) }
     requires within { at.number + spec.bytes_in (defined_outcome outcome.now) ≤ 65536 }
     ensures contents { OnOk result (IfOk result (λ contents. contents.items
         ≡ spec.contents_by at (map defined_ref references.old.items) (defined_outcome outcome.now))) }

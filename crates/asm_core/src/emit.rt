@@ -1,6 +1,6 @@
 //! What a builder emits of a line.
 
-ghost use Rattle.std.specs.Prelude.{◌≡◌, ◌<◌, ◌≤◌, ◌+◌, ◌-◌, ◌^◌, List, length, IsSome, IfOk, OnOk, true};
+ghost use Rattle.std.specs.Prelude.{◌≡◌, ◌<◌, ◌≤◌, ◌+◌, ◌-◌, ◌^◌, List, length, IsSome, IfOk, OnOk, IsTrue};
 ghost use Rattle.asm_defs.specs.Locations as places;
 ghost use Rattle.asm_defs.specs.Memory.{Settled};
 ghost use Rattle.asm_checks.specs.Defined.{defined_statement};
@@ -41,8 +41,10 @@ impl AsmLines {
         requires taken { self.now.taken < 2 ^ 32 - 1 }
         requires line { IsSaid checked.now.said }
         requires within { MovesWithin checked.now.moved }
-        requires room { HasRoom (places.behind self.now.location checked.now.moved.gap) text.now (defined_statement checked.now.said.statement) }
-        ensures { IfOk result (Assembles self.now.symbols (self.now.taken + 1) (places.behind self.now.location checked.now.moved.gap)
+        requires room { HasRoom (places.behind self.now.location checked.now.moved.gap) text.now
+            (defined_statement checked.now.said.statement) }
+        ensures { IfOk result (Assembles self.now.symbols (self.now.taken + 1)
+            (places.behind self.now.location checked.now.moved.gap)
             text.now (defined_statement checked.now.said.statement)) }
     {
         let first_pass = FirstPass {
@@ -59,7 +61,7 @@ impl AsmLines {
         requires taken { self.old.taken < 2 ^ 32 - 1 }
         requires ready { IsSome self.old.image }
         requires fits { EmittedFits at emitted }
-        requires last { waits ≡ true → 0 < length self.old.waiting.items }
+        requires last { IsTrue waits → 0 < length self.old.waiting.items }
         ensures known { SameKnown self.old self.new }
         ensures emits { Emits self.old at emitted waits self.new }
     {
@@ -90,7 +92,7 @@ impl AsmLines {
     /// Refuses the next line, which is the last that waits where it does.
     fn stop(&mut self, cause: AsmCause, waits: bool)
         requires taken { self.old.taken < 2 ^ 32 - 1 }
-        requires last { waits ≡ true → 0 < length self.old.waiting.items }
+        requires last { IsTrue waits → 0 < length self.old.waiting.items }
         ensures known { SameKnown self.old self.new }
         ensures stops { Stops self.old cause waits self.new }
     {

@@ -93,7 +93,8 @@ impl AsmLines {
 
 /// Why a line is refused where those before it are resolved: a value of it, else what was known when it was taken.
 fn stopped(symbols: &Symbols, output: &mut Output, refused: &Refused) -> AsmError
-    ensures { (lines : List Line) (waiting : List Pending) (done : List Settled) → (is : IsStopped refused.now lines symbols.now waiting) →
+    ensures { (lines : List Line) (waiting : List Pending) (done : List Settled)
+        → (is : IsStopped refused.now lines symbols.now waiting) →
         StopsBehind symbols.now lines is.order is.founds done result }
 {
     let Some(pending) = &refused.waiting else {

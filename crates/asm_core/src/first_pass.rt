@@ -1,6 +1,6 @@
 //! The first pass over a line: what it comes to by the names that are known.
 
-ghost use Rattle.std.specs.Prelude.{◌≡◌, ◌≤◌, ◌+◌, IfOk, true, not};
+ghost use Rattle.std.specs.Prelude.{◌≡◌, ◌≤◌, ◌+◌, IfOk, not, IsTrue};
 ghost use Rattle.asm_defs.specs.Memory as memory;
 ghost use Rattle.asm_defs.specs.Growing.{size_said, held_place};
 ghost use Rattle.asm_checks.specs.Defined.{defined_statement};
@@ -54,7 +54,8 @@ impl FirstPass<'_> {
         requires line { IsSaid said.now }
         requires room { HasRoom self.now.at text.now (defined_statement said.now.statement) }
         ensures { IfOk result
-            (Assembles self.now.symbols.now self.now.number self.now.at text.now (defined_statement said.now.statement)) }
+            (Assembles self.now.symbols.now self.now.number self.now.at text.now
+            (defined_statement said.now.statement)) }
     {
         let scope = Scope {
             alloc: self.alloc,
@@ -91,7 +92,7 @@ impl FirstPass<'_> {
 
     /// The line, as it waits for names.
     fn pending(&self, text: &[u8]) -> Result<Pending, AllocError>
-        requires { has_room self.now.at text.now ≡ true }
+        requires { IsTrue (has_room self.now.at text.now) }
         ensures { IfOk result (IsPending self.now.number self.now.at text.now) }
     {
         Ok(Pending {
@@ -105,7 +106,8 @@ impl FirstPass<'_> {
     fn zeros(&self, said: &Said<'_>) -> Result<Vec<Content>, AllocError>
         requires little { MovesLittle said.now.statement }
         requires fits { self.now.at.number + size_said (defined_statement said.now.statement) ≤ 65536 }
-        ensures { IfOk result (λ zeros. GivesBytes self.now.at (held_place self.now.at (defined_statement said.now.statement)).outcome zeros.items) }
+        ensures { IfOk result (λ zeros. GivesBytes self.now.at
+            (held_place self.now.at (defined_statement said.now.statement)).outcome zeros.items) }
     {
         vec![in self.alloc; Content::Byte(0); size_said(&said.statement) as usize]
     }

@@ -1,17 +1,18 @@
 //! What a builder keeps of a line.
 
-ghost use Rattle.std.specs.Prelude.{◌≡◌, ◌++◌, OnOk, OnErr, option_to_list};
+ghost use Rattle.std.specs.Prelude.{◌≡◌, ◌++◌, OnOk, OnErr, IfErr, option_to_list, IsFalse};
 ghost use Rattle.source_defs.specs.Growing.{Grows};
-ghost use Rattle.asm_defs.specs.FirstChecks.{defs_in, refs_in};
+ghost use Rattle.asm_defs.specs.FirstChecks.{any_known, label_in, defs_in, refs_in};
 ghost use Rattle.asm_checks.specs.Defined.{defined_statement};
 ghost use Rattle.asm_checks.specs.Checks.{defined_before, KnowsPlaces, ListsNames};
-ghost use Rattle.asm_core.specs.Keeping.{known_in, names_with, Keeps, IsUnchanged, StartsAs, SameLists, SameNames};
+ghost use Rattle.asm_core.specs.Keeping.{known_in, names_with, KnowsLabel, Keeps, IsUnchanged, StartsAs, SameLists};
+ghost use Rattle.asm_core.specs.Keeping.{SameNames};
 ghost use Rattle.asm_core.specs.Keeping.{SameWork, StandsStill};
 
 use crate::define::define_line;
 use crate::lines::AsmLines;
 use crate::pending::Pending;
-use asm_checks::{Before, Checked, Statement};
+use asm_checks::{Before, Checked, Failure, Statement};
 use std::alloc::AllocError;
 
 impl AsmLines {
@@ -30,14 +31,17 @@ impl AsmLines {
         }
     }
 
-    /// Keeps the names of a line, and the line where it waits. Where memory is wanting nothing of it is kept.
+    /// Keeps the names of a line, whose label has to be new, and the line where it waits. After a failure nothing of it
+    /// is kept.
     pub(crate) fn keep(
         &mut self,
         waiting: Option<Pending>,
         checked: &Checked<'_>,
-    ) -> Result<(), AllocError>
+    ) -> Result<(), Failure>
         requires { ListsNames checked.now.said }
         ensures kept { OnOk result (Keeps self.old waiting checked.now self.new) }
+        ensures fresh { OnOk result (IsFalse (any_known self.old.symbols (label_in checked.now.said.label))) }
+        ensures known { IfErr result (KnowsLabel self.old.symbols checked.now.said.label) }
         ensures unchanged { OnErr result (IsUnchanged self.old self.new) }
         ensures work { SameWork self.old self.new }
         ensures still { StandsStill self.old self.new }
@@ -54,10 +58,12 @@ impl AsmLines {
         added
     }
 
-    /// Adds a line with its names. Where memory is wanting no name of it is defined.
-    fn add(&mut self, waiting: Option<Pending>, checked: &Checked<'_>) -> Result<(), AllocError>
+    /// Adds a line with its names, of which its label has to be new. After a failure no name of it is defined.
+    fn add(&mut self, waiting: Option<Pending>, checked: &Checked<'_>) -> Result<(), Failure>
         requires { ListsNames checked.now.said }
         ensures kept { OnOk result (Keeps self.old waiting checked.now self.new) }
+        ensures fresh { OnOk result (IsFalse (any_known self.old.symbols (label_in checked.now.said.label))) }
+        ensures known { IfErr result (KnowsLabel self.old.symbols checked.now.said.label) }
         ensures names { OnErr result (self.new.symbols ≡ self.old.symbols) }
         ensures starts { OnErr result (StartsAs self.old self.new) }
         ensures work { SameWork self.old self.new }
@@ -85,10 +91,12 @@ impl AsmLines {
         }
     }
 
-    /// Defines the label and the names of REF.
-    fn define_names(&mut self, checked: &Checked<'_>) -> Result<(), AllocError>
+    /// Defines the label, which has to be new, and the names of REF.
+    fn define_names(&mut self, checked: &Checked<'_>) -> Result<(), Failure>
         requires { ListsNames checked.now.said }
         ensures defined { OnOk result (self.new.symbols ≡ names_with self.old.symbols checked.now) }
+        ensures fresh { OnOk result (IsFalse (any_known self.old.symbols (label_in checked.now.said.label))) }
+        ensures known { IfErr result (KnowsLabel self.old.symbols checked.now.said.label) }
         ensures grows { OnOk result (Grows self.old.symbols self.new.symbols) }
         ensures unchanged { OnErr result (self.new.symbols ≡ self.old.symbols) }
         ensures lists { SameLists self.old self.new }

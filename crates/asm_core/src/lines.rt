@@ -1,6 +1,6 @@
 //! The assembler as a builder that takes its lines one at a time.
 
-ghost use Rattle.std.specs.Prelude.{◌≡◌, ◌≤◌, true};
+ghost use Rattle.std.specs.Prelude.{◌≤◌, IsTrue};
 ghost use Rattle.asm_defs.specs.Locations as places;
 
 use crate::pending::{Pending, Refused};
@@ -30,6 +30,6 @@ pub struct AsmLines {
     pub(crate) refused: Option<Refused>,
     pub(crate) taken: u32,
     pub(crate) ended: bool,
-    ghost placed: { places.is_in_part location ≡ true },
+    ghost placed: { IsTrue (places.is_in_part location) },
     ghost reach: { reached ≤ 65535 },
 }

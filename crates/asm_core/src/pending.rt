@@ -1,6 +1,6 @@
 //! Lines of which a value is still open, and the line that is refused.
 
-ghost use Rattle.std.specs.Prelude.{◌≡◌, true};
+ghost use Rattle.std.specs.Prelude.{IsTrue};
 ghost use Rattle.asm_core.specs.Held.{has_room};
 
 use asm_defs::{AsmCause, Location};
@@ -14,7 +14,7 @@ pub(crate) struct Pending {
     pub(crate) at: Location,
     /// Its text.
     pub(crate) text: Vec<u8>,
-    ghost room: { has_room at text.items ≡ true },
+    ghost room: { IsTrue (has_room at text.items) },
 }
 
 /// The first line that the second checks refuse whatever names are still to come.

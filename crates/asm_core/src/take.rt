@@ -1,6 +1,7 @@
 //! A line that a builder takes.
 
-ghost use Rattle.std.specs.Prelude.{◌≡◌, ◌<◌, ◌≤◌, ◌+◌, ◌-◌, ◌^◌, ◌||◌, true, max, List, OnOk, OnErr};
+ghost use Rattle.std.specs.Prelude.{◌≡◌, ◌<◌, ◌≤◌, ◌+◌, ◌-◌, ◌^◌, ◌||◌, max, List, OnOk, OnErr, IfErr};
+ghost use Rattle.std.specs.Prelude.{IsTrue, IsFalse};
 ghost use Rattle.asm_defs.specs.Locations as places;
 ghost use Rattle.asm_defs.specs.Modules.{title_by};
 ghost use Rattle.asm_defs.specs.FirstChecks as spec;
@@ -9,7 +10,7 @@ ghost use Rattle.asm_checks.specs.Defined.{defined_statement};
 ghost use Rattle.asm_checks.specs.Moves.{defined_move, MovesWithin};
 ghost use Rattle.asm_checks.specs.Checks.{IsSaid, ListsNames};
 ghost use Rattle.asm_core.specs.Assembling.{HasRoom};
-ghost use Rattle.asm_core.specs.Keeping.{IsUnchanged, SameWork, StandsStill};
+ghost use Rattle.asm_core.specs.Keeping.{KnowsLabel, IsUnchanged, SameWork, StandsStill};
 ghost use Rattle.asm_core.specs.Adding.{Adds, Counts, IsAsBefore};
 ghost use Rattle.asm_core.specs.Building.{IsBehind, Takes, refusal_at};
 
@@ -33,11 +34,15 @@ impl AsmLines {
         }
         let checked = match self.known().checked(text) {
             Ok(checked) => checked,
-            Err(failure) => return Err(self.refusal(failure)),
+            Err(failure) => return Err(self.refusal(self.known().failure_of(text, failure))),
         };
-        self.work(text, &checked)?;
-        self.advance(&checked);
-        Ok(())
+        match self.work(text, &checked) {
+            Ok(()) => {
+                self.advance(&checked);
+                Ok(())
+            }
+            Err(failure) => Err(self.refusal(failure)),
+        }
     }
 
     /// Counts a line that says nothing.
@@ -52,14 +57,18 @@ impl AsmLines {
         Ok(())
     }
 
-    /// Adds a line: its names, and what is known of it. Behind a line that is refused only the names count.
-    fn work(&mut self, text: &[u8], checked: &Checked<'_>) -> Result<(), AllocError>
+    /// Adds a line, whose label has to be new: its names, and what is known of it. Behind a line that is refused only
+    /// the names count.
+    fn work(&mut self, text: &[u8], checked: &Checked<'_>) -> Result<(), Failure>
         requires taken { self.old.taken < 2 ^ 32 - 1 }
         requires line { IsSaid checked.now.said }
         requires listed { ListsNames checked.now.said }
         requires within { MovesWithin checked.now.moved }
-        requires room { HasRoom (places.behind self.old.location checked.now.moved.gap) text.now (defined_statement checked.now.said.statement) }
+        requires room { HasRoom (places.behind self.old.location checked.now.moved.gap) text.now
+            (defined_statement checked.now.said.statement) }
         ensures added { OnOk result (Adds self.old text.now checked.now self.new) }
+        ensures fresh { OnOk result (IsFalse (spec.any_known self.old.symbols (spec.label_in checked.now.said.label))) }
+        ensures known { IfErr result (KnowsLabel self.old.symbols checked.now.said.label) }
         ensures unchanged { OnErr result (IsAsBefore self.old self.new) }
         ensures still { StandsStill self.old self.new }
     {
@@ -93,8 +102,8 @@ impl AsmLines {
     fn advance(&mut self, checked: &Checked<'_>)
         requires taken { self.old.taken < 2 ^ 32 - 1 }
         requires within { MovesWithin checked.now.moved }
-        requires place { places.is_in_part (spec.location_behind self.old.location (defined_move checked.now.moved))
-            ≡ true }
+        requires place { IsTrue
+            (places.is_in_part (spec.location_behind self.old.location (defined_move checked.now.moved))) }
         requires titled { IsTitled (defined_statement checked.now.said.statement) }
         ensures location { self.new.location ≡ spec.location_behind self.old.location (defined_move checked.now.moved) }
         ensures reached { self.new.reached ≡ max self.old.reached (places.relocatable self.new.location) }

@@ -177,12 +177,11 @@ module _ (before : Before) where
   room_by location statement move here (inr (nothing, gap)) there =
       grind (arith, nat_tests, here, limit_le location.part, nothing, gap)
 
-  -- a line that is let through has room at its place
-  pub checked_room : (text : List ℕ) (found : Checked) → is_in_part before.location ≡ true → checked before text ≡ Ok found
+  -- a line has room at its place where what it says is let through
+  pub moved_room : (line : Said) (found : Checked) → is_in_part before.location ≡ true → moved before line ≡ Ok found
       → before.location.number + found.move.gap + size_said found.statement ≤ 65536
-  checked_room text found here e =
-      let a = bound (said before text) _ found e in
-      let leads = moved_is a.0 found a.2 in
+  moved_room line found here e =
+      let leads = moved_is line found e in
       room_by before.location found.statement found.move here leads.fits leads.within
 
   pub checked_within : (text : List ℕ) (found : Checked) → checked before text ≡ Ok found

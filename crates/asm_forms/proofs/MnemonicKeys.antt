@@ -25,9 +25,13 @@ named_by key =
 by_key : (text : List ℕ) → AreBytes text → mnemonic text ≡ named_by (word_key text)
 unfolding mnemonic
 by_key text bytes =
-    ap (λ same. cond same (Some (Fixed 0x1000)) (cond (is_word text (codes "RT")) (Some (Fixed 0x045B)) (option_map Of (find (λ operation. is_word text (name_of operation)) operations)))) (word_told text (codes "NOP") bytes refl)
-    ∙ (ap (λ same. cond (is_of_key (word_key text) (codes "NOP")) (Some (Fixed 0x1000)) (cond same (Some (Fixed 0x045B)) (option_map Of (find (λ operation. is_word text (name_of operation)) operations)))) (word_told text (codes "RT") bytes refl)
-    ∙ ap (λ found. cond (is_of_key (word_key text) (codes "NOP")) (Some (Fixed 0x1000)) (cond (is_of_key (word_key text) (codes "RT")) (Some (Fixed 0x045B)) (option_map Of found))) (words_found name_of text operations bytes refl))
+    ap (λ same. cond same (Some (Fixed 0x1000)) (cond (is_word text (codes "RT")) (Some (Fixed 0x045B))
+    (option_map Of (find (λ operation. is_word text (name_of operation)) operations)))) (word_told text (codes "NOP") bytes refl)
+    ∙ (ap (λ same. cond (is_of_key (word_key text) (codes "NOP")) (Some (Fixed 0x1000))
+    (cond same (Some (Fixed 0x045B)) (option_map Of (find (λ operation. is_word text (name_of operation)) operations))))
+    (word_told text (codes "RT") bytes refl)
+    ∙ ap (λ found. cond (is_of_key (word_key text) (codes "NOP")) (Some (Fixed 0x1000))
+    (cond (is_of_key (word_key text) (codes "RT")) (Some (Fixed 0x045B)) (option_map Of found))) (words_found name_of text operations bytes refl))
 
 -- by the number that the text has, or by none
 pub by_number : (text : List ℕ) (key : Option ℕ) → AreBytes text → key ≡ word_key text → named_by key ≡ mnemonic text

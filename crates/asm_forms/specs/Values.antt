@@ -11,7 +11,8 @@ use Rattle.asm_forms.specs.UpToTwo.{items_of}
 use Rattle.asm_forms.specs.declared.up_to_two.UpToTwo.{UpToTwo}
 use Rattle.asm_forms.specs.declared.up_to_two.UpToTwo.TheVariants.{None, One, Two}
 use Rattle.asm_forms.specs.declared.values.Operand.{Operand}
-use Rattle.asm_forms.specs.declared.values.Operand.TheVariants.{InRegister, ByRegister, AutoIncrement, AtAddress, AtIndexed}
+use Rattle.asm_forms.specs.declared.values.Operand.TheVariants.{InRegister, ByRegister, AutoIncrement, AtAddress}
+use Rattle.asm_forms.specs.declared.values.Operand.TheVariants.{AtIndexed}
 use Rattle.asm_forms.specs.declared.values.Operand.TheVariants.{Number, Bit, To, Following}
 use Rattle.asm_forms.specs.declared.ranges.Ready.{Ready}
 use Rattle.asm_forms.specs.declared.ranges.Ready.TheVariants.{Located, Addressed, Counted, Displaced, Followed}

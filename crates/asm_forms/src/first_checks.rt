@@ -28,8 +28,8 @@ pub enum Skeleton<'a> {
 /// The first checks of an operation field and an operand field. They want no memory.
 ///
 /// # Errors
-/// `UnknownOperation`, then `OperandCount`, then `BadOperand` for the first operand that is empty or has a form that its
-/// place does not allow (Editor/Assembler manual, "Assembly Language Instructions").
+/// `UnknownOperation`, then `OperandCount`, then `BadOperand` for the first operand that is empty or has a form that
+/// its place does not allow (Editor/Assembler manual, "Assembly Language Instructions").
 #[tactic(auto, unfolding(instruction_defs::specs::FirstChecks::first_checks))]
 pub fn skeleton_of<'a>(operation: &[u8], field: &'a [u8]) -> Result<Skeleton<'a>, FormError>
     ensures { skeleton_answer result ≡ spec.first_checks operation.now field.now }

@@ -22,16 +22,17 @@ use std::alloc::Global;
 
 /// The second checks of a line of which the first checks left this, and its words.
 #[tactic(auto, unfolding(instruction_defs::specs::SecondChecks::second_checks))]
-fn second_checks(scope: &Scope<'_>, skeleton: Skeleton<'_>) -> Result<Placed, FormError>
+fn second_checks(scope: &Scope<'_>, skeleton: &Skeleton<'_>) -> Result<Placed, FormError>
     requires { IsNotExternal scope.now.here }
     ensures { Gives words_in result
-        (second.second_checks (look_up scope.now.symbols.now) (defined_value scope.now.here) (defined_skeleton skeleton.entry)) }
+        (second.second_checks (look_up scope.now.symbols.now) (defined_value scope.now.here)
+        (defined_skeleton skeleton.now)) }
 {
     match skeleton {
-        Skeleton::Word(word) => Ok(one_word(word)),
+        Skeleton::Word(word) => Ok(one_word(*word)),
         Skeleton::Instruction(operation, forms) => {
-            let operands = scope.all_valued(slots_of(operation), forms)?;
-            in_range_words(&scope.here, operation, operands)
+            let operands = scope.all_valued(slots_of(*operation), forms)?;
+            in_range_words(&scope.here, *operation, operands)
         }
     }
 }
@@ -69,7 +70,8 @@ pub fn parse_instr(
     requires sized { IsOk (first.line_size (operation_in line.now fields.now) (operands_in line.now fields.now)) }
     requires here { IsNotExternal here }
     ensures { Gives words_in result
-        (line_words (look_up symbols.now) (defined_value here) (operation_in line.now fields.now) (operands_in line.now fields.now)) }
+        (line_words (look_up symbols.now) (defined_value here) (operation_in line.now fields.now)
+        (operands_in line.now fields.now)) }
 {
     let skeleton = line_checks(line, fields)?;
     words_of(alloc, &skeleton, symbols, here)
@@ -94,7 +96,7 @@ pub fn words_of(
         symbols,
         here,
     };
-    second_checks(&scope, *skeleton)
+    second_checks(&scope, skeleton)
 }
 
 /// The first checks of a line with an operation.

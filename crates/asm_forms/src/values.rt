@@ -53,11 +53,12 @@ impl Scope<'_> {
     pub(crate) fn all_valued(
         &self,
         slots: UpToTwo<Slot>,
-        forms: UpToTwo<Form<'_>>,
+        forms: &UpToTwo<Form<'_>>,
     ) -> Result<UpToTwo<Operand>, FormError>
         requires { IsNotExternal self.now.here }
         ensures { Gives (items_of defined_operand) result
-            (spec.all_valued (look_up self.now.symbols.now) (defined_value self.now.here) (slots_in slots) (items_of defined_form forms.entry)) }
+            (spec.all_valued (look_up self.now.symbols.now) (defined_value self.now.here) (slots_in slots)
+            (items_of defined_form forms.now)) }
     {
         match (slots, forms) {
             (UpToTwo::One(slot), UpToTwo::One(form) | UpToTwo::Two(form, _))
@@ -75,10 +76,10 @@ impl Scope<'_> {
     }
 
     /// The values of an operand in its slot.
-    fn valued(&self, slot: Slot, form: Form<'_>) -> Result<Operand, FormError>
+    fn valued(&self, slot: Slot, form: &Form<'_>) -> Result<Operand, FormError>
         requires { IsNotExternal self.now.here }
         ensures { Gives defined_operand result
-            (spec.valued (look_up self.now.symbols.now) (defined_value self.now.here) slot (defined_form form.entry)) }
+            (spec.valued (look_up self.now.symbols.now) (defined_value self.now.here) slot (defined_form form.now)) }
     {
         match slot {
             Slot::General => self.placed(form),
@@ -103,10 +104,10 @@ impl Scope<'_> {
     }
 
     /// The values of an operand in any mode.
-    fn placed(&self, form: Form<'_>) -> Result<Operand, FormError>
+    fn placed(&self, form: &Form<'_>) -> Result<Operand, FormError>
         requires { IsNotExternal self.now.here }
         ensures { Gives defined_operand result
-            (spec.placed (look_up self.now.symbols.now) (defined_value self.now.here) (defined_form form.entry)) }
+            (spec.placed (look_up self.now.symbols.now) (defined_value self.now.here) (defined_form form.now)) }
     {
         match form {
             Form::Plain(text) => {
@@ -162,8 +163,8 @@ impl Scope<'_> {
 }
 
 /// The text of an expression alone.
-fn text_in(form: Form<'_>) -> &[u8]
-    ensures { result.now ≡ spec.text_in (defined_form form.entry) }
+fn text_in<'a>(form: &Form<'a>) -> &'a [u8]
+    ensures { result.now ≡ spec.text_in (defined_form form.now) }
 {
     match form {
         Form::Plain(text)

@@ -1,5 +1,6 @@
 -- The keys of names are ordered as the names.
-use Rattle.std.proofs.Common.{◌≡◌, ℕ, zero, suc, ◌+◌, ◌-◌, ◌*◌, ◌<◌, ◌≤◌, true, List, [], ◌∷◌, ◌++◌, length, get_or, take, drop, set, replicate, refl, sym, ap, subst, ◌∙◌, arith, tests}
+use Rattle.std.proofs.Common.{◌≡◌, ℕ, zero, suc, ◌+◌, ◌-◌, ◌*◌, ◌<◌, ◌≤◌, true, List, [], ◌∷◌, ◌++◌, length, get_or, take, drop, set, replicate, refl, sym, ap}
+use Rattle.std.proofs.Common.{subst, ◌∙◌, arith, tests}
 use Rattle.std.specs.Prelude.{nat_eq, nat_lt, nat_le, ◌&&◌}
 use Rattle.std.specs.Ordering.{nat_cmp, is_eq, ordering_then, MatchOrdering}
 use Rattle.std.specs.declared.cmp.Ordering.{Ordering}
@@ -54,7 +55,8 @@ zeros_stay letters size at letter behind =
 
 -- the key of six bytes
 pub key_of_six : (bytes : List ℕ) → length bytes ≡ 6
-    → key_of bytes ≡ 256 * (256 * (256 * (256 * (256 * get_or bytes 0 0 + get_or bytes 1 0) + get_or bytes 2 0) + get_or bytes 3 0) + get_or bytes 4 0) + get_or bytes 5 0
+    → key_of bytes ≡ 256 * (256 * (256 * (256 * (256 * get_or bytes 0 0 + get_or bytes 1 0) + get_or bytes 2 0) + get_or bytes 3 0) + get_or bytes 4 0) +
+    get_or bytes 5 0
 unfolding key_of key_behind
 key_of_six (a ∷ b ∷ c ∷ d ∷ e ∷ f ∷ []) six =
     let first : 256 * 0 + a ≡ a = omega arith in
@@ -90,7 +92,8 @@ higher (suc places) key more (x ∷ xs) (y ∷ ys) p q lt =
 
 -- names compare as the keys with them behind one number
 compared : (places key : ℕ) (xs ys : List ℕ) → length xs ≤ places → length ys ≤ places → all_printed xs ≡ true → all_printed ys ≡ true
-    → MatchOrdering (slice_cmp nat_cmp xs ys) (key_behind key places xs < key_behind key places ys) (key_behind key places xs ≡ key_behind key places ys) (key_behind key places ys < key_behind key places xs)
+    → MatchOrdering (slice_cmp nat_cmp xs ys) (key_behind key places xs < key_behind key places ys) (key_behind key places xs ≡ key_behind key places ys)
+    (key_behind key places ys < key_behind key places xs)
 unfolding key_behind
 compared places key [] [] m n p q = refl
 compared zero key [] (y ∷ ys) m n p q = absurd (omega (arith, n))
@@ -111,7 +114,8 @@ compared (suc places) key (x ∷ xs) (y ∷ ys) m n p q =
 
     by : (r : Ordering) → MatchOrdering r (x < y) (x ≡ y) (y < x) → Behind x
         → MatchOrdering (ordering_then r (slice_cmp nat_cmp xs ys)) (key_behind (256 * key + x) places xs < key_behind (256 * key + y) places ys)
-        (key_behind (256 * key + x) places xs ≡ key_behind (256 * key + y) places ys) (key_behind (256 * key + y) places ys < key_behind (256 * key + x) places xs)
+        (key_behind (256 * key + x) places xs ≡ key_behind (256 * key + y) places ys)
+        (key_behind (256 * key + y) places ys < key_behind (256 * key + x) places xs)
     by Less lt same = higher places (256 * key + x) (256 * key + y) xs ys (others x xs p) (others y ys q) (omega (arith, lt, digit x xs p))
     by Equal is same = subst Behind is same
     by Greater gt same = higher places (256 * key + y) (256 * key + x) ys xs (others y ys q) (others x xs p) (omega (arith, gt, digit y ys q))

@@ -3,3 +3,4 @@ pub mod Inside
 pub mod Keys
 pub mod WordKeys
 pub mod OneToken
+pub mod Registers

@@ -30,7 +30,8 @@ abbrev pub or_else : Option defined.Value → Option defined.Value → Option de
 or_else (Some value) other = Some value
 or_else None other = other
 
-either : (b : Bool) (value : defined.Value) (first second : Option defined.Value) → cond b (Some value) (or_else first second) ≡ or_else (cond b (Some value) first) second
+either : (b : Bool) (value : defined.Value) (first second : Option defined.Value)
+    → cond b (Some value) (or_else first second) ≡ or_else (cond b (Some value) first) second
 either true value first second = refl
 either false value first second = refl
 
@@ -40,18 +41,21 @@ found-append name (entry ∷ front) behind =
     ap (cond (eq_by_cmp (slice_cmp nat_cmp) name entry.0) (Some entry.1)) (found-append name front behind)
     ∙ either (eq_by_cmp (slice_cmp nat_cmp) name entry.0) entry.1 (found name front) (found name behind)
 
-mapped : (b : Bool) (value : Value) (other : Option Value) → cond b (Some (defined_value value)) (option_map defined_value other) ≡ option_map defined_value (cond b (Some value) other)
+mapped : (b : Bool) (value : Value) (other : Option Value) → cond b (Some (defined_value value)) (option_map defined_value other)
+    ≡ option_map defined_value (cond b (Some value) other)
 mapped true value other = refl
 mapped false value other = refl
 
-found-map : (name : List ℕ) (entries : List (List ℕ × Value)) → found name (map defined_entry entries) ≡ option_map defined_value (lookup (is_at (slice_cmp nat_cmp name)) entries)
+found-map : (name : List ℕ) (entries : List (List ℕ × Value)) → found name (map defined_entry entries)
+    ≡ option_map defined_value (lookup (is_at (slice_cmp nat_cmp name)) entries)
 found-map name [] = refl
 found-map name (entry ∷ entries) =
     ap (cond (eq_by_cmp (slice_cmp nat_cmp) name entry.0) (Some (defined_value entry.1))) (found-map name entries)
     ∙ mapped (eq_by_cmp (slice_cmp nat_cmp) name entry.0) entry.1 (lookup (is_at (slice_cmp nat_cmp name)) entries)
 
 -- a name is a register, or what is kept for it
-pub get_kept : (entries : List (List ℕ × Value)) (name : List ℕ) → get (names_of entries) name ≡ or_else (found name registers) (option_map defined_value (lookup (is_at (slice_cmp nat_cmp name)) entries))
+pub get_kept : (entries : List (List ℕ × Value)) (name : List ℕ) → get (names_of entries) name
+    ≡ or_else (found name registers) (option_map defined_value (lookup (is_at (slice_cmp nat_cmp name)) entries))
 get_kept entries name =
     get-from_entries nat_list_cmp_total (registers ++ map defined_entry entries) name
     ∙ (found-append name registers (map defined_entry entries) ∙ ap (or_else (found name registers)) (found-map name entries))
@@ -84,7 +88,8 @@ module _ (old new : BTreeMap (List ℕ) Value) (name : List ℕ) (value : Value)
       get_kept new.entries asked
       ∙ (ap (λ kept. or_else (found asked registers) (option_map defined_value kept)) (updates.0 asked)
       ∙ (same_at _ asked refl no_register
-      ∙ (ap (λ b. cond b (Some (defined_value value)) (or_else (found asked registers) (option_map defined_value (tree.get (slice_cmp nat_cmp) old asked)))) ((eq_by_cmp_equiv nat_list_cmp_total).symm name asked)
+      ∙ (ap (λ b. cond b (Some (defined_value value)) (or_else (found asked registers) (option_map defined_value (tree.get (slice_cmp nat_cmp) old asked))))
+      ((eq_by_cmp_equiv nat_list_cmp_total).symm name asked)
       ∙ (ap (cond (eq_by_cmp (slice_cmp nat_cmp) asked name) (Some (defined_value value))) (sym (get_kept old.entries asked))
       ∙ sym (get-insert nat_list_cmp_total (names_of old.entries) name (defined_value value) asked))))))
 
@@ -106,7 +111,8 @@ module _ (old new : BTreeMap (List ℕ) Value) (name : List ℕ) where
       get_kept new.entries asked
       ∙ (ap (λ kept. or_else (found asked registers) (option_map defined_value kept)) (updates.0 asked)
       ∙ (removed_at _ asked refl none
-      ∙ (ap (λ b. cond b None (or_else (found asked registers) (option_map defined_value (tree.get (slice_cmp nat_cmp) old asked)))) ((eq_by_cmp_equiv nat_list_cmp_total).symm name asked)
+      ∙ (ap (λ b. cond b None (or_else (found asked registers) (option_map defined_value (tree.get (slice_cmp nat_cmp) old asked))))
+      ((eq_by_cmp_equiv nat_list_cmp_total).symm name asked)
       ∙ (ap (cond (eq_by_cmp (slice_cmp nat_cmp) asked name) None) (sym (get_kept old.entries asked))
       ∙ sym (get-remove nat_list_cmp_total (names_of old.entries) name asked))))))
 
@@ -122,7 +128,8 @@ kept_same old new same =
 -- a name stands for nothing where it is no register and nothing is kept for it
 pub get_free : (kept : BTreeMap (List ℕ) Value) (name : List ℕ) → found name registers ≡ None
     → get (names_of kept.entries) name ≡ option_map defined_value (tree.get (slice_cmp nat_cmp) kept name)
-get_free kept name none = get_kept kept.entries name ∙ ap (λ register. or_else register (option_map defined_value (tree.get (slice_cmp nat_cmp) kept name))) none
+get_free kept name none = get_kept kept.entries name ∙ ap (λ register. or_else register (option_map defined_value (tree.get (slice_cmp nat_cmp) kept name)))
+    none
 
 module _ (old between new : BTreeMap (List ℕ) Value) (name : List ℕ) (value before : Value) where
   back_at : (b : Bool) (asked : List ℕ) → eq_by_cmp (slice_cmp nat_cmp) name asked ≡ b → tree.get (slice_cmp nat_cmp) old name ≡ Some before
@@ -147,7 +154,8 @@ register_some (Some number) entries name is some =
     subst IsSome
     (sym (get_kept entries name ∙ ap (λ register. or_else register (option_map defined_value (lookup (is_at (slice_cmp nat_cmp name)) entries))) (sym is))) refl
 
-pub register_none : (number : Option ℕ) (name : List ℕ) → option_map defined.Absolute number ≡ found name registers → is_some number ≡ false → found name registers ≡ None
+pub register_none : (number : Option ℕ) (name : List ℕ) → option_map defined.Absolute number ≡ found name registers → is_some number ≡ false
+    → found name registers ≡ None
 register_none None name is none = sym is
 register_none (Some number) name is none = cc none
 

@@ -52,12 +52,14 @@ alone look here text token = by token.kind (part text token.span)
     kept (Ok value) = refl
     kept (Err cause) = refl
 
-    signed : (b : Bool) → Err BadToken ≡ (if b then defined.minus_value look here text [] else (Err BadToken >>= λ total. defined.value_with look here text total []))
+    signed : (b : Bool) → Err BadToken ≡ (if b then defined.minus_value look here text [] else
+        (Err BadToken >>= λ total. defined.value_with look here text total []))
     signed true = refl
     signed false = refl
 
     by : (kind : Kind) (written : List ℕ) → defined.kind_value look here text kind written
-        ≡ (if defined.is_minus kind then defined.minus_value look here text [] else (defined.kind_value look here text kind written >>= λ total. defined.value_with look here text total []))
+        ≡ (if defined.is_minus kind then defined.minus_value look here text [] else
+        (defined.kind_value look here text kind written >>= λ total. defined.value_with look here text total []))
     by (Number number) written = refl
     by (Name name) written = kept (defined.known_value (look name))
     by Here written = refl
@@ -68,13 +70,16 @@ alone look here text token = by token.kind (part text token.span)
 module _ (look : List ℕ → Option defined.Value) (here : defined.Value) (text : List ℕ) (some : 0 < length text) where
   pub value_is : (token : Token) → Ok token ≡ token_at text 0 → token.span.end ≡ length text
       → defined.term_value look here text token ≡ defined.expression look here text
-  value_is token is end = alone look here text token ∙ sym (ap (λ (found : Result (List Token) ExprError). found >>= λ found. defined.value look here text found) (one_token text token some is end))
+  value_is token is end = alone look here text token ∙ sym (ap (λ (found : Result (List Token) ExprError). found >>= λ found.
+      defined.value look here text found) (one_token text token some is end))
 
   pub refusal_is : (cause : ExprError) → Err cause ≡ token_at text 0 → Err cause ≡ defined.expression look here text
-  refusal_is cause is = sym (ap (λ (found : Result (List Token) ExprError). found >>= λ found. defined.value look here text found) (no_token text cause some is))
+  refusal_is cause is = sym (ap (λ (found : Result (List Token) ExprError). found >>= λ found. defined.value look here text found)
+      (no_token text cause some is))
 
 -- what a call answers that wants no memory
-pub yielded : (result : Result Value ExprError) (answer : Result defined.Value ExprError) → defined_value_answer result ≡ answer → Yields defined_value result answer
+pub yielded : (result : Result Value ExprError) (answer : Result defined.Value ExprError) → defined_value_answer result ≡ answer
+    → Yields defined_value result answer
 yielded (Ok value) answer is = sym is
 yielded (Err BadToken) answer is = sym is
 yielded (Err UnknownName) answer is = sym is

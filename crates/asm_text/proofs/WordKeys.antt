@@ -1,5 +1,6 @@
 -- A text is a word where its key is the word's.
-use Rattle.std.proofs.Common.{◌≡◌, ℕ, suc, ◌+◌, ◌*◌, ◌<◌, Bool, true, false, cond, List, [], ◌∷◌, length, get_or, drop, Some, None, refl, sym, ap, ◌∙◌, arith, Fits, w8}
+use Rattle.std.proofs.Common.{◌≡◌, ℕ, suc, ◌+◌, ◌*◌, ◌<◌, Bool, true, false, cond, List, [], ◌∷◌, length, get_or, drop, Some, None, refl, sym, ap, ◌∙◌, arith}
+use Rattle.std.proofs.Common.{Fits, w8}
 use Rattle.std.specs.Prelude.{◌&&◌, ◌==◌, nat_lt, nat_le, map, find, Option}
 use Rattle.std.specs.List.{list_all}
 use Rattle.std.specs.Option.{option_map}
@@ -95,7 +96,8 @@ words_found {A} name text things p short = told things short ∙ rows (word_key 
 
     either : (b : Bool) (thing : A) (others : List A) (key : ℕ) (rest : Option A)
         → rest ≡ option_map (λ (row : ℕ × A). row.1) (find (λ row. key == row.0) (map (λ it. (key_of (name it), it)) others))
-        → cond b (Some thing) rest ≡ option_map (λ (row : ℕ × A). row.1) (cond b (Some (key_of (name thing), thing)) (find (λ row. key == row.0) (map (λ it. (key_of (name it), it)) others)))
+        → cond b (Some thing) rest ≡ option_map (λ (row : ℕ × A). row.1)
+        (cond b (Some (key_of (name thing), thing)) (find (λ row. key == row.0) (map (λ it. (key_of (name it), it)) others)))
     either true thing others key rest e = refl
     either false thing others key rest e = e
 
@@ -133,7 +135,8 @@ first_by_key {A} text rows p short = told rows short
         by true = refl
         by false = refl
 
-    told : (some : List (List ℕ × A)) → list_all (λ (row : List ℕ × A). is_short row.0) some ≡ true → first_word text some ≡ with_key (word_key text) (keyed some)
+    told : (some : List (List ℕ × A)) → list_all (λ (row : List ℕ × A). is_short row.0) some ≡ true
+        → first_word text some ≡ with_key (word_key text) (keyed some)
     told [] q = none (word_key text)
     told (row ∷ others) q =
         let here = first_so (is_short row.0) (list_all (λ (it : List ℕ × A). is_short it.0) others) q in

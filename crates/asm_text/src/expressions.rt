@@ -26,6 +26,9 @@ pub fn expression_value(
     requires { IsNotExternal here }
     ensures { Yields defined_value result (expression (look_up symbols.now) (defined_value here) text.now) }
 {
+    if let Some(value) = symbols.register_in(text) {
+        return Ok(value);
+    }
     if !text.is_empty() {
         let first = match token_at(text, 0) {
             Ok(first) => first,

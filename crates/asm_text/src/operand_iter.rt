@@ -68,10 +68,11 @@ fn comma_place(field: &[u8], from: usize) -> usize
     let mut quoted = false;
     for at in from..field.len() {
         let byte = field[at];
-        if is_comma(byte) && !quoted {
-            return at;
-        }
-        if is_quote(byte) {
+        if is_comma(byte) {
+            if !quoted {
+                return at;
+            }
+        } else if is_quote(byte) {
             quoted = !quoted;
         }
     }

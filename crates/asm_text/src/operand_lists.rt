@@ -29,7 +29,8 @@ pub fn one_of(field: &[u8]) -> Result<&[u8], OperandError>
 /// # Errors
 /// `Count` comes where the field has several, and `Form` where its operand is empty.
 pub fn at_most_one_of(field: &[u8]) -> Result<Option<&[u8]>, OperandError>
-    ensures { seen (λ text. option_map (λ found. found.now) text) result ≡ spec.at_most_one_of (operand_texts field.now) }
+    ensures { seen (λ text. option_map (λ found. found.now) text) result
+        ≡ spec.at_most_one_of (operand_texts field.now) }
 {
     let mut parts = operands(field);
     let Some(only) = parts.next() else {

@@ -1,7 +1,7 @@
 //! A line as fields.
 
-ghost use Rattle.std.specs.Prelude.{◌≡◌, ◌≤◌, ◌<◌, ◌-◌, ◌++◌, ◌↔◌, ◌&&◌};
-ghost use Rattle.std.specs.Prelude.{ℕ, Some, None, Ok, length, take, map, replicate, slice_range, true, nat_le};
+ghost use Rattle.std.specs.Prelude.{◌≡◌, ◌≤◌, ◌<◌, ◌-◌, ◌++◌, ◌↔◌, ◌&&◌, IsTrue};
+ghost use Rattle.std.specs.Prelude.{ℕ, Some, None, Ok, length, take, map, replicate, slice_range, nat_le};
 ghost use Rattle.std.specs.Prelude.{is_some, IfOk, IfSome, if◌then◌else◌};
 ghost use Rattle.source_defs.specs.Fields as spec;
 ghost use Rattle.source_defs.specs.Characters.{upper_case};
@@ -67,7 +67,7 @@ pub fn operation_text(line: &[u8]) -> &[u8]
 #[tactic(auto, unfolding(source_defs::specs::Fields::fields))]
 pub fn is_comment_line(line: &[u8]) -> bool
     ensures told { result ≡ (nat_le (length line.now) spec.longest_line && spec.is_comment line.now) }
-    ensures fields { (result ≡ true) → spec.fields line.now ≡ Ok spec.no_fields }
+    ensures fields { IsTrue result → spec.fields line.now ≡ Ok spec.no_fields }
 {
     line.len() <= LONGEST_LINE && is_comment(line, word_start(line, 0))
 }

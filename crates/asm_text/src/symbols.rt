@@ -1,17 +1,21 @@
 //! The names of a source and their values.
 
 ghost use Rattle.std.specs.Prelude.{◌≡◌, ◌↔◌, ◌<◌, ◌≤◌, None, IsSome, OnOk, OnErr, IfSome};
-ghost use Rattle.std.specs.Prelude.{nat_eq, Err, Some, List, ℕ};
+ghost use Rattle.std.specs.Prelude.{nat_eq, map, Ok, Err, Some, IsTrue, List, ℕ};
 ghost use Rattle.std.specs.BTreeMap as tree;
 ghost use Rattle.std.specs.Ordering.{nat_cmp};
 ghost use Rattle.std.specs.Cmp.Lexicographic.{pointwise, slice_cmp};
 ghost use Rattle.std.specs.FinMap.{insert, get, find, remove};
 ghost use Rattle.std.specs.Option.{option_map};
 ghost use Rattle.source_defs.specs.Symbols as spec;
-ghost use Rattle.source_defs.specs.Expression.{Absolute};
+ghost use Rattle.source_defs.specs.Expression.{Absolute, expression};
+ghost use Rattle.source_defs.specs.Expression as values;
+ghost use Rattle.source_defs.specs.Characters.{upper_case};
+ghost use Rattle.source_defs.specs.Names.{is_name};
 ghost use Rattle.asm_text.specs.GivenValues.{defined_value};
 ghost use Rattle.asm_text.specs.Kept.{begins_as_register};
 
+use crate::characters::{is_digit, upper_case};
 use crate::name::Name;
 use crate::values::Value;
 use std::alloc::Global;
@@ -86,6 +90,16 @@ impl Symbols {
         self.defined.remove(name)
     }
 
+    /// What a text stands for that is the name of a register alone, its letter in either case.
+    pub(crate) fn register_in(&self, text: &[u8]) -> Option<Value>
+        ensures { IfSome result (λ value. (here : values.Value) →
+            expression (spec.look_up self.now) here text.now ≡ Ok (defined_value value)) }
+    {
+        let _kept = &self.defined;
+        let number = register_written(text)?;
+        Some(Value::Absolute(number))
+    }
+
     /// What a name stands for.
     pub fn get(&self, name: &Name) -> Option<Value>
         ensures { option_map defined_value result ≡ get self.now name.now }
@@ -123,6 +137,23 @@ fn put_back(kept: &mut BTreeMap<Name, Value>, name: Name, value: Value)
     match kept.insert(name, value) {
         Ok(_) => {}
         Err(_) => unreachable!(),
+    }
+}
+
+/// The number of the register whose name a text is, its letter in either case.
+fn register_written(text: &[u8]) -> Option<u16>
+    ensures number { IfSome result (λ number. number < 16) }
+    ensures name { IsSome result → IsTrue (is_name text.now) }
+    ensures written { IfSome result (λ number. map upper_case text.now ≡ spec.register_name number) }
+{
+    match text {
+        [letter, digit] if upper_case(*letter) == b'R' && is_digit(*digit) => {
+            Some(u16::from(*digit - b'0'))
+        }
+        [letter, one, digit]
+            if upper_case(*letter) == b'R' && *one == b'1' && is_digit(*digit) && *digit <= b'5' =>
+            { Some(10 + u16::from(*digit - b'0')) }
+        _ => None,
     }
 }
 

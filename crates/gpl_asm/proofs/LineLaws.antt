@@ -85,6 +85,8 @@ module _ (later : Names) where
   -- one that was kept, or comes to nothing
   pub kept_more : (builder : GplLines) (rest : Option Rest)
       → replay later nothing (builder.waiting.items ++ pending_of builder rest)
-      ≡ (replay later nothing builder.waiting.items >>= λ built. at_line (builder.taken + 1) (answer later builder.location rest >>= λ found. put builder.location found built))
-  kept_more builder None = ap (replay later nothing) (append-nil builder.waiting.items) ∙ sym (nothing_put (builder.taken + 1) builder.location (replay later nothing builder.waiting.items))
+      ≡ (replay later nothing builder.waiting.items >>= λ built. at_line (builder.taken + 1)
+      (answer later builder.location rest >>= λ found. put builder.location found built))
+  kept_more builder None = ap (replay later nothing) (append-nil builder.waiting.items)
+      ∙ sym (nothing_put (builder.taken + 1) builder.location (replay later nothing builder.waiting.items))
   kept_more builder (Some rest) = replay_more later nothing builder.waiting.items (record { number = builder.taken + 1; at = builder.location; rest = rest })

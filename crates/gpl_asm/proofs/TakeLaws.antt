@@ -31,7 +31,8 @@ none_is : {A : Type 0} (found : Option A) → is_some found ≡ false → found 
 none_is (Some value) e = cc e
 none_is None e = refl
 
-pub label_grows : (known : Names) (label : Option (List ℕ)) (number : ℕ) → is_taken known label ≡ false → Grows known (with_names known (label_entry label number))
+pub label_grows : (known : Names) (label : Option (List ℕ)) (number : ℕ) → is_taken known label ≡ false
+    → Grows known (with_names known (label_entry label number))
 label_grows known None number fresh = grown_not known
 label_grows known (Some name) number fresh = grown known name (Absolute number) (none_is (get known name) fresh)
 
@@ -62,7 +63,8 @@ module _ (lines : List Line) (builder : GplLines) (is : IsBehind lines builder) 
     replays_more =
         whole_more later lines line
         ∙ (ap at_place (place_is (length lines + 1) found lines ∙ sym is.location)
-        ∙ (ap (λ answer. answer >>= λ built. at_line (length lines + 1) (outcome (look_up later) builder.location found.statement >>= λ came. put builder.location came built)) (is.replays later grows)
+        ∙ (ap (λ answer. answer >>= λ built. at_line (length lines + 1)
+        (outcome (look_up later) builder.location found.statement >>= λ came. put builder.location came built)) (is.replays later grows)
         ∙ (ap (of_answer (length lines + 1)) (sym (answers later grows))
         ∙ (ap (λ taken. of_answer (taken + 1) (answer later builder.location rest)) (sym is.taken)
         ∙ sym (kept_more later builder rest)))))
@@ -110,7 +112,8 @@ module _ (lines : List Line) (builder : GplLines) (is : IsBehind lines builder) 
         replays = λ later more.
             replays_more answers later (grown_on builder.symbols new.symbols later grows more) ∙ ap (replay later nothing) (sym takes.waiting);
         room = λ later more.
-            subst (AllByRecursion (HasRoom later)) (sym takes.waiting) (room_more answers later (grown_on builder.symbols new.symbols later grows more) waits le);
+            subst (AllByRecursion (HasRoom later)) (sym takes.waiting) (room_more answers later
+            (grown_on builder.symbols new.symbols later grows more) waits le);
       }
 
 -- where the builder goes on
@@ -120,7 +123,8 @@ pub leads_on : (known : Names) (at here next : Location) (text : List ℕ) (foun
 leads_on known at here next text found origin size e same still by le sized is =
     let through = is_let_through known at text found e in
     let fits : is_full here found.statement ≡ false = ap (λ (at : Location). is_full at found.statement) (sym same) ∙ through.fits in
-    let le' : IfSome (origin_of here found.statement) (λ origin. origin.grom ≤ 65535) = subst (λ (origin : Option Location). IfSome origin (λ origin. origin.grom ≤ 65535)) by le in
+    let le' : IfSome (origin_of here found.statement) (λ origin. origin.grom ≤ 65535) =
+    subst (λ (origin : Option Location). IfSome origin (λ origin. origin.grom ≤ 65535)) by le in
     let there = leads here found.label found.statement is le' fits through.fine in
     subst (λ (origin : Option Location). IsInGrom (behind (set_or origin next) size)) (sym by)
     (subst (λ (next : Location). IsInGrom (behind (set_or (origin_of here found.statement) next) size)) (sym still)

@@ -1,5 +1,5 @@
 -- What a builder keeps of the lines that it has taken.
-use Rattle.std.specs.Prelude.{◌≡◌, ℕ, ◌+◌, false, List, ◌∷◌, length, Result, Ok, Err, ◌<◌, ◌-◌, ◌^◌}
+use Rattle.std.specs.Prelude.{◌≡◌, ℕ, ◌+◌, List, ◌∷◌, length, Result, Ok, Err, ◌<◌, ◌-◌, ◌^◌, IsFalse}
 use Rattle.std.specs.List.{AllByRecursion}
 use Rattle.source_defs.specs.Refusals.{Refusal, ◌>>=◌}
 use Rattle.source_defs.specs.Symbols.{Names}
@@ -29,7 +29,8 @@ pub record IsBehind (lines : List Line) (builder : GplLines) : Type 0 where
   pub taken : builder.taken ≡ length lines
   pub ended : builder.ended ≡ has_ended lines
   -- whatever names are still to come, the lines that wait come to what all lines come to
-  pub replays : (later : Names) → Grows builder.symbols later → whole later lines ≡ replay later nothing builder.waiting.items
+  pub replays : (later : Names) → Grows builder.symbols later
+      → whole later lines ≡ replay later nothing builder.waiting.items
   pub room : (later : Names) → Grows builder.symbols later → AllByRecursion (HasRoom later) builder.waiting.items
 
 -- a line was taken behind others, or why it is refused there
@@ -37,7 +38,8 @@ abbrev pub Takes : {A : Type 0} → List Line → List ℕ → Result A GplError
 Takes lines text (Ok _) builder =
     (line : Line) × (check lines (length lines + 1) text ≡ Ok line) × IsBehind (line ∷ lines) builder
 Takes lines text (Err (error.At number cause)) builder =
-    (number ≡ length lines + 1) × (check lines (length lines + 1) text ≡ Err cause) × NoMemory cause × IsBehind lines builder
+    (number ≡ length lines + 1) × (check lines (length lines + 1) text ≡ Err cause) × NoMemory cause
+    × IsBehind lines builder
 Takes lines text (Err error.Memory) builder = IsBehind lines builder
 
 -- The meaning of a builder: the texts of the lines that it has taken.
@@ -49,7 +51,7 @@ pub record HasTaken (texts : List (List ℕ)) (builder : GplLines) : Type 0 wher
 
 -- no line that it has taken ends the source
 abbrev pub IsOpen : GplLines → Type 0
-IsOpen builder = builder.ended ≡ false
+IsOpen builder = IsFalse builder.ended
 
 -- it has taken fewer lines than can be counted
 abbrev pub CanCount : GplLines → Type 0

@@ -6,4 +6,5 @@ use Rattle.source_defs.specs.EndedLines.{IsOneLine, text_of}
 
 -- the law, which is proved: the program of some lines is that of their text
 abbrev pub LinesMakeTexts : Type 0
-LinesMakeTexts = (texts : List (List ℕ)) → AllByRecursion IsOneLine texts → program_of_source (text_of texts) ≡ program_of_lines texts
+LinesMakeTexts = (texts : List (List ℕ)) → AllByRecursion IsOneLine texts
+    → program_of_source (text_of texts) ≡ program_of_lines texts

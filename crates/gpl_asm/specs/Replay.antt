@@ -71,7 +71,8 @@ WaitsForSome (Some rest) = WaitsFor rest
 
 -- what a line comes to ends before the addresses do
 pub record HasRoom (later : Names) (waiting : Pending) : Type 0 where
-  pub room : (found : Outcome) → answer_by later waiting.at waiting.rest ≡ Ok found → waiting.at.number + length (bytes_in found) ≤ 65536
+  pub room : (found : Outcome) → answer_by later waiting.at waiting.rest ≡ Ok found
+      → waiting.at.number + length (bytes_in found) ≤ 65536
   pub waits : WaitsFor waiting.rest
 
 -- what was put, by the calls of the code
@@ -82,7 +83,8 @@ Puts image entry at found (Err cause) left =
     (put at found (record { image = image; entry = entry }) ≡ Err cause) × NoMemory cause
 
 abbrev pub Resolves : Names → Built → Pending → Result (Option ℕ) Failure → Image → Type 0
-Resolves later built waiting (Ok after) left = resolve_pending later built waiting ≡ Ok (record { image = left; entry = after })
+Resolves later built waiting (Ok after) left = resolve_pending later built waiting
+    ≡ Ok (record { image = left; entry = after })
 Resolves later built waiting (Err failure) left = Fails failure (resolve_pending later built waiting)
 
 abbrev pub Replays : Names → Built → List Pending → Result (Option ℕ) GplError → Image → Type 0

@@ -1,6 +1,6 @@
 //! The calls of a builder.
 
-ghost use Rattle.std.specs.Prelude.{◌≡◌, ◌↔◌, ◌<◌, ◌-◌, ◌^◌, ℕ, false, List, [], length, IfOk};
+ghost use Rattle.std.specs.Prelude.{◌≡◌, ◌↔◌, ◌<◌, ◌-◌, ◌^◌, ℕ, false, List, [], length, IfOk, IsFalse};
 ghost use Rattle.source_defs.specs.Layout.{has_ended};
 ghost use Rattle.std.specs.List.{AllByRecursion};
 ghost use Rattle.source_defs.specs.EndedLines.{IsOneLine, text_of};
@@ -56,7 +56,7 @@ impl GplLines {
 
     /// Whether a line that ends the source was taken.
     pub fn is_ended(&self) -> bool
-        ensures open { (result ≡ false) ↔ IsOpen self.now }
+        ensures open { IsFalse result ↔ IsOpen self.now }
         ensures ended { (texts : List (List ℕ)) → (taken : HasTaken texts self.now) → result ≡ has_ended taken.lines }
     {
         self.ended

@@ -49,16 +49,13 @@ fn overlaps(image: &GromImage, at: u32, bytes: &[u8]) -> bool
     false
 }
 
-/// Puts bytes into an image, the first at an address and the next behind it.
+/// Puts bytes into an image, the first at an address and the next behind it, where they end before the addresses do.
 fn put_all(image: &mut GromImage, at: u32, bytes: &[u8])
     ensures { at + length bytes.now ≤ 65536 → image.new ≡ placed image.old at bytes.now }
 {
-    let mut place = at;
-    let mut rest = bytes;
-    while let [byte, others @ ..] = rest {
-        image.put(address(place), *byte);
-        place = place.wrapping_add(1);
-        rest = others;
+    match u16::try_from(at) {
+        Ok(at) if usize::from(at) + bytes.len() <= 65536 => image.put_all(at, bytes),
+        _ => {}
     }
 }
 

@@ -48,7 +48,8 @@ get-front false image at byte none = none
 unmarked : (bytes : List ℕ) (k : ℕ) → None ≡ cell_of bytes [] k
 unmarked bytes k = refl
 
-get-image_from : (at : ℕ) (bytes : List ℕ) (marks : List Bool) (k : ℕ) → length bytes ≡ length marks → get (image_from at bytes marks) (at + k) ≡ cell_of bytes marks k
+get-image_from : (at : ℕ) (bytes : List ℕ) (marks : List Bool) (k : ℕ) → length bytes ≡ length marks
+    → get (image_from at bytes marks) (at + k) ≡ cell_of bytes marks k
 unfolding image_from
 get-image_from at [] [] k same = get-empty nat_cmp (at + k)
 get-image_from at [] (mark ∷ marks) k same = absurd (omega arith)
@@ -67,7 +68,8 @@ pub get-image_of : (bytes : List ℕ) (marks : List Bool) (k : ℕ) → length b
 get-image_of bytes marks k same = let e : 0 + k ≡ k = omega arith in rw e at (get-image_from 0 bytes marks k same)
 
 -- a write to the tables is a write to the image
-pub image_of-set : (bytes : List ℕ) (marks : List Bool) (at byte : ℕ) → length bytes ≡ length marks → at < length bytes → image_of (set bytes at byte) (set marks at true) ≡ insert (image_of bytes marks) at byte
+pub image_of-set : (bytes : List ℕ) (marks : List Bool) (at byte : ℕ) → length bytes ≡ length marks → at < length bytes
+    → image_of (set bytes at byte) (set marks at true) ≡ insert (image_of bytes marks) at byte
 image_of-set bytes marks at byte same lt = same_map nat_cmp_total nat_cmp-IsAntisymmetric _ _ each
   where
     sizes : length (set bytes at byte) ≡ length (set marks at true)
@@ -78,21 +80,24 @@ image_of-set bytes marks at byte same lt = same_map nat_cmp_total nat_cmp-IsAnti
         let lt_marks : at < length marks = omega arith in
         rw (here, get_or-set_same bytes at byte 0 lt, get_or-set_same marks at true false lt_marks) (sym (get-insert_same (image_of bytes marks) at byte))
     at_place q (inr other) =
-        rw (get_or-set_other bytes at q byte 0 other, get_or-set_other marks at q true false other) (sym (get-insert_other (image_of bytes marks) at byte q other ∙ get-image_of bytes marks q same))
+        rw (get_or-set_other bytes at q byte 0 other, get_or-set_other marks at q true false other)
+        (sym (get-insert_other (image_of bytes marks) at byte q other ∙ get-image_of bytes marks q same))
 
     each : (q : ℕ) → get (image_of (set bytes at byte) (set marks at true)) q ≡ get (insert (image_of bytes marks) at byte) q
     each q = get-image_of (set bytes at byte) (set marks at true) q sizes ∙ at_place q (cases_eq q at)
 
 -- tables in which nothing is marked are an empty image
 pub image_of-none : (bytes : List ℕ) (marks : List Bool) → length bytes ≡ length marks → ((k : ℕ) → get_or marks k false ≡ false) → image_of bytes marks ≡ empty
-image_of-none bytes marks same none = same_map nat_cmp_total nat_cmp-IsAntisymmetric _ _ (λ q. get-image_of bytes marks q same ∙ rw (none q) (sym (get-empty nat_cmp q)))
+image_of-none bytes marks same none = same_map nat_cmp_total nat_cmp-IsAntisymmetric _ _ (λ q. get-image_of bytes marks q same
+    ∙ rw (none q) (sym (get-empty nat_cmp q)))
 
 byte-cell : (mark : Bool) (byte : ℕ) → (mark ≡ false → byte ≡ 0) → byte ≡ unwrap_or (cond mark (Some byte) None) 0
 byte-cell true byte zero_else = refl
 byte-cell false byte zero_else = zero_else refl
 
 -- where the places without a mark are 0, the byte of the table is that of the image
-pub byte_at-image_of : (bytes : List ℕ) (marks : List Bool) (k : ℕ) → length bytes ≡ length marks → ((k : ℕ) → get_or marks k false ≡ false → get_or bytes k 0 ≡ 0) → get_or bytes k 0 ≡ byte_at (image_of bytes marks) k
+pub byte_at-image_of : (bytes : List ℕ) (marks : List Bool) (k : ℕ) → length bytes ≡ length marks
+    → ((k : ℕ) → get_or marks k false ≡ false → get_or bytes k 0 ≡ 0) → get_or bytes k 0 ≡ byte_at (image_of bytes marks) k
 byte_at-image_of bytes marks k same zero_else =
     byte-cell (get_or marks k false) (get_or bytes k 0) (zero_else k) ∙ sym (ap (λ b. unwrap_or b 0) (get-image_of bytes marks k same))
 
@@ -106,7 +111,8 @@ mark-image_of bytes marks k same =
     mark-cell (get_or marks k false) (get_or bytes k 0) ∙ sym (ap is_some (get-image_of bytes marks k same))
 
 -- a write to the tables and ends keeps what holds of every image
-pub IsImage-set : (bytes : List ℕ) (marks : List Bool) (low high at byte next_low : ℕ) → IsImage bytes marks low high → at < 65536 → next_low ≡ (if high == 0 then at else min low at) → IsImage (set bytes at byte) (set marks at true) next_low (max high (at + 1))
+pub IsImage-set : (bytes : List ℕ) (marks : List Bool) (low high at byte next_low : ℕ) → IsImage bytes marks low high → at < 65536
+    → next_low ≡ (if high == 0 then at else min low at) → IsImage (set bytes at byte) (set marks at true) next_low (max high (at + 1))
 IsImage-set bytes marks low high at byte next_low is lt low_is = record {
   bytes_size = length-set bytes at byte ∙ is.bytes_size;
   marks_size = length-set marks at true ∙ is.marks_size;
@@ -150,7 +156,9 @@ IsImage-set bytes marks low high at byte next_low is lt low_is = record {
     zero_else k unmarked = zero_at k (cases_eq k at) unmarked
 
 -- what writes from an address on leave of the tables, where that address is neither below the lowest written one nor past the end
-IsImage-more : (bs : List ℕ) (bytes : List ℕ) (marks : List Bool) (low high at : ℕ) → IsImage bytes marks low high → 0 < high → low ≤ at → at ≤ high → at + length bs ≤ 65536 → IsImage (sets bytes at bs) (sets marks at (replicate (length bs) true)) low (max high (at + length bs)) × (image_of (sets bytes at bs) (sets marks at (replicate (length bs) true)) ≡ placed (image_of bytes marks) at bs)
+IsImage-more : (bs : List ℕ) (bytes : List ℕ) (marks : List Bool) (low high at : ℕ) → IsImage bytes marks low high → 0 < high → low ≤ at → at ≤ high
+    → at + length bs ≤ 65536 → IsImage (sets bytes at bs) (sets marks at (replicate (length bs) true)) low (max high (at + length bs))
+    × (image_of (sets bytes at bs) (sets marks at (replicate (length bs) true)) ≡ placed (image_of bytes marks) at bs)
 IsImage-more [] bytes marks low high at is some above within fits =
     let still : max high (at + 0) ≡ high = omega arith in
     (rw still is, refl)
@@ -163,11 +171,15 @@ IsImage-more (b ∷ bs) bytes marks low high at is some above within fits =
     let end : max (max high (at + 1)) (suc at + length bs) ≡ max high (at + suc (length bs)) = omega arith in
     let wrote = image_of-set bytes marks at b same lt_bytes in
     let first = IsImage-set bytes marks low high at b low is lt low_is in
-    let rest = IsImage-more bs (set bytes at b) (set marks at true) low (max high (at + 1)) (suc at) first (omega arith) (omega arith) (omega arith) (omega arith) in
+    let rest = IsImage-more bs (set bytes at b) (set marks at true) low (max high (at + 1)) (suc at) first (omega arith) (omega arith) (omega arith)
+    (omega arith) in
     (rw (← end) rest.0, rest.1 ∙ ap (λ (m : Image). placed m (suc at) bs) wrote ∙ ap (λ (n : ℕ). placed (insert (image_of bytes marks) at b) n bs) next)
 
 -- one byte or more, written one after the other to the tables and ends, are so written to the image, and keep what holds of every image
-pub IsImage-sets : (b : ℕ) (bs : List ℕ) (bytes : List ℕ) (marks : List Bool) (low high at next_low : ℕ) → IsImage bytes marks low high → at + suc (length bs) ≤ 65536 → next_low ≡ (if high == 0 then at else min low at) → IsImage (sets bytes at (b ∷ bs)) (sets marks at (replicate (suc (length bs)) true)) next_low (max high (at + suc (length bs))) × (image_of (sets bytes at (b ∷ bs)) (sets marks at (replicate (suc (length bs)) true)) ≡ placed (image_of bytes marks) at (b ∷ bs))
+pub IsImage-sets : (b : ℕ) (bs : List ℕ) (bytes : List ℕ) (marks : List Bool) (low high at next_low : ℕ) → IsImage bytes marks low high
+    → at + suc (length bs) ≤ 65536 → next_low ≡ (if high == 0 then at else min low at)
+    → IsImage (sets bytes at (b ∷ bs)) (sets marks at (replicate (suc (length bs)) true)) next_low (max high (at + suc (length bs)))
+    × (image_of (sets bytes at (b ∷ bs)) (sets marks at (replicate (suc (length bs)) true)) ≡ placed (image_of bytes marks) at (b ∷ bs))
 IsImage-sets b bs bytes marks low high at next_low is fits low_is =
     let same : length bytes ≡ length marks = omega (arith, is.bytes_size, is.marks_size) in
     let lt : at < 65536 = omega arith in
@@ -177,17 +189,22 @@ IsImage-sets b bs bytes marks low high at next_low is fits low_is =
     let end : max (max high (at + 1)) (suc at + length bs) ≡ max high (at + suc (length bs)) = omega arith in
     let wrote = image_of-set bytes marks at b same lt_bytes in
     let first = IsImage-set bytes marks low high at b next_low is lt low_is in
-    let rest = IsImage-more bs (set bytes at b) (set marks at true) next_low (max high (at + 1)) (suc at) first (omega arith) above (omega arith) (omega arith) in
+    let rest = IsImage-more bs (set bytes at b) (set marks at true) next_low (max high (at + 1)) (suc at) first (omega arith) above (omega arith)
+    (omega arith) in
     (rw (← end) rest.0, rest.1 ∙ ap (λ (m : Image). placed m (suc at) bs) wrote ∙ ap (λ (n : ℕ). placed (insert (image_of bytes marks) at b) n bs) next)
 
 -- one byte or more over the bytes of the table from an address on, and as many marks, are writes to the image one after the other
-pub IsImage-written : (bs bytes next_bytes : List ℕ) (marks next_marks : List Bool) (low high at next_low : ℕ) → IsImage bytes marks low high → 0 < length bs → at + length bs ≤ 65536 → next_low ≡ (if high == 0 then at else min low at) → next_bytes ≡ take at bytes ++ bs ++ drop (at + length bs) bytes → next_marks ≡ take at marks ++ replicate (length bs) true ++ drop (at + length bs) marks → IsImage next_bytes next_marks next_low (max high (at + length bs)) × (image_of next_bytes next_marks ≡ placed (image_of bytes marks) at bs)
+pub IsImage-written : (bs bytes next_bytes : List ℕ) (marks next_marks : List Bool) (low high at next_low : ℕ) → IsImage bytes marks low high → 0 < length bs
+    → at + length bs ≤ 65536 → next_low ≡ (if high == 0 then at else min low at) → next_bytes ≡ take at bytes ++ bs ++ drop (at + length bs) bytes
+    → next_marks ≡ take at marks ++ replicate (length bs) true ++ drop (at + length bs) marks
+    → IsImage next_bytes next_marks next_low (max high (at + length bs)) × (image_of next_bytes next_marks ≡ placed (image_of bytes marks) at bs)
 IsImage-written [] bytes next_bytes marks next_marks low high at next_low is some fits low_is bytes_are marks_are = absurd (omega arith)
 IsImage-written (b ∷ bs) bytes next_bytes marks next_marks low high at next_low is some fits low_is bytes_are marks_are =
     let count : length (replicate (suc (length bs)) true) ≡ suc (length bs) = length-replicate (suc (length bs)) true in
     let as_bytes : next_bytes ≡ sets bytes at (b ∷ bs) = bytes_are ∙ sym (sets-eq (b ∷ bs) bytes at (omega (arith, is.bytes_size))) in
     let marks_eq = sets-eq (replicate (suc (length bs)) true) marks at (omega (arith, count, is.marks_size)) in
-    let as_marks : next_marks ≡ sets marks at (replicate (suc (length bs)) true) = marks_are ∙ ap (λ n. take at marks ++ replicate (suc (length bs)) true ++ drop (at + n) marks) (sym count) ∙ sym marks_eq in
+    let as_marks : next_marks ≡ sets marks at (replicate (suc (length bs)) true) =
+    marks_are ∙ ap (λ n. take at marks ++ replicate (suc (length bs)) true ++ drop (at + n) marks) (sym count) ∙ sym marks_eq in
     let wrote = IsImage-sets b bs bytes marks low high at next_low is fits low_is in
     rw (as_bytes, as_marks) wrote
 
@@ -199,7 +216,8 @@ all_within xs d each k = by (nat_lt k (length xs)) refl
     by false e = get_or_past xs k d (grind (arith, nat_tests))
 
 -- tables of zeros without a mark are a new image
-pub IsImage-none : (bytes : List ℕ) (marks : List Bool) → length bytes ≡ 65536 → length marks ≡ 65536 → ((k : ℕ) → k < length bytes → get_or bytes k 0 ≡ 0) → ((k : ℕ) → k < length marks → get_or marks k false ≡ false) → IsImage bytes marks 0 0 × (image_of bytes marks ≡ empty)
+pub IsImage-none : (bytes : List ℕ) (marks : List Bool) → length bytes ≡ 65536 → length marks ≡ 65536 → ((k : ℕ) → k < length bytes → get_or bytes k 0 ≡ 0)
+    → ((k : ℕ) → k < length marks → get_or marks k false ≡ false) → IsImage bytes marks 0 0 × (image_of bytes marks ≡ empty)
 IsImage-none bytes marks bytes_size marks_size zeros none = (
   record {
     bytes_size = bytes_size;

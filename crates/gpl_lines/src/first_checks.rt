@@ -10,11 +10,11 @@ ghost use Rattle.gpl_lines.specs.Defined.{defined_statement, defined_checked};
 ghost use Rattle.gpl_lines.specs.Validity.{IsValid};
 
 use crate::failure::Failure;
-use crate::numbers::GROM_SIZE;
 use crate::statement::Statement;
 use crate::values::{Scope, address_of};
 use asm_text::{Name, Symbols, fields};
 use gpl_source_defs::{GplCause, Location};
+use grom_defs::GROM_SIZE;
 
 /// What the first checks leave of a line.
 #[derive(Clone, Copy)]
@@ -133,7 +133,7 @@ fn is_full(here: Location, size: u32) -> bool
     requires size { size ≤ 65535 }
     ensures { result ≡ places.passes here size }
 {
-    here.number + size > here.grom + GROM_SIZE
+    here.number + size > here.grom + u32::from(GROM_SIZE)
 }
 
 /// Whether a directive cannot stand as it is.
@@ -142,8 +142,8 @@ fn is_bad(label: &Option<Name>, statement: &Statement<'_>) -> bool
 {
     match statement {
         Statement::Equ(_) => label.is_none(),
-        Statement::Grom(address) => u32::from(*address) % GROM_SIZE != 0,
-        Statement::Aorg(offset) => u32::from(*offset) >= GROM_SIZE,
+        Statement::Grom(address) => address % GROM_SIZE != 0,
+        Statement::Aorg(offset) => *offset >= GROM_SIZE,
         _ => false,
     }
 }

@@ -8,12 +8,10 @@ ghost use Rattle.gpl_source_defs.specs.declared.causes.GplCause.TheVariants.{Bad
 
 use gpl_defs::Space;
 use gpl_source_defs::{GplCause, Location};
+use grom_defs::GROM_SIZE;
 
 /// The first address of the scratchpad.
 const SCRATCHPAD: u16 = 0x8300;
-
-/// How far one GROM stands behind another.
-pub const GROM_SIZE: u32 = 0x2000;
 
 /// The address that an operand holds: that of the video processor's memory, or an offset from the scratchpad's first.
 pub(crate) fn held_address(space: Space, indirect: bool, number: u16) -> u16
@@ -79,9 +77,8 @@ pub(crate) fn branch_offset(at: Location, target: u16) -> Result<u16, GplCause>
     ensures within { IfOk result (λ offset. offset ≤ 0x1FFF) }
     ensures cause { IfErr result (λ cause. cause ≡ OtherGrom) }
 {
-    let target = u32::from(target);
-    if target / GROM_SIZE == at.grom / GROM_SIZE {
-        Ok((target % GROM_SIZE) as u16)
+    if u32::from(target / GROM_SIZE) == at.grom / u32::from(GROM_SIZE) {
+        Ok(target % GROM_SIZE)
     } else {
         Err(GplCause::OtherGrom)
     }

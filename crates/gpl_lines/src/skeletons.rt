@@ -121,7 +121,8 @@ impl Scope<'_> {
     /// The target and the source of MOVE.
     fn route_in<'b>(&self, to: &Form<'b>, from: &Form<'b>) -> Result<Route<'b>, Failure>
         ensures { Gives defined_route result
-            (spec.route_in (look_up self.now.symbols.now) (address_of self.now.at) (defined_form to.now) (defined_form from.now)) }
+            (spec.route_in (look_up self.now.symbols.now) (address_of self.now.at) (defined_form to.now)
+            (defined_form from.now)) }
     {
         match (to, from) {
             (Form::InMemory(to), Form::InMemory(from)) => {

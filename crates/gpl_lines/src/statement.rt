@@ -79,7 +79,8 @@ impl Scope<'_> {
         requires inside { FieldsLieInside line.now found.now }
         requires length { length line.now ≤ 256 }
         ensures said { Gives defined_statement result
-            (spec.statement_at (look_up self.now.symbols.now) (address_of self.now.at) line.now found.now.operation found.now.operands) }
+            (spec.statement_at (look_up self.now.symbols.now)
+            (address_of self.now.at) line.now found.now.operation found.now.operands) }
         ensures valid { IfOk result IsValid }
     {
         match found.operation {
@@ -136,7 +137,8 @@ impl Scope<'_> {
     ) -> Result<Statement<'b>, Failure>
         requires { length field.now ≤ 256 }
         ensures said { Gives defined_statement result
-            (spec.directive_statement (look_up self.now.symbols.now) (address_of self.now.at) found (operand_texts field.now)) }
+            (spec.directive_statement (look_up self.now.symbols.now) (address_of self.now.at) found
+            (operand_texts field.now)) }
         ensures valid { IfOk result IsValid }
     {
         match found {

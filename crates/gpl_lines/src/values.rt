@@ -33,7 +33,8 @@ impl Scope<'_> {
     /// The number that an expression comes to.
     #[tactic(auto, using(crate::proofs::Failures::expr_fails))]
     pub(crate) fn number(&self, text: &[u8]) -> Result<u16, Failure>
-        ensures { Gives (λ number. number) result (spec.number (look_up self.now.symbols.now) (address_of self.now.at) text.now) }
+        ensures { Gives (λ number. number) result (spec.number (look_up self.now.symbols.now)
+            (address_of self.now.at) text.now) }
     {
         let here = Value::Absolute(address_of(self.at));
         match expression_value(self.alloc, text, self.symbols, here) {
@@ -78,7 +79,8 @@ impl Scope<'_> {
     /// An index, where an operand has one.
     fn index(&self, text: Option<&[u8]>) -> Result<Option<u8>, Failure>
         ensures { Gives (λ index. index) result
-            (spec.index_value (look_up self.now.symbols.now) (address_of self.now.at) (option_map (λ text. text.now) text.entry)) }
+            (spec.index_value (look_up self.now.symbols.now) (address_of self.now.at)
+            (option_map (λ text. text.now) text.entry)) }
     {
         match text {
             None => Ok(None),

@@ -46,13 +46,15 @@ last_of field end some within =
     ap (λ (n : ℕ). take n field) e ∙ take_more field (end - 1) 0 lt
 
 -- the last of the first bytes is a blank
-pub trim_more : (field : List ℕ) (end : ℕ) → 0 < end → end ≤ length field → is_blank (get_or field (end - 1) 0) ≡ true → without_blanks (take (end - 1) field) ≡ without_blanks (take end field)
+pub trim_more : (field : List ℕ) (end : ℕ) → 0 < end → end ≤ length field → is_blank (get_or field (end - 1) 0) ≡ true
+    → without_blanks (take (end - 1) field) ≡ without_blanks (take end field)
 trim_more field end some within blank =
     let one : take end field ≡ take (end - 1) field ++ get_or field (end - 1) 0 ∷ [] = last_of field end some within in
     rw one (sym (blank_at_end (take (end - 1) field) (get_or field (end - 1) 0) blank))
 
 -- the last of the first bytes is no blank
-pub trim_end : (field : List ℕ) (end : ℕ) → 0 < end → end ≤ length field → is_blank (get_or field (end - 1) 0) ≡ false → without_blanks (take end field) ≡ take end field
+pub trim_end : (field : List ℕ) (end : ℕ) → 0 < end → end ≤ length field → is_blank (get_or field (end - 1) 0) ≡ false
+    → without_blanks (take end field) ≡ take end field
 trim_end field end some within other =
     let one : take end field ≡ take (end - 1) field ++ get_or field (end - 1) 0 ∷ [] = last_of field end some within in
     rw one (no_blank_at_end (take (end - 1) field) (get_or field (end - 1) 0) other)

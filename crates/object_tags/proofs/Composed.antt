@@ -16,11 +16,13 @@ composed w0 w1 w2 w3 w4 w5 a b c d e p q r s t =
     sym (p (b ++ (c ++ (d ++ e))) ∙ (q (c ++ (d ++ e)) ∙ (r (d ++ e) ∙ (s e ∙ (ap (whole w4) (sym (append-nil e)) ∙ t [])))))
 
 -- a list whose elements are made in two steps
-pub in_two_steps : {A B : Type 0} (f : B → Item) (g : A → B) (xs : List A) (before after : Writer) → Wrote (map (λ (x : A). f (g x)) xs) before after → Wrote (map f (map g xs)) before after
+pub in_two_steps : {A B : Type 0} (f : B → Item) (g : A → B) (xs : List A) (before after : Writer) → Wrote (map (λ (x : A). f (g x)) xs) before after
+    → Wrote (map f (map g xs)) before after
 in_two_steps f g xs before after wrote items = ap (λ (ys : List Item). whole before (ys ++ items)) (map-map f g xs) ∙ wrote items
 
 -- an empty text with an empty first line
-pub begins : (writer : Writer) (items : List Item) → writer.text.items ≡ [] → line_of writer ≡ empty_line → writer.number ≡ 1 → whole writer items ≡ written_from 1 empty_line items
+pub begins : (writer : Writer) (items : List Item) → writer.text.items ≡ [] → line_of writer ≡ empty_line → writer.number ≡ 1
+    → whole writer items ≡ written_from 1 empty_line items
 begins writer items text line number =
     ap (λ (front : List ℕ). front ++ written_from writer.number (line_of writer) items) text
     ∙ (ap (λ (n : ℕ). written_from n (line_of writer) items) number ∙ ap (λ (l : Line). written_from 1 l items) line)
@@ -31,6 +33,7 @@ all_defined P f [] all = tt
 all_defined P f (x ∷ xs) all = (all.0, all_defined P f xs all.1)
 
 -- a fact about the bytes that a result holds
-pub if_ok : {A E : Type 0} (r : Result A E) (f : A → List ℕ) (bytes : List ℕ) (Q : List ℕ → Type 0) → Q bytes → IfOk r (λ (x : A). f x ≡ bytes) → IfOk r (λ (x : A). Q (f x))
+pub if_ok : {A E : Type 0} (r : Result A E) (f : A → List ℕ) (bytes : List ℕ) (Q : List ℕ → Type 0) → Q bytes → IfOk r (λ (x : A). f x ≡ bytes)
+    → IfOk r (λ (x : A). Q (f x))
 if_ok (Ok x) f bytes Q q is = subst Q (sym is) q
 if_ok (Err e) f bytes Q q is = tt

@@ -16,12 +16,14 @@ sum-append : (a b : List ℕ) → sum (a ++ b) ≡ sum a + sum b
 sum-append a b = sum_by-append (λ (x : ℕ). x) a b
 
 -- the characters that are left of a group are passed over
-passed_over : (form : TextForm) (before : List ℕ) (left : ℕ) (rest : List ℕ) → groups_from form before left rest ≡ groups_from form (before ++ take left rest) 0 (drop left rest)
+passed_over : (form : TextForm) (before : List ℕ) (left : ℕ) (rest : List ℕ)
+    → groups_from form before left rest ≡ groups_from form (before ++ take left rest) 0 (drop left rest)
 unfolding groups_from
 passed_over form before zero rest = ap (λ (b : List ℕ). groups_from form b 0 rest) (sym (append-nil before))
 passed_over form before (suc left) [] = refl
 passed_over form before (suc left) (byte ∷ rest) =
-    passed_over form (before ++ byte ∷ []) left rest ∙ ap (λ (b : List ℕ). groups_from form b 0 (drop left rest)) (append_assoc before (byte ∷ []) (take left rest))
+    passed_over form (before ++ byte ∷ []) left rest ∙ ap (λ (b : List ℕ). groups_from form b 0 (drop left rest))
+    (append_assoc before (byte ∷ []) (take left rest))
 
 -- a line up to a place, some characters behind it, and the rest
 module _ (line : List ℕ) (at left : ℕ) (inside : at ≤ length line) where
@@ -33,7 +35,8 @@ module _ (line : List ℕ) (at left : ℕ) (inside : at ≤ length line) where
 
   parts : line ≡ (take at line ++ passed) ++ rest
   parts =
-      sym (take-append-drop at line) ∙ (ap (λ (xs : List ℕ). take at line ++ xs) (sym (take-append-drop left (drop at line))) ∙ sym (append_assoc (take at line) passed rest))
+      sym (take-append-drop at line) ∙ (ap (λ (xs : List ℕ). take at line ++ xs) (sym (take-append-drop left (drop at line)))
+      ∙ sym (append_assoc (take at line) passed rest))
 
   size : length (take at line ++ passed) ≡ at + length passed
   size = length-append (take at line) passed ∙ ap (λ (n : ℕ). n + length passed) (length-take-le at line inside)
@@ -48,7 +51,8 @@ module _ (line : List ℕ) (at left : ℕ) (inside : at ≤ length line) where
   passed_within = omega (arith, size, ap length parts, length-append (take at line ++ passed) rest)
 
   -- the groups behind the characters
-  pub groups_behind : (form : TextForm) → groups_from form (take (at + length passed) line) 0 (drop (at + length passed) line) ≡ groups_from form (take at line) left (drop at line)
+  pub groups_behind : (form : TextForm) → groups_from form (take (at + length passed) line) 0 (drop (at + length passed) line)
+      ≡ groups_from form (take at line) left (drop at line)
   groups_behind form = rw (front_is, rest_is) (sym (passed_over form (take at line) left (drop at line)))
 
   -- the sum of the line through them
@@ -79,8 +83,10 @@ module _ (line : List ℕ) (at : ℕ) (inside : at < length line) where
       ap (λ (n : ℕ). (65536 - n) % 65536) added
 
   -- what stands in the place of a group, and the groups behind it
-  pub first_group : (form : TextForm) (found : FoundGroup) → found ≡ found_with form (checksum (before ++ byte ∷ [])) byte (tag_at form at byte) (drop (at + 1) line)
-      → groups_from form before 0 (drop at line) ≡ found ∷ cond (ends_line found) [] (groups_from form (take (at + 1) line) (size_found form found) (drop (at + 1) line))
+  pub first_group : (form : TextForm) (found : FoundGroup) → found ≡ found_with form (checksum (before ++ byte ∷ [])) byte (tag_at form at byte)
+      (drop (at + 1) line)
+      → groups_from form before 0 (drop at line) ≡ found ∷ cond (ends_line found) []
+      (groups_from form (take (at + 1) line) (size_found form found) (drop (at + 1) line))
   unfolding groups_from
   first_group form found is =
       let place : length before ≡ at = length-take-le at line (omega (arith, inside)) in

@@ -17,7 +17,8 @@ record AreDigits (a b c d : ℕ) : Type 0 where
 are_digits : (a b c d : ℕ) → all_hexadecimal_digits (a ∷ b ∷ c ∷ d ∷ []) ≡ true → AreDigits a b c d
 are_digits a b c d h = by (is_hexadecimal_digit a) (is_hexadecimal_digit b) (is_hexadecimal_digit c) (is_hexadecimal_digit d) refl refl refl refl h
   where
-    by : (p q r s : Bool) → is_hexadecimal_digit a ≡ p → is_hexadecimal_digit b ≡ q → is_hexadecimal_digit c ≡ r → is_hexadecimal_digit d ≡ s → (p && (q && (r && (s && true)))) ≡ true → AreDigits a b c d
+    by : (p q r s : Bool) → is_hexadecimal_digit a ≡ p → is_hexadecimal_digit b ≡ q → is_hexadecimal_digit c ≡ r → is_hexadecimal_digit d ≡ s
+        → (p && (q && (r && (s && true)))) ≡ true → AreDigits a b c d
     by true true true true e f g i h = record { first = e; second = f; third = g; fourth = i }
     by true true true false e f g i h = absurd cc
     by true true false s e f g i h = absurd cc

@@ -11,7 +11,8 @@ use Rattle.object_tags.specs.declared.error.TagError.{TagError}
 use Rattle.object_tags.specs.declared.error.TagError.TheVariants.{At, Memory}
 use Rattle.object_tags.specs.Answers.{Refuses}
 
-module _ (form : TextForm) (total : Result (List defined.Module) (Refusal TagCause)) (kept : Kept) (line : NumberedLine) (lines : List NumberedLine) (so_far : total ≡ kept_lines form kept (line ∷ lines)) where
+module _ (form : TextForm) (total : Result (List defined.Module) (Refusal TagCause)) (kept : Kept) (line : NumberedLine) (lines : List NumberedLine)
+    (so_far : total ≡ kept_lines form kept (line ∷ lines)) where
   -- a line that is read
   pub line_read : (after : Kept) → kept_line form kept line ≡ Ok after → total ≡ kept_lines form after lines
   unfolding kept_lines

@@ -14,9 +14,11 @@ returns-in_default c = λ lines waiting done is so_far same.
 pub returns-in-Err : goal.returns-in-Err
 returns-in-Err c = λ lines waiting done is so_far same.
     subst (λ (error : AsmError). RefusesAt error (settled (settle c.args.symbols.now) lines)) (sym c.refusal.ensures)
-    (value_refused c.args.symbols.now lines waiting c.args.refused.now is done so_far same c.in-Some.pending c.in-Some.is c.in-Err.failure (c.in-Err.ensures []))
+    (value_refused c.args.symbols.now lines waiting c.args.refused.now is done so_far same c.in-Some.pending c.in-Some.is c.in-Err.failure
+    (c.in-Err.ensures []))
 
 pub returns : goal.returns
 returns c = λ lines waiting done is so_far same.
     subst (λ (error : AsmError). RefusesAt error (settled (settle c.args.symbols.now) lines)) (sym c.refused_at-2.ensures)
-    (still_refused c.args.symbols.now lines waiting c.args.refused.now is done so_far same [] c.args.output.now c.resolve.new.self c.in-Some.pending c.in-Some.is (c.in-Ok.ensures []))
+    (still_refused c.args.symbols.now lines waiting c.args.refused.now is done so_far same [] c.args.output.now c.resolve.new.self c.in-Some.pending
+    c.in-Some.is (c.in-Ok.ensures []))

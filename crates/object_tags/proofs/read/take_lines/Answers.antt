@@ -24,7 +24,8 @@ returns-in_err-take_line c =
     let text = c.args.text.now in
     let p = err_from_is_err_and c.from_residual.result c.from_residual.ensures.1 in
     let reads = rw c.in-Some.ensures.steps at c.loop-line.invariant.reads in
-    rw (p.1, p.2) (line_refused Plain _ _ (numbered_line text c.in-Some.line) (map (numbered_line text) c.next.new.self) reads c.in_err-take_line.field-0.0 (c.in_err-take_line.ensures {u = tt}))
+    rw (p.1, p.2) (line_refused Plain _ _ (numbered_line text c.in-Some.line) (map (numbered_line text) c.next.new.self) reads c.in_err-take_line.field-0.0
+    (c.in_err-take_line.ensures {u = tt}))
 
 pub returns : goal.returns
 returns c =

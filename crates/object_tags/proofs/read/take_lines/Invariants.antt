@@ -11,5 +11,6 @@ use Rattle.object_tags.proofs.read.take_lines.Given as goal
 abbrev pub invariant-loop-line : goal.invariant-loop-line
 invariant-loop-line l = record {
   inside : LinesLieInside l.text l.line-iterator;
-  reads : kept_lines Plain (kept_of l.fn.reader) (map (numbered_line l.text) (lines l.text)) ≡ kept_lines Plain (kept_of l.reader) (map (numbered_line l.text) l.line-iterator);
+  reads : kept_lines Plain (kept_of l.fn.reader) (map (numbered_line l.text) (lines l.text))
+      ≡ kept_lines Plain (kept_of l.reader) (map (numbered_line l.text) l.line-iterator);
 }

@@ -14,7 +14,8 @@ loop-k-preserved c =
     let end = c.div_ceil-k-end.result in
     let first = first_number k end c.loop-k-test.true in
     let reads = rw first at c.loop-k.invariant in
-    line_read c.args.form _ _ (record_at text k) (map (record_at text) (range_with_len (k + 1) (end - (k + 1)))) reads _ (rw c.record_at.ensures at (c.in_ok-take_line.ensures {u = tt}))
+    line_read c.args.form _ _ (record_at text k) (map (record_at text) (range_with_len (k + 1) (end - (k + 1)))) reads _
+    (rw c.record_at.ensures at (c.in_ok-take_line.ensures {u = tt}))
 
 pub returns-in_err-take_line : goal.returns-in_err-take_line
 returns-in_err-take_line c =
@@ -24,7 +25,8 @@ returns-in_err-take_line c =
     let p = err_from_is_err_and c.from_residual.result c.from_residual.ensures.1 in
     let first = first_number k end c.loop-k-test.true in
     let reads = rw first at c.loop-k.invariant in
-    rw (p.1, p.2) (line_refused c.args.form _ _ (record_at text k) (map (record_at text) (range_with_len (k + 1) (end - (k + 1)))) reads c.in_err-take_line.field-0.0 (rw c.record_at.ensures at (c.in_err-take_line.ensures {u = tt})))
+    rw (p.1, p.2) (line_refused c.args.form _ _ (record_at text k) (map (record_at text) (range_with_len (k + 1) (end - (k + 1)))) reads
+    c.in_err-take_line.field-0.0 (rw c.record_at.ensures at (c.in_err-take_line.ensures {u = tt})))
 
 pub returns : goal.returns
 returns c =

@@ -8,4 +8,5 @@ use Rattle.object_tags.proofs.read.take_records.Given as goal
 
 -- the records that are left go on from here
 abbrev pub invariant-loop-k : goal.invariant-loop-k
-invariant-loop-k l = kept_lines l.form (kept_of l.fn.reader) (records l.text) ≡ kept_lines l.form (kept_of l.reader) (map (record_at l.text) (range_with_len l.k (l.k-end - l.k)))
+invariant-loop-k l = kept_lines l.form (kept_of l.fn.reader) (records l.text)
+    ≡ kept_lines l.form (kept_of l.reader) (map (record_at l.text) (range_with_len l.k (l.k-end - l.k)))

@@ -10,6 +10,7 @@ use Rattle.object_tags.proofs.write.put_defs.Given as goal
 -- the whole text, with what is left to write
 abbrev pub invariant-loop-def : goal.invariant-loop-def
 invariant-loop-def l = record {
-  wrote : (items : List Item) → whole l.initial.writer (map (λ def. Group (definition_text (defined_def def))) l.defs ++ items) ≡ whole l.writer (map (λ def. Group (definition_text (defined_def def))) (drop l.def-index l.defs) ++ items);
+  wrote : (items : List Item) → whole l.initial.writer (map (λ def. Group (definition_text (defined_def def))) l.defs ++ items)
+      ≡ whole l.writer (map (λ def. Group (definition_text (defined_def def))) (drop l.def-index l.defs) ++ items);
   fits : AllByRecursion (λ def. FitsDefinition (defined_def def)) (take l.def-index l.defs);
 }

@@ -10,6 +10,7 @@ use Rattle.object_tags.proofs.write.put_refs.Given as goal
 -- the whole text, with what is left to write
 abbrev pub invariant-loop-reference : goal.invariant-loop-reference
 invariant-loop-reference l = record {
-  wrote : (items : List Item) → whole l.initial.writer (map (λ ref. Group (reference_text (defined_ref ref))) l.refs ++ items) ≡ whole l.writer (map (λ ref. Group (reference_text (defined_ref ref))) (drop l.reference-index l.refs) ++ items);
+  wrote : (items : List Item) → whole l.initial.writer (map (λ ref. Group (reference_text (defined_ref ref))) l.refs ++ items)
+      ≡ whole l.writer (map (λ ref. Group (reference_text (defined_ref ref))) (drop l.reference-index l.refs) ++ items);
   fits : AllByRecursion (λ ref. FitsReference (defined_ref ref)) (take l.reference-index l.refs);
 }

@@ -23,16 +23,20 @@ returns-clause-text c =
     let w5 = c.put_entry.new.writer in
     let header : Wrote (Group (header_text m.size m.name) ∷ []) w0 w1 = rw c.header_text.ensures.text at (c.in_ok-put_group.ensures {u = tt}) in
     let pieces : Wrote (map Placed m.pieces) w1 w2 = rw c.as_slice.ensures at c.in_ok-put_pieces.ensures.wrote in
-    let defs : Wrote (map (λ (def : Def). Group (definition_text (defined_def def))) m.defs) w2 w3 = rw c.as_slice-2.ensures at c.in_ok-put_defs.ensures.wrote in
+    let defs : Wrote (map (λ (def : Def). Group (definition_text (defined_def def))) m.defs) w2 w3 =
+    rw c.as_slice-2.ensures at c.in_ok-put_defs.ensures.wrote in
     let refs : Wrote (map (λ (ref : Ref). Group (reference_text (defined_ref ref))) m.refs) w3 w4 = rw c.as_slice-3.ensures at c.in_ok-put_refs.ensures.wrote in
     let entry : Wrote (entry_items m.entry) w4 w5 = c.in_ok-put_entry.ensures.wrote in
-    let defined_defs : Wrote (map (λ definition. Group (definition_text definition)) (map defined_def m.defs)) w2 w3 = in_two_steps (λ definition. Group (definition_text definition)) defined_def m.defs w2 w3 defs in
-    let defined_refs : Wrote (map (λ reference. Group (reference_text reference)) (map defined_ref m.refs)) w3 w4 = in_two_steps (λ reference. Group (reference_text reference)) defined_ref m.refs w3 w4 refs in
+    let defined_defs : Wrote (map (λ definition. Group (definition_text definition)) (map defined_def m.defs)) w2 w3 =
+    in_two_steps (λ definition. Group (definition_text definition)) defined_def m.defs w2 w3 defs in
+    let defined_refs : Wrote (map (λ reference. Group (reference_text reference)) (map defined_ref m.refs)) w3 w4 =
+    in_two_steps (λ reference. Group (reference_text reference)) defined_ref m.refs w3 w4 refs in
     let all : whole w5 [] ≡ whole w0 (items_of (defined_module m)) =
     composed w0 w1 w2 w3 w4 w5 (Group (header_text m.size m.name) ∷ []) (map Placed m.pieces)
     (map (λ definition. Group (definition_text definition)) (map defined_def m.defs))
     (map (λ reference. Group (reference_text reference)) (map defined_ref m.refs)) (entry_items m.entry) header pieces defined_defs defined_refs entry in
-    let text : whole w5 [] ≡ written (defined_module m) = all ∙ begins w0 (items_of (defined_module m)) c.new-writer.ensures.text c.new-writer.ensures.line c.new-writer.ensures.number in
+    let text : whole w5 [] ≡ written (defined_module m) = all ∙ begins w0 (items_of (defined_module m)) c.new-writer.ensures.text c.new-writer.ensures.line
+    c.new-writer.ensures.number in
     subst (λ (bytes : List ℕ). IfOk c.finish.result (λ found. found.items ≡ bytes)) text c.finish.ensures
 
 pub returns-clause-read_again : goal.returns-clause-read_again
@@ -49,4 +53,5 @@ returns-clause-read_again c =
       refs = all_defined FitsReference defined_ref m.refs refs;
       entry = c.in_ok-put_entry.ensures.fits;
     } in
-    if_ok c.finish.result (λ found. found.items) (written (defined_module m)) (λ bytes. read bytes ≡ Ok (defined_module m ∷ [])) (written_modules_are_read (defined_module m) is c.requires) (returns-clause-text c)
+    if_ok c.finish.result (λ found. found.items) (written (defined_module m)) (λ bytes. read bytes ≡ Ok (defined_module m ∷ []))
+    (written_modules_are_read (defined_module m) is c.requires) (returns-clause-text c)

@@ -16,4 +16,5 @@ returns c =
     if_ok c.contents.result c.contents.ensures.contents
     (λ given is.
     gives c.args.self.now.at (defined_outcome c.args.outcome.now) given.items c.requires
-    (is ∙ ap (λ (references : List Ref). contents_by c.args.self.now.at (map defined_ref references) (defined_outcome c.args.outcome.now)) c.new-unused.ensures.items))
+    (is ∙ ap (λ (references : List Ref). contents_by c.args.self.now.at (map defined_ref references) (defined_outcome c.args.outcome.now))
+    c.new-unused.ensures.items))

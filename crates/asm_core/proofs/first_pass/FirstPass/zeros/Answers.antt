@@ -22,4 +22,5 @@ returns c =
     let within : c.args.self.now.at.number + length (replicate {A = ℕ} size 0) ≤ 65536 = omega (arith, length-replicate {A = ℕ} size 0, c.requires.fits) in
     if_ok c.vec.result c.vec.ensures.items_if_clones_equal
     (λ zeros is.
-    gives c.args.self.now.at (Bytes (replicate size 0)) zeros.items within (is (λ y e. e) ∙ (ap (λ count. replicate count (Byte 0)) c.size_said.ensures.size ∙ zeros_are size)))
+    gives c.args.self.now.at (Bytes (replicate size 0)) zeros.items within (is (λ y e. e)
+    ∙ (ap (λ count. replicate count (Byte 0)) c.size_said.ensures.size ∙ zeros_are size)))

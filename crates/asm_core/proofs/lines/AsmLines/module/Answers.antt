@@ -18,14 +18,17 @@ returns-in_err-resolve_all c = λ lines is.
 pub returns-in-Some : goal.returns-in-Some
 returns-in-Some c = λ lines is.
     let none = map unused (refs lines) in
-    ends_stopped lines c.args.self.now c.output.new.self is c.output.ensures.same none c.in_ok-output.output c.resolve_all.new.output (c.in_ok-resolve_all.ensures {u = tt} none)
+    ends_stopped lines c.args.self.now c.output.new.self is c.output.ensures.same none c.in_ok-output.output c.resolve_all.new.output
+    (c.in_ok-resolve_all.ensures {u = tt} none)
     c.in-Some.refused c.in-Some.is c.stopped.result c.stopped.ensures
 
 pub returns : goal.returns
 returns c = λ lines is.
     let none = map unused (refs lines) in
-    ends_going lines c.args.self.now c.output.new.self is c.output.ensures.same none c.in_ok-output.output c.resolve_all.new.output (c.in_ok-resolve_all.ensures {u = tt} none)
+    ends_going lines c.args.self.now c.output.new.self is c.output.ensures.same none c.in_ok-output.output c.resolve_all.new.output
+    (c.in_ok-resolve_all.ensures {u = tt} none)
     c.in_default.is
-    (λ founds image. subst (λ (names : List (List ℕ)). IsOutput (map unused names) [] founds c.in_ok-output.output) is.refs (c.in_ok-output.ensures.output founds image))
+    (λ founds image. subst (λ (names : List (List ℕ)). IsOutput (map unused names) [] founds c.in_ok-output.output) is.refs
+    (c.in_ok-output.ensures.output founds image))
     (defined_module c.in_ok-module.module)
     (λ settled knows. c.in_ok-module.ensures lines settled (record { names = knows.names; reached = knows.reached; title = knows.title; defs = knows.defs }))

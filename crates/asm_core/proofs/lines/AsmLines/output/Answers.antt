@@ -14,7 +14,8 @@ returns-clause-output c = λ founds is.
     let image : ImageOf lines (Some c.match-take.image) =
     elim c.match-take.branch [
       | in-Some w ↦
-          let there : ImageOf lines (Some w.in-Some.image) = subst (λ (image : Option Image). ImageOf lines image) (sym c.take.ensures.value ∙ w.in-Some.is) is in
+          let there : ImageOf lines (Some w.in-Some.image) = subst (λ (image : Option Image). ImageOf lines image) (sym c.take.ensures.value
+          ∙ w.in-Some.is) is in
           subst (λ (image : Image). ImageOf lines (Some image)) (sym w.image-is) there
       | in-None+in_ok-image-in-None w ↦
           let none : ImageOf lines None = subst (λ (image : Option Image). ImageOf lines image) (sym c.take.ensures.value ∙ w.in-None.is) is in

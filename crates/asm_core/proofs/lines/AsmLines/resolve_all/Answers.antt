@@ -18,9 +18,12 @@ loop-pending-preserved c = λ unused order founds known stand.
     let items = c.args.self.now.waiting.items in
     let index = c.loop-pending.pending-index in
     let pending = c.pending-item.result in
-    let front = first_waits c.as_slice-pending-items.result.now items index pending c.as_slice-pending-items.ensures.value c.loop-pending-test.true c.pending-item.is in
-    let so_far = subst (λ waiting. IsSoFar unused names order founds waiting c.args.output.now c.loop-pending.output) front (c.loop-pending.invariant unused order founds known stand) in
-    next_so_far unused names order founds pending (drop (index + 1) items) c.args.output.now c.loop-pending.output c.resolve.new.self so_far (c.in-Ok.ensures unused)
+    let front = first_waits c.as_slice-pending-items.result.now items index pending c.as_slice-pending-items.ensures.value c.loop-pending-test.true
+    c.pending-item.is in
+    let so_far = subst (λ waiting. IsSoFar unused names order founds waiting c.args.output.now c.loop-pending.output) front
+    (c.loop-pending.invariant unused order founds known stand) in
+    next_so_far unused names order founds pending (drop (index + 1) items) c.args.output.now c.loop-pending.output c.resolve.new.self so_far
+    (c.in-Ok.ensures unused)
 
 pub returns-in-Err : goal.returns-in-Err
 returns-in-Err c = λ unused order founds known stand.
@@ -28,10 +31,13 @@ returns-in-Err c = λ unused order founds known stand.
     let items = c.args.self.now.waiting.items in
     let index = c.loop-pending.pending-index in
     let pending = c.pending-item.result in
-    let front = first_waits c.as_slice-pending-items.result.now items index pending c.as_slice-pending-items.ensures.value c.loop-pending-test.true c.pending-item.is in
-    let so_far = subst (λ waiting. IsSoFar unused names order founds waiting c.args.output.now c.loop-pending.output) front (c.loop-pending.invariant unused order founds known stand) in
+    let front = first_waits c.as_slice-pending-items.result.now items index pending c.as_slice-pending-items.ensures.value c.loop-pending-test.true
+    c.pending-item.is in
+    let so_far = subst (λ waiting. IsSoFar unused names order founds waiting c.args.output.now c.loop-pending.output) front
+    (c.loop-pending.invariant unused order founds known stand) in
     subst (λ (error : AsmError). RefusesAt error (settled (settle names) (onto [] order))) (sym c.refusal.ensures)
-    (so_far_refused unused names order founds pending (drop (index + 1) items) c.args.output.now c.loop-pending.output c.resolve.new.self so_far c.in-Err.failure (c.in-Err.ensures unused))
+    (so_far_refused unused names order founds pending (drop (index + 1) items) c.args.output.now c.loop-pending.output c.resolve.new.self so_far
+    c.in-Err.failure (c.in-Err.ensures unused))
 
 pub returns : goal.returns
 returns c = λ unused order founds known stand.
@@ -39,4 +45,5 @@ returns c = λ unused order founds known stand.
     let none : drop c.loop-pending.pending-index items ≡ [] =
     drop_all c.loop-pending.pending-index items (omega (arith, c.loop-pending-test.false, ap length c.as_slice-pending-items.ensures.value)) in
     all_settled unused c.args.self.now.symbols order founds c.args.output.now c.loop-pending.output
-    (subst (λ waiting. IsSoFar unused c.args.self.now.symbols order founds waiting c.args.output.now c.loop-pending.output) none (c.loop-pending.invariant unused order founds known stand))
+    (subst (λ waiting. IsSoFar unused c.args.self.now.symbols order founds waiting c.args.output.now c.loop-pending.output) none
+    (c.loop-pending.invariant unused order founds known stand))

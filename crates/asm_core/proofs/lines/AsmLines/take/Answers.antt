@@ -1,4 +1,4 @@
-use Rattle.std.proofs.Common.{◌≡◌, ◌+◌, ◌||◌, ◌∷◌, ◌++◌, Ok, ℕ, true, List, length, refl, sym, ap, subst, ◌∙◌, arith}
+use Rattle.std.proofs.Common.{◌≡◌, ◌+◌, ◌||◌, ◌∷◌, ◌++◌, Ok, Err, ℕ, true, List, length, refl, sym, ap, subst, ◌∙◌, arith}
 use Rattle.std.specs.Prelude.{max, Bool}
 use Rattle.source_defs.specs.Refusals.{◌>>=◌}
 use Rattle.source_defs.specs.Symbols.{Names}
@@ -7,14 +7,17 @@ use Rattle.asm_defs.specs.Locations.{Line, location, reached, relocatable, behin
 use Rattle.asm_defs.specs.FirstChecks as spec
 use Rattle.asm_defs.specs.FirstChecks.{Before, known_of, line_of, location_behind, defs_in, refs_in, is_end}
 use Rattle.asm_defs.specs.Modules.{title_by}
-use Rattle.asm_defs.proofs.CheckLaws.{checked_within, checked_titled, checked_said, checked_room}
-use Rattle.asm_checks.specs.Checks.{defined_checked}
+use Rattle.asm_defs.proofs.CheckLaws.{checked_within, checked_titled, checked_said}
+use Rattle.asm_checks.specs.Checks.{defined_checked, checked_as_new}
+use Rattle.asm_checks.proofs.Labels.{checked_new, checked_known, has_room}
+use Rattle.asm_core.specs.Building.{Takes}
+use Rattle.asm_core.specs.declared.error.AsmError.{AsmError}
 use Rattle.asm_core.specs.Keeping.{known_in, names_with}
 use Rattle.asm_core.specs.Adding.{IsNext}
 use Rattle.asm_core.proofs.CountLaws.{counted}
-use Rattle.asm_core.proofs.HeldLaws.{has_room}
+use Rattle.asm_core.proofs.HeldLaws as held
 use Rattle.asm_core.proofs.LineLaws.{location_more, names_more, known_same}
-use Rattle.asm_core.proofs.WorkLaws.{works_same, still_behind, takes_none}
+use Rattle.asm_core.proofs.WorkLaws.{works_same, still_behind, takes_none, takes_failed}
 use Rattle.asm_core.proofs.lines.AsmLines.take.Goals as goal
 
 pub returns-in_err-count : goal.returns-in_err-count
@@ -30,51 +33,69 @@ returns-then-is_comment_line c = λ lines is.
 pub work-requires-clause-room : goal.work-requires-clause-room
 work-requires-clause-room c =
     let found = defined_checked c.in-Ok.checked in
-    let known : spec.checked (known_in c.args.self.now) c.args.text.now ≡ Ok found =
-    ap (λ (before : Before). spec.checked before c.args.text.now) (sym c.known.ensures.known) ∙ c.in-Ok.ensures.checked in
+    let is : checked_as_new (known_in c.args.self.now) c.args.text.now ≡ Ok found =
+    ap (λ (before : Before). checked_as_new before c.args.text.now) (sym c.known.ensures.known) ∙ c.in-Ok.ensures.checked in
     record {
-      room = has_room (known_in c.args.self.now) c.args.text.now found c.args.self.now.placed known;
-      fits = omega (arith, checked_room (known_in c.args.self.now) c.args.text.now found c.args.self.now.placed known);
+      room = held.has_room (known_in c.args.self.now) c.args.text.now found c.args.self.now.placed is;
+      fits = omega (arith, has_room (known_in c.args.self.now) c.args.text.now found is c.args.self.now.placed);
     }
 
-pub returns-in_err-work : goal.returns-in_err-work
-returns-in_err-work c = λ lines is.
-    takes_none lines c.args.text.now c.from_residual-in_err-work.result c.work.new.self c.from_residual-in_err-work.ensures.1
-    (still_behind lines c.args.self.now c.work.new.self c.in_err-work.ensures.unchanged c.in_err-work.ensures.still is)
+pub returns : goal.returns
+returns c = λ lines is.
+    let is_new : checked_as_new (known_in c.args.self.now) c.args.text.now ≡ Ok (defined_checked c.in-Ok.checked) =
+    ap (λ (before : Before). checked_as_new before c.args.text.now) (sym c.known.ensures.known) ∙ c.in-Ok.ensures.checked in
+    let behind = still_behind lines c.args.self.now c.work.new.self c.in-Err-work.ensures.unchanged c.work.ensures.still is in
+    let failed = takes_failed (Unit {0}) lines c.args.text.now c.args.self.now.symbols c.in-Ok.checked.said.label c.in-Err-work.failure c.work.new.self
+    c.in-Err-work.ensures.known
+    (λ known.
+    ap (λ answer. answer >>= λ found. Ok (line_of (length lines + 1) found))
+    (ap (λ (before : Before). spec.checked before c.args.text.now) (sym (known_same lines c.args.self.now is))
+    ∙ checked_known (known_in c.args.self.now) c.args.text.now (defined_checked c.in-Ok.checked) is_new known))
+    behind.taken behind in
+    subst (λ (error : AsmError). Takes {A = Unit {0}} lines c.args.text.now (Err error) c.work.new.self) (sym c.refusal-in-Err-work.ensures) failed
 
 pub advance-requires-clause-place : goal.advance-requires-clause-place
 advance-requires-clause-place c =
     let found = defined_checked c.in-Ok.checked in
+    let is_new : checked_as_new (known_in c.args.self.now) c.args.text.now ≡ Ok (defined_checked c.in-Ok.checked) =
+    ap (λ (before : Before). checked_as_new before c.args.text.now) (sym c.known.ensures.known) ∙ c.in-Ok.ensures.checked in
     let known : spec.checked (known_in c.args.self.now) c.args.text.now ≡ Ok found =
-    ap (λ (before : Before). spec.checked before c.args.text.now) (sym c.known.ensures.known) ∙ c.in-Ok.ensures.checked in
+    checked_new (known_in c.args.self.now) c.args.text.now (defined_checked c.in-Ok.checked) is_new c.in-Ok-work.ensures.fresh in
     subst (λ (from : Location). is_in_part (location_behind from found.move) ≡ true) (sym c.work.ensures.still.location)
     (checked_within (known_in c.args.self.now) c.args.text.now found known)
 
 pub advance-requires-clause-titled : goal.advance-requires-clause-titled
 advance-requires-clause-titled c =
-    checked_titled _ c.args.text.now (defined_checked c.in-Ok.checked) c.in-Ok.ensures.checked
+    let found = defined_checked c.in-Ok.checked in
+    let is_new : checked_as_new (known_in c.args.self.now) c.args.text.now ≡ Ok (defined_checked c.in-Ok.checked) =
+    ap (λ (before : Before). checked_as_new before c.args.text.now) (sym c.known.ensures.known) ∙ c.in-Ok.ensures.checked in
+    let known : spec.checked (known_in c.args.self.now) c.args.text.now ≡ Ok found =
+    checked_new (known_in c.args.self.now) c.args.text.now (defined_checked c.in-Ok.checked) is_new c.in-Ok-work.ensures.fresh in
+    checked_titled (known_in c.args.self.now) c.args.text.now found known
 
-pub returns : goal.returns
-returns c = λ lines is.
+pub returns-in-Ok-work : goal.returns-in-Ok-work
+returns-in-Ok-work c = λ lines is.
     let found = defined_checked c.in-Ok.checked in
     let number = length lines + 1 in
-    let line : Line = line_of number found in
+    let next_line : Line = line_of number found in
+    let is_new : checked_as_new (known_in c.args.self.now) c.args.text.now ≡ Ok (defined_checked c.in-Ok.checked) =
+    ap (λ (before : Before). checked_as_new before c.args.text.now) (sym c.known.ensures.known) ∙ c.in-Ok.ensures.checked in
     let known : spec.checked (known_in c.args.self.now) c.args.text.now ≡ Ok found =
-    ap (λ (before : Before). spec.checked before c.args.text.now) (sym c.known.ensures.known) ∙ c.in-Ok.ensures.checked in
+    checked_new (known_in c.args.self.now) c.args.text.now (defined_checked c.in-Ok.checked) is_new c.in-Ok-work.ensures.fresh in
     let checked : spec.checked (known_of lines) c.args.text.now ≡ Ok found =
     ap (λ (before : Before). spec.checked before c.args.text.now) (sym (known_same lines c.args.self.now is)) ∙ known in
-    let added = c.in_ok-work.ensures.added in
+    let added = c.in-Ok-work.ensures.added in
     let still = c.work.ensures.still in
     let went = c.advance.ensures in
-    let next : IsNext c.args.self.now c.args.text.now c.in-Ok.checked lines line = record {
+    let next : IsNext c.args.self.now c.args.text.now c.in-Ok.checked lines next_line = record {
       at = ap (λ (from : Location). behind from found.move.gap) is.location;
       number = ap (λ taken. taken + 1) is.taken;
       said = checked_said (known_of lines) c.args.text.now found checked;
       statement = refl;
     } in
-    let place : c.advance.new.self.location ≡ location (line ∷ lines) =
+    let place : c.advance.new.self.location ≡ location (next_line ∷ lines) =
     went.location ∙ (ap (λ (from : Location). location_behind from found.move) (still.location ∙ is.location) ∙ sym (location_more number found lines)) in (
-      line,
+      next_line,
       ap (λ answer. answer >>= λ found. Ok (line_of number found)) checked,
       record {
         names = went.kept.names ∙ (added.names ∙ (ap (λ (names : Names). names_with names c.in-Ok.checked) is.names ∙ sym (names_more number found lines)));
@@ -87,7 +108,7 @@ returns c = λ lines is.
         refs = went.kept.lists.refs ∙ (added.refs ∙ ap (λ (names : List (List ℕ)). names ++ refs_in found.statement) is.refs);
         taken = omega (arith, went.taken, still.taken, is.taken);
         ended = went.ended ∙ ap (λ (ended : Bool). is_end found.statement || ended) (still.ended ∙ is.ended);
-        worked = works_same (line ∷ lines) c.work.new.self c.advance.new.self went.kept.names went.worked.image went.kept.lists.waits went.worked.refused
-            (added.worked lines line next is.worked);
+        worked = works_same (next_line ∷ lines) c.work.new.self c.advance.new.self went.kept.names went.worked.image went.kept.lists.waits went.worked.refused
+            (added.worked lines next_line next is.worked);
       },
     )

@@ -9,10 +9,12 @@ use Rattle.asm_core.proofs.lines.AsmLines.work.Goals as goal
 
 pub returns-then-is_some-clause-added : goal.returns-then-is_some-clause-added
 returns-then-is_some-clause-added c =
-    kept_stopped c.args.self.now c.args.text.now c.args.checked.now c.keep.new.self c.keep.result (sym c.is_some.ensures ∙ c.if-is_some.true) c.keep.ensures.work c.keep.ensures.kept
+    kept_stopped c.args.self.now c.args.text.now c.args.checked.now c.keep.new.self c.keep.result (sym c.is_some.ensures
+    ∙ c.if-is_some.true) c.keep.ensures.work c.keep.ensures.kept
 
 pub returns-in_err-prepare-clause-unchanged : goal.returns-in_err-prepare-clause-unchanged
-returns-in_err-prepare-clause-unchanged c = on_err c.from_residual.result (prepared c.args.self.now c.prepare.new.self c.prepare.ensures.lines c.prepare.ensures.image)
+returns-in_err-prepare-clause-unchanged c = on_err c.from_residual.result
+    (prepared c.args.self.now c.prepare.new.self c.prepare.ensures.lines c.prepare.ensures.image)
 
 pub returns-in_err-waiting-clause-unchanged : goal.returns-in_err-waiting-clause-unchanged
 returns-in_err-waiting-clause-unchanged c =
@@ -30,6 +32,8 @@ returns-clause-added c =
     c.in_ok-waiting.field-0.waiting c.in_ok-waiting.field-0.emitted c.behind-at.result
     (sym c.is_some.ensures ∙ c.if-is_some.false) c.prepare.ensures.lines c.prepare.ensures.image c.behind-at.ensures
     (subst (λ (at : Location). AssemblesBy c.prepare.new.self.symbols (c.prepare.new.self.taken + 1) at c.args.text.now
-    (defined_statement c.args.checked.now.said.statement) c.in_ok-waiting.field-0.waiting c.in_ok-waiting.field-0.emitted) (sym c.behind-at.ensures) c.in_ok-waiting.ensures)
+    (defined_statement c.args.checked.now.said.statement) c.in_ok-waiting.field-0.waiting c.in_ok-waiting.field-0.emitted)
+    (sym c.behind-at.ensures) c.in_ok-waiting.ensures)
     c.in_ok-keep.ensures.kept c.keep-2.ensures.work c.keep-2.ensures.still c.emit.ensures.known
-    (subst (λ waits. Emits c.keep-2.new.self c.behind-at.result c.in_ok-waiting.field-0.emitted waits c.emit.new.self) c.is_some-waits.ensures c.emit.ensures.emits)
+    (subst (λ waits. Emits c.keep-2.new.self c.behind-at.result c.in_ok-waiting.field-0.emitted waits c.emit.new.self) c.is_some-waits.ensures
+    c.emit.ensures.emits)

@@ -18,7 +18,8 @@ fill-requires c =
     omega (
       arith,
       fits_there pending.at pending.text.items (defined_statement statement) pending.room whole,
-      comes_within (look_up c.args.symbols.now) pending.at statement c.in_ok-statement.skeleton (defined_outcome c.in_ok-outcome.outcome) c.in_ok-statement.ensures.skeleton c.in_ok-outcome.ensures,
+      comes_within (look_up c.args.symbols.now) pending.at statement c.in_ok-statement.skeleton
+          (defined_outcome c.in_ok-outcome.outcome) c.in_ok-statement.ensures.skeleton c.in_ok-outcome.ensures,
     )
 
 pub returns : goal.returns

@@ -50,7 +50,8 @@ returns c = λ lines is.
       is_behind lines builder is found c.in_ok-rest.rest c.advance.new.self
           (λ later grows.
           ap (λ (at : Location). answer later at c.in_ok-rest.rest) (sym at)
-          ∙ (c.in_ok-rest.ensures.answers later (subst (λ (known : Names). Grows known later) (sym known) grows) ∙ ap (λ (at : Location). outcome (look_up later) at found.statement) at))
+          ∙ (c.in_ok-rest.ensures.answers later (subst (λ (known : Names). Grows known later) (sym known) grows)
+          ∙ ap (λ (at : Location). outcome (look_up later) at found.statement) at))
           c.in_ok-rest.ensures.waits fresh (reaches builder.location found.statement builder.placed fits)
           (record {
             waiting = went.waiting.waiting ∙ keeps.waiting;

@@ -12,4 +12,5 @@ returns c =
     let lt : c.from.result < length c.self.inside.marks.items = omega arith in
     let marked = mark-image_of c.self.inside.bytes.items c.self.inside.marks.items c.from.result same in
     let image : Image = image_of c.self.inside.bytes.items c.self.inside.marks.items in
-    c.index.ensures ∙ get_or_default c.self.inside.marks.items c.from.result c.index.result.now false lt ∙ marked ∙ ap (λ (at : ℕ). contains_key image at) c.from.ensures ∙ ap (λ (m : Image). contains_key m c.args.at) c.self.view_is
+    c.index.ensures ∙ get_or_default c.self.inside.marks.items c.from.result c.index.result.now false lt ∙ marked
+    ∙ ap (λ (at : ℕ). contains_key image at) c.from.ensures ∙ ap (λ (m : Image). contains_key m c.args.at) c.self.view_is

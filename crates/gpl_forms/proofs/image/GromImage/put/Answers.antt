@@ -24,5 +24,6 @@ invariant_of-self c =
       | then-self-eq0 w ↦ grind (arith, nat_tests)
       | else-self-eq0 w ↦ grind (arith, nat_tests)
     ] in
-    let kept = IsImage-set c.self.inside.bytes.items c.self.inside.marks.items c.self.inside.low c.self.inside.high c.from-place.result c.args.byte c.if-self-eq0.self c.self.invariant (omega arith) low in
+    let kept = IsImage-set c.self.inside.bytes.items c.self.inside.marks.items c.self.inside.low c.self.inside.high c.from-place.result c.args.byte
+    c.if-self-eq0.self c.self.invariant (omega arith) low in
     rw (c.max-self-inside.ensures, address) kept

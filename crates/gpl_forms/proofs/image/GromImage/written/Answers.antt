@@ -9,5 +9,7 @@ pub returns : goal.returns
 returns c =
     let same : length c.self.inside.bytes.items ≡ length c.self.inside.marks.items = omega arith in
     let inside : c.self.inside.low + (c.self.inside.high - c.self.inside.low) ≤ length c.self.inside.bytes.items = omega arith in
-    let part = part_by (byte_at (image_of c.self.inside.bytes.items c.self.inside.marks.items)) c.self.inside.bytes.items (c.self.inside.high - c.self.inside.low) c.self.inside.low inside (λ k lt. byte_at-image_of c.self.inside.bytes.items c.self.inside.marks.items k same c.self.invariant.zero_elsewhere) in
+    let part = part_by (byte_at (image_of c.self.inside.bytes.items c.self.inside.marks.items)) c.self.inside.bytes.items
+    (c.self.inside.high - c.self.inside.low) c.self.inside.low inside
+    (λ k lt. byte_at-image_of c.self.inside.bytes.items c.self.inside.marks.items k same c.self.invariant.zero_elsewhere) in
     rw (c.deref.ensures.value, part, c.self.invariant.lowest, c.self.invariant.highest) (ap written_bytes c.self.view_is)

@@ -7,7 +7,9 @@ invariant_of-result c =
     let line = c.args.line.now in
     let passed : c.front-passed.result.now ≡ take c.args.left (drop c.args.at line) = rw c.behind.ensures at c.front-passed.ensures in
     let within : c.args.at + length (take c.args.left (drop c.args.at line)) ≤ length line = passed_within line c.args.at c.args.left c.requires.at in
-    let total : (c.args.total + sum (take c.args.left (drop c.args.at line)) % 65536) % 65536 ≡ sum (take (c.args.at + length (take c.args.left (drop c.args.at line))) line) % 65536 = sum_behind line c.args.at c.args.left c.requires.at c.args.total c.requires.total in
+    let total : (c.args.total + sum (take c.args.left (drop c.args.at line)) % 65536) % 65536
+    ≡ sum (take (c.args.at + length (take c.args.left (drop c.args.at line))) line) % 65536 = sum_behind line c.args.at c.args.left c.requires.at
+    c.args.total c.requires.total in
     (rw passed within, c.requires.line, rw (c.sum_of.ensures, passed) total)
 
 pub returns : goal.returns

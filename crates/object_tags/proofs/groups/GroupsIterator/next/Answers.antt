@@ -20,12 +20,15 @@ steps c =
     let found : FoundGroup = defined_found c.found_with-found.result in
     let sum : complement ((c.self.inside.total + get_or line at 0) % 65536) ≡ checksum (take at line ++ get_or line at 0 ∷ []) =
     next_checksum line at inside c.self.inside.total c.self.invariant.2 in
-    let is : found ≡ found_with c.self.inside.form (checksum (take at line ++ get_or line at 0 ∷ [])) (get_or line at 0) (tag_at c.self.inside.form at (get_or line at 0)) (drop (at + 1) line) =
+    let is : found ≡ found_with c.self.inside.form (checksum (take at line ++ get_or line at 0 ∷ [])) (get_or line at 0)
+    (tag_at c.self.inside.form at (get_or line at 0)) (drop (at + 1) line) =
     c.found_with-found.ensures ∙ rw (c.complement.ensures, c.from.ensures, sum, c.tag_at-tag.ensures, c.behind-fields.ensures) refl in
     sym c.self.view_is ∙ (first_group line at inside c.self.inside.form found is ∙ ap (λ (gs : List FoundGroup). found ∷ gs) (left c))
   where
     left : (c : goal.After-self-2)
-        → cond (ends_line (defined_found c.found_with-found.result)) [] (groups_from c.self.inside.form (take (c.self.inside.at + 1) c.self.inside.line.now) (size_found c.self.inside.form (defined_found c.found_with-found.result)) (drop (c.self.inside.at + 1) c.self.inside.line.now))
+        → cond (ends_line (defined_found c.found_with-found.result)) []
+        (groups_from c.self.inside.form (take (c.self.inside.at + 1) c.self.inside.line.now)
+        (size_found c.self.inside.form (defined_found c.found_with-found.result)) (drop (c.self.inside.at + 1) c.self.inside.line.now))
         ≡ c.if-ends_line.self
     left c = elim c.if-ends_line.branch [
       | then-ends_line w ↦ rw (sym (w.if-ends_line.ensures {u = tt})) (sym (w.self-is ∙ (w.new.ensures ∙ none_left c.self.inside.form)))
