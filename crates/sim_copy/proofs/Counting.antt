@@ -1,18 +1,17 @@
 -- A byte that LOAD and STORE copy, as the definition has it.
-use Rattle.std.proofs.Common.{ℕ, ◌%◌, ◌+◌, ◌-◌, ◌<◌, ◌==◌, ◌||◌, ◌∙◌, ◌≡◌, ◌≤◌, ap, arith, Bool, false, if◌then◌else◌, List, refl, slice_index}
-use Rattle.std.proofs.Common.{slice_set, subst, suc, sym, true}
+use Rattle.std.proofs.Common.{ℕ, ◌%◌, ◌+◌, ◌-◌, ◌<◌, ◌==◌, ◌||◌, ◌∙◌, ◌≡◌, ◌≤◌, ap, arith, Bool, false, if◌then◌else◌, List, refl, slice_index, slice_set}
+use Rattle.std.proofs.Common.{subst, suc, sym, true}
 use Rattle.std.proofs.lemmas.Bool.{eqb-false, eqb-true, le-ltb, lt-ltb}
 use Rattle.std.proofs.Math.Nat.{pos_of_ne-zero}
-use Rattle.sim_rows.proofs.Common.{byte_from, byte_in, Changes, Comes, comes_as, COPY, Cpu, difference_of, From, FromGrom}
-use Rattle.sim_rows.proofs.Common.{FromMemory, GplState, grom_at, GromState, idle_grom, idle_told, idle_video, is_view, IsFetched, LoadsFrom, MachineState}
-use Rattle.sim_rows.proofs.Common.{marked_by, next_at, next_from, next_in_grom, next_to, number_of_space, pick, Place, place_in, place_is, previous-next}
-use Rattle.sim_rows.proofs.Common.{previous_in_grom, Space, space_small, state_of, sum_of, To, ToMemory, ToRegisters, unchanged, Vdp, View, view}
-use Rattle.sim_rows.proofs.Common.{with_byte_in, with_byte_to, Word}
+use Rattle.sim_rows.proofs.Common.{byte_from, byte_in, Changes, Comes, comes_as, COPY, Cpu, difference_of, From, FromGrom, FromMemory, GplState, grom_at}
+use Rattle.sim_rows.proofs.Common.{GromState, idle_grom, idle_told, idle_video, is_view, IsFetched, LoadsFrom, MachineState, marked_by, next_at, next_from}
+use Rattle.sim_rows.proofs.Common.{next_in_grom, next_to, number_of_space, pick, Place, place_in, place_is, previous-next, previous_in_grom, Space}
+use Rattle.sim_rows.proofs.Common.{space_small, state_of, sum_of, To, ToMemory, ToRegisters, unchanged, Vdp, View, view, with_byte_in, with_byte_to, Word}
 use Rattle.sim_copy.specs.Copying.{Copying, InGrom, StandsFrom, StandsTo}
 use Rattle.sim_copy.proofs.Routines.{behind_idle, byte_copied, Counted, grom_behind, source_in, target_in}
 use Rattle.sim_copy.proofs.Places.{routinely}
-use Rattle.sim_copy.specs.Bytes.{AllCopied, AtByte, AtCopy, AtEnd, ByRoutines, charged, Copied, CopiesAt, CopiesByte, CopyingAt, FromCells}
-use Rattle.sim_copy.specs.Bytes.{OutOfGrom, Routinely}
+use Rattle.sim_copy.specs.Bytes.{AllCopied, AtByte, AtCopy, AtEnd, ByRoutines, charged, Copied, CopiesAt, CopiesByte, CopyingAt, FromCells, OutOfGrom}
+use Rattle.sim_copy.specs.Bytes.{Routinely}
 use Rattle.sim_rows.specs.sim_view.Bounds.{most_of_byte}
 use Rattle.sim_rows.specs.native_interp.declared.addresses.TheConstants.{COPYE}
 
@@ -175,10 +174,12 @@ module _ {x y : MachineState} {t u : ℕ} (h : AtCopy x) (here : x.cpu.pc ≡ CO
   next more = record {
     bytes_are = ap (λ (u : View). u.r.r3) goes.holds.is ∙ some.bytes_are;
     some = more;
-    source = λ z. bounded 194 v.r.r2 w.r.r2 (omega arith) (some.source (sym (ap (λ (u : View). u.r.r5) goes.holds.is) ∙ z)) (ap (λ (u : View). u.r.r2) goes.holds.is);
+    source = λ z. bounded 194 v.r.r2 w.r.r2 (omega arith) (some.source (sym (ap (λ (u : View). u.r.r5) goes.holds.is) ∙ z))
+        (ap (λ (u : View). u.r.r2) goes.holds.is);
     beyond = let same = ap (λ (u : View). u.r.r8) goes.holds.is in let b = some.beyond in omega arith;
     registers = λ l. let same =
-        ap (λ (u : View). u.r.r8) goes.holds.is in bounded 8 v.r.r7 w.r.r7 (omega arith) (some.registers (omega arith)) (ap (λ (u : View). u.r.r7) goes.holds.is);
+        ap (λ (u : View). u.r.r8) goes.holds.is in
+        bounded 8 v.r.r7 w.r.r7 (omega arith) (some.registers (omega arith)) (ap (λ (u : View). u.r.r7) goes.holds.is);
     fetched = subst IsFetched (sym (ap (λ (u : View). u.grom) goes.holds.is)) (behind_fetched (source_in v) v.grom some.fetched);
   }
 
@@ -201,12 +202,13 @@ module _ {x y : MachineState} {t u : ℕ} (h : AtCopy x) (here : x.cpu.pc ≡ CO
         registers = ap (λ (u : View). u.vdp.registers) goes.holds.is ∙ ap (λ (a : Changes). a.state.registers) same ∙ more.registers;
         held = ap (λ (u : View). u.vdp.held) goes.holds.is ∙ k.held;
         mark =
-            ap (λ (u : View). u.r.r13) goes.holds.is ∙ ap (λ (a : Changes). marked_by a.shows v.r.r13) same ∙ ap (λ (n : ℕ). marked_by alone.shows n) k.mark ∙ more.mark;
-        stands_from = next_source c after from v w k.stands_from more.image more.pc (ap (λ (u : View). u.r.r2) goes.holds.is) (ap (λ (u : View). u.r.r5) goes.holds.is)
-            (ap (λ (u : View). u.r.r14) goes.holds.is)
+            ap (λ (u : View). u.r.r13) goes.holds.is ∙ ap (λ (a : Changes). marked_by a.shows v.r.r13) same
+            ∙ ap (λ (n : ℕ). marked_by alone.shows n) k.mark ∙ more.mark;
+        stands_from = next_source c after from v w k.stands_from more.image more.pc (ap (λ (u : View). u.r.r2) goes.holds.is)
+            (ap (λ (u : View). u.r.r5) goes.holds.is) (ap (λ (u : View). u.r.r14) goes.holds.is)
             (ap (λ (u : View). u.grom) goes.holds.is ∙ ap (λ (f : From). grom_behind f v.grom) source);
-        stands_to = next_target to v w k.stands_to (λ above. let le = some.registers above in let s = some.some in omega arith) (ap (λ (u : View). u.r.r7) goes.holds.is)
-            (ap (λ (u : View). u.r.r8) goes.holds.is);
+        stands_to = next_target to v w k.stands_to (λ above. let le = some.registers above in let s = some.some in omega arith)
+            (ap (λ (u : View). u.r.r7) goes.holds.is) (ap (λ (u : View). u.r.r8) goes.holds.is);
         left = left_is ∙ one_left v.r.r12 bytes k.left;
       }
 

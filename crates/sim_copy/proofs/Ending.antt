@@ -1,9 +1,9 @@
 -- The copy as a whole, and its end.
 use Rattle.std.proofs.Common.{ℕ, ◌*◌, ◌+◌, ◌<◌, ◌==◌, ◌∙◌, ◌≡◌, ◌≤◌, ap, arith, Bool, false, if◌then◌else◌, refl, subst, sym}
 use Rattle.std.proofs.lemmas.Bool.{ne_eqb}
-use Rattle.sim_rows.proofs.Common.{Changed, Changes, Comes, comes, comes_as, comes_on, comes_then, copied, EndsRow, Exit, Exits, From, GromState, idle_again, idle_grom}
-use Rattle.sim_rows.proofs.Common.{idle_told, idle_video, is_end, is_view, IsFetched, MachineState, MOVEB, PortsAreIdle, RESUME, SeesFinished, SHOW, Stands}
-use Rattle.sim_rows.proofs.Common.{To, View, view, with_pc}
+use Rattle.sim_rows.proofs.Common.{Changed, Changes, Comes, comes, comes_as, comes_on, comes_then, copied, EndsRow, Exit, Exits, From, GromState, idle_again}
+use Rattle.sim_rows.proofs.Common.{idle_grom, idle_told, idle_video, is_end, is_view, IsFetched, MachineState, MOVEB, PortsAreIdle, RESUME, SeesFinished}
+use Rattle.sim_rows.proofs.Common.{SHOW, Stands, To, View, view, with_pc}
 use Rattle.sim_jumps.specs.Jumps.{ResumesRow}
 use Rattle.sim_copy.specs.Copying.{CopiesBytes, Copying}
 use Rattle.sim_copy.proofs.Places.{at_end, at_pc, runs_on}
@@ -99,7 +99,8 @@ module _ {x a : MachineState} {t t1 : ℕ} (e : StartsCopy x a t t1) (stands : S
   pub at_copy : AtCopy a
   at_copy = record {
     stands = at_pc a (pieces.start_copy (view x)).to e.stands;
-    place = subst (λ (p : ℕ). CopiesAt p (view a)) (sym e.stands.pc) (subst (λ (u : View). CopiesAt (pieces.start_copy (view x)).to u) (sym e.holds) begun.place);
+    place = subst (λ (p : ℕ). CopiesAt p (view a)) (sym e.stands.pc)
+        (subst (λ (u : View). CopiesAt (pieces.start_copy (view x)).to u) (sym e.holds) begun.place);
     idle = idle_told a.cpu.memory (ap (λ (u : View). u.vdp.held) e.holds ∙ begun.held)
         (ap (λ (u : View). u.grom.half_written) e.holds ∙ ap (λ (g : GromState). g.half_written) begun.grom ∙ idle_grom x.cpu.memory idle);
   }

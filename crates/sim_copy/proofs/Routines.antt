@@ -1,11 +1,11 @@
 -- A byte that LOAD and STORE copy.
 use Rattle.std.proofs.Common.{ℕ, ◌<◌, ◌==◌, ◌∙◌, ◌≡◌, ap, arith, Bool, false, if◌then◌else◌, List, nat_lt, not, refl, subst, sym}
 use Rattle.std.proofs.lemmas.Bool.{ltb-false, ltb-true}
-use Rattle.sim_rows.proofs.Common.{byte_from, Changes, Comes, comes, comes_as, comes_on, comes_then, COPY, COPYN, COPYS, Cpu, difference_of, Exits}
-use Rattle.sim_rows.proofs.Common.{From, FromGrom, FromMemory, GplState, grom_at, GromState, high, idle_again, idle_grom, idle_told}
-use Rattle.sim_rows.proofs.Common.{idle_video, in_register, IsFetched, IsVisible, join, LOAD, Loaded, LoadsStream, LoadsValue, MachineState, marked_by, Memory, next_in_grom}
-use Rattle.sim_rows.proofs.Common.{next_at, of_register, pick, Place, place_in, PortsAreIdle, return_of, Space, Stands, state_of, STORE, Stored}
-use Rattle.sim_rows.proofs.Common.{StoresRegister, StoresValue, streamed, To, ToMemory, ToRegisters, unchanged, sum_of, value_at, Vdp, View, view, view_of, width_in, Word}
+use Rattle.sim_rows.proofs.Common.{byte_from, Changes, Comes, comes, comes_as, comes_on, comes_then, COPY, COPYN, COPYS, Cpu, difference_of, Exits, From}
+use Rattle.sim_rows.proofs.Common.{FromGrom, FromMemory, GplState, grom_at, GromState, high, idle_again, idle_grom, idle_told, idle_video, in_register}
+use Rattle.sim_rows.proofs.Common.{IsFetched, IsVisible, join, LOAD, Loaded, LoadsStream, LoadsValue, MachineState, marked_by, Memory, next_in_grom, next_at}
+use Rattle.sim_rows.proofs.Common.{of_register, pick, Place, place_in, PortsAreIdle, return_of, Space, Stands, state_of, STORE, Stored, StoresRegister}
+use Rattle.sim_rows.proofs.Common.{StoresValue, streamed, To, ToMemory, ToRegisters, unchanged, sum_of, value_at, Vdp, View, view, view_of, width_in, Word}
 use Rattle.sim_rows.proofs.Common.{with_byte_in, with_byte_to, with_value}
 use Rattle.sim_rows.specs.gpl_defs.Reading.{value_at as value_in}
 use Rattle.sim_copy.specs.Bytes.{AtCopy, ByRoutines}

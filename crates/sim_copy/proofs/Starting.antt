@@ -3,18 +3,18 @@ use Rattle.std.proofs.Common.{ℕ, ◌%◌, ◌+◌, ◌/◌, ◌<◌, ◌==◌,
 use Rattle.std.proofs.Common.{subst, sym}
 use Rattle.std.proofs.lemmas.Bool.{eqb-false, eqb-true, le-ltb, ltb-true}
 use Rattle.std.proofs.Math.Nat.{pos_of_ne-zero}
-use Rattle.sim_rows.proofs.Common.{Changes, CHARACTER, copied, COPY, Cpu, difference_of, Exit, exit, From, FromGrom, FromMemory, grom_at, GromState, high, IsFetched}
-use Rattle.sim_rows.proofs.Common.{IsView, join, low, marked_by, next_at, next_in_vdp, NoOperation, no_other, pair_kind, PairKind, pick, place_in}
+use Rattle.sim_rows.proofs.Common.{Changes, CHARACTER, copied, COPY, Cpu, difference_of, Exit, exit, From, FromGrom, FromMemory, grom_at, GromState, high}
+use Rattle.sim_rows.proofs.Common.{IsFetched, IsView, join, low, marked_by, next_at, next_in_vdp, NoOperation, no_other, pair_kind, PairKind, pick, place_in}
 use Rattle.sim_rows.proofs.Common.{ReadSetup, RegisterWrite, set_video_to, sum_of, To, ToMemory, ToRegisters, Vdp, VdpState, View, Word, WriteSetup}
 use Rattle.sim_copy.specs.Copying.{Copying, StandsFrom, StandsTo}
 use Rattle.sim_copy.proofs.Counting.{all_made, source_is, target_is}
 use Rattle.sim_copy.proofs.Marks.{cells_mark, video_mark}
 use Rattle.sim_copy.proofs.Places.{each, one_at_most}
 use Rattle.sim_copy.proofs.Routines.{source_in, target_in}
-use Rattle.sim_copy.specs.Bytes.{AllCopied, AtByte, AtEnd, AtHead, charged, CopiesAt, CopyingAt, from_on, GoesBack, in_memory, MayGo, OnItsWay}
-use Rattle.sim_copy.specs.Bytes.{Points, Routinely, seen, seen_on, to_memory, to_on}
-use Rattle.sim_copy.specs.Pieces.{by_routines, CellsToCells, CellsToVideo, first_cell, from_cells, GromToCells, GromToVideo, head_of, is_marked}
-use Rattle.sim_copy.specs.Pieces.{pointed_at, set_source, start_copy, target_set, video_at, VideoToCells, Way}
+use Rattle.sim_copy.specs.Bytes.{AllCopied, AtByte, AtEnd, AtHead, charged, CopiesAt, CopyingAt, from_on, GoesBack, in_memory, MayGo, OnItsWay, Points}
+use Rattle.sim_copy.specs.Bytes.{Routinely, seen, seen_on, to_memory, to_on}
+use Rattle.sim_copy.specs.Pieces.{by_routines, CellsToCells, CellsToVideo, first_cell, from_cells, GromToCells, GromToVideo, head_of, is_marked, pointed_at}
+use Rattle.sim_copy.specs.Pieces.{set_source, start_copy, target_set, video_at, VideoToCells, Way}
 use Rattle.sim_rows.specs.sim_operands.Pieces.{one_if}
 use Rattle.sim_rows.specs.native_interp.declared.addresses.TheConstants.{COPYCC, COPYCV, COPYE, COPYGC, COPYGV, COPYVC}
 
@@ -73,7 +73,7 @@ head_charged : (way : Way) → charged (head_of way) ≡ 11
 head_charged = each (λ way. charged (head_of way) ≡ 11) refl refl refl refl refl
 
 module _ (v : View) (i : IsView v) (held : v.vdp.held ≡ None) (fetched : IsFetched v.grom) (some : 0 < v.r.r12) where
-  -- what a beginning keeps: all but the pointers, registers 4 and 13, and the address of the video processor with the byte there
+  -- what a beginning keeps: all but the pointers, registers 4 and 13, and the video processor's address with its byte
   abbrev Same : View → Type 0
   Same w =
       w ≡ record v {

@@ -1,14 +1,13 @@
 -- A byte on a way.
-use Rattle.std.proofs.Common.{ℕ, ◌%◌, ◌+◌, ◌-◌, ◌<◌, ◌==◌, ◌∙◌, ◌≡◌, ap, arith, Bool, false, if◌then◌else◌, None, refl, slice_index, subst}
-use Rattle.std.proofs.Common.{suc, sym}
+use Rattle.std.proofs.Common.{ℕ, ◌%◌, ◌+◌, ◌-◌, ◌<◌, ◌==◌, ◌∙◌, ◌≡◌, ap, arith, Bool, false, if◌then◌else◌, None, refl, slice_index, subst, suc, sym}
 use Rattle.std.proofs.lemmas.Bool.{eqb-false, eqb-true}
 use Rattle.std.proofs.Math.Nat.{pos_of_ne-zero}
 use Rattle.sim_rows.proofs.Common.{byte_from, Changed, Changes, comes, copied, difference_of, Exits, From, idle_grom, idle_told, idle_video, is_view}
-use Rattle.sim_rows.proofs.Common.{MachineState, marked_by, next_from, next_in_grom, next_in_vdp, next_to, pick, plus, sum_of, To, View, view, with_byte_to, with_pc}
-use Rattle.sim_rows.proofs.Common.{Word}
+use Rattle.sim_rows.proofs.Common.{MachineState, marked_by, next_from, next_in_grom, next_in_vdp, next_to, pick, plus, sum_of, To, View, view, with_byte_to}
+use Rattle.sim_rows.proofs.Common.{with_pc, Word}
 use Rattle.sim_copy.proofs.Places.{at_pc, each, few_charged, may_go, on_way, one_at_most, some_left}
-use Rattle.sim_copy.specs.Bytes.{AllCopied, AtCopy, AtEnd, AtHead, Copied, CopiesAt, CopiesByte, CopyingAt, from_on, FromCells, GoesBack, MayGo}
-use Rattle.sim_copy.specs.Bytes.{OnItsWay, OnWay, OutOfGrom, Points, seen, seen_on, to_on}
+use Rattle.sim_copy.specs.Bytes.{AllCopied, AtCopy, AtEnd, AtHead, Copied, CopiesAt, CopiesByte, CopyingAt, from_on, FromCells, GoesBack, MayGo, OnItsWay}
+use Rattle.sim_copy.specs.Bytes.{OnWay, OutOfGrom, Points, seen, seen_on, to_on}
 use Rattle.sim_copy.specs.Pieces.{CellsToCells, CellsToVideo, copy_on, first_cell, GromToCells, GromToVideo, head_of, VideoToCells, Way}
 use Rattle.sim_rows.specs.native_interp.declared.addresses.TheConstants.{COPYE}
 
@@ -203,7 +202,8 @@ module _ {x : MachineState} (h : AtCopy x) (way : Way) (here : x.cpu.pc ≡ head
     copies = record {
       at = record {
         stands = at_pc y (copy_on way v).to e.stands;
-        place = subst (λ (p : ℕ). CopiesAt p (view y)) (sym e.stands.pc) (subst (λ (w : View). CopiesAt (copy_on way v).to w) (sym e.shows) (place_on way v may));
+        place = subst (λ (p : ℕ). CopiesAt p (view y)) (sym e.stands.pc)
+            (subst (λ (w : View). CopiesAt (copy_on way v).to w) (sym e.shows) (place_on way v may));
         idle = idle_told y.cpu.memory (ap (λ (w : View). w.vdp.held) e.shows ∙ held_on way v (idle_video x.cpu.memory h.idle))
             (ap (λ (w : View). w.grom.half_written) e.shows ∙ idle_on way v (idle_grom x.cpu.memory h.idle));
       };

@@ -73,7 +73,8 @@ seen v c bytes mark source target address byte next =
     record v {
       r = record v.r { r2 = source; r7 = target; r12 = bytes; r13 = mark };
       cells = c.state.cells;
-      vdp = record { memory = c.state.vdp; registers = c.state.registers; address = address; fetched = byte; held = None };
+      vdp =
+          record { memory = c.state.vdp; registers = c.state.registers; address = address; fetched = byte; held = None };
       grom = grom_at c.state.image next;
     }
 

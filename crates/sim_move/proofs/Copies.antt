@@ -2,14 +2,14 @@
 use Rattle.std.proofs.Common.{ℕ, ◌%◌, ◌/◌, ◌<◌, ◌==◌, ◌∙◌, ◌≡◌, ◌≤◌, ap, arith, Bool, Err, Ok, Option, refl, Result, Some, subst, sym, true}
 use Rattle.sim_rows.proofs.Common.{◌>>=◌, barred_stops, code_byte, Comes, comes_as, comes_on, even, fetched_of, Finds, finds_of, FindsOperand, From}
 use Rattle.sim_rows.proofs.Common.{from_placed, FromGrom, FromMemory, GOMOVE, GplOperand, GplOperation, GplState, grom_at, GromIndexedToMemory, GromState}
-use Rattle.sim_rows.proofs.Common.{GromToMemory, GromToRegisters, GSTOP, idle_of, index_by, indexed, is_view, length_of, MachineState}
-use Rattle.sim_rows.proofs.Common.{MemoryToMemory, Move, MOVEB, MoveKind, MOVEL, MOVES, MOVEX, next_in_grom, operand_at, operation_entry, operation_in}
-use Rattle.sim_rows.proofs.Common.{origin_of, Place, place_of, Placed, Reason, return_of, Stands, stands_at, StoppedBy, target_of, To, ToMemory}
-use Rattle.sim_rows.proofs.Common.{ToRegisters, View, view, within_limit, word_at}
+use Rattle.sim_rows.proofs.Common.{GromToMemory, GromToRegisters, GSTOP, idle_of, index_by, indexed, is_view, length_of, MachineState, MemoryToMemory, Move}
+use Rattle.sim_rows.proofs.Common.{MOVEB, MoveKind, MOVEL, MOVES, MOVEX, next_in_grom, operand_at, operation_entry, operation_in, origin_of, Place, place_of}
+use Rattle.sim_rows.proofs.Common.{Placed, Reason, return_of, Stands, stands_at, StoppedBy, target_of, To, ToMemory, ToRegisters, View, view, within_limit}
+use Rattle.sim_rows.proofs.Common.{word_at}
 use Rattle.sim_copy.specs.Copying.{StandsTo}
 use Rattle.sim_move.specs.Family.{is_move}
-use Rattle.sim_move.specs.Moves.{Arrives, AsksAddress, AsksTarget, AtCopy, copy_in, FindsCopy, FindsLength, FindsTarget, IndexesSource, length_read, LengthTold, source_entry}
-use Rattle.sim_move.specs.Moves.{source_read, SourceTold, target_in, target_read, TargetTold, TurnsToSource}
+use Rattle.sim_move.specs.Moves.{Arrives, AsksAddress, AsksTarget, AtCopy, copy_in, FindsCopy, FindsLength, FindsTarget, IndexesSource, length_read}
+use Rattle.sim_move.specs.Moves.{LengthTold, source_entry, source_read, SourceTold, target_in, target_read, TargetTold, TurnsToSource}
 use Rattle.sim_move.proofs.Codes.{has_index, told}
 use Rattle.sim_move.proofs.Arriving.{both, Found, found, missing}
 use Rattle.sim_move.proofs.Numbers.{within_is}
@@ -279,7 +279,8 @@ module _ (s : GplState) {x a : MachineState} {t t1 : ℕ} (fits : code_byte s < 
               by = λ kind known.
                   let m = missing 39 s b c t2 t3 MOVEX (SourceTold (view b) s.image (index kind).1) (indexed s (index kind).0 (address kind).0)
                   (λ e. absurd (omega arith)) there (indexed_at kind known) in
-                  let P : Result ℕ Reason → Type 0 = λ q. Arrives most_to_copy s x c t t3 MOVEB (AtCopy kind s) (q >>= from_address (second kind known).found) in
+                  let P : Result ℕ Reason → Type 0 =
+                  λ q. Arrives most_to_copy s x c t t3 MOVEB (AtCopy kind s) (q >>= from_address (second kind known).found) in
                   whole kind known c t3 (subst P (sym m.is) (comes_as 187 _ (comes_on 127 39 (to_source kind known) m.comes refl) (omega arith) (λ w q. q)));
             }
 

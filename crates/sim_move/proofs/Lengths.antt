@@ -4,8 +4,8 @@ use Rattle.sim_rows.proofs.Common.{◌>>=◌, ADDR, Asking, barred, behind_code,
 use Rattle.sim_rows.proofs.Common.{Finds, finds_of, FindsOperand, GplOperand, GplState, grom_at, GromState, GSTOP, Holds, holds_again, holds_loaded}
 use Rattle.sim_rows.proofs.Common.{idle_again, idle_of, in_register, IsFetched, IsVisible, last_out, length_at, length_of, lies_at, LOAD, Loaded, LoadsFrom}
 use Rattle.sim_rows.proofs.Common.{LoadsStream, LoadsValue, located, MachineState, MOVEL, MOVEN, number_of_space, operand_at, Place, place_in, place_is}
-use Rattle.sim_rows.proofs.Common.{place_lies, place_of, PortsAreIdle, previous-next, Reason, return_of, sees_again, space_small, SRL, state_of}
-use Rattle.sim_rows.proofs.Common.{streamed, value_at, value_same, View, view, visible_of, width_in, Word, word_at}
+use Rattle.sim_rows.proofs.Common.{place_lies, place_of, PortsAreIdle, previous-next, Reason, return_of, sees_again, space_small, SRL, state_of, streamed}
+use Rattle.sim_rows.proofs.Common.{value_at, value_same, View, view, visible_of, width_in, Word, word_at}
 use Rattle.sim_move.specs.Moves.{Arrives, AsksAddress, AsksLength, AtPlace, FindsLength, Follows, LengthTold, LoadsFollowing, LoadsPlaced}
 use Rattle.sim_move.proofs.Numbers.{odd_bit}
 use Rattle.sim_move.proofs.Ways.{first_way, second_way}
@@ -166,7 +166,10 @@ module _ (s : GplState) {x : MachineState} {t : ℕ} (d : Dispatched s (view x))
 
       pub found_direct : {q : MachineState} {k : ℕ} → LoadsFollowing a q t1 k → FindsLength s x q t k
       found_direct {q = q} {k = k} l =
-          record { by = subst (FindsBy s x q t k) (sym direct.is_odd) (comes_as 70 _ (comes_on 6 18 direct.comes (l s direct.comes.holds) refl) (omega arith) (λ w b. b)) }
+          record {
+            by = subst (FindsBy s x q t k) (sym direct.is_odd)
+                (comes_as 70 _ (comes_on 6 18 direct.comes (l s direct.comes.holds) refl) (omega arith) (λ w b. b));
+          }
 
     -- it is at an operand
     record Asked : Type 0 where

@@ -73,8 +73,8 @@ turn_to_source-requires g c =
     let gone : c.find_target.new.machine.cpu.pc ≡ GSTOP → ⊥ = λ h. let p = c.pc-2.ensures.value in let r = c.if-pc-eq-GSTOP-2.false in absurd (omega arith) in
     let here : c.find_target.new.machine.cpu.pc ≡ MOVES = let p = c.pc-3.ensures.value in let r = c.if-pc-ne-MOVES.false in omega arith in
     let on : c.index_source.new.machine.cpu.pc ≡ GSTOP → ⊥ = λ h. let p = c.pc-4.ensures.value in let r = c.if-pc-eq-GSTOP-3.false in absurd (omega arith) in
-    Copies.stands_turning (s g at) (fits g at) c.find_length.ensures (away g at) c.find_target.ensures gone here c.index_source.new.machine c.index_source.new.steps
-    c.index_source.ensures on c.requires.family
+    Copies.stands_turning (s g at) (fits g at) c.find_length.ensures (away g at) c.find_target.ensures gone here c.index_source.new.machine
+    c.index_source.new.steps c.index_source.ensures on c.requires.family
 
 pub returns : goal.returns
 returns g c =

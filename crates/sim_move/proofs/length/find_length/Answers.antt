@@ -49,5 +49,5 @@ returns g c =
     let s = state_at_dispatch (view c.args.machine.now) in
     let b = c.find_operand.new.machine in
     let gone : b.cpu.pc ≡ GSTOP → ⊥ = λ there. let p = c.pc-2.ensures.value in let r = c.if-pc-eq-GSTOP.false in absurd (omega arith) in
-    Lengths.found_placed s c.requires.dispatched c.ask_length.ensures (here g at) c.find_operand.new.machine c.find_operand.new.steps c.find_operand.ensures gone
+    Lengths.found_placed s c.requires.dispatched c.ask_length.ensures (here g at) b c.find_operand.new.steps c.find_operand.ensures gone
     c.load_count-2.ensures.placed
