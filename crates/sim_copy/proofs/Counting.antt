@@ -9,9 +9,9 @@ use Rattle.sim_rows.proofs.Common.{next_in_grom, next_to, number_of_space, pick,
 use Rattle.sim_rows.proofs.Common.{space_small, state_of, sum_of, To, ToMemory, ToRegisters, unchanged, Vdp, View, view, with_byte_in, with_byte_to, Word}
 use Rattle.sim_copy.specs.Copying.{Copying, InGrom, StandsFrom, StandsTo}
 use Rattle.sim_copy.proofs.Routines.{behind_idle, byte_copied, Counted, grom_behind, source_in, target_in}
-use Rattle.sim_copy.proofs.Places.{routinely}
-use Rattle.sim_copy.specs.Bytes.{AllCopied, AtByte, AtCopy, AtEnd, ByRoutines, charged, Copied, CopiesAt, CopiesByte, CopyingAt, FromCells, OutOfGrom}
-use Rattle.sim_copy.specs.Bytes.{Routinely}
+use Rattle.sim_copy.proofs.Places.{copying_by_routines}
+use Rattle.sim_copy.specs.Bytes.{AllCopied, AtByte, AtCopy, AtEnd, ByRoutines, charged, Copied, CopiesAt, CopiesByte, CopyingAt, CopyingByRoutines, FromPlace}
+use Rattle.sim_copy.specs.Bytes.{OutOfGrom}
 use Rattle.sim_rows.specs.sim_view.Bounds.{most_of_byte}
 use Rattle.sim_rows.specs.native_interp.declared.addresses.TheConstants.{COPYE}
 
@@ -146,7 +146,7 @@ all_made c from to v k = by from k.stands_from
   where
     by : (from : From) → StandsFrom c from v → Copied c v
     by (FromMemory place) f =
-        FromCells (space_small place.space v.r.r5 f.loads_from.space)
+        FromPlace (space_small place.space v.r.r5 f.loads_from.space)
         (record { cells = k.cells; vdp = k.vdp; registers = k.registers; held = k.held; grom = f.grom; mark = k.mark })
     by (FromGrom address) f =
         OutOfGrom f.space f.back address
@@ -226,7 +226,7 @@ module _ {x y : MachineState} {t u : ℕ} (h : AtCopy x) (here : x.cpu.pc ≡ CO
       pick (w.r.r12 == 0)
       (λ z. let none : bytes ≡ 0 = sym k.left ∙ eqb-true w.r.r12 0 z in
       AllCopied (there ∙ ap to z) none (all_made c from o w (subst (λ (n : ℕ). Copying c from o n w) none k)))
-      (λ z. Routinely (there ∙ ap to z) k)
+      (λ z. CopyingByRoutines (there ∙ ap to z) k)
 
   pub copies : CopiesByte x y t u
   copies = record {
@@ -241,5 +241,5 @@ module _ {x y : MachineState} {t u : ℕ} (h : AtCopy x) (here : x.cpu.pc ≡ CO
     comes = comes_as most_of_byte (λ (u : View). Unit {0}) goes (omega arith) (λ u q. tt);
     within = let none : charged x.cpu.pc ≡ 0 = ap charged here in omega arith;
     copies = λ c from o bytes k. copying (with_byte_to o (byte_from from c.state) c) (next_from from) (next_to o) bytes
-        (copied_one c from o bytes (routinely k here));
+        (copied_one c from o bytes (copying_by_routines k here));
   }
