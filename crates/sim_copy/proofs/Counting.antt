@@ -1,6 +1,6 @@
 -- A byte that LOAD and STORE copy, as the definition has it.
-use Rattle.std.proofs.Common.{ℕ, ◌%◌, ◌+◌, ◌-◌, ◌<◌, ◌==◌, ◌||◌, ◌∙◌, ◌≡◌, ◌≤◌, ap, arith, Bool, false, if◌then◌else◌, List, refl, slice_index}
-use Rattle.std.proofs.Common.{slice_set, subst, suc, sym, true}
+use Rattle.std.proofs.Common.{ℕ, ◌%◌, ◌+◌, ◌-◌, ◌<◌, ◌==◌, ◌||◌, ◌∙◌, ◌≡◌, ◌≤◌, ap, arith, Bool, false, if◌then◌else◌, List, refl, slice_index, slice_set}
+use Rattle.std.proofs.Common.{subst, suc, sym, true}
 use Rattle.std.proofs.lemmas.Bool.{eqb-false, eqb-true, le-ltb, lt-ltb}
 use Rattle.std.proofs.Math.Nat.{pos_of_ne-zero}
 use Rattle.sim_rows.proofs.Common.{byte_from, byte_in, Changes, Comes, comes_as, COPY, Cpu, difference_of, From, FromGrom, FromMemory, GplState, grom_at}
@@ -9,9 +9,9 @@ use Rattle.sim_rows.proofs.Common.{next_from, next_in_grom, next_to, number_of_s
 use Rattle.sim_rows.proofs.Common.{space_small, state_of, sum_of, To, ToMemory, ToRegisters, unchanged, Vdp, View, view, with_byte_in, with_byte_to, Word}
 use Rattle.sim_copy.specs.Copying.{Copying, InGrom, StandsFrom, StandsTo}
 use Rattle.sim_copy.proofs.Routines.{behind_idle, byte_copied, Counted, grom_behind, source_in, target_in}
-use Rattle.sim_copy.proofs.Places.{routinely}
-use Rattle.sim_copy.specs.Bytes.{AllCopied, AtByte, AtCopy, AtEnd, ByRoutines, charged, Copied, CopiesAt, CopiesByte, CopyingAt, FromCells}
-use Rattle.sim_copy.specs.Bytes.{OutOfGrom, Routinely}
+use Rattle.sim_copy.proofs.Places.{copying_by_routines}
+use Rattle.sim_copy.specs.Bytes.{AllCopied, AtByte, AtCopy, AtEnd, ByRoutines, charged, Copied, CopiesAt, CopiesByte, CopyingAt, CopyingByRoutines, FromPlace}
+use Rattle.sim_copy.specs.Bytes.{OutOfGrom}
 use Rattle.sim_rows.specs.native_interp.declared.addresses.TheConstants.{COPYE}
 
 -- ---- the machine behind a byte
@@ -145,7 +145,7 @@ all_made c from to v k = by from k.stands_from
   where
     by : (from : From) → StandsFrom c from v → Copied c v
     by (FromMemory place) f =
-        FromCells (space_small place.space v.r.r5 f.loads_from.space)
+        FromPlace (space_small place.space v.r.r5 f.loads_from.space)
         (record { cells = k.cells; vdp = k.vdp; registers = k.registers; held = k.held; grom = f.grom; mark = k.mark })
     by (FromGrom address) f =
         OutOfGrom f.space f.back address
@@ -173,10 +173,12 @@ module _ {x y : MachineState} {t u : ℕ} (h : AtCopy x) (here : x.cpu.pc ≡ CO
   next more = record {
     bytes_are = ap (λ (u : View). u.r.r3) goes.holds.is ∙ some.bytes_are;
     some = more;
-    source = λ z. bounded 194 v.r.r2 w.r.r2 (omega arith) (some.source (sym (ap (λ (u : View). u.r.r5) goes.holds.is) ∙ z)) (ap (λ (u : View). u.r.r2) goes.holds.is);
+    source = λ z. bounded 194 v.r.r2 w.r.r2 (omega arith) (some.source (sym (ap (λ (u : View). u.r.r5) goes.holds.is) ∙ z))
+        (ap (λ (u : View). u.r.r2) goes.holds.is);
     beyond = let same = ap (λ (u : View). u.r.r8) goes.holds.is in let b = some.beyond in omega arith;
     registers = λ l. let same =
-        ap (λ (u : View). u.r.r8) goes.holds.is in bounded 8 v.r.r7 w.r.r7 (omega arith) (some.registers (omega arith)) (ap (λ (u : View). u.r.r7) goes.holds.is);
+        ap (λ (u : View). u.r.r8) goes.holds.is in
+        bounded 8 v.r.r7 w.r.r7 (omega arith) (some.registers (omega arith)) (ap (λ (u : View). u.r.r7) goes.holds.is);
     fetched = subst IsFetched (sym (ap (λ (u : View). u.grom) goes.holds.is)) (behind_fetched (source_in v) v.grom some.fetched);
   }
 
@@ -199,12 +201,13 @@ module _ {x y : MachineState} {t u : ℕ} (h : AtCopy x) (here : x.cpu.pc ≡ CO
         registers = ap (λ (u : View). u.vdp.registers) goes.holds.is ∙ ap (λ (a : Changes). a.state.registers) same ∙ more.registers;
         held = ap (λ (u : View). u.vdp.held) goes.holds.is ∙ k.held;
         mark =
-            ap (λ (u : View). u.r.r13) goes.holds.is ∙ ap (λ (a : Changes). marked_by a.shows v.r.r13) same ∙ ap (λ (n : ℕ). marked_by alone.shows n) k.mark ∙ more.mark;
-        stands_from = next_source c after from v w k.stands_from more.image more.pc (ap (λ (u : View). u.r.r2) goes.holds.is) (ap (λ (u : View). u.r.r5) goes.holds.is)
-            (ap (λ (u : View). u.r.r14) goes.holds.is)
+            ap (λ (u : View). u.r.r13) goes.holds.is ∙ ap (λ (a : Changes). marked_by a.shows v.r.r13) same
+            ∙ ap (λ (n : ℕ). marked_by alone.shows n) k.mark ∙ more.mark;
+        stands_from = next_source c after from v w k.stands_from more.image more.pc (ap (λ (u : View). u.r.r2) goes.holds.is)
+            (ap (λ (u : View). u.r.r5) goes.holds.is) (ap (λ (u : View). u.r.r14) goes.holds.is)
             (ap (λ (u : View). u.grom) goes.holds.is ∙ ap (λ (f : From). grom_behind f v.grom) source);
-        stands_to = next_target to v w k.stands_to (λ above. let le = some.registers above in let s = some.some in omega arith) (ap (λ (u : View). u.r.r7) goes.holds.is)
-            (ap (λ (u : View). u.r.r8) goes.holds.is);
+        stands_to = next_target to v w k.stands_to (λ above. let le = some.registers above in let s = some.some in omega arith)
+            (ap (λ (u : View). u.r.r7) goes.holds.is) (ap (λ (u : View). u.r.r8) goes.holds.is);
         left = left_is ∙ one_left v.r.r12 bytes k.left;
       }
 
@@ -222,7 +225,7 @@ module _ {x y : MachineState} {t u : ℕ} (h : AtCopy x) (here : x.cpu.pc ≡ CO
       pick (w.r.r12 == 0)
       (λ z. let none : bytes ≡ 0 = sym k.left ∙ eqb-true w.r.r12 0 z in
       AllCopied (there ∙ ap to z) none (all_made c from o w (subst (λ (n : ℕ). Copying c from o n w) none k)))
-      (λ z. Routinely (there ∙ ap to z) k)
+      (λ z. CopyingByRoutines (there ∙ ap to z) k)
 
   pub copies : CopiesByte x y t u
   copies = record {
@@ -237,5 +240,5 @@ module _ {x y : MachineState} {t u : ℕ} (h : AtCopy x) (here : x.cpu.pc ≡ CO
     comes = comes_as most_of_byte (λ (u : View). Unit {0}) goes (omega arith) (λ u q. tt);
     within = let none : charged x.cpu.pc ≡ 0 = ap charged here in omega arith;
     copies = λ c from o bytes k. copying (with_byte_to o (byte_from from c.state) c) (next_from from) (next_to o) bytes
-        (copied_one c from o bytes (routinely k here));
+        (copied_one c from o bytes (copying_by_routines k here));
   }

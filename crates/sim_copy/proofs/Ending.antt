@@ -9,7 +9,7 @@ use Rattle.sim_copy.specs.Copying.{CopiesBytes, Copying}
 use Rattle.sim_copy.proofs.Places.{at_end, at_pc, runs_on}
 use Rattle.sim_copy.proofs.Routines.{fetched_seen}
 use Rattle.sim_copy.proofs.Starting.{Starts, starts}
-use Rattle.sim_copy.specs.Bytes.{AtCopy, charged, CopiesAt, CopiesRest, CopyingAt, EndsCopy, FromCells, OutOfGrom, StartsCopy}
+use Rattle.sim_copy.specs.Bytes.{AtCopy, charged, CopiesAt, CopiesRest, CopyingAt, EndsCopy, FromPlace, OutOfGrom, StartsCopy}
 use Rattle.sim_copy.specs.Pieces as pieces
 use Rattle.sim_rows.specs.native_interp.declared.addresses.TheConstants.{COPYE, SETR, SETW}
 
@@ -37,13 +37,13 @@ module _ {x a : MachineState} {t t1 : ℕ} (h : AtCopy x) (e : Exits x a t t1 (p
 
   module _ (y : MachineState) (t2 : ℕ) where
     pub ends_memory : a.cpu.pc ≡ SHOW → EndsRow a y t1 t2 → EndsCopy x y t t2
-    ends_memory here row c (FromCells near k) =
+    ends_memory here row c (FromPlace near k) =
         let changed : Changed c (view a) = subst (λ (u : View). Changed c u) (sym e.shows) k in
         comes_as 35 (SeesFinished c) (comes_on 3 29 (led SHOW (near_end v.r.r5 near)) (row c changed) refl) (omega arith) (λ w q. q)
     ends_memory here row c (OutOfGrom space back next k) = absurd (let p = e.stands.pc in let r = ap behind space in omega arith)
 
     pub ends_grom : (a.cpu.pc ≡ SHOW → ⊥) → ResumesRow a y t1 t2 → EndsCopy x y t t2
-    ends_grom elsewhere row c (FromCells near k) = absurd (elsewhere (e.stands.pc ∙ near_end v.r.r5 near))
+    ends_grom elsewhere row c (FromPlace near k) = absurd (elsewhere (e.stands.pc ∙ near_end v.r.r5 near))
     ends_grom elsewhere row c (OutOfGrom space back next k) =
         let changed : Changed (with_pc next c) (view a) = subst (λ (u : View). Changed (with_pc next c) u) (sym e.shows) k in
         comes_on 3 32 (led RESUME (ap behind space)) (row c next changed (ap (λ (u : View). u.r.r14) e.shows ∙ back)) refl
@@ -99,7 +99,8 @@ module _ {x a : MachineState} {t t1 : ℕ} (e : StartsCopy x a t t1) (stands : S
   pub at_copy : AtCopy a
   at_copy = record {
     stands = at_pc a (pieces.start_copy (view x)).to e.stands;
-    place = subst (λ (p : ℕ). CopiesAt p (view a)) (sym e.stands.pc) (subst (λ (u : View). CopiesAt (pieces.start_copy (view x)).to u) (sym e.holds) begun.place);
+    place = subst (λ (p : ℕ). CopiesAt p (view a)) (sym e.stands.pc)
+        (subst (λ (u : View). CopiesAt (pieces.start_copy (view x)).to u) (sym e.holds) begun.place);
     idle = idle_told a.cpu.memory (ap (λ (u : View). u.vdp.held) e.holds ∙ begun.held)
         (ap (λ (u : View). u.grom.half_written) e.holds ∙ ap (λ (g : GromState). g.half_written) begun.grom ∙ idle_grom x.cpu.memory idle);
   }

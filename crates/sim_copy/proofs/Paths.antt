@@ -93,7 +93,8 @@ for_writing v = record v { r = record v.r { r4 = sum_of Word (pieces.video_at v.
 target_told : (v : View) → (v.r.r5 == 1) ≡ false → Part target_ends 6 v SETW (for_writing v) SETWA
 target_told v c = record { by = λ f. rw c refl }
 
-target_cells : (v : View) → (v.r.r5 == 0) ≡ true → Rest target_ends 6 10 v SETWA (exit 11 COPYCV (pieces.from_cells (record v { vdp = set_video_to v.r.r4 v.vdp })))
+target_cells : (v : View) → (v.r.r5 == 0) ≡ true →
+    Rest target_ends 6 10 v SETWA (exit 11 COPYCV (pieces.from_cells (record v { vdp = set_video_to v.r.r4 v.vdp })))
 target_cells v c = record { by = λ f. rw c refl }
 
 target_grom : (v : View) → (v.r.r5 == 0) ≡ false → Rest target_ends 6 10 v SETWA (exit 10 COPYGV (record v { vdp = set_video_to v.r.r4 v.vdp }))
@@ -128,13 +129,25 @@ copy_cell v m = record {
 }
 
 pub copy_video : (v : View) → MayGo VideoToCells v → Leads (COPYVC ∷ COPYE ∷ []) v COPYVC (pieces.copy_on VideoToCells v)
-copy_video v m = record { by = λ f q. let t = let h = cell_at v.r.r7 v.r.r12 m in spot_cell v.r.r7 (v.r.r7 - 0x8300) h.0 h.1 in pick (is_last v) (λ c. rw (t, c) refl) (λ c. rw (t, c) refl) }
+copy_video v m = record {
+  by = λ f q.
+      let t = let h = cell_at v.r.r7 v.r.r12 m in spot_cell v.r.r7 (v.r.r7 - 0x8300) h.0 h.1 in
+      pick (is_last v) (λ c. rw (t, c) refl) (λ c. rw (t, c) refl);
+}
 
 pub copy_grom : (v : View) → MayGo GromToCells v → Leads (COPYGC ∷ COPYE ∷ []) v COPYGC (pieces.copy_on GromToCells v)
-copy_grom v m = record { by = λ f q. let t = let h = cell_at v.r.r7 v.r.r12 m in spot_cell v.r.r7 (v.r.r7 - 0x8300) h.0 h.1 in pick (is_last v) (λ c. rw (t, c) refl) (λ c. rw (t, c) refl) }
+copy_grom v m = record {
+  by = λ f q.
+      let t = let h = cell_at v.r.r7 v.r.r12 m in spot_cell v.r.r7 (v.r.r7 - 0x8300) h.0 h.1 in
+      pick (is_last v) (λ c. rw (t, c) refl) (λ c. rw (t, c) refl);
+}
 
 pub copy_cell_to_video : (v : View) → MayGo CellsToVideo v → Leads (COPYCV ∷ COPYE ∷ []) v COPYCV (pieces.copy_on CellsToVideo v)
-copy_cell_to_video v m = record { by = λ f q. let s = let h = cell_at v.r.r2 v.r.r12 m in spot_cell v.r.r2 (v.r.r2 - 0x8300) h.0 h.1 in pick (is_last v) (λ c. rw (s, c) refl) (λ c. rw (s, c) refl) }
+copy_cell_to_video v m = record {
+  by = λ f q.
+      let s = let h = cell_at v.r.r2 v.r.r12 m in spot_cell v.r.r2 (v.r.r2 - 0x8300) h.0 h.1 in
+      pick (is_last v) (λ c. rw (s, c) refl) (λ c. rw (s, c) refl);
+}
 
 pub copy_grom_to_video : (v : View) → Leads (COPYGV ∷ COPYE ∷ []) v COPYGV (pieces.copy_on GromToVideo v)
 copy_grom_to_video v = record { by = λ f q. pick (is_last v) (λ c. rw c refl) (λ c. rw c refl) }

@@ -2,7 +2,8 @@
 use Rattle.std.proofs.Common.{ℕ, ◌<◌, ◌==◌, ◌∙◌, ◌≡◌, ◌≤◌, ap, arith, Bool, false, if◌then◌else◌, None, Option, refl, Some, subst, sym, true}
 use Rattle.sim_rows.proofs.Common.{Changes, COPY, From, is_end, MachineState, Stands, To, View}
 use Rattle.sim_copy.specs.Copying.{Copying}
-use Rattle.sim_copy.specs.Bytes.{AllCopied, AtByte, AtEnd, AtHead, ByRoutines, charged, Copied, CopiesAt, CopyingAt, MayGo, OnItsWay, OnWay, Points, Routinely}
+use Rattle.sim_copy.specs.Bytes.{AllCopied, AtByte, AtEnd, AtHead, ByRoutines, charged, Copied, CopiesAt, CopyingAt, CopyingByRoutines, CopyingOnWay, MayGo}
+use Rattle.sim_copy.specs.Bytes.{OnWay, Points}
 use Rattle.sim_rows.specs.sim_operands.Pieces.{one_if}
 use Rattle.sim_copy.specs.Pieces.{CellsToCells, CellsToVideo, GromToCells, GromToVideo, head_of, VideoToCells, Way}
 use Rattle.sim_rows.specs.native_interp.declared.addresses.TheConstants.{COPYCC, COPYCV, COPYE, COPYGC, COPYGV, COPYVC}
@@ -47,19 +48,19 @@ module _ {p : ℕ} {v : View} where
   may_go (AtEnd e z) way f = absurd (no_way p way (ap way_at e) f)
 
   pub on_way : {c : Changes} {from : From} {to : To} {bytes : ℕ} → CopyingAt p c from to bytes v → (way : Way) → p ≡ head_of way → OnWay way c from to bytes v
-  on_way (Routinely e k) way f = absurd (no_way p way (ap way_at e) f)
-  on_way {c = c} {from = from} {to = to} {bytes = bytes} (OnItsWay a e k) way f =
+  on_way (CopyingByRoutines e k) way f = absurd (no_way p way (ap way_at e) f)
+  on_way {c = c} {from = from} {to = to} {bytes = bytes} (CopyingOnWay a e k) way f =
       subst (λ (w : Way). OnWay w c from to bytes v) (one_way p a way e f) k
   on_way (AllCopied e z k) way f = absurd (no_way p way (ap way_at e) f)
 
-  pub routinely : {c : Changes} {from : From} {to : To} {bytes : ℕ} → CopyingAt p c from to bytes v → p ≡ COPY → Copying c from to bytes v
-  routinely (Routinely e k) f = k
-  routinely (OnItsWay a e k) f = absurd (no_way p a (ap way_at f) e)
-  routinely (AllCopied e z k) f = absurd (omega arith)
+  pub copying_by_routines : {c : Changes} {from : From} {to : To} {bytes : ℕ} → CopyingAt p c from to bytes v → p ≡ COPY → Copying c from to bytes v
+  copying_by_routines (CopyingByRoutines e k) f = k
+  copying_by_routines (CopyingOnWay a e k) f = absurd (no_way p a (ap way_at f) e)
+  copying_by_routines (AllCopied e z k) f = absurd (omega arith)
 
   pub all_copied : {c : Changes} {from : From} {to : To} {bytes : ℕ} → CopyingAt p c from to bytes v → p ≡ COPYE → (bytes ≡ 0) × Copied c v
-  all_copied (Routinely e k) f = absurd (omega arith)
-  all_copied (OnItsWay a e k) f = absurd (no_way p a (ap way_at f) e)
+  all_copied (CopyingByRoutines e k) f = absurd (omega arith)
+  all_copied (CopyingOnWay a e k) f = absurd (no_way p a (ap way_at f) e)
   all_copied (AllCopied e z k) f = (z, k)
 
 -- ---- how many bytes are left

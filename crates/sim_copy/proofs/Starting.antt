@@ -11,10 +11,10 @@ use Rattle.sim_copy.proofs.Counting.{all_made, source_is, target_is}
 use Rattle.sim_copy.proofs.Marks.{cells_mark, video_mark}
 use Rattle.sim_copy.proofs.Places.{each, one_at_most}
 use Rattle.sim_copy.proofs.Routines.{source_in, target_in}
-use Rattle.sim_copy.specs.Bytes.{AllCopied, AtByte, AtEnd, AtHead, charged, CopiesAt, CopyingAt, from_on, GoesBack, in_memory, MayGo, OnItsWay}
-use Rattle.sim_copy.specs.Bytes.{Points, Routinely, seen, seen_on, to_memory, to_on}
-use Rattle.sim_copy.specs.Pieces.{by_routines, CellsToCells, CellsToVideo, first_cell, from_cells, GromToCells, GromToVideo, head_of, is_marked}
-use Rattle.sim_copy.specs.Pieces.{pointed_at, set_source, start_copy, target_set, video_at, VideoToCells, Way}
+use Rattle.sim_copy.specs.Bytes.{AllCopied, AtByte, AtEnd, AtHead, charged, CopiesAt, CopyingAt, CopyingByRoutines, CopyingOnWay, from_on, GoesBack}
+use Rattle.sim_copy.specs.Bytes.{in_memory, MayGo, Points, seen, seen_on, to_memory, to_on}
+use Rattle.sim_copy.specs.Pieces.{by_routines, CellsToCells, CellsToVideo, first_cell, from_cells, GromToCells, GromToVideo, head_of, is_marked, pointed_at}
+use Rattle.sim_copy.specs.Pieces.{set_source, start_copy, target_set, video_at, VideoToCells, Way}
 use Rattle.sim_rows.specs.sim_operands.Pieces.{one_if}
 use Rattle.sim_rows.specs.native_interp.declared.addresses.TheConstants.{COPYCC, COPYCV, COPYE, COPYGC, COPYGV, COPYVC}
 
@@ -73,7 +73,7 @@ head_charged : (way : Way) → charged (head_of way) ≡ 11
 head_charged = each (λ way. charged (head_of way) ≡ 11) refl refl refl refl refl
 
 module _ (v : View) (i : IsView v) (held : v.vdp.held ≡ None) (fetched : IsFetched v.grom) (some : 0 < v.r.r12) where
-  -- what a beginning keeps: all but the pointers, registers 4 and 13, and the address of the video processor with the byte there
+  -- what a beginning keeps: all but the pointers, registers 4 and 13, and the video processor's address with its byte
   abbrev Same : View → Type 0
   Same w =
       w ≡ record v {
@@ -107,7 +107,7 @@ module _ (v : View) (i : IsView v) (held : v.vdp.held ≡ None) (fetched : IsFet
         let P : From → To → Type 0 = λ from to. Copying c from to bytes v → CopyingAt (head_of way) c from to bytes w in
         (subst (λ (from : From). P from to) f (subst (λ (to : To). P (from_on way source) to) o
         (λ k. let s = is c bytes k in
-        OnItsWay way refl (record { base = w; source = source; target = v.r.r7; from_is = refl; to_is = refl; back = s.0; is = s.1 })))) k;
+        CopyingOnWay way refl (record { base = w; source = source; target = v.r.r7; from_is = refl; to_is = refl; back = s.0; is = s.1 })))) k;
   }
 
   -- where the video processor is set to an address
@@ -238,15 +238,15 @@ module _ (v : View) (i : IsView v) (held : v.vdp.held ≡ None) (fetched : IsFet
   to_again (ToMemory place) f = record { address = f.address; space = f.space }
   to_again (ToRegisters number) f = record { number_is = f.number_is; space = f.space }
 
-  routinely : (count : ℕ) → count ≤ 7 → 0 < v.r.r8 → (v.r.r5 ≡ 0 → v.r.r2 + v.r.r12 ≤ 0xC2) → (1 < v.r.r8 → v.r.r7 + v.r.r12 ≤ 8) →
+  starts_by_routines : (count : ℕ) → count ≤ 7 → 0 < v.r.r8 → (v.r.r5 ≡ 0 → v.r.r2 + v.r.r12 ≤ 0xC2) → (1 < v.r.r8 → v.r.r7 + v.r.r12 ≤ 8) →
       Starts v (exit count COPY (by_routines v))
-  routinely count few beyond source registers = record {
+  starts_by_routines count few beyond source registers = record {
     few = few;
     place = AtByte refl (record { bytes_are = refl; some = some; source = source; beyond = beyond; registers = registers; fetched = fetched });
     held = held;
     grom = refl;
     left = refl;
-    copying = λ c from to bytes k. Routinely refl (record {
+    copying = λ c from to bytes k. CopyingByRoutines refl (record {
       cells = k.cells;
       vdp = k.vdp;
       registers = k.registers;
@@ -288,7 +288,7 @@ starts v i held fetched source target registers =
     (λ d. let video : v.r.r8 ≡ 1 = eqb-true v.r.r8 1 d in
     pick (v.r.r5 == 1)
     (λ e. started v (exit 7 COPY (by_routines v)) (rw (c, d, e, start_copy) refl)
-    (routinely v i held fetched some 7 (omega arith) (omega arith) source registers))
+    (starts_by_routines v i held fetched some 7 (omega arith) (omega arith) source registers))
     (λ e. pick (v.r.r5 == 0)
     (λ f. let z : v.r.r5 ≡ 0 = eqb-true v.r.r5 0 f in
     started v (exit 15 COPYCV (from_cells (target_set v))) (rw (c, d, e, f, start_copy) refl) (cells_to_video v i held fetched some video z (source z)))
@@ -297,7 +297,7 @@ starts v i held fetched source target registers =
     (λ d. pick (nat_lt 1 v.r.r8)
     (λ e. let above : 1 < v.r.r8 = ltb-true 1 v.r.r8 e in
     started v (exit 6 COPY (by_routines v)) (rw (c, d, e, start_copy) refl)
-    (routinely v i held fetched some 6 (omega arith) (omega arith) source registers))
+    (starts_by_routines v i held fetched some 6 (omega arith) (omega arith) source registers))
     (λ e. let cells : v.r.r8 ≡ 0 = no_other v.r.r8 d e in
     let marking : ℕ = one_if (is_marked v) in
     pick (v.r.r5 == 1)

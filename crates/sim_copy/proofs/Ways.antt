@@ -1,14 +1,13 @@
 -- A byte on a way.
-use Rattle.std.proofs.Common.{ℕ, ◌%◌, ◌+◌, ◌-◌, ◌<◌, ◌==◌, ◌∙◌, ◌≡◌, ap, arith, Bool, false, if◌then◌else◌, None, refl, slice_index, subst}
-use Rattle.std.proofs.Common.{suc, sym}
+use Rattle.std.proofs.Common.{ℕ, ◌%◌, ◌+◌, ◌-◌, ◌<◌, ◌==◌, ◌∙◌, ◌≡◌, ap, arith, Bool, false, if◌then◌else◌, None, refl, slice_index, subst, suc, sym}
 use Rattle.std.proofs.lemmas.Bool.{eqb-false, eqb-true}
 use Rattle.std.proofs.Math.Nat.{pos_of_ne-zero}
 use Rattle.sim_rows.proofs.Common.{byte_from, Changed, Changes, comes, copied, difference_of, Exits, From, idle_grom, idle_told, idle_video, is_view}
 use Rattle.sim_rows.proofs.Common.{MachineState, marked_by, next_from, next_in_grom, next_in_vdp, next_to, pick, plus, sum_of, To, View, view, with_byte_to}
 use Rattle.sim_rows.proofs.Common.{with_pc, Word}
 use Rattle.sim_copy.proofs.Places.{at_pc, each, few_charged, may_go, on_way, one_at_most, some_left}
-use Rattle.sim_copy.specs.Bytes.{AllCopied, AtCopy, AtEnd, AtHead, Copied, CopiesAt, CopiesByte, CopyingAt, from_on, FromCells, GoesBack, MayGo}
-use Rattle.sim_copy.specs.Bytes.{OnItsWay, OnWay, OutOfGrom, Points, seen, seen_on, to_on}
+use Rattle.sim_copy.specs.Bytes.{AllCopied, AtCopy, AtEnd, AtHead, Copied, CopiesAt, CopiesByte, CopyingAt, CopyingOnWay, from_on, FromPlace, GoesBack, MayGo}
+use Rattle.sim_copy.specs.Bytes.{OnWay, OutOfGrom, Points, seen, seen_on, to_on}
 use Rattle.sim_copy.specs.Pieces.{CellsToCells, CellsToVideo, copy_on, first_cell, GromToCells, GromToVideo, head_of, VideoToCells, Way}
 use Rattle.sim_rows.specs.native_interp.declared.addresses.TheConstants.{COPYE}
 
@@ -118,13 +117,13 @@ seen_changed v c bytes source target address byte next =
 copied_on : (way : Way) (v : View) (c : Changes) (source target : ℕ) → GoesBack c (from_on way source) v →
     Copied c (seen_on way v c 0 (marked_by c.shows 0) source target)
 copied_on CellsToCells v c source target g =
-    FromCells g (seen_changed v c 0 (first_cell + source) (first_cell + target) v.vdp.address v.vdp.fetched c.state.pc)
+    FromPlace g (seen_changed v c 0 (first_cell + source) (first_cell + target) v.vdp.address v.vdp.fetched c.state.pc)
 copied_on VideoToCells v c source target g =
-    let at = source % 16384 in FromCells g (seen_changed v c 0 v.r.r2 (first_cell + target) (next_in_vdp at) (slice_index c.state.vdp at) c.state.pc)
+    let at = source % 16384 in FromPlace g (seen_changed v c 0 v.r.r2 (first_cell + target) (next_in_vdp at) (slice_index c.state.vdp at) c.state.pc)
 copied_on GromToCells v c source target g =
     OutOfGrom g.0 g.1 source (seen_changed v c 0 v.r.r2 (first_cell + target) v.vdp.address v.vdp.fetched source)
 copied_on CellsToVideo v c source target g =
-    FromCells g (seen_changed v c 0 (first_cell + source) v.r.r7 (target % 16384) v.vdp.fetched c.state.pc)
+    FromPlace g (seen_changed v c 0 (first_cell + source) v.r.r7 (target % 16384) v.vdp.fetched c.state.pc)
 copied_on GromToVideo v c source target g = OutOfGrom g.0 g.1 source (seen_changed v c 0 v.r.r2 v.r.r7 (target % 16384) v.vdp.fetched source)
 
 bytes_on : (way : Way) (v : View) (c : Changes) (bytes mark source target : ℕ) → (seen_on way v c bytes mark source target).r.r12 ≡ bytes
@@ -168,7 +167,7 @@ module _ {x : MachineState} (h : AtCopy x) (way : Way) (here : x.cpu.pc ≡ head
         (λ z. let none : bytes ≡ 0 = eqb-true bytes 0 z in
         AllCopied (pc ∙ ap to z) none (subst (λ (w : View). Copied after w) (sym seen_after)
         (ended bytes none c source target base back)))
-        (λ z. OnItsWay way (pc ∙ ap to z) (record {
+        (λ z. CopyingOnWay way (pc ∙ ap to z) (record {
           base = base_on way base c source;
           source = next_on way source;
           target = plus target 1;
@@ -203,7 +202,8 @@ module _ {x : MachineState} (h : AtCopy x) (way : Way) (here : x.cpu.pc ≡ head
     copies = record {
       at = record {
         stands = at_pc y (copy_on way v).to e.stands;
-        place = subst (λ (p : ℕ). CopiesAt p (view y)) (sym e.stands.pc) (subst (λ (w : View). CopiesAt (copy_on way v).to w) (sym e.shows) (place_on way v may));
+        place = subst (λ (p : ℕ). CopiesAt p (view y)) (sym e.stands.pc)
+            (subst (λ (w : View). CopiesAt (copy_on way v).to w) (sym e.shows) (place_on way v may));
         idle = idle_told y.cpu.memory (ap (λ (w : View). w.vdp.held) e.shows ∙ held_on way v (idle_video x.cpu.memory h.idle))
             (ap (λ (w : View). w.grom.half_written) e.shows ∙ idle_on way v (idle_grom x.cpu.memory h.idle));
       };

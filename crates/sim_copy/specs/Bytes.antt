@@ -73,7 +73,13 @@ seen v c bytes mark source target address byte next =
     record v {
       r = record v.r { r2 = source; r7 = target; r12 = bytes; r13 = mark };
       cells = c.state.cells;
-      vdp = record { memory = c.state.vdp; registers = c.state.registers; address = address; fetched = byte; held = None };
+      vdp = record {
+        memory = c.state.vdp;
+        registers = c.state.registers;
+        address = address;
+        fetched = byte;
+        held = None;
+      };
       grom = grom_at c.state.image next;
     }
 
@@ -105,15 +111,15 @@ pub record OnWay (way : Way) (c : Changes) (from : From) (to : To) (bytes : ℕ)
   pub back : GoesBack c from base
   pub is : v ≡ seen_on way base c bytes (marked_by (copied bytes from to c).shows 0) source target
 
--- All bytes are copied.
+-- All bytes are copied, from a place in memory or out of GROM.
 pub data Copied (c : Changes) (v : View) : Type 0 where
-  FromCells : v.r.r5 < 2 → Changed c v → Copied c v
+  FromPlace : v.r.r5 < 2 → Changed c v → Copied c v
   OutOfGrom : v.r.r5 ≡ 2 → v.r.r14 ≡ c.state.pc → (next : ℕ) → Changed (with_pc next c) v → Copied c v
 
 -- A copy stands at a place.
 pub data CopyingAt (place : ℕ) (c : Changes) (from : From) (to : To) (bytes : ℕ) (v : View) : Type 0 where
-  Routinely : place ≡ COPY → Copying c from to bytes v → CopyingAt place c from to bytes v
-  OnItsWay : (way : Way) → place ≡ head_of way → OnWay way c from to bytes v → CopyingAt place c from to bytes v
+  CopyingByRoutines : place ≡ COPY → Copying c from to bytes v → CopyingAt place c from to bytes v
+  CopyingOnWay : (way : Way) → place ≡ head_of way → OnWay way c from to bytes v → CopyingAt place c from to bytes v
   AllCopied : place ≡ COPYE → bytes ≡ 0 → Copied c v → CopyingAt place c from to bytes v
 
 -- How many instructions of the beginning the first byte of a way is charged with.

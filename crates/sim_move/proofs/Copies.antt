@@ -8,8 +8,8 @@ use Rattle.sim_rows.proofs.Common.{operation_in, operation_seen, origin_of, Plac
 use Rattle.sim_rows.proofs.Common.{StoppedBy, target_of, To, ToMemory, ToRegisters, View, view, within_limit, word_at}
 use Rattle.sim_copy.specs.Copying.{StandsTo}
 use Rattle.sim_move.specs.Family.{is_move}
-use Rattle.sim_move.specs.Moves.{Arrives, AsksAddress, AsksTarget, AtCopy, copy_in, FindsCopy, FindsLength, FindsTarget, IndexesSource, length_read, LengthTold, source_entry}
-use Rattle.sim_move.specs.Moves.{source_read, SourceTold, target_in, target_read, TargetTold, TurnsToSource}
+use Rattle.sim_move.specs.Moves.{Arrives, AsksAddress, AsksTarget, AtCopy, copy_in, FindsCopy, FindsLength, FindsTarget, IndexesSource, length_read, LengthTold}
+use Rattle.sim_move.specs.Moves.{source_entry, source_read, SourceTold, target_in, target_read, TargetTold, TurnsToSource}
 use Rattle.sim_move.proofs.Codes.{has_index, told}
 use Rattle.sim_move.proofs.Arriving.{both, Found, found, missing}
 use Rattle.sim_move.proofs.Numbers.{within_is}
@@ -288,7 +288,8 @@ module _ (s : GplState) {x a : MachineState} {t t1 : ℕ} (fits : code_byte s < 
               by = λ kind known.
                   let m = missing 39 s b c t2 t3 MOVEX (SourceTold (view b) s.image (index kind).1) (indexed s (index kind).0 (address kind).0)
                   (λ e. absurd (omega arith)) there (indexed_at kind known) in
-                  let P : Result ℕ Reason → Type 0 = λ q. Arrives most_to_copy s x c t t3 MOVEB (AtCopy kind s) (q >>= from_address (second kind known).found) in
+                  let P : Result ℕ Reason → Type 0 =
+                  λ q. Arrives most_to_copy s x c t t3 MOVEB (AtCopy kind s) (q >>= from_address (second kind known).found) in
                   whole kind known c t3 (subst P (sym m.is) (comes_as 187 _ (comes_on 127 39 (to_source kind known) m.comes refl) (omega arith) (λ w q. q)));
             }
 

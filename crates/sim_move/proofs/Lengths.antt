@@ -165,7 +165,10 @@ module _ (s : GplState) {x : MachineState} {t : ℕ} (d : Dispatched s (view x))
 
       pub found_direct : {q : MachineState} {k : ℕ} → LoadsFollowing a q t1 k → FindsLength s x q t k
       found_direct {q = q} {k = k} l =
-          record { by = subst (FindsBy s x q t k) (sym direct.is_odd) (comes_as 70 _ (comes_on 6 18 direct.comes (l s direct.comes.holds) refl) (omega arith) (λ w b. b)) }
+          record {
+            by = subst (FindsBy s x q t k) (sym direct.is_odd)
+                (comes_as 70 _ (comes_on 6 18 direct.comes (l s direct.comes.holds) refl) (omega arith) (λ w b. b));
+          }
 
     -- it is at an operand
     record Asked : Type 0 where

@@ -24,7 +24,8 @@ below_or_equal limit number false c = by (nat_lt limit number) refl
 pub odd_bit : (code : ℕ) → last_out SRL code 1 ≡ (code % 2 == 1)
 odd_bit code = let n : (65536 * 0 + code) / 1 % 2 ≡ code % 2 = omega arith in ap (λ (k : ℕ). eqb k 1) n
 
--- the form of a place in video memory, as INDEX takes it from an operand's first byte, with an index where a code byte says so
+-- the form of a place in video memory, as INDEX takes it from an operand's first byte; an index is there where a code
+-- byte says so
 abbrev pub form_by : ℕ → ℕ
 form_by code = 32 + 64 * (code / 2 % 2)
 

@@ -9,7 +9,8 @@ use Rattle.sim_rows.proofs.Common.{MemoryToMemory, most_of_address, Move, MOVEB,
 use Rattle.sim_rows.proofs.Common.{number_of, operand_at, operation_in, past, Place, place_of, Placed, Reason, Register, return_of, Stands, state_of, StoppedBy}
 use Rattle.sim_rows.proofs.Common.{sum_of, target_of, To, ToMemory, ToRegisters, View, view, Word}
 use Rattle.sim_rows.specs.gpl_defs.declared.instruction.MoveTarget.TheVariants as target
-use Rattle.sim_move.specs.Moves.{Arrives, AsksAddress, AsksTarget, FindsTarget, length_read, LengthTold, ReturnsToCopy, source_entry, target_in, target_read, TargetTold}
+use Rattle.sim_move.specs.Moves.{Arrives, AsksAddress, AsksTarget, FindsTarget, length_read, LengthTold, ReturnsToCopy, source_entry, target_in, target_read}
+use Rattle.sim_move.specs.Moves.{TargetTold}
 use Rattle.sim_move.proofs.Codes.{is_low, to_memory, told}
 use Rattle.sim_move.proofs.Ways.{first_way, second_way}
 use Rattle.sim_move.specs.Pieces as pieces
@@ -170,9 +171,11 @@ module _ {x a : MachineState} {t t1 : ℕ} (stands : Stands x MOVEL) (e : Exits 
             by s kind count h (sym k.memory ∙ ap (λ n. nat_lt n 0x38) (sym h.holds.code) ∙ to_them.0);
       }
         where
-          by : (s : GplState) (kind : MoveKind) (count : ℕ) → LengthTold s (length_read s).1 count (view x) → to_memory kind ≡ false → Arrives 57 s x y t t2 (source_entry kind) (TargetTold s kind (target_read kind s).1)
+          by : (s : GplState) (kind : MoveKind) (count : ℕ) → LengthTold s (length_read s).1 count (view x) → to_memory kind ≡ false →
+              Arrives 57 s x y t t2 (source_entry kind) (TargetTold s kind (target_read kind s).1)
               (target_in s count (target_read kind s).0)
-          by s GromToRegisters count h none = within s GromToRegisters y t2 count h.count_is (by_sum s count h (nat_lt 8 (sum_of Word kept.grom.fetched kept.r.r6)) refl)
+          by s GromToRegisters count h none =
+              within s GromToRegisters y t2 count h.count_is (by_sum s count h (nat_lt 8 (sum_of Word kept.grom.fetched kept.r.r6)) refl)
           by s _ count h none = absurd (cc)
 
     -- a place in memory
