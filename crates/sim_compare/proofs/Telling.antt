@@ -1,10 +1,10 @@
 -- What a comparison tells, and how it ends.
 use Rattle.std.proofs.Common.{ℕ, ◌+◌, ◌<◌, ◌==◌, ◌∙◌, ◌≡◌, ◌≤◌, ap, arith, bit_and, Bool, false, int_lt, List, nat_lt, not, Ok, Option, refl, slice_index}
 use Rattle.std.proofs.Common.{slice_set, Some, subst, sym, true}
-use Rattle.sim_rows.proofs.Common.{Byte, bytes_by, CEQ, CGE, CGT, CH, CHE, CLOG, Comes, comes, comes_then, CTRUE, CZ, Exits, Goes, gone_on, GplOperation}
-use Rattle.sim_rows.proofs.Common.{GplState, GSTEP, in_register, is_end, IsView, loaded_of, MachineState, modulus, next_of, One, ones_cleared, ones_set}
-use Rattle.sim_rows.proofs.Common.{operation_in, Place, reads_destination, row_result, row_width, RunsRow, Sees, SeesFinished, SeesResult, signed, Source, ST}
-use Rattle.sim_rows.proofs.Common.{Stands, Two, unchanged, value_at, View, view, Width, width_in, with_condition, Word}
+use Rattle.sim_rows.proofs.Common.{Byte, bytes_by, CEQ, CGE, CGT, CH, CHE, CLOG, Comes, comes, comes_then, CTRUE, CZ, Exits, Goes, goes_in, gone_on}
+use Rattle.sim_rows.proofs.Common.{GplOperation, GplState, GSTEP, in_register, is_end, IsView, loaded_of, MachineState, modulus, next_of, One, ones_cleared}
+use Rattle.sim_rows.proofs.Common.{ones_set, operation_in, Place, reads_destination, row_result, row_width, RunsRow, Sees, SeesFinished, SeesResult, signed}
+use Rattle.sim_rows.proofs.Common.{Source, ST, Stands, Two, unchanged, value_at, View, view, Width, width_in, with_condition, Word}
 use Rattle.sim_compare.specs.Pieces.{end_of, told}
 use Rattle.sim_compare.specs.Family.{compared, comparison, ending, is_comparison, IsTold}
 use Rattle.sim_compare.proofs.Numbers.{at_most, at_most_signed, below_in_register, equal_in_register, number_fits, ones_in_register, order_in_register}
@@ -36,16 +36,10 @@ status_set f cells = slice_set cells 0x7C (f (slice_index cells 0x7C))
 
 ends_with : (s : GplState) (next : ℕ) (b : Bool) (w : View) → Sees s next w → Goes (ending b w) 3 GSTEP
     (SeesFinished (with_condition b (unchanged (record s { pc = next }))))
-ends_with s next true w h = record {
-  within = omega arith;
-  to_is = refl;
-  holds = record { cells = ap (status_set (λ n. ones_set n 0x20)) h.cells; vdp = h.vdp; registers = h.registers; held = h.held; grom = h.grom };
-}
-ends_with s next false w h = record {
-  within = omega arith;
-  to_is = refl;
-  holds = record { cells = ap (status_set (λ n. ones_cleared Byte n 0x20)) h.cells; vdp = h.vdp; registers = h.registers; held = h.held; grom = h.grom };
-}
+ends_with s next true w h = goes_in (omega arith)
+    (record { cells = ap (status_set (λ n. ones_set n 0x20)) h.cells; vdp = h.vdp; registers = h.registers; held = h.held; grom = h.grom })
+ends_with s next false w h = goes_in (omega arith)
+    (record { cells = ap (status_set (λ n. ones_cleared Byte n 0x20)) h.cells; vdp = h.vdp; registers = h.registers; held = h.held; grom = h.grom })
 
 -- From what is told to the end of the step.
 pub tells : (most : ℕ) (s : GplState) (next : ℕ) (b : Bool) {x a y : MachineState} {t u v : ℕ} → Comes most x a t u (end_of b) (Sees s next) →

@@ -1,10 +1,10 @@
 -- BR and BS from their dispatch to the end of the step.
 use Rattle.std.proofs.Common.{ℕ, ◌%◌, ◌<◌, ◌∙◌, ◌≡◌, ◌≤◌, ap, arith, Bool, false, if◌then◌else◌, List, Ok, refl, slice_index, slice_set, Some, subst, true}
 use Rattle.sim_rows.proofs.Common.{behind_code, bound, bound_made, BRANCH, Branch, branched, BTEST, Byte, CFALSE, Changes, code_byte, Comes, comes, comes_on}
-use Rattle.sim_rows.proofs.Common.{comes_then, condition, Dispatched, Exits, finished, Goes, GplState, GromState, GSTEP, in_grom_of, is_end, is_set, is_taken}
-use Rattle.sim_rows.proofs.Common.{is_view, IsView, join, last_out, low, MachineState, matches, most_to_dispatch, next_in_grom, ones_cleared, operation_in}
-use Rattle.sim_rows.proofs.Common.{past, reaches, Sees, SeesFinished, shifted, SLA, SRL, Stands, step_branch, Stepped, TAKE, Turned, turned_by, unchanged, View}
-use Rattle.sim_rows.proofs.Common.{view, with_condition}
+use Rattle.sim_rows.proofs.Common.{comes_then, condition, Dispatched, Exits, finished, Goes, goes_in, GplState, GromState, GSTEP, in_grom_of, is_end, is_set}
+use Rattle.sim_rows.proofs.Common.{is_taken, is_view, IsView, join, last_out, low, MachineState, matches, most_to_dispatch, next_in_grom, ones_cleared}
+use Rattle.sim_rows.proofs.Common.{operation_in, past, reaches, Sees, SeesFinished, shifted, SLA, SRL, Stands, step_branch, Stepped, TAKE, Turned, turned_by}
+use Rattle.sim_rows.proofs.Common.{unchanged, View, view, with_condition}
 use Rattle.sim_jumps.specs.Jumps.{TakesBranch}
 use Rattle.sim_compare.specs.Pieces as compare
 use Rattle.sim_flow.proofs.Numbers.{condition_out, on_is, target_is}
@@ -107,11 +107,7 @@ abbrev status_cleared : List ℕ → List ℕ
 status_cleared cells = slice_set cells 0x7C (ones_cleared Byte (slice_index cells 0x7C) 0x20)
 
 passes : (s : GplState) (w : View) → Sees s (behind s) w → Goes (compare.clear_condition w) 3 GSTEP (SeesFinished (changed_by s false))
-passes s w h = record {
-  within = omega arith;
-  to_is = refl;
-  holds = record { cells = ap status_cleared h.cells; vdp = h.vdp; registers = h.registers; held = h.held; grom = h.grom };
-}
+passes s w h = goes_in (omega arith) (record { cells = ap status_cleared h.cells; vdp = h.vdp; registers = h.registers; held = h.held; grom = h.grom })
 
 module _ {s : GplState} {x a b : MachineState} {t t1 t2 : ℕ} (on : Bool) (is : operation_in s ≡ Some (Branch on))
     (stands : Stands x BRANCH) (d : Dispatched s (view x))

@@ -1,7 +1,7 @@
 -- EXIT and B.
 use Rattle.std.proofs.Common.{ℕ, ◌≡◌, ap, arith, Err, Ok, refl, Some}
 use Rattle.sim_rows.proofs.Common.{B, behind_code, bound, bound_made, bound_stop, comes, comes_on, Dispatched, Ended, EXIT, exit, Exit as Ending, Exits, from}
-use Rattle.sim_rows.proofs.Common.{GEXIT, GOB, Goes, GOEXIT, GOTO, GplState, grom_at, GromState, is_end, Jump, known, leaves, MachineState, matches}
+use Rattle.sim_rows.proofs.Common.{GEXIT, GOB, Goes, goes_in, GOEXIT, GOTO, GplState, grom_at, GromState, is_end, Jump, known, leaves, MachineState, matches}
 use Rattle.sim_rows.proofs.Common.{most_to_dispatch, operation_in, Plain, reaches, Sees, Stands, step_jump, step_plain, Stepped, Stopped, Turned, turned_by}
 use Rattle.sim_rows.proofs.Common.{View, view, word_at}
 use Rattle.sim_rows.specs.gpl_step_defs.declared.reason.Reason.TheVariants.{Exit}
@@ -14,11 +14,8 @@ pub exits : {s : GplState} {x y : MachineState} {t u : ℕ} → Dispatched s (vi
 exits {s = s} {x = x} {y = y} {t = t} {u = u} d e stands run =
     let is = step_plain s EXIT e in
     let h = d.sees in
-    let ended : Goes (pieces.leave (view x)) 1 GEXIT (Ended s) = record {
-      within = omega arith;
-      to_is = refl;
-      holds = record { cells = h.cells; vdp = h.vdp; registers = h.registers; address = d.address };
-    } in
+    let ended : Goes (pieces.leave (view x)) 1 GEXIT (Ended s) = goes_in (omega arith)
+    (record { cells = h.cells; vdp = h.vdp; registers = h.registers; address = d.address }) in
     let c = comes run ended in
     let b = bound_stop s Exit is in
     turned_by x y t u 29 (Stopped Exit) s (Err Exit) is

@@ -1,8 +1,8 @@
 -- Jumps, from where their address is known.
 use Rattle.std.proofs.Common.{ℕ, ◌<◌, ◌∙◌, ◌≡◌, ap, arith, false, List, refl, slice_index, slice_set}
-use Rattle.sim_rows.proofs.Common.{Byte, Changed, comes, comes_on, EndsRow, Exits, Goes, GOTO, GplState, grom_at, GromState, idle_grom, idle_told, idle_video}
-use Rattle.sim_rows.proofs.Common.{is_view, MachineState, ones_cleared, PortsAreIdle, RESUME, Sees, set_is, set_to, SHOW, Stands, unchanged, View, view}
-use Rattle.sim_rows.proofs.Common.{with_condition}
+use Rattle.sim_rows.proofs.Common.{Byte, Changed, comes, comes_on, EndsRow, Exits, Goes, goes_in, GOTO, GplState, grom_at, GromState, idle_grom, idle_told}
+use Rattle.sim_rows.proofs.Common.{idle_video, is_view, MachineState, ones_cleared, PortsAreIdle, RESUME, Sees, set_is, set_to, SHOW, Stands, unchanged, View}
+use Rattle.sim_rows.proofs.Common.{view, with_condition}
 use Rattle.sim_jumps.specs.Jumps.{GoesOn, ResumesRow, TakesBranch}
 use Rattle.sim_jumps.specs.Pieces as pieces
 
@@ -41,14 +41,8 @@ status_cleared cells = slice_set cells 0x7C (ones_cleared Byte (slice_index cell
 pub takes : {x a y : MachineState} {t t1 t2 : ℕ} → Exits x a t t1 (pieces.take_branch (view x)) → GoesOn a y t1 t2 → TakesBranch x y t t2
 takes {x = x} e goes s next h to =
     let after : GplState = (with_condition false (unchanged s)).state in
-    let taken : Goes (pieces.take_branch (view x)) 3 GOTO (Taken after next) = record {
-      within = omega arith;
-      to_is = refl;
-      holds = record {
-        sees = record { cells = ap status_cleared h.cells; vdp = h.vdp; registers = h.registers; held = h.held; grom = h.grom };
-        to = to;
-      };
-    } in
+    let taken : Goes (pieces.take_branch (view x)) 3 GOTO (Taken after next) = goes_in (omega arith)
+    (record { sees = record { cells = ap status_cleared h.cells; vdp = h.vdp; registers = h.registers; held = h.held; grom = h.grom }; to = to }) in
     let c = comes e taken in
     comes_on 3 6 c (goes after next c.holds.sees c.holds.to) refl
 

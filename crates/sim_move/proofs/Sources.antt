@@ -2,8 +2,8 @@
 use Rattle.std.proofs.Common.{ℕ, ◌%◌, ◌/◌, ◌<◌, ◌==◌, ◌∙◌, ◌≡◌, ap, arith, Bool, eqb, Err, false, List, Ok, Option, refl, Result, subst, sym, true}
 use Rattle.std.proofs.lemmas.Bool.{eq-eqb, eqb-true}
 use Rattle.sim_rows.proofs.Common.{Addressed, Answers, ASPACE, Barred, barred_stops, Cell, code_byte, Comes, comes, comes_as, comes_then, Exit, exit, Exits}
-use Rattle.sim_rows.proofs.Common.{from, Goes, GplState, grom_at, GromState, GSTOP, Holds, INDEX, index_by, index_read, indexed, IndexRead, is_view, just}
-use Rattle.sim_rows.proofs.Common.{known, located_at, lost, MachineState, MOVEA, MOVEK, MOVEX, Place, Placed, range_read, ranged, RangeRead, Reason, SEEK}
+use Rattle.sim_rows.proofs.Common.{from, Goes, goes_in, GplState, grom_at, GromState, GSTOP, Holds, INDEX, index_by, index_read, indexed, IndexRead, is_view}
+use Rattle.sim_rows.proofs.Common.{just, known, located_at, lost, MachineState, MOVEA, MOVEK, MOVEX, Place, Placed, range_read, ranged, RangeRead, Reason, SEEK}
 use Rattle.sim_rows.proofs.Common.{set_is, space_of, Stands, state_of, StoppedBy, STREAM, Vdp, View, view, WHERE, where_found, word_at}
 use Rattle.sim_move.specs.Moves.{Arrives, SourceTold, TurnsToSource}
 use Rattle.sim_move.proofs.Numbers.{form_by, form_fits, form_index, form_is, form_space}
@@ -168,8 +168,4 @@ turns x a b c d y t t1 t2 t3 t4 t5 stands e1 e2 e3 e4 e5 image at fits grom =
     let c2 = comes_then 1 12 c1 e2 (from rows.where_next c1.holds (where_found asked image at grom fits)) refl in
     let c3 = comes_then 13 3 c2 e3 (from pieces.seek_source c2.holds (just (pieces.seek_source located) 3 SEEK (omega arith) refl)) refl in
     let c4 = comes_then 16 3 c3 e4 (from operands.seek c3.holds (known seek_is (just (exit 3 MOVEK sought) 3 MOVEK (omega arith) refl))) refl in
-    comes_then 19 2 c4 e5 (from pieces.turn_to_grom c4.holds (record {
-      within = omega arith;
-      to_is = refl;
-      holds = record { r4 = located.r.r4; r6 = v.r.r2; r11 = MOVEK; is = refl };
-    })) refl
+    comes_then 19 2 c4 e5 (from pieces.turn_to_grom c4.holds (goes_in (omega arith) (record { r4 = located.r.r4; r6 = v.r.r2; r11 = MOVEK; is = refl }))) refl

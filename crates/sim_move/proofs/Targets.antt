@@ -3,11 +3,11 @@ use Rattle.std.proofs.Common.{ℕ, ◌+◌, ◌<◌, ◌∙◌, ◌≡◌, ◌�
 use Rattle.std.proofs.Common.{subst, sym, true}
 use Rattle.std.proofs.lemmas.Bool.{le-leb, lt-leb, ltb-false, ltb-true}
 use Rattle.sim_rows.proofs.Common.{◌>>=◌, ADDR, Asking, barred, code_byte, Comes, comes, comes_as, comes_on, comes_then, even, Exit, exit, Exits, fetched_again}
-use Rattle.sim_rows.proofs.Common.{Finds, finds_of, FindsOperand, from_placed, GplOperand, GplState, grom_at, GromIndexedToMemory, GromState, GromToMemory}
-use Rattle.sim_rows.proofs.Common.{GromToRegisters, GSTOP, Holds, holds_addressed, holds_again, idle_again, is_view, Length, LoadsFrom, MachineState}
-use Rattle.sim_rows.proofs.Common.{MemoryToMemory, most_of_address, Move, MOVEB, MOVED, MoveKind, MOVEL, MOVER, MOVES, MoveTarget, next_at, next_in_grom}
-use Rattle.sim_rows.proofs.Common.{number_of, operand_at, operation_in, past, Place, place_of, Placed, Reason, Register, return_of, Stands, state_of, StoppedBy}
-use Rattle.sim_rows.proofs.Common.{sum_of, target_of, To, ToMemory, ToRegisters, View, view, Word}
+use Rattle.sim_rows.proofs.Common.{Finds, finds_of, FindsOperand, from_placed, goes_in, GplOperand, GplState, grom_at, GromIndexedToMemory, GromState}
+use Rattle.sim_rows.proofs.Common.{GromToMemory, GromToRegisters, GSTOP, Holds, holds_addressed, holds_again, idle_again, is_view, Length, LoadsFrom}
+use Rattle.sim_rows.proofs.Common.{MachineState, MemoryToMemory, most_of_address, Move, MOVEB, MOVED, MoveKind, MOVEL, MOVER, MOVES, MoveTarget, next_at}
+use Rattle.sim_rows.proofs.Common.{next_in_grom, number_of, operand_at, operation_in, past, Place, place_of, Placed, Reason, Register, return_of, Stands}
+use Rattle.sim_rows.proofs.Common.{state_of, StoppedBy, sum_of, target_of, To, ToMemory, ToRegisters, View, view, Word}
 use Rattle.sim_rows.specs.gpl_defs.declared.instruction.MoveTarget.TheVariants as target
 use Rattle.sim_move.specs.Moves.{Arrives, AsksAddress, AsksTarget, FindsTarget, length_read, LengthTold, ReturnsToCopy, source_entry, target_in, target_read}
 use Rattle.sim_move.specs.Moves.{TargetTold}
@@ -71,11 +71,8 @@ module _ {x a : MachineState} {t t1 : ℕ} (stands : Stands x MOVEL) (e : Exits 
         let above : nat_lt 0x4000 count ≡ true = ap (nat_lt 0x4000) (sym h.count_is) ∙ w.0 in
         let P : Bool → Type 0 = λ b. Arrives 57 s x a t t1 (source_entry kind) (TargetTold s kind (target_read kind s).1)
         (by_limit s count (target_read kind s).0 b) in
-        subst P (sym above) (comes w.1 (record {
-          within = omega arith;
-          to_is = refl;
-          holds = stops_there s 2 (length_read s).1 Length v (record v { r = record v.r { r0 = 4 } }) h.holds refl refl refl refl;
-        }));
+        subst P (sym above) (comes w.1 (goes_in (omega arith)
+        (stops_there s 2 (length_read s).1 Length v (record v { r = record v.r { r0 = 4 } }) h.holds refl refl refl refl)));
   }
 
   module _ (away : a.cpu.pc ≡ GSTOP → ⊥) where
@@ -195,11 +192,8 @@ module _ {x a : MachineState} {t t1 : ℕ} (stands : Stands x MOVEL) (e : Exits 
 
       asks : (s : GplState) (count : ℕ) → LengthTold s (length_read s).1 count v → Comes 7 x a t t1 ADDR
           (λ w. Asking s count (length_read s).1 MOVED w × (w.r.r12 ≡ count))
-      asks s count h = comes to_it.1 (record {
-        within = omega arith;
-        to_is = refl;
-        holds = (record { holds = holds_again s 2 count (length_read s).1 v _ h.holds refl refl refl refl refl refl h.count_is; link = refl }, h.count_is);
-      })
+      asks s count h = comes to_it.1 (goes_in (omega arith)
+          ((record { holds = holds_again s 2 count (length_read s).1 v _ h.holds refl refl refl refl refl refl h.count_is; link = refl }, h.count_is)))
 
       module _ (b : MachineState) (t2 : ℕ) (f : FindsOperand a b t1 t2) where
         abbrev operand : GplState → GplOperand × ℕ

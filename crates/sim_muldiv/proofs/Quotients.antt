@@ -3,13 +3,13 @@ use Rattle.std.proofs.Common.{ℕ, ◌%◌, ◌+◌, ◌/◌, ◌<◌, ◌==◌,
 use Rattle.std.proofs.Common.{Some, subst, sym, true}
 use Rattle.std.proofs.lemmas.Bool.{ltb-true}
 use Rattle.sim_rows.proofs.Common.{AtRow, behind, Byte, Changed, changed_again, ChangedFrom, Changes, Comes, comes, comes_as, comes_on, comes_then, DIV, DIVBY}
-use Rattle.sim_rows.proofs.Common.{DIVE, divided, DIVL, DIVQ, DIVS, DIVV, DIVW, double_at, double_word, EndsRow, even, exit, Exits, Goes, gone_on, GplState}
-use Rattle.sim_rows.proofs.Common.{GSTEP, has_quotient, high, idle_again, idle_grom, idle_told, idle_video, in_register, is_end, is_view, IsVisible, join, LOAD}
-use Rattle.sim_rows.proofs.Common.{Loaded, LoadsValue, MachineState, most_of_load, most_of_quotient_row, most_of_store, next_of, number_of_space, ones_cleared}
-use Rattle.sim_rows.proofs.Common.{ones_set, operation_in, OVER, Place, place_in, place_is, PortsAreIdle, reads_destination, return_of, row_changed, row_width}
-use Rattle.sim_rows.proofs.Common.{RunsRow, SeesFinished, shifted, SHOW, size_of, Source, SRL, Stands, state_of, STORE, store_then, stored_idle, StoresValue}
-use Rattle.sim_rows.proofs.Common.{Storing, storing_again, sum_of, swapped, Two, unchanged, value_at, value_same, View, view, Width, width_in, with_byte}
-use Rattle.sim_rows.proofs.Common.{with_overflow, with_quotient, with_value, Word}
+use Rattle.sim_rows.proofs.Common.{DIVE, divided, DIVL, DIVQ, DIVS, DIVV, DIVW, double_at, double_word, EndsRow, even, exit, Exits, Goes, goes_in, gone_on}
+use Rattle.sim_rows.proofs.Common.{GplState, GSTEP, has_quotient, high, idle_again, idle_grom, idle_told, idle_video, in_register, is_end, is_view, IsVisible}
+use Rattle.sim_rows.proofs.Common.{join, LOAD, Loaded, LoadsValue, MachineState, most_of_load, most_of_quotient_row, most_of_store, next_of, number_of_space}
+use Rattle.sim_rows.proofs.Common.{ones_cleared, ones_set, operation_in, OVER, Place, place_in, place_is, PortsAreIdle, reads_destination, return_of}
+use Rattle.sim_rows.proofs.Common.{row_changed, row_width, RunsRow, SeesFinished, shifted, SHOW, size_of, Source, SRL, Stands, state_of, STORE, store_then}
+use Rattle.sim_rows.proofs.Common.{stored_idle, StoresValue, Storing, storing_again, sum_of, swapped, Two, unchanged, value_at, value_same, View, view, Width}
+use Rattle.sim_rows.proofs.Common.{width_in, with_byte, with_overflow, with_quotient, with_value, Word}
 use Rattle.sim_muldiv.specs.Family.{AreVisible, Divided, dividend_in, Divides, EndsDivision, EndsQuotient, is_muldiv, IsReady, MayStore, MayStoreQuotient}
 use Rattle.sim_muldiv.specs.Family.{second_in}
 use Rattle.sim_muldiv.proofs.Numbers.{byte_divides, byte_fits, divisor_down, high_of, low_of, no_first_word, quotient_fits, remainder_fits, together}
@@ -405,11 +405,8 @@ module _ {x a : MachineState} {t u : ℕ} (ready : IsReady x) (stands : Stands x
       (double_same s (gone_on s) width place refl refl) there
 
   overflows : (c : Changes) (q : View) → Changed c q → c.shows ≡ false → Goes (pieces.set_overflow q) 3 GSTEP (SeesFinished (with_overflow true c))
-  overflows c q h none = record {
-    within = omega arith;
-    to_is = refl;
-    holds = rw none (record { cells = ap (status_set (λ k. ones_set k 0x08)) h.cells; vdp = h.vdp; registers = h.registers; held = h.held; grom = h.grom });
-  }
+  overflows c q h none = goes_in (omega arith)
+      (rw none (record { cells = ap (status_set (λ k. ones_set k 0x08)) h.cells; vdp = h.vdp; registers = h.registers; held = h.held; grom = h.grom }))
 
   pub over_runs : a.cpu.pc ≡ OVER → {y : MachineState} {w : ℕ} → Exits a y u w (pieces.set_overflow (view a)) → RunsRow (Two DIV) most_of_quotient_row x y t w
   over_runs e {y = y} {w = w} second s place source is row operands =

@@ -29,7 +29,8 @@ leads code = eqb (even (slice_index INTERP (first_row + (code - 0x80) / 2))) (ro
 abbrev rows_lead : ℕ → Bool
 rows_lead code = if is_row (operation_at code) then leads code else true
 
-pub row_is : (code : ℕ) → code < 256 → is_row (operation_at code) ≡ true → even (slice_index INTERP (first_row + (code - 0x80) / 2)) ≡ row_entry (operation_at code)
+pub row_is : (code : ℕ) → code < 256 → is_row (operation_at code) ≡ true →
+    even (slice_index INTERP (first_row + (code - 0x80) / 2)) ≡ row_entry (operation_at code)
 row_is code h e =
     eqb-true (even (slice_index INTERP (first_row + (code - 0x80) / 2))) (row_entry (operation_at code))
     (if_true (is_row (operation_at code)) (leads code) e (agree_below_at rows_lead (λ _. true) 256 code refl h))

@@ -1,6 +1,6 @@
 -- The names that the proofs of a family cite, passed on from one place. Declares nothing.
-pub use Rattle.sim_view.proofs.Common.{comes, comes_as, comes_on, comes_then, given, Goes, high-join, is_view, IsView, join-bytes, Leads, leads, off, on, Part}
-pub use Rattle.sim_view.proofs.Common.{part_then, pick, piece, previous-next, reg_word, Rest}
+pub use Rattle.sim_view.proofs.Common.{comes, comes_as, comes_on, comes_then, given, Goes, goes_in, high-join, is_view, IsView, join-bytes, Leads, leads, off}
+pub use Rattle.sim_view.proofs.Common.{on, Part, part_then, pick, piece, previous-next, reg_word, Rest}
 pub use Rattle.sim_view.specs.Bounds.{most_of_address, most_of_alu_row, most_of_byte, most_of_case_row, most_of_exchange_row, most_of_load, most_of_product_row}
 pub use Rattle.sim_view.specs.Bounds.{most_of_quotient_row, most_of_shift_row, most_of_stack_row, most_of_store, most_to_copy}
 pub use Rattle.sim_operands.proofs.Addressing.{Answers, index_read, IndexRead, range_read, RangeRead}

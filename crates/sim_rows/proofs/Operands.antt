@@ -2,7 +2,7 @@
 use Rattle.std.proofs.Common.{ℕ, ◌%◌, ◌*◌, ◌+◌, ◌-◌, ◌/◌, ◌<◌, ◌==◌, ◌∙◌, ◌≡◌, ◌≤◌, ap, arith, Bool, eqb, false, if◌then◌else◌, List, nat_lt, None, Option}
 use Rattle.std.proofs.Common.{refl, slice_index, Some, subst, sym, true}
 use Rattle.std.proofs.lemmas.Bool.{eq-eqb, eqb-true}
-use Rattle.sim_view.proofs.Common.{comes_as, comes_on, comes_then}
+use Rattle.sim_view.proofs.Common.{comes_as, comes_on, comes_then, goes_in}
 use Rattle.sim_rows.specs.Prelude.{ADDR, Addressed, Barred, behind_first, Byte, byte_in, code_byte, Comes, Cpu, destination_bytes, even, Exits, GO}
 use Rattle.sim_rows.specs.Prelude.{GplState, GSTOP, Holds, in_register, INTERP, is_end, is_row, IsVisible, join, Kept, last_out, LOAD, Loaded, LoadsFrom}
 use Rattle.sim_rows.specs.Prelude.{LoadsFromSource, LoadsValue, MachineState, number_of_space, operation_in, OPVAL, Place, place_in, Placed, plus, Reason}
@@ -162,7 +162,8 @@ module _ (s : GplState) (place : Place) where
       }
 
       -- MUL and DIV
-      pub wide : {z : MachineState} {w : ℕ} → bytes ≡ 2 * size_of (row_width s) → Exits y z u w (pieces.keep_wide v) → Comes 78 x z t w OPSTWO (Kept s place next)
+      pub wide : {z : MachineState} {w : ℕ} → bytes ≡ 2 * size_of (row_width s) → Exits y z u w (pieces.keep_wide v) →
+          Comes 78 x z t w OPSTWO (Kept s place next)
       wide twice e =
           comes_as 78 _ (comes_then 71 3 c e (record {
             within = omega arith;
@@ -178,30 +179,21 @@ module _ (s : GplState) (place : Place) where
         pub two : nat_lt (code_byte s) 0xA0 ≡ false → Comes 78 x z t w OPSTWO (Kept s place next)
         two above =
             let high : nat_lt v.r.r0 0xA0 ≡ false = ap (λ n. nat_lt n 0xA0) c.holds.holds.code ∙ above in
-            comes_as 78 _ (comes_then 71 3 c e (rw (high, pieces.keep_first) (record {
-              within = omega arith;
-              to_is = refl;
-              holds = keeps _ refl refl refl refl refl refl size refl refl refl;
-            })) goes) (omega arith) (λ v a. a)
+            comes_as 78 _ (comes_then 71 3 c e (rw (high, pieces.keep_first) (goes_in (omega arith)
+            (keeps _ refl refl refl refl refl refl size refl refl refl))) goes) (omega arith) (λ v a. a)
 
         -- a row of one operand has 1 for the source
         one_by : nat_lt (code_byte s) 0xA0 ≡ true → (b : Bool) → word_of s ≡ b → Comes 78 x z t w GO (Sourced s place unit next)
         one_by below true is =
             let low : nat_lt v.r.r0 0xA0 ≡ true = ap (λ n. nat_lt n 0xA0) c.holds.holds.code ∙ below in
             let word : (v.r.r3 == 1) ≡ false = ap (λ n. n == 1) (size ∙ ap (λ b. size_of (word_or_byte b)) is) in
-            comes_then 71 7 c e (rw (low, word, pieces.keep_first) (record {
-              within = omega arith;
-              to_is = refl;
-              holds = sourced (keeps _ refl refl refl refl refl refl size refl refl refl) tt (sym (ap (λ b. in_register (word_or_byte b) 1) is));
-            })) goes
+            comes_then 71 7 c e (rw (low, word, pieces.keep_first) (goes_in (omega arith)
+            (sourced (keeps _ refl refl refl refl refl refl size refl refl refl) tt (sym (ap (λ b. in_register (word_or_byte b) 1) is))))) goes
         one_by below false is =
             let low : nat_lt v.r.r0 0xA0 ≡ true = ap (λ n. nat_lt n 0xA0) c.holds.holds.code ∙ below in
             let byte : (v.r.r3 == 1) ≡ true = ap (λ n. n == 1) (size ∙ ap (λ b. size_of (word_or_byte b)) is) in
-            comes_then 71 7 c e (rw (low, byte, pieces.keep_first) (record {
-              within = omega arith;
-              to_is = refl;
-              holds = sourced (keeps _ refl refl refl refl refl refl size refl refl refl) tt (sym (ap (λ b. in_register (word_or_byte b) 1) is));
-            })) goes
+            comes_then 71 7 c e (rw (low, byte, pieces.keep_first) (goes_in (omega arith)
+            (sourced (keeps _ refl refl refl refl refl refl size refl refl refl) tt (sym (ap (λ b. in_register (word_or_byte b) 1) is))))) goes
 
         pub one : nat_lt (code_byte s) 0xA0 ≡ true → Comes 78 x z t w GO (Sourced s place unit next)
         one below = one_by below (word_of s) refl

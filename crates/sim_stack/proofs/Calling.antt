@@ -3,11 +3,11 @@ use Rattle.std.proofs.Common.{ℕ, ◌+◌, ◌<◌, ◌==◌, ◌||◌, ◌∙�
 use Rattle.std.proofs.Common.{refl, Result, slice_index, slice_set, Some, subst, sym, true}
 use Rattle.std.proofs.lemmas.Bool.{agree_below_at}
 use Rattle.sim_rows.proofs.Common.{◌>>=◌, at_most, back_is, behind_code, bound, bound_made, CALL, CALLN, CALLS, Changed, Changes, Comes, comes, comes_on}
-use Rattle.sim_rows.proofs.Common.{comes_then, Dispatched, EndsRow, Exit, exit, Exits, finished, first_way, from, GOCALL, Goes, GplOperation, GplState, grom_at}
-use Rattle.sim_rows.proofs.Common.{GromState, grown_by, GSTOP, high, idle_told, is_end, is_view, join, Jump, just, known, lost, low, MachineState, marked_by}
-use Rattle.sim_rows.proofs.Common.{matches, most_to_dispatch, next_in_grom, on_stack, operation_in, past, plus, PortsAreIdle, reaches, Reason, second_way}
-use Rattle.sim_rows.proofs.Common.{set_is, shifted, SHOW, SLA, Stack, Stands, step, step_jump, Stepped, Stopped, StoppedBy, sum_of, Turned, turned_by, View}
-use Rattle.sim_rows.proofs.Common.{view, Word, word_at as word_in_grom}
+use Rattle.sim_rows.proofs.Common.{comes_then, Dispatched, EndsRow, Exit, exit, Exits, finished, first_way, from, GOCALL, Goes, goes_in, GplOperation, GplState}
+use Rattle.sim_rows.proofs.Common.{grom_at, GromState, grown_by, GSTOP, high, idle_told, is_end, is_view, join, Jump, just, known, lost, low, MachineState}
+use Rattle.sim_rows.proofs.Common.{marked_by, matches, most_to_dispatch, next_in_grom, on_stack, operation_in, past, plus, PortsAreIdle, reaches, Reason}
+use Rattle.sim_rows.proofs.Common.{second_way, set_is, shifted, SHOW, SLA, Stack, Stands, step, step_jump, Stepped, Stopped, StoppedBy, sum_of, Turned}
+use Rattle.sim_rows.proofs.Common.{turned_by, View, view, Word, word_at as word_in_grom}
 use Rattle.sim_rows.specs.Pieces.{at_first}
 use Rattle.sim_rows.specs.sim_operands.Pieces.{one_if}
 use Rattle.sim_stack.specs.Pieces.{offset_of, shows_at}
@@ -101,11 +101,8 @@ module _ (s : GplState) {x a : MachineState} {t t1 : ℕ} (stands : Stands x GOC
   stopped here =
       let k = first_way GSTOP x a t t1 (nat_lt 0xC0 offset) (pieces.full 10 told) (exit 7 CALLN told) went_by (λ q. absurd (omega arith)) here in
       let full : on_stack 2 (top_in s) ≡ Err Stack = no_room 0xC0 2 (top_in s) refl (ap (nat_lt 0xC0) (sym offset_top) ∙ k.0) in
-      let c : Comes 10 x a t t1 GSTOP (StoppedBy s Stack) = comes k.1 (record {
-        within = omega arith;
-        to_is = refl;
-        holds = record { ended = record { cells = d.sees.cells; vdp = d.sees.vdp; registers = d.sees.registers; address = d.address }; reason_is = refl };
-      }) in
+      let c : Comes 10 x a t t1 GSTOP (StoppedBy s Stack) = comes k.1 (goes_in (omega arith)
+      (record { ended = record { cells = d.sees.cells; vdp = d.sees.vdp; registers = d.sees.registers; address = d.address }; reason_is = refl })) in
       stop_turned s x a t t1 10 start (step_by s (Err Stack) family full) c (omega arith)
 
   module _ (elsewhere : a.cpu.pc ≡ GSTOP → ⊥) where

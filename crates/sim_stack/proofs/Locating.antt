@@ -1,7 +1,7 @@
 -- The address of the next byte is found, and GROM is set to it again.
 use Rattle.std.proofs.Common.{ℕ, ◌<◌, ◌∙◌, ◌≡◌, ap, arith, false, List, refl, subst}
-use Rattle.sim_rows.proofs.Common.{Comes, comes, comes_then, even, Exits, FETCHP, FETCHS, from, Goes, grom_at, GromState, is_end, just, located_at, lost}
-use Rattle.sim_rows.proofs.Common.{MachineState, next_in_grom, SEEK, set_is, Stands, View, view, where_found}
+use Rattle.sim_rows.proofs.Common.{Comes, comes, comes_then, even, Exits, FETCHP, FETCHS, from, Goes, goes_in, grom_at, GromState, is_end, just, located_at}
+use Rattle.sim_rows.proofs.Common.{lost, MachineState, next_in_grom, SEEK, set_is, Stands, View, view, where_found}
 use Rattle.sim_stack.specs.Stacks.{Located, Locates, SetAside, SetsAside}
 use Rattle.sim_rows.specs.sim_operands.Pieces as operands
 use Rattle.sim_rows.specs.Pieces as rows
@@ -35,11 +35,8 @@ module _ {x a : MachineState} (b y : MachineState) {t t1 : ℕ} (t2 t3 link : �
       let c2 : Comes 14 x b t t2 SEEK (λ w. w ≡ kept) =
       comes_then 12 2 c1 e2 (from pieces.keep_stacked_next c1.holds (just (pieces.keep_stacked_next (located_at v image at)) 2 SEEK (omega arith) refl))
       goes in
-      let sought : Goes (operands.seek kept) 4 FETCHS (Located v image at) = record {
-        within = omega arith;
-        to_is = refl;
-        holds = record { r4 = kept.r.r4; r6 = at; is = ap made (set_is (lost image at) at refl fits) };
-      } in
+      let sought : Goes (operands.seek kept) 4 FETCHS (Located v image at) = goes_in (omega arith)
+      (record { r4 = kept.r.r4; r6 = at; is = ap made (set_is (lost image at) at refl fits) }) in
       comes_then 14 4 c2 e3 (from operands.seek c2.holds sought) refl
 
   pub sets_aside : Exits a b t1 t2 (pieces.keep_back (view a)) → Exits b y t2 t3 (operands.seek (view b)) → SetsAside x y t t3
@@ -50,9 +47,6 @@ module _ {x a : MachineState} (b y : MachineState) {t t1 : ℕ} (t2 t3 link : �
       let made : GromState → View = λ g. record v { r = record v.r { r4 = kept.r.r4; r6 = at; r11 = FETCHP; r14 = at }; grom = g } in
       let c2 : Comes 14 x b t t2 SEEK (λ w. w ≡ kept) =
       comes_then 12 2 c1 e2 (from pieces.keep_back c1.holds (just (pieces.keep_back (located_at v image at)) 2 SEEK (omega arith) refl)) goes in
-      let sought : Goes (operands.seek kept) 4 FETCHP (SetAside v image at) = record {
-        within = omega arith;
-        to_is = refl;
-        holds = record { r4 = kept.r.r4; r6 = at; is = ap made (set_is (lost image at) at refl fits) };
-      } in
+      let sought : Goes (operands.seek kept) 4 FETCHP (SetAside v image at) = goes_in (omega arith)
+      (record { r4 = kept.r.r4; r6 = at; is = ap made (set_is (lost image at) at refl fits) }) in
       comes_then 14 4 c2 e3 (from operands.seek c2.holds sought) refl

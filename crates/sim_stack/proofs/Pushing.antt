@@ -1,7 +1,7 @@
 -- PUSH, from its row to the end of the step.
 use Rattle.std.proofs.Common.{ℕ, ◌<◌, ◌∙◌, ◌≡◌, ap, arith, Err, false, List, nat_lt, Ok, Option, refl, Result, slice_index, slice_set, Some, subst, sym}
 use Rattle.sim_rows.proofs.Common.{◌>>=◌, Byte, bytes_by, cells_at, Changes, Comes, comes, comes_as, comes_on, destination_bytes, exit, Exits, first_way}
-use Rattle.sim_rows.proofs.Common.{gone_on, GplOperation, GplState, grown_by, GSTEP, GSTOP, high, idle_again, in_register, is_view, MachineState}
+use Rattle.sim_rows.proofs.Common.{goes_in, gone_on, GplOperation, GplState, grown_by, GSTEP, GSTOP, high, idle_again, in_register, is_view, MachineState}
 use Rattle.sim_rows.proofs.Common.{most_of_stack_row, on_stack, One, operation_in, PortsAreIdle, PUSH, PUSHV, reads_destination, Reason, row_result, row_width}
 use Rattle.sim_rows.proofs.Common.{second_way, SeesFinished, size_of, Stack, Stands, Stepped, STO, Stopped, StoppedBy, StoresResult, Storing, sum_of, TurnsBy}
 use Rattle.sim_rows.proofs.Common.{TurnsRow, unchanged, value_at, View, view, Width, width_in, with_cell, Word}
@@ -59,11 +59,8 @@ module _ {x a : MachineState} {t u : ℕ} (stands : Stands x PUSHV) (e : Exits x
       let h = at.holds in
       let full : on_stack 1 (top_in s) ≡ Err Stack = no_room 0xC1 1 (top_in s) refl (ap (nat_lt 0xC1) (sym (offset_top s h.sees.cells)) ∙ k.0) in
       let result : row_result (One PUSH) s place source ≡ Err Stack = ap (by_push s (value_at s (row_width s) place)) full in
-      let c : Comes 160 x a t u GSTOP (StoppedBy s Stack) = comes k.1 (record {
-        within = omega arith;
-        to_is = refl;
-        holds = record { ended = record { cells = h.sees.cells; vdp = h.sees.vdp; registers = h.sees.registers; address = h.address }; reason_is = refl };
-      }) in
+      let c : Comes 160 x a t u GSTOP (StoppedBy s Stack) = comes k.1 (goes_in (omega arith)
+      (record { ended = record { cells = h.sees.cells; vdp = h.sees.vdp; registers = h.sees.registers; address = h.address }; reason_is = refl })) in
       subst (λ (r : Result Changes Reason). TurnsBy 160 s x a t u (Stopped Stack) r) (sym result) (refl, c)
 
   module _ (elsewhere : a.cpu.pc ≡ GSTOP → ⊥) where

@@ -1,9 +1,10 @@
 -- FETCH, from its row to the end of the step.
 use Rattle.std.proofs.Common.{ℕ, ◌<◌, ◌∙◌, ◌≡◌, ◌≤◌, ap, arith, Err, false, List, nat_lt, Ok, refl, Result, slice_index, subst, sym}
 use Rattle.sim_rows.proofs.Common.{◌>>=◌, at_most, Changes, Comes, comes, comes_as, comes_on, exit, Exits, FETCHB, FETCHN, FETCHP, FETCHS, FETCHV, first_way}
-use Rattle.sim_rows.proofs.Common.{gone_on, GplState, grom_at, GromState, GSTEP, GSTOP, idle_told, idle_video, is_view, IsVisible, join, low, MachineState}
-use Rattle.sim_rows.proofs.Common.{most_of_stack_row, next_in_grom, next_of, on_stack, One, Place, PortsAreIdle, Reason, row_result, second_way, SeesFinished}
-use Rattle.sim_rows.proofs.Common.{Stack, Stands, Stepped, Stopped, StoppedBy, TurnsBy, TurnsRow, unchanged, View, view, WHERE, with_byte_from, word_in}
+use Rattle.sim_rows.proofs.Common.{goes_in, gone_on, GplState, grom_at, GromState, GSTEP, GSTOP, idle_told, idle_video, is_view, IsVisible, join, low}
+use Rattle.sim_rows.proofs.Common.{MachineState, most_of_stack_row, next_in_grom, next_of, on_stack, One, Place, PortsAreIdle, Reason, row_result, second_way}
+use Rattle.sim_rows.proofs.Common.{SeesFinished, Stack, Stands, Stepped, Stopped, StoppedBy, TurnsBy, TurnsRow, unchanged, View, view, WHERE, with_byte_from}
+use Rattle.sim_rows.proofs.Common.{word_in}
 use Rattle.sim_rows.specs.gpl_defs.declared.instruction.OneName.TheVariants.{FETCH}
 use Rattle.sim_rows.specs.gpl_step_defs.Place.{word_at}
 use Rattle.sim_stack.specs.Pieces.{offset_of}
@@ -42,11 +43,8 @@ module _ {x a : MachineState} {t t1 : ℕ} (stands : Stands x FETCHV) (e : Exits
       let h = at.holds in
       let full : on_stack 2 (top_in s) ≡ Err Stack = no_room 0xC0 2 (top_in s) refl (ap (nat_lt 0xC0) (sym (offset_top s h.sees.cells)) ∙ k.0) in
       let result : row_result (One FETCH) s place source ≡ Err Stack = ap (by_fetch s place) full in
-      let c : Comes 160 x a t t1 GSTOP (StoppedBy s Stack) = comes k.1 (record {
-        within = omega arith;
-        to_is = refl;
-        holds = record { ended = record { cells = h.sees.cells; vdp = h.sees.vdp; registers = h.sees.registers; address = h.address }; reason_is = refl };
-      }) in
+      let c : Comes 160 x a t t1 GSTOP (StoppedBy s Stack) = comes k.1 (goes_in (omega arith)
+      (record { ended = record { cells = h.sees.cells; vdp = h.sees.vdp; registers = h.sees.registers; address = h.address }; reason_is = refl })) in
       subst (λ (r : Result Changes Reason). TurnsBy 160 s x a t t1 (Stopped Stack) r) (sym result) (refl, c)
 
   module _ (elsewhere : a.cpu.pc ≡ GSTOP → ⊥) where

@@ -1,7 +1,7 @@
 -- From boot to the first step.
 use Rattle.std.proofs.Common.{ℕ, ◌<◌, ◌||◌, ◌∙◌, ◌≡◌, ap, arith, Bool, eqb, false, None, refl, suc, sym, true, zero}
-use Rattle.sim_rows.proofs.Common.{comes, comes_then, Exits, from, GBOOT, given, Gives, Goes, GSTEP, just, MachineState, matches, Runs, SEEK, Sees, set_is}
-use Rattle.sim_rows.proofs.Common.{Stands, steps, View, view}
+use Rattle.sim_rows.proofs.Common.{comes, comes_then, Exits, from, GBOOT, given, Gives, Goes, goes_in, GSTEP, just, MachineState, matches, Runs, SEEK, Sees}
+use Rattle.sim_rows.proofs.Common.{set_is, Stands, steps, View, view}
 use Rattle.sim_rows.specs.sim_operands.Pieces as operands
 use Rattle.sim_steps.specs.Starting.{Begins, booted}
 use Rattle.sim_steps.specs.Pieces as pieces
@@ -23,18 +23,7 @@ module _ (x a y : MachineState) (t u v : ℕ) (stands : Stands x GBOOT) (held : 
 
   sought : Goes (operands.seek booting) 4 GSTEP (Sees (booted (view x)) (booted (view x)).pc)
   sought =
-      record {
-        within = omega arith;
-        to_is = refl;
-        holds = record {
-          cells = refl;
-          vdp = refl;
-          registers = refl;
-          held = held;
-          grom =
-              set_is (view x).grom (view x).r.r0 idle fits;
-        };
-      }
+      goes_in (omega arith) (record { cells = refl; vdp = refl; registers = refl; held = held; grom = set_is (view x).grom (view x).r.r0 idle fits })
 
   pub begins : Exits x a t u (pieces.boot (view x)) → Exits a y u v (operands.seek (view a)) → Begins (booted (view x)) 11 x y t v
   begins e1 e2 =

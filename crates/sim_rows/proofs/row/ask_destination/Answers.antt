@@ -11,7 +11,8 @@ pub ask_first-requires : goal.ask_first-requires
 ask_first-requires g c =
     let x = c.args.machine.now in
     let not_stored : x.cpu.pc ≡ STROW → ⊥ = λ here. let a = c.pc-else-pc-eq-WIDE.ensures.value in let b = c.if-pc-eq-STROW.false in absurd (omega arith) in
-    stands_at ROW x (c.requires.stands.pc ∙ (Fronting.narrow_here c.requires (off c.pc.ensures.value c.if-pc-eq-WIDE.false) not_stored).starts) c.requires.stands
+    stands_at ROW x (c.requires.stands.pc ∙ (Fronting.narrow_here c.requires (off c.pc.ensures.value c.if-pc-eq-WIDE.false) not_stored).starts)
+    c.requires.stands
 
 pub returns-then-pc-eq-WIDE : goal.returns-then-pc-eq-WIDE
 returns-then-pc-eq-WIDE g c = Fronting.asks_wide c.requires (on c.pc.ensures.value c.if-pc-eq-WIDE.true) c.ask_wide.ensures
