@@ -1,6 +1,6 @@
 -- The names that the proofs of a family cite, passed on from one place. Declares nothing.
-pub use Rattle.sim_view.proofs.Common.{comes, comes_as, comes_on, comes_then, given, Goes, high-join, join-bytes, is_view, IsView, leads, Leads, Part, part_then, pick}
-pub use Rattle.sim_view.proofs.Common.{piece, previous-next, reg_word, Rest}
+pub use Rattle.sim_view.proofs.Common.{comes, comes_as, comes_on, comes_then, given, Goes, high-join, join-bytes, is_view, IsView, leads, Leads, Part, part_then}
+pub use Rattle.sim_view.proofs.Common.{pick, piece, previous-next, reg_word, Rest}
 pub use Rattle.sim_operands.proofs.Addressing.{Answers, index_read, IndexRead, range_read, RangeRead}
 pub use Rattle.sim_operands.proofs.Facts.{at_most, byte_is, down, no_other, not_limit, spot_cell}
 pub use Rattle.sim_operands.proofs.Paths.{rest_is}
@@ -21,7 +21,7 @@ pub use Rattle.sim_rows.proofs.Storing.{changed_again, ChangedFrom, store_then, 
 pub use Rattle.sim_rows.proofs.Telling.{stands_at}
 pub use Rattle.sim_rows.specs.Prelude.{reads_destination}
 pub use Rattle.sim_rows.specs.Prelude.{◌>>=◌, ABS, absolute_flags, absolute_of, ABSV, ADD, ADDR, address_at, address_register, Addressed, ADDV, ALL, AND}
-pub use Rattle.sim_rows.specs.Prelude.{ANDV, Answer, APTR, AreTurns, ASPACE, AtDispatch, AtRow, B, BACK, Barred, behind, behind_code}
+pub use Rattle.sim_rows.specs.Prelude.{ANDV, Answer, APTR, AreTurns, Asking, ASPACE, AtDispatch, AtRow, B, BACK, Barred, behind, behind_code}
 pub use Rattle.sim_rows.specs.Prelude.{behind_first, bit_of, Boots, bound, bound_at, bound_by, Branch, BRANCH, branched, BTEST, Byte, byte_at, byte_from}
 pub use Rattle.sim_rows.specs.Prelude.{byte_in, ByteOp, bytes_by, bytes_or_none, CALL, CALLN, CALLS, CARRY, CARRY_BIT, CASE, CASEN, CASET, CASEV, Cell}
 pub use Rattle.sim_rows.specs.Prelude.{cells_at, CEQ, CEQV, CFALSE, CGE, CGEV, CGT, CGTV, CH, Changed, Changes, CHARACTER, CHE, CHEV, CHV, CLOG, CLOGV, CLR}

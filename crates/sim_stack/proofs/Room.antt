@@ -77,16 +77,3 @@ pub stop_turned : (s : GplState) (x a : MachineState) (t u most : ℕ) → is_en
 stop_turned s x a t u most start is c le =
     let b = bound_stop s Stack is in
     turned_by x a t u 29 (Stopped Stack) s (Err Stack) is (refl, reaches 29 (bound s) c start refl (omega arith), stops s Stack a (λ e. cc) c.stands c.holds)
-
--- ---- views
-
-pub sees_loaded : (s : GplState) (next number : ℕ) (v w : View) → Sees s next v → Loaded v number w → Sees s next w
-sees_loaded s next number v w h a =
-    let e = a.is in
-    record {
-      cells = ap (λ (u : View). u.cells) e ∙ h.cells;
-      vdp = ap (λ (u : View). u.vdp.memory) e ∙ h.vdp;
-      registers = ap (λ (u : View). u.vdp.registers) e ∙ h.registers;
-      held = ap (λ (u : View). u.vdp.held) e ∙ h.held;
-      grom = ap (λ (u : View). u.grom) e ∙ h.grom;
-    }
