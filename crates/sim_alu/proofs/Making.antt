@@ -233,7 +233,8 @@ module _ (v : View) (i : IsView v) (s : GplState) (place : Place) (source : Sour
   made (operation.One one.DECT) f o e =
       inr (subtracts (operation.One one.DECT) (sum_of Word v.r.r6 v.r.r6) 2 (omega arith) (single (operation.One one.DECT) o refl refl)
       (one_fits w 2 (omega arith)) (twice_in one.DECT o e) refl)
-  made (operation.Two two.ADD) f o e = inr (adds (operation.Two two.ADD) v.r.r6 y (omega arith) (single (operation.Two two.ADD) o refl refl) y_fits a.value refl)
+  made (operation.Two two.ADD) f o e =
+      inr (adds (operation.Two two.ADD) v.r.r6 y (omega arith) (single (operation.Two two.ADD) o refl refl) y_fits a.value refl)
   made (operation.Two two.SUB) f o e =
       inr (subtracts (operation.Two two.SUB) v.r.r6 y (omega arith) (single (operation.Two two.SUB) o refl refl) y_fits a.value refl)
   made (operation.Two two.AND) f o e =

@@ -2,11 +2,12 @@
 use Rattle.std.proofs.Common.{ℕ, ◌%◌, ◌*◌, ◌+◌, ◌<◌, ◌==◌, ◌∙◌, ◌≡◌, ap, arith, Bool, false, List, refl, Result, subst, sym, true}
 use Rattle.std.proofs.lemmas.Bool.{eq-eqb, eqb-true}
 use Rattle.sim_view.proofs.Common.{comes, comes_as, comes_on, Goes, is_view, previous-next}
-use Rattle.sim_rows.specs.Prelude.{ADDR, Addressed, Asking, AtDispatch, Barred, behind_code, behind_destination, code_byte, Comes, Cpu, destination_bytes, Dispatched}
-use Rattle.sim_rows.specs.Prelude.{even, Exits, Finds, FindsOperand, GplState, grom_at, GromState, GSTOP, Holds, is_row, Loaded, LoadsFrom, MachineState, next_at}
-use Rattle.sim_rows.specs.Prelude.{number_of_space, operand_at, operation_in, Place, place_in, place_of, Placed, previous_in_grom, Reason, return_of, ROW}
-use Rattle.sim_rows.specs.Prelude.{row_width, Sees, size_of, Space, state_at_dispatch, state_of, StoppedBy, Vdp, VdpState, View, view, WIDE, width_in}
-use Rattle.sim_rows.specs.Prelude.{word_or_byte}
+use Rattle.sim_rows.specs.Prelude.{ADDR, Addressed, Asking, AtDispatch, Barred, behind_code, behind_destination, code_byte, Comes, Cpu, destination_bytes}
+use Rattle.sim_rows.specs.Prelude.{Dispatched, even, Exits, Finds, FindsOperand, GplState, grom_at, GromState, GSTOP, Holds, is_row, Loaded, LoadsFrom}
+use Rattle.sim_rows.specs.Prelude.{MachineState, next_at, number_of_space, operand_at, operation_in, Place, place_in, place_of, Placed, previous_in_grom}
+use Rattle.sim_rows.specs.Prelude.{Reason, return_of, ROW, row_width, Sees, size_of, Space, state_at_dispatch, state_of, StoppedBy, Vdp, VdpState, View, view}
+use Rattle.sim_rows.specs.Prelude.{WIDE, width_in, word_or_byte}
+use Rattle.sim_operands.proofs.Facts.{not_both}
 use Rattle.sim_rows.proofs.Entries.{Kind, narrow, storer, wide}
 use Rattle.sim_rows.proofs.Steps.{place_same}
 use Rattle.sim_rows.specs.Pieces as pieces
@@ -29,9 +30,6 @@ size_is code = by (code % 2 == 1) refl
     by true e = let n : code % 2 ≡ 1 = eqb-true (code % 2) 1 e in omega arith
     by false e = let n : code % 2 ≡ 0 = not_one e in omega arith
       where
-        not_both : (b : Bool) → b ≡ true → b ≡ false → ⊥
-        not_both b f g = cc
-
         not_one : (code % 2 == 1) ≡ false → code % 2 ≡ 0
         not_one f = let g : code % 2 ≡ 1 → ⊥ = λ m. not_both (code % 2 == 1) (eq-eqb (code % 2) 1 m) f in omega arith
 

@@ -1,10 +1,10 @@
 -- The destination of a row, from the dispatch until it is kept.
 use Rattle.std.proofs.Common.{ℕ, ◌+◌, ◌<◌, ◌∙◌, ◌≡◌, ◌≤◌, ap, arith, Bool, Err, false, nat_lt, not, Ok, Option, refl, Result, Some, subst, sym, true}
 use Rattle.sim_rows.specs.Prelude.{ADDR, Asking, AtDispatch, behind_code, behind_destination, behind_first, bytes_by, code_byte, Comes, destination_bytes}
-use Rattle.sim_rows.specs.Prelude.{destination_size, DIV, even, Exits, Finds, FindsOperand, first_of, gone_on, GplOperation, GplState, GSTOP, is_end}
-use Rattle.sim_rows.specs.Prelude.{is_row, IsVisible, KeepsDestination, LOAD, LoadsDestination, LoadsValue, MachineState, MUL, next_at, number_of_space, operand_at}
-use Rattle.sim_rows.specs.Prelude.{operation_in, Place, place_of, PortsAreIdle, return_of, ROW, row_width, size_of, Stands, state_at_dispatch, state_of, TwoName, Reason, reads_destination, View, view, WIDE}
-use Rattle.sim_rows.specs.Prelude.{word_or_byte}
+use Rattle.sim_rows.specs.Prelude.{destination_size, DIV, even, Exits, Finds, FindsOperand, first_of, gone_on, GplOperation, GplState, GSTOP, is_end, is_row}
+use Rattle.sim_rows.specs.Prelude.{IsVisible, KeepsDestination, LOAD, LoadsDestination, LoadsValue, MachineState, MUL, next_at, number_of_space, operand_at}
+use Rattle.sim_rows.specs.Prelude.{operation_in, Place, place_of, PortsAreIdle, reads_destination, Reason, return_of, ROW, row_width, size_of, Stands}
+use Rattle.sim_rows.specs.Prelude.{state_at_dispatch, state_of, TwoName, View, view, WIDE, word_or_byte}
 use Rattle.sim_view.specs.gpl_defs.declared.instruction.GplOperation.TheVariants as operation
 use Rattle.sim_operands.proofs.Ready.{idle_video}
 use Rattle.sim_rows.proofs.Again.{idle_told}
@@ -160,7 +160,8 @@ module _ {x : MachineState} (at : AtDispatch is_row x) where
         pub value : even link ≡ link → {q : MachineState} {k : ℕ} → ((view z).r.r5 < 2 → LoadsValue z q w k) →
             Comes 71 x q t k link (LoadedFrom s bytes place place (behind_first s) (view z).r.r9)
         value even_link {q = q} {k = k} l =
-            loads s bytes place place (behind_first s) link 54 x z q t w k even_link loading (l (space_small place.space (view z).r.r5 loading.holds.from.space))
+            loads s bytes place place (behind_first s) link 54 x z q t w k even_link loading
+            (l (space_small place.space (view z).r.r5 loading.holds.from.space))
 
       module _ (here : x.cpu.pc ≡ WIDE) where
         pub wide_here : Wide (operation_in s)

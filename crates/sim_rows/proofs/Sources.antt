@@ -3,10 +3,10 @@ use Rattle.std.proofs.Common.{ℕ, ◌<◌, ◌==◌, ◌∙◌, ◌≡◌, ap, 
 use Rattle.std.proofs.Common.{slice_index, Some, subst, sym, true}
 use Rattle.sim_view.proofs.Common.{comes, comes_as, comes_then, IsView, previous-next}
 use Rattle.sim_rows.specs.Prelude.{◌>>=◌, ADDR, behind_first, code_byte, Comes, Exit, exit, Exits, Finds, FindsOperand, GO, gone_on, GplOperand, GplSource}
-use Rattle.sim_rows.specs.Prelude.{GplState, grom_at, GromState, GSTOP, has_source, in_register, is_immediate, Kept, last_out, LOAD, LoadsBy}
-use Rattle.sim_rows.specs.Prelude.{LoadsValue, MachineState, next_at, next_of, operand_at, OPVAL, Place, place_of, Reason, row_width, second_by, second_of, Sees}
-use Rattle.sim_rows.specs.Prelude.{shifted, size_of, Source, source_at, source_of, source_read, Sourced, SRL, Stands, STREAM, streamed, value_at, View}
-use Rattle.sim_rows.specs.Prelude.{view, Width, width_in, word_of, word_or_byte}
+use Rattle.sim_rows.specs.Prelude.{GplState, grom_at, GromState, GSTOP, has_source, in_register, is_immediate, Kept, last_out, LOAD, LoadsBy, LoadsValue}
+use Rattle.sim_rows.specs.Prelude.{MachineState, next_at, next_of, operand_at, OPVAL, Place, place_of, Reason, row_width, second_by, second_of, Sees, shifted}
+use Rattle.sim_rows.specs.Prelude.{size_of, Source, source_at, source_of, source_read, Sourced, SRL, Stands, STREAM, streamed, value_at, View, view, Width}
+use Rattle.sim_rows.specs.Prelude.{width_in, word_of, word_or_byte}
 use Rattle.sim_view.specs.gpl_defs.Reading.{value_at as value_in}
 use Rattle.sim_operands.proofs.Transfers.{streams}
 use Rattle.sim_rows.proofs.Again.{first_way, second_way}
@@ -82,7 +82,8 @@ module _ {x a : MachineState} {t t1 : ℕ} (e : Exits x a t t1 (pieces.ask_secon
       streamed_is =
           let by : GromState → Exit = λ g. operands.stream (record (told GO) { grom = g }) in
           let c : Comes 5 x a t t1 STREAM (λ w. w ≡ told GO) = comes (streaming here).1 (record { within = omega arith; to_is = refl; holds = refl }) in
-          comes_then 5 7 c e2 (from operands.stream c.holds (known (ap by k.holds.sees.grom) (streams set (ap (grom_at s.image) (sym (previous-next next)))))) refl
+          comes_then 5 7 c e2 (from operands.stream c.holds (known (ap by k.holds.sees.grom)
+          (streams set (ap (grom_at s.image) (sym (previous-next next)))))) refl
 
       read_is : value_in (not (v.r.r3 == 1)) s.image (next_at set) ≡ read
       read_is =

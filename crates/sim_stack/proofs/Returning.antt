@@ -3,10 +3,10 @@ use Rattle.std.proofs.Common.{ℕ, ◌<◌, ◌==◌, ◌∙◌, ◌≡◌, ap, 
 use Rattle.std.proofs.Common.{slice_index, slice_set, Some, subst, sym, true}
 use Rattle.std.proofs.lemmas.Bool.{agree_below_at, eqb-true}
 use Rattle.sim_rows.proofs.Common.{◌>>=◌, behind_code, bound, bound_made, Changes, code_byte, code_fits, Comes, comes, comes_as, comes_on, difference_of}
-use Rattle.sim_rows.proofs.Common.{Dispatched, Exit, exit, Exits, finished, first_way, GORTN, GOTO, GplOperation, GplState, GSTEP, GSTOP, is_end, is_view}
-use Rattle.sim_rows.proofs.Common.{join, low, MachineState, matches, on_stack, operation_at, operation_in, Plain, reaches, Reason, RTN, RTNC, second_way}
-use Rattle.sim_rows.proofs.Common.{Sees, SeesFinished, Stack, Stands, step, step_plain, Stepped, Stopped, StoppedBy, TAKE, Turned, turned_by, View, view}
-use Rattle.sim_rows.proofs.Common.{with_condition, Word, word_in}
+use Rattle.sim_rows.proofs.Common.{Dispatched, Exit, exit, Exits, finished, first_way, GORTN, GOTO, GplOperation, GplState, GSTEP, GSTOP, if_true, is_end}
+use Rattle.sim_rows.proofs.Common.{is_view, join, low, MachineState, matches, on_stack, operation_at, operation_in, Plain, reaches, Reason, RTN, RTNC}
+use Rattle.sim_rows.proofs.Common.{second_way, Sees, SeesFinished, Stack, Stands, step, step_plain, Stepped, Stopped, StoppedBy, TAKE, Turned, turned_by}
+use Rattle.sim_rows.proofs.Common.{View, view, with_condition, Word, word_in}
 use Rattle.sim_jumps.specs.Jumps.{GoesOn, TakesBranch}
 use Rattle.sim_stack.specs.Pieces.{offset_of}
 use Rattle.sim_stack.specs.Family.{is_return}
@@ -24,10 +24,6 @@ rtn_of _ = false
 abbrev rtnc_of : Option GplOperation → Bool
 rtnc_of (Some (Plain RTNC)) = true
 rtnc_of _ = false
-
-if_true : (b c : Bool) → b ≡ true → (if b then c else true) ≡ true → c ≡ true
-if_true true c e f = f
-if_true false c e f = absurd (cc)
 
 abbrev rtn_is_zero : ℕ → Bool
 rtn_is_zero code = if rtn_of (operation_at code) then eqb code 0 else true

@@ -2,9 +2,8 @@
 use Rattle.std.proofs.Common.{ℕ, ◌+◌, ◌<◌, ◌∙◌, ◌≡◌, ◌≤◌, ap, arith, Bool, Err, false, if◌then◌else◌, nat_le, nat_lt, Ok, refl, Result, slice_index}
 use Rattle.std.proofs.Common.{true}
 use Rattle.std.proofs.lemmas.Bool.{le-leb, lt-leb, ltb-false, ltb-true}
-use Rattle.sim_rows.proofs.Common.{bound, bound_stop, Comes, difference_of, GplState, grown_by, GSTOP, high, is_end, join, Loaded, low, MachineState}
-use Rattle.sim_rows.proofs.Common.{on_stack, place_in, plus, reaches, Reason, Sees, Stack, step, Stopped, StoppedBy, stops, sum_of, Turned, turned_by, value_at, View}
-use Rattle.sim_rows.proofs.Common.{Word}
+use Rattle.sim_rows.proofs.Common.{bound, bound_stop, Comes, difference_of, GplState, grown_by, GSTOP, high, is_end, join, low, MachineState, on_stack}
+use Rattle.sim_rows.proofs.Common.{place_in, plus, reaches, Reason, Stack, step, Stopped, StoppedBy, stops, sum_of, Turned, turned_by, value_at, Word}
 use Rattle.sim_rows.specs.gpl_step_defs.Place.{word_at}
 use Rattle.sim_stack.specs.Pieces.{offset_of}
 use Rattle.sim_rows.specs.interp_defs.Interpreter.{most_to_dispatch}

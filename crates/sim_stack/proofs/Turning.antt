@@ -2,7 +2,7 @@
 use Rattle.std.proofs.Common.{ℕ, ◌%◌, ◌<◌, ◌==◌, ◌∙◌, ◌≡◌, ap, arith, Bool, Err, false, if◌then◌else◌, not, Ok, Option, refl, Result, Some, subst, sym, true}
 use Rattle.std.proofs.lemmas.Bool.{agree_below_at}
 use Rattle.sim_rows.specs.Prelude.{HasStarted}
-use Rattle.sim_rows.proofs.Common.{◌>>=◌, AtDispatch, Byte, Changes, code_byte, GplOperation, GplState, MachineState, on_stack, One, operation_at}
+use Rattle.sim_rows.proofs.Common.{◌>>=◌, AtDispatch, Byte, Changes, code_byte, GplOperation, GplState, if_true, MachineState, on_stack, One, operation_at}
 use Rattle.sim_rows.proofs.Common.{operation_in, Place, PUSH, Reason, row_result, row_width, size_of, Source, Stack, state_at_dispatch, Turn, Turned}
 use Rattle.sim_rows.proofs.Common.{TurnsRow, view, word_or_byte}
 use Rattle.sim_rows.specs.gpl_defs.declared.instruction.OneName.TheVariants.{FETCH}
@@ -20,10 +20,6 @@ use Rattle.sim_rows.specs.interp_defs.Interpreter.{most_to_dispatch}
 
 abbrev bytes_alone : ℕ → Bool
 bytes_alone code = if is_stack_row (operation_at code) then not (code % 2 == 1) else true
-
-if_true : (b c : Bool) → b ≡ true → (if b then c else true) ≡ true → c ≡ true
-if_true true c e f = f
-if_true false c e f = absurd (cc)
 
 not_true : (b : Bool) → not b ≡ true → b ≡ false
 not_true true e = absurd (cc)

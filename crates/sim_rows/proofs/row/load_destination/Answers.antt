@@ -128,7 +128,8 @@ pub run_load-requires-2-clause-visible : goal.run_load-requires-2-clause-visible
 run_load-requires-2-clause-visible g c =
     let at = (goal.at.run_load-requires-2-clause-visible g c).After-load_first in
     Loading.visible_loading c.requires c.ask_destination.ensures c.run_address.new.machine c.run_address.new.steps c.run_address.ensures
-    (first_there g at) OPSVAL OPSDST (is_first g at).label_is refl c.load_first.ensures (some g (goal.at.run_load-requires-2-clause-visible g c).After-run_address)
+    (first_there g at) OPSVAL OPSDST (is_first g at).label_is refl c.load_first.ensures
+    (some g (goal.at.run_load-requires-2-clause-visible g c).After-run_address)
 
 pub keep_first-requires : goal.keep_first-requires
 keep_first-requires g c =
