@@ -6,19 +6,19 @@ use std::alloc::{AllocError, Global};
 use std::test::Fail;
 
 /// A number, and the summary of its program. The count of instructions in its last line is what another model of the
-/// processor gives, the one in `bench/steps`: for 1 it is 10 of boot, 82 of ADD and 15 of EXIT.
+/// processor gives, the one in `bench/steps`: for 1 it is 10 of boot, 72 of ADD and 15 of EXIT.
 const SUMMARIES: &[(&[u8], &[u8])] = &[
     (
         b"1",
-        b"demo 1\nimage 8\nsteps 1\npad 565\nvdp 0\nexit\ncount 107\n",
+        b"demo 1\nimage 8\nsteps 1\npad 565\nvdp 0\nexit\ncount 97\n",
     ),
     (
         b"2",
-        b"demo 2\nimage 13\nsteps 2\npad 663\nvdp 0\nexit\ncount 216\n",
+        b"demo 2\nimage 13\nsteps 2\npad 663\nvdp 0\nexit\ncount 183\n",
     ),
     (
         b"500",
-        b"demo 500\nimage 2331\nsteps 750\npad 2745\nvdp 980463\nexit\ncount 575203\n",
+        b"demo 500\nimage 2331\nsteps 750\npad 2745\nvdp 980463\nexit\ncount 565953\n",
     ),
 ];
 

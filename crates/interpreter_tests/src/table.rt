@@ -10,15 +10,15 @@ const LINES: &[(usize, u16, u8, u16)] = &[
     (0, 0, 0, 0),
     (23, 0, 0, 0),
     (24, ORIGIN, 0, 0),
-    (40, ORIGIN, 3, GBOOT),
-    (41, ORIGIN + 6, 1, GEXIT),
+    (41, ORIGIN, 3, GBOOT),
+    (42, ORIGIN + 6, 1, GEXIT),
 ];
 
 /// The last two lines, by how many lines stand behind them: B and END.
 const LAST_LINES: &[(usize, u16, u8, u16)] = &[(1, BEHIND - 4, 2, 0x0460), (0, BEHIND, 0, 0)];
 
 /// Names by their numbers from 0, and what they stand for: the first EQU, and the first place.
-const NAMES: &[(usize, &[u8], u16)] = &[(0, b"GRMRD", 0x9800), (15, b"TABLE", ORIGIN + 8)];
+const NAMES: &[(usize, &[u8], u16)] = &[(0, b"GRMRD", 0x9800), (16, b"TABLE", ORIGIN + 8)];
 
 /// Whether a line has such a row.
 fn is_row(index: usize, place: u16, count: u8, first: u16) -> bool {

@@ -7,6 +7,7 @@ use Rattle.sim_view.proofs.Common.{indexed, is_visible, join, last_out, next_in_
 use Rattle.sim_view.proofs.Common.{Reason, shifted, SLA, space_at, SRL, sum_of, View, with_index, Word, word_in}
 use Rattle.sim_view.specs.gpl_step_defs.declared.reason.Reason.TheVariants.{Cell}
 use Rattle.sim_operands.specs.Pieces.{past}
+use Rattle.sim_operands.proofs.Facts.{not_both}
 use Rattle.sim_operands.specs.Subroutines.{Addressed, Barred, grom_at, Placed, state_of}
 use Rattle.sim_operands.specs.Pieces as pieces
 use Rattle.sim_view.specs.native_interp.declared.addresses.TheConstants.{ASHORT}
@@ -21,9 +22,6 @@ Answers (Err reason) Good Bad = (reason ≡ Cell) × Bad
 -- the low four bits of the first byte
 base_is : (first : ℕ) → first < 256 → shifted SRL (shifted SLA first 12) 4 ≡ 256 * (first % 16)
 base_is first h = omega arith
-
-pub not_both : (b : Bool) → b ≡ true → b ≡ false → ⊥
-not_both b e f = cc
 
 four_ones : (low_bits : ℕ) (is : Bool) → (low_bits == 15) ≡ is → (256 * low_bits == 0x0F00) ≡ is
 four_ones low_bits true c = let e : low_bits ≡ 15 = eqb-true low_bits 15 c in rw e refl

@@ -44,13 +44,13 @@ from_half byte = not (nat_lt byte 0x80)
 pub negative : (byte : ℕ) → byte < 256 → is_negative byte ≡ not (nat_lt byte 0x80)
 negative byte h = agree_below_at is_negative from_half 256 byte refl h
 
+pub not_both : (b : Bool) → b ≡ true → b ≡ false → ⊥
+not_both b e f = cc
+
 -- the space of the cells is the one that is neither of the others
 pub no_other : (space : ℕ) → (space == 1) ≡ false → nat_lt 1 space ≡ false → space ≡ 0
 no_other space one more = let h = at_most 1 space more in let n = ne_of space one in omega arith
   where
-    not_both : (b : Bool) → b ≡ true → b ≡ false → ⊥
-    not_both b e f = cc
-
     ne_of : (n : ℕ) → (n == 1) ≡ false → (n ≡ 1 → ⊥)
     ne_of n e is = not_both (n == 1) (eq-eqb n 1 is) e
 

@@ -257,9 +257,6 @@ store_set v c =
 abbrev with_one : View → View
 with_one v = record v { r = record v.r { r13 = pieces.marked 0x7D v.r.r7 v.r.r13 }; cells = slice_set v.cells v.r.r7 (high v.r.r9) }
 
-abbrev with_unmarked : View → View
-with_unmarked v = record v { cells = slice_set v.cells v.r.r7 (high v.r.r9) }
-
 store_first : (v : View) → v.r.r7 < 194 → v.r.r8 ≡ 0 → (v.r.r7 == 0x7D) ≡ false → Part store_ends 5 v STORE (with_one v) SCELL
 store_first v h z e = record { by = λ f. rw (z, spot_cell (plus 0x8300 v.r.r7) v.r.r7 (omega arith) h, e) refl }
 

@@ -9,7 +9,7 @@ use Rattle.sim_view.proofs.Common.{WriteSetup}
 use Rattle.sim_operands.specs.Pieces.{past, past_video, set_video_to}
 use Rattle.sim_operands.specs.Values.{IsVisible, of_register, width_in}
 use Rattle.sim_operands.specs.Subroutines.{grom_at, Loaded, next_at, place_in, state_of, Stored, streamed}
-use Rattle.sim_operands.proofs.Facts.{second_fits}
+use Rattle.sim_operands.proofs.Facts.{not_both, second_fits}
 use Rattle.sim_operands.specs.Pieces as pieces
 
 -- ---- cells
@@ -129,9 +129,6 @@ apart n c = let e : n ≡ 0x7D = eqb-true n 0x7D c in rw e refl
 next_cell : (n : ℕ) (is : Bool) → (n == 0x7C) ≡ is → (n + 1 == 0x7D) ≡ is
 next_cell n true c = let e : n ≡ 0x7C = eqb-true n 0x7C c in rw e refl
 next_cell n false c = ne_eqb (n + 1) 0x7D (λ e. let f : n ≡ 0x7C = omega arith in absurd (not_both (n == 0x7C) (eq-eqb n 0x7C f) c))
-  where
-    not_both : (b : Bool) → b ≡ true → b ≡ false → ⊥
-    not_both b e f = cc
 
 store_byte : (v : View) → v.r.r8 ≡ 0 → (v.r.r3 == 1) ≡ true → Goes (pieces.store_byte v) 16 (pieces.return_of v) (stored_by v)
 store_byte v z c =

@@ -6,7 +6,7 @@ use Rattle.sim_rows.specs.Prelude.{even, GplOperation, INTERP, is_row, OneName, 
 use Rattle.sim_rows.specs.Pieces.{first_row}
 use Rattle.sim_view.specs.gpl_defs.declared.instruction.GplOperation.TheVariants as operation
 
-if_true : (b c : Bool) → b ≡ true → (if b then c else true) ≡ true → c ≡ true
+pub if_true : (b c : Bool) → b ≡ true → (if b then c else true) ≡ true → c ≡ true
 if_true b c e f = let g : (if true then c else true) ≡ true = rw e at f in g
 
 -- ---- the second table

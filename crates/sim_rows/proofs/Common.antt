@@ -9,7 +9,7 @@ pub use Rattle.sim_operands.proofs.Paths.{rest_is}
 pub use Rattle.sim_operands.proofs.Ready.{idle_grom, idle_video, ready, set_is}
 pub use Rattle.sim_rows.proofs.Again.{begins, fetched_again, first_way, idle_again, idle_told, second_way}
 pub use Rattle.sim_rows.proofs.Beginning.{back_is, from, just, known, located_at, lost, where_found}
-pub use Rattle.sim_rows.proofs.Codes.{one_below, two_above}
+pub use Rattle.sim_rows.proofs.Codes.{if_true, one_below, two_above}
 pub use Rattle.sim_rows.proofs.Ends.{fetched_of, idle_of, leaves, matches, reaches, same_state, state_at, stops, turned_by, turned_from}
 pub use Rattle.sim_rows.proofs.Facts.{not_above}
 pub use Rattle.sim_rows.proofs.Fronting.{barred, barred_stops, finds_of, from_placed, holds_addressed, holds_again, holds_loaded, located, place_is, sees_again}

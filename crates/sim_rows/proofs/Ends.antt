@@ -2,6 +2,7 @@
 use Rattle.std.proofs.Common.{ℕ, ◌+◌, ◌<◌, ◌∙◌, ◌≡◌, ◌≤◌, ap, arith, Bool, Err, false, is_none, List, lit<, not, Ok, refl, Result, slice_index, subst, suc}
 use Rattle.std.proofs.Common.{sym, true, zero}
 use Rattle.sim_view.proofs.Common.{given, holds_register, previous-next, runs_then}
+use Rattle.sim_operands.proofs.Facts.{not_both}
 use Rattle.sim_rows.specs.Prelude.{bound, Cell, Comes, Dispatched, Ended, GEXIT, Gives, GplState, grom_at, GromState, GSTEP, GSTOP, HoldsRegister, is_end}
 use Rattle.sim_rows.specs.Prelude.{IsFetched, IsHalted, Length, MachineState, Matches, Memory, next_in_grom, number_of, Opcode, PortsAreIdle}
 use Rattle.sim_rows.specs.Prelude.{previous_in_grom, Reaches, Reason, Register, Runs, Sees, shown_by, Stack, Stands, StandsBy, state_at_dispatch, state_of}
@@ -101,9 +102,6 @@ stops s reason y other stands h = record {
 -- a run from elsewhere to an end has an instruction
 some_of : (count : ℕ) (x y : MachineState) → Runs count x y → is_end x.cpu.pc ≡ false → is_end y.cpu.pc ≡ true → 0 < count
 some_of zero x y r a b = absurd (not_both (is_end x.cpu.pc) (ap (λ (z : MachineState). is_end z.cpu.pc) (given x y r.leads) ∙ b) a)
-  where
-    not_both : (b : Bool) → b ≡ true → b ≡ false → ⊥
-    not_both b e f = cc
 some_of (suc count) x y r a b = omega arith
 
 -- what is come to from a dispatch

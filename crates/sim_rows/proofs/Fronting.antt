@@ -7,6 +7,7 @@ use Rattle.sim_rows.specs.Prelude.{Dispatched, even, Exits, Finds, FindsOperand,
 use Rattle.sim_rows.specs.Prelude.{MachineState, next_at, number_of_space, operand_at, operation_in, Place, place_in, place_of, Placed, previous_in_grom}
 use Rattle.sim_rows.specs.Prelude.{Reason, return_of, ROW, row_width, Sees, size_of, Space, state_at_dispatch, state_of, StoppedBy, Vdp, VdpState, View, view}
 use Rattle.sim_rows.specs.Prelude.{WIDE, width_in, word_or_byte}
+use Rattle.sim_operands.proofs.Facts.{not_both}
 use Rattle.sim_rows.proofs.Entries.{Kind, narrow, storer, wide}
 use Rattle.sim_rows.proofs.Steps.{place_same}
 use Rattle.sim_rows.specs.Pieces as pieces
@@ -29,9 +30,6 @@ size_is code = by (code % 2 == 1) refl
     by true e = let n : code % 2 ≡ 1 = eqb-true (code % 2) 1 e in omega arith
     by false e = let n : code % 2 ≡ 0 = not_one e in omega arith
       where
-        not_both : (b : Bool) → b ≡ true → b ≡ false → ⊥
-        not_both b f g = cc
-
         not_one : (code % 2 == 1) ≡ false → code % 2 ≡ 0
         not_one f = let g : code % 2 ≡ 1 → ⊥ = λ m. not_both (code % 2 == 1) (eq-eqb (code % 2) 1 m) f in omega arith
 
@@ -75,55 +73,38 @@ holds_again s bytes more next v w h c d g r0 r1 r13 r3 = record {
 
 pub holds_addressed : (s : GplState) (bytes at next : ℕ) (v w : View) {address form : ℕ} → Holds s bytes at v → Addressed v address form next w →
     Holds s bytes next w
-holds_addressed s bytes at next v w h a =
-    let e = a.is in
-    record {
-      sees = record {
-        cells = ap (λ (u : View). u.cells) e ∙ h.sees.cells;
-        vdp = ap (λ (u : View). u.vdp.memory) e ∙ h.sees.vdp;
-        registers = ap (λ (u : View). u.vdp.registers) e ∙ h.sees.registers;
-        held = ap (λ (u : View). u.vdp.held) e ∙ h.sees.held;
-        grom = ap (λ (u : View). u.grom) e ∙ ap (λ (g : GromState). grom_at g.image next) h.sees.grom;
-      };
-      code = ap (λ (u : View). u.r.r0) e ∙ h.code;
-      address = ap (λ (u : View). u.r.r1) e ∙ h.address;
-      bytes_are = ap (λ (u : View). u.r.r3) e ∙ h.bytes_are;
-      mark = ap (λ (u : View). u.r.r13) e ∙ h.mark;
-    }
+holds_addressed s bytes at next v w h a = subst (Holds s bytes next) (sym a.is) (record {
+  sees = record {
+    cells = h.sees.cells;
+    vdp = h.sees.vdp;
+    registers = h.sees.registers;
+    held = h.sees.held;
+    grom = ap (λ (g : GromState). grom_at g.image next) h.sees.grom;
+  };
+  code = h.code;
+  address = h.address;
+  bytes_are = h.bytes_are;
+  mark = h.mark;
+})
 
 pub from_placed : (next : ℕ) (place : Place) (v w : View) → Placed v next place w → LoadsFrom place w
 from_placed next place v w a = record { address = ap (λ (u : View). u.r.r2) a.is; space = ap (λ (u : View). u.r.r5) a.is }
 
 pub holds_loaded : (s : GplState) (bytes at number : ℕ) (v w : View) → Holds s bytes at v → Loaded v number w → Holds s bytes at w
-holds_loaded s bytes at number v w h a =
-    let e = a.is in
-    record {
-      sees = record {
-        cells = ap (λ (u : View). u.cells) e ∙ h.sees.cells;
-        vdp = ap (λ (u : View). u.vdp.memory) e ∙ h.sees.vdp;
-        registers = ap (λ (u : View). u.vdp.registers) e ∙ h.sees.registers;
-        held = ap (λ (u : View). u.vdp.held) e ∙ h.sees.held;
-        grom = ap (λ (u : View). u.grom) e ∙ h.sees.grom;
-      };
-      code = ap (λ (u : View). u.r.r0) e ∙ h.code;
-      address = ap (λ (u : View). u.r.r1) e ∙ h.address;
-      bytes_are = ap (λ (u : View). u.r.r3) e ∙ h.bytes_are;
-      mark = ap (λ (u : View). u.r.r13) e ∙ h.mark;
-    }
+holds_loaded s bytes at number v w h a = subst (Holds s bytes at) (sym a.is) (record {
+  sees = record { cells = h.sees.cells; vdp = h.sees.vdp; registers = h.sees.registers; held = h.sees.held; grom = h.sees.grom };
+  code = h.code;
+  address = h.address;
+  bytes_are = h.bytes_are;
+  mark = h.mark;
+})
 
 -- A stop by the cells keeps the state.
 pub barred_stops : (s : GplState) (bytes at : ℕ) (reason : Reason) (v w : View) → Holds s bytes at v → Barred v reason w → StoppedBy s reason w
-barred_stops s bytes at reason v w h a =
-    let e = a.is in
-    record {
-      ended = record {
-        cells = ap (λ (u : View). u.cells) e ∙ h.sees.cells;
-        vdp = ap (λ (u : View). u.vdp.memory) e ∙ h.sees.vdp;
-        registers = ap (λ (u : View). u.vdp.registers) e ∙ h.sees.registers;
-        address = ap (λ (u : View). u.r.r1) e ∙ h.address;
-      };
-      reason_is = ap (λ (u : View). u.r.r0) e;
-    }
+barred_stops s bytes at reason v w h a = subst (StoppedBy s reason) (sym a.is) (record {
+  ended = record { cells = h.sees.cells; vdp = h.sees.vdp; registers = h.sees.registers; address = h.address };
+  reason_is = refl;
+})
 
 -- ---- what ADDR finds, said of the state
 
@@ -132,16 +113,13 @@ pub finds_of : (s t : GplState) (bytes at : ℕ) (x y : MachineState) (before af
     (let read = operand_at s.image at in Finds x y before after read.1 (place_of t bytes read.0))
 finds_of s t bytes at x y before after h same f =
     let v : View = view x in
-    let image : List ℕ → ℕ → ℕ → Type 0 = λ image from bytes. (let read = operand_at image from in
+    let found : List ℕ → ℕ → ℕ → Type 0 = λ image from bytes. (let read = operand_at image from in
     Finds x y before after read.1 (place_of (state_of v) bytes read.0)) in
-    let i : v.grom.image ≡ s.image = ap (λ (g : GromState). g.image) h.sees.grom in
     let n : next_at v ≡ at = ap (λ (g : GromState). previous_in_grom g.counter) h.sees.grom ∙ previous-next at in
-    let f1 : image s.image (next_at v) v.r.r3 = subst (λ (l : List ℕ). image l (next_at v) v.r.r3) i f in
-    let f2 : image s.image at v.r.r3 = subst (λ (k : ℕ). image s.image k v.r.r3) n f1 in
-    let f3 : image s.image at bytes = subst (λ (k : ℕ). image s.image at k) h.bytes_are f2 in
+    let f1 = subst (λ (l : List ℕ). found l (next_at v) v.r.r3) (ap (λ (g : GromState). g.image) h.sees.grom) f in
+    let f2 = subst (λ (b : ℕ). found s.image at b) h.bytes_are (subst (λ (k : ℕ). found s.image k v.r.r3) n f1) in
     let read = operand_at s.image at in
-    let to : Result Place Reason → Type 0 = λ r. Finds x y before after read.1 r in
-    subst to (place_same (state_of v) t bytes read.0 (h.sees.cells ∙ sym same)) f3
+    subst (λ (r : Result Place Reason). Finds x y before after read.1 r) (place_same (state_of v) t bytes read.0 (h.sees.cells ∙ sym same)) f2
 
 -- ---- the first operand
 

@@ -179,17 +179,21 @@ module _ (s : GplState) (x : MachineState) (t : ℕ) (fits : code_byte s < 256) 
   stopped_row y u told none l = stopped_by y u told none (operands_of s) refl l
 
   -- what was made of the operands is the step
+  step_of : (place : Place) (source : Source) (op : GplOperation) → operation_in s ≡ Some op → operands_of s ≡ Ok (place, source) →
+      (r : Result Changes Reason) → row_result op s place source ≡ r → step s ≡ (r >>= λ (c : Changes). Ok (finished c))
+  step_of place source op e is r f =
+      let same : value_at (gone_on s) (row_width s) place ≡ value_at s (row_width s) place = value_same (gone_on s) s (row_width s) place refl refl in
+      step_row s op fits e (subst (λ (o : Option GplOperation). is_row o ≡ true) e row)
+      ∙ ap (λ (r : Result (Place × Source) Reason). r >>= row_after s op) is
+      ∙ ap (λ (n : ℕ). result_of op (row_width s) place n source (unchanged (gone_on s)) >>= λ (c : Changes). Ok (finished c)) same
+      ∙ ap (λ (r : Result Changes Reason). r >>= λ (c : Changes). Ok (finished c)) f
+
   made : (y : MachineState) (u most : ℕ) (place : Place) (source : Source) (op : GplOperation) → operation_in s ≡ Some op → operands_of s ≡ Ok (place, source)
       → most ≤ 411 →
       (r : Result Changes Reason) → row_result op s place source ≡ r → Comes most x y t u GSTEP (SeesResult r) → Turned s most_to_dispatch x y t u Stepped
   made y u most place source op e is le (Ok c) f run =
-      let same : value_at (gone_on s) (row_width s) place ≡ value_at s (row_width s) place = value_same (gone_on s) s (row_width s) place refl refl in
-      let after : row_after s op (place, source) ≡ Ok (finished c) =
-      ap (λ (n : ℕ). result_of op (row_width s) place n source (unchanged (gone_on s)) >>= λ (c : Changes). Ok (finished c)) same
-      ∙ ap (λ (r : Result Changes Reason). r >>= λ (c : Changes). Ok (finished c)) f in
-      let row2 : is_row (Some op) ≡ true = subst (λ (o : Option GplOperation). is_row o ≡ true) e row in
-      let step_is : step s ≡ Ok (finished c) = step_row s op fits e row2 ∙ ap (λ (r : Result (Place × Source) Reason). r >>= row_after s op) is ∙ after in
-      let b = bound_row s (finished c) op e row2 step_is in
+      let step_is = step_of place source op e is (Ok c) f in
+      let b = bound_row s (finished c) op e (subst (λ (o : Option GplOperation). is_row o ≡ true) e row) step_is in
       turned_by x y t u 29 Stepped s (Ok (finished c)) step_is
       (refl, reaches 29 (bound s) run start refl (omega arith), matches (finished c) y run.stands run.holds)
   made y u most place source op e is le (Err reason) f run = absurd (run.holds)
@@ -202,12 +206,7 @@ module _ (s : GplState) (x : MachineState) (t : ℕ) (fits : code_byte s < 256) 
   turned_as y u most place source op turn e is le (Ok c) f other run =
       subst (λ (a : Turn). Turned s most_to_dispatch x y t u a) (sym run.0) (made y u most place source op e is (omega arith) (Ok c) f run.1)
   turned_as y u most place source op turn e is le (Err reason) f other run =
-      let same : value_at (gone_on s) (row_width s) place ≡ value_at s (row_width s) place = value_same (gone_on s) s (row_width s) place refl refl in
-      let after : row_after s op (place, source) ≡ Err reason =
-      ap (λ (n : ℕ). result_of op (row_width s) place n source (unchanged (gone_on s)) >>= λ (c : Changes). Ok (finished c)) same
-      ∙ ap (λ (r : Result Changes Reason). r >>= λ (c : Changes). Ok (finished c)) f in
-      let row2 : is_row (Some op) ≡ true = subst (λ (o : Option GplOperation). is_row o ≡ true) e row in
-      let step_is : step s ≡ Err reason = step_row s op fits e row2 ∙ ap (λ (r : Result (Place × Source) Reason). r >>= row_after s op) is ∙ after in
+      let step_is = step_of place source op e is (Err reason) f in
       let b = bound_stop s reason step_is in
       turned_by x y t u 29 turn s (Err reason) step_is
       (run.0, reaches 29 (bound s) run.1 start refl (omega arith), stops s reason y (other reason refl) run.1.stands run.1.holds)

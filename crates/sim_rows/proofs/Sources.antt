@@ -38,15 +38,9 @@ module _ {x a : MachineState} {t t1 : ℕ} (e : Exits x a t t1 (pieces.ask_secon
     streaming : (last_out SRL v.r.r0 2 ≡ true) × Exits x a t t1 (exit 5 STREAM (told GO))
     streaming = first_way STREAM x a t t1 (last_out SRL v.r.r0 2) (exit 5 STREAM (told GO)) (exit 4 ADDR (told OPVAL)) e (λ q. absurd (omega arith)) here
 
-    pub stands_streaming : Stands a STREAM
-    stands_streaming = streaming.1.stands
-
   module _ (away : a.cpu.pc ≡ STREAM → ⊥) where
     asking : (last_out SRL v.r.r0 2 ≡ false) × Exits x a t t1 (exit 4 ADDR (told OPVAL))
     asking = second_way STREAM x a t t1 (last_out SRL v.r.r0 2) (exit 5 STREAM (told GO)) (exit 4 ADDR (told OPVAL)) e refl away
-
-    pub stands_asking : Stands a ADDR
-    stands_asking = asking.1.stands
 
     pub shows_asking : view a ≡ told OPVAL
     shows_asking = asking.1.shows
@@ -88,8 +82,8 @@ module _ {x a : MachineState} {t t1 : ℕ} (e : Exits x a t t1 (pieces.ask_secon
       streamed_is =
           let by : GromState → Exit = λ g. operands.stream (record (told GO) { grom = g }) in
           let c : Comes 5 x a t t1 STREAM (λ w. w ≡ told GO) = comes (streaming here).1 (record { within = omega arith; to_is = refl; holds = refl }) in
-          comes_then 5 7 c e2
-          (from operands.stream c.holds (known (ap by k.holds.sees.grom) (streams set (ap (grom_at s.image) (sym (previous-next next)))))) refl
+          comes_then 5 7 c e2 (from operands.stream c.holds (known (ap by k.holds.sees.grom)
+          (streams set (ap (grom_at s.image) (sym (previous-next next)))))) refl
 
       read_is : value_in (not (v.r.r3 == 1)) s.image (next_at set) ≡ read
       read_is =
@@ -100,28 +94,27 @@ module _ {x a : MachineState} {t t1 : ℕ} (e : Exits x a t t1 (pieces.ask_secon
       immediate =
           let bit = sym bit_is ∙ (streaming here).0 in
           loaded (record { number = read.0; place = None }) true bit (second_is true bit)
-          (comes_as 68 _ streamed_is (omega arith) (λ w is. record {
+          (comes_as 68 _ streamed_is (omega arith) (λ w is. subst (Sourced s place (record { number = read.0; place = None }) read.1) (sym is) (record {
             holds = record {
               sees = record {
-                cells = ap (λ (q : View). q.cells) is ∙ k.holds.sees.cells;
-                vdp = ap (λ (q : View). q.vdp.memory) is ∙ k.holds.sees.vdp;
-                registers = ap (λ (q : View). q.vdp.registers) is ∙ k.holds.sees.registers;
-                held = ap (λ (q : View). q.vdp.held) is ∙ k.holds.sees.held;
-                grom = ap (λ (q : View). q.grom) is ∙ ap (λ (r : ℕ × ℕ). grom_at s.image r.1) read_is;
+                cells = k.holds.sees.cells;
+                vdp = k.holds.sees.vdp;
+                registers = k.holds.sees.registers;
+                held = k.holds.sees.held;
+                grom = ap (λ (r : ℕ × ℕ). grom_at s.image r.1) read_is;
               };
-              code = ap (λ (q : View). q.r.r0) is ∙ k.holds.code;
-              address = ap (λ (q : View). q.r.r1) is ∙ k.holds.address;
-              bytes_are = ap (λ (q : View). q.r.r3) is ∙ k.holds.bytes_are;
-              mark = ap (λ (q : View). q.r.r13) is ∙ k.holds.mark;
+              code = k.holds.code;
+              address = k.holds.address;
+              bytes_are = k.holds.bytes_are;
+              mark = k.holds.mark;
             };
-            to_place = record { address = ap (λ (q : View). q.r.r7) is ∙ k.to_place.address; space = ap (λ (q : View). q.r.r8) is ∙ k.to_place.space };
-            destination = λ reads. ap (λ (q : View). q.r.r9) is ∙ k.destination reads;
+            to_place = record { address = k.to_place.address; space = k.to_place.space };
+            destination = k.destination;
             from_source = tt;
-            value = ap (λ (q : View). q.r.r6) is ∙ ap (λ (n : ℕ). in_register (width_in n) (value_in (not (v.r.r3 == 1)) s.image (next_at set)).0)
-                k.holds.bytes_are
+            value = ap (λ (n : ℕ). in_register (width_in n) (value_in (not (v.r.r3 == 1)) s.image (next_at set)).0) k.holds.bytes_are
                 ∙ ap (λ (w : Width). in_register w (value_in (not (v.r.r3 == 1)) s.image (next_at set)).0) (width_of_size (word_of s))
                 ∙ ap (λ (r : ℕ × ℕ). in_register (row_width s) r.0) read_is;
-          }))
+          })))
 
     -- ---- a source at a place
 

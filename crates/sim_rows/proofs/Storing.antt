@@ -109,31 +109,18 @@ store_then c width place number x y t u h l =
     (changes_are c width place number v h) l in
     let splits = value_splits width place number c in
     let keeps = value_keeps width place number c in
-    comes_as 16 (ChangedFrom both v) l1 (omega arith) (λ w a. record {
+    comes_as 16 (ChangedFrom both v) l1 (omega arith) (λ w a. subst (ChangedFrom both v) (sym a.is) (record {
       changed = record {
-        cells = ap (λ (u : View). u.cells) a.is ∙ ap (λ (s : GplState). s.cells) (sym splits.0);
-        vdp = ap (λ (u : View). u.vdp.memory) a.is ∙ ap (λ (s : GplState). s.vdp) (sym splits.0);
-        registers = ap (λ (u : View). u.vdp.registers) a.is ∙ ap (λ (s : GplState). s.registers) (sym splits.0);
-        held = ap (λ (u : View). u.vdp.held) a.is ∙ h.changed.held;
-        grom = ap (λ (u : View). u.grom) a.is ∙ h.changed.grom ∙ ap (λ (l : List ℕ). grom_at l c.state.pc) (sym keeps.0)
-            ∙ ap (λ (n : ℕ). grom_at both.state.image n) (sym keeps.1);
-        mark = ap (λ (u : View). u.r.r13) a.is ∙ ap (λ n. marked_by alone.shows n) h.changed.mark ∙ sym splits.1;
+        cells = ap (λ (s : GplState). s.cells) (sym splits.0);
+        vdp = ap (λ (s : GplState). s.vdp) (sym splits.0);
+        registers = ap (λ (s : GplState). s.registers) (sym splits.0);
+        held = h.changed.held;
+        grom = h.changed.grom ∙ ap (λ (l : List ℕ). grom_at l c.state.pc) (sym keeps.0) ∙ ap (λ (n : ℕ). grom_at both.state.image n) (sym keeps.1);
+        mark = ap (λ n. marked_by alone.shows n) h.changed.mark ∙ sym splits.1;
       };
-      keeps = record {
-        r0 = ap (λ (u : View). u.r.r0) a.is;
-        r1 = ap (λ (u : View). u.r.r1) a.is;
-        r2 = ap (λ (u : View). u.r.r2) a.is;
-        r3 = ap (λ (u : View). u.r.r3) a.is;
-        r5 = ap (λ (u : View). u.r.r5) a.is;
-        r6 = ap (λ (u : View). u.r.r6) a.is;
-        r7 = ap (λ (u : View). u.r.r7) a.is;
-        r8 = ap (λ (u : View). u.r.r8) a.is;
-        r10 = ap (λ (u : View). u.r.r10) a.is;
-        r12 = ap (λ (u : View). u.r.r12) a.is;
-      };
-    })
+      keeps = record { r0 = refl; r1 = refl; r2 = refl; r3 = refl; r5 = refl; r6 = refl; r7 = refl; r8 = refl; r10 = refl; r12 = refl };
+    }))
 
--- STORE leaves the ports idle.
 pub stored_idle : (x y : MachineState) (t u : ℕ) → PortsAreIdle x.cpu.memory → StoresValue x y t u → PortsAreIdle y.cpu.memory
 stored_idle x y t u i l =
     let is = l.holds.is in

@@ -4,15 +4,13 @@ use Rattle.sim_view.proofs.Common.{comes_as, comes_on}
 use Rattle.sim_rows.specs.Prelude.{◌>>=◌, behind_first, code_byte, Comes, Exits, first_of, GO, GplOperation, GplState, has_source, is_row, Kept}
 use Rattle.sim_rows.specs.Prelude.{KeepsDestination, AtRow, LoadsBy, LoadsDestination, LoadsOperands, MachineState, next_of, operands_of, operation_in, Place}
 use Rattle.sim_rows.specs.Prelude.{Reason, second_by, second_of, Source, source_read, Sourced, Stands, StartsRow, unit, view}
+use Rattle.sim_operands.proofs.Facts.{not_both}
 use Rattle.sim_rows.proofs.Operands.{goes_to_row}
 use Rattle.sim_rows.specs.Pieces as pieces
 use Rattle.sim_view.specs.native_interp.declared.addresses.TheConstants.{OPSTWO}
 
 pub stands_at : {p : ℕ} (q : ℕ) (x : MachineState) → x.cpu.pc ≡ q → Stands x p → Stands x q
 stands_at q x e s = record { pc = e; wp = s.wp; words = s.words; machine = s.machine }
-
-not_both : (b : Bool) → b ≡ true → b ≡ false → ⊥
-not_both b e f = cc
 
 -- both operands by their parts
 abbrev Loads : GplState → MachineState → MachineState → ℕ → ℕ → Bool → Result Place Reason → Result Source Reason → Type 0

@@ -54,12 +54,13 @@ pub use Rattle.sim_operands.specs.Subroutines.{Addressed, Barred, Finds, FindsOp
 pub use Rattle.sim_operands.specs.Subroutines.{LoadsValue, marked_by, next_at, place_in, Placed, state_of, Stored}
 pub use Rattle.sim_operands.specs.Subroutines.{StoresRegister, StoresValue, streamed}
 pub use Rattle.sim_operands.specs.Values.{in_register, IsVisible, number_of_space, of_register, width_in}
-pub use Rattle.sim_rows.specs.Results.{Changed, EndsRow, HasStarted, result_of, row_result, RunsRow, SeesFinished, SeesResult}
-pub use Rattle.sim_rows.specs.Results.{StartsRow, StoresResult, Storing, TurnsBy, TurnsRow}
+pub use Rattle.sim_rows.specs.Results.{Changed, EndsRow, HasStarted, result_of, row_result, RunsRow, SeesFinished}
+pub use Rattle.sim_rows.specs.Results.{SeesResult, StartsRow, StoresResult, Storing, TurnsBy, TurnsRow}
 pub use Rattle.sim_rows.specs.Rows.{Asking, AtEntry, AtRow, behind_destination, behind_first, bytes_by}
 pub use Rattle.sim_rows.specs.Rows.{destination_bytes, first_of, gone_on, has_source, Holds, is_immediate, is_row}
-pub use Rattle.sim_rows.specs.Rows.{Kept, KeepsDestination, loaded_of, LoadsBy, LoadsDestination, LoadsFrom}
+pub use Rattle.sim_rows.specs.Rows.{KeepsDestination, Kept, loaded_of, LoadsBy, LoadsDestination, LoadsFrom}
 pub use Rattle.sim_rows.specs.Rows.{LoadsFromSource, LoadsOperands, LoadsSource, next_of, operands_of}
-pub use Rattle.sim_rows.specs.Rows.{reads_destination, row_width, second_by, second_of, source_read, Sourced, StoresTo, unit, word_of}
+pub use Rattle.sim_rows.specs.Rows.{reads_destination, row_width, second_by, second_of, source_read, Sourced}
+pub use Rattle.sim_rows.specs.Rows.{StoresTo, unit, word_of}
 pub use Rattle.sim_rows.specs.States.{AtDispatch, behind_code, code_byte, Dispatched, Ended, operation_in}
 pub use Rattle.sim_rows.specs.States.{operation_seen, Sees, state_at_dispatch, StoppedBy}

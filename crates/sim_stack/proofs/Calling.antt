@@ -173,9 +173,6 @@ module _ (s : GplState) {x a : MachineState} {t t1 : ℕ} (stands : Stands x GOC
         ending : Comes 26 x c t t3 SHOW (Changed after)
         ending = comes_then 14 12 found store (from pieces.store_next found.holds stores) refl
 
-        pub stands_ending : Stands c SHOW
-        stands_ending = ending.stands
-
         pub idle_ending : PortsAreIdle c.cpu.memory
         idle_ending = idle_told c.cpu.memory ending.holds.held (ap (λ (g : GromState). g.half_written) ending.holds.grom)
 

@@ -51,12 +51,6 @@ module _ {x a : MachineState} {t t1 : ℕ} (stands : Stands x FETCHV) (e : Exits
     went : (nat_lt 0xC0 offset ≡ false) × Exits x a t t1 (exit 7 WHERE placed)
     went = second_way GSTOP x a t t1 (nat_lt 0xC0 offset) (pieces.full 7 told) (exit 7 WHERE placed) e refl elsewhere
 
-    pub stands_where : Stands a WHERE
-    stands_where = went.1.stands
-
-    pub link_where : (view a).r.r11 ≡ FETCHN
-    link_where = ap (λ (v : View). v.r.r11) went.1.shows
-
     offset_near : offset ≤ 0xC0
     offset_near = at_most 0xC0 offset went.0
 

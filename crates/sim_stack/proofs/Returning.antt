@@ -3,7 +3,7 @@ use Rattle.std.proofs.Common.{ℕ, ◌<◌, ◌==◌, ◌∙◌, ◌≡◌, ap, 
 use Rattle.std.proofs.Common.{slice_index, slice_set, Some, subst, sym, true}
 use Rattle.std.proofs.lemmas.Bool.{agree_below_at, eqb-true}
 use Rattle.sim_rows.proofs.Common.{◌>>=◌, behind_code, bound, bound_made, Changes, code_byte, code_fits, Comes, comes, comes_as, comes_on, difference_of}
-use Rattle.sim_rows.proofs.Common.{Dispatched, Exit, exit, Exits, finished, first_way, goes_in, GORTN, GOTO, GplOperation, GplState, GSTEP, GSTOP, is_end}
+use Rattle.sim_rows.proofs.Common.{Dispatched, Exit, exit, Exits, finished, first_way, GORTN, GOTO, GplOperation, GplState, GSTEP, GSTOP, if_true, is_end}
 use Rattle.sim_rows.proofs.Common.{is_view, join, low, MachineState, matches, most_to_dispatch, on_stack, operation_at, operation_in, Plain, reaches, Reason}
 use Rattle.sim_rows.proofs.Common.{RTN, RTNC, second_way, Sees, SeesFinished, Stack, Stands, step, step_plain, Stepped, Stopped, StoppedBy, TAKE, Turned}
 use Rattle.sim_rows.proofs.Common.{turned_by, View, view, with_condition, Word, word_in}
@@ -23,10 +23,6 @@ rtn_of _ = false
 abbrev rtnc_of : Option GplOperation → Bool
 rtnc_of (Some (Plain RTNC)) = true
 rtnc_of _ = false
-
-if_true : (b c : Bool) → b ≡ true → (if b then c else true) ≡ true → c ≡ true
-if_true true c e f = f
-if_true false c e f = absurd (cc)
 
 abbrev rtn_is_zero : ℕ → Bool
 rtn_is_zero code = if rtn_of (operation_at code) then eqb code 0 else true
@@ -124,8 +120,11 @@ module _ (s : GplState) {x a : MachineState} {t u : ℕ} (stands : Stands x GORT
   stopped here =
       let k = first_way GSTOP x a t u (nat_lt 0xC0 offset) barred gone e goes_elsewhere here in
       let full : on_stack 2 (top_in s) ≡ Err Stack = no_room 0xC0 2 (top_in s) refl (ap (nat_lt 0xC0) (sym offset_top) ∙ k.0) in
-      let c : Comes 7 x a t u GSTOP (StoppedBy s Stack) = comes k.1 (goes_in (omega arith)
-      (record { ended = record { cells = d.sees.cells; vdp = d.sees.vdp; registers = d.sees.registers; address = d.address }; reason_is = refl })) in
+      let c : Comes 7 x a t u GSTOP (StoppedBy s Stack) = comes k.1 (record {
+        within = omega arith;
+        to_is = refl;
+        holds = record { ended = record { cells = d.sees.cells; vdp = d.sees.vdp; registers = d.sees.registers; address = d.address }; reason_is = refl };
+      }) in
       stop_turned s x a t u 7 start (step_full s (operation_in s) family refl full) c (omega arith)
 
   abbrev back : Changes

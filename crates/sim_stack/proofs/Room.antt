@@ -2,9 +2,8 @@
 use Rattle.std.proofs.Common.{ℕ, ◌+◌, ◌<◌, ◌∙◌, ◌≡◌, ◌≤◌, ap, arith, Bool, Err, false, if◌then◌else◌, nat_le, nat_lt, Ok, refl, Result, slice_index}
 use Rattle.std.proofs.Common.{true}
 use Rattle.std.proofs.lemmas.Bool.{le-leb, lt-leb, ltb-false, ltb-true}
-use Rattle.sim_rows.proofs.Common.{bound, bound_stop, Comes, difference_of, GplState, grown_by, GSTOP, high, is_end, join, Loaded, low, MachineState}
-use Rattle.sim_rows.proofs.Common.{most_to_dispatch, on_stack, place_in, plus, reaches, Reason, Sees, Stack, step, Stopped, StoppedBy, stops, sum_of, Turned}
-use Rattle.sim_rows.proofs.Common.{turned_by, value_at, View, Word}
+use Rattle.sim_rows.proofs.Common.{bound, bound_stop, Comes, difference_of, GplState, grown_by, GSTOP, high, is_end, join, low, MachineState, most_to_dispatch}
+use Rattle.sim_rows.proofs.Common.{on_stack, place_in, plus, reaches, Reason, Stack, step, Stopped, StoppedBy, stops, sum_of, Turned, turned_by, value_at, Word}
 use Rattle.sim_rows.specs.gpl_step_defs.Place.{word_at}
 use Rattle.sim_stack.specs.Pieces.{offset_of}
 
@@ -76,16 +75,3 @@ pub stop_turned : (s : GplState) (x a : MachineState) (t u most : ℕ) → is_en
 stop_turned s x a t u most start is c le =
     let b = bound_stop s Stack is in
     turned_by x a t u 29 (Stopped Stack) s (Err Stack) is (refl, reaches 29 (bound s) c start refl (omega arith), stops s Stack a (λ e. cc) c.stands c.holds)
-
--- ---- views
-
-pub sees_loaded : (s : GplState) (next number : ℕ) (v w : View) → Sees s next v → Loaded v number w → Sees s next w
-sees_loaded s next number v w h a =
-    let e = a.is in
-    record {
-      cells = ap (λ (u : View). u.cells) e ∙ h.cells;
-      vdp = ap (λ (u : View). u.vdp.memory) e ∙ h.vdp;
-      registers = ap (λ (u : View). u.vdp.registers) e ∙ h.registers;
-      held = ap (λ (u : View). u.vdp.held) e ∙ h.held;
-      grom = ap (λ (u : View). u.grom) e ∙ h.grom;
-    }

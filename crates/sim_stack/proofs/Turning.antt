@@ -2,9 +2,9 @@
 use Rattle.std.proofs.Common.{ℕ, ◌%◌, ◌<◌, ◌==◌, ◌∙◌, ◌≡◌, ap, arith, Bool, Err, false, if◌then◌else◌, not, Ok, Option, refl, Result, Some, subst, sym, true}
 use Rattle.std.proofs.lemmas.Bool.{agree_below_at}
 use Rattle.sim_rows.specs.Prelude.{HasStarted}
-use Rattle.sim_rows.proofs.Common.{◌>>=◌, AtDispatch, Byte, Changes, code_byte, GplOperation, GplState, MachineState, most_of_stack_row, most_to_dispatch}
-use Rattle.sim_rows.proofs.Common.{on_stack, One, operation_at, operation_in, Place, PUSH, Reason, row_result, row_width, size_of, Source, Stack}
-use Rattle.sim_rows.proofs.Common.{state_at_dispatch, Turn, Turned, TurnsRow, view, word_or_byte}
+use Rattle.sim_rows.proofs.Common.{◌>>=◌, AtDispatch, Byte, Changes, code_byte, GplOperation, GplState, if_true, MachineState, most_of_stack_row}
+use Rattle.sim_rows.proofs.Common.{most_to_dispatch, on_stack, One, operation_at, operation_in, Place, PUSH, Reason, row_result, row_width, size_of, Source}
+use Rattle.sim_rows.proofs.Common.{Stack, state_at_dispatch, Turn, Turned, TurnsRow, view, word_or_byte}
 use Rattle.sim_rows.specs.gpl_defs.declared.instruction.OneName.TheVariants.{FETCH}
 use Rattle.sim_rows.specs.gpl_step_defs.declared.reason.Reason.TheVariants.{Exit}
 use Rattle.sim_stack.specs.Family.{is_stack_row}
@@ -18,10 +18,6 @@ use Rattle.sim_rows.proofs.Family as family
 
 abbrev bytes_alone : ℕ → Bool
 bytes_alone code = if is_stack_row (operation_at code) then not (code % 2 == 1) else true
-
-if_true : (b c : Bool) → b ≡ true → (if b then c else true) ≡ true → c ≡ true
-if_true true c e f = f
-if_true false c e f = absurd (cc)
 
 not_true : (b : Bool) → not b ≡ true → b ≡ false
 not_true true e = absurd (cc)

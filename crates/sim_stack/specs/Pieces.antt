@@ -1,10 +1,10 @@
 -- What the pieces of CALL, RTN, PUSH and FETCH come to: how many instructions they have, where they end, and what they
 -- change of the view, in the words of the processor. Registers, cells and ports that are not named stay.
 use Rattle.std.specs.Prelude.{ℕ, ◌&&◌, ◌+◌, ◌==◌, Bool, if◌then◌else◌, nat_lt, not, slice_index, slice_set}
-use Rattle.sim_rows.specs.Prelude.{CALLN, CALLS, difference_of, Exit, exit, FETCH, FETCHA, FETCHB, FETCHD, FETCHK, FETCHN}
-use Rattle.sim_rows.specs.Prelude.{FETCHP, FETCHR, FETCHS, GOTO, GSTOP, high, join, LOAD, low, marked_by, RESUME}
-use Rattle.sim_rows.specs.Prelude.{past, RETURN_STACK, SEEK, set_to, shifted, SHOW, SLA, SRL, STO, STORE, sum_of, TAKE}
-use Rattle.sim_rows.specs.Prelude.{VALUE_STACK, View, WHERE, Word, word_in}
+use Rattle.sim_rows.specs.Prelude.{CALLN, CALLS, difference_of, Exit, exit, FETCH, FETCHA, FETCHB, FETCHD, FETCHK}
+use Rattle.sim_rows.specs.Prelude.{FETCHN, FETCHP, FETCHR, FETCHS, GOTO, GSTOP, high, join, LOAD, low, marked_by}
+use Rattle.sim_rows.specs.Prelude.{past, RESUME, RETURN_STACK, SEEK, set_to, shifted, SHOW, SLA, SRL, STO, STORE}
+use Rattle.sim_rows.specs.Prelude.{sum_of, TAKE, VALUE_STACK, View, WHERE, Word, word_in}
 use Rattle.sim_rows.specs.Pieces.{address_before, at_first, read_once}
 use Rattle.sim_rows.specs.sim_operands.Pieces.{one_if}
 
