@@ -38,8 +38,8 @@ pub fn bench_with<S: Source, F: Shelf, O: Sink, E: Sink>(
     ensures ends { EndsFileRun words.now (record {
       input = S.state input.old;
       input' = S.state input.new;
-      shelf = F.state shelf.old;
-      shelf' = F.state shelf.new;
+      shelf = F.shelf shelf.old;
+      shelf' = F.shelf shelf.new;
       outputs = record {
         out = O.state out.old;
         out' = O.state out.new;
@@ -47,8 +47,8 @@ pub fn bench_with<S: Source, F: Shelf, O: Sink, E: Sink>(
         err' = E.state err.new;
       };
     }) result }
-    ensures shelf { TakesOfShelf (program_command words.now) (F.state shelf.old) (F.state shelf.new) }
-    ensures later { Later (F.state shelf.old) (F.state shelf.new) }
+    ensures shelf { TakesOfShelf (program_command words.now) (F.shelf shelf.old) (F.shelf shelf.new) }
+    ensures later { Later (F.shelf shelf.old) (F.shelf shelf.new) }
 {
     match read_program_command(words) {
         Some(ProgramCommand::OverFiles(command)) => {

@@ -9,7 +9,7 @@ use Rattle.workbench.proofs.running.bench_with.Goals as goal
 
 pub returns-in-Some-OverFiles-clause-ends : goal.returns-in-Some-OverFiles-clause-ends
 returns-in-Some-OverFiles-clause-ends g c =
-    let shelf = g.F.Shelf.state in
+    let shelf = g.F.Shelf.shelf in
     let out = g.O.Sink.state in
     let err = g.E.Sink.state in
     let run : FileRun = record {
@@ -26,7 +26,7 @@ returns-in-Some-OverFiles-clause-ends g c =
 
 pub returns-in-Some-Plain-clause-ends : goal.returns-in-Some-Plain-clause-ends
 returns-in-Some-Plain-clause-ends g c =
-    let shelf = g.F.Shelf.state c.args.shelf.now in
+    let shelf = g.F.Shelf.shelf c.args.shelf.now in
     let out = g.O.Sink.state in
     let err = g.E.Sink.state in
     let run : FileRun = record {
