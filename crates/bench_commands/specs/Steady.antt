@@ -1,6 +1,6 @@
 -- The program over an input and outputs that never fail.
 use Rattle.std.specs.Prelude.{◌≡◌, ◌⊎◌, ℕ, List, Option, Some, None}
-use Rattle.bench_io.specs.Stream.{SourceState, SinkState}
+use Rattle.bench_io.specs.Stream.{SourceState, SinkState, opened_once}
 use Rattle.bench_io.specs.Memory.{Supply}
 use Rattle.report_defs.specs.declared.command.Command.{Command}
 use Rattle.report_defs.specs.declared.status.Status.{Status}
@@ -22,7 +22,7 @@ AnswersSteadily (Some command) input status = HasReportStatus command input stat
 
 -- a source of these bytes that never fails
 abbrev pub steady_source : Supply → SourceState
-steady_source s = record { left = Some s.left; calls = s.calls; taken = s.taken; empty = s.empty; faults = 0 }
+steady_source s = opened_once (Some s.left) s.calls s.taken s.empty 0
 
 -- a sink that never fails and tells nothing, behind so many calls of `put`
 abbrev pub steady_sink : ℕ → SinkState

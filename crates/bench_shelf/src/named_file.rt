@@ -8,8 +8,7 @@ ghost use Rattle.bench_shelf.specs.Causes.{Later, FileCauses, IsUnread, TookNoMo
 use crate::error::{FileError, OpenError};
 use crate::file_name::FileName;
 use crate::shelf::Shelf;
-use crate::whole::read_file;
-use bench_io::ReadError;
+use bench_io::{ReadError, read_all};
 use std::alloc::Global;
 
 /// The bytes of the file of a name, `limit` at most. The file is asked for once, and no other; no more than one byte
@@ -42,7 +41,7 @@ pub fn read_named<F: Shelf>(
         Err(OpenError::Failed) => return Err(FileError::Fault),
         Err(OpenError::Missing) => return Err(FileError::Missing),
     }
-    match read_file(alloc, shelf, limit) {
+    match read_all(alloc, shelf, limit) {
         Ok(bytes) => Ok(bytes),
         Err(ReadError::TooLarge) => Err(FileError::TooLarge),
         Err(ReadError::Fault) => Err(FileError::Fault),
