@@ -43,7 +43,7 @@ takes_within false before after bytes nothing = rw nothing.1 (omega arith)
 
 -- an input that is too large
 pub reads_too_much : (run : Run) (command : Command) → reads command ≡ true → GaveUp error.TooLarge spec.largest_input run.input run.input' → ReportsOn (Some command) run (spec.Faulty fault.TooLarge)
-reads_too_much run command reading (bytes, long, took) =
+reads_too_much run command reading (bytes, long, took, most) =
     let above : nat_lt spec.largest_input (length bytes) ≡ true = grind (arith, nat_tests) in
     let input : ReadsInput run.input run.input' bytes = record { took = rw above took; within = omega arith; whole = λ le. absurd (omega arith) } in
     (bytes, rw reading input, rw above refl)
