@@ -8,7 +8,7 @@ use Rattle.interp_defs.specs.Machines.{MachinesMatchSteps}
 use Rattle.report_defs.specs.declared.command.Command.{Command}
 use Rattle.report_defs.specs.declared.status.Status.{Status}
 use Rattle.report_defs.specs.declared.status.Status.TheVariants.{Memory}
-use Rattle.report_defs.specs.Commands.{command_of, reads}
+use Rattle.report_defs.specs.Commands.{reads}
 use Rattle.report_defs.specs.Report.{Report, status_of, ReportOn}
 use Rattle.report_defs.specs.Laws.{OneReport, FrontsBeginReports, ListedInputsComeBack, ListedWordsComeBack}
 use Rattle.reports.specs.Outputs.{Outputs, WroteReport}
@@ -41,16 +41,16 @@ pub record WroteTheReport (Reports : Report → Type 0) (outputs : Outputs) (sta
 abbrev pub Completeness : Type 0
 Completeness =
     (run : Run) (command : Command) (input : List ℕ) (status : Status)
-    → command_of run.words ≡ Some command → TellsInput command run.input input → HasNoFault run
+    → run.said ≡ Some command → TellsInput command run.input input → HasNoFault run
     → EndsBy run status → status ≢ Memory
     → WroteTheReport (ReportOn command (read_of command input)) run.outputs status
 
--- two runs begin with the same words, and the bytes that their command reads are told and are the same
+-- the words of two runs say the same, and the bytes that their command reads are told and are the same
 pub record BeginAlike (first second : Run) : Type 0 where
-  pub words : first.words ≡ second.words
+  pub said : first.said ≡ second.said
   pub bytes : List ℕ
-  pub one : (command : Command) → command_of first.words ≡ Some command → TellsInput command first.input bytes
-  pub other : (command : Command) → command_of second.words ≡ Some command → TellsInput command second.input bytes
+  pub one : (command : Command) → first.said ≡ Some command → TellsInput command first.input bytes
+  pub other : (command : Command) → second.said ≡ Some command → TellsInput command second.input bytes
 
 -- the law, which is proved: two such runs in which no count rose have one answer, if neither is want of memory
 abbrev pub OneAnswer : Type 0

@@ -5,6 +5,7 @@ use Rattle.bench_io.specs.Memory.{Supply}
 use Rattle.report_defs.specs.declared.command.Command.{Command}
 use Rattle.report_defs.specs.declared.status.Status.{Status}
 use Rattle.report_defs.specs.declared.status.Status.TheVariants.{Usage, Memory}
+use Rattle.report_defs.specs.Commands.{command_of}
 use Rattle.report_defs.specs.Report.{Report, status_of, ReportOn}
 use Rattle.bench_commands.specs.Run.{EndsBy}
 use Rattle.bench_commands.specs.Laws.{read_of}
@@ -33,7 +34,7 @@ pub record EndsSteadily (words : List (List ℕ)) (input input' : Supply) (statu
   pub out : ℕ
   pub err : ℕ
   pub ends : EndsBy (record {
-    words = words;
+    said = command_of words;
     input = steady_source input;
     input' = steady_source input';
     outputs = record { out = steady_sink 0; out' = steady_sink out; err = steady_sink 0; err' = steady_sink err };

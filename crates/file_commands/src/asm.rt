@@ -12,7 +12,7 @@ ghost use Rattle.report_defs.specs.Report.{largest_input};
 ghost use Rattle.file_report_defs.specs.Reports.{copy_report};
 ghost use Rattle.file_commands.specs.Copying.{copy_refusal};
 ghost use Rattle.file_commands.specs.Reported.{CopyReported, FailureCauses};
-ghost use Rattle.reports.specs.Answers.{answer, Reported, told};
+ghost use Rattle.reports.specs.Answers.{answer, Reported, error_answer};
 
 use crate::causes::copy_line;
 use bench_shelf::{CopyError, Shelf, copy_assemble};
@@ -49,7 +49,7 @@ pub fn asm_files<F: Shelf>(alloc: Global, shelf: &mut F, text: &[u8]) -> Result<
 
 /// Why a source is refused, or is not assembled.
 fn refused(error: CopyError) -> Unreported
-    ensures { told result ≡ seen (λ refusal. copy_report (Err refusal)) (copy_refusal error) }
+    ensures { error_answer result ≡ seen (λ refusal. copy_report (Err refusal)) (copy_refusal error) }
 {
     match error {
         CopyError::At { file, line, cause } => Unreported::Refused(copy_line(file, line, cause)),

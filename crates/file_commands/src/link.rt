@@ -10,7 +10,7 @@ ghost use Rattle.file_report_defs.specs.LinkedFiles.{linked_texts};
 ghost use Rattle.file_report_defs.specs.Reports.{files_report};
 ghost use Rattle.file_commands.specs.Reading.{defined_texts, refusal_of};
 ghost use Rattle.file_commands.specs.Reported.{LinkReported, FailureCauses};
-ghost use Rattle.reports.specs.Answers.{answer, WantsMemory, Reported, told};
+ghost use Rattle.reports.specs.Answers.{answer, WantsMemory, Reported, error_answer};
 
 use crate::causes::missing_line;
 use crate::error::ReadingError;
@@ -55,7 +55,7 @@ pub fn link_files<F: Shelf>(
 
 /// Why files are not read.
 fn unread(error: ReadingError) -> Unreported
-    ensures { told result ≡ seen (λ refusal. files_report (Err refusal)) (refusal_of error) }
+    ensures { error_answer result ≡ seen (λ refusal. files_report (Err refusal)) (refusal_of error) }
 {
     match error {
         ReadingError::Missing(name) => Unreported::Refused(missing_line(name)),

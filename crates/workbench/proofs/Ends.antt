@@ -188,5 +188,5 @@ module _ (run : FileRun) (source : List ℕ) (whole : ReadWhole largest_input ru
 
 -- how the run of what the words say ends
 pub ends_as : (words : List (List ℕ)) (found : Option ProgramCommand) (run : FileRun) (end : Status)
-    → found ≡ program_command words → EndsSaid found words run end → EndsFileRun words run end
-ends_as words found run end said ends = subst (λ (f : Option ProgramCommand). EndsSaid f words run end) said ends
+    → found ≡ program_command words → EndsSaid found run end → EndsFileRun words run end
+ends_as words found run end said ends = subst (λ (f : Option ProgramCommand). EndsSaid f run end) said ends

@@ -7,13 +7,13 @@ ghost use Rattle.workbench.specs.Laws.{LawsOfFileRuns};
 
 use crate::command::{ProgramCommand, read_program_command};
 use crate::over_files::report_over;
-use crate::usage::finish_usage;
+use crate::usage::usage;
 use bench_commands::run_command;
 use bench_io::{Sink, Source};
 use bench_shelf::Shelf;
 use command_words::Words;
 use report_defs::Status;
-use reports::finish;
+use reports::{finish, tell};
 use std::alloc::Global;
 
 /// Runs the command that the words say. `asm` reads the source from `input` and the files that it copies from `shelf`;
@@ -55,6 +55,6 @@ pub fn bench_with<S: Source, F: Shelf, O: Sink, E: Sink>(
             finish(&report_over(alloc, &command, input, shelf), out, err)
         }
         Some(ProgramCommand::Plain(command)) => run_command(alloc, command, input, out, err),
-        None => finish_usage(err),
+        None => tell(usage(), Status::Usage, err),
     }
 }
