@@ -1,22 +1,19 @@
 -- What holds of all runs with files.
-use Rattle.std.proofs.Common.{◌≡◌, ◌≢◌, ℕ, List, [], ◌∷◌, length, Option, Some, None, Bool, true, false, refl, sym, ap, ◌∙◌}
+use Rattle.std.proofs.Common.{◌≡◌, ◌≢◌, ℕ, List, length, Option, Some, None, Bool, true, false, refl, sym, ap, ◌∙◌}
 use Rattle.std.proofs.Common.{subst, inl, inr}
-use Rattle.std.specs.Prelude.{IfSome, MatchBool, nat_lt, if◌then◌else◌, codes}
-use Rattle.std.specs.Option.{option_map}
+use Rattle.std.specs.Prelude.{IfSome, MatchBool, nat_lt}
 use Rattle.source_defs.specs.Refusals.{◌>>=◌}
 use Rattle.shelf_defs.specs.Files.{Files}
 use Rattle.shelf_defs.specs.Assembly.{module_of_files}
 use Rattle.report_defs.specs.declared.command.Command.{Command}
-use Rattle.report_defs.specs.declared.command.Command.TheVariants as asked
 use Rattle.report_defs.specs.declared.fault.Fault.TheVariants.{TooLarge}
 use Rattle.report_defs.specs.declared.status.Status.{Status}
 use Rattle.report_defs.specs.declared.status.Status.TheVariants as status
-use Rattle.report_defs.specs.Commands.{command_of, same_word}
 use Rattle.report_defs.specs.Report.{Report, Faulty, OnInput, status_of, largest_input}
 use Rattle.file_report_defs.specs.LinkedFiles.{linked_texts, read_files}
 use Rattle.file_report_defs.specs.Reports.{copy_report, files_report}
 use Rattle.file_report_defs.specs.Words.{FileCommand, AsmFiles, LinkFiles, Watch, ProgramCommand, OverFiles, Plain}
-use Rattle.file_report_defs.specs.Words.{program_command, input_command, over_input, link_command, watch_command}
+use Rattle.file_report_defs.specs.Words.{program_command}
 use Rattle.file_report_defs.specs.Whole.{AsmReport, WatchReport, ReportOver, ReportWith}
 use Rattle.file_report_defs.proofs.OneReport.{one_report_with}
 use Rattle.file_report_defs.proofs.ListedFiles.{listed_words_come_back_with}

@@ -1,4 +1,4 @@
-use Rattle.std.proofs.Common.{◌≡◌, Some, refl, sym}
+use Rattle.std.proofs.Common.{◌≡◌, Some, refl}
 use Rattle.file_report_defs.specs.Words.{OverFiles, Plain, program_command}
 use Rattle.reports.specs.Answers.{answer}
 use Rattle.workbench.specs.Asked.{defined_over}
