@@ -1,5 +1,5 @@
 -- What holds of all runs of the program that end as `EndsBy` says.
-use Rattle.std.specs.Prelude.{◌≡◌, ◌≢◌, ℕ, if◌then◌else◌, true, List, [], Some}
+use Rattle.std.specs.Prelude.{◌≡◌, ◌≢◌, ℕ, if◌then◌else◌, IsTrue, List, [], Some}
 use Rattle.count_defs.specs.Counts.{Rose}
 use Rattle.bench_io.specs.Stream.{SourceState}
 use Rattle.word_listings.specs.Linking.{EnteredListingsLink}
@@ -26,7 +26,7 @@ read_of command input = if reads command then input else []
 
 -- the bytes of an input are told, of which a command reads, if it reads any
 abbrev pub TellsInput : Command → SourceState → List ℕ → Type 0
-TellsInput command source input = reads command ≡ true → source.left ≡ Some input
+TellsInput command source input = IsTrue (reads command) → source.left ≡ Some input
 
 -- There is a report, and it is the only one; it was written whole, and the status is its own.
 pub record WroteTheReport (Reports : Report → Type 0) (outputs : Outputs) (status : Status) : Type 0 where
@@ -60,10 +60,10 @@ OneAnswer =
     → EndsBy first one → EndsBy second other → one ≢ Memory → other ≢ Memory
     → one ≡ other
 
--- The laws of all runs. What is written before the end of a report is known begins the report. The words that the machine
--- holds are the linked memory of the interpreter's source, and the machine after the first i turns of a program that is
--- run matches its state after i steps, for each i up to the last. What gdis and dis list is assembled to what was
--- listed, and a listing of dis with an entry is linked to it.
+-- The laws of all runs. What is written before the end of a report is known begins the report. The words that the
+-- machine holds are the linked memory of the interpreter's source, and the machine after the first i turns of a program
+-- that is run matches its state after i steps, for each i up to the last. What gdis and dis list is assembled to what
+-- was listed, and a listing of dis with an entry is linked to it.
 pub record LawsOfRuns : Type 0 where
   pub one_report : OneReport
   pub fronts : FrontsBeginReports

@@ -1,6 +1,6 @@
 -- One run of the program: how it may end, and what the input and the two outputs are then.
-use Rattle.std.specs.Prelude.{◌≡◌, ◌⊎◌, ℕ, ◌+◌, ◌≤◌, nat_lt, Bool, true, false, MatchBool, if◌then◌else◌, List, [], length}
-use Rattle.std.specs.Prelude.{Option, Some, None, IsSome}
+use Rattle.std.specs.Prelude.{◌≡◌, ◌⊎◌, ℕ, ◌+◌, ◌≤◌, nat_lt, Bool, IsTrue, IsFalse, MatchBool, if◌then◌else◌}
+use Rattle.std.specs.Prelude.{List, [], length, Option, Some, None, IsSome}
 use Rattle.count_defs.specs.Counts.{Rose}
 use Rattle.bench_io.specs.Stream.{SourceState, IsAtEnd}
 use Rattle.bench_io.specs.ReadAll.{Took, ReadWhole}
@@ -58,7 +58,7 @@ BeginsOn (Some command) run front =
 -- a command that reads no input leaves it as it was
 abbrev pub LeavesInput : Run → Type 0
 LeavesInput run =
-    (command : Command) → run.said ≡ Some command → reads command ≡ false → run.input' ≡ run.input
+    (command : Command) → run.said ≡ Some command → IsFalse (reads command) → run.input' ≡ run.input
 
 -- nothing was written, and no more of the input was taken than an input may have, by calls of which one at most gave
 -- no byte; and nothing of it by a command that reads none
@@ -87,7 +87,7 @@ EndsByFault run =
 pub record ReadFailed (run : Run) : Type 0 where
   pub command : Command
   pub said : run.said ≡ Some command
-  pub reading : reads command ≡ true
+  pub reading : IsTrue (reads command)
   pub rose : Rose run.input.faults run.input'.faults
 
 -- The statuses, each with its cause. Want of memory has no cause, but it is never answered to words that are no

@@ -12,8 +12,8 @@ use bench_io::Source;
 /// Files by name, of which one at a time is open. The open file is a source: where none is open, it is at its end.
 pub trait Shelf: Source {
     /// The open file as a source, with all that is counted of the files that were open; the counts of calls of
-    /// `open_file` and of names that were missing; and the files, where the shelf tells them. No count falls but that of
-    /// the bytes of the file opened last, which starts anew where one is opened, and no call changes the files.
+    /// `open_file` and of names that were missing; and the files, where the shelf tells them. No count falls but that
+    /// of the bytes of the file opened last, which starts anew where one is opened, and no call changes the files.
     ghost shelf: { Self → ShelfState };
 
     /// Opens a file in place of the one that was open. Its bytes are then left for `take`. The call is counted,
