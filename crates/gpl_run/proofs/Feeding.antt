@@ -81,10 +81,10 @@ module _ (left : List (List ℕ)) (text : List ℕ) (old : AsmLines) (has : HasL
   refused error refuses =
       refuses_on error _ _
       (λ refusal e.
-        sym has.makes
-        ∙ ap (λ (answer : Answer). answer >>= module_behind)
-            (ap (λ texts. laid check (numbered 1 texts)) (sym (append_assoc has.texts (text ∷ []) left))
-            ∙ settled_stays left (has.texts ++ text ∷ []) [] 1 (Err refusal) refl e tt))
+      sym has.makes
+      ∙ ap (λ (answer : Answer). answer >>= module_behind)
+      (ap (λ texts. laid check (numbered 1 texts)) (sym (append_assoc has.texts (text ∷ []) left))
+      ∙ settled_stays left (has.texts ++ text ∷ []) [] 1 (Err refusal) refl e tt))
       refuses
 
 -- no line was taken

@@ -6,8 +6,8 @@ ghost use Rattle.object_tags.specs.Seen.{defined_module};
 ghost use Rattle.link_defs.specs.LinkedMemory.{LinkedMemory, linked};
 ghost use Rattle.link_loader.specs.View.{defined_linked};
 
-use crate::error::BuildError;
 use crate::assembling::interpreter_module;
+use crate::error::BuildError;
 use line_table::source_gives_words;
 use link_loader::{LinkError, Linked, link};
 use object_tags::Module;

@@ -6,7 +6,7 @@ ghost use Rattle.report_defs.specs.Commands.{most_steps};
 ghost use Rattle.watch_defs.specs.Items.{IsItem};
 
 use crate::item::item_word;
-use crate::items::{WatchedItems, MOST_ITEMS};
+use crate::items::{MOST_ITEMS, WatchedItems};
 use command_words::{MOST_STEPS, number_word};
 use gpl_watch::Item;
 

@@ -5,7 +5,7 @@ ghost use Rattle.report_defs.specs.Commands.{same_word};
 ghost use Rattle.file_report_defs.specs.Words as spec;
 ghost use Rattle.workbench.specs.Asked.{defined_command, defined_over, IsWithin};
 
-use crate::names::{MOST_FILES, FileNames};
+use crate::names::{FileNames, MOST_FILES};
 use bench_shelf::FileName;
 use command_words::{Words, read_command};
 use report_defs::Command;
