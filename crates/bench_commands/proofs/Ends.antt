@@ -82,7 +82,17 @@ module _ (command : Command) (input input' : SourceState) (o : Outputs) where
       by true reading whole = wrote_none bytes 1 reading whole.within (omega arith) whole.took out err
       by false reading nothing =
           let took : Took input input' [] 0 = subst (λ (after : SourceState). Took input after [] 0) (sym nothing.0) (took_nothing input) in
-          record { command = refl; bytes = []; within = omega arith; empty = 0; one = omega arith; took = took; unread = λ other said unread. nothing.0; out = out; err = err }
+          record {
+            command = refl;
+            bytes = [];
+            within = omega arith;
+            empty = 0;
+            one = omega arith;
+            took = took;
+            unread = λ other said unread. nothing.0;
+            out = out;
+            err = err;
+          }
 
   -- the input was not read
   pub by_unread : (unread : ReadError) (s : Status) → reads command ≡ true → GaveUp unread spec.largest_input input input'

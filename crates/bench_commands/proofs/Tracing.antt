@@ -111,11 +111,13 @@ module _ (command : Command) (input input' : SourceState) (o : Outputs) (bytes :
   within : length bytes ≤ spec.largest_input
   within = takes_within (reads command) input input' bytes takes
 
-  pub by_answer : (answer : Result spec.Report Status) (st : Status) → Reported (spec.AcceptedReport command bytes) WantsMemory answer → Ends o answer st → EndsBy whole_run st
+  pub by_answer : (answer : Result spec.Report Status) (st : Status) → Reported (spec.AcceptedReport command bytes) WantsMemory answer
+      → Ends o answer st → EndsBy whole_run st
   by_answer (Ok report) st accepted ends = by_report whole_run report st (bytes, reading, on_accepted command bytes report within accepted) ends
   by_answer (Err own) st memory (is, out, err) = subst (EndsBy whole_run) (sym (is ∙ memory)) (wrote_nothing command input input' o bytes takes out err)
 
-  by_trace : (trace : Trace) (st : Status) → command ≡ asked.Trace trace.limit → TracesSource bytes trace → Finishes o (prepared.Trace trace) st → EndsBy whole_run st
+  by_trace : (trace : Trace) (st : Status) → command ≡ asked.Trace trace.limit → TracesSource bytes trace
+      → Finishes o (prepared.Trace trace) st → EndsBy whole_run st
   by_trace trace st is t (inl w) =
       let report = whole_from bytes trace t (seen trace.session) w.left in
       let accepted = whole_reported bytes trace t o st w in

@@ -25,7 +25,8 @@ pub record LoadsEntered (image : Image) (entry : Option ℕ) (loaded : LoadedPro
 
 abbrev pub LoadsImage : Image → Option ℕ → Result LoadedProgram Unreported → Type 0
 LoadsImage image entry (Ok program) = LoadsEntered image entry program
-LoadsImage image entry (Err unreported) = Reported (EnteredReport RunsNone image entry) WantsMemory (error_answer unreported)
+LoadsImage image entry (Err unreported) =
+    Reported (EnteredReport RunsNone image entry) WantsMemory (error_answer unreported)
 
 -- a source that is accepted
 pub record LoadsProgram (source : Result Program (Refusal GplCause)) (loaded : LoadedProgram) : Type 0 where

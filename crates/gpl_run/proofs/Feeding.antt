@@ -39,7 +39,8 @@ module _ (more : List (List ℕ)) where
 
   by_answer : (before : List Line) (rest longer : List (ℕ × List ℕ)) (number : ℕ) (answer : Answer) (checked : Result Line AsmCause)
       → (at_line number checked >>= behind_line before rest) ≡ answer → has_ended before ≡ false
-      → ((found : Line) → has_ended (found ∷ before) ≡ false → laid_behind check (found ∷ before) rest ≡ answer → laid_behind check (found ∷ before) longer ≡ answer)
+      → ((found : Line) → has_ended (found ∷ before) ≡ false → laid_behind check (found ∷ before) rest ≡ answer
+      → laid_behind check (found ∷ before) longer ≡ answer)
       → (at_line number checked >>= behind_line before longer) ≡ answer
   by_answer before rest longer number answer (Ok found) e going next = by_last before rest longer answer found found.last refl e going (next found)
   by_answer before rest longer number answer (Err cause) e going next = e

@@ -3,7 +3,8 @@
 ghost use Rattle.std.specs.Prelude.{◌≡◌};
 ghost use Rattle.memory_listing.specs.Told.{link_told};
 ghost use Rattle.bench_io.specs.Stream.{SinkState};
-ghost use Rattle.reports.specs.Answers.{Ends, EndsByLine, asm_answer, gpl_answer, line_answer, read_answer, tag_answer, error_answer};
+ghost use Rattle.reports.specs.Answers.{Ends, EndsByLine, error_answer};
+ghost use Rattle.reports.specs.Answers.{asm_answer, gpl_answer, line_answer, read_answer, tag_answer};
 ghost use Rattle.reports.specs.declared.unreported.Unreported.TheVariants as unreported;
 
 use crate::faults::{fault_line, fault_status};

@@ -32,7 +32,8 @@ pub record FileRun : Type 0 where
 
 -- the run of a command that reads no file
 abbrev pub without_files : Command → FileRun → Run
-without_files command run = record { said = Some command; input = run.input; input' = run.input'; outputs = run.outputs }
+without_files command run =
+    record { said = Some command; input = run.input; input' = run.input'; outputs = run.outputs }
 
 -- The report of `asm` on a source that was taken of the input. Where that is too large, no file is opened.
 abbrev pub AsmOn : FileRun → List ℕ → Report → Type 0

@@ -12,7 +12,8 @@ returns-in-Err g c =
     let err = g.E.Sink.state in
     let new = c.finish.new in
     let o : Outputs = record { out = out c.args.out.now; out' = out new.out; err = err c.args.err.now; err' = err new.err } in
-    by_unread c.args.command (source c.args.input.now) (source c.take_input.new.input) o c.in-Err.error c.finish.result c.in-Err.ensures.reading c.in-Err.ensures.err
+    by_unread c.args.command (source c.args.input.now) (source c.take_input.new.input) o c.in-Err.error c.finish.result
+    c.in-Err.ensures.reading c.in-Err.ensures.err
     (subst (λ answer. Ends o answer c.finish.result) c.into.ensures c.finish.ensures)
 
 pub returns-in-Ok-prepare : goal.returns-in-Ok-prepare
@@ -22,8 +23,8 @@ returns-in-Ok-prepare g c =
     let err = g.E.Sink.state in
     let finish = c.finish-in-Ok-prepare in
     let o : Outputs = record { out = out c.args.out.now; out' = out finish.new.out; err = err c.args.err.now; err' = err finish.new.err } in
-    by_prepared c.args.command (source c.args.input.now) (source c.take_input.new.input) o c.in-Ok.bytes.items c.in-Ok.ensures.ok c.in-Ok-prepare.prepared finish.result
-    c.in-Ok-prepare.ensures finish.ensures
+    by_prepared c.args.command (source c.args.input.now) (source c.take_input.new.input) o c.in-Ok.bytes.items c.in-Ok.ensures.ok
+    c.in-Ok-prepare.prepared finish.result c.in-Ok-prepare.ensures finish.ensures
 
 pub returns-in-Err-prepare : goal.returns-in-Err-prepare
 returns-in-Err-prepare g c =
@@ -32,5 +33,5 @@ returns-in-Err-prepare g c =
     let err = g.E.Sink.state in
     let finish = c.finish-in-Err-prepare in
     let o : Outputs = record { out = out c.args.out.now; out' = out finish.new.out; err = err c.args.err.now; err' = err finish.new.err } in
-    by_answer c.args.command (source c.args.input.now) (source c.take_input.new.input) o c.in-Ok.bytes.items c.in-Ok.ensures.ok (error_answer c.in-Err-prepare.unreported) finish.result
-    c.in-Err-prepare.ensures finish.ensures
+    by_answer c.args.command (source c.args.input.now) (source c.take_input.new.input) o c.in-Ok.bytes.items c.in-Ok.ensures.ok
+    (error_answer c.in-Err-prepare.unreported) finish.result c.in-Err-prepare.ensures finish.ensures
