@@ -7,7 +7,7 @@ use Rattle.gpl_source_defs.specs.Programs.{Program}
 use Rattle.report_defs.specs.Report.{Report, EnteredReport, ProgramReport}
 use Rattle.bench_commands.specs.declared.commands.program.LoadedProgram.{LoadedProgram}
 use Rattle.reports.specs.declared.unreported.Unreported.{Unreported}
-use Rattle.reports.specs.Answers.{WantsMemory, told}
+use Rattle.reports.specs.Answers.{WantsMemory, error_answer}
 use Rattle.reports.proofs.Answers.{reported_as}
 use Rattle.bench_commands.specs.Loaded.{RunsNone, LoadsEntered, LoadsProgram, LoadsImage, LoadsSource}
 
@@ -35,5 +35,5 @@ pub source_loaded : (source : Result Program (Refusal GplCause)) (program : Prog
     LoadsImage program.image program.entry r → LoadsSource source r
 source_loaded source program (Ok x) is h = record { program = program; is = is; entered = h }
 source_loaded source program (Err unreported) is h =
-    reported_as (EnteredReport RunsNone program.image program.entry) (ProgramReport RunsNone source) WantsMemory (told unreported)
+    reported_as (EnteredReport RunsNone program.image program.entry) (ProgramReport RunsNone source) WantsMemory (error_answer unreported)
     (λ report e. subst (λ (s : Result Program (Refusal GplCause)). ProgramReport RunsNone s report) (sym is) e) h

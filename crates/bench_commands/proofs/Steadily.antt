@@ -15,21 +15,26 @@ use Rattle.bench_commands.specs.Steady.{AnswersSteadily, EndsSteadily, steady_so
 use Rattle.bench_commands.proofs.Uniqueness.{reported, on_input}
 
 -- the run over such an input and such outputs
-abbrev run_of : (words : List (List ℕ)) (input input' : Supply) (out err : ℕ) → Run
-run_of words input input' out err =
+abbrev run_from : (words : List (List ℕ)) (input input' : Supply) (out out' err err' : ℕ) → Run
+run_from words input input' out out' err err' =
     record {
-      words = words;
+      said = command_of words;
       input = steady_source input;
       input' = steady_source input';
-      outputs = record { out = steady_sink 0; out' = steady_sink out; err = steady_sink 0; err' = steady_sink err };
+      outputs = record { out = steady_sink out; out' = steady_sink out'; err = steady_sink err; err' = steady_sink err' };
     }
+
+abbrev run_of : (words : List (List ℕ)) (input input' : Supply) (out err : ℕ) → Run
+run_of words input input' out err = run_from words input input' 0 out 0 err
 
 abbrev pub new_sink : SinkCounts
 new_sink = record { puts = 0; faults = 0 }
 
-pub ends_steadily : (words : List (List ℕ)) (input input' : Supply) (out out' err err' : SinkCounts) (s : Status) → out ≡ new_sink → err ≡ new_sink → EndsBy (record { words = words; input = steady_source input; input' = steady_source input'; outputs = record { out = steady_sink out.puts; out' = steady_sink out'.puts; err = steady_sink err.puts; err' = steady_sink err'.puts } }) s → EndsSteadily words input input' s
+pub ends_steadily : (words : List (List ℕ)) (input input' : Supply) (out out' err err' : SinkCounts) (s : Status)
+    → out ≡ new_sink → err ≡ new_sink → EndsBy (run_from words input input' out.puts out'.puts err.puts err'.puts) s
+    → EndsSteadily words input input' s
 ends_steadily words input input' out out' err err' s one other ends =
-    let P : SinkCounts → SinkCounts → Type 0 = λ a b. EndsBy (record { words = words; input = steady_source input; input' = steady_source input'; outputs = record { out = steady_sink a.puts; out' = steady_sink out'.puts; err = steady_sink b.puts; err' = steady_sink err'.puts } }) s in
+    let P : SinkCounts → SinkCounts → Type 0 = λ a b. EndsBy (run_from words input input' a.puts out'.puts b.puts err'.puts) s in
     record { out = out'.puts; err = err'.puts; ends = subst (λ b. P new_sink b) other (subst (λ a. P a err) one ends) }
 
 none_rose : Rose 0 0 → ⊥
@@ -49,10 +54,11 @@ is_memory status.Memory = inl refl
 is_memory status.Stopped = inr (λ e. absurd cc)
 
 -- a run that ends by want of memory has a command
-has_command : (run : Run) (s : Status) → s ≡ status.Memory → EndsBy run s → IsSome (command_of run.words)
+has_command : (run : Run) (s : Status) → s ≡ status.Memory → EndsBy run s → IsSome run.said
 has_command run s is ends = let nothing : WroteNothing run = subst (λ (t : Status). EndsBy run t) is ends in nothing.command
 
-answers_by : (run : Run) (input : List ℕ) (s : Status) (found : Option Command) → command_of run.words ≡ found → run.input.left ≡ Some input → HasNoFault run → EndsBy run s → (s ≡ status.Memory) ⊎ (s ≢ status.Memory) → AnswersSteadily found input s
+answers_by : (run : Run) (input : List ℕ) (s : Status) (found : Option Command) → run.said ≡ found → run.input.left ≡ Some input
+    → HasNoFault run → EndsBy run s → (s ≡ status.Memory) ⊎ (s ≢ status.Memory) → AnswersSteadily found input s
 answers_by run input s None is told none ends (inl memory) = let some : IsSome {T = Command} None = subst (λ (found : Option Command). IsSome found) is (has_command run s memory ends) in absurd cc
 answers_by run input s (Some command) is told none ends (inl memory) = inr memory
 answers_by run input s None is told none ends (inr some) =

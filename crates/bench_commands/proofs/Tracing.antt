@@ -1,5 +1,5 @@
 -- A trace is the run of its program.
-use Rattle.std.proofs.Common.{◌≡◌, ◌≤◌, ℕ, List, ◌++◌, length, Option, Some, Ok, refl, sym, ap, ◌∙◌, subst, inl, inr}
+use Rattle.std.proofs.Common.{◌≡◌, ◌≤◌, ℕ, List, ◌++◌, length, Option, Ok, refl, sym, ap, ◌∙◌, subst, inl, inr}
 use Rattle.std.proofs.Common.{Bool, true, false, Result, Err, arith}
 use Rattle.std.specs.Prelude.{nat_lt, is_err}
 use Rattle.std.proofs.lemmas.Bool.Decides.{nat_tests}
@@ -7,7 +7,7 @@ use Rattle.console_defs.specs.Grom.{GromState}
 use Rattle.gpl_defs.specs.Image.{Image}
 use Rattle.gpl_source_defs.specs.Programs.{program_of_source}
 use Rattle.console_defs.specs.Memory.{IsMemory}
-use Rattle.bench_io.specs.Stream.{SinkState}
+use Rattle.bench_io.specs.Stream.{SourceState, SinkState}
 use Rattle.bench_io.specs.Written.{Wrote}
 use Rattle.bench_io.proofs.Writing.{wrote_more, missed_more}
 use Rattle.trace_dump.specs.Plays.{Plays}
@@ -21,7 +21,7 @@ use Rattle.report_defs.specs.declared.status.Status.{Status}
 use Rattle.report_defs.specs.declared.status.Status.TheVariants as status
 use Rattle.report_defs.specs.declared.command.Command.{Command}
 use Rattle.report_defs.specs.declared.command.Command.TheVariants as asked
-use Rattle.report_defs.specs.Commands.{command_of, reads}
+use Rattle.report_defs.specs.Commands.{reads}
 use Rattle.report_defs.specs.Report as spec
 use Rattle.report_defs.specs.Program.{program_lines, program_status}
 use Rattle.report_defs.specs.Trace.{step_lines}
@@ -35,7 +35,7 @@ use Rattle.reports.specs.Answers.{Ends, WantsMemory, Reported}
 use Rattle.bench_commands.specs.Run.{Run, Reads, TakesWhole, EndsBy}
 use Rattle.bench_commands.specs.Loaded.{LoadsEntered}
 use Rattle.bench_commands.specs.Traced.{Started, TracesSource, TracesWhole, EndsTrace, Prepares, Finishes}
-use Rattle.bench_commands.proofs.Ends.{by_report, by_front, reads_whole, takes_within, reports_by, begins_by, wrote_nothing}
+use Rattle.bench_commands.proofs.Ends.{run_of, by_report, by_front, reads_whole, takes_within, wrote_nothing}
 use Rattle.bench_commands.proofs.Loading.{of_program}
 use Rattle.bench_commands.proofs.Programs.{ends_alike}
 
@@ -101,29 +101,33 @@ on_accepted command input report within accepted =
     rw below accepted
 
 -- a run ends as what its command made
-module _ (run : Run) (command : Command) (bytes : List ℕ) (said : Some command ≡ command_of run.words)
-    (takes : TakesWhole (reads command) run.input run.input' bytes) where
-  reading : Reads (reads command) run.input run.input' bytes
-  reading = reads_whole (reads command) run.input run.input' bytes takes
+module _ (command : Command) (input input' : SourceState) (o : Outputs) (bytes : List ℕ) (takes : TakesWhole (reads command) input input' bytes) where
+  abbrev whole_run : Run
+  whole_run = run_of command input input' o
+
+  reading : Reads (reads command) input input' bytes
+  reading = reads_whole (reads command) input input' bytes takes
 
   within : length bytes ≤ spec.largest_input
-  within = takes_within (reads command) run.input run.input' bytes takes
+  within = takes_within (reads command) input input' bytes takes
 
-  pub by_answer : (answer : Result spec.Report Status) (st : Status) → Reported (spec.AcceptedReport command bytes) WantsMemory answer → Ends run.outputs answer st → EndsBy run st
-  by_answer (Ok report) st accepted ends = by_report run report st (reports_by run command report said (bytes, reading, on_accepted command bytes report within accepted)) ends
-  by_answer (Err own) st memory (is, out, err) = subst (EndsBy run) (sym (is ∙ memory)) (wrote_nothing run command bytes said takes out err)
+  pub by_answer : (answer : Result spec.Report Status) (st : Status) → Reported (spec.AcceptedReport command bytes) WantsMemory answer
+      → Ends o answer st → EndsBy whole_run st
+  by_answer (Ok report) st accepted ends = by_report whole_run report st (bytes, reading, on_accepted command bytes report within accepted) ends
+  by_answer (Err own) st memory (is, out, err) = subst (EndsBy whole_run) (sym (is ∙ memory)) (wrote_nothing command input input' o bytes takes out err)
 
-  by_trace : (trace : Trace) (st : Status) → command ≡ asked.Trace trace.limit → TracesSource bytes trace → Finishes run.outputs (prepared.Trace trace) st → EndsBy run st
+  by_trace : (trace : Trace) (st : Status) → command ≡ asked.Trace trace.limit → TracesSource bytes trace
+      → Finishes o (prepared.Trace trace) st → EndsBy whole_run st
   by_trace trace st is t (inl w) =
       let report = whole_from bytes trace t (seen trace.session) w.left in
-      let accepted = whole_reported bytes trace t run.outputs st w in
+      let accepted = whole_reported bytes trace t o st w in
       by_answer (Ok report) st (subst (λ (k : Command). spec.AcceptedReport k bytes report) (sym is) accepted) w.ends
   by_trace trace st is t (inr b) =
       let front = front_from bytes trace t (seen trace.session) in
       let on : spec.FrontOn command bytes front = subst (λ (k : Command). spec.FrontOn k bytes front) (sym is) (front_reported bytes trace t within) in
-      subst (EndsBy run) (sym b.is) (by_front run front (begins_by run command front said (bytes, reading, on)) (b.missed, b.silent))
+      subst (EndsBy whole_run) (sym b.is) (by_front whole_run front (bytes, reading, on) (b.missed, b.silent))
 
-  pub by_prepared : (p : Prepared) (st : Status) → Prepares command bytes (Ok p) → Finishes run.outputs p st → EndsBy run st
+  pub by_prepared : (p : Prepared) (st : Status) → Prepares command bytes (Ok p) → Finishes o p st → EndsBy whole_run st
   by_prepared (prepared.Report report) st accepted ends = by_answer (Ok (defined_report report)) st accepted ends
   by_prepared (prepared.Trace trace) st on ends = by_trace trace st on.0 on.1 ends
 

@@ -10,7 +10,7 @@ use Rattle.report_defs.specs.declared.command.Command.{Command}
 use Rattle.report_defs.specs.declared.fault.Fault.TheVariants.{TooLarge}
 use Rattle.report_defs.specs.declared.status.Status.{Status}
 use Rattle.report_defs.specs.declared.status.Status.TheVariants as status
-use Rattle.report_defs.specs.Commands.{command_of, reads}
+use Rattle.report_defs.specs.Commands.{reads}
 use Rattle.report_defs.specs.Report.{Report, Whole, Faulty, Rejected, status_of, largest_input, AcceptedReport, OnInput, ReportOn}
 use Rattle.interp_defs.proofs.MachinesOfRuns.{machines_match_steps}
 use Rattle.line_table.proofs.Joined.{source_gives_words}
@@ -88,19 +88,19 @@ completeness run command input s is told none ends some =
     }
 
 -- two runs that begin alike have one report
-alike : (a b : Run) (found : Option Command) (x y : Report) (begin : BeginAlike a b) → command_of a.words ≡ found → ReportsOn found a x → ReportsOn found b y → x ≡ y
+alike : (a b : Run) (found : Option Command) (x y : Report) (begin : BeginAlike a b) → a.said ≡ found → ReportsOn found a x → ReportsOn found b y → x ≡ y
 alike a b None x y begin is p q = p.0 ∙ sym q.0
 alike a b (Some command) x y begin is p q =
     let one = begin.one command is in
-    let other = begin.other command (ap command_of (sym begin.words) ∙ is) in
+    let other = begin.other command (sym begin.said ∙ is) in
     one_report command (read_of command begin.bytes) x y (on_input a command begin.bytes x one p) (on_input b command begin.bytes y other q)
 
 pub one_answer : OneAnswer
 one_answer a b s t begin none other ends ends' some some' =
     let p = reported a s ends none some in
     let q = reported b t ends' other some' in
-    let P : List (List ℕ) → Type 0 = λ words. ReportsOn (command_of words) b q.0 in
-    let same : p.0 ≡ q.0 = alike a b (command_of a.words) p.0 q.0 begin refl p.1 (subst P (sym begin.words) q.1) in
+    let P : Option Command → Type 0 = λ found. ReportsOn found b q.0 in
+    let same : p.0 ≡ q.0 = alike a b a.said p.0 q.0 begin refl p.1 (subst P (sym begin.said) q.1) in
     p.2 ∙ ap status_of same ∙ sym q.2
 
 pub laws : LawsOfRuns

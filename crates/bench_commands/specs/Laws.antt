@@ -1,5 +1,5 @@
 -- What holds of all runs of the program that end as `EndsBy` says.
-use Rattle.std.specs.Prelude.{◌≡◌, ◌≢◌, ℕ, if◌then◌else◌, true, List, [], Some}
+use Rattle.std.specs.Prelude.{◌≡◌, ◌≢◌, ℕ, if◌then◌else◌, IsTrue, List, [], Some}
 use Rattle.count_defs.specs.Counts.{Rose}
 use Rattle.bench_io.specs.Stream.{SourceState}
 use Rattle.word_listings.specs.Linking.{EnteredListingsLink}
@@ -8,7 +8,7 @@ use Rattle.interp_defs.specs.Machines.{MachinesMatchSteps}
 use Rattle.report_defs.specs.declared.command.Command.{Command}
 use Rattle.report_defs.specs.declared.status.Status.{Status}
 use Rattle.report_defs.specs.declared.status.Status.TheVariants.{Memory}
-use Rattle.report_defs.specs.Commands.{command_of, reads}
+use Rattle.report_defs.specs.Commands.{reads}
 use Rattle.report_defs.specs.Report.{Report, status_of, ReportOn}
 use Rattle.report_defs.specs.Laws.{OneReport, FrontsBeginReports, ListedInputsComeBack, ListedWordsComeBack}
 use Rattle.reports.specs.Outputs.{Outputs, WroteReport}
@@ -26,7 +26,7 @@ read_of command input = if reads command then input else []
 
 -- the bytes of an input are told, of which a command reads, if it reads any
 abbrev pub TellsInput : Command → SourceState → List ℕ → Type 0
-TellsInput command source input = reads command ≡ true → source.left ≡ Some input
+TellsInput command source input = IsTrue (reads command) → source.left ≡ Some input
 
 -- There is a report, and it is the only one; it was written whole, and the status is its own.
 pub record WroteTheReport (Reports : Report → Type 0) (outputs : Outputs) (status : Status) : Type 0 where
@@ -41,16 +41,16 @@ pub record WroteTheReport (Reports : Report → Type 0) (outputs : Outputs) (sta
 abbrev pub Completeness : Type 0
 Completeness =
     (run : Run) (command : Command) (input : List ℕ) (status : Status)
-    → command_of run.words ≡ Some command → TellsInput command run.input input → HasNoFault run
+    → run.said ≡ Some command → TellsInput command run.input input → HasNoFault run
     → EndsBy run status → status ≢ Memory
     → WroteTheReport (ReportOn command (read_of command input)) run.outputs status
 
--- two runs begin with the same words, and the bytes that their command reads are told and are the same
+-- the words of two runs say the same, and the bytes that their command reads are told and are the same
 pub record BeginAlike (first second : Run) : Type 0 where
-  pub words : first.words ≡ second.words
+  pub said : first.said ≡ second.said
   pub bytes : List ℕ
-  pub one : (command : Command) → command_of first.words ≡ Some command → TellsInput command first.input bytes
-  pub other : (command : Command) → command_of second.words ≡ Some command → TellsInput command second.input bytes
+  pub one : (command : Command) → first.said ≡ Some command → TellsInput command first.input bytes
+  pub other : (command : Command) → second.said ≡ Some command → TellsInput command second.input bytes
 
 -- the law, which is proved: two such runs in which no count rose have one answer, if neither is want of memory
 abbrev pub OneAnswer : Type 0
@@ -60,10 +60,10 @@ OneAnswer =
     → EndsBy first one → EndsBy second other → one ≢ Memory → other ≢ Memory
     → one ≡ other
 
--- The laws of all runs. What is written before the end of a report is known begins the report. The words that the machine
--- holds are the linked memory of the interpreter's source, and the machine after the first i turns of a program that is
--- run matches its state after i steps, for each i up to the last. What gdis and dis list is assembled to what was
--- listed, and a listing of dis with an entry is linked to it.
+-- The laws of all runs. What is written before the end of a report is known begins the report. The words that the
+-- machine holds are the linked memory of the interpreter's source, and the machine after the first i turns of a program
+-- that is run matches its state after i steps, for each i up to the last. What gdis and dis list is assembled to what
+-- was listed, and a listing of dis with an entry is linked to it.
 pub record LawsOfRuns : Type 0 where
   pub one_report : OneReport
   pub fronts : FrontsBeginReports

@@ -5,7 +5,7 @@ use Rattle.link_loader.specs.View.{defined_linked}
 use Rattle.link_loader.specs.declared.linked.Linked.{Linked}
 use Rattle.report_defs.specs.Report.{Report, Rejected}
 use Rattle.reports.specs.declared.unreported.Unreported.{Unreported}
-use Rattle.reports.specs.Answers.{WantsMemory, Reported, told}
+use Rattle.reports.specs.Answers.{WantsMemory, Reported, error_answer}
 
 -- the line of a refusal
 abbrev pub RejectsAs : Result LinkedMemory (List ℕ) → Report → Type 0
@@ -14,4 +14,4 @@ RejectsAs defined report = (line : List ℕ) × (defined ≡ Err line) × (repor
 -- what is given is what is defined; want of memory says nothing
 abbrev pub LinksInput : Result Linked Unreported → Result LinkedMemory (List ℕ) → Type 0
 LinksInput (Ok linked) defined = defined ≡ Ok (defined_linked linked)
-LinksInput (Err unreported) defined = Reported (RejectsAs defined) WantsMemory (told unreported)
+LinksInput (Err unreported) defined = Reported (RejectsAs defined) WantsMemory (error_answer unreported)

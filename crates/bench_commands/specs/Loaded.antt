@@ -8,7 +8,7 @@ use Rattle.interp_defs.specs.Boot.{IsBoot}
 use Rattle.report_defs.specs.Report.{Report, EnteredReport, ProgramReport}
 use Rattle.bench_commands.specs.declared.commands.program.LoadedProgram.{LoadedProgram}
 use Rattle.reports.specs.declared.unreported.Unreported.{Unreported}
-use Rattle.reports.specs.Answers.{WantsMemory, Reported, told}
+use Rattle.reports.specs.Answers.{WantsMemory, Reported, error_answer}
 
 -- no program is run
 abbrev pub RunsNone : Image → ℕ → Report → Type 0
@@ -25,7 +25,8 @@ pub record LoadsEntered (image : Image) (entry : Option ℕ) (loaded : LoadedPro
 
 abbrev pub LoadsImage : Image → Option ℕ → Result LoadedProgram Unreported → Type 0
 LoadsImage image entry (Ok program) = LoadsEntered image entry program
-LoadsImage image entry (Err unreported) = Reported (EnteredReport RunsNone image entry) WantsMemory (told unreported)
+LoadsImage image entry (Err unreported) =
+    Reported (EnteredReport RunsNone image entry) WantsMemory (error_answer unreported)
 
 -- a source that is accepted
 pub record LoadsProgram (source : Result Program (Refusal GplCause)) (loaded : LoadedProgram) : Type 0 where
@@ -35,4 +36,4 @@ pub record LoadsProgram (source : Result Program (Refusal GplCause)) (loaded : L
 
 abbrev pub LoadsSource : Result Program (Refusal GplCause) → Result LoadedProgram Unreported → Type 0
 LoadsSource source (Ok program) = LoadsProgram source program
-LoadsSource source (Err unreported) = Reported (ProgramReport RunsNone source) WantsMemory (told unreported)
+LoadsSource source (Err unreported) = Reported (ProgramReport RunsNone source) WantsMemory (error_answer unreported)

@@ -1,6 +1,6 @@
 -- One run of the program: how it may end, and what the input and the two outputs are then.
-use Rattle.std.specs.Prelude.{◌≡◌, ◌⊎◌, ℕ, ◌+◌, ◌≤◌, nat_lt, Bool, true, false, MatchBool, if◌then◌else◌, List, [], length}
-use Rattle.std.specs.Prelude.{Option, Some, None, IsSome}
+use Rattle.std.specs.Prelude.{◌≡◌, ◌⊎◌, ℕ, ◌+◌, ◌≤◌, nat_lt, Bool, IsTrue, IsFalse, MatchBool, if◌then◌else◌}
+use Rattle.std.specs.Prelude.{List, [], length, Option, Some, None, IsSome}
 use Rattle.count_defs.specs.Counts.{Rose}
 use Rattle.bench_io.specs.Stream.{SourceState, IsAtEnd}
 use Rattle.bench_io.specs.ReadAll.{Took, ReadWhole}
@@ -9,13 +9,13 @@ use Rattle.report_defs.specs.declared.status.Status.{Status}
 use Rattle.report_defs.specs.declared.status.Status.TheVariants.{Done, Refused, Usage, ReadFault, WriteFault}
 use Rattle.report_defs.specs.declared.status.Status.TheVariants.{Memory, Stopped}
 use Rattle.report_defs.specs.declared.fault.Fault.TheVariants as fault
-use Rattle.report_defs.specs.Commands.{command_of, reads}
+use Rattle.report_defs.specs.Commands.{reads}
 use Rattle.report_defs.specs.Report.{Report, Faulty, largest_input, ReportOn, FrontOn}
 use Rattle.reports.specs.Outputs.{Outputs, EndsWith, MissedReport}
 
--- the words, the input before and after the run, and the outputs
+-- what the words say, the input before and after the run, and the outputs
 pub record Run : Type 0 where
-  pub words : List (List ℕ)
+  pub said : Option Command
   pub input : SourceState
   pub input' : SourceState
   pub outputs : Outputs
@@ -47,7 +47,7 @@ ReportsOn (Some command) run report =
     (bytes : List ℕ) × Reads (reads command) run.input run.input' bytes × ReportOn command bytes report
 
 abbrev pub Reports : Run → Report → Type 0
-Reports run report = ReportsOn (command_of run.words) run report
+Reports run report = ReportsOn run.said run report
 
 -- a front of the report of the run: it is written before the end of the report is known
 abbrev pub BeginsOn : Option Command → Run → Report → Type 0
@@ -58,12 +58,12 @@ BeginsOn (Some command) run front =
 -- a command that reads no input leaves it as it was
 abbrev pub LeavesInput : Run → Type 0
 LeavesInput run =
-    (command : Command) → command_of run.words ≡ Some command → reads command ≡ false → run.input' ≡ run.input
+    (command : Command) → run.said ≡ Some command → IsFalse (reads command) → run.input' ≡ run.input
 
 -- nothing was written, and no more of the input was taken than an input may have, by calls of which one at most gave
 -- no byte; and nothing of it by a command that reads none
 pub record WroteNothing (run : Run) : Type 0 where
-  pub command : IsSome (command_of run.words)
+  pub command : IsSome run.said
   pub bytes : List ℕ
   pub within : length bytes ≤ largest_input
   pub empty : ℕ
@@ -81,13 +81,13 @@ EndsByReport run status = (report : Report) × Reports run report × EndsWith ru
 abbrev pub EndsByFault : Run → Type 0
 EndsByFault run =
     EndsByReport run WriteFault
-    ⊎ (front : Report) × BeginsOn (command_of run.words) run front × MissedReport run.outputs front
+    ⊎ (front : Report) × BeginsOn run.said run front × MissedReport run.outputs front
 
 -- A call of the input failed, of which the command reads.
 pub record ReadFailed (run : Run) : Type 0 where
   pub command : Command
-  pub said : command_of run.words ≡ Some command
-  pub reading : reads command ≡ true
+  pub said : run.said ≡ Some command
+  pub reading : IsTrue (reads command)
   pub rose : Rose run.input.faults run.input'.faults
 
 -- The statuses, each with its cause. Want of memory has no cause, but it is never answered to words that are no

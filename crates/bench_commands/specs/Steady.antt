@@ -1,10 +1,11 @@
 -- The program over an input and outputs that never fail.
 use Rattle.std.specs.Prelude.{◌≡◌, ◌⊎◌, ℕ, List, Option, Some, None}
-use Rattle.bench_io.specs.Stream.{SourceState, SinkState}
+use Rattle.bench_io.specs.Stream.{SourceState, SinkState, opened_once}
 use Rattle.bench_io.specs.Memory.{Supply}
 use Rattle.report_defs.specs.declared.command.Command.{Command}
 use Rattle.report_defs.specs.declared.status.Status.{Status}
 use Rattle.report_defs.specs.declared.status.Status.TheVariants.{Usage, Memory}
+use Rattle.report_defs.specs.Commands.{command_of}
 use Rattle.report_defs.specs.Report.{Report, status_of, ReportOn}
 use Rattle.bench_commands.specs.Run.{EndsBy}
 use Rattle.bench_commands.specs.Laws.{read_of}
@@ -22,7 +23,7 @@ AnswersSteadily (Some command) input status = HasReportStatus command input stat
 
 -- a source of these bytes that never fails
 abbrev pub steady_source : Supply → SourceState
-steady_source s = record { left = Some s.left; calls = s.calls; taken = s.taken; empty = s.empty; faults = 0 }
+steady_source s = opened_once (Some s.left) s.calls s.taken s.empty 0
 
 -- a sink that never fails and tells nothing, behind so many calls of `put`
 abbrev pub steady_sink : ℕ → SinkState
@@ -33,7 +34,7 @@ pub record EndsSteadily (words : List (List ℕ)) (input input' : Supply) (statu
   pub out : ℕ
   pub err : ℕ
   pub ends : EndsBy (record {
-    words = words;
+    said = command_of words;
     input = steady_source input;
     input' = steady_source input';
     outputs = record { out = steady_sink 0; out' = steady_sink out; err = steady_sink 0; err' = steady_sink err };

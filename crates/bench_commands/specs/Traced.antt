@@ -24,7 +24,7 @@ use Rattle.bench_commands.specs.declared.prepared.Prepared.TheVariants as prepar
 use Rattle.bench_commands.specs.declared.trace.Trace.{Trace}
 use Rattle.reports.specs.declared.unreported.Unreported.{Unreported}
 use Rattle.reports.specs.Made.{defined_report}
-use Rattle.reports.specs.Answers.{WantsMemory, Reported, told}
+use Rattle.reports.specs.Answers.{WantsMemory, Reported, error_answer}
 use Rattle.bench_commands.specs.Loaded.{LoadsProgram}
 use Rattle.reports.specs.Outputs.{Outputs, EndsWith}
 
@@ -54,7 +54,7 @@ pub record TracesSource (input : List ℕ) (trace : Trace) : Type 0 where
 abbrev pub Prepares : Command → List ℕ → Result Prepared Unreported → Type 0
 Prepares command input (Ok (prepared.Report report)) = AcceptedReport command input (defined_report report)
 Prepares command input (Ok (prepared.Trace trace)) = (command ≡ asked.Trace trace.limit) × TracesSource input trace
-Prepares command input (Err unreported) = Reported (AcceptedReport command input) WantsMemory (told unreported)
+Prepares command input (Err unreported) = Reported (AcceptedReport command input) WantsMemory (error_answer unreported)
 
 -- The program was run, and its report was written, or a front of it.
 pub record TracesWhole (o : Outputs) (trace : Trace) (status : Status) : Type 0 where

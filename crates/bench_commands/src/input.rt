@@ -1,6 +1,6 @@
 //! What is taken of the input.
 
-ghost use Rattle.std.specs.Prelude.{◌≡◌, true, IfOk, IfErr, OnErr};
+ghost use Rattle.std.specs.Prelude.{◌≡◌, IsTrue, IfOk, IfErr, OnErr};
 ghost use Rattle.report_defs.specs.Commands as spec;
 ghost use Rattle.report_defs.specs.Report.{largest_input};
 ghost use Rattle.bench_io.specs.ReadAll.{GaveUp};
@@ -18,7 +18,7 @@ pub(crate) fn take_input<S: Source>(
 ) -> Result<Vec<u8>, ReadError>
     ensures ok { IfOk result (λ bytes.
         TakesWhole (spec.reads command) (S.state input.old) (S.state input.new) bytes.items) }
-    ensures reading { OnErr result (spec.reads command ≡ true) }
+    ensures reading { OnErr result (IsTrue (spec.reads command)) }
     ensures err { IfErr result (λ error. GaveUp error largest_input (S.state input.old) (S.state input.new)) }
 {
     if !reads(command) {

@@ -1,13 +1,13 @@
 //! The commands over one input, which read no file.
 
-ghost use Rattle.std.specs.Prelude.{◌≡◌, ℕ, List, Some};
+ghost use Rattle.std.specs.Prelude.{Some};
 ghost use Rattle.report_defs.specs.Commands.{command_of, KeepsLimit};
 ghost use Rattle.bench_commands.specs.Laws.{LawsOfRuns};
 ghost use Rattle.bench_commands.specs.Run.{EndsBy};
 
 use crate::commands::prepare;
 use crate::input::take_input;
-use bench_io::{ReadError, Sink, Source};
+use bench_io::{Sink, Source};
 use command_words::{Words, read_command};
 use report_defs::{Command, Fault, Status};
 use reports::{Unreported, finish};
@@ -33,7 +33,7 @@ pub fn bench<S: Source, O: Sink, E: Sink>(
 ) -> Status
     ensures laws { LawsOfRuns }
     ensures ends { EndsBy (record {
-      words = words.now;
+      said = command_of words.now;
       input = S.state input.old;
       input' = S.state input.new;
       outputs = record {
@@ -50,7 +50,7 @@ pub fn bench<S: Source, O: Sink, E: Sink>(
     }
 }
 
-/// Runs a command. The run ends as [`bench`] does under any words that say the command.
+/// Runs a command. The run ends as [`bench`] does under words that say it.
 pub fn run_command<S: Source, O: Sink, E: Sink>(
     alloc: Global,
     command: Command,
@@ -59,8 +59,8 @@ pub fn run_command<S: Source, O: Sink, E: Sink>(
     err: &mut E,
 ) -> Status
     requires { KeepsLimit command }
-    ensures { (words : List (List ℕ)) → command_of words ≡ Some command → EndsBy (record {
-      words = words;
+    ensures { EndsBy (record {
+      said = Some command;
       input = S.state input.old;
       input' = S.state input.new;
       outputs = record {
@@ -73,11 +73,7 @@ pub fn run_command<S: Source, O: Sink, E: Sink>(
 {
     let bytes = match take_input(alloc, command, input) {
         Ok(bytes) => bytes,
-        Err(ReadError::TooLarge) => {
-            return finish(&Err(Unreported::Fault(Fault::TooLarge)), out, err);
-        }
-        Err(ReadError::Fault) => return Status::ReadFault,
-        Err(ReadError::Memory) => return Status::Memory,
+        Err(error) => return finish(&Err(error.into()), out, err),
     };
     match prepare(alloc, command, bytes) {
         Ok(prepared) => prepared.finish(out, err),

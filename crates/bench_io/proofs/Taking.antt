@@ -1,32 +1,9 @@
 -- Calls of `take`, one after the other.
-use Rattle.std.proofs.Common.{
-  ◌≡◌,
-  ℕ,
-  ◌+◌,
-  ◌-◌,
-  ◌<◌,
-  ◌≤◌,
-  List,
-  [],
-  ◌++◌,
-  length,
-  take,
-  Option,
-  Some,
-  None,
-  sym,
-  refl,
-  ap,
-  ◌∙◌,
-  append_assoc,
-  append-nil,
-  length-append,
-  length-take,
-  arith,
-}
+use Rattle.std.proofs.Common.{◌≡◌, ℕ, ◌+◌, ◌≤◌, max, List, [], ◌++◌, length, take, Option, Some, None, sym}
+use Rattle.std.proofs.Common.{refl, ap, ◌∙◌, append_assoc, append-nil, length-append, length-take, arith}
 use Rattle.std.specs.Option.{option_map}
 use Rattle.count_defs.specs.Counts.{raised, Rose}
-use Rattle.bench_io.specs.Stream.{SourceState, Gave, empty_calls}
+use Rattle.bench_io.specs.Stream.{SourceState, Gave, GaveMore, GaveNoMore, empty_calls}
 use Rattle.bench_io.specs.ReadAll.{Took}
 
 pub raised-raised : (count a b : ℕ) → raised (raised count a) b ≡ raised count (a + b)
@@ -51,6 +28,9 @@ took_none s = record {
   made = (0, omega arith, sym (raised-zero s.calls));
   none = sym (raised-zero s.empty);
   faults = omega arith;
+  given = sym (raised-zero s.given);
+  later = omega arith;
+  largest = omega arith;
 }
 
 -- one call that gave the front of a buffer
@@ -61,8 +41,9 @@ pub took_once : (a b : SourceState) (count : ℕ) (buffer : List ℕ)
     → b.taken ≡ raised a.taken count
     → b.empty ≡ raised a.empty (empty_calls count)
     → a.faults ≤ b.faults
+    → GaveMore count a b
     → Took a b (take count buffer) (empty_calls count)
-took_once a b count buffer within gave calls taken empty faults =
+took_once a b count buffer within gave calls taken empty faults more =
     let size : length (take count buffer) ≡ count = simp length-take (omega arith) in
     record {
       told = gave;
@@ -70,6 +51,9 @@ took_once a b count buffer within gave calls taken empty faults =
       made = (1, omega (arith, size), calls);
       none = empty;
       faults = faults;
+      given = rw size more.given;
+      later = omega (arith, more.largest);
+      largest = omega (arith, more.largest);
     }
 
 -- one call that failed
@@ -79,13 +63,17 @@ pub failed_once : (a b : SourceState)
     → b.taken ≡ a.taken
     → b.empty ≡ raised a.empty 1
     → a.faults ≤ b.faults
+    → GaveNoMore a b
     → Took a b [] 1
-failed_once a b left calls taken empty faults = record {
+failed_once a b left calls taken empty faults more = record {
   told = rw left (gave_none a.left);
   number = taken ∙ sym (raised-zero a.taken);
   made = (1, omega arith, calls);
   none = empty;
   faults = faults;
+  given = more.given ∙ sym (raised-zero a.given);
+  later = omega (arith, more.largest);
+  largest = omega (arith, more.largest);
 }
 
 -- calls after calls
@@ -103,7 +91,18 @@ took_then a b c x y m n first then = record {
   );
   none = then.none ∙ (ap (λ count. raised count n) first.none ∙ raised-raised a.empty m n);
   faults = omega (arith, first.faults, then.faults);
+  given =
+      then.given
+      ∙ (ap (λ count. raised count (length y)) first.given
+      ∙ (raised-raised a.given (length x) (length y) ∙ ap (raised a.given) (sym (length-append x y))));
+  later = omega (arith, first.later, then.later);
+  largest = omega (arith, first.later, first.largest, then.given, then.later, then.largest);
 }
+
+-- a last call that gave bytes, or found the end
+pub largest_last : (a b c : SourceState) (x : List ℕ) (m n : ℕ) → Took a b x m → GaveMore n b c
+    → c.largest ≡ max a.largest c.given
+largest_last a b c x m n first last = omega (arith, first.later, first.largest, last.given, last.largest)
 
 took_as : (a b : SourceState) (x y : List ℕ) (m n : ℕ) → x ≡ y → m ≡ n → Took a b x m → Took a b y n
 took_as a b x y m n bytes empty took = rw (sym bytes, sym empty) took

@@ -1,29 +1,35 @@
 -- What reading a source whole does to it.
-use Rattle.std.specs.Prelude.{◌≡◌, ℕ, ◌+◌, ◌≤◌, List, length}
+use Rattle.std.specs.Prelude.{◌≡◌, ℕ, ◌+◌, ◌≤◌, max, List, length}
 use Rattle.count_defs.specs.Counts.{raised, Rose}
 use Rattle.bench_io.specs.Stream.{SourceState, Gave, IsAtEnd}
 use Rattle.bench_io.specs.declared.whole.ReadError.{ReadError}
 use Rattle.bench_io.specs.declared.whole.ReadError.TheVariants.{Fault, TooLarge, Memory}
 
 -- A source before and after some calls of `take` that gave these bytes and no others. So many of the calls gave no
--- byte, and each other call a byte or more.
+-- byte, and each other call a byte or more. All of it counts as given of what was opened last.
 pub record Took (before after : SourceState) (bytes : List ℕ) (empty : ℕ) : Type 0 where
   pub told : Gave before.left after.left bytes
   pub number : after.taken ≡ raised before.taken (length bytes)
   pub made : (calls : ℕ) × (calls ≤ length bytes + empty) × (after.calls ≡ raised before.calls calls)
   pub none : after.empty ≡ raised before.empty empty
   pub faults : before.faults ≤ after.faults
+  pub given : after.given ≡ raised before.given (length bytes)
+  pub later : before.largest ≤ after.largest
+  pub largest : after.largest ≤ max before.largest after.given
 
 -- a source that was read up to its end: the last call alone gave no byte
 pub record ReadWhole (limit : ℕ) (before after : SourceState) (bytes : List ℕ) : Type 0 where
   pub took : Took before after bytes 1
   pub within : length bytes ≤ limit
   pub end : IsAtEnd after.left
+  pub largest : after.largest ≡ max before.largest after.given
 
 -- What was taken before the reading gave up, by the error: one byte more than the limit, or no more than it. The call
 -- that failed gave no byte; else each did.
 abbrev pub GaveUp : ReadError → ℕ → SourceState → SourceState → Type 0
-GaveUp TooLarge limit before after = (bytes : List ℕ) × (length bytes ≡ limit + 1) × Took before after bytes 0
+GaveUp TooLarge limit before after =
+    (bytes : List ℕ) × (length bytes ≡ limit + 1) × Took before after bytes 0
+    × (after.largest ≡ max before.largest after.given)
 GaveUp Fault limit before after =
     (bytes : List ℕ) × (length bytes ≤ limit) × Took before after bytes 1 × Rose before.faults after.faults
 GaveUp Memory limit before after = (bytes : List ℕ) × (length bytes ≤ limit) × Took before after bytes 0

@@ -1,16 +1,43 @@
 -- What a source has left, what a sink holds, and their counts.
-use Rattle.std.specs.Prelude.{◌≡◌, ℕ, ◌-◌, List, [], ◌++◌, take, Option, IfSome}
+use Rattle.std.specs.Prelude.{◌≡◌, ℕ, ◌-◌, max, List, [], ◌++◌, take, Option, IfSome}
 use Rattle.std.specs.Option.{option_map}
 use Rattle.std.specs.Io.KnownBytes.{Appends}
+use Rattle.count_defs.specs.Counts.{raised}
 
--- a source: the bytes that are left, where it tells them; how many calls of `take` were made, how many bytes they gave,
--- how many of them gave no byte (at the end, or by failing), and how many failed
+-- A source: the bytes that are left, where it tells them; how many calls of `take` were made, how many bytes they gave,
+-- how many of them gave no byte (at the end, or by failing), and how many failed. A source may be opened anew: how many
+-- bytes were given since it was opened last, and the most that were given of one opening.
 pub record SourceState : Type 0 where
   pub left : Option (List ℕ)
   pub calls : ℕ
   pub taken : ℕ
   pub empty : ℕ
   pub faults : ℕ
+  pub given : ℕ
+  pub largest : ℕ
+
+-- a source that is opened once, by what it has left and the first four of its counts
+abbrev pub opened_once : Option (List ℕ) → ℕ → ℕ → ℕ → ℕ → SourceState
+opened_once left calls taken empty faults =
+    record {
+      left = left;
+      calls = calls;
+      taken = taken;
+      empty = empty;
+      faults = faults;
+      given = taken;
+      largest = taken;
+    }
+
+-- so many bytes more were given of what was opened last
+pub record GaveMore (count : ℕ) (before after : SourceState) : Type 0 where
+  pub given : after.given ≡ raised before.given count
+  pub largest : after.largest ≡ max before.largest after.given
+
+-- no byte more was given of it
+pub record GaveNoMore (before after : SourceState) : Type 0 where
+  pub given : after.given ≡ before.given
+  pub largest : after.largest ≡ before.largest
 
 -- a sink: the bytes that it holds, where it tells them, how many calls of `put` were made, and how many of
 -- them failed

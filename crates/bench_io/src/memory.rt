@@ -4,7 +4,7 @@ ghost use Rattle.std.specs.Prelude.{◌≡◌, ◌⊎◌, ◌↔◌, ◌<◌, �
 ghost use Rattle.std.specs.Prelude.{vec_len, vec_capacity, Option};
 ghost use Rattle.std.specs.Prelude.{Some, IsErr, IfOk, OnOk, OnErr, Contains};
 ghost use Rattle.count_defs.specs.Counts.{raised, Rose};
-ghost use Rattle.bench_io.specs.Stream.{empty_calls};
+ghost use Rattle.bench_io.specs.Stream.{opened_once, empty_calls};
 
 use crate::{Failed, Sink, Source};
 use std::alloc::{AllocError, Global};
@@ -64,13 +64,9 @@ impl MemSource {
 }
 
 impl Source for MemSource {
-    ghost state = { λ s. record {
-      left = Some s.left;
-      calls = s.calls;
-      taken = s.taken;
-      empty = s.empty;
-      faults = s.faults;
-    } };
+    ghost state = { λ s. opened_once (Some s.left) s.calls s.taken s.empty s.faults };
+
+    ghost kept = { λ _. tt };
 
     fn take(&mut self, buffer: &mut [u8]) -> Result<usize, Failed>
         requires { 0 < length buffer.old }

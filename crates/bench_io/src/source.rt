@@ -2,15 +2,22 @@
 
 ghost use Rattle.std.specs.Prelude.{◌≡◌, ◌<◌, ◌≤◌, length, take, IfOk, OnErr};
 ghost use Rattle.count_defs.specs.Counts.{raised, Rose};
-ghost use Rattle.bench_io.specs.Stream.{SourceState, Gave, IsAtEnd, empty_calls};
+ghost use Rattle.bench_io.specs.Stream.{SourceState, Gave, GaveMore, GaveNoMore, IsAtEnd, empty_calls};
 
 use crate::Failed;
 
 /// Where bytes come from, one piece after the other.
 pub trait Source {
-    /// The bytes that are left, where the source tells them, and the counts of calls, of bytes given, of calls that
-    /// gave no byte, and of faults. No count falls.
+    /// The bytes that are left, where the source tells them; the counts of calls, of bytes given, of calls that gave
+    /// no byte, and of faults; how many bytes were given since it was opened last, and the most that were given of one
+    /// opening. No count falls.
     ghost state: { Self → SourceState };
+
+    /// The type of what no call of `take` changes.
+    ghost Kept: { Type 0 } = { Unit {0} };
+
+    /// What no call of `take` changes, as the other files of a shelf.
+    ghost kept: { Self → Kept };
 
     /// Puts the next bytes into the front of `buffer` and says how many these are. 0 is the end. What stands in
     /// `buffer` behind them, and after a failure in all of it, is left open.
@@ -30,10 +37,14 @@ pub trait Source {
         ensures taken { IfOk result (λ count. (state self.new).taken ≡ raised (state self.old).taken count) }
         ensures taken_failed { OnErr result ((state self.new).taken ≡ (state self.old).taken) }
 
+        ensures given { IfOk result (λ count. GaveMore count (state self.old) (state self.new)) }
+        ensures given_failed { OnErr result (GaveNoMore (state self.old) (state self.new)) }
+
         ensures empty { IfOk result
             (λ count. (state self.new).empty ≡ raised (state self.old).empty (empty_calls count)) }
         ensures empty_failed { OnErr result ((state self.new).empty ≡ raised (state self.old).empty 1) }
 
         ensures faults { (state self.old).faults ≤ (state self.new).faults }
-        ensures cause { OnErr result (Rose (state self.old).faults (state self.new).faults) };
+        ensures cause { OnErr result (Rose (state self.old).faults (state self.new).faults) }
+        ensures kept { kept self.new ≡ kept self.old };
 }

@@ -2,7 +2,7 @@
 
 ghost use Rattle.std.specs.Prelude.{◌≡◌, ◌<◌, ◌≤◌, length, None, IfOk, OnOk, OnErr};
 ghost use Rattle.count_defs.specs.Counts.{raised, Rose};
-ghost use Rattle.bench_io.specs.Stream.{AppendsFront, empty_calls};
+ghost use Rattle.bench_io.specs.Stream.{AppendsFront, opened_once, empty_calls};
 ghost use Rattle.std.specs.Io.KnownBytes.{Appends, ReadConsumes};
 
 use crate::{Failed, Sink, Source};
@@ -21,23 +21,17 @@ pub struct StdSource<R: Read + Drop> {
 }
 
 impl<R: Read + Drop> Model for StdSource<R> {
-    ghost use Rattle.bench_io.specs.Stream.{SourceState};
+    ghost use Rattle.bench_io.specs.Stream.{SourceState, opened_once};
 
     ghost Value = { SourceState };
 
-    ghost view = { λ s. record {
-      left = R.remaining s.reader;
-      calls = s.calls;
-      taken = s.taken;
-      empty = s.empty;
-      faults = s.faults;
-    } };
+    ghost view = { λ s. opened_once (R.remaining s.reader) s.calls s.taken s.empty s.faults };
 }
 
 impl<R: Read + Drop> StdSource<R> {
     /// A source over `reader`, of which nothing has been taken.
     pub fn new(reader: R) -> Self
-        ensures { result ≡ record { left = R.remaining reader; calls = 0; taken = 0; empty = 0; faults = 0 } }
+        ensures { result ≡ opened_once (R.remaining reader) 0 0 0 0 }
     {
         StdSource {
             reader,
@@ -50,7 +44,9 @@ impl<R: Read + Drop> StdSource<R> {
 }
 
 impl<R: Read + Drop> Source for StdSource<R> {
-    ghost state = { λ s. record { left = None; calls = s.calls; taken = s.taken; empty = s.empty; faults = s.faults } };
+    ghost state = { λ s. opened_once None s.calls s.taken s.empty s.faults };
+
+    ghost kept = { λ _. tt };
 
     /// A call that fails raises the count of faults by one, and no other call does.
     fn take(&mut self, buffer: &mut [u8]) -> Result<usize, Failed>
@@ -62,6 +58,8 @@ impl<R: Read + Drop> Source for StdSource<R> {
           left = self.new.left;
           calls = raised self.old.calls 1;
           taken = raised self.old.taken count;
+          given = raised self.old.given count;
+          largest = raised self.old.largest count;
           empty = raised self.old.empty (empty_calls count);
         }) }
         ensures error { OnErr result (self.new ≡ record self.old {

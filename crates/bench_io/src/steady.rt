@@ -3,7 +3,7 @@
 ghost use Rattle.std.specs.Prelude.{◌≡◌, ◌<◌, ◌≤◌, ◌+◌, min, ℕ, List, [], ◌++◌, length, take, drop, vec_len, Option};
 ghost use Rattle.std.specs.Prelude.{Some, None, IsOk, IsOkAnd, IfOk};
 ghost use Rattle.count_defs.specs.Counts.{raised};
-ghost use Rattle.bench_io.specs.Stream.{empty_calls};
+ghost use Rattle.bench_io.specs.Stream.{opened_once, empty_calls};
 
 use crate::memory::copy_front;
 use crate::{Failed, Sink, Source};
@@ -51,7 +51,9 @@ impl SteadySource {
 }
 
 impl Source for SteadySource {
-    ghost state = { λ s. record { left = Some s.left; calls = s.calls; taken = s.taken; empty = s.empty; faults = 0 } };
+    ghost state = { λ s. opened_once (Some s.left) s.calls s.taken s.empty 0 };
+
+    ghost kept = { λ _. tt };
 
     fn take(&mut self, buffer: &mut [u8]) -> Result<usize, Failed>
         requires { 0 < length buffer.old }

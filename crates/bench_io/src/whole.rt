@@ -3,7 +3,7 @@
 ghost use Rattle.std.specs.Prelude.{◌≡◌, ◌<◌, ◌≤◌, ◌+◌, ℕ, [], length, take, IfOk, IfErr, OnErr};
 ghost use Rattle.count_defs.specs.Counts.{raised, Rose};
 ghost use Rattle.bench_io.specs.ReadAll.{ReadWhole, GaveUp, Took};
-ghost use Rattle.bench_io.specs.Stream.{IsAtEnd, empty_calls};
+ghost use Rattle.bench_io.specs.Stream.{GaveMore, IsAtEnd, empty_calls};
 ghost use Rattle.bench_io.specs.declared.whole.ReadError.TheVariants.{Fault, Memory};
 
 use crate::{Failed, Source};
@@ -61,6 +61,7 @@ pub fn read_all<S: Source>(
     ensures err { IfErr result (λ error. GaveUp error limit (S.state source.old) (S.state source.new)) }
     ensures calls { (count : ℕ) × (count ≤ limit + 1)
         × ((S.state source.new).calls ≡ raised (S.state source.old).calls count) }
+    ensures kept { S.kept source.new ≡ S.kept source.old }
 {
     let mut bytes = Vec::new(alloc);
     let mut buffer = [0; PIECE];
@@ -87,6 +88,8 @@ fn take_once<S: Source>(source: &mut S, buffer: &mut [u8]) -> Result<usize, Fail
         (λ count. Took (S.state source.old) (S.state source.new) (take count buffer.new) (empty_calls count)) }
     ensures failed { OnErr result (Took (S.state source.old) (S.state source.new) [] 1) }
     ensures cause { OnErr result (Rose (S.state source.old).faults (S.state source.new).faults) }
+    ensures given { IfOk result (λ count. GaveMore count (S.state source.old) (S.state source.new)) }
+    ensures kept { S.kept source.new ≡ S.kept source.old }
 {
     source.take(buffer)
 }

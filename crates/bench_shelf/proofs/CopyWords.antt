@@ -1,14 +1,14 @@
 -- A line whose operation is not COPY stands for itself.
-use Rattle.std.proofs.Common.{◌≡◌, ℕ, ◌+◌, ◌<◌, ◌≤◌, Bool, true, false, cond, not, List, [], ◌∷◌, length, get_or, Some, None, Ok, Err, refl, sym, ap, subst, ◌∙◌, ◌⊎◌, inl, inr, arith}
-use Rattle.std.specs.Prelude.{nat_lt, codes, map, slice_range, Option, Result, if◌then◌else◌}
+use Rattle.std.proofs.Common.{◌≡◌, ℕ, ◌+◌, ◌<◌, ◌≤◌, Bool, true, false, cond, List, length, get_or, Some, None}
+use Rattle.std.proofs.Common.{Ok, Err, refl, sym, ap, subst, ◌∙◌, ◌⊎◌, inl, inr}
+use Rattle.std.specs.Prelude.{nat_lt, codes, map, slice_range, Option, if◌then◌else◌}
 use Rattle.std.proofs.lemmas.Bool.{cases_lt}
-use Rattle.source_defs.specs.declared.causes.TextError.{TextError}
 use Rattle.source_defs.specs.declared.causes.TextError.TheVariants.{LineTooLong, BadLabel}
 use Rattle.source_defs.specs.Characters.{is_blank, upper_case}
 use Rattle.source_defs.specs.Names.{is_name, is_word}
-use Rattle.source_defs.specs.Fields.{Fields, fields, fields_after, no_fields, is_comment, label_field, longest_line, word_start, word_end}
+use Rattle.source_defs.specs.Fields.{fields, fields_after, no_fields, is_comment, label_field, longest_line, word_start, word_end}
 use Rattle.source_defs.proofs.LeastLaws.{least_place_step, least_place_end}
-use Rattle.shelf_defs.specs.CopyLines.{Asked, Itself, asked, asked_in, asked_for, quoted_name}
+use Rattle.shelf_defs.specs.CopyLines.{Itself, asked, asked_in}
 
 module _ (line : List ℕ) where
   -- a blank in column 1 ends the label field there

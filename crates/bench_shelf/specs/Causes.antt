@@ -23,17 +23,17 @@ pub record Later (before after : ShelfState) : Type 0 where
   pub taken : before.source.taken ≤ after.source.taken
   pub calls : before.source.calls ≤ after.source.calls
   pub empty : before.source.empty ≤ after.source.empty
-  pub largest : before.largest ≤ after.largest
+  pub largest : before.source.largest ≤ after.source.largest
 
 -- of the file that was opened last more bytes were taken than these, and so of one file, and as many by these calls
 pub record TookMore (limit : ℕ) (before after : ShelfState) : Type 0 where
-  pub given : limit < after.given
-  pub largest : after.given ≤ after.largest
+  pub given : limit < after.source.given
+  pub largest : after.source.given ≤ after.source.largest
   pub taken : raised before.source.taken (limit + 1) ≤ after.source.taken
 
 -- of no file more bytes were taken than these, unless there were before
 abbrev pub TookNoMore : ℕ → ShelfState → ShelfState → Type 0
-TookNoMore limit before after = after.largest ≤ max before.largest limit
+TookNoMore limit before after = after.source.largest ≤ max before.source.largest limit
 
 -- A missing name is counted, and so is a failure. A file is too large exactly where more bytes of one were taken than
 -- it may have.

@@ -28,9 +28,9 @@ untold folder =
             taken = folder.taken;
             empty = folder.empty;
             faults = folder.faults;
+            given = folder.given;
+            largest = folder.largest;
           };
-      given = folder.given;
-      largest = folder.largest;
       opens = folder.opens;
       misses = folder.misses;
       files = None;

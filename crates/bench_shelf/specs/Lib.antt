@@ -1,7 +1,6 @@
 pub mod Padding
 pub mod States
 pub mod Opening
-pub mod Reading
 pub mod MemoryShelf
 pub mod FolderShelf
 pub mod Asking

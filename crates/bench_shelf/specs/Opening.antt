@@ -24,8 +24,8 @@ Refuses Missing before after name = Rose before.misses after.misses × IsMissing
 -- the call is counted, and of the file that was opened no bytes were given yet, nor were any of one that was refused
 pub record StartsAnew (before after : ShelfState) : Type 0 where
   pub opens : after.opens ≡ raised before.opens 1
-  pub given : after.given ≡ 0
-  pub largest : after.largest ≡ before.largest
+  pub given : after.source.given ≡ 0
+  pub largest : after.source.largest ≡ before.source.largest
 
 -- the counts of a source other than that of faults stand as before
 pub record SameCounts (before after : SourceState) : Type 0 where

@@ -1,19 +1,38 @@
 -- What a shelf of files has, and what it counts.
-use Rattle.std.specs.Prelude.{ℕ, List, Option, Some}
+use Rattle.std.specs.Prelude.{◌≡◌, ℕ, List, Option, Some}
+use Rattle.std.proofs.Common.{ap}
 use Rattle.std.specs.FinMap.{from_entries}
 use Rattle.bench_io.specs.Stream.{SourceState}
 use Rattle.shelf_defs.specs.Files.{Files}
 
--- A shelf: what is left of the open file, with the counts of a source; how many bytes were given of the file that was
--- opened last, since then, which are 0 where none was; the most bytes that were given of one opening; how often a file
--- was asked for by its name, and how often the name was not among the files; and the files, where the shelf tells them.
+-- A shelf: what is left of the open file, with the counts of a source; how often a file was asked for by its name, and
+-- how often the name was not among the files; and the files, where the shelf tells them.
 pub record ShelfState : Type 0 where
   pub source : SourceState
-  pub given : ℕ
-  pub largest : ℕ
   pub opens : ℕ
   pub misses : ℕ
   pub files : Option Files
+
+-- the files stand as before, and so do the counts of files that were asked for and of misses
+pub record SameFiles (before after : ShelfState) : Type 0 where
+  pub files : after.files ≡ before.files
+  pub opens : after.opens ≡ before.opens
+  pub misses : after.misses ≡ before.misses
+
+-- what stands of a shelf while its open file is read
+abbrev pub Standing : Type 0
+Standing = ℕ × ℕ × Option Files
+
+abbrev pub standing : ShelfState → Standing
+standing shelf = (shelf.opens, shelf.misses, shelf.files)
+
+abbrev pub same_files : (before after : ShelfState) → standing after ≡ standing before → SameFiles before after
+same_files before after same =
+    record {
+      files = ap (λ (stands : Standing). stands.2) same;
+      opens = ap (λ (stands : Standing). stands.0) same;
+      misses = ap (λ (stands : Standing). stands.1) same;
+    }
 
 -- A shelf in memory: its files by name, where the first of equal names counts; what is left of the open one; the
 -- number of calls of `open_file` and `take` together, and of calls of `take` alone; the bytes given in all, those
@@ -49,9 +68,9 @@ told shelf =
             taken = shelf.taken;
             empty = shelf.empty;
             faults = shelf.faults;
+            given = shelf.given;
+            largest = shelf.largest;
           };
-      given = shelf.given;
-      largest = shelf.largest;
       opens = shelf.opens;
       misses = shelf.misses;
       files = Some (by_name shelf.files);

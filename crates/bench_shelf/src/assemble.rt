@@ -42,24 +42,24 @@ pub fn copy_assemble<F: Shelf>(
     text: &[u8],
 ) -> Result<Module, CopyError>
     requires { length text.now ≤ 1048576 }
-    ensures answer { IfSome (F.state shelf.old).files (λ files. GivesCopied result (module_of_files files text.now)) }
+    ensures answer { IfSome (F.shelf shelf.old).files (λ files. GivesCopied result (module_of_files files text.now)) }
     // A source that copies no file leaves the shelf as it was, and needs none.
-    ensures alone { CopiesNone (line_texts text.now) → (F.state shelf.new ≡ F.state shelf.old)
+    ensures alone { CopiesNone (line_texts text.now) → (F.shelf shelf.new ≡ F.shelf shelf.old)
         × GivesCopied result (module_of_files empty text.now) }
-    ensures text { IfSome (F.state shelf.old).files (λ files. IfOk result (λ found.
+    ensures text { IfSome (F.shelf shelf.old).files (λ files. IfOk result (λ found.
         module_of_source (text_of (texts (copied files text.now).lines)) ≡ Ok (defined_module found))) }
     // Also where the shelf tells no files.
     ensures lines { IfOk result (λ found. IsOfLines (defined_module found)) }
-    ensures causes { IfErr result (λ error. ShelfCauses error (F.state shelf.old) (F.state shelf.new)) }
+    ensures causes { IfErr result (λ error. ShelfCauses error (F.shelf shelf.old) (F.shelf shelf.new)) }
     // Behind Ok too no more bytes of one file were taken than it may have.
-    ensures within { OnOk result (TookNoMore most_bytes (F.state shelf.old) (F.state shelf.new)) }
-    ensures later { Later (F.state shelf.old) (F.state shelf.new) }
+    ensures within { OnOk result (TookNoMore most_bytes (F.shelf shelf.old) (F.shelf shelf.new)) }
+    ensures later { Later (F.shelf shelf.old) (F.shelf shelf.new) }
     // Each file that is copied is asked for once, and no other.
-    ensures opens { (F.state shelf.new).opens ≤ raised (F.state shelf.old).opens most_copies }
-    ensures opened { IfSome (F.state shelf.old).files (λ files. OnOk result
-        ((F.state shelf.new).opens ≡ raised (F.state shelf.old).opens (copied files text.now).copies)) }
-    ensures taken { (F.state shelf.new).source.taken
-        ≤ raised (F.state shelf.old).source.taken ((most_bytes + 1) * most_copies) }
+    ensures opens { (F.shelf shelf.new).opens ≤ raised (F.shelf shelf.old).opens most_copies }
+    ensures opened { IfSome (F.shelf shelf.old).files (λ files. OnOk result
+        ((F.shelf shelf.new).opens ≡ raised (F.shelf shelf.old).opens (copied files text.now).copies)) }
+    ensures taken { (F.shelf shelf.new).source.taken
+        ≤ raised (F.shelf shelf.old).source.taken ((most_bytes + 1) * most_copies) }
 {
     let mut copying = Copying::new(alloc);
     if let Err(error) = copying.copy_lines(shelf, DEEPEST, &None, text) {

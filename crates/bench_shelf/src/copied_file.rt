@@ -24,16 +24,16 @@ pub(crate) fn read_copied<F: Shelf>(
     name: &FileName,
 ) -> Result<Vec<u8>, CopyError>
     ensures ok { IfOk result (λ bytes.
-        IfSome (F.state shelf.old).files (λ files. Reads files place name.now (Ok bytes.items))) }
+        IfSome (F.shelf shelf.old).files (λ files. Reads files place name.now (Ok bytes.items))) }
     ensures size { IfOk result (λ bytes. length bytes.items ≤ most_bytes) }
     // It is asked for once, and no other; no more than one byte past its limit is taken.
-    ensures opens { (F.state shelf.new).opens ≡ raised (F.state shelf.old).opens 1 }
-    ensures taken { (F.state shelf.new).source.taken ≤ raised (F.state shelf.old).source.taken (most_bytes + 1) }
+    ensures opens { (F.shelf shelf.new).opens ≡ raised (F.shelf shelf.old).opens 1 }
+    ensures taken { (F.shelf shelf.new).source.taken ≤ raised (F.shelf shelf.old).source.taken (most_bytes + 1) }
     ensures err { IfErr result (λ error.
-        IfSome (F.state shelf.old).files (λ files. NotRead files place name.now error)) }
-    ensures causes { IfErr result (λ error. ShelfCauses error (F.state shelf.old) (F.state shelf.new)) }
-    ensures within { OnOk result (TookNoMore most_bytes (F.state shelf.old) (F.state shelf.new)) }
-    ensures later { Later (F.state shelf.old) (F.state shelf.new) }
+        IfSome (F.shelf shelf.old).files (λ files. NotRead files place name.now error)) }
+    ensures causes { IfErr result (λ error. ShelfCauses error (F.shelf shelf.old) (F.shelf shelf.new)) }
+    ensures within { OnOk result (TookNoMore most_bytes (F.shelf shelf.old) (F.shelf shelf.new)) }
+    ensures later { Later (F.shelf shelf.old) (F.shelf shelf.new) }
 {
     match read_named(alloc, shelf, name, MOST_BYTES) {
         Ok(bytes) => Ok(bytes),

@@ -42,17 +42,17 @@ impl Copying {
     ) -> Result<(), CopyError>
         requires going { IsOpen self.old.builder }
         requires room { HasRoom (length text.now) self.old }
-        ensures leads { IfSome (F.state shelf.old).files (λ files. Leads self.old
+        ensures leads { IfSome (F.shelf shelf.old).files (λ files. Leads self.old
             (spec.lines_in (spec.copy_line files levels) file.now self.old.copies (line_texts text.now))
             (trouble result) self.new) }
         ensures alone { CopiesNone (line_texts text.now) → LeadsAlone self.old
             (spec.lines_in (spec.copy_line empty levels) file.now self.old.copies (line_texts text.now))
-            (trouble result) self.new (F.state shelf.old) (F.state shelf.new) }
-        ensures causes { IfErr result (λ error. ShelfCauses error (F.state shelf.old) (F.state shelf.new)) }
-        ensures within { OnOk result (TookNoMore most_bytes (F.state shelf.old) (F.state shelf.new)) }
-        ensures later { Later (F.state shelf.old) (F.state shelf.new) }
+            (trouble result) self.new (F.shelf shelf.old) (F.shelf shelf.new) }
+        ensures causes { IfErr result (λ error. ShelfCauses error (F.shelf shelf.old) (F.shelf shelf.new)) }
+        ensures within { OnOk result (TookNoMore most_bytes (F.shelf shelf.old) (F.shelf shelf.new)) }
+        ensures later { Later (F.shelf shelf.old) (F.shelf shelf.new) }
         ensures grows { OnOk result (Grows (length text.now) self.old self.new) }
-        ensures once { ReadsOnce self.old self.new (F.state shelf.old) (F.state shelf.new) }
+        ensures once { ReadsOnce self.old self.new (F.shelf shelf.old) (F.shelf shelf.new) }
         ensures kept { KeepsLines self.old self.new }
     {
         for line in lines(text) {
@@ -82,17 +82,17 @@ impl Copying {
     ) -> Result<(), CopyError>
         requires going { IsOpen self.old.builder }
         requires room { HasRoom 1 self.old }
-        ensures leads { IfSome (F.state shelf.old).files (λ files. Leads self.old
+        ensures leads { IfSome (F.shelf shelf.old).files (λ files. Leads self.old
             (spec.one_line (spec.copy_line files levels) (defined_place place) self.old.copies text.now)
             (trouble result) self.new) }
         ensures alone { IsNoFile (asked text.now) → LeadsAlone self.old
             (spec.one_line (spec.copy_line empty levels) (defined_place place) self.old.copies text.now)
-            (trouble result) self.new (F.state shelf.old) (F.state shelf.new) }
-        ensures causes { IfErr result (λ error. ShelfCauses error (F.state shelf.old) (F.state shelf.new)) }
-        ensures within { OnOk result (TookNoMore most_bytes (F.state shelf.old) (F.state shelf.new)) }
-        ensures later { Later (F.state shelf.old) (F.state shelf.new) }
+            (trouble result) self.new (F.shelf shelf.old) (F.shelf shelf.new) }
+        ensures causes { IfErr result (λ error. ShelfCauses error (F.shelf shelf.old) (F.shelf shelf.new)) }
+        ensures within { OnOk result (TookNoMore most_bytes (F.shelf shelf.old) (F.shelf shelf.new)) }
+        ensures later { Later (F.shelf shelf.old) (F.shelf shelf.new) }
         ensures grows { OnOk result (Grows 1 self.old self.new) }
-        ensures once { ReadsOnce self.old self.new (F.state shelf.old) (F.state shelf.new) }
+        ensures once { ReadsOnce self.old self.new (F.shelf shelf.old) (F.shelf shelf.new) }
         ensures kept { KeepsLines self.old self.new }
     {
         match asked_by(text) {
@@ -113,13 +113,13 @@ impl Copying {
     ) -> Result<(), CopyError>
         requires going { IsOpen self.old.builder }
         requires room { HasRoom 1 self.old }
-        ensures leads { IfSome (F.state shelf.old).files (λ files. Leads self.old
+        ensures leads { IfSome (F.shelf shelf.old).files (λ files. Leads self.old
             (spec.copy_line files levels (defined_place place) self.old.copies name) (trouble result) self.new) }
-        ensures causes { IfErr result (λ error. ShelfCauses error (F.state shelf.old) (F.state shelf.new)) }
-        ensures within { OnOk result (TookNoMore most_bytes (F.state shelf.old) (F.state shelf.new)) }
-        ensures later { Later (F.state shelf.old) (F.state shelf.new) }
+        ensures causes { IfErr result (λ error. ShelfCauses error (F.shelf shelf.old) (F.shelf shelf.new)) }
+        ensures within { OnOk result (TookNoMore most_bytes (F.shelf shelf.old) (F.shelf shelf.new)) }
+        ensures later { Later (F.shelf shelf.old) (F.shelf shelf.new) }
         ensures grows { OnOk result (Grows 1 self.old self.new) }
-        ensures once { ReadsOnce self.old self.new (F.state shelf.old) (F.state shelf.new) }
+        ensures once { ReadsOnce self.old self.new (F.shelf shelf.old) (F.shelf shelf.new) }
         ensures kept { KeepsLines self.old self.new }
     {
         if levels == 0 {

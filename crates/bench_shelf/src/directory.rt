@@ -1,14 +1,15 @@
 //! The current folder as a shelf.
 
-ghost use Rattle.std.specs.Prelude.{◌≡◌, ◌<◌, ◌≤◌, max, length, false, is_some, IfOk, OnErr};
+ghost use Rattle.std.specs.Prelude.{◌≡◌, ◌<◌, ◌≤◌, max, length, false, refl, is_some, IfOk, OnErr};
 ghost use Rattle.count_defs.specs.Counts.{raised, Rose};
 ghost use Rattle.bench_io.specs.Stream.{empty_calls};
+ghost use Rattle.bench_shelf.specs.States.{Standing, standing, same_files};
 ghost use Rattle.bench_shelf.specs.FolderShelf.{untold, OpensFrom};
 
 use crate::error::OpenError;
 use crate::file_name::FileName;
 use crate::shelf::Shelf;
-use bench_io::Failed;
+use bench_io::{Failed, Source};
 use std::fs::{File, OpenFile};
 use std::io::{ErrorKind, Read};
 use std::marker::Model;
@@ -118,8 +119,24 @@ impl<'a, R: Files> DirShelf<'a, R> {
     }
 }
 
+impl<'a, R: Files> Source for DirShelf<'a, R> {
+    ghost state = { λ s. (untold s).source };
+
+    ghost Kept = { Standing };
+
+    ghost kept = { λ s. standing (untold s) };
+
+    fn take(&mut self, buffer: &mut [u8]) -> Result<usize, Failed> {
+        self.read(buffer)
+    }
+}
+
 impl<'a, R: Files> Shelf for DirShelf<'a, R> {
-    ghost state = { untold };
+    ghost shelf = { untold };
+
+    ghost source_is = { λ _. refl };
+
+    ghost keeps = { λ before after. same_files (untold before) (untold after) };
 
     /// Opens a file, and counts the call. One that is refused leaves none open and raises the count of faults or that
     /// of misses by one, and no other call does.
@@ -143,10 +160,6 @@ impl<'a, R: Files> Shelf for DirShelf<'a, R> {
                 Err(OpenError::Failed)
             }
         }
-    }
-
-    fn take(&mut self, buffer: &mut [u8]) -> Result<usize, Failed> {
-        self.read(buffer)
     }
 }
 

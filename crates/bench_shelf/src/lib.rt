@@ -17,7 +17,6 @@ mod place;
 mod run;
 mod runs;
 mod shelf;
-mod whole;
 
 pub use crate::assemble::copy_assemble;
 pub use crate::copy_error::{CopyCause, CopyError};
@@ -27,5 +26,3 @@ pub use crate::file_name::FileName;
 pub use crate::memory::MemShelf;
 pub use crate::named_file::read_named;
 pub use crate::shelf::Shelf;
-pub use crate::whole::read_file;
-pub use bench_io::{Failed, ReadError};

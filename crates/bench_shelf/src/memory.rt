@@ -1,17 +1,17 @@
 //! A shelf in memory.
 
-ghost use Rattle.std.specs.Prelude.{◌≡◌, ◌↔◌, ◌<◌, ◌≤◌, min, max, [], ◌++◌, length, take, drop, IsTrue, IsFalse};
+ghost use Rattle.std.specs.Prelude.{◌≡◌, ◌↔◌, ◌<◌, ◌≤◌, min, max, [], ◌++◌, length, take, drop, refl, IsTrue, IsFalse};
 ghost use Rattle.std.specs.Prelude.{IsErr, IfOk, OnOk, OnErr, IfErr, Contains, is_some, Option};
 ghost use Rattle.std.specs.Option.{option_map, unwrap_or};
 ghost use Rattle.count_defs.specs.Counts.{raised, Rose};
 ghost use Rattle.bench_io.specs.Stream.{empty_calls};
-ghost use Rattle.bench_shelf.specs.States.{told};
+ghost use Rattle.bench_shelf.specs.States.{Standing, standing, same_files, told};
 ghost use Rattle.bench_shelf.specs.MemoryShelf.{named, bytes_of, OpensIn};
 
 use crate::error::OpenError;
 use crate::file_name::FileName;
 use crate::shelf::Shelf;
-use bench_io::Failed;
+use bench_io::{Failed, Source};
 use std::marker::Model;
 
 /// A shelf of files in memory, of which the first of equal names counts. It gives as many bytes at a time as there is
@@ -182,24 +182,12 @@ impl MemShelf {
     }
 }
 
-impl Shelf for MemShelf {
-    ghost state = { told };
+impl Source for MemShelf {
+    ghost state = { λ s. (told s).source };
 
-    fn open_file(&mut self, name: &FileName) -> Result<(), OpenError>
-        ensures { OpensIn self.old name.now result self.new }
-    {
-        let fails = self.fails_next();
-        self.begin_opening();
-        if fails {
-            self.faults = self.faults.saturating_add(1);
-            return Err(OpenError::Failed);
-        }
-        if self.open(name) {
-            return Ok(());
-        }
-        self.misses = self.misses.saturating_add(1);
-        Err(OpenError::Missing)
-    }
+    ghost Kept = { Standing };
+
+    ghost kept = { λ s. standing (told s) };
 
     fn take(&mut self, buffer: &mut [u8]) -> Result<usize, Failed>
         requires { 0 < length buffer.old }
@@ -233,6 +221,30 @@ impl Shelf for MemShelf {
         let count = copy_front(self.left(), buffer);
         self.advance(count);
         Ok(count)
+    }
+}
+
+impl Shelf for MemShelf {
+    ghost shelf = { told };
+
+    ghost source_is = { λ _. refl };
+
+    ghost keeps = { λ before after. same_files (told before) (told after) };
+
+    fn open_file(&mut self, name: &FileName) -> Result<(), OpenError>
+        ensures { OpensIn self.old name.now result self.new }
+    {
+        let fails = self.fails_next();
+        self.begin_opening();
+        if fails {
+            self.faults = self.faults.saturating_add(1);
+            return Err(OpenError::Failed);
+        }
+        if self.open(name) {
+            return Ok(());
+        }
+        self.misses = self.misses.saturating_add(1);
+        Err(OpenError::Missing)
     }
 }
 

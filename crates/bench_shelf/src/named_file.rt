@@ -8,8 +8,7 @@ ghost use Rattle.bench_shelf.specs.Causes.{Later, FileCauses, IsUnread, TookNoMo
 use crate::error::{FileError, OpenError};
 use crate::file_name::FileName;
 use crate::shelf::Shelf;
-use crate::whole::read_file;
-use bench_io::ReadError;
+use bench_io::{ReadError, read_all};
 use std::alloc::Global;
 
 /// The bytes of the file of a name, `limit` at most. The file is asked for once, and no other; no more than one byte
@@ -27,22 +26,22 @@ pub fn read_named<F: Shelf>(
 ) -> Result<Vec<u8>, FileError>
     requires { limit < usize.MAX }
     ensures ok { IfOk result (λ bytes.
-        IfSome (F.state shelf.old).files (λ files. get files name.now ≡ Some bytes.items)) }
+        IfSome (F.shelf shelf.old).files (λ files. get files name.now ≡ Some bytes.items)) }
     ensures size { IfOk result (λ bytes. length bytes.items ≤ limit) }
     ensures err { IfErr result (λ error.
-        IfSome (F.state shelf.old).files (λ files. IsUnread files name.now limit error)) }
-    ensures causes { IfErr result (λ error. FileCauses limit error (F.state shelf.old) (F.state shelf.new)) }
-    ensures within { OnOk result (TookNoMore limit (F.state shelf.old) (F.state shelf.new)) }
-    ensures taken { (F.state shelf.new).source.taken ≤ raised (F.state shelf.old).source.taken (limit + 1) }
-    ensures opens { (F.state shelf.new).opens ≡ raised (F.state shelf.old).opens 1 }
-    ensures later { Later (F.state shelf.old) (F.state shelf.new) }
+        IfSome (F.shelf shelf.old).files (λ files. IsUnread files name.now limit error)) }
+    ensures causes { IfErr result (λ error. FileCauses limit error (F.shelf shelf.old) (F.shelf shelf.new)) }
+    ensures within { OnOk result (TookNoMore limit (F.shelf shelf.old) (F.shelf shelf.new)) }
+    ensures taken { (F.shelf shelf.new).source.taken ≤ raised (F.shelf shelf.old).source.taken (limit + 1) }
+    ensures opens { (F.shelf shelf.new).opens ≡ raised (F.shelf shelf.old).opens 1 }
+    ensures later { Later (F.shelf shelf.old) (F.shelf shelf.new) }
 {
     match shelf.open_file(name) {
         Ok(()) => {}
         Err(OpenError::Failed) => return Err(FileError::Fault),
         Err(OpenError::Missing) => return Err(FileError::Missing),
     }
-    match read_file(alloc, shelf, limit) {
+    match read_all(alloc, shelf, limit) {
         Ok(bytes) => Ok(bytes),
         Err(ReadError::TooLarge) => Err(FileError::TooLarge),
         Err(ReadError::Fault) => Err(FileError::Fault),

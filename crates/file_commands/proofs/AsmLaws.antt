@@ -27,7 +27,7 @@ use Rattle.report_defs.specs.TextLines.{text_lines}
 use Rattle.report_defs.specs.Report.{Whole}
 use Rattle.file_report_defs.specs.Reports.{copy_report}
 use Rattle.reports.specs.declared.unreported.Unreported.{Unreported}
-use Rattle.reports.specs.Answers.{Reported, told}
+use Rattle.reports.specs.Answers.{Reported, error_answer}
 use Rattle.file_commands.specs.Copying.{copy_refusal}
 use Rattle.file_commands.specs.Reported.{CopyCauses, CopyReported, FailureCauses}
 
@@ -84,8 +84,8 @@ module _ (before after : ShelfState) (source : List ℕ) where
       → IfSome before.files (λ files. CopyRefuses error (module_of_files files source))
       → (CopiesNone (line_texts source) → (after ≡ before) × CopyRefuses error (module_of_files empty source))
       → ShelfCauses error before after
-      → told unreported ≡ seen (λ refusal. copy_report (Err refusal)) (copy_refusal error)
-      → Reported (CopyReported before after source) (FailureCauses most_bytes before after) (told unreported)
+      → error_answer unreported ≡ seen (λ refusal. copy_report (Err refusal)) (copy_refusal error)
+      → Reported (CopyReported before after source) (FailureCauses most_bytes before after) (error_answer unreported)
   error_reported (At file line cause) unreported gives alone causes is = rw is (record {
     answer = Err (copied.At (record { file = file; line = line }) (defined_cause cause));
     told = told_line before.files file line cause gives;

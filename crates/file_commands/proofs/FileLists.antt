@@ -6,6 +6,8 @@ use Rattle.std.specs.Prelude.{Option, Result, IfSome, IsOk}
 use Rattle.std.specs.FinMap.{get}
 use Rattle.count_defs.specs.Counts.{raised}
 use Rattle.bench_shelf.specs.States.{ShelfState}
+use Rattle.bench_shelf.specs.Causes.{Later, TookNoMore}
+use Rattle.bench_shelf.proofs.Keeping.{within_then}
 use Rattle.source_defs.specs.Refusals.{◌>>=◌}
 use Rattle.object_defs.specs.Modules.{Module}
 use Rattle.object_defs.specs.Reading.{read}
@@ -15,10 +17,10 @@ use Rattle.file_report_defs.specs.LinkedFiles.{FilesRefusal, bytes_of, read_file
 use Rattle.file_commands.specs.declared.file_text.FileText.{FileText}
 use Rattle.file_commands.specs.declared.error.ReadingError.{ReadingError}
 use Rattle.file_commands.specs.declared.error.ReadingError.TheVariants as error
-use Rattle.file_commands.specs.Reading.{defined_text, defined_texts, Refuses, IsOfName, StopsBy}
+use Rattle.file_commands.specs.Reading.{defined_text, defined_texts, Refuses, ErrorCauses, IsOfName, StopsBy}
 use Rattle.file_commands.specs.Modules.{ReportsRefused}
 use Rattle.report_defs.specs.declared.status.Status.{Status}
-use Rattle.report_defs.specs.Report.{Report}
+use Rattle.report_defs.specs.Report.{Report, largest_input}
 use Rattle.reports.specs.Answers.{WantsMemory, Reported}
 
 abbrev Text : Type 0
@@ -110,6 +112,14 @@ stops_by before after front rest names name texts error.Fault all opens so_far i
     omega (arith, opens, ap length all, length-append front (name ∷ rest))
 stops_by before after front rest names name texts error.Memory all opens so_far is =
     omega (arith, opens, ap length all, length-append front (name ∷ rest))
+
+-- what an error tells of the shelf holds since an earlier one
+module _ (a b c : ShelfState) (later : Later a b) (within : TookNoMore largest_input a b) where
+  pub causes_since : (error : ReadingError) → ErrorCauses error b c → ErrorCauses error a c
+  causes_since (error.Missing name) causes = (λ top. omega (arith, later.misses, causes.0 top), within_then largest_input a b c within causes.1)
+  causes_since error.TooLarge causes = record { given = causes.given; largest = causes.largest; taken = omega (arith, later.taken, causes.taken) }
+  causes_since error.Fault causes = (λ top. omega (arith, later.faults, causes.0 top), within_then largest_input a b c within causes.1)
+  causes_since error.Memory causes = within_then largest_input a b c within causes
 
 abbrev Modules : Type 0
 Modules = Result (List Module) FilesRefusal

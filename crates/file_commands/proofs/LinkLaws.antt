@@ -18,7 +18,7 @@ use Rattle.file_commands.specs.declared.error.ReadingError.{ReadingError}
 use Rattle.file_commands.specs.declared.error.ReadingError.TheVariants.{Missing, TooLarge, Fault, Memory}
 use Rattle.file_commands.specs.Modules.{ReportsRefused}
 use Rattle.reports.specs.declared.unreported.Unreported.{Unreported}
-use Rattle.reports.specs.Answers.{WantsMemory, Reported, told}
+use Rattle.reports.specs.Answers.{WantsMemory, Reported, error_answer}
 use Rattle.file_commands.specs.Reading.{defined_texts, Refuses, ErrorCauses, StopsBy, refusal_of}
 use Rattle.file_commands.specs.Reported.{LinkReported, FailureCauses}
 
@@ -49,8 +49,8 @@ module _ (before after : ShelfState) (names : List (List ℕ)) where
   pub error_reported : (error : ReadingError) (unreported : Unreported)
       → IfSome before.files (λ files. Refuses error (read_files files names)) → ErrorCauses error before after
       → StopsBy names error before after
-      → told unreported ≡ seen (λ refusal. files_report (Err refusal)) (refusal_of error)
-      → Reported (LinkReported before after names) (FailureCauses largest_input before after) (told unreported)
+      → error_answer unreported ≡ seen (λ refusal. files_report (Err refusal)) (refusal_of error)
+      → Reported (LinkReported before after names) (FailureCauses largest_input before after) (error_answer unreported)
   error_reported (Missing name) unreported gives causes stops is = rw is (record {
     texts = Err (spec.Missing name);
     told = told_texts before.files names (Err (spec.Missing name)) gives;

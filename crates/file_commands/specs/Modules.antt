@@ -4,7 +4,7 @@ use Rattle.report_defs.specs.Report.{Report}
 use Rattle.file_report_defs.specs.LinkedFiles.{FilesRefusal}
 use Rattle.file_report_defs.specs.Reports.{files_report}
 use Rattle.reports.specs.declared.unreported.Unreported.{Unreported}
-use Rattle.reports.specs.Answers.{WantsMemory, Reported, told}
+use Rattle.reports.specs.Answers.{WantsMemory, Reported, error_answer}
 
 -- the report of what is refused
 abbrev pub ReportsRefused : {B : Type 0} → Result B FilesRefusal → Report → Type 0
@@ -14,4 +14,4 @@ ReportsRefused defined report =
 -- what is found is what is defined, or why there is none is told; want of memory says nothing
 abbrev pub GivesModules : {A B : Type 0} → (A → B) → Result A Unreported → Result B FilesRefusal → Type 0
 GivesModules see (Ok value) defined = defined ≡ Ok (see value)
-GivesModules see (Err unreported) defined = Reported (ReportsRefused defined) WantsMemory (told unreported)
+GivesModules see (Err unreported) defined = Reported (ReportsRefused defined) WantsMemory (error_answer unreported)

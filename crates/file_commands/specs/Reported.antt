@@ -1,8 +1,8 @@
 -- What is reported of files, and what that tells of their shelf.
 --
--- A shelf may keep its files to itself. Then a report is still that of some lines, or of some texts under the names that
--- were given, and each refusal has its cause: a file is told as too large exactly where more bytes of one were taken than
--- it may have.
+-- A shelf may keep its files to itself. Then a report is still that of some lines, or of some texts under the names
+-- that were given, and each refusal has its cause: a file is told as too large exactly where more bytes of one were
+-- taken than it may have.
 use Rattle.std.specs.Prelude.{◌≡◌, ℕ, List, map, length, IfSome, OnOk, Result, Ok, Err}
 use Rattle.std.specs.FinMap.{empty}
 use Rattle.count_defs.specs.Counts.{raised, Rose}
@@ -33,8 +33,8 @@ FailureCauses limit before after status.ReadFault =
 FailureCauses limit before after status.Memory = TookNoMore limit before after
 FailureCauses limit before after other = ⊥
 
--- A name that is missing was counted, and a file is too large exactly where more bytes of one were taken than it may have.
--- No line is refused because memory was wanting.
+-- A name that is missing was counted, and a file is too large exactly where more bytes of one were taken than it may
+-- have. No line is refused because memory was wanting.
 abbrev pub CopyCauses : Result Module CopyRefusal → ShelfState → ShelfState → Type 0
 CopyCauses (Ok found) before after = IsOfLines found × TookNoMore most_bytes before after
 CopyCauses (Err (copied.At place (copied.Missing name))) before after =
@@ -55,8 +55,8 @@ pub record CopyReported (before after : ShelfState) (text : List ℕ) (report : 
   pub causes : CopyCauses answer before after
   pub is : report ≡ copy_report answer
 
--- What reading files tells: all were read; or one is missing, or too large. No text has been looked at. Each was asked for
--- once, and none behind one that is missing or too large.
+-- What reading files tells: all were read; or one is missing, or too large. No text has been looked at. Each was asked
+-- for once, and none behind one that is missing or too large.
 abbrev pub ReadCauses : List (List ℕ) → Result (List (List ℕ × List ℕ)) FilesRefusal → ShelfState → ShelfState → Type 0
 ReadCauses names (Ok texts) before after =
     (map (λ text. text.0) texts ≡ names) × TookNoMore largest_input before after

@@ -12,7 +12,7 @@ ghost use Rattle.report_defs.specs.Report.{largest_input};
 ghost use Rattle.file_report_defs.specs.Reports.{copy_report};
 ghost use Rattle.file_commands.specs.Copying.{copy_refusal};
 ghost use Rattle.file_commands.specs.Reported.{CopyReported, FailureCauses};
-ghost use Rattle.reports.specs.Answers.{answer, Reported, told};
+ghost use Rattle.reports.specs.Answers.{answer, Reported, error_answer};
 
 use crate::causes::copy_line;
 use bench_shelf::{CopyError, Shelf, copy_assemble};
@@ -34,12 +34,12 @@ use std::alloc::{AllocError, Global};
 /// then.
 pub fn asm_files<F: Shelf>(alloc: Global, shelf: &mut F, text: &[u8]) -> Result<Report, Unreported>
     requires { length text.now ≤ largest_input }
-    ensures report { Reported (CopyReported (F.state shelf.old) (F.state shelf.new) text.now)
-        (FailureCauses most_bytes (F.state shelf.old) (F.state shelf.new)) (answer result) }
-    ensures opens { (F.state shelf.new).opens ≤ raised (F.state shelf.old).opens most_copies }
-    ensures taken { (F.state shelf.new).source.taken
-        ≤ raised (F.state shelf.old).source.taken ((most_bytes + 1) * most_copies) }
-    ensures later { Later (F.state shelf.old) (F.state shelf.new) }
+    ensures report { Reported (CopyReported (F.shelf shelf.old) (F.shelf shelf.new) text.now)
+        (FailureCauses most_bytes (F.shelf shelf.old) (F.shelf shelf.new)) (answer result) }
+    ensures opens { (F.shelf shelf.new).opens ≤ raised (F.shelf shelf.old).opens most_copies }
+    ensures taken { (F.shelf shelf.new).source.taken
+        ≤ raised (F.shelf shelf.old).source.taken ((most_bytes + 1) * most_copies) }
+    ensures later { Later (F.shelf shelf.old) (F.shelf shelf.new) }
 {
     match copy_assemble(alloc, shelf, text) {
         Ok(module) => Ok(Report::Text(text_of(alloc, &module)?)),
@@ -49,7 +49,7 @@ pub fn asm_files<F: Shelf>(alloc: Global, shelf: &mut F, text: &[u8]) -> Result<
 
 /// Why a source is refused, or is not assembled.
 fn refused(error: CopyError) -> Unreported
-    ensures { told result ≡ seen (λ refusal. copy_report (Err refusal)) (copy_refusal error) }
+    ensures { error_answer result ≡ seen (λ refusal. copy_report (Err refusal)) (copy_refusal error) }
 {
     match error {
         CopyError::At { file, line, cause } => Unreported::Refused(copy_line(file, line, cause)),

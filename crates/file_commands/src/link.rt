@@ -10,7 +10,7 @@ ghost use Rattle.file_report_defs.specs.LinkedFiles.{linked_texts};
 ghost use Rattle.file_report_defs.specs.Reports.{files_report};
 ghost use Rattle.file_commands.specs.Reading.{defined_texts, refusal_of};
 ghost use Rattle.file_commands.specs.Reported.{LinkReported, FailureCauses};
-ghost use Rattle.reports.specs.Answers.{answer, WantsMemory, Reported, told};
+ghost use Rattle.reports.specs.Answers.{answer, WantsMemory, Reported, error_answer};
 
 use crate::causes::missing_line;
 use crate::error::ReadingError;
@@ -40,12 +40,12 @@ pub fn link_files<F: Shelf>(
     names: &[FileName],
 ) -> Result<Report, Unreported>
     requires { length names.now ≤ most_files }
-    ensures report { Reported (LinkReported (F.state shelf.old) (F.state shelf.new) names.now)
-        (FailureCauses largest_input (F.state shelf.old) (F.state shelf.new)) (answer result) }
-    ensures opens { (F.state shelf.new).opens ≤ raised (F.state shelf.old).opens (length names.now) }
-    ensures taken { (F.state shelf.new).source.taken
-        ≤ raised (F.state shelf.old).source.taken ((largest_input + 1) * most_files) }
-    ensures later { Later (F.state shelf.old) (F.state shelf.new) }
+    ensures report { Reported (LinkReported (F.shelf shelf.old) (F.shelf shelf.new) names.now)
+        (FailureCauses largest_input (F.shelf shelf.old) (F.shelf shelf.new)) (answer result) }
+    ensures opens { (F.shelf shelf.new).opens ≤ raised (F.shelf shelf.old).opens (length names.now) }
+    ensures taken { (F.shelf shelf.new).source.taken
+        ≤ raised (F.shelf shelf.old).source.taken ((largest_input + 1) * most_files) }
+    ensures later { Later (F.shelf shelf.old) (F.shelf shelf.new) }
 {
     match read_files(alloc, shelf, names) {
         Ok(texts) => link_texts(alloc, texts.as_slice()),
@@ -55,7 +55,7 @@ pub fn link_files<F: Shelf>(
 
 /// Why files are not read.
 fn unread(error: ReadingError) -> Unreported
-    ensures { told result ≡ seen (λ refusal. files_report (Err refusal)) (refusal_of error) }
+    ensures { error_answer result ≡ seen (λ refusal. files_report (Err refusal)) (refusal_of error) }
 {
     match error {
         ReadingError::Missing(name) => Unreported::Refused(missing_line(name)),

@@ -21,17 +21,17 @@ pub(crate) fn read_files<F: Shelf>(
     shelf: &mut F,
     names: &[FileName],
 ) -> Result<Vec<FileText>, ReadingError>
-    ensures is { IfSome (F.state shelf.old).files (λ files.
+    ensures is { IfSome (F.shelf shelf.old).files (λ files.
         Gives (λ texts. defined_texts texts.items) result (read_files files names.now)) }
-    ensures opens { OnOk result ((F.state shelf.new).opens ≡ raised (F.state shelf.old).opens (length names.now)) }
-    ensures most { (F.state shelf.new).opens ≤ raised (F.state shelf.old).opens (length names.now) }
-    ensures stops { IfErr result (λ error. StopsBy names.now error (F.state shelf.old) (F.state shelf.new)) }
+    ensures opens { OnOk result ((F.shelf shelf.new).opens ≡ raised (F.shelf shelf.old).opens (length names.now)) }
+    ensures most { (F.shelf shelf.new).opens ≤ raised (F.shelf shelf.old).opens (length names.now) }
+    ensures stops { IfErr result (λ error. StopsBy names.now error (F.shelf shelf.old) (F.shelf shelf.new)) }
     ensures names { IfOk result (λ texts. map (λ text. text.name) texts.items ≡ names.now) }
-    ensures causes { IfErr result (λ error. ErrorCauses error (F.state shelf.old) (F.state shelf.new)) }
-    ensures within { OnOk result (TookNoMore largest_input (F.state shelf.old) (F.state shelf.new)) }
-    ensures taken { (F.state shelf.new).source.taken
-        ≤ raised (F.state shelf.old).source.taken ((largest_input + 1) * length names.now) }
-    ensures later { Later (F.state shelf.old) (F.state shelf.new) }
+    ensures causes { IfErr result (λ error. ErrorCauses error (F.shelf shelf.old) (F.shelf shelf.new)) }
+    ensures within { OnOk result (TookNoMore largest_input (F.shelf shelf.old) (F.shelf shelf.new)) }
+    ensures taken { (F.shelf shelf.new).source.taken
+        ≤ raised (F.shelf shelf.old).source.taken ((largest_input + 1) * length names.now) }
+    ensures later { Later (F.shelf shelf.old) (F.shelf shelf.new) }
 {
     let mut texts = Vec::new(alloc);
     for name in names {
@@ -50,15 +50,15 @@ fn read_one<F: Shelf>(
     shelf: &mut F,
     name: &FileName,
 ) -> Result<FileText, ReadingError>
-    ensures is { IfSome (F.state shelf.old).files (λ files.
+    ensures is { IfSome (F.shelf shelf.old).files (λ files.
         Gives defined_text result (bytes_of name.now (get files name.now))) }
-    ensures opens { (F.state shelf.new).opens ≡ raised (F.state shelf.old).opens 1 }
+    ensures opens { (F.shelf shelf.new).opens ≡ raised (F.shelf shelf.old).opens 1 }
     ensures missed { IfErr result (IsOfName name.now) }
     ensures name { IfOk result (λ text. text.name ≡ name.now) }
-    ensures causes { IfErr result (λ error. ErrorCauses error (F.state shelf.old) (F.state shelf.new)) }
-    ensures within { OnOk result (TookNoMore largest_input (F.state shelf.old) (F.state shelf.new)) }
-    ensures taken { (F.state shelf.new).source.taken ≤ raised (F.state shelf.old).source.taken (largest_input + 1) }
-    ensures later { Later (F.state shelf.old) (F.state shelf.new) }
+    ensures causes { IfErr result (λ error. ErrorCauses error (F.shelf shelf.old) (F.shelf shelf.new)) }
+    ensures within { OnOk result (TookNoMore largest_input (F.shelf shelf.old) (F.shelf shelf.new)) }
+    ensures taken { (F.shelf shelf.new).source.taken ≤ raised (F.shelf shelf.old).source.taken (largest_input + 1) }
+    ensures later { Later (F.shelf shelf.old) (F.shelf shelf.new) }
 {
     match read_named(alloc, shelf, name, LARGEST_INPUT) {
         Ok(bytes) => Ok(FileText { name: *name, bytes }),

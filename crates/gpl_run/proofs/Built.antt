@@ -1,26 +1,26 @@
--- What is built of a source whose linked memory is known.
-use Rattle.std.proofs.Common.{◌≡◌, ℕ, ◌<◌, ◌^◌, List, length, Result, Ok, Err, sym, subst, lit<}
+-- What is built of the interpreter's module.
+use Rattle.std.proofs.Common.{◌≡◌, [], ◌∷◌, Result, Ok, Err, subst}
 use Rattle.std.specs.Prelude.{IfOk}
-use Rattle.link_defs.specs.LinkedMemory.{LinkedMemory}
+use Rattle.object_defs.specs.Modules.{Module}
+use Rattle.asm_defs.specs.Modules.{module_of_source}
+use Rattle.link_defs.specs.LinkedMemory.{LinkedMemory, linked}
 use Rattle.native_interp.specs.Source.{source}
 use Rattle.interp_build_defs.specs.Building.{Links}
-use Rattle.interp_build_defs.specs.Interpreter.{IsInterpreter, SourceGivesWords}
-use Rattle.interp_build_defs.proofs.OneMemory.{one_memory_links}
+use Rattle.interp_build_defs.specs.Interpreter.{IsInterpreter}
+use Rattle.interp_build_defs.proofs.OneMemory.{module_linked, one_memory_links}
+use Rattle.line_table.proofs.Joined.{source_gives_words}
 
--- a text that is the source has linked memory
-pub text_links : (text : List ℕ) → text ≡ source → SourceGivesWords → (memory : LinkedMemory) × Links text memory
-text_links text is law = (law.0, subst (λ (t : List ℕ). Links t law.0) (sym is) law.1.links)
+module _ (unit : Module) (is : module_of_source source ≡ Ok unit) where
+  -- it is linked
+  pub unit_linked : (memory : LinkedMemory) × (linked (unit ∷ []) ≡ Ok memory)
+  unit_linked =
+      (source_gives_words.0, module_linked source unit source_gives_words.0 source_gives_words.1.links is)
 
--- linked memory of such a text is the interpreter
-is_interpreter : (text : List ℕ) (memory : LinkedMemory) → text ≡ source → SourceGivesWords → Links text memory → IsInterpreter memory
-is_interpreter text memory is law links =
-    let known : Links text law.0 = subst (λ (t : List ℕ). Links t law.0) (sym is) law.1.links in
-    subst IsInterpreter (one_memory_links text law.0 memory known links) law.1
-
-pub interpreter_there : {T E : Type 0} (view : T → LinkedMemory) (result : Result T E) (text : List ℕ) → text ≡ source → SourceGivesWords
-    → IfOk result (λ found. Links text (view found)) → IfOk result (λ found. IsInterpreter (view found))
-interpreter_there view (Ok found) text is law links = is_interpreter text (view found) is law links
-interpreter_there view (Err error) text is law links = tt
-
-pub source_is_short : length source < 2 ^ 32
-source_is_short = lit< tt
+  -- and what is linked of it is the interpreter
+  pub interpreter_there : {T E : Type 0} (view : T → LinkedMemory) (result : Result T E)
+      → IfOk result (λ found. linked (unit ∷ []) ≡ Ok (view found)) → IfOk result (λ found. IsInterpreter (view found))
+  interpreter_there view (Ok found) e =
+      let links : Links source (view found) = record { unit = unit; assembled = is; linked = e } in
+      subst IsInterpreter
+      (one_memory_links source source_gives_words.0 (view found) source_gives_words.1.links links) source_gives_words.1
+  interpreter_there view (Err error) e = tt

@@ -1,2 +1,2 @@
 pub mod Built
-pub mod Texts
+pub mod Feeding

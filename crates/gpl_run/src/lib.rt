@@ -1,11 +1,11 @@
 //! The interpreter, built from its source, and GPL programs that it runs.
 #![tactic(auto)]
 
+mod assembling;
 mod build;
 mod error;
 mod load;
 mod session;
-mod text;
 
 pub use build::build_interp;
 pub use error::BuildError;

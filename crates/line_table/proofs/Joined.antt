@@ -71,7 +71,7 @@ each (text ∷ texts) e = by (list_all (λ byte. nat_le 0x20 byte) text) refl e 
 without_controls : list_all (λ text. list_all (λ byte. nat_le 0x20 byte) text) lines ≡ true
 without_controls = refl
 
-source_lines : line_texts source ≡ numbered 1 lines
+pub source_lines : line_texts source ≡ numbered 1 lines
 source_lines = fed_texts_have_their_lines lines (each lines without_controls)
 
 few_words : (held : List ℕ) → held ≡ words → 0x1000 + length held ≤ 32768

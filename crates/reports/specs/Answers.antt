@@ -1,5 +1,7 @@
--- What a command answers: a report; or why there is none, and how that is told.
+-- What a command answers: a report; or why there is none.
 use Rattle.std.specs.Prelude.{◌≡◌, ◌⊎◌, ℕ, List, [], ◌∷◌, Option, Some, None, Result, Ok, Err}
+use Rattle.asm_core.specs.declared.error.AsmError.{AsmError}
+use Rattle.asm_core.specs.declared.error.AsmError.TheVariants as asm
 use Rattle.bench_io.specs.Stream.{SinkState}
 use Rattle.bench_io.specs.Written.{Wrote, Missed}
 use Rattle.bench_io.specs.declared.whole.ReadError.{ReadError}
@@ -13,7 +15,7 @@ use Rattle.report_defs.specs.declared.status.Status.{Status}
 use Rattle.report_defs.specs.declared.status.Status.TheVariants as status
 use Rattle.report_defs.specs.ObjectFaults.{tag_line}
 use Rattle.report_defs.specs.Report.{Report, Faulty, Rejected}
-use Rattle.report_defs.specs.SourceFaults.{gpl_line}
+use Rattle.report_defs.specs.SourceFaults.{asm_line, gpl_line}
 use Rattle.reports.specs.declared.report.Report as made
 use Rattle.reports.specs.declared.unreported.Unreported.{Unreported}
 use Rattle.reports.specs.declared.unreported.Unreported.TheVariants.{Refused, Fault, ReadFault, Memory}
@@ -22,15 +24,15 @@ use Rattle.reports.specs.Outputs.{Outputs, EndsWith}
 
 -- A refusal is a report too, which standard error gets. Of input that failed and of want of memory there is none, only
 -- the status.
-abbrev pub told : Unreported → Result Report Status
-told (Refused line) = Ok (Rejected line.items)
-told (Fault fault) = Ok (Faulty fault)
-told ReadFault = Err status.ReadFault
-told Memory = Err status.Memory
+abbrev pub error_answer : Unreported → Result Report Status
+error_answer (Refused line) = Ok (Rejected line.items)
+error_answer (Fault fault) = Ok (Faulty fault)
+error_answer ReadFault = Err status.ReadFault
+error_answer Memory = Err status.Memory
 
 abbrev pub answer : Result made.Report Unreported → Result Report Status
 answer (Ok report) = Ok (defined_report report)
-answer (Err unreported) = told unreported
+answer (Err unreported) = error_answer unreported
 
 -- the report is such a one, and where there is none its status has such a cause
 abbrev pub Reported : (Report → Type 0) → (Status → Type 0) → Result Report Status → Type 0
@@ -40,6 +42,10 @@ Reported Reports Fails (Err end) = Fails end
 -- memory alone was wanting
 abbrev pub WantsMemory : Status → Type 0
 WantsMemory end = end ≡ status.Memory
+
+-- there is a report in any case
+abbrev pub NeverFails : Status → Type 0
+NeverFails end = ⊥
 
 -- how a run ends by its answer
 abbrev pub Ends : Outputs → Result Report Status → Status → Type 0
@@ -51,22 +57,26 @@ abbrev pub EndsByLine : List ℕ → Status → SinkState → SinkState → Stat
 EndsByLine line own before after end =
     ((end ≡ own) × Wrote before after (line ∷ [])) ⊎ ((end ≡ status.WriteFault) × Missed before after (line ∷ []))
 
--- ---- how the errors of libraries are told
+-- ---- what the errors of libraries answer
 
-abbrev pub read_told : ReadError → Result Report Status
-read_told read.TooLarge = Ok (Faulty TooLarge)
-read_told read.Fault = Err status.ReadFault
-read_told read.Memory = Err status.Memory
+abbrev pub read_answer : ReadError → Result Report Status
+read_answer read.TooLarge = Ok (Faulty TooLarge)
+read_answer read.Fault = Err status.ReadFault
+read_answer read.Memory = Err status.Memory
 
-abbrev pub gpl_told : GplError → Result Report Status
-gpl_told (gpl.At line cause) = Ok (Rejected (gpl_line (record { line = line; cause = cause })))
-gpl_told gpl.Memory = Err status.Memory
+abbrev pub asm_answer : AsmError → Result Report Status
+asm_answer (asm.At line cause) = Ok (Rejected (asm_line (record { line = line; cause = cause })))
+asm_answer asm.Memory = Err status.Memory
 
-abbrev pub tag_told : TagError → Result Report Status
-tag_told (tag.At line cause) = Ok (Rejected (tag_line (record { line = line; cause = cause })))
-tag_told tag.Memory = Err status.Memory
+abbrev pub gpl_answer : GplError → Result Report Status
+gpl_answer (gpl.At line cause) = Ok (Rejected (gpl_line (record { line = line; cause = cause })))
+gpl_answer gpl.Memory = Err status.Memory
+
+abbrev pub tag_answer : TagError → Result Report Status
+tag_answer (tag.At line cause) = Ok (Rejected (tag_line (record { line = line; cause = cause })))
+tag_answer tag.Memory = Err status.Memory
 
 -- by the line, if there is one; else memory was wanting
-abbrev pub line_told : Option (List ℕ) → Result Report Status
-line_told (Some line) = Ok (Rejected line)
-line_told None = Err status.Memory
+abbrev pub line_answer : Option (List ℕ) → Result Report Status
+line_answer (Some line) = Ok (Rejected line)
+line_answer None = Err status.Memory

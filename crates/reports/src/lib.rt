@@ -15,5 +15,5 @@ mod watched;
 pub use crate::listing::Listing;
 pub use crate::outcome::finish;
 pub use crate::report::Report;
-pub use crate::unreported::Unreported;
+pub use crate::unreported::{Unreported, tell};
 pub use crate::watched::Watched;

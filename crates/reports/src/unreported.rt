@@ -3,10 +3,12 @@
 ghost use Rattle.std.specs.Prelude.{◌≡◌};
 ghost use Rattle.memory_listing.specs.Told.{link_told};
 ghost use Rattle.bench_io.specs.Stream.{SinkState};
-ghost use Rattle.reports.specs.Answers.{Ends, EndsByLine, gpl_told, line_told, read_told, tag_told, told};
+ghost use Rattle.reports.specs.Answers.{Ends, EndsByLine, error_answer};
+ghost use Rattle.reports.specs.Answers.{asm_answer, gpl_answer, line_answer, read_answer, tag_answer};
 ghost use Rattle.reports.specs.declared.unreported.Unreported.TheVariants as unreported;
 
 use crate::faults::{fault_line, fault_status};
+use asm_core::AsmError;
 use bench_io::{Failed, ReadError, Sink, put_piece};
 use gpl_asm::GplError;
 use gpl_run::BuildError;
@@ -14,7 +16,7 @@ use link_loader::LinkError;
 use memory_listing::{link_line, tag_line};
 use object_tags::TagError;
 use report_defs::{Fault, Status};
-use report_lines::{Line, gpl_line};
+use report_lines::{Line, asm_line, gpl_line};
 use std::alloc::{AllocError, AllocFailed};
 
 /// Why nothing is reported on standard output.
@@ -39,7 +41,7 @@ impl Unreported {
           out' = out;
           err = E.state err.old;
           err' = E.state err.new;
-        }) (told self.now) result }
+        }) (error_answer self.now) result }
     {
         match self {
             Unreported::Refused(line) => tell(line.as_slice(), Status::Refused, err),
@@ -54,8 +56,8 @@ impl Unreported {
     }
 }
 
-/// Writes a line, and gives the status that comes where it was written.
-fn tell<E: Sink>(line: &[u8], status: Status, err: &mut E) -> Status
+/// Writes a line by one call, and gives this status, or a write fault where the output failed. It takes no memory.
+pub fn tell<E: Sink>(line: &[u8], status: Status, err: &mut E) -> Status
     ensures { EndsByLine line.now status (E.state err.old) (E.state err.new) result }
 {
     match put_piece(err, line) {
@@ -91,7 +93,7 @@ impl From<BuildError> for Unreported {
 }
 
 impl From<ReadError> for Unreported {
-    ghost from_gives = { λ error result. told result ≡ read_told error };
+    ghost from_gives = { λ error result. error_answer result ≡ read_answer error };
 
     fn from(error: ReadError) -> Self {
         match error {
@@ -102,8 +104,19 @@ impl From<ReadError> for Unreported {
     }
 }
 
+impl From<AsmError> for Unreported {
+    ghost from_gives = { λ error result. error_answer result ≡ asm_answer error };
+
+    fn from(error: AsmError) -> Self {
+        match error {
+            AsmError::At { line, cause } => Unreported::Refused(asm_line(line, cause)),
+            AsmError::Memory => Unreported::Memory,
+        }
+    }
+}
+
 impl From<GplError> for Unreported {
-    ghost from_gives = { λ error result. told result ≡ gpl_told error };
+    ghost from_gives = { λ error result. error_answer result ≡ gpl_answer error };
 
     fn from(error: GplError) -> Self {
         match error {
@@ -114,7 +127,7 @@ impl From<GplError> for Unreported {
 }
 
 impl From<TagError> for Unreported {
-    ghost from_gives = { λ error result. told result ≡ tag_told error };
+    ghost from_gives = { λ error result. error_answer result ≡ tag_answer error };
 
     fn from(error: TagError) -> Self {
         match error {
@@ -125,7 +138,7 @@ impl From<TagError> for Unreported {
 }
 
 impl From<LinkError> for Unreported {
-    ghost from_gives = { λ error result. told result ≡ line_told (link_told error) };
+    ghost from_gives = { λ error result. error_answer result ≡ line_answer (link_told error) };
 
     fn from(error: LinkError) -> Self {
         match link_line(&error) {

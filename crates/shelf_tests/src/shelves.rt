@@ -1,7 +1,7 @@
 //! Names of files, and files that are opened and read.
 
-use bench_io::ReadError;
-use bench_shelf::{DirShelf, FileName, MemShelf, OpenError, Shelf, read_file, read_named};
+use bench_io::{ReadError, Source, read_all};
+use bench_shelf::{DirShelf, FileName, MemShelf, OpenError, Shelf, read_named};
 use std::alloc::{AllocError, Global};
 use std::os::unix::fs::symlink;
 use std::test::Fail;
@@ -92,7 +92,7 @@ fn got_from<F: Shelf>(
     if let Err(error) = shelf.open_file(&name_of(name)?) {
         return Ok(Got::NotOpened(error));
     }
-    Ok(match read_file(alloc, shelf, limit) {
+    Ok(match read_all(alloc, shelf, limit) {
         Ok(bytes) => Got::Bytes(bytes.len()),
         Err(error) => Got::NotRead(error),
     })

@@ -1,6 +1,7 @@
 //! Sources and sinks: what they give and take, and their faults.
 
 ghost use Rattle.std.specs.Prelude.{None};
+ghost use Rattle.bench_io.specs.Stream.{opened_once};
 
 use bench_io::{
     Failed, MemSink, MemSource, ReadError, Sink, Source, StdSink, StdSource, SteadySink,
@@ -56,7 +57,9 @@ struct Endless {
 }
 
 impl Source for Endless {
-    ghost state = { λ s. record { left = None; calls = s.calls; taken = s.calls; empty = 0; faults = 0 } };
+    ghost state = { λ s. opened_once None s.calls s.calls 0 0 };
+
+    ghost kept = { λ _. tt };
 
     fn take(&mut self, buffer: &mut [u8]) -> Result<usize, Failed> {
         self.calls = self.calls.saturating_add(1);

@@ -19,4 +19,5 @@ pub record WatchesProgram (image : List ℕ) (entry limit : ℕ) (items : List I
   pub ended : watched.session.ended ≡ (run (steps_to watched.found limit) (start image entry)).stop
   pub memory : IsMemory watched.session.machine.cpu.memory
   pub report :
-      defined_report (made.Watched watched) ≡ watch_report watched.found limit (start image entry) watched.session.machine
+      defined_report (made.Watched watched)
+      ≡ watch_report watched.found limit (start image entry) watched.session.machine

@@ -11,12 +11,12 @@ pub(crate) const MOST_ITEMS: usize = 8;
 
 /// One to eight items that can be watched. Contracts see their list.
 #[derive(Debug, Drop)]
-pub struct Items {
+pub struct WatchedItems {
     items: [Item; MOST_ITEMS],
     len: usize,
 }
 
-impl Model for Items {
+impl Model for WatchedItems {
     ghost use Rattle.std.specs.Prelude.{◌≡◌, ◌≤◌, List, length, take};
     ghost use Rattle.watch_defs.specs.Items.{AreItems};
     ghost use Rattle.watch_defs.specs.declared.item.Item.{Item as OneItem};
@@ -28,13 +28,13 @@ impl Model for Items {
     ghost invariant = { λ i. (i.len ≤ 8) × (length i.items ≡ 8) × AreItems (take i.len i.items) };
 }
 
-impl Items {
+impl WatchedItems {
     /// One item.
-    pub(crate) fn one(item: Item) -> Items
+    pub(crate) fn one(item: Item) -> WatchedItems
         requires { IsItem item }
         ensures { result ≡ item ∷ [] }
     {
-        Items {
+        WatchedItems {
             items: [item; MOST_ITEMS],
             len: 1,
         }

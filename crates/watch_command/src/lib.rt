@@ -8,6 +8,6 @@ mod size;
 mod words;
 
 pub use crate::item::item_word;
-pub use crate::items::Items;
+pub use crate::items::WatchedItems;
 pub use crate::run::watch_program;
 pub use crate::words::{item_words, watch_words};

@@ -4,7 +4,7 @@ ghost use Rattle.std.specs.Prelude.{◌≡◌, ◌<◌, IfOk};
 ghost use Rattle.gpl_run.specs.Sessions.{IsNew, image_of, entry_of};
 ghost use Rattle.watch_command.specs.Ran.{WatchesProgram};
 
-use crate::items::Items;
+use crate::items::WatchedItems;
 use gpl_run::Session;
 use gpl_watch::Watch;
 use reports::Watched;
@@ -22,7 +22,7 @@ pub fn watch_program(
     alloc: Global,
     machine: Machine,
     limit: u32,
-    items: &Items,
+    items: &WatchedItems,
 ) -> Result<Watched, AllocError>
     requires new { IsNew machine }
     ensures { IfOk result (WatchesProgram (image_of machine) (entry_of machine) limit items.now) }
@@ -35,7 +35,7 @@ fn watch_session<L: Ledger>(
     alloc: Global,
     machine: Machine,
     limit: u32,
-    items: &Items,
+    items: &WatchedItems,
     blank: Blank,
 ) -> Result<Watched, AllocError>
     requires name { blank.name ≡ L.name }

@@ -6,13 +6,13 @@ ghost use Rattle.report_defs.specs.Commands.{most_steps};
 ghost use Rattle.watch_defs.specs.Items.{IsItem};
 
 use crate::item::item_word;
-use crate::items::{Items, MOST_ITEMS};
+use crate::items::{MOST_ITEMS, WatchedItems};
 use command_words::{MOST_STEPS, number_word};
 use gpl_watch::Item;
 
 /// The most steps and the items that the words behind `watch` say: a number up to 100,000, and the words of one to
 /// eight items. It takes no memory.
-pub fn watch_words(words: &[Vec<u8>]) -> Option<(u32, Items)>
+pub fn watch_words(words: &[Vec<u8>]) -> Option<(u32, WatchedItems)>
     ensures said { option_map (λ said. spec.Watch said.0 said.1) result
         ≡ spec.watch_command (map (λ word. word.items) words.now) }
     ensures limit { IfSome result (λ said. said.0 ≤ most_steps) }
@@ -24,7 +24,7 @@ pub fn watch_words(words: &[Vec<u8>]) -> Option<(u32, Items)>
 }
 
 /// The items that one to eight words say. It takes no memory.
-pub fn item_words(words: &[Vec<u8>]) -> Option<Items>
+pub fn item_words(words: &[Vec<u8>]) -> Option<WatchedItems>
     ensures { result ≡ spec.some_items (map (λ word. word.items) words.now) }
 {
     let (first, others) = words.split_first()?;
@@ -35,12 +35,12 @@ pub fn item_words(words: &[Vec<u8>]) -> Option<Items>
 }
 
 /// An item, and those that fewer than eight words say.
-fn items_from(first: Item, words: &[Vec<u8>]) -> Option<Items>
+fn items_from(first: Item, words: &[Vec<u8>]) -> Option<WatchedItems>
     requires few { length words.now < 8 }
     requires item { IsItem first }
     ensures { result ≡ option_map (λ items. first ∷ items) (spec.item_words (map (λ word. word.items) words.now)) }
 {
-    let mut items = Items::one(first);
+    let mut items = WatchedItems::one(first);
     for word in words {
         items.push(item_word(word.as_slice())?);
     }

@@ -147,7 +147,7 @@ module _ (before after : SourceState) (bytes : List ℕ) (whole : ReadWhole larg
 -- an input of which too many bytes were taken
 reads_too_much : (before after : SourceState) → GaveUp error.TooLarge largest_input before after
     → (bytes : List ℕ) × ReadsInput before after bytes × (nat_lt largest_input (length bytes) ≡ true)
-reads_too_much before after (bytes, long, took) =
+reads_too_much before after (bytes, long, took, most) =
     let above : nat_lt largest_input (length bytes) ≡ true = grind (arith, nat_tests) in (
       bytes,
       record { took = rw above took; within = omega arith; whole = λ le. absurd (omega arith) },
@@ -188,5 +188,5 @@ module _ (run : FileRun) (source : List ℕ) (whole : ReadWhole largest_input ru
 
 -- how the run of what the words say ends
 pub ends_as : (words : List (List ℕ)) (found : Option ProgramCommand) (run : FileRun) (end : Status)
-    → found ≡ program_command words → EndsSaid found words run end → EndsFileRun words run end
-ends_as words found run end said ends = subst (λ (f : Option ProgramCommand). EndsSaid f words run end) said ends
+    → found ≡ program_command words → EndsSaid found run end → EndsFileRun words run end
+ends_as words found run end said ends = subst (λ (f : Option ProgramCommand). EndsSaid f run end) said ends

@@ -1,22 +1,19 @@
 -- What holds of all runs with files.
-use Rattle.std.proofs.Common.{◌≡◌, ◌≢◌, ℕ, List, [], ◌∷◌, length, Option, Some, None, Bool, true, false, refl, sym, ap, ◌∙◌}
+use Rattle.std.proofs.Common.{◌≡◌, ◌≢◌, ℕ, List, length, Option, Some, None, Bool, true, false, refl, sym, ap, ◌∙◌}
 use Rattle.std.proofs.Common.{subst, inl, inr}
-use Rattle.std.specs.Prelude.{IfSome, MatchBool, nat_lt, if◌then◌else◌, codes}
-use Rattle.std.specs.Option.{option_map}
+use Rattle.std.specs.Prelude.{IfSome, MatchBool, nat_lt}
 use Rattle.source_defs.specs.Refusals.{◌>>=◌}
 use Rattle.shelf_defs.specs.Files.{Files}
 use Rattle.shelf_defs.specs.Assembly.{module_of_files}
 use Rattle.report_defs.specs.declared.command.Command.{Command}
-use Rattle.report_defs.specs.declared.command.Command.TheVariants as asked
 use Rattle.report_defs.specs.declared.fault.Fault.TheVariants.{TooLarge}
 use Rattle.report_defs.specs.declared.status.Status.{Status}
 use Rattle.report_defs.specs.declared.status.Status.TheVariants as status
-use Rattle.report_defs.specs.Commands.{command_of, same_word}
 use Rattle.report_defs.specs.Report.{Report, Faulty, OnInput, status_of, largest_input}
 use Rattle.file_report_defs.specs.LinkedFiles.{linked_texts, read_files}
 use Rattle.file_report_defs.specs.Reports.{copy_report, files_report}
 use Rattle.file_report_defs.specs.Words.{FileCommand, AsmFiles, LinkFiles, Watch, ProgramCommand, OverFiles, Plain}
-use Rattle.file_report_defs.specs.Words.{program_command, input_command, over_input, link_command, watch_command}
+use Rattle.file_report_defs.specs.Words.{program_command}
 use Rattle.file_report_defs.specs.Whole.{AsmReport, WatchReport, ReportOver, ReportWith}
 use Rattle.file_report_defs.proofs.OneReport.{one_report_with}
 use Rattle.file_report_defs.proofs.ListedFiles.{listed_words_come_back_with}
@@ -30,42 +27,6 @@ use Rattle.bench_commands.proofs.Uniqueness as bench
 use Rattle.bench_commands.proofs.Uniqueness.{on_all, on_input, no_miss}
 use Rattle.workbench.specs.FileRun.{FileRun, without_files, AsmOn, ReportsWith, ReadFailedWith, EndsOver, EndsByUsage, EndsSaid}
 use Rattle.workbench.specs.Laws.{HasNoFaultWith, input_of, Tells, CompletenessWith, BeginAlikeWith, OneAnswerWith, LawsOfFileRuns}
-
--- ---- words that say a command without files
-
-over_plain : (found : Option Command) (command : Command) → option_map over_input found ≡ Some (Plain command)
-    → found ≡ Some command
-over_plain None command e = absurd cc
-over_plain (Some asked.Asm) command e = absurd cc
-over_plain (Some asked.Gasm) command e = cc
-over_plain (Some (asked.Dis at)) command e = cc
-over_plain (Some (asked.Gdis at)) command e = cc
-over_plain (Some asked.Link) command e = cc
-over_plain (Some (asked.Exec limit)) command e = cc
-over_plain (Some asked.Interp) command e = cc
-over_plain (Some (asked.Run limit)) command e = cc
-over_plain (Some (asked.Trace limit)) command e = cc
-over_plain (Some (asked.Demo number)) command e = cc
-
-over_files_plain : (found : Option FileCommand) (command : Command) → option_map OverFiles found ≡ Some (Plain command) → ⊥
-over_files_plain None command e = absurd cc
-over_files_plain (Some over) command e = absurd cc
-
-pub plain_command : (words : List (List ℕ)) (command : Command) → program_command words ≡ Some (Plain command)
-    → command_of words ≡ Some command
-plain_command [] command e = absurd cc
-plain_command (name ∷ []) command e = over_plain (command_of (name ∷ [])) command e
-plain_command (name ∷ word ∷ words) command e =
-    by (same_word name (codes "link")) (same_word name (codes "watch")) e
-  where
-    by : (link watch : Bool)
-        → (if link then option_map OverFiles (link_command (word ∷ words))
-        else if watch then option_map OverFiles (watch_command (word ∷ words))
-        else input_command (name ∷ word ∷ words)) ≡ Some (Plain command)
-        → command_of (name ∷ word ∷ words) ≡ Some command
-    by true watch e = absurd (over_files_plain (link_command (word ∷ words)) command e)
-    by false true e = absurd (over_files_plain (watch_command (word ∷ words)) command e)
-    by false false e = over_plain (command_of (name ∷ word ∷ words)) command e
 
 -- ---- the report of a run is that on its input and its files
 
@@ -129,29 +90,27 @@ over_answered command input files run end told none some ends =
     let r = over command run end ends none some in
     record { report = r.0; on = on_files command run input files r.0 told r.1; is = r.2; wrote = r.3 }
 
-plain_answered : (words : List (List ℕ)) (command : Command) (input : List ℕ) (files : Files) (run : FileRun)
-    (end : Status) → program_command words ≡ Some (Plain command) → TellsInput command run.input input → HasNoFaultWith run
-    → end ≢ status.Memory → EndsBy (without_files words run) end → Answered (Plain command) input files run end
-plain_answered words command input files run end said left none some ends =
-    let same : plain.Run = without_files words run in
+plain_answered : (command : Command) (input : List ℕ) (files : Files) (run : FileRun) (end : Status)
+    → TellsInput command run.input input → HasNoFaultWith run → end ≢ status.Memory → EndsBy (without_files command run) end
+    → Answered (Plain command) input files run end
+plain_answered command input files run end left none some ends =
+    let same : plain.Run = without_files command run in
     let free : plain_laws.HasNoFault same = record { input = none.input; out = none.out; err = none.err } in
     let r = bench.reported same end ends free some in
-    let P : Option Command → Type 0 = λ found. plain.ReportsOn found same r.0 in
-    let reports = subst P (plain_command words command said) r.1 in
-    record { report = r.0; on = on_input same command input r.0 left reports; is = r.2; wrote = r.3 }
+    record { report = r.0; on = on_input same command input r.0 left r.1; is = r.2; wrote = r.3 }
 
-answered : (words : List (List ℕ)) (command : ProgramCommand) (input : List ℕ) (files : Files) (run : FileRun)
-    (end : Status) → program_command words ≡ Some command → Tells command run input files → HasNoFaultWith run
-    → end ≢ status.Memory → EndsSaid (Some command) words run end → Answered command input files run end
-answered words (OverFiles command) input files run end said told none some ends =
+answered : (command : ProgramCommand) (input : List ℕ) (files : Files) (run : FileRun) (end : Status)
+    → Tells command run input files → HasNoFaultWith run → end ≢ status.Memory → EndsSaid (Some command) run end
+    → Answered command input files run end
+answered (OverFiles command) input files run end told none some ends =
     over_answered command input files run end told none some ends
-answered words (Plain command) input files run end said told none some ends =
-    plain_answered words command input files run end said told none some ends.0
+answered (Plain command) input files run end told none some ends =
+    plain_answered command input files run end told none some ends.0
 
 completeness : CompletenessWith
 completeness words run command input files end said told none ends some =
-    let P : Option ProgramCommand → Type 0 = λ found. EndsSaid found words run end in
-    let a = answered words command input files run end said told none some (subst P said ends) in
+    let P : Option ProgramCommand → Type 0 = λ found. EndsSaid found run end in
+    let a = answered command input files run end told none some (subst P said ends) in
     record {
       report = a.report;
       reported = a.on;
@@ -163,22 +122,17 @@ completeness words run command input files end said told none ends some =
 -- ---- two runs that begin alike have one answer
 
 usage_answer : (run : FileRun) (end : Status) → HasNoFaultWith run → EndsByUsage run end → end ≡ status.Usage
-usage_answer run status.Done none (leaves, ends) = absurd ends
-usage_answer run status.Refused none (leaves, ends) = absurd ends
-usage_answer run status.Usage none (leaves, ends) = refl
-usage_answer run status.ReadFault none (leaves, ends) = absurd ends
-usage_answer run status.WriteFault none (leaves, ends) = absurd (none.err ends.rose)
-usage_answer run status.Memory none (leaves, ends) = absurd ends
-usage_answer run status.Stopped none (leaves, ends) = absurd ends
+usage_answer run end none (leaves, inl (is, wrote)) = is
+usage_answer run end none (leaves, inr (is, missed)) = absurd (none.err missed.rose)
 
 alike : (words : List (List ℕ)) (found : Option ProgramCommand) (a b : FileRun) (s t : Status)
-    → program_command words ≡ found → BeginAlikeWith words a b → HasNoFaultWith a → HasNoFaultWith b → EndsSaid found words a s
-    → EndsSaid found words b t → s ≢ status.Memory → t ≢ status.Memory → s ≡ t
+    → program_command words ≡ found → BeginAlikeWith words a b → HasNoFaultWith a → HasNoFaultWith b → EndsSaid found a s
+    → EndsSaid found b t → s ≢ status.Memory → t ≢ status.Memory → s ≡ t
 alike words None a b s t said begin none other ends ends' some some' =
     usage_answer a s none ends ∙ sym (usage_answer b t other ends')
 alike words (Some command) a b s t said begin none other ends ends' some some' =
-    let p = answered words command begin.bytes begin.files a s said (begin.one command said) none some ends in
-    let q = answered words command begin.bytes begin.files b t said (begin.other command said) other some' ends' in
+    let p = answered command begin.bytes begin.files a s (begin.one command said) none some ends in
+    let q = answered command begin.bytes begin.files b t (begin.other command said) other some' ends' in
     let same : p.report ≡ q.report =
     one_report_with command (input_of command begin.bytes) begin.files p.report q.report p.on q.on in
     p.is ∙ ap status_of same ∙ sym q.is

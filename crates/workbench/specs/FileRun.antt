@@ -1,11 +1,11 @@
 -- One run of the program with a shelf of files: how it may end, and what the input, the shelf and the two outputs are
 -- then.
-use Rattle.std.specs.Prelude.{◌≡◌, ◌⊎◌, ℕ, ◌+◌, ◌*◌, ◌≤◌, nat_lt, MatchBool, List, [], ◌∷◌, length}
+use Rattle.std.specs.Prelude.{◌≡◌, ◌⊎◌, ℕ, ◌+◌, ◌*◌, ◌≤◌, nat_lt, MatchBool, List, length}
 use Rattle.std.specs.Prelude.{Option, Some, None}
 use Rattle.count_defs.specs.Counts.{raised, Rose}
-use Rattle.bench_io.specs.Stream.{SourceState, SinkState}
+use Rattle.bench_io.specs.Stream.{SourceState}
 use Rattle.bench_io.specs.ReadAll.{Took, ReadWhole}
-use Rattle.bench_io.specs.Written.{Wrote, Missed}
+use Rattle.report_defs.specs.declared.command.Command.{Command}
 use Rattle.report_defs.specs.declared.status.Status.{Status}
 use Rattle.report_defs.specs.declared.status.Status.TheVariants as status
 use Rattle.report_defs.specs.declared.fault.Fault.TheVariants.{TooLarge}
@@ -19,6 +19,7 @@ use Rattle.bench_shelf.specs.States.{ShelfState}
 use Rattle.bench_shelf.specs.Causes.{TookNoMore}
 use Rattle.file_commands.specs.Reported.{CopyReported, LinkReported}
 use Rattle.reports.specs.Outputs.{Outputs, EndsWith}
+use Rattle.reports.specs.Answers.{EndsByLine}
 use Rattle.bench_commands.specs.Run.{Run, ReadsInput, EndsBy}
 
 -- the input and the shelf before and after the run, and the outputs
@@ -30,8 +31,9 @@ pub record FileRun : Type 0 where
   pub outputs : Outputs
 
 -- the run of a command that reads no file
-abbrev pub without_files : List (List ℕ) → FileRun → Run
-without_files words run = record { words = words; input = run.input; input' = run.input'; outputs = run.outputs }
+abbrev pub without_files : Command → FileRun → Run
+without_files command run =
+    record { said = Some command; input = run.input; input' = run.input'; outputs = run.outputs }
 
 -- The report of `asm` on a source that was taken of the input. Where that is too large, no file is opened.
 abbrev pub AsmOn : FileRun → List ℕ → Report → Type 0
@@ -56,8 +58,8 @@ pub record TookWithin (before after : SourceState) : Type 0 where
   pub one : empty ≤ 1
   pub took : Took before after bytes empty
 
--- What a run that wrote nothing leaves of the input and of the shelf. Of no file more bytes were taken than it may have:
--- else the file is told as too large.
+-- What a run that wrote nothing leaves of the input and of the shelf. Of no file more bytes were taken than it may
+-- have: else the file is told as too large.
 abbrev pub Leaves : FileCommand → FileRun → Type 0
 Leaves AsmFiles run = TookWithin run.input run.input' × TookNoMore most_bytes run.shelf run.shelf'
 Leaves (LinkFiles names) run = (run.input' ≡ run.input) × TookNoMore largest_input run.shelf run.shelf'
@@ -68,8 +70,8 @@ pub record WroteNothingWith (command : FileCommand) (run : FileRun) : Type 0 whe
   pub out : run.outputs.out' ≡ run.outputs.out
   pub err : run.outputs.err' ≡ run.outputs.err
 
--- A call failed of what the command reads: of the input, and then no file was opened; or of the shelf, which `asm` asks for
--- files when the input was taken whole.
+-- A call failed of what the command reads: of the input, and then no file was opened; or of the shelf, which `asm` asks
+-- for files when the input was taken whole.
 abbrev pub ReadFailedWith : FileCommand → FileRun → Type 0
 ReadFailedWith AsmFiles run =
     (Rose run.input.faults run.input'.faults × (run.shelf' ≡ run.shelf))
@@ -101,26 +103,17 @@ pub record LeavesAll (run : FileRun) : Type 0 where
   pub out : run.outputs.out' ≡ run.outputs.out
 
 -- the usage line was written, or a front of it
-abbrev pub UsageEnds : SinkState → SinkState → Status → Type 0
-UsageEnds before after status.Done = ⊥
-UsageEnds before after status.Refused = ⊥
-UsageEnds before after status.Usage = Wrote before after (program_usage ∷ [])
-UsageEnds before after status.ReadFault = ⊥
-UsageEnds before after status.WriteFault = Missed before after (program_usage ∷ [])
-UsageEnds before after status.Memory = ⊥
-UsageEnds before after status.Stopped = ⊥
-
 abbrev pub EndsByUsage : FileRun → Status → Type 0
-EndsByUsage run end = LeavesAll run × UsageEnds run.outputs.err run.outputs.err' end
+EndsByUsage run end = LeavesAll run × EndsByLine program_usage status.Usage run.outputs.err run.outputs.err' end
 
 -- how the run of what the words say ends
-abbrev pub EndsSaid : Option ProgramCommand → List (List ℕ) → FileRun → Status → Type 0
-EndsSaid None words run end = EndsByUsage run end
-EndsSaid (Some (OverFiles command)) words run end = EndsOver command run end
-EndsSaid (Some (Plain command)) words run end = EndsBy (without_files words run) end × (run.shelf' ≡ run.shelf)
+abbrev pub EndsSaid : Option ProgramCommand → FileRun → Status → Type 0
+EndsSaid None run end = EndsByUsage run end
+EndsSaid (Some (OverFiles command)) run end = EndsOver command run end
+EndsSaid (Some (Plain command)) run end = EndsBy (without_files command run) end × (run.shelf' ≡ run.shelf)
 
 abbrev pub EndsFileRun : List (List ℕ) → FileRun → Status → Type 0
-EndsFileRun words run end = EndsSaid (program_command words) words run end
+EndsFileRun words run end = EndsSaid (program_command words) run end
 
 -- What is taken of a shelf at most, whatever the status: for each COPY line that may be followed, and for each file of
 -- `link`, one file is asked for, and one byte more is taken than it may have. Each other command, and words that are no

@@ -29,8 +29,8 @@ Tells (OverFiles (LinkFiles names)) run input files = run.shelf.files ≡ Some f
 Tells (OverFiles (Watch limit items)) run input files = run.input.left ≡ Some input
 Tells (Plain command) run input files = TellsInput command run.input input
 
--- The law, which is proved: where the words are a command, what it reads is told and no count rose, there is one report on
--- this, it was written whole, and the answer is its status; or memory was wanting.
+-- The law, which is proved: where the words are a command, what it reads is told and no count rose, there is one report
+-- on this, it was written whole, and the answer is its status; or memory was wanting.
 abbrev pub CompletenessWith : Type 0
 CompletenessWith =
     (words : List (List ℕ)) (run : FileRun) (command : ProgramCommand) (input : List ℕ) (files : Files) (end : Status)

@@ -25,14 +25,14 @@ pub(crate) fn asm<S: Source, F: Shelf>(
     ensures answers { (outputs : Outputs) → AnswersWith AsmFiles (record {
       input = S.state input.old;
       input' = S.state input.new;
-      shelf = F.state shelf.old;
-      shelf' = F.state shelf.new;
+      shelf = F.shelf shelf.old;
+      shelf' = F.shelf shelf.new;
       outputs = outputs;
     }) (answer result) }
-    ensures opens { (F.state shelf.new).opens ≤ raised (F.state shelf.old).opens most_copies }
-    ensures taken { (F.state shelf.new).source.taken
-        ≤ raised (F.state shelf.old).source.taken ((most_bytes + 1) * most_copies) }
-    ensures later { Later (F.state shelf.old) (F.state shelf.new) }
+    ensures opens { (F.shelf shelf.new).opens ≤ raised (F.shelf shelf.old).opens most_copies }
+    ensures taken { (F.shelf shelf.new).source.taken
+        ≤ raised (F.shelf shelf.old).source.taken ((most_bytes + 1) * most_copies) }
+    ensures later { Later (F.shelf shelf.old) (F.shelf shelf.new) }
 {
     let source = read_all(alloc, input, LARGEST_INPUT)?;
     asm_files(alloc, shelf, source.as_slice())

@@ -5,11 +5,11 @@ ghost use Rattle.report_defs.specs.Commands.{same_word};
 ghost use Rattle.file_report_defs.specs.Words as spec;
 ghost use Rattle.workbench.specs.Asked.{defined_command, defined_over, IsWithin};
 
-use crate::names::{MOST_FILES, Names};
+use crate::names::{FileNames, MOST_FILES};
 use bench_shelf::FileName;
 use command_words::{Words, read_command};
 use report_defs::Command;
-use watch_command::{Items, watch_words};
+use watch_command::{WatchedItems, watch_words};
 
 /// What only the program with files has.
 #[derive(Drop)]
@@ -17,13 +17,13 @@ pub(crate) enum FileCommand {
     /// `asm`, whose source may copy files.
     AsmFiles,
     /// `link` with the names of files.
-    LinkFiles(Names),
+    LinkFiles(FileNames),
     /// `watch` with the most steps and what is watched.
     Watch {
         /// The most steps.
         limit: u32,
         /// What is watched.
-        items: Items,
+        items: WatchedItems,
     },
 }
 
@@ -69,7 +69,7 @@ fn link_command(first: &Vec<u8>, words: &[Vec<u8>]) -> Option<FileCommand>
     if words.len() >= MOST_FILES {
         return None;
     }
-    let mut names = Names::one(FileName::read(first.as_slice())?);
+    let mut names = FileNames::one(FileName::read(first.as_slice())?);
     for word in words {
         names.push(FileName::read(word.as_slice())?);
     }

@@ -10,12 +10,12 @@ pub(crate) const MOST_FILES: usize = 16;
 
 /// One to sixteen names of files. Contracts see their list.
 #[derive(Drop)]
-pub(crate) struct Names {
+pub(crate) struct FileNames {
     names: [FileName; MOST_FILES],
     len: usize,
 }
 
-impl Model for Names {
+impl Model for FileNames {
     ghost use Rattle.std.specs.Prelude.{◌≡◌, ◌≤◌, ℕ, List, length, take};
 
     ghost Value = { List (List ℕ) };
@@ -25,12 +25,12 @@ impl Model for Names {
     ghost invariant = { λ n. (n.len ≤ 16) × (length n.names ≡ 16) };
 }
 
-impl Names {
+impl FileNames {
     /// One name.
-    pub(crate) fn one(name: FileName) -> Names
+    pub(crate) fn one(name: FileName) -> FileNames
         ensures { result ≡ name ∷ [] }
     {
-        Names {
+        FileNames {
             names: [name; MOST_FILES],
             len: 1,
         }

@@ -28,13 +28,13 @@ pub(crate) fn report_over<S: Source, F: Shelf>(
     ensures answers { (outputs : Outputs) → AnswersWith (defined_over command.now) (record {
       input = S.state input.old;
       input' = S.state input.new;
-      shelf = F.state shelf.old;
-      shelf' = F.state shelf.new;
+      shelf = F.shelf shelf.old;
+      shelf' = F.shelf shelf.new;
       outputs = outputs;
     }) (answer result) }
     ensures shelf { TakesOfShelf (Some (spec.OverFiles (defined_over command.now)))
-        (F.state shelf.old) (F.state shelf.new) }
-    ensures later { Later (F.state shelf.old) (F.state shelf.new) }
+        (F.shelf shelf.old) (F.shelf shelf.new) }
+    ensures later { Later (F.shelf shelf.old) (F.shelf shelf.new) }
 {
     match command {
         FileCommand::AsmFiles => asm(alloc, input, shelf),

@@ -7,13 +7,13 @@ ghost use Rattle.workbench.specs.Laws.{LawsOfFileRuns};
 
 use crate::command::{ProgramCommand, read_program_command};
 use crate::over_files::report_over;
-use crate::usage::finish_usage;
+use crate::usage::usage;
 use bench_commands::run_command;
 use bench_io::{Sink, Source};
 use bench_shelf::Shelf;
 use command_words::Words;
 use report_defs::Status;
-use reports::finish;
+use reports::{finish, tell};
 use std::alloc::Global;
 
 /// Runs the command that the words say. `asm` reads the source from `input` and the files that it copies from `shelf`;
@@ -38,8 +38,8 @@ pub fn bench_with<S: Source, F: Shelf, O: Sink, E: Sink>(
     ensures ends { EndsFileRun words.now (record {
       input = S.state input.old;
       input' = S.state input.new;
-      shelf = F.state shelf.old;
-      shelf' = F.state shelf.new;
+      shelf = F.shelf shelf.old;
+      shelf' = F.shelf shelf.new;
       outputs = record {
         out = O.state out.old;
         out' = O.state out.new;
@@ -47,14 +47,14 @@ pub fn bench_with<S: Source, F: Shelf, O: Sink, E: Sink>(
         err' = E.state err.new;
       };
     }) result }
-    ensures shelf { TakesOfShelf (program_command words.now) (F.state shelf.old) (F.state shelf.new) }
-    ensures later { Later (F.state shelf.old) (F.state shelf.new) }
+    ensures shelf { TakesOfShelf (program_command words.now) (F.shelf shelf.old) (F.shelf shelf.new) }
+    ensures later { Later (F.shelf shelf.old) (F.shelf shelf.new) }
 {
     match read_program_command(words) {
         Some(ProgramCommand::OverFiles(command)) => {
             finish(&report_over(alloc, &command, input, shelf), out, err)
         }
         Some(ProgramCommand::Plain(command)) => run_command(alloc, command, input, out, err),
-        None => finish_usage(err),
+        None => tell(usage(), Status::Usage, err),
     }
 }

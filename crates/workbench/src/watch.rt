@@ -14,14 +14,14 @@ use bench_io::{Source, read_all};
 use report_defs::LARGEST_INPUT;
 use reports::{Report, Unreported};
 use std::alloc::Global;
-use watch_command::{Items, watch_program};
+use watch_command::{WatchedItems, watch_program};
 
 /// What is to be reported of the source that the input has, whose program is run up to the first step at which an item
 /// holds.
 pub(crate) fn watch<S: Source>(
     alloc: Global,
     limit: u32,
-    items: &Items,
+    items: &WatchedItems,
     input: &mut S,
 ) -> Result<Report, Unreported>
     ensures { (shelf : ShelfState) → (outputs : Outputs) → AnswersWith (spec.Watch limit items.now) (record {
@@ -40,7 +40,7 @@ pub(crate) fn watch<S: Source>(
 fn watch_source(
     alloc: Global,
     limit: u32,
-    items: &Items,
+    items: &WatchedItems,
     source: &[u8],
 ) -> Result<Report, Unreported>
     requires { length source.now ≤ largest_input }

@@ -7,10 +7,9 @@ ghost use Rattle.asm_defs.specs.Modules.{module_of_source};
 ghost use Rattle.report_defs.specs.Report as spec;
 ghost use Rattle.reports.specs.Answers.{answer, WantsMemory, Reported};
 
-use asm_core::{AsmError, assemble, modules_have_texts};
+use asm_core::{assemble, modules_have_texts};
 use object_tags::{Module, write_module};
 use report_defs::Command;
-use report_lines::asm_line;
 use reports::{Report, Unreported};
 use std::alloc::{AllocError, Global};
 
@@ -19,11 +18,8 @@ pub(crate) fn asm(alloc: Global, input: &[u8]) -> Result<Report, Unreported>
     requires { length input.now ≤ spec.largest_input }
     ensures { Reported (spec.AcceptedReport Command.Asm input.now) WantsMemory (answer result) }
 {
-    match assemble(alloc, input) {
-        Ok(module) => Ok(Report::Text(text_of(alloc, input, &module)?)),
-        Err(AsmError::At { line, cause }) => Err(Unreported::Refused(asm_line(line, cause))),
-        Err(AsmError::Memory) => Err(Unreported::Memory),
-    }
+    let module = assemble(alloc, input)?;
+    Ok(Report::Text(text_of(alloc, input, &module)?))
 }
 
 /// The object text of a source's module.

@@ -2,7 +2,7 @@
 
 ghost use Rattle.std.specs.Prelude.{◌≤◌, vec_len};
 ghost use Rattle.report_defs.specs.Report as spec;
-ghost use Rattle.reports.specs.Answers.{answer, WantsMemory, Reported};
+ghost use Rattle.reports.specs.Answers.{answer, NeverFails, Reported};
 
 use report_defs::{Command, Fault};
 use reports::{Listing, Report, Unreported};
@@ -10,7 +10,7 @@ use reports::{Listing, Report, Unreported};
 /// The listing of raw bytes that stand from an address on, unless they run past >FFFF.
 pub(crate) fn dis(at: u16, input: Vec<u8>) -> Result<Report, Unreported>
     requires { vec_len input ≤ spec.largest_input }
-    ensures { Reported (spec.AcceptedReport (Command.Dis at) input.items) WantsMemory (answer result) }
+    ensures { Reported (spec.AcceptedReport (Command.Dis at) input.items) NeverFails (answer result) }
 {
     if usize::from(at) + input.len() > 65536 {
         return Err(Unreported::Fault(Fault::PastEnd));

@@ -1,24 +1,7 @@
-use Rattle.std.proofs.Common.{
-  ◌≡◌,
-  ◌≤◌,
-  ◌+◌,
-  ◌-◌,
-  [],
-  length,
-  take,
-  drop,
-  ◌++◌,
-  ap,
-  ◌∙◌,
-  refl,
-  arith,
-  rules,
-  length-append,
-  length-take,
-}
+use Rattle.std.proofs.Common.{◌≡◌, ◌≤◌, ◌+◌, [], length, take, drop, ◌++◌, ap, ◌∙◌, refl, arith, rules, length-append, length-take}
 use Rattle.std.proofs.lemmas.Result.{err_from_is_err_and}
 use Rattle.std.proofs.lemmas.List.{take-append-le}
-use Rattle.bench_io.proofs.Taking.{took_then, took_more, took_last, rose_since, few_calls}
+use Rattle.bench_io.proofs.Taking.{took_then, took_more, took_last, largest_last, rose_since, few_calls}
 use Rattle.bench_io.proofs.whole.read_all.Goals as goal
 
 pub loop-bytes-preserved : goal.loop-bytes-preserved
@@ -36,6 +19,7 @@ loop-bytes-preserved g c =
       took = rw items (took_more _ _ _ _ _ _ (omega arith) c.loop-bytes.invariant.took c.in_ok-count.ensures.took);
       within = omega (arith, c.loop-bytes.bytes.ok.0);
       piece = search rules;
+      kept = c.take_once.ensures.kept ∙ c.loop-bytes.invariant.kept;
     }
 
 pub returns-then-count-eq0-clause-ok : goal.returns-then-count-eq0-clause-ok
@@ -46,6 +30,7 @@ returns-then-count-eq0-clause-ok g c =
       took = took_last _ _ _ _ _ _ nothing (omega arith) c.loop-bytes.invariant.took c.in_ok-count.ensures.took;
       within = c.loop-bytes.invariant.within;
       end = c.in_ok-count.ensures.end none;
+      largest = largest_last _ _ _ _ _ _ c.loop-bytes.invariant.took c.in_ok-count.ensures.given;
     }
 
 pub returns-in_err-count-clause-err : goal.returns-in_err-count-clause-err
@@ -77,6 +62,7 @@ returns-then-limit-len-clause-err g c =
       length-append c.loop-bytes.bytes.items (take count c.take_once.new.buffer)
           ∙ (ap (λ n. length c.loop-bytes.bytes.items + n) len ∙ room),
       took_more _ _ _ _ _ _ (omega arith) c.loop-bytes.invariant.took c.in_ok-count.ensures.took,
+      largest_last _ _ _ _ _ _ c.loop-bytes.invariant.took c.in_ok-count.ensures.given,
     )
 
 pub returns-in_err-extend_from_slice-clause-err : goal.returns-in_err-extend_from_slice-clause-err

@@ -10,6 +10,7 @@ invariant-loop-bytes g l =
       took : Took (state l.fn.source) (state l.source) l.bytes.items 0;
       within : length l.bytes.items ≤ l.limit;
       piece : length l.buffer ≡ 4096;
+      kept : g.S.Source.kept l.source ≡ g.S.Source.kept l.fn.source;
     }
 
 abbrev pub decreases-loop-bytes : goal.decreases-loop-bytes

@@ -4,7 +4,7 @@ use Rattle.object_tags.specs.Answers.{defined_modules}
 use Rattle.object_tags.specs.Seen.{defined_module}
 use Rattle.std.proofs.lemmas.List.{map-append}
 use Rattle.file_commands.specs.declared.file_text.FileText.{FileText}
-use Rattle.reports.specs.Answers.{told}
+use Rattle.reports.specs.Answers.{error_answer}
 use Rattle.file_commands.proofs.FileLists.{modules_next, modules_end}
 use Rattle.file_commands.proofs.modules.modules_of.Goals as goal
 
@@ -17,7 +17,7 @@ returns-in-Err-clause-is c =
     sym (take-append-drop i texts)
     ∙ ap (λ (rest : List FileText). take i texts ++ rest)
     (drop_more texts i text (omega arith) ∙ ap (λ (x : FileText). x ∷ drop (i + 1) texts) (sym c.text-item.is)) in
-    modules_end (take i texts) (drop (i + 1) texts) texts text _ (told c.in-Err.error) all c.loop-text.invariant.found c.in-Err.ensures.is
+    modules_end (take i texts) (drop (i + 1) texts) texts text _ (error_answer c.in-Err.error) all c.loop-text.invariant.found c.in-Err.ensures.is
 
 pub loop-text-preserved : goal.loop-text-preserved
 loop-text-preserved c =

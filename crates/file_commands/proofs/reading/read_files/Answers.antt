@@ -2,7 +2,7 @@ use Rattle.std.proofs.Common.{◌≡◌, ℕ, ◌+◌, List, [], ◌∷◌, ◌+
 use Rattle.std.proofs.lemmas.List.{take_more, drop_more, take-append-drop, map-append}
 use Rattle.bench_shelf.proofs.LoopLaws.{later_then}
 use Rattle.file_commands.specs.declared.file_text.FileText.{FileText}
-use Rattle.file_commands.proofs.FileLists.{read_next, read_stops, stops_by}
+use Rattle.file_commands.proofs.FileLists.{read_next, read_stops, stops_by, causes_since}
 use Rattle.file_commands.proofs.reading.read_files.Goals as goal
 
 pub returns-in-Err-clause-is : goal.returns-in-Err-clause-is
@@ -49,3 +49,7 @@ returns-in-Err-clause-stops g c =
     (drop_more names i name (omega arith) ∙ ap (λ (x : List ℕ). x ∷ drop (i + 1) names) (sym c.name-item.is)) in
     stops_by _ _ (take i names) (drop (i + 1) names) names name c.loop-name.texts.items c.in-Err.error all
     (omega (arith, length-take i names, c.loop-name.invariant.opens, c.read_one.ensures.opens)) c.loop-name.invariant.read c.in-Err.ensures.missed
+
+pub returns-in-Err-clause-causes : goal.returns-in-Err-clause-causes
+returns-in-Err-clause-causes g c =
+    causes_since _ _ _ c.loop-name.invariant.later c.loop-name.invariant.within c.in-Err.error c.in-Err.ensures.causes

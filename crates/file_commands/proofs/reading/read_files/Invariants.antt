@@ -10,7 +10,7 @@ use Rattle.file_commands.proofs.reading.read_files.Given as goal
 -- the files so far were read
 abbrev pub invariant-loop-name : goal.invariant-loop-name
 invariant-loop-name g l =
-    let state = g.F.Shelf.state in
+    let state = g.F.Shelf.shelf in
     record {
       read : IfSome (state l.fn.shelf).files (λ files. read_files files (take l.name-index l.names) ≡ Ok (defined_texts l.texts.items));
       opens : (state l.shelf).opens ≡ raised (state l.fn.shelf).opens l.name-index;

@@ -1,18 +1,12 @@
-use Rattle.std.proofs.Common.{◌<◌, ◌^◌, ◌∙◌, ℕ, List, length, sym, subst}
+use Rattle.object_tags.specs.Seen.{defined_module}
 use Rattle.link_loader.specs.View.{defined_linked}
-use Rattle.gpl_run.proofs.Built.{interpreter_there, source_is_short, text_links}
+use Rattle.gpl_run.proofs.Built.{unit_linked, interpreter_there}
 use Rattle.gpl_run.proofs.build.build_interp.Goals as goal
 
-pub link_source-requires-clause-short : goal.link_source-requires-clause-short
-link_source-requires-clause-short c =
-    let P : List ℕ → Type 0 = λ text. length text < 2 ^ 32 in
-    subst P (sym (c.as_slice.ensures.value ∙ c.in_ok-text.ensures)) source_is_short
-
-pub link_source-requires-clause-links : goal.link_source-requires-clause-links
-link_source-requires-clause-links c =
-    text_links c.as_slice.result.now (c.as_slice.ensures.value ∙ c.in_ok-text.ensures) c.source_gives_words.ensures
+pub link_module-requires : goal.link_module-requires
+link_module-requires c = unit_linked (defined_module c.in_ok-interpreter_module.field-0) c.in_ok-interpreter_module.ensures
 
 pub returns-clause-built : goal.returns-clause-built
 returns-clause-built c =
-    interpreter_there defined_linked c.link_source.result c.as_slice.result.now
-    (c.as_slice.ensures.value ∙ c.in_ok-text.ensures) c.source_gives_words.ensures c.link_source.ensures
+    interpreter_there (defined_module c.in_ok-interpreter_module.field-0) c.in_ok-interpreter_module.ensures defined_linked
+    c.link_module.result c.link_module.ensures

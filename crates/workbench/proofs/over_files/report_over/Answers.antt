@@ -5,4 +5,4 @@ returns-in-AsmFiles-clause-answers g c outputs = rw c.in-AsmFiles.is (c.asm.ensu
 
 pub returns-in-Watch-clause-answers : goal.returns-in-Watch-clause-answers
 returns-in-Watch-clause-answers g c outputs =
-    rw c.in-Watch.is (c.watch.ensures (g.F.Shelf.state c.args.shelf.now) outputs)
+    rw c.in-Watch.is (c.watch.ensures (g.F.Shelf.shelf c.args.shelf.now) outputs)

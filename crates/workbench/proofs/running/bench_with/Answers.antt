@@ -1,15 +1,14 @@
-use Rattle.std.proofs.Common.{◌≡◌, Some, refl, sym}
+use Rattle.std.proofs.Common.{◌≡◌, Some, refl}
 use Rattle.file_report_defs.specs.Words.{OverFiles, Plain, program_command}
 use Rattle.reports.specs.Answers.{answer}
 use Rattle.workbench.specs.Asked.{defined_over}
 use Rattle.workbench.specs.FileRun.{FileRun}
 use Rattle.workbench.proofs.Ends.{ends_as, ends_over}
-use Rattle.workbench.proofs.Laws.{plain_command}
 use Rattle.workbench.proofs.running.bench_with.Goals as goal
 
 pub returns-in-Some-OverFiles-clause-ends : goal.returns-in-Some-OverFiles-clause-ends
 returns-in-Some-OverFiles-clause-ends g c =
-    let shelf = g.F.Shelf.state in
+    let shelf = g.F.Shelf.shelf in
     let out = g.O.Sink.state in
     let err = g.E.Sink.state in
     let run : FileRun = record {
@@ -26,7 +25,7 @@ returns-in-Some-OverFiles-clause-ends g c =
 
 pub returns-in-Some-Plain-clause-ends : goal.returns-in-Some-Plain-clause-ends
 returns-in-Some-Plain-clause-ends g c =
-    let shelf = g.F.Shelf.state c.args.shelf.now in
+    let shelf = g.F.Shelf.shelf c.args.shelf.now in
     let out = g.O.Sink.state in
     let err = g.E.Sink.state in
     let run : FileRun = record {
@@ -39,4 +38,4 @@ returns-in-Some-Plain-clause-ends g c =
     let command = c.in-Some-Plain.command in
     let said : Some (Plain command) ≡ program_command c.args.words.now = rw c.in-Some-Plain.field-0-is at c.in-Some-Plain.ensures.command in
     ends_as c.args.words.now (Some (Plain command)) run c.run_command.result said
-    (c.run_command.ensures c.args.words.now (plain_command c.args.words.now command (sym said)), refl)
+    (c.run_command.ensures, refl)

@@ -56,7 +56,7 @@ copy_lines-returns-then-is_ended-clause-leads g t c =
 pub copy_lines-loop-line-preserved : goal.copy_lines-loop-line-preserved
 copy_lines-loop-line-preserved g t c =
     let i = c.loop-line.invariant in
-    let state = g.F.Shelf.state in
+    let state = g.F.Shelf.shelf in
     let text = c.args.text.now in
     let line = c.in-Some.line in
     let next = c.next.new.self in
@@ -110,7 +110,7 @@ copy_lines-loop-line-init g t c =
     let old = c.args.self.now in
     let gives = c.into_iter-line-iterator.ensures.into_iter_gives in
     let all = gives ∙ c.lines-line-items.ensures.all in
-    let told = (g.F.Shelf.state c.args.shelf.now).files in (
+    let told = (g.F.Shelf.shelf c.args.shelf.now).files in (
       tt,
       tt,
       c.requires.going,

@@ -24,7 +24,7 @@ decreases-copy_lines g l = 3 * l.levels + 2
 -- some lines were taken, of which none ends the source, and the lines that are left go on from there
 abbrev pub invariant-copy_lines-loop-line : goal.invariant-copy_lines-loop-line
 invariant-copy_lines-loop-line g l =
-    let state = g.F.Shelf.state in
+    let state = g.F.Shelf.shelf in
     (goal.iterator-copy_lines-loop-line g).can_next l.line-iterator
     × (goal.iterator-copy_lines-loop-line g).is_finite l.line-iterator
     × IsOpen l.self.builder

@@ -1,0 +1,64 @@
+//! The module of the interpreter's source.
+
+ghost use Rattle.std.specs.Prelude.{◌≡◌, [], ◌∷◌, ◌++◌, ℕ, List, Ok, map, OnOk, IfOk};
+ghost use Rattle.asm_defs.specs.Modules.{module_of_source};
+ghost use Rattle.native_interp.specs.Source.{lines, source};
+ghost use Rattle.object_tags.specs.Seen.{defined_module};
+ghost use Rattle.gpl_run.specs.Feeding.{HasLeft};
+
+use crate::error::BuildError;
+use asm_core::{AsmError, AsmLines};
+use native_interp::{COPY_LINES, FLOW_LINES, OPERATION_LINES, ROUTINE_LINES};
+use object_tags::Module;
+use std::alloc::Global;
+
+/// The module of the interpreter's source, whose lines the assembler takes one at a time.
+pub(crate) fn interpreter_module(alloc: Global) -> Result<Module, BuildError>
+    ensures { IfOk result (λ found. module_of_source source ≡ Ok (defined_module found)) }
+{
+    let mut builder = AsmLines::new(alloc);
+    take_source(&mut builder)?;
+    match builder.finish() {
+        Ok(module) => Ok(module),
+        Err(AsmError::At { .. }) => unreachable!(),
+        Err(AsmError::Memory) => Err(BuildError::Memory),
+    }
+}
+
+/// Takes the lines of the source.
+fn take_source(builder: &mut AsmLines) -> Result<(), BuildError>
+    requires { HasLeft lines builder.old }
+    ensures { OnOk result (HasLeft [] builder.new) }
+{
+    take_lines(builder, &ROUTINE_LINES)?;
+    take_lines(builder, &OPERATION_LINES)?;
+    take_lines(builder, &FLOW_LINES)?;
+    take_lines(builder, &COPY_LINES)
+}
+
+/// Takes lines, which are the next of the source.
+fn take_lines(builder: &mut AsmLines, lines: &[&str]) -> Result<(), BuildError>
+    requires { (rest : List (List ℕ)) × HasLeft (map (λ line. line.now) lines.now ++ rest) builder.old }
+    ensures { (rest : List (List ℕ)) → HasLeft (map (λ line. line.now) lines.now ++ rest) builder.old →
+        OnOk result (HasLeft rest builder.new) }
+{
+    for line in lines {
+        take_line(builder, line)?;
+    }
+    Ok(())
+}
+
+/// Takes a line, which is the next of the source. Behind the one that ends the source none is read.
+fn take_line(builder: &mut AsmLines, line: &str) -> Result<(), BuildError>
+    requires { (rest : List (List ℕ)) × HasLeft (line.now ∷ rest) builder.old }
+    ensures { (rest : List (List ℕ)) → HasLeft (line.now ∷ rest) builder.old → OnOk result (HasLeft rest builder.new) }
+{
+    if builder.is_ended() {
+        return Ok(());
+    }
+    match builder.line(line.as_bytes()) {
+        Ok(()) => Ok(()),
+        Err(AsmError::At { .. }) => unreachable!(),
+        Err(AsmError::Memory) => Err(BuildError::Memory),
+    }
+}
