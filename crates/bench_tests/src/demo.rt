@@ -18,7 +18,7 @@ const SUMMARIES: &[(&[u8], &[u8])] = &[
     ),
     (
         b"500",
-        b"demo 500\nimage 2331\nsteps 750\npad 2745\nvdp 980463\nexit\ncount 565953\n",
+        b"demo 500\nimage 2331\nsteps 750\npad 2745\nvdp 980463\nexit\ncount 103711\n",
     ),
 ];
 
