@@ -1,5 +1,6 @@
 //! Cases of the interpreter, worked out by hand: words that are built from a source, and the interpreter's words, run
-//! on a machine piece by piece and turn by turn. The crate holds tests alone, so that the crates below it are proved once.
+//! on a machine piece by piece and turn by turn. The crate holds tests alone, so that the crates below it are proved
+//! once.
 #![tactic(auto)]
 
 #[cfg(test)]

@@ -1,5 +1,6 @@
 -- What the rows of the table say of the interpreter's source.
-use Rattle.std.specs.Prelude.{◌≡◌, ℕ, ◌-◌, ◌/◌, IsTrue, List, [], ◌∷◌, ◌++◌, length, slice_index_or, take, drop, map, Ok}
+use Rattle.std.specs.Prelude.{◌≡◌, ℕ, ◌-◌, ◌/◌, IsTrue, List, [], ◌∷◌, ◌++◌, length, slice_index_or}
+use Rattle.std.specs.Prelude.{take, drop, map, Ok}
 use Rattle.source_defs.specs.Expression.{Value, Absolute}
 use Rattle.source_defs.specs.Symbols.{registers}
 use Rattle.source_defs.specs.Layout.{laid, numbered}

@@ -1,10 +1,11 @@
 -- MUL and DIV, and what their parts come to.
-use Rattle.std.specs.Prelude.{ℕ, ◌%◌, ◌*◌, ◌+◌, ◌/◌, ◌<◌, ◌≡◌, ◌≤◌, Bool, false, Ok, Option, Some, true}
+use Rattle.std.specs.Prelude.{ℕ, ◌%◌, ◌*◌, ◌+◌, ◌/◌, ◌<◌, ◌≡◌, ◌≤◌, Bool, false, Ok, Option, Some, true, IsTrue}
 use Rattle.sim_rows.specs.Prelude.{AtRow, Byte, Changes, Comes, DIV, DIVQ, double_at, double_word, gone_on}
-use Rattle.sim_rows.specs.Prelude.{GplOperation, GplState, GSTEP, has_quotient, IsVisible, low, MachineState, MUL, operands_of}
-use Rattle.sim_rows.specs.Prelude.{operation_in, Place, place_in, PortsAreIdle, return_of, row_width, SeesFinished, size_of}
-use Rattle.sim_rows.specs.Prelude.{Source, state_of, Storing, sum_of, Two, unchanged, value_at, View, view}
-use Rattle.sim_rows.specs.Prelude.{VISIBLE_CELLS, Width, width_in, with_overflow, with_quotient, with_value, Word}
+use Rattle.sim_rows.specs.Prelude.{GplOperation, GplState, GSTEP, has_quotient, IsVisible, low, MachineState, MUL}
+use Rattle.sim_rows.specs.Prelude.{operands_of, operation_in, Place, place_in, PortsAreIdle, return_of, row_width}
+use Rattle.sim_rows.specs.Prelude.{SeesFinished, size_of, Source, state_of, Storing, sum_of, Two, unchanged, value_at}
+use Rattle.sim_rows.specs.Prelude.{View, view, VISIBLE_CELLS, Width, width_in, with_overflow, with_quotient}
+use Rattle.sim_rows.specs.Prelude.{with_value, Word}
 
 abbrev pub is_muldiv : Option GplOperation → Bool
 is_muldiv (Some (Two MUL)) = true
@@ -82,7 +83,7 @@ Divides x y before after =
     (s : GplState) → (place : Place) → (source : Source) → operation_in s ≡ Some (Two DIV)
     → AtRow s place source (view x) → operands_of s ≡ Ok (place, source)
     → (let dividend = double_at s (row_width s) place in
-    has_quotient (row_width s) dividend source.number ≡ true
+    IsTrue (has_quotient (row_width s) dividend source.number)
     → Comes 92 x y before after GSTEP
     (SeesFinished (with_overflow false
     (with_quotient (row_width s) place (dividend / source.number) (dividend % source.number) (unchanged (gone_on s))))))

@@ -3,7 +3,8 @@
 ghost use Rattle.std.specs.Prelude.{◌<◌, ◌≡◌, ◌≤◌};
 ghost use Rattle.sim_rows.specs.Prelude.{Byte, Comes, DIV, RunsRow, Stands, Two};
 ghost use Rattle.sim_rows.specs.Prelude.{view, width_in, Word};
-ghost use Rattle.sim_muldiv.specs.Family.{Divided, Divides, EndsDivision, EndsQuotient, IsReady, MayStore, MayStoreQuotient};
+ghost use Rattle.sim_muldiv.specs.Family.{Divided, Divides, EndsDivision, EndsQuotient, IsReady};
+ghost use Rattle.sim_muldiv.specs.Family.{MayStore, MayStoreQuotient};
 ghost use Rattle.sim_rows.specs.native_interp.declared.addresses.TheConstants as address;
 ghost use Rattle.sim_rows.specs.sim_view.Bounds.{most_of_quotient_row};
 

@@ -1,6 +1,6 @@
 -- The operands of a row, and views of the machine up to the row's entry.
 use Rattle.std.specs.Prelude.{ℕ, ◌%◌, ◌/◌, ◌==◌, ◌≡◌, Bool, Err, false, if◌then◌else◌, nat_lt, ◌<◌, None, not, Ok}
-use Rattle.std.specs.Prelude.{Option, Result, Some, true}
+use Rattle.std.specs.Prelude.{Option, Result, Some, true, IsFalse, IsTrue}
 use Rattle.sim_view.specs.Prelude.{◌>>=◌, Comes, destination_size, GO, GplOperation, GplSource, GplState, GSTOP}
 use Rattle.sim_view.specs.Prelude.{IsFetched, MachineState, One, operand_at, Place, place_of, PortsAreIdle}
 use Rattle.sim_view.specs.Prelude.{Reason, row_entry, size_of, Source, source_at, source_of, Stands, Two, value_at}
@@ -117,7 +117,7 @@ reads_destination (Some (Two ST)) = false
 reads_destination _ = true
 
 abbrev pub KeepsValue : GplState → Place → View → Type 0
-KeepsValue s place w = reads_destination (operation_in s) ≡ true → w.r.r9 ≡ loaded_of s place
+KeepsValue s place w = IsTrue (reads_destination (operation_in s)) → w.r.r9 ≡ loaded_of s place
 
 -- At OPSTWO: the destination's place is in registers 7 and 8, and its value in register 9.
 pub record Kept (s : GplState) (place : Place) (next : ℕ) (w : View) : Type 0 where
@@ -145,35 +145,35 @@ KeepsDestination s place x y before after false =
 
 abbrev pub LoadsDestination : GplState → MachineState → MachineState → ℕ → ℕ → Bool → Result Place Reason → Type 0
 LoadsDestination s x y before after went (Ok place) =
-    (went ≡ true) × KeepsDestination s place x y before after (has_source s)
+    IsTrue went × KeepsDestination s place x y before after (has_source s)
 LoadsDestination s x y before after went (Err reason) =
-    (went ≡ false) × Comes 51 x y before after GSTOP (StoppedBy s reason)
+    IsFalse went × Comes 51 x y before after GSTOP (StoppedBy s reason)
 
 -- From OPSTWO the value of the source is loaded, or the program stops.
 abbrev pub LoadsBy : GplState → Place → MachineState → MachineState → ℕ → ℕ → Bool → Result Source Reason → Type 0
 LoadsBy s place x y before after went (Ok source) =
-    (went ≡ true) × Comes 68 x y before after GO (Sourced s place source (next_of s))
+    IsTrue went × Comes 68 x y before after GO (Sourced s place source (next_of s))
 LoadsBy s place x y before after went (Err reason) =
-    (went ≡ false) × Comes 49 x y before after GSTOP (StoppedBy s reason)
+    IsFalse went × Comes 49 x y before after GSTOP (StoppedBy s reason)
 
 abbrev pub LoadsSource : MachineState → MachineState → ℕ → ℕ → Bool → Type 0
 LoadsSource x y before after went =
-    (s : GplState) → (place : Place) → has_source s ≡ true → Kept s place (behind_first s) (view x)
+    (s : GplState) → (place : Place) → IsTrue (has_source s) → Kept s place (behind_first s) (view x)
     → LoadsBy s place x y before after went (second_of s)
 
 -- Both operands are there, or the program stops.
 abbrev pub LoadsOperands : GplState → MachineState → MachineState → ℕ → ℕ → Bool
     → Result (Place × Source) Reason → Type 0
 LoadsOperands s x y before after went (Ok operands) =
-    (went ≡ true) × Comes 146 x y before after GO (AtRow s operands.0 operands.1)
+    IsTrue went × Comes 146 x y before after GO (AtRow s operands.0 operands.1)
 LoadsOperands s x y before after went (Err reason) =
-    (went ≡ false) × Comes 129 x y before after GSTOP (StoppedBy s reason)
+    IsFalse went × Comes 129 x y before after GSTOP (StoppedBy s reason)
 
 -- A machine at the entry of the row of an operation, which is one of a family: the operands are loaded, the ports are
 -- idle, and a value may be stored at the destination.
 pub record AtEntry (belongs : Option GplOperation → Bool) (operation : GplOperation) (x : MachineState) : Type 0 where
   pub stands : Stands x (row_entry (Some operation))
-  pub family : belongs (Some operation) ≡ true
+  pub family : IsTrue (belongs (Some operation))
   pub idle : PortsAreIdle x.cpu.memory
   pub fetched : IsFetched x.cpu.memory.grom
   pub space : (view x).r.r8 < 2

@@ -1,5 +1,5 @@
 -- Views of the interpreter's machine at the beginning of a step, at its dispatch, and at the ends of a program.
-use Rattle.std.specs.Prelude.{ℕ, ◌≡◌, Bool, None, Option, slice_index, true}
+use Rattle.std.specs.Prelude.{ℕ, ◌≡◌, Bool, None, Option, slice_index, IsTrue}
 use Rattle.sim_view.specs.Prelude.{address_register, code_register, GplOperation, GplState, listed, MachineState}
 use Rattle.sim_view.specs.Prelude.{next_in_grom, number_of, operation_at, operation_entry, previous_in_grom, Reason}
 use Rattle.sim_view.specs.Prelude.{Stands, View, view}
@@ -41,7 +41,7 @@ operation_seen w = operation_in (state_at_dispatch w)
 pub record AtDispatch (belongs : Option GplOperation → Bool) (x : MachineState) : Type 0 where
   pub stands : Stands x (operation_entry (operation_seen (view x)))
   pub dispatched : Dispatched (state_at_dispatch (view x)) (view x)
-  pub family : belongs (operation_seen (view x)) ≡ true
+  pub family : IsTrue (belongs (operation_seen (view x)))
 
 -- What is seen where a program ends.
 pub record Ended (s : GplState) (w : View) : Type 0 where
