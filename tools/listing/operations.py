@@ -19,7 +19,7 @@ HEAD = '''<!-- Written by tools/interpreter from the interpreter's source, the d
 
 Each operation of GPL at one place: its code bytes, its definition, where the interpreter runs it, the words of its
 own, the pieces that the proofs go over with their bounds, the function whose contract is that the words do what the
-definition says, and the wrong bodies that are refused. How the pieces work together is told in
+definition says, and some of the wrong bodies that are refused. How the pieces work together is told in
 [INTERPRETER.md](INTERPRETER.md), what the operations mean in [GPL_STEP.md](GPL_STEP.md).
 
 *Most* is the number of instructions of a piece along its longest way, *Ways* how many ways it has. An end with a label
@@ -192,7 +192,7 @@ def section(listing, found, kind, name, code, count, every):
     lines = ['', f'## {"MOVE " + MOVES[name] if moves else name}', '', f'- Code bytes: {bytes_of(code, count)}.']
     lines += definition(kind, name)
     if row:
-        lines.append(f'- Entry: TABLE leads to {entry_table}, which loads the operands, and OPTAB to {entry} at '
+        lines.append(f'- Entry: TABLE leads to {entry_table}, which finds the operands and loads what the row reads of them, and OPTAB to {entry} at '
                      f'`>{found[entry].place:04X}`.')
     else:
         lines.append(f'- Entry: TABLE leads to {entry} at `>{found[entry].place:04X}`.')

@@ -131,7 +131,7 @@ call_store =
     0xD9C9 ∷ 0x8300 ∷ 0xD9E0 ∷ 0x83F3 ∷ 0x8301 ∷ 0x04CD ∷ 0x0287 ∷ 0x007D ∷
     0x1B04 ∷ 0x0287 ∷ 0x007C ∷ 0x1A01 ∷ 0x070D ∷ 0x0460 ∷ 0x2492 ∷ []
 
--- >2732: RESUME, the end of FETCH
+-- >2732: RESUME, the end of FETCH and of a MOVE out of GROM
 --     RESUME MOVB R14,@GRMWA
 --            MOVB @R14LB,@GRMWA
 --            B @SHOW

@@ -175,7 +175,8 @@ fn load_source<L: Ledger>(machine: &mut Machine, steps: &mut Steps<L>) -> bool
     true
 }
 
-/// Loads both operands of a row. Are they visible? If not, the machine stops by reason 2.
+/// Finds both operands of a row and loads what it reads of them. Are they visible? If not, the machine stops by reason
+/// 2.
 fn load_operands<L: Ledger>(machine: &mut Machine, steps: &mut Steps<L>) -> bool
     requires { AtDispatch is_row machine.old }
     ensures { let s = state_at_dispatch (view machine.old) in
@@ -190,8 +191,8 @@ fn load_operands<L: Ledger>(machine: &mut Machine, steps: &mut Steps<L>) -> bool
     true
 }
 
-/// Begins a row at its dispatch: both operands are loaded, and the machine is at the entry of the row. The answer is
-/// the operation, and None where an operand is not visible: the machine then stops by reason 2.
+/// Begins a row at its dispatch: both operands are found, what the row reads of them is loaded, and the machine is at the
+/// entry of the row. The answer is the operation, and None where an operand is not visible: the machine then stops by reason 2.
 pub fn start_row<L: Ledger>(machine: &mut Machine, steps: &mut Steps<L>) -> Option<GplOperation>
     requires { AtDispatch is_row machine.old }
     ensures { HasStarted (state_at_dispatch (view machine.old)) machine.old machine.new steps.old steps.new result }
