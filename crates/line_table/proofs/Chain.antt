@@ -48,33 +48,33 @@ to_520 = with_block 480 40 102 6 to_480 lines_480
 to_560 : Front 560 120
 to_560 = with_block 520 40 108 12 to_520 lines_520
 
-to_600 : Front 600 128
-to_600 = with_block 560 40 120 8 to_560 lines_560
+to_600 : Front 600 129
+to_600 = with_block 560 40 120 9 to_560 lines_560
 
-to_640 : Front 640 137
-to_640 = with_block 600 40 128 9 to_600 lines_600
+to_640 : Front 640 136
+to_640 = with_block 600 40 129 7 to_600 lines_600
 
 to_680 : Front 680 144
-to_680 = with_block 640 40 137 7 to_640 lines_640
+to_680 = with_block 640 40 136 8 to_640 lines_640
 
-to_720 : Front 720 153
-to_720 = with_block 680 40 144 9 to_680 lines_680
+to_720 : Front 720 154
+to_720 = with_block 680 40 144 10 to_680 lines_680
 
-to_760 : Front 760 160
-to_760 = with_block 720 40 153 7 to_720 lines_720
+to_760 : Front 760 159
+to_760 = with_block 720 40 154 5 to_720 lines_720
 
-to_800 : Front 800 165
-to_800 = with_block 760 40 160 5 to_760 lines_760
+to_800 : Front 800 164
+to_800 = with_block 760 40 159 5 to_760 lines_760
 
-to_840 : Front 840 173
-to_840 = with_block 800 40 165 8 to_800 lines_800
+to_840 : Front 840 175
+to_840 = with_block 800 40 164 11 to_800 lines_800
 
 to_880 : Front 880 185
-to_880 = with_block 840 40 173 12 to_840 lines_840
+to_880 = with_block 840 40 175 10 to_840 lines_840
 
-to_907 : Front 907 190
-to_907 = with_block 880 27 185 5 to_880 lines_880
+to_903 : Front 903 189
+to_903 = with_block 880 23 185 4 to_880 lines_880
 
 -- all of them
 pub to_last : Front most name_count
-to_last = to_907
+to_last = to_903

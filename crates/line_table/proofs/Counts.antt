@@ -4,12 +4,12 @@ use Rattle.std.proofs.Common.{ℕ}
 
 -- the lines
 abbrev pub line_count : ℕ
-line_count = 908
+line_count = 904
 
 -- the lines before the last
 abbrev pub most : ℕ
-most = 907
+most = 903
 
 -- the names
 abbrev pub name_count : ℕ
-name_count = 190
+name_count = 189

@@ -85,7 +85,7 @@ use Rattle.native_interp.specs.declared.addresses.TheConstants.{
   CTRUE,
   CFALSE,
   BRANCH,
-  BTEST,
+  BTARG,
   TAKE,
   CASEV,
   CASEN,
@@ -184,7 +184,7 @@ operation_parts =
 -- branches, stacks and RAND
 abbrev pub flow_parts : List (ℕ × List ℕ)
 flow_parts =
-    (BRANCH, flow.target) ∷ (BTEST, flow.test_branch) ∷ (TAKE, flow.take_branch) ∷ (CASEV, flow.case_row) ∷
+    (BRANCH, flow.test_branch) ∷ (BTARG, flow.target) ∷ (TAKE, flow.take_branch) ∷ (CASEV, flow.case_row) ∷
     (CASEN, flow.case_next) ∷ (CASET, flow.case_target) ∷ (PUSHV, flow.push) ∷ (FULL, flow.stack_full) ∷
     (GOCALL, flow.call) ∷ (CALLN, flow.call_next) ∷ (CALLS, flow.call_store) ∷ (RESUME, flow.resume) ∷
     (GORTN, flow.rtn) ∷ (FETCHV, flow.fetch_row) ∷ (FETCHN, flow.fetch_next) ∷ (FETCHP, flow.fetch_pointer) ∷

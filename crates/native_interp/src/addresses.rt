@@ -2,13 +2,13 @@
 //! Addresses in the interpreter. Profile: where the interpreter and its workspace stand.
 
 /// How many words the interpreter has.
-pub const WORD_COUNT: usize = 1198;
+pub const WORD_COUNT: usize = 1195;
 
 /// The interpreter's workspace: the address of its register 0.
 pub const WORKSPACE: u16 = 0x83E0;
 
 /// The address behind the interpreter's last word.
-pub const BEHIND: u16 = 0x295C;
+pub const BEHIND: u16 = 0x2956;
 
 /// Where the words of the interpreter begin.
 pub const ORIGIN: u16 = 0x2000;
@@ -316,173 +316,173 @@ pub const CFALSE: u16 = 0x2656;
 /// The instructions BR and BS.
 pub const BRANCH: u16 = 0x2662;
 
-/// The part of BR and BS that tests the condition.
-pub const BTEST: u16 = 0x2676;
+/// The part of BR and BS that makes the address of their target.
+pub const BTARG: u16 = 0x2674;
 
 /// Clears the condition and goes on at an address.
-pub const TAKE: u16 = 0x268E;
+pub const TAKE: u16 = 0x2688;
 
 /// The row of CASE.
-pub const CASEV: u16 = 0x269A;
+pub const CASEV: u16 = 0x2694;
 
 /// The part of CASE behind the next address.
-pub const CASEN: u16 = 0x26A6;
+pub const CASEN: u16 = 0x26A0;
 
 /// Goes on in the table of CASE.
-pub const CASET: u16 = 0x26AE;
+pub const CASET: u16 = 0x26A8;
 
 /// The row of PUSH.
-pub const PUSHV: u16 = 0x26B2;
+pub const PUSHV: u16 = 0x26AC;
 
 /// Goes to the stop by reason 3.
-pub const FULL: u16 = 0x26D0;
+pub const FULL: u16 = 0x26CA;
 
 /// The instruction CALL.
-pub const GOCALL: u16 = 0x26D4;
+pub const GOCALL: u16 = 0x26CE;
 
 /// The part of CALL behind its target: the pointer of the stack.
-pub const CALLT: u16 = 0x26DE;
+pub const CALLT: u16 = 0x26D8;
 
 /// Tells the next address, which CALL stacks.
-pub const CALLN: u16 = 0x26EE;
+pub const CALLN: u16 = 0x26E8;
 
 /// Stores the pointer and the address of CALL.
-pub const CALLS: u16 = 0x2704;
+pub const CALLS: u16 = 0x26FE;
 
 /// Ends FETCH and a MOVE out of GROM: goes on at the address that was kept.
-pub const RESUME: u16 = 0x2732;
+pub const RESUME: u16 = 0x272C;
 
 /// The instructions RTN and RTNC.
-pub const GORTN: u16 = 0x2740;
+pub const GORTN: u16 = 0x273A;
 
 /// The part of RTN and RTNC that takes the word off the stack.
-pub const RTNW: u16 = 0x274C;
+pub const RTNW: u16 = 0x2746;
 
 /// The row of FETCH.
-pub const FETCHV: u16 = 0x2766;
+pub const FETCHV: u16 = 0x2760;
 
 /// The part of FETCH behind the next address.
-pub const FETCHN: u16 = 0x277A;
+pub const FETCHN: u16 = 0x2774;
 
 /// Loads the stacked address of FETCH.
-pub const FETCHP: u16 = 0x2780;
+pub const FETCHP: u16 = 0x277A;
 
 /// Sets the GROM to the stacked address.
-pub const FETCHA: u16 = 0x278C;
+pub const FETCHA: u16 = 0x2786;
 
 /// Reads the byte of FETCH.
-pub const FETCHR: u16 = 0x2790;
+pub const FETCHR: u16 = 0x278A;
 
 /// Keeps the byte of FETCH.
-pub const FETCHK: u16 = 0x2794;
+pub const FETCHK: u16 = 0x278E;
 
 /// The part of FETCH behind the address that follows its byte.
-pub const FETCHB: u16 = 0x279A;
+pub const FETCHB: u16 = 0x2794;
 
 /// Stores the address that follows the byte of FETCH.
-pub const FETCHS: u16 = 0x27A0;
+pub const FETCHS: u16 = 0x279A;
 
 /// Stores the byte of FETCH.
-pub const FETCHD: u16 = 0x27A6;
+pub const FETCHD: u16 = 0x27A0;
 
 /// The instruction RAND.
-pub const GORAND: u16 = 0x27B8;
+pub const GORAND: u16 = 0x27B2;
 
 /// The part of RAND that makes the next seed.
-pub const RANDM: u16 = 0x27C2;
+pub const RANDM: u16 = 0x27BC;
 
 /// The part of RAND behind the seed: the limit.
-pub const RANDL: u16 = 0x27D6;
+pub const RANDL: u16 = 0x27D0;
 
 /// Stops by reason 4.
-pub const LONG: u16 = 0x27EC;
+pub const LONG: u16 = 0x27E6;
 
 /// The instruction MOVE.
-pub const GOMOVE: u16 = 0x27F4;
+pub const GOMOVE: u16 = 0x27EE;
 
 /// Loads the length of MOVE.
-pub const MOVEN: u16 = 0x2808;
+pub const MOVEN: u16 = 0x2802;
 
 /// The part of MOVE behind its length: the target.
-pub const MOVEL: u16 = 0x280C;
+pub const MOVEL: u16 = 0x2806;
 
 /// The part of MOVE behind its target: the source.
-pub const MOVED: u16 = 0x2820;
+pub const MOVED: u16 = 0x281A;
 
 /// Begins the copy of MOVE.
-pub const MOVEB: u16 = 0x282E;
+pub const MOVEB: u16 = 0x2828;
 
 /// The part of `MOVEB` behind the mark.
-pub const MOVEP: u16 = 0x2846;
+pub const MOVEP: u16 = 0x2840;
 
 /// Copies a byte of MOVE from the cells to the cells.
-pub const COPYCC: u16 = 0x2856;
+pub const COPYCC: u16 = 0x2850;
 
 /// Sets the video processor's address to the source of MOVE.
-pub const SETR: u16 = 0x285E;
+pub const SETR: u16 = 0x2858;
 
 /// Copies a byte of MOVE from video memory to the cells.
-pub const COPYVC: u16 = 0x286E;
+pub const COPYVC: u16 = 0x2868;
 
 /// Copies a byte of MOVE from GROM to the cells.
-pub const COPYGC: u16 = 0x2878;
+pub const COPYGC: u16 = 0x2872;
 
 /// Sets the video processor's address to the target of MOVE.
-pub const SETW: u16 = 0x2882;
+pub const SETW: u16 = 0x287C;
 
 /// The part of `SETW` that writes the address.
-pub const SETWA: u16 = 0x2892;
+pub const SETWA: u16 = 0x288C;
 
 /// Copies a byte of MOVE from the cells to video memory.
-pub const COPYCV: u16 = 0x28A4;
+pub const COPYCV: u16 = 0x289E;
 
 /// Copies a byte of MOVE from GROM to video memory.
-pub const COPYGV: u16 = 0x28AE;
+pub const COPYGV: u16 = 0x28A8;
 
 /// The part of `MOVEB` before bytes that LOAD and STORE copy.
-pub const COPYL: u16 = 0x28BA;
+pub const COPYL: u16 = 0x28B4;
 
 /// Asks LOAD for a byte of MOVE.
-pub const COPY: u16 = 0x28BE;
+pub const COPY: u16 = 0x28B8;
 
 /// Stores a byte of MOVE.
-pub const COPYS: u16 = 0x28C2;
+pub const COPYS: u16 = 0x28BC;
 
 /// Goes on to the next byte of MOVE.
-pub const COPYN: u16 = 0x28C8;
+pub const COPYN: u16 = 0x28C2;
 
 /// Ends the copy of MOVE.
-pub const COPYE: u16 = 0x28D0;
+pub const COPYE: u16 = 0x28CA;
 
 /// The part of MOVE whose target is the registers of the video chip.
-pub const MOVER: u16 = 0x28DE;
+pub const MOVER: u16 = 0x28D8;
 
 /// The part of MOVE that tests whether all the registers are there.
-pub const MOVERC: u16 = 0x28E6;
+pub const MOVERC: u16 = 0x28E0;
 
 /// The part of MOVE whose source is in GROM.
-pub const MOVES: u16 = 0x28F4;
+pub const MOVES: u16 = 0x28EE;
 
 /// Adds the index to that source's address.
-pub const MOVEA: u16 = 0x28FC;
+pub const MOVEA: u16 = 0x28F6;
 
 /// Asks for the address behind MOVE.
-pub const MOVEX: u16 = 0x290C;
+pub const MOVEX: u16 = 0x2906;
 
 /// Keeps that address, and sets the GROM to the source.
-pub const MOVEW: u16 = 0x2910;
+pub const MOVEW: u16 = 0x290A;
 
 /// Turns to the bytes that follow there.
-pub const MOVEK: u16 = 0x2918;
+pub const MOVEK: u16 = 0x2912;
 
 /// Stops by reason 5.
-pub const NOREG: u16 = 0x291E;
+pub const NOREG: u16 = 0x2918;
 
 /// The instruction ALL.
-pub const GOALL: u16 = 0x2926;
+pub const GOALL: u16 = 0x2920;
 
 /// Stores a byte of ALL, or ends the step.
-pub const FILL: u16 = 0x293C;
+pub const FILL: u16 = 0x2936;
 
 /// The instruction BACK.
-pub const GOBACK: u16 = 0x2948;
+pub const GOBACK: u16 = 0x2942;

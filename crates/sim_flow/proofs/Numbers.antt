@@ -1,8 +1,10 @@
 -- Facts about numbers that the instructions which go on elsewhere need.
-use Rattle.std.proofs.Common.{ℕ, ◌%◌, ◌*◌, ◌/◌, ◌<◌, ◌==◌, ◌∙◌, ◌≡◌, ap, arith, Bool, eqb, false, if◌then◌else◌, Option, refl, Some, sym, true}
+use Rattle.std.proofs.Common.{ℕ, ◌%◌, ◌*◌, ◌+◌, ◌/◌, ◌<◌, ◌==◌, ◌∙◌, ◌≡◌, ap, arith, Bool, eqb, false, if◌then◌else◌, not, Option, refl, Some, suc, sym}
+use Rattle.std.proofs.Common.{true, zero}
 use Rattle.std.proofs.lemmas.Bool.{agree_below_at}
-use Rattle.sim_rows.proofs.Common.{Branch, Byte, GplOperation, high, in_grom_of, in_register, is_set, join, last_out, next_in_grom, operation_at, plus, shifted}
-use Rattle.sim_rows.proofs.Common.{size_of, SLA, SRL, sum_of, Width, Word}
+use Rattle.std.proofs.lemmas.Nat.Bits.{bit_at_xor}
+use Rattle.sim_rows.proofs.Common.{Branch, Byte, exclusive_or_of, GplOperation, high, in_grom_of, in_register, is_set, is_taken, join, last_out, next_in_grom}
+use Rattle.sim_rows.proofs.Common.{operation_at, plus, shifted, size_of, SLA, SRL, sum_of, Width, Word}
 
 -- ---- the target of BR and BS
 
@@ -42,9 +44,31 @@ on_at code = on_by (bit_out code) (operation_at code)
 pub on_is : (code : ℕ) → code < 256 → (on : Bool) → operation_at code ≡ Some (Branch on) → last_out SRL code 6 ≡ on
 on_is code h on e = sym (agree_below_at on_at bit_out 256 code refl h) ∙ ap (on_by (bit_out code)) e
 
--- the condition is shifted out
-pub condition_out : (status less : ℕ) → status < 256 → less < 256 → last_out SLA (join status less) 3 ≡ is_set status 0x20
-condition_out status less h k = ap (λ n. eqb n 1) (omega arith)
+-- the condition less that bit: the sum of two bits is odd where they are not equal
+odd_sum : (bit other : ℕ) → bit < 2 → other < 2 → eqb ((bit + other) % 2) 1 ≡ not (is_taken (eqb other 1) (eqb bit 1))
+odd_sum zero zero h k = refl
+odd_sum zero (suc zero) h k = refl
+odd_sum (suc zero) zero h k = refl
+odd_sum (suc zero) (suc zero) h k = refl
+odd_sum (suc (suc n)) other h k = absurd (omega arith)
+odd_sum bit (suc (suc n)) h k = absurd (omega arith)
+
+bits_told : (above status code : ℕ) → exclusive_or_of (join above status) code / 32 % 2 ≡ (status / 32 % 2 + code / 32 % 2) % 2
+bits_told above status code =
+    let e : exclusive_or_of (join above status) code / 32 % 2 ≡ (join above status / 32 % 2 + code / 32 % 2) % 2 = bit_at_xor (join above status) code 5 in
+    omega arith
+
+bit_is : (word : ℕ) → eqb (word / 32 % 2) 1 ≡ last_out SRL word 6
+bit_is word = ap (λ n. eqb n 1) (omega arith)
+
+pub told_by : (above status code : ℕ) (on holds : Bool) → last_out SRL code 6 ≡ on → is_set status 0x20 ≡ holds →
+    last_out SRL (exclusive_or_of (join above status) code) 6 ≡ not (is_taken on holds)
+told_by above status code on holds e f =
+    sym (bit_is (exclusive_or_of (join above status) code))
+    ∙ ap (λ n. eqb n 1) (bits_told above status code)
+    ∙ odd_sum (status / 32 % 2) (code / 32 % 2) (omega arith) (omega arith)
+    ∙ ap (λ other. not (is_taken other (is_set status 0x20))) (bit_is code ∙ e)
+    ∙ ap (λ bit. not (is_taken on bit)) f
 
 -- ---- the number of CASE
 

@@ -1,8 +1,8 @@
 -- What the pieces of EXIT, B, BR, BS and CASE come to: how many instructions they have, where they end, and what they
 -- change of the view, in the words of the processor. Registers, cells and ports that are not named stay.
 use Rattle.std.specs.Prelude.{◌==◌, if◌then◌else◌, slice_index}
-use Rattle.sim_rows.specs.Prelude.{BTEST, CASEN, CASET, CFALSE, Exit, exit, GEXIT, GOTO, high, join, last_out, low}
-use Rattle.sim_rows.specs.Prelude.{past, SEEK, shifted, SLA, SRL, STATUS, sum_of, TAKE, View, WHERE, Word}
+use Rattle.sim_rows.specs.Prelude.{BTARG, CASEN, CASET, CFALSE, exclusive_or_of, Exit, exit, GEXIT, GOTO, high, join, last_out}
+use Rattle.sim_rows.specs.Prelude.{low, past, SEEK, shifted, SLA, SRL, STATUS, sum_of, TAKE, View, WHERE, Word}
 
 -- GOEXIT.
 abbrev pub leave : View → Exit
@@ -14,22 +14,22 @@ read_target v =
     let second = past v.grom in
     exit 2 GOTO (record v { r = record v.r { r6 = join v.grom.fetched second.fetched }; grom = past second })
 
--- BRANCH: the low five bits of the code byte and the byte that follows, in the GROM of the code byte, are the target.
+-- BRANCH: the condition is told from the code byte's bit >20, which BS has, and BR has not. Where they are equal the
+-- branch is taken, and else the byte that follows is passed.
+abbrev pub test_branch : View → Exit
+test_branch v =
+    let word = exclusive_or_of (join (high v.r.r4) (slice_index v.cells STATUS)) v.r.r0 in
+    let told = shifted SRL word 6 in
+    if last_out SRL word 6
+    then exit 6 CFALSE (record v { r = record v.r { r4 = join v.grom.fetched (low told) }; grom = past v.grom })
+    else exit 4 BTARG (record v { r = record v.r { r4 = told } })
+
+-- BTARG: the low five bits of the code byte and the byte that follows, in the GROM of the code byte, are the target.
 abbrev pub find_target : View → Exit
 find_target v =
     let offset = join (high (shifted SRL (shifted SLA v.r.r0 11) 3)) v.grom.fetched in
     let base = shifted SLA (shifted SRL v.r.r1 13) 13 in
-    exit 8 BTEST (record v { r = record v.r { r4 = base; r6 = sum_of Word offset base }; grom = past v.grom })
-
--- BTEST: the condition is shifted out of the status. BS, whose code byte has the bit >20, is taken where it is set, and
--- BR where it is not.
-abbrev pub test_branch : View → Exit
-test_branch v =
-    let word = join (slice_index v.cells STATUS) (low (shifted SRL v.r.r0 6)) in
-    let tested = record v { r = record v.r { r4 = shifted SLA word 3 } } in
-    if last_out SRL v.r.r0 6
-    then (if last_out SLA word 3 then exit 6 TAKE tested else exit 6 CFALSE tested)
-    else (if last_out SLA word 3 then exit 6 CFALSE tested else exit 7 TAKE tested)
+    exit 8 TAKE (record v { r = record v.r { r4 = base; r6 = sum_of Word offset base }; grom = past v.grom })
 
 -- CASEV: a byte comes down, and the address behind the operand is asked for.
 abbrev pub ask_table : View → Exit

@@ -13,7 +13,7 @@ use crate::pieces::{
 use sim_compare::clear_condition;
 use sim_jumps::{jump, take_jump};
 use sim_rows::gpl::GplOperation;
-use sim_rows::labels::TAKE;
+use sim_rows::labels::BTARG;
 use sim_rows::processor::{Machine, Steps};
 use sim_rows::subroutines::seek_address;
 use sim_rows::{Reason, Turn, operation_told, start_row, where_next};
@@ -39,9 +39,9 @@ fn run_branch<L: Ledger>(machine: &mut Machine, steps: &mut Steps<L>, _on: bool)
     ensures { let s = state_at_dispatch (view machine.old) in
         Turned s most_to_dispatch machine.old machine.new steps.old steps.new Stepped }
 {
-    find_target(machine, steps);
     test_branch(machine, steps);
-    if machine.pc() == TAKE {
+    if machine.pc() == BTARG {
+        find_target(machine, steps);
         take_jump(machine, steps);
     } else {
         clear_condition(machine, steps);

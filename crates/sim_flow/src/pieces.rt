@@ -4,7 +4,7 @@ ghost use Rattle.sim_rows.specs.Prelude.{Exits, Stands, view};
 ghost use Rattle.sim_rows.specs.native_interp.declared.addresses.TheConstants as address;
 ghost use Rattle.sim_flow.specs.Pieces as piece;
 
-use sim_rows::labels::{BTEST, CFALSE, GOTO, SEEK, TAKE, WHERE};
+use sim_rows::labels::{BTARG, CFALSE, GOTO, SEEK, TAKE, WHERE};
 use sim_rows::processor::{Machine, Steps};
 use sim_rows::run_piece;
 use std::sync::ledger::Ledger;
@@ -25,20 +25,20 @@ pub fn read_target<L: Ledger>(machine: &mut Machine, steps: &mut Steps<L>)
     run_piece(machine, steps, &[GOTO]);
 }
 
-/// The piece of BR and BS that makes the address of their target.
-pub fn find_target<L: Ledger>(machine: &mut Machine, steps: &mut Steps<L>)
-    requires { Stands machine.old address.BRANCH }
-    ensures { Exits machine.old machine.new steps.old steps.new (piece.find_target (view machine.old)) }
-{
-    run_piece(machine, steps, &[BTEST]);
-}
-
 /// The piece of BR and BS that tests the condition.
 pub fn test_branch<L: Ledger>(machine: &mut Machine, steps: &mut Steps<L>)
-    requires { Stands machine.old address.BTEST }
+    requires { Stands machine.old address.BRANCH }
     ensures { Exits machine.old machine.new steps.old steps.new (piece.test_branch (view machine.old)) }
 {
-    run_piece(machine, steps, &[TAKE, CFALSE]);
+    run_piece(machine, steps, &[BTARG, CFALSE]);
+}
+
+/// The piece of BR and BS that makes the address of their target.
+pub fn find_target<L: Ledger>(machine: &mut Machine, steps: &mut Steps<L>)
+    requires { Stands machine.old address.BTARG }
+    ensures { Exits machine.old machine.new steps.old steps.new (piece.find_target (view machine.old)) }
+{
+    run_piece(machine, steps, &[TAKE]);
 }
 
 /// The piece of CASE that takes its number and asks WHERE for the address of the table.

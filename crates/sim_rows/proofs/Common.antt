@@ -23,7 +23,7 @@ pub use Rattle.sim_rows.proofs.Storing.{changed_again, ChangedFrom, store_then, 
 pub use Rattle.sim_rows.proofs.Telling.{stands_at}
 pub use Rattle.sim_rows.specs.Prelude.{◌>>=◌, absolute_flags, absolute_of, ABSV, ADDR, Addressed, ADDV, ALL, ANDV, Answer, AreTurns, Asking, ASPACE, AtDispatch}
 pub use Rattle.sim_rows.specs.Prelude.{AtRow, B, BACK, Barred, behind, behind_code, behind_first, bit_of, bound, bound_at, bound_by, BRANCH, Branch, branched}
-pub use Rattle.sim_rows.specs.Prelude.{BTEST, Byte, byte_at, byte_from, byte_in, bytes_by, bytes_or_none, CALL, CALLN, CALLS, CARRY, CASE, CASEN, CASET, CASEV}
+pub use Rattle.sim_rows.specs.Prelude.{BTARG, Byte, byte_at, byte_from, byte_in, bytes_by, bytes_or_none, CALL, CALLN, CALLS, CARRY, CASE, CASEN, CASET, CASEV}
 pub use Rattle.sim_rows.specs.Prelude.{Cell, cells_at, CEQ, CEQV, CFALSE, CGE, CGEV, CGT, CGTV, CH, Changed, Changes, CHARACTER, CHE, CHEV, CHV, CLOG, CLOGV}
 pub use Rattle.sim_rows.specs.Prelude.{CLRV, code_byte, Comes, complement_of, condition, conjunction_of, copied, COPY, COPYN, COPYS, COUNT, count_in, count_of}
 pub use Rattle.sim_rows.specs.Prelude.{Cpu, CTRUE, CZ, CZV, DECTV, destination_bytes, difference_flags, difference_of, Dispatched, DIV, DIVBY, DIVE, divided}

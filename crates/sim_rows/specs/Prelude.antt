@@ -2,7 +2,7 @@
 pub use Rattle.sim_view.specs.Prelude.{◌>>=◌, ABS, absolute_flags, absolute_of, ABSV, ADD, ADDR, address_at}
 pub use Rattle.sim_view.specs.Prelude.{address_register, ADDV, ALL, AND, ANDV, Answer, APTR, AreTurns, ASPACE, B}
 pub use Rattle.sim_view.specs.Prelude.{BACK, behind, bit_of, Boots, bound, bound_at, bound_by, Branch, BRANCH}
-pub use Rattle.sim_view.specs.Prelude.{branched, BTEST, Byte, byte_at, byte_from, byte_in, ByteOp, bytes_or_none}
+pub use Rattle.sim_view.specs.Prelude.{branched, BTARG, Byte, byte_at, byte_from, byte_in, ByteOp, bytes_or_none}
 pub use Rattle.sim_view.specs.Prelude.{CALL, CALLN, CALLS, CARRY, CARRY_BIT, CASE, CASEN, CASET, CASEV, Cell}
 pub use Rattle.sim_view.specs.Prelude.{cells_at, CEQ, CEQV, CFALSE, CGE, CGEV, CGT, CGTV, CH, Changes, CHARACTER, CHE}
 pub use Rattle.sim_view.specs.Prelude.{CHEV, CHV, CLOG, CLOGV, CLR, CLRV, code_register, COLUMN, Comes, complement_of}

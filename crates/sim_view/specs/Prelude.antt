@@ -81,7 +81,7 @@ pub use Rattle.gpl_step_defs.specs.declared.status_bits.TheConstants.{OVERFLOW_B
 pub use Rattle.native_interp.specs.Entries.{operation_entry, row_entry}
 pub use Rattle.native_interp.specs.Words.{origin}
 pub use Rattle.native_interp.specs.declared.addresses.TheConstants.{ABSV, ADDR, ADDV, ANDV, APTR, ASPACE, BRANCH}
-pub use Rattle.native_interp.specs.declared.addresses.TheConstants.{BTEST, CALLN, CALLS, CASEN, CASET, CASEV}
+pub use Rattle.native_interp.specs.declared.addresses.TheConstants.{BTARG, CALLN, CALLS, CASEN, CASET, CASEV}
 pub use Rattle.native_interp.specs.declared.addresses.TheConstants.{CEQV, CFALSE, CGEV, CGTV, CHEV, CHV, CLOGV, CLRV}
 pub use Rattle.native_interp.specs.declared.addresses.TheConstants.{COPY, COPYN, COPYS, COUNT, CTRUE, CZV, DECTV}
 pub use Rattle.native_interp.specs.declared.addresses.TheConstants.{DIVBY, DIVE, DIVL, DIVQ, DIVS, DIVV, DIVW, EXB}
