@@ -21,7 +21,7 @@ use Rattle.asm_defs.specs.FirstChecks.{is_too_far, is_bad, as_expr, move}
 use Rattle.asm_defs.specs.declared.causes.AsmCause.TheVariants.{Overflow, BadDirective}
 use Rattle.asm_defs.specs.SecondChecks.{outcome}
 use Rattle.asm_defs.proofs.CheckLaws.{bound}
-use Rattle.line_laws.specs.KnownLines.{KnownLine, nothing_before, known_line, line_laws, names_in, all_names}
+use Rattle.line_laws.specs.KnownLines.{KnownLine, nothing_before, known_line, known_lines, names_in, all_names}
 use Rattle.line_laws.specs.KnownLines.{names_behind, look_in, are_new, is_plain, is_plain_statement, are_plain}
 use Rattle.line_laws.specs.KnownLines.{end_of}
 use Rattle.line_laws.proofs.Before.{is_free, said_same, moved_same}
@@ -183,18 +183,18 @@ pub record AreLaid (look : List ℕ → Option Value) (texts : List (List ℕ)) 
 
 module _ (look : List ℕ → Option Value) where
   abbrev Others : Location → List (List ℕ) → KnownLine → List KnownLine → Type 0
-  Others at texts line others = line_laws look (location_behind at line.found.move) texts ≡ Ok others
+  Others at texts line others = known_lines look (location_behind at line.found.move) texts ≡ Ok others
 
   -- the first of some lines, and the others
   pub record First (at : Location) (text : List ℕ) (texts : List (List ℕ)) (line : KnownLine) (lines : List KnownLine) : Type 0 where
     pub is : known_line look at text ≡ Ok line
     pub others : Others at texts line lines
 
-  pub first_of : (at : Location) (text : List ℕ) (texts : List (List ℕ)) (lines : List KnownLine) → line_laws look at (text ∷ texts) ≡ Ok lines
+  pub first_of : (at : Location) (text : List ℕ) (texts : List (List ℕ)) (lines : List KnownLine) → known_lines look at (text ∷ texts) ≡ Ok lines
       → (line : KnownLine) × (others : List KnownLine) × (lines ≡ line ∷ others) × First at text texts line others
   first_of at text texts lines e =
       let a = bound (known_line look at text) _ lines e in
-      let b = bound (line_laws look (location_behind at a.0.found.move) texts) _ lines a.2 in
+      let b = bound (known_lines look (location_behind at a.0.found.move) texts) _ lines a.2 in
       (a.0, b.0, sym (cc (b.2)), record { is = a.1; others = b.1 })
 
   going : (check_one : Result Line AsmCause) (found : Line) (before : List Line) (rest : List (ℕ × List ℕ)) (number : ℕ) → check_one ≡ Ok found → found.last ≡ false
@@ -203,7 +203,7 @@ module _ (look : List ℕ → Option Value) where
 
   abbrev LaysAll : List (List ℕ) → List KnownLine → Type 0
   LaysAll texts lines =
-      (before : List Line) (number : ℕ) (known : List (List ℕ × Value)) → line_laws look (location before) texts ≡ Ok lines
+      (before : List Line) (number : ℕ) (known : List (List ℕ × Value)) → known_lines look (location before) texts ≡ Ok lines
       → are_plain lines ≡ true → StandFor (names before) known → are_new known (all_names lines) ≡ true → AreLaid look texts lines before number known
 
   -- one line, and then the others
@@ -222,7 +222,7 @@ module _ (look : List ℕ → Option Value) where
         let stand_next : StandFor (names (here ∷ before)) (names_behind known (names_in line)) =
         subst (λ entries. StandFor (with_names (names before) entries) (names_behind known (names_in line))) (sym own) fresh.stand in
         let next = lays (here ∷ before) (number + 1) (names_behind known (names_in line))
-        (ap (λ at. line_laws look at texts) there ∙ first.others) fair.1 stand_next fresh.rest in
+        (ap (λ at. known_lines look at texts) there ∙ first.others) fair.1 stand_next fresh.rest in
         let checked = check_behind look text line before number first.is free.free fresh.fresh in
         record {
           laid = going (check before number text) here before (numbered (number + 1) texts) number checked free.going_on ∙ next.laid;

@@ -18,7 +18,7 @@ use Rattle.asm_defs.specs.FirstChecks.{line_of, Checked}
 use Rattle.asm_defs.specs.SecondChecks.{Outcome, Nothing, Words, Bytes, Entry, outcome}
 use Rattle.asm_defs.specs.Memory.{Settled, is_placed, any_from, bytes_in, word_count, overlaps}
 use Rattle.asm_defs.specs.Modules.{settle, settle_at, with_room, entry, entry_by}
-use Rattle.line_laws.specs.KnownLines.{KnownLine, known_line, line_laws, are_plain, is_plain, is_plain_statement}
+use Rattle.line_laws.specs.KnownLines.{KnownLine, known_line, known_lines, are_plain, is_plain, is_plain_statement}
 use Rattle.line_laws.specs.KnownLines.{words_of, words_in, all_words, are_close, is_at}
 use Rattle.source_defs.specs.OperandLists.{is_empty}
 use Rattle.line_laws.proofs.Laying.{laid_list, location_more, parts_of, first_of, First}
@@ -86,7 +86,7 @@ module _ (look : List ℕ → Option Value) (known : Names) (same : look ≡ loo
 
   abbrev SettlesAll : List (List ℕ) → List KnownLine → Type 0
   SettlesAll texts lines =
-      (before : List Line) (number : ℕ) (earlier : List Settled) (words : List ℕ) → line_laws look (location before) texts ≡ Ok lines
+      (before : List Line) (number : ℕ) (earlier : List Settled) (words : List ℕ) → known_lines look (location before) texts ≡ Ok lines
       → are_plain lines ≡ true → are_close (from + 2 * length words) lines ≡ true → settled (settle known) before ≡ Ok earlier
       → HoldWords [] earlier from words → AreSettled lines before number earlier words
 
@@ -106,7 +106,7 @@ module _ (look : List ℕ → Option Value) (known : Names) (same : look ≡ loo
         let now = settled_step known before earlier number line.found (as_settled line) (settled (settle known) before) is
         (settle_is text line before number earlier first.is room) in
         let rest = settles (line_of number line.found ∷ before) (number + 1) (as_settled line ∷ earlier) (words ++ words_in line)
-        (ap (λ at. line_laws look at texts) there ∙ first.others) fair.1 (ap (λ n. are_close n others) (sym total) ∙ near.1) now behind in
+        (ap (λ at. known_lines look at texts) there ∙ first.others) fair.1 (ap (λ n. are_close n others) (sym total) ∙ near.1) now behind in
         record {
           settled = rest.settled;
           hold = subst (λ words. HoldWords [] (settled_list (as_settled line ∷ earlier) others) from words) (append_assoc words (words_in line) (all_words others)) rest.hold;

@@ -11,7 +11,7 @@ use Rattle.asm_defs.specs.declared.location.Location.{Location}
 use Rattle.asm_defs.specs.Locations.{Line, start, location}
 use Rattle.asm_defs.specs.FirstChecks.{check, line_of, names, location_behind}
 use Rattle.asm_defs.specs.SecondChecks.{outcome}
-use Rattle.line_laws.specs.KnownLines.{KnownLine, known_line, line_laws, names_in, all_names, names_behind}
+use Rattle.line_laws.specs.KnownLines.{KnownLine, known_line, known_lines, names_in, all_names, names_behind}
 use Rattle.line_laws.specs.KnownLines.{are_new, are_plain, is_plain, end_of, look_in, is_plain_statement}
 use Rattle.line_laws.specs.Laws.{looks, AreKnown, StandsIn, KnownLinesStand}
 use Rattle.line_laws.proofs.Laying.{laid_list, are_laid, check_behind, parts_of, first_of, new_by, plain_free}
@@ -47,18 +47,18 @@ module _ (look : List ℕ → Option Value) (d : KnownLine) where
     front : List KnownLine
     rest : List KnownLine
     is : lines ≡ front ++ (slice_index_or lines index d ∷ rest)
-    known : line_laws look at (take index texts) ≡ Ok front
+    known : known_lines look at (take index texts) ≡ Ok front
     one : known_line look (end_of at front) (slice_index_or texts index []) ≡ Ok (slice_index_or lines index d)
     inside : index < length texts
 
   known_step : (text : List ℕ) (texts : List (List ℕ)) (from : Location) (line : KnownLine) (others : List KnownLine) → known_line look from text ≡ Ok line
-      → line_laws look (location_behind from line.found.move) texts ≡ Ok others → line_laws look from (text ∷ texts) ≡ Ok (line ∷ others)
+      → known_lines look (location_behind from line.found.move) texts ≡ Ok others → known_lines look from (text ∷ texts) ≡ Ok (line ∷ others)
   known_step text texts from line others is are = rw is (rw are refl)
 
   none_inside : (index : ℕ) (lines : List KnownLine) → ◌≡◌ {A = List KnownLine} [] lines → index < length lines → ⊥
   none_inside index lines e lt = let size : length lines ≡ 0 = ap length (sym e) in omega (arith, size, lt)
 
-  split : (texts : List (List ℕ)) (lines : List KnownLine) (at : Location) (index : ℕ) → line_laws look at texts ≡ Ok lines → index < length lines → Split texts lines at index
+  split : (texts : List (List ℕ)) (lines : List KnownLine) (at : Location) (index : ℕ) → known_lines look at texts ≡ Ok lines → index < length lines → Split texts lines at index
   split [] lines at index e lt = absurd (none_inside index lines (cc e) lt)
   split (text ∷ texts) lines at zero e lt =
       let f = first_of look at text texts lines e in
@@ -78,7 +78,7 @@ module _ (look : List ℕ → Option Value) (d : KnownLine) where
         inside = omega (arith, s.inside);
       })
 
-  same_length : (texts : List (List ℕ)) (lines : List KnownLine) (at : Location) → line_laws look at texts ≡ Ok lines → length lines ≡ length texts
+  same_length : (texts : List (List ℕ)) (lines : List KnownLine) (at : Location) → known_lines look at texts ≡ Ok lines → length lines ≡ length texts
   same_length [] lines at e = let none : ◌≡◌ {A = List KnownLine} [] lines = cc e in sym (ap length none)
   same_length (text ∷ texts) lines at e =
       let f = first_of look at text texts lines e in

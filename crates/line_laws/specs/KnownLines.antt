@@ -43,11 +43,11 @@ known_line look location text = do
   Ok (record { at = behind location found.move.gap; found = found; outcome = come })
 
 -- lines by themselves, one behind the other
-abbrev pub line_laws : (List ℕ → Option Value) → Location → List (List ℕ) → Result (List KnownLine) AsmCause
-line_laws look location [] = Ok []
-line_laws look location (text ∷ texts) = do
+abbrev pub known_lines : (List ℕ → Option Value) → Location → List (List ℕ) → Result (List KnownLine) AsmCause
+known_lines look location [] = Ok []
+known_lines look location (text ∷ texts) = do
   line ← known_line look location text
-  others ← line_laws look (location_behind location line.found.move) texts
+  others ← known_lines look (location_behind location line.found.move) texts
   Ok (line ∷ others)
 
 -- the location behind lines

@@ -14,7 +14,7 @@ use Rattle.asm_defs.specs.FirstChecks.{check, names}
 use Rattle.asm_defs.specs.SecondChecks as outcome
 use Rattle.asm_defs.specs.SecondChecks.{Outcome, outcome}
 use Rattle.asm_defs.specs.Modules.{module_of_lines}
-use Rattle.line_laws.specs.KnownLines.{KnownLine, known_line, line_laws, end_of, all_names, names_behind, look_in}
+use Rattle.line_laws.specs.KnownLines.{KnownLine, known_line, known_lines, end_of, all_names, names_behind, look_in}
 use Rattle.line_laws.specs.KnownLines.{are_new, are_plain, are_close, all_words, pieces_of}
 
 -- what all names of a source stand for, by the names that its lines define
@@ -25,7 +25,7 @@ looks defined name = look_in (names_behind registers defined) name
 -- absolute place on. Behind them stands a last line, which is END with an entry.
 pub record AreKnown (from : ℕ) (texts : List (List ℕ)) (last : List ℕ) (defined : List (List ℕ × Value))
     (lines : List KnownLine) (end : KnownLine) (entry : Spot) : Type 0 where
-  pub known : line_laws (looks defined) start texts ≡ Ok lines
+  pub known : known_lines (looks defined) start texts ≡ Ok lines
   pub names : all_names lines ≡ defined
   pub plain : IsTrue (are_plain lines)
   pub new : IsTrue (are_new registers defined)

@@ -3,7 +3,7 @@ use Rattle.std.proofs.Common.{◌≡◌, ℕ, ◌+◌, [], ◌∷◌}
 use Rattle.std.specs.Prelude.{Ok, take, drop, slice_index_or, List}
 use Rattle.source_defs.specs.Refusals.{seen}
 use Rattle.asm_defs.specs.declared.location.Location.{Location}
-use Rattle.line_laws.specs.KnownLines.{line_laws}
+use Rattle.line_laws.specs.KnownLines.{known_lines}
 use Rattle.line_laws.specs.Laws.{looks}
 use Rattle.native_interp.specs.Source.{lines}
 use Rattle.line_table.specs.declared.line_row.LineRow.{LineRow}
@@ -25,5 +25,5 @@ place number = location_of (slice_index_or rows number none)
 -- Some lines from a number on are as their rows say: so many, and so many names behind others.
 abbrev pub Block : ℕ → ℕ → ℕ → ℕ → Type 0
 Block first count named names =
-    seen (summary (place first)) (line_laws (looks defined) (place first) (take count (drop first texts)))
+    seen (summary (place first)) (known_lines (looks defined) (place first) (take count (drop first texts)))
     ≡ Ok (expected (take count (drop first rows)) (take names (drop named defined)) (place (first + count)))

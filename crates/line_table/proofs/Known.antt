@@ -14,7 +14,7 @@ use Rattle.asm_defs.specs.Directives.{directive}
 use Rattle.asm_defs.specs.Statements.{End, statement_in}
 use Rattle.asm_defs.specs.FirstChecks.{moved, stays_at}
 use Rattle.asm_defs.specs.SecondChecks.{Entry, outcome}
-use Rattle.line_laws.specs.KnownLines.{KnownLine, known_line, line_laws, all_words, are_new, end_of}
+use Rattle.line_laws.specs.KnownLines.{KnownLine, known_line, known_lines, all_words, are_new, end_of}
 use Rattle.line_laws.specs.Laws.{looks, AreKnown}
 use Rattle.native_interp.specs.Source.{lines}
 use Rattle.native_interp.specs.Words.{words}
@@ -47,7 +47,7 @@ module _ (from : ℕ) (all : List (List ℕ)) (last : List ℕ) (entries names :
       → end.found.label ≡ None → ((text : Option (List ℕ)) × (end.found.statement ≡ End text)) → end.outcome ≡ Entry entry
       → AreKnown from all last entries front.lines end entry
   known_by begins named new close closing unnamed ends enters = record {
-    known = subst (λ at. line_laws (looks entries) at all ≡ Ok front.lines) begins front.known;
+    known = subst (λ at. known_lines (looks entries) at all ≡ Ok front.lines) begins front.known;
     names = front.as_names ∙ named;
     plain = front.plain;
     new = new;

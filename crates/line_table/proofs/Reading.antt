@@ -9,7 +9,7 @@ use Rattle.asm_defs.specs.declared.causes.AsmCause.{AsmCause}
 use Rattle.asm_defs.specs.declared.location.Location.{Location}
 use Rattle.asm_defs.specs.FirstChecks.{location_behind}
 use Rattle.asm_defs.proofs.CheckLaws.{bound}
-use Rattle.line_laws.specs.KnownLines.{KnownLine, known_line, line_laws, words_in, names_in, all_names, all_words}
+use Rattle.line_laws.specs.KnownLines.{KnownLine, known_line, known_lines, words_in, names_in, all_names, all_words}
 use Rattle.line_laws.specs.KnownLines.{end_of, is_plain, are_plain, are_close, is_at}
 use Rattle.source_defs.specs.OperandLists.{is_empty}
 use Rattle.native_interp.specs.Source.{lines}
@@ -44,7 +44,7 @@ expected rows names next = record { rows = map row_shown rows; names = names; pl
 -- Lines from a location on are known, as their rows say.
 pub record Reads (look : List ℕ → Option Value) (from : Location) (texts : List (List ℕ)) (rows : List LineRow) (names : List (List ℕ × Value)) (next : Location) : Type 0 where
   pub lines : List KnownLine
-  pub known : line_laws look from texts ≡ Ok lines
+  pub known : known_lines look from texts ≡ Ok lines
   pub as_rows : map shown lines ≡ map row_shown rows
   pub as_names : all_names lines ≡ names
   pub plain : are_plain lines ≡ true
@@ -52,7 +52,7 @@ pub record Reads (look : List ℕ → Option Value) (from : Location) (texts : L
 
 module _ (look : List ℕ → Option Value) where
   reads_by : (from next : Location) (texts : List (List ℕ)) (rows : List LineRow) (names : List (List ℕ × Value)) (answer : Result (List KnownLine) AsmCause)
-      → line_laws look from texts ≡ answer → seen (summary from) answer ≡ Ok (expected rows names next) → Reads look from texts rows names next
+      → known_lines look from texts ≡ answer → seen (summary from) answer ≡ Ok (expected rows names next) → Reads look from texts rows names next
   reads_by from next texts rows names (Ok lines) is e =
       let same : summary from lines ≡ expected rows names next = cc e in
       record {
@@ -66,24 +66,24 @@ module _ (look : List ℕ → Option Value) where
   reads_by from next texts rows names (Err cause) is e = cc e
 
   pub reads_of : (from next : Location) (texts : List (List ℕ)) (rows : List LineRow) (names : List (List ℕ × Value))
-      → seen (summary from) (line_laws look from texts) ≡ Ok (expected rows names next) → Reads look from texts rows names next
-  reads_of from next texts rows names e = reads_by from next texts rows names (line_laws look from texts) refl e
+      → seen (summary from) (known_lines look from texts) ≡ Ok (expected rows names next) → Reads look from texts rows names next
+  reads_of from next texts rows names e = reads_by from next texts rows names (known_lines look from texts) refl e
 
   known_step : (text : List ℕ) (texts : List (List ℕ)) (from : Location) (line : KnownLine) (others : List KnownLine) → known_line look from text ≡ Ok line
-      → line_laws look (location_behind from line.found.move) texts ≡ Ok others → line_laws look from (text ∷ texts) ≡ Ok (line ∷ others)
+      → known_lines look (location_behind from line.found.move) texts ≡ Ok others → known_lines look from (text ∷ texts) ≡ Ok (line ∷ others)
   known_step text texts from line others is are = rw is (rw are refl)
 
-  pub known_append : (texts more : List (List ℕ)) (from : Location) (lines others : List KnownLine) → line_laws look from texts ≡ Ok lines
-      → line_laws look (end_of from lines) more ≡ Ok others → line_laws look from (texts ++ more) ≡ Ok (lines ++ others)
+  pub known_append : (texts more : List (List ℕ)) (from : Location) (lines others : List KnownLine) → known_lines look from texts ≡ Ok lines
+      → known_lines look (end_of from lines) more ≡ Ok others → known_lines look from (texts ++ more) ≡ Ok (lines ++ others)
   known_append [] more from lines others e f =
       let none : ◌≡◌ {A = List KnownLine} [] lines = cc e in
-      subst (λ lines. line_laws look from more ≡ Ok (lines ++ others)) none (subst (λ lines. line_laws look (end_of from lines) more ≡ Ok others) (sym none) f)
+      subst (λ lines. known_lines look from more ≡ Ok (lines ++ others)) none (subst (λ lines. known_lines look (end_of from lines) more ≡ Ok others) (sym none) f)
   known_append (text ∷ texts) more from lines others e f =
       let a = bound (known_line look from text) _ lines e in
-      let b = bound (line_laws look (location_behind from a.0.found.move) texts) _ lines a.2 in
+      let b = bound (known_lines look (location_behind from a.0.found.move) texts) _ lines a.2 in
       let same : a.0 ∷ b.0 ≡ lines = cc (b.2) in
-      let rest = known_append texts more (location_behind from a.0.found.move) b.0 others b.1 (subst (λ lines. line_laws look (end_of from lines) more ≡ Ok others) (sym same) f) in
-      subst (λ lines. line_laws look from (text ∷ (texts ++ more)) ≡ Ok (lines ++ others)) same (known_step text (texts ++ more) from a.0 (b.0 ++ others) a.1 rest)
+      let rest = known_append texts more (location_behind from a.0.found.move) b.0 others b.1 (subst (λ lines. known_lines look (end_of from lines) more ≡ Ok others) (sym same) f) in
+      subst (λ lines. known_lines look from (text ∷ (texts ++ more)) ≡ Ok (lines ++ others)) same (known_step text (texts ++ more) from a.0 (b.0 ++ others) a.1 rest)
 
 append_names : (lines more : List KnownLine) → all_names (lines ++ more) ≡ all_names lines ++ all_names more
 append_names [] more = refl
@@ -107,7 +107,7 @@ module _ (look : List ℕ → Option Value) (a b c : Location) (texts more : Lis
   join first then = record {
     lines = first.lines ++ then.lines;
     known = known_append look texts more a first.lines then.lines first.known
-        (subst (λ at. line_laws look at more ≡ Ok then.lines) (sym first.leads) then.known);
+        (subst (λ at. known_lines look at more ≡ Ok then.lines) (sym first.leads) then.known);
     as_rows = append_map shown first.lines then.lines
         ∙ (ap (λ front. front ++ map shown then.lines) first.as_rows
         ∙ (ap (λ rest. map row_shown rows ++ rest) then.as_rows ∙ sym (append_map row_shown rows others)));

@@ -2,6 +2,7 @@
 -- the view, in the words of the processor. Registers, cells and ports that are not named stay.
 use Rattle.std.specs.Prelude.{ℕ, ◌+◌, ◌==◌, Bool, false, if◌then◌else◌, nat_lt, slice_index}
 use Rattle.std.specs.Prelude.{slice_set, true}
+pub use Rattle.sim_view.specs.count_defs.Counts.{one_if}
 use Rattle.sim_view.specs.Prelude.{APTR, ASPACE, even, Exit, grom_address_written, grom_data_read, GromState, GSTOP}
 use Rattle.sim_view.specs.Prelude.{high, INDEX, join, last_out, LDATA, low, SDATA, shifted, SLA, SREG, SRL, STREAM}
 use Rattle.sim_view.specs.Prelude.{sum_of, vdp_address_written, vdp_data_read, vdp_data_written, VdpState}
@@ -163,10 +164,6 @@ stream v =
 -- 13 marks a store at the character's cell.
 abbrev pub marked : ℕ → ℕ → ℕ → ℕ
 marked cell offset mark = if offset == cell then 0xFFFF else mark
-
-abbrev pub one_if : Bool → ℕ
-one_if true = 1
-one_if false = 0
 
 abbrev pub store_byte : View → Exit
 store_byte v =

@@ -1,3 +1,4 @@
+pub use Rattle.count_defs.specs as count_defs
 pub use Rattle.tms_defs.specs as tms_defs
 pub use Rattle.console_defs.specs as console_defs
 pub use Rattle.source_defs.specs as source_defs

@@ -33,7 +33,8 @@ WordListingsComeBack =
     (at : ℕ) (bytes : List ℕ) → StandEven at bytes
     → module_of_source (concat (memory_listing at bytes)) ≡ listed_module at bytes None
 
--- The law, which is proved: so the listing of bytes that stand far enough from the ends of memory is never refused.
+-- The law, which is proved: so the listing of bytes that stand far enough from the ends of memory is never refused. A
+-- jump leads at most 254 bytes below its own address, and 256 above.
 abbrev pub InnerListingsComeBack : Type 0
 InnerListingsComeBack =
     (at : ℕ) (bytes : List ℕ) → StandEven at bytes → 0x00FE ≤ at → at + length bytes ≤ 0xFF01
@@ -53,8 +54,8 @@ EnteredListingsComeBack =
     (at : ℕ) (bytes : List ℕ) (entry : ℕ) → StandEven at bytes → entry < 65536
     → module_of_source (concat (entered_listing at bytes entry)) ≡ listed_module at bytes (Some entry)
 
--- The law, which is proved: a listing has at most 26 bytes for each word, and 45 for its other lines: AORG, BYTE of a
--- last odd byte, and END.
+-- The law, which is proved: a listing has at most 26 bytes for each word, which is a rough bound, and 45 for its other
+-- lines: AORG, BYTE of a last odd byte, and END.
 abbrev pub WordListingsAreShort : Type 0
 WordListingsAreShort =
     (at : ℕ) (bytes : List ℕ) → StandEven at bytes
