@@ -68,7 +68,7 @@ shows_is top h = agree_below_at shows_at shows_by 256 top refl h
 -- ---- from the dispatch on
 
 module _ (s : GplState) {x a : MachineState} {t t1 : ℕ} (stands : Stands x GOCALL) (d : Dispatched s (view x)) (family : is_call (operation_in s) ≡ true)
-    (read : Exits x a t t1 (pieces.read_target (view x))) where
+    (read : Exits x a t t1 (pieces.read_call_target (view x))) where
   abbrev v : View
   v = view x
 

@@ -69,7 +69,7 @@ module _ {x a : MachineState} {t t1 : ℕ} (e1 : Exits x a t t1 (pieces.store_st
   near_first : (view a).r.r8 < 2
   near_first = let z = ap (λ (v : View). v.r.r8) e1.shows in omega arith
 
-  module _ {b c : MachineState} {t2 t3 : ℕ} (may1 : (view a).r.r8 < 2 → StoresValue a b t1 t2) (e2 : Exits b c t2 t3 (pieces.store_byte (view b))) where
+  module _ {b c : MachineState} {t2 t3 : ℕ} (may1 : (view a).r.r8 < 2 → StoresValue a b t1 t2) (e2 : Exits b c t2 t3 (pieces.store_fetched (view b))) where
     stored1 : StoresValue a b t1 t2
     stored1 = may1 near_first
 
@@ -111,7 +111,7 @@ module _ {x a : MachineState} {t t1 : ℕ} (e1 : Exits x a t t1 (pieces.store_st
           (store_then base Word (cells_at top) number a b t1 t2 storing1 stored1) in
           let k = c2.holds.keeps in
           let storing2 : Storing between Byte place byte (view c) = subst (λ (v : View). Storing between Byte place byte v) (sym e2.shows) (record {
-            changed = changed_again between (view b) (pieces.store_byte (view b)).left c2.holds.changed refl refl refl refl;
+            changed = changed_again between (view b) (pieces.store_fetched (view b)).left c2.holds.changed refl refl refl refl;
             bytes_are = refl;
             to_place = record {
               address = k.r10 ∙ ap (λ (v : View). v.r.r10) e1.shows ∙ h.address;
@@ -119,7 +119,7 @@ module _ {x a : MachineState} {t t1 : ℕ} (e1 : Exits x a t t1 (pieces.store_st
             };
             value = ap high (k.r12 ∙ ap (λ (v : View). v.r.r12) e1.shows ∙ h.byte_is) ∙ byte_back byte;
           }) in
-          let c3 : Comes 24 x c t t3 STORE (λ v. v ≡ (pieces.store_byte (view b)).left) =
+          let c3 : Comes 24 x c t t3 STORE (λ v. v ≡ (pieces.store_fetched (view b)).left) =
           comes_then 18 6 (comes_on 2 16 c1 c2 refl) e2 (record { within = omega arith; to_is = refl; holds = refl }) refl in
           let c4 : Comes most_of_store c d t3 t4 RESUME (ChangedFrom (with_value Byte place byte between) (view c)) =
           subst (λ (n : ℕ). Comes most_of_store c d t3 t4 n (ChangedFrom (with_value Byte place byte between) (view c))) (ap return_of e2.shows)

@@ -74,8 +74,8 @@ target_told v = record {
       (λ c. rw c refl);
 }
 
-pub read_target : (v : View) → IsView v → Leads (CALLN ∷ []) v GOCALL (pieces.read_target v)
-read_target v i = leads (CALLN ∷ []) (part_then (CALLN ∷ []) 2 0 14 (target_read v i) (target_told (with_target v)))
+pub read_call_target : (v : View) → IsView v → Leads (CALLN ∷ []) v GOCALL (pieces.read_call_target v)
+read_call_target v i = leads (CALLN ∷ []) (part_then (CALLN ∷ []) 2 0 14 (target_read v i) (target_told (with_target v)))
 
 pub find_next : (v : View) → Leads (CALLS ∷ []) v CALLN (pieces.find_next v)
 find_next v = record {
@@ -135,5 +135,5 @@ keep_stacked_next v = record { by = λ f q. refl }
 pub store_stacked : (v : View) → Leads (STORE ∷ []) v FETCHS (pieces.store_stacked v)
 store_stacked v = record { by = λ f q. refl }
 
-pub store_byte : (v : View) → Leads (STORE ∷ []) v FETCHD (pieces.store_byte v)
-store_byte v = record { by = λ f q. refl }
+pub store_fetched : (v : View) → Leads (STORE ∷ []) v FETCHD (pieces.store_fetched v)
+store_fetched v = record { by = λ f q. refl }

@@ -35,8 +35,8 @@ take_return v =
     )
 
 -- GOCALL: the word that follows is the target, if there is room for the next address on the stack.
-abbrev pub read_target : View → Exit
-read_target v =
+abbrev pub read_call_target : View → Exit
+read_call_target v =
     let second = past v.grom in
     let offset = offset_of (sum_of Word (join (slice_index v.cells RETURN_STACK) (low v.r.r7)) 0x0200) in
     let told = record v {
@@ -118,8 +118,8 @@ abbrev pub store_stacked : View → Exit
 store_stacked v = exit 2 STORE (record v { r = record v.r { r8 = 0; r11 = FETCHD } })
 
 -- FETCHD: STORE is asked for the byte, which goes to the operand's place.
-abbrev pub store_byte : View → Exit
-store_byte v =
+abbrev pub store_fetched : View → Exit
+store_fetched v =
     exit 6 STORE (record v {
       r = record v.r { r3 = 1; r7 = v.r.r10; r8 = v.r.r15; r9 = v.r.r12; r11 = RESUME };
     })

@@ -6,7 +6,7 @@ ghost use Rattle.sim_rows.specs.Prelude.{Turned, view};
 ghost use Rattle.sim_stack.specs.Family.{is_call};
 ghost use Rattle.sim_rows.specs.native_interp.declared.addresses.TheConstants as address;
 
-use crate::pieces::{find_next, read_target, store_next};
+use crate::pieces::{find_next, read_call_target, store_next};
 use sim_rows::labels::GSTOP;
 use sim_rows::processor::{Machine, Steps};
 use sim_rows::{Reason, Turn, end_row};
@@ -20,7 +20,7 @@ pub fn run_call<L: Ledger>(machine: &mut Machine, steps: &mut Steps<L>) -> Turn
     ensures { let s = state_at_dispatch (view machine.old) in
         Turned s most_to_dispatch machine.old machine.new steps.old steps.new result }
 {
-    read_target(machine, steps);
+    read_call_target(machine, steps);
     if machine.pc() == GSTOP {
         return Turn::Stopped(Reason::Stack);
     }

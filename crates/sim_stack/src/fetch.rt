@@ -9,7 +9,7 @@ ghost use Rattle.sim_rows.specs.sim_view.Bounds.{most_of_stack_row};
 
 use crate::pieces::{
     ask_byte, ask_stacked, keep_back, keep_byte, keep_place, keep_stacked_next, seek_stacked,
-    store_byte, store_stacked,
+    store_fetched, store_stacked,
 };
 use sim_jumps::resume_row;
 use sim_rows::labels::{FETCH, GSTOP, WHERE};
@@ -75,7 +75,7 @@ fn end_fetch<L: Ledger>(machine: &mut Machine, steps: &mut Steps<L>)
 {
     store_stacked(machine, steps);
     run_store(machine, steps);
-    store_byte(machine, steps);
+    store_fetched(machine, steps);
     run_store(machine, steps);
     resume_row(machine, steps);
 }

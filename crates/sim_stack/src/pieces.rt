@@ -11,9 +11,9 @@ use sim_rows::run_piece;
 use std::sync::ledger::Ledger;
 
 /// The piece of CALL that reads the address that follows and grows the stack's pointer, or stops by reason 3.
-pub fn read_target<L: Ledger>(machine: &mut Machine, steps: &mut Steps<L>)
+pub fn read_call_target<L: Ledger>(machine: &mut Machine, steps: &mut Steps<L>)
     requires { Stands machine.old address.GOCALL }
-    ensures { Exits machine.old machine.new steps.old steps.new (piece.read_target (view machine.old)) }
+    ensures { Exits machine.old machine.new steps.old steps.new (piece.read_call_target (view machine.old)) }
 {
     run_piece(machine, steps, &[CALLN]);
 }
@@ -100,9 +100,9 @@ pub fn store_stacked<L: Ledger>(machine: &mut Machine, steps: &mut Steps<L>)
 }
 
 /// The piece of FETCH that asks STORE for the byte.
-pub fn store_byte<L: Ledger>(machine: &mut Machine, steps: &mut Steps<L>)
+pub fn store_fetched<L: Ledger>(machine: &mut Machine, steps: &mut Steps<L>)
     requires { Stands machine.old address.FETCHD }
-    ensures { Exits machine.old machine.new steps.old steps.new (piece.store_byte (view machine.old)) }
+    ensures { Exits machine.old machine.new steps.old steps.new (piece.store_fetched (view machine.old)) }
 {
     run_piece(machine, steps, &[STORE]);
 }

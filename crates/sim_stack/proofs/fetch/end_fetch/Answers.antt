@@ -5,12 +5,13 @@ pub run_store-requires-clause-idle : goal.run_store-requires-clause-idle
 run_store-requires-clause-idle g c = Fetching.idle_first c.store_stacked.ensures c.requires.idle
 
 pub run_store-requires-2-clause-idle : goal.run_store-requires-2-clause-idle
-run_store-requires-2-clause-idle g c = Fetching.idle_second c.store_stacked.ensures c.run_store.ensures.value c.store_byte.ensures c.requires.idle
+run_store-requires-2-clause-idle g c = Fetching.idle_second c.store_stacked.ensures c.run_store.ensures.value c.store_fetched.ensures c.requires.idle
 
 pub resume_row-requires-clause-idle : goal.resume_row-requires-clause-idle
 resume_row-requires-clause-idle g c =
-    Fetching.idle_last c.store_stacked.ensures c.run_store.ensures.value c.store_byte.ensures c.requires.space c.run_store-2.ensures.value c.requires.idle
+    Fetching.idle_last c.store_stacked.ensures c.run_store.ensures.value c.store_fetched.ensures
+    c.requires.space c.run_store-2.ensures.value c.requires.idle
 
 pub returns : goal.returns
 returns g c =
-    Fetching.ends c.store_stacked.ensures c.run_store.ensures.value c.store_byte.ensures c.requires.space c.run_store-2.ensures.value _ _ c.resume_row.ensures
+    Fetching.ends c.store_stacked.ensures c.run_store.ensures.value c.store_fetched.ensures c.requires.space c.run_store-2.ensures.value _ _ c.resume_row.ensures

@@ -1,5 +1,0 @@
-use Rattle.sim_stack.proofs.Paths
-use Rattle.sim_stack.proofs.pieces.read_target.Goals as goal
-
-pub returns : goal.returns
-returns g c = Paths.piece c.requires (Paths.read_target _ (Paths.is_view _ c.requires.machine)) c.run_piece.ensures
