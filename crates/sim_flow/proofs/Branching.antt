@@ -80,9 +80,6 @@ tells s v false d e =
 abbrev passed : GplState → GplState
 passed s = record s { pc = behind s }
 
-abbrev changed : GplState → Bool → Changes
-changed s on = branched on (target s) (unchanged (passed s))
-
 abbrev changed_by : GplState → Bool → Changes
 changed_by s taken = with_condition false (if taken then unchanged (record s { pc = target s }) else unchanged (passed s))
 
@@ -98,11 +95,8 @@ module _ {s : GplState} {x a : MachineState} {t t1 : ℕ} (on : Bool) (is : oper
   abbrev taken : Bool
   taken = is_taken on (condition s)
 
-  bounds : IsView (view x)
-  bounds = is_view x stands.machine
-
   code_fits : code_byte s < 256
-  code_fits = subst (λ (l : List ℕ). slice_index l s.pc < 256) (ap (λ (g : GromState). g.image) d.sees.grom) (bounds.grom.image.fits s.pc)
+  code_fits = subst (λ (l : List ℕ). slice_index l s.pc < 256) (ap (λ (g : GromState). g.image) d.sees.grom) ((is_view x stands.machine).grom.image.fits s.pc)
 
   tested : Comes 6 x a t t1 (end_of taken) (told s taken)
   tested =
@@ -113,7 +107,7 @@ module _ {s : GplState} {x a : MachineState} {t t1 : ℕ} (on : Bool) (is : oper
   turns : {y : MachineState} {t2 most : ℕ} (c : Bool) → taken ≡ c → Comes most x y t t2 GSTEP (SeesFinished (changed_by s c)) → most ≤ 23 →
       Turned s most_to_dispatch x y t t2 Stepped
   turns {y = y} {t2 = t2} c e run le =
-      let same : changed s on ≡ changed_by s c = ap (changed_by s) e in
+      let same : branched on (target s) (unchanged (passed s)) ≡ changed_by s c = ap (changed_by s) e in
       let step_is = step_branch s on is ∙ ap (λ (c : Changes). Ok (finished c)) same in
       let m = bound_made s (finished (changed_by s c)) (Some (Branch on)) is step_is in
       turned_by x y t t2 29 Stepped s (Ok (finished (changed_by s c))) step_is

@@ -1,8 +1,9 @@
 -- What the pieces of EXIT, B, BR, BS and CASE come to: how many instructions they have, where they end, and what they
 -- change of the view, in the words of the processor. Registers, cells and ports that are not named stay.
 use Rattle.std.specs.Prelude.{◌==◌, if◌then◌else◌, slice_index}
-use Rattle.sim_rows.specs.Prelude.{BTARG, CASEN, CASET, CFALSE, exclusive_or_of, Exit, exit, GEXIT, GOTO, high, join, last_out}
-use Rattle.sim_rows.specs.Prelude.{low, past, SEEK, shifted, SLA, SRL, STATUS, sum_of, TAKE, View, WHERE, Word}
+use Rattle.sim_rows.specs.Prelude.{BTARG, CASEN, CASET, CFALSE, exclusive_or_of, Exit, exit, GEXIT, GOTO, high, join}
+use Rattle.sim_rows.specs.Prelude.{last_out, low, past, SEEK, shifted, SLA, SRL, STATUS, sum_of, TAKE, View}
+use Rattle.sim_rows.specs.Prelude.{WHERE, Word}
 
 -- GOEXIT.
 abbrev pub leave : View → Exit
