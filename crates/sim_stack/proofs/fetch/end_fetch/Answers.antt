@@ -14,4 +14,5 @@ resume_row-requires-clause-idle g c =
 
 pub returns : goal.returns
 returns g c =
-    Fetching.ends c.store_stacked.ensures c.run_store.ensures.value c.store_fetched.ensures c.requires.space c.run_store-2.ensures.value _ _ c.resume_row.ensures
+    Fetching.ends c.store_stacked.ensures c.run_store.ensures.value c.store_fetched.ensures c.requires.space c.run_store-2.ensures.value _ _
+    c.resume_row.ensures
