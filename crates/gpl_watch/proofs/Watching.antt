@@ -69,7 +69,7 @@ pub begun : (x : SessionState) (t : ℕ) (watched : List WatchedItem) → x.ende
 begun x t watched e h is = record {
   stepping =
       subst (λ (s : GplState). Stepping 0 s x.machine x.machine t t) (sym (seen_running x e))
-      (none_yet x.machine t (matches_of x e h));
+      (none_yet (matches_of x e h));
   running = e;
   kept = is;
   none = refl;
@@ -95,7 +95,7 @@ module _ (items : List Item) (x y z : SessionState) (t u v made : ℕ) (watched 
   before_is : seen y ≡ behind (seen x) made
   before_is =
       seen_running y p.running ∙ p.stepping.matches.shows
-      ∙ sym (last_is made (seen x) x.machine y.machine z.machine t u v p.stepping)
+      ∙ sym (last_is made p.stepping z.machine v)
 
   -- a turn from there
   abbrev pub Made : Turn → Type 0
@@ -110,7 +110,7 @@ module _ (items : List Item) (x y z : SessionState) (t u v made : ℕ) (watched 
     stops_run : (limit : ℕ) → made < limit → RunsTurns (seen x) limit x.machine z.machine t v made z.ended
     stops_run limit less =
         subst (RunsTurns (seen x) limit x.machine z.machine t v made) (sym (ended ∙ ap ended_by is))
-        (stopped made (seen x) x.machine y.machine z.machine t u v p.stepping limit reason less stops)
+        (stopped made p.stepping z.machine v limit reason less stops)
 
     pub stops_runs : (limit : ℕ) → made < limit → Watches limit x z t v result.None
     stops_runs limit less = within_run limit x z t v made (stops_run limit less)
@@ -128,7 +128,7 @@ module _ (items : List Item) (x y z : SessionState) (t u v made : ℕ) (watched 
   -- a step that is made
   module _ (turn : Turn) (is : turn ≡ Stepped) (turned : Made turn) (ended : z.ended ≡ ended_by turn) where
     more : Stepping (made + 1) (seen x) x.machine z.machine t v
-    more = stepped made (seen x) x.machine y.machine z.machine t u v p.stepping (subst Made is turned)
+    more = stepped made p.stepping z.machine v (subst Made is turned)
 
     runs_on : z.ended ≡ None
     runs_on = ended ∙ ap ended_by is
@@ -136,7 +136,7 @@ module _ (items : List Item) (x y z : SessionState) (t u v made : ℕ) (watched 
     after_is : seen z ≡ behind (seen x) (made + 1)
     after_is =
         seen_running z runs_on ∙ more.matches.shows
-        ∙ sym (last_is (made + 1) (seen x) x.machine z.machine z.machine t v v more)
+        ∙ sym (last_is (made + 1) more z.machine v)
 
     -- the hit of the step, if it has one, by the place of the item
     hit_by : ℕ → Found
@@ -166,7 +166,7 @@ module _ (items : List Item) (x y z : SessionState) (t u v made : ℕ) (watched 
         subst (Watches limit x z t v) (sym is) (
           within_bounds (made + 1) x z t v (made + 1)
               (subst (RunsTurns (seen x) (made + 1) x.machine z.machine t v (made + 1)) (sym runs_on)
-              (whole (made + 1) (seen x) x.machine z.machine t v more)),
+              (whole (made + 1) more)),
           runs_on,
         )
 
@@ -191,7 +191,7 @@ module _ (items : List Item) (limit made : ℕ) (x y : SessionState) (t u : ℕ)
   all_run : RunsTurns (seen x) limit x.machine y.machine t u limit y.ended
   all_run =
       subst (RunsTurns (seen x) limit x.machine y.machine t u limit) (sym all_made.running)
-      (whole limit (seen x) x.machine y.machine t u all_made.stepping)
+      (whole limit all_made.stepping)
 
   pub all_runs : Watches limit x y t u result.None
   all_runs = within_run limit x y t u limit all_run

@@ -53,7 +53,7 @@ pub record Playing (x y : SessionState) (t u made : ℕ) (o o' : SinkState) (kep
 pub begun : (x : SessionState) (t : ℕ) (o : SinkState) (kept : SeenState) → x.ended ≡ None → IsSession x.machine x.ended → kept ≡ seen_state (seen x) → Playing x x t t 0 o o kept
 unfolding step_lines
 begun x t o kept e h is = record {
-  stepping = subst (λ (s : GplState). Stepping 0 s x.machine x.machine t t) (sym (seen_running x e)) (none_yet x.machine t (matches_of x e h));
+  stepping = subst (λ (s : GplState). Stepping 0 s x.machine x.machine t t) (sym (seen_running x e)) (none_yet (matches_of x e h));
   running = e;
   kept_is = is;
   wrote = wrote_none o;
@@ -73,7 +73,7 @@ halted_by z w u v reason (Err other) t = same_seen (shown_by w.cpu.memory) (show
 module _ (x y z : SessionState) (t u v made : ℕ) (o o' : SinkState) (kept : SeenState) (p : Playing x y t u made o o' kept) where
   -- the state before the step
   before_is : seen y ≡ (run made (seen x)).last
-  before_is = seen_running y p.running ∙ p.stepping.matches.shows ∙ sym (last_is made (seen x) x.machine y.machine z.machine t u v p.stepping)
+  before_is = seen_running y p.running ∙ p.stepping.matches.shows ∙ sym (last_is made p.stepping z.machine v)
 
   -- a step that stops
   module _ (turn : Turn) (reason : Reason) (is : turn ≡ Stopped reason) (turned : Turned (shown_by y.machine.cpu.memory) 0 y.machine z.machine u v turn) (ended : z.ended ≡ ended_by turn) where
@@ -83,7 +83,7 @@ module _ (x y z : SessionState) (t u v made : ℕ) (o o' : SinkState) (kept : Se
     pub stops_whole : (limit : ℕ) → made < limit → PlaysWhole limit x z t v o o' made
     stops_whole limit less = record {
       runs = subst (RunsTurns (seen x) limit x.machine z.machine t v made) (sym (ended ∙ ap ended_by is))
-          (stopped made (seen x) x.machine y.machine z.machine t u v p.stepping limit reason less stops);
+          (stopped made p.stepping z.machine v limit reason less stops);
       wrote = p.wrote;
     }
 
@@ -93,13 +93,13 @@ module _ (x y z : SessionState) (t u v made : ℕ) (o o' : SinkState) (kept : Se
   -- a step that is made
   module _ (turn : Turn) (is : turn ≡ Stepped) (turned : Turned (shown_by y.machine.cpu.memory) 0 y.machine z.machine u v turn) (ended : z.ended ≡ ended_by turn) where
     more : Stepping (made + 1) (seen x) x.machine z.machine t v
-    more = stepped made (seen x) x.machine y.machine z.machine t u v p.stepping (subst (λ (a : Turn). Turned (shown_by y.machine.cpu.memory) 0 y.machine z.machine u v a) is turned)
+    more = stepped made p.stepping z.machine v (subst (λ (a : Turn). Turned (shown_by y.machine.cpu.memory) 0 y.machine z.machine u v a) is turned)
 
     runs_on : z.ended ≡ None
     runs_on = ended ∙ ap ended_by is
 
     after_is : seen z ≡ (run (made + 1) (seen x)).last
-    after_is = seen_running z runs_on ∙ more.matches.shows ∙ sym (last_is (made + 1) (seen x) x.machine z.machine z.machine t v v more)
+    after_is = seen_running z runs_on ∙ more.matches.shows ∙ sym (last_is (made + 1) more z.machine v)
 
     -- the line that was made is that of the step
     module _ (front line : List ℕ) (number : ℕ) (first : front ≡ step_front number (seen y)) (numbered : number ≡ made + 1)
@@ -129,7 +129,7 @@ module _ (x y z : SessionState) (t u v made : ℕ) (o o' : SinkState) (kept : Se
           record {
             shown = made;
             within = omega arith;
-            runs = whole (made + 1) (seen x) x.machine z.machine t v more;
+            runs = whole (made + 1) more;
             running = runs_on;
             between = o';
             wrote = p.wrote;
@@ -150,6 +150,6 @@ pub plays_whole : (limit made : ℕ) (x y : SessionState) (t u : ℕ) (o o' : Si
 plays_whole limit made x y t u o o' kept all p =
     let q : Playing x y t u limit o o' kept = subst (λ (m : ℕ). Playing x y t u m o o' kept) all p in
     record {
-      runs = subst (RunsTurns (seen x) limit x.machine y.machine t u limit) (sym q.running) (whole limit (seen x) x.machine y.machine t u q.stepping);
+      runs = subst (RunsTurns (seen x) limit x.machine y.machine t u limit) (sym q.running) (whole limit q.stepping);
       wrote = q.wrote;
     }
