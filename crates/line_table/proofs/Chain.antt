@@ -72,9 +72,9 @@ to_840 = with_block 800 40 164 11 to_800 lines_800
 to_880 : Front 880 185
 to_880 = with_block 840 40 175 10 to_840 lines_840
 
-to_903 : Front 903 189
-to_903 = with_block 880 23 185 4 to_880 lines_880
+to_904 : Front 904 189
+to_904 = with_block 880 24 185 4 to_880 lines_880
 
 -- all of them
 pub to_last : Front most name_count
-to_last = to_903
+to_last = to_904

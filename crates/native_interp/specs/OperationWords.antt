@@ -2,40 +2,40 @@
 -- The words of sums, logic, exchange, shifts, products, quotients and comparisons.
 use Rattle.std.specs.Prelude.{ℕ, List, [], ◌∷◌}
 
--- >24E4: INCTV
+-- >24E6: INCTV
 --     INCTV  A R6,R6
 abbrev pub inct : List ℕ
 inct =
     0xA186 ∷ []
 
--- >24E6: ADDV
+-- >24E8: ADDV
 --     ADDV   A R6,R9
 --            JMP STAT
 abbrev pub add : List ℕ
 add =
     0xA246 ∷ 0x1006 ∷ []
 
--- >24EA: DECTV
+-- >24EC: DECTV
 --     DECTV  A R6,R6
 abbrev pub dect : List ℕ
 dect =
     0xA186 ∷ []
 
--- >24EC: SUBV
+-- >24EE: SUBV
 --     SUBV   S R6,R9
 --            JMP STAT
 abbrev pub sub : List ℕ
 sub =
     0x6246 ∷ 0x1003 ∷ []
 
--- >24F0: ABSV
+-- >24F2: ABSV
 --     ABSV   ABS R9
 --            JMP STAT
 abbrev pub abs : List ℕ
 abs =
     0x0749 ∷ 0x1001 ∷ []
 
--- >24F4: NEGV, with STAT, where the status is kept
+-- >24F6: NEGV, with STAT, where the status is kept
 --     NEGV   NEG R9
 --     STAT   STST R12
 --            SRL R12,11
@@ -43,16 +43,16 @@ abs =
 --            BL @STORE
 abbrev pub neg : List ℕ
 neg =
-    0x0509 ∷ 0x02CC ∷ 0x09BC ∷ 0x0ABC ∷ 0x06A0 ∷ 0x23CE ∷ []
+    0x0509 ∷ 0x02CC ∷ 0x09BC ∷ 0x0ABC ∷ 0x06A0 ∷ 0x23D0 ∷ []
 
--- >2500: STATB, the status, behind the result
+-- >2502: STATB, the status, behind the result
 --     STATB  MOVB R12,@PAD+>7C
 --            B @SHOW
 abbrev pub set_status : List ℕ
 set_status =
-    0xD80C ∷ 0x837C ∷ 0x0460 ∷ 0x2492 ∷ []
+    0xD80C ∷ 0x837C ∷ 0x0460 ∷ 0x2494 ∷ []
 
--- >2508: ANDV
+-- >250A: ANDV
 --     ANDV   INV R6
 --            SZC R6,R9
 --            JMP STO
@@ -60,43 +60,43 @@ abbrev pub and_ones : List ℕ
 and_ones =
     0x0546 ∷ 0x4246 ∷ 0x10D9 ∷ []
 
--- >250E: ORV
+-- >2510: ORV
 --     ORV    SOC R6,R9
 --            JMP STO
 abbrev pub or_ones : List ℕ
 or_ones =
     0xE246 ∷ 0x10D7 ∷ []
 
--- >2512: XORV
+-- >2514: XORV
 --     XORV   XOR R6,R9
 --            JMP STO
 abbrev pub exclusive_or : List ℕ
 exclusive_or =
     0x2A46 ∷ 0x10D5 ∷ []
 
--- >2516: INVV
+-- >2518: INVV
 --     INVV   INV R9
 --            JMP STO
 abbrev pub inv : List ℕ
 inv =
     0x0549 ∷ 0x10D3 ∷ []
 
--- >251A: CLRV
+-- >251C: CLRV
 --     CLRV   CLR R9
 --            JMP STO
 abbrev pub clr : List ℕ
 clr =
     0x04C9 ∷ 0x10D1 ∷ []
 
--- >251E: EXV
+-- >2520: EXV
 --     EXV    MOV R9,R12
 --            MOV R6,R9
 --            BL @STORE
 abbrev pub ex : List ℕ
 ex =
-    0xC309 ∷ 0xC246 ∷ 0x06A0 ∷ 0x23CE ∷ []
+    0xC309 ∷ 0xC246 ∷ 0x06A0 ∷ 0x23D0 ∷ []
 
--- >2526: EXB, the source of EX
+-- >2528: EXB, the source of EX
 --     EXB    MOV R2,R7
 --            MOV R5,R8
 --            MOV R12,R9
@@ -105,7 +105,7 @@ abbrev pub ex_source : List ℕ
 ex_source =
     0xC1C2 ∷ 0xC205 ∷ 0xC24C ∷ 0x10C9 ∷ []
 
--- >252E: COUNT
+-- >2530: COUNT
 --     COUNT  MOV R6,R0
 --            CI R3,1
 --            JNE COUNTW
@@ -119,52 +119,52 @@ count =
     0xC006 ∷ 0x0283 ∷ 0x0001 ∷ 0x1601 ∷ 0x06C0 ∷ 0x0AC0 ∷ 0x09C0 ∷ 0x13C1 ∷
     0x045B ∷ []
 
--- >2540: SRAV
+-- >2542: SRAV
 --     SRAV   BL @COUNT
 abbrev pub sra : List ℕ
 sra =
-    0x06A0 ∷ 0x252E ∷ []
+    0x06A0 ∷ 0x2530 ∷ []
 
--- >2544: SRAB, the value of SRA
+-- >2546: SRAB, the value of SRA
 --     SRAB   SRA R9,0
 --            JMP STO
 abbrev pub sra_value : List ℕ
 sra_value =
     0x0809 ∷ 0x10BC ∷ []
 
--- >2548: SLLV
+-- >254A: SLLV
 --     SLLV   BL @COUNT
 abbrev pub sll : List ℕ
 sll =
-    0x06A0 ∷ 0x252E ∷ []
+    0x06A0 ∷ 0x2530 ∷ []
 
--- >254C: SLLB, the value of SLL
+-- >254E: SLLB, the value of SLL
 --     SLLB   SLA R9,0
 --            JMP STO
 abbrev pub sll_value : List ℕ
 sll_value =
     0x0A09 ∷ 0x10B8 ∷ []
 
--- >2550: SRLV
+-- >2552: SRLV
 --     SRLV   BL @COUNT
 abbrev pub srl : List ℕ
 srl =
-    0x06A0 ∷ 0x252E ∷ []
+    0x06A0 ∷ 0x2530 ∷ []
 
--- >2554: SRLB, the value of SRL
+-- >2556: SRLB, the value of SRL
 --     SRLB   SRL R9,0
 --            JMP STO
 abbrev pub srl_value : List ℕ
 srl_value =
     0x0909 ∷ 0x10B4 ∷ []
 
--- >2558: SRCV
+-- >255A: SRCV
 --     SRCV   BL @COUNT
 abbrev pub src : List ℕ
 src =
-    0x06A0 ∷ 0x252E ∷ []
+    0x06A0 ∷ 0x2530 ∷ []
 
--- >255C: SRCB, the value of SRC
+-- >255E: SRCB, the value of SRC
 --     SRCB   CI R3,1
 --            JNE SRCW
 --            MOV R9,R4
@@ -176,7 +176,7 @@ abbrev pub src_value : List ℕ
 src_value =
     0x0283 ∷ 0x0001 ∷ 0x1603 ∷ 0xC109 ∷ 0x06C4 ∷ 0xE244 ∷ 0x0B09 ∷ 0x10AA ∷ []
 
--- >256C: WIDE
+-- >256E: WIDE
 --     WIDE   MOV R0,R3
 --            SLA R3,15
 --            SRL R3,14
@@ -191,10 +191,10 @@ src_value =
 --            B @OPSTWO
 abbrev pub wide : List ℕ
 wide =
-    0xC0C0 ∷ 0x0AF3 ∷ 0x09E3 ∷ 0x05C3 ∷ 0x04CD ∷ 0x06A0 ∷ 0x22FC ∷ 0xC1C2 ∷
-    0xC205 ∷ 0x06A0 ∷ 0x2378 ∷ 0xC246 ∷ 0x0913 ∷ 0x0460 ∷ 0x2478 ∷ []
+    0xC0C0 ∷ 0x0AF3 ∷ 0x09E3 ∷ 0x05C3 ∷ 0x04CD ∷ 0x06A0 ∷ 0x22FE ∷ 0xC1C2 ∷
+    0xC205 ∷ 0x06A0 ∷ 0x237A ∷ 0xC246 ∷ 0x0913 ∷ 0x0460 ∷ 0x247A ∷ []
 
--- >258A: MULV
+-- >258C: MULV
 --     MULV   CI R3,1
 --            JNE MULW
 --            SRL R9,8
@@ -207,9 +207,9 @@ wide =
 abbrev pub mul : List ℕ
 mul =
     0x0283 ∷ 0x0001 ∷ 0x1606 ∷ 0x0989 ∷ 0x0A89 ∷ 0x3A46 ∷ 0x0203 ∷ 0x0002 ∷
-    0x1092 ∷ 0x3A46 ∷ 0x06A0 ∷ 0x23CE ∷ []
+    0x1092 ∷ 0x3A46 ∷ 0x06A0 ∷ 0x23D0 ∷ []
 
--- >25A2: MULB, the low word of a product
+-- >25A4: MULB, the low word of a product
 --     MULB   INCT R7
 --            MOV R10,R9
 --            JMP STO
@@ -217,7 +217,7 @@ abbrev pub mul_low : List ℕ
 mul_low =
     0x05C7 ∷ 0xC24A ∷ 0x108C ∷ []
 
--- >25A8: DIVV
+-- >25AA: DIVV
 --     DIVV   C R9,R6
 --            JHE OVER
 --            CI R3,1
@@ -226,7 +226,7 @@ abbrev pub div : List ℕ
 div =
     0x8189 ∷ 0x1420 ∷ 0x0283 ∷ 0x0001 ∷ 0x1609 ∷ []
 
--- >25B2: DIVBY, DIV of bytes
+-- >25B4: DIVBY, DIV of bytes
 --     DIVBY  MOV R9,R10
 --            CLR R9
 --            SRL R6,8
@@ -240,7 +240,7 @@ div_byte =
     0xC289 ∷ 0x04C9 ∷ 0x0986 ∷ 0x3E46 ∷ 0x06C9 ∷ 0xA24A ∷ 0x0203 ∷ 0x0002 ∷
     0x100C ∷ []
 
--- >25C4: DIVW, DIV of words
+-- >25C6: DIVW, DIV of words
 --     DIVW   MOV R6,R12
 --            MOV R7,R2
 --            INCT R2
@@ -248,38 +248,38 @@ div_byte =
 --            BL @LOAD
 abbrev pub div_word : List ℕ
 div_word =
-    0xC306 ∷ 0xC087 ∷ 0x05C2 ∷ 0xC148 ∷ 0x06A0 ∷ 0x2378 ∷ []
+    0xC306 ∷ 0xC087 ∷ 0x05C2 ∷ 0xC148 ∷ 0x06A0 ∷ 0x237A ∷ []
 
--- >25D0: DIVL, its second word
+-- >25D2: DIVL, its second word
 --     DIVL   MOV R6,R10
 --            DIV R12,R9
 --            BL @STORE
 abbrev pub div_loaded : List ℕ
 div_loaded =
-    0xC286 ∷ 0x3E4C ∷ 0x06A0 ∷ 0x23CE ∷ []
+    0xC286 ∷ 0x3E4C ∷ 0x06A0 ∷ 0x23D0 ∷ []
 
--- >25D8: DIVQ, its remainder
+-- >25DA: DIVQ, its remainder
 --     DIVQ   INCT R7
 --            MOV R10,R9
 abbrev pub div_remainder : List ℕ
 div_remainder =
     0x05C7 ∷ 0xC24A ∷ []
 
--- >25DC: DIVS, the last word of DIV
+-- >25DE: DIVS, the last word of DIV
 --     DIVS   BL @STORE
 abbrev pub div_store : List ℕ
 div_store =
-    0x06A0 ∷ 0x23CE ∷ []
+    0x06A0 ∷ 0x23D0 ∷ []
 
--- >25E0: DIVE, the end of DIV
+-- >25E2: DIVE, the end of DIV
 --     DIVE   LI R4,>0800
 --            SZCB R4,@PAD+>7C
 --            B @SHOW
 abbrev pub div_end : List ℕ
 div_end =
-    0x0204 ∷ 0x0800 ∷ 0x5804 ∷ 0x837C ∷ 0x0460 ∷ 0x2492 ∷ []
+    0x0204 ∷ 0x0800 ∷ 0x5804 ∷ 0x837C ∷ 0x0460 ∷ 0x2494 ∷ []
 
--- >25EC: OVER, DIV without a quotient
+-- >25EE: OVER, DIV without a quotient
 --     OVER   LI R4,>0800
 --            SOCB R4,@PAD+>7C
 --            B @GSTEP
@@ -287,7 +287,7 @@ abbrev pub over : List ℕ
 over =
     0x0204 ∷ 0x0800 ∷ 0xF804 ∷ 0x837C ∷ 0x0460 ∷ 0x228C ∷ []
 
--- >25F8: CHV
+-- >25FA: CHV
 --     CHV    C R9,R6
 --            JH CTRUE
 --            JMP CFALSE
@@ -295,7 +295,7 @@ abbrev pub ch : List ℕ
 ch =
     0x8189 ∷ 0x1B27 ∷ 0x102C ∷ []
 
--- >25FE: CHEV
+-- >2600: CHEV
 --     CHEV   C R9,R6
 --            JHE CTRUE
 --            JMP CFALSE
@@ -303,7 +303,7 @@ abbrev pub che : List ℕ
 che =
     0x8189 ∷ 0x1424 ∷ 0x1029 ∷ []
 
--- >2604: CGTV
+-- >2606: CGTV
 --     CGTV   C R9,R6
 --            JGT CTRUE
 --            JMP CFALSE
@@ -311,7 +311,7 @@ abbrev pub cgt : List ℕ
 cgt =
     0x8189 ∷ 0x1521 ∷ 0x1026 ∷ []
 
--- >260A: CGEV
+-- >260C: CGEV
 --     CGEV   C R6,R9
 --            JGT CFALSE
 --            JMP CTRUE
@@ -319,7 +319,7 @@ abbrev pub cge : List ℕ
 cge =
     0x8246 ∷ 0x1524 ∷ 0x101D ∷ []
 
--- >2610: CEQV
+-- >2612: CEQV
 --     CEQV   C R9,R6
 --            JEQ CTRUE
 --            JMP CFALSE
@@ -327,7 +327,7 @@ abbrev pub ceq : List ℕ
 ceq =
     0x8189 ∷ 0x131B ∷ 0x1020 ∷ []
 
--- >2616: CLOGV
+-- >2618: CLOGV
 --     CLOGV  CZC R6,R9
 --            JEQ CTRUE
 --            JMP CFALSE
@@ -335,7 +335,7 @@ abbrev pub clog : List ℕ
 clog =
     0x2646 ∷ 0x1318 ∷ 0x101D ∷ []
 
--- >261C: CZV
+-- >261E: CZV
 --     CZV    MOV R9,R9
 --            JEQ CTRUE
 --            JMP CFALSE
@@ -343,7 +343,7 @@ abbrev pub cz : List ℕ
 cz =
     0xC249 ∷ 0x1315 ∷ 0x101A ∷ []
 
--- >2622: GOH
+-- >2624: GOH
 --     GOH    MOVB @PAD+>7C,R4
 --            SLA R4,1
 --            JOC CTRUE
@@ -352,7 +352,7 @@ abbrev pub test_h : List ℕ
 test_h =
     0xD120 ∷ 0x837C ∷ 0x0A14 ∷ 0x1810 ∷ 0x1015 ∷ []
 
--- >262C: GOGT
+-- >262E: GOGT
 --     GOGT   MOVB @PAD+>7C,R4
 --            SLA R4,2
 --            JOC CTRUE
@@ -361,7 +361,7 @@ abbrev pub test_gt : List ℕ
 test_gt =
     0xD120 ∷ 0x837C ∷ 0x0A24 ∷ 0x180B ∷ 0x1010 ∷ []
 
--- >2636: GOCARY
+-- >2638: GOCARY
 --     GOCARY MOVB @PAD+>7C,R4
 --            SLA R4,4
 --            JOC CTRUE
@@ -370,7 +370,7 @@ abbrev pub test_carry : List ℕ
 test_carry =
     0xD120 ∷ 0x837C ∷ 0x0A44 ∷ 0x1806 ∷ 0x100B ∷ []
 
--- >2640: GOOVF
+-- >2642: GOOVF
 --     GOOVF  MOVB @PAD+>7C,R4
 --            SLA R4,5
 --            JOC CTRUE
@@ -379,7 +379,7 @@ abbrev pub test_ovf : List ℕ
 test_ovf =
     0xD120 ∷ 0x837C ∷ 0x0A54 ∷ 0x1801 ∷ 0x1006 ∷ []
 
--- >264A: CTRUE, the condition holds
+-- >264C: CTRUE, the condition holds
 --     CTRUE  LI R4,>2000
 --            SOCB R4,@PAD+>7C
 --            B @GSTEP
@@ -387,7 +387,7 @@ abbrev pub condition_true : List ℕ
 condition_true =
     0x0204 ∷ 0x2000 ∷ 0xF804 ∷ 0x837C ∷ 0x0460 ∷ 0x228C ∷ []
 
--- >2656: CFALSE, it does not
+-- >2658: CFALSE, it does not
 --     CFALSE LI R4,>2000
 --            SZCB R4,@PAD+>7C
 --            B @GSTEP

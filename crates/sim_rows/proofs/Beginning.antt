@@ -1,10 +1,10 @@
 -- From the beginning of a step to its dispatch.
-use Rattle.std.proofs.Common.{ℕ, ◌+◌, ◌<◌, ◌∙◌, ◌≡◌, ◌≤◌, ap, arith, Bool, eqb, false, List, refl, slice_index, subst, sym, true}
+use Rattle.std.proofs.Common.{ℕ, ◌+◌, ◌<◌, ◌∙◌, ◌≡◌, ◌≤◌, ap, arith, Bool, eqb, false, if◌then◌else◌, List, refl, slice_index, subst, sym, true}
 use Rattle.std.proofs.lemmas.Bool.{agree_below_at, eqb-false, eqb-true}
 use Rattle.std.proofs.Math.Nat.{pos_of_ne-zero}
 use Rattle.sim_view.proofs.Common.{comes, Goes, pick}
 use Rattle.sim_rows.specs.Prelude.{Comes, Dispatched, even, Exit, exit, Exits, GplState, grom_at, GromState, INTERP, MachineState, next_in_grom, operation_at}
-use Rattle.sim_rows.specs.Prelude.{operation_entry, past, return_of, Sees, set_to, shifted, SLA, View, view}
+use Rattle.sim_rows.specs.Prelude.{low, operation_entry, past, return_of, Sees, set_to, shifted, SLA, View, view}
 use Rattle.sim_operands.proofs.Ready.{set_is}
 use Rattle.sim_operands.specs.Pieces.{one_if}
 use Rattle.sim_rows.specs.Pieces as pieces
@@ -29,6 +29,15 @@ back_is at h =
 pub one_at_most : (b : Bool) → one_if b ≤ 1
 one_at_most true = omega arith
 one_at_most false = omega arith
+
+-- how many instructions more the test takes
+tested_at_most : (counter : ℕ) → pieces.tested counter ≤ 4
+tested_at_most counter = by (low counter == 0) (pieces.at_first counter)
+  where
+    by : (a b : Bool) → (if a then 3 + one_if b else 0) ≤ 4
+    by true true = omega arith
+    by true false = omega arith
+    by false b = omega arith
 
 -- an exit of which all is known
 pub just : (e : Exit) (most to : ℕ) → e.count ≤ most → e.to ≡ to → Goes e most to (λ w. w ≡ e.left)
@@ -65,7 +74,7 @@ module _ (s : GplState) (v : View) (sees : Sees s s.pc v) (fits : s.pc < 65536) 
   abbrev by_code : ℕ → GromState → Exit
   by_code at set =
       let entry = slice_index INTERP (pieces.first_entry + set.fetched) in
-      exit (14 + one_if (pieces.at_first (next_in_grom s.pc))) (even entry)
+      exit (12 + pieces.tested (next_in_grom s.pc)) (even entry)
       (record v { r = record v.r { r0 = set.fetched; r1 = at; r4 = entry }; grom = past set })
 
   dispatch_is : pieces.dispatch v ≡ by_code s.pc (grom_at s.image s.pc)
@@ -76,7 +85,7 @@ module _ (s : GplState) (v : View) (sees : Sees s s.pc v) (fits : s.pc < 65536) 
 
   begun : Goes (by_code s.pc (grom_at s.image s.pc)) most_to_dispatch (operation_entry (operation_at code)) (Dispatched s)
   begun = record {
-    within = let one = one_at_most (pieces.at_first (next_in_grom s.pc)) in omega arith;
+    within = let most = tested_at_most (next_in_grom s.pc) in omega arith;
     to_is = entry_is code byte;
     holds = record {
       sees = record { cells = sees.cells; vdp = sees.vdp; registers = sees.registers; held = sees.held; grom = refl };

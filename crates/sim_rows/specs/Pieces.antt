@@ -25,6 +25,10 @@ read_once grom = (grom_address_read grom).1
 abbrev pub at_first : ℕ → Bool
 at_first counter = shifted SLA counter 3 == 0
 
+-- How many instructions more the test of the low 13 bits takes: it is made only where the low byte of the counter is 0.
+abbrev pub tested : ℕ → ℕ
+tested counter = if low counter == 0 then 3 + one_if (at_first counter) else 0
+
 -- the address before a counter, in its GROM
 abbrev pub address_before : ℕ → ℕ
 address_before counter =
@@ -37,7 +41,7 @@ dispatch v =
     let counter = v.grom.counter in
     let set = set_to (address_before counter) (read_once (read_once v.grom)) in
     let entry = slice_index INTERP (first_entry + set.fetched) in
-    exit (14 + one_if (at_first counter)) (even entry) (record v {
+    exit (12 + tested counter) (even entry) (record v {
       r = record v.r { r0 = set.fetched; r1 = address_before counter; r4 = entry };
       grom = past set;
     })

@@ -2,7 +2,7 @@
 
 /// The first lines of the interpreter's source: boot, the step and the stops, the routines, the operands and the
 /// end of a row, and ST, B and EXIT.
-pub const ROUTINE_LINES: [&str; 397] = [
+pub const ROUTINE_LINES: [&str; 398] = [
     "* The interpreter of GPL for the TMS9900.",
     "*",
     "* A byte stands in the high byte of a register, with 0 below it.",
@@ -167,9 +167,10 @@ pub const ROUTINE_LINES: [&str; 397] = [
     "       B @SEEK",
     "* GSTEP: a step begins. R1 is the address of the code byte, R0",
     "* the byte, for which GROM is set to R1 again, and TABLE",
-    "* says where to go. At most 15. Changes R0, R1, R4.",
+    "* says where to go. At most 16. Changes R0, R1, R4.",
     "GSTEP  MOVB @GRMRA,R1",
     "       MOVB @GRMRA,@R1LB",
+    "       JNE GBACK",
     "       MOV R1,R4",
     "       SLA R4,3",
     "       JNE GBACK",
