@@ -2,13 +2,13 @@
 //! Addresses in the interpreter. Profile: where the interpreter and its workspace stand.
 
 /// How many words the interpreter has.
-pub const WORD_COUNT: usize = 1195;
+pub const WORD_COUNT: usize = 1186;
 
 /// The interpreter's workspace: the address of its register 0.
 pub const WORKSPACE: u16 = 0x83E0;
 
 /// The address behind the interpreter's last word.
-pub const BEHIND: u16 = 0x2956;
+pub const BEHIND: u16 = 0x2944;
 
 /// Where the words of the interpreter begin.
 pub const ORIGIN: u16 = 0x2000;
@@ -22,467 +22,467 @@ pub const OPTAB: u16 = 0x2208;
 /// The interpreter begins here, with the entry of the GPL program in register 0.
 pub const GBOOT: u16 = 0x2274;
 
-/// Each step of GPL begins here.
-pub const GSTEP: u16 = 0x228C;
-
-/// The part of `GSTEP` that goes back to the code byte and reads it again.
-pub const GBACK: u16 = 0x22A0;
-
-/// The part of `GSTEP` that goes where the code byte leads.
-pub const GCODE: u16 = 0x22B2;
-
 /// Stops by reason 3.
-pub const STK: u16 = 0x22BC;
+pub const STK: u16 = 0x228C;
 
 /// Stops by reason 1.
-pub const UNKN: u16 = 0x22C2;
+pub const UNKN: u16 = 0x2292;
 
 /// Stops by reason 2.
-pub const BAD: u16 = 0x22C8;
+pub const BAD: u16 = 0x2298;
 
 /// A refused program stops here, with the reason in register 0 and the address of the code byte in register 1.
-pub const GSTOP: u16 = 0x22CC;
+pub const GSTOP: u16 = 0x229C;
 
 /// A program that leaves by EXIT stops here, with the address of the code byte in register 1.
-pub const GEXIT: u16 = 0x22CE;
+pub const GEXIT: u16 = 0x229E;
 
 /// Gives the address of the next GROM byte.
-pub const WHERE: u16 = 0x22D0;
+pub const WHERE: u16 = 0x22A0;
 
 /// Sets the GROM to an address.
-pub const SEEK: u16 = 0x22E8;
+pub const SEEK: u16 = 0x22B8;
 
 /// Reads the next GROM byte.
-pub const FETCH: u16 = 0x22F4;
+pub const FETCH: u16 = 0x22C4;
 
 /// Finds the place of an operand.
-pub const ADDR: u16 = 0x22FC;
+pub const ADDR: u16 = 0x22CC;
 
 /// The part of `ADDR` behind an address in one byte.
-pub const ASHORT: u16 = 0x2306;
+pub const ASHORT: u16 = 0x22D6;
 
 /// The part of `ADDR` for an address in more than one byte.
-pub const ALONG: u16 = 0x230E;
+pub const ALONG: u16 = 0x22DE;
 
 /// The part of `ADDR` for an address of 16 bits: its high byte.
-pub const AHIGH: u16 = 0x231C;
+pub const AHIGH: u16 = 0x22EC;
 
 /// The part of `ADDR` for the low byte of an address.
-pub const ALOW: u16 = 0x2320;
+pub const ALOW: u16 = 0x22F0;
 
 /// The part of `ADDR` behind the address: the pointer.
-pub const APTR: u16 = 0x2326;
+pub const APTR: u16 = 0x22F6;
 
 /// The part of `ADDR` behind the pointer: the index.
-pub const INDEX: u16 = 0x2342;
+pub const INDEX: u16 = 0x2312;
 
 /// The part of `INDEX` that reads where the index is.
-pub const INDEXR: u16 = 0x2348;
+pub const INDEXR: u16 = 0x2318;
 
 /// The part of `INDEX` that adds the word there.
-pub const INDEXW: u16 = 0x2354;
+pub const INDEXW: u16 = 0x2324;
 
 /// The part of `ADDR` behind the index: the space and the range.
-pub const ASPACE: u16 = 0x2360;
+pub const ASPACE: u16 = 0x2330;
 
 /// Loads a value from a place.
-pub const LOAD: u16 = 0x2378;
+pub const LOAD: u16 = 0x2348;
 
 /// The part of `LOAD` for a place in the cells.
-pub const LCELL: u16 = 0x237C;
+pub const LCELL: u16 = 0x234C;
 
 /// The part of `LOAD` for a place that is not in the cells.
-pub const LOTHER: u16 = 0x2390;
+pub const LOTHER: u16 = 0x2360;
 
 /// The part of `LOAD` that sets the video processor's address.
-pub const LVSET: u16 = 0x239C;
+pub const LVSET: u16 = 0x236C;
 
 /// The part of `LOAD` that reads video memory at the address that was set.
-pub const LDATA: u16 = 0x23A6;
+pub const LDATA: u16 = 0x2376;
 
 /// Loads a value from the bytes that follow in GROM.
-pub const STREAM: u16 = 0x23BA;
+pub const STREAM: u16 = 0x238A;
 
 /// Stores a value at a place.
-pub const STORE: u16 = 0x23CE;
+pub const STORE: u16 = 0x239E;
 
 /// The part of `STORE` behind the first byte of the cells.
-pub const SCELL: u16 = 0x23DE;
+pub const SCELL: u16 = 0x23AE;
 
 /// The part of `STORE` for a place that is not in the cells.
-pub const SOTHER: u16 = 0x23F4;
+pub const SOTHER: u16 = 0x23C4;
 
 /// The part of `STORE` that sets the video processor's address.
-pub const SVSET: u16 = 0x2404;
+pub const SVSET: u16 = 0x23D4;
 
 /// The part of `STORE` that writes video memory at the address that was set.
-pub const SDATA: u16 = 0x240E;
+pub const SDATA: u16 = 0x23DE;
 
 /// The part of `STORE` that sets a register of the video processor.
-pub const SREG: u16 = 0x2420;
+pub const SREG: u16 = 0x23F0;
 
 /// Loads the operands of a row and goes to it.
-pub const ROW: u16 = 0x2432;
+pub const ROW: u16 = 0x2402;
 
 /// The part of `ROW` behind the destination's place.
-pub const OPSDST: u16 = 0x2440;
+pub const OPSDST: u16 = 0x2410;
 
 /// The part of `ROW` behind the destination's value.
-pub const OPSVAL: u16 = 0x2448;
+pub const OPSVAL: u16 = 0x2418;
 
 /// The part of `ROW` that goes to the row.
-pub const GO: u16 = 0x245E;
+pub const GO: u16 = 0x242E;
 
 /// Loads the source of ST, and goes to its row.
-pub const STROW: u16 = 0x2466;
+pub const STROW: u16 = 0x2436;
 
 /// The part of `STROW` behind the destination's place.
-pub const STDST: u16 = 0x2474;
+pub const STDST: u16 = 0x2444;
 
 /// The part of `ROW` that finds the source.
-pub const OPSTWO: u16 = 0x2478;
+pub const OPSTWO: u16 = 0x2448;
 
 /// The part of `ROW` that loads the source from its place.
-pub const OPVAL: u16 = 0x248A;
-
-/// Ends a row that stored.
-pub const SHOW: u16 = 0x2492;
-
-/// The part of `SHOW` that puts the character on the screen.
-pub const SHOWN: u16 = 0x249A;
-
-/// The row of ST.
-pub const STV: u16 = 0x24BE;
-
-/// Stores the value of a row.
-pub const STO: u16 = 0x24C0;
-
-/// The instruction B.
-pub const GOB: u16 = 0x24C8;
-
-/// Goes on at an address.
-pub const GOTO: u16 = 0x24D2;
+pub const OPVAL: u16 = 0x245A;
 
 /// The instruction EXIT.
-pub const GOEXIT: u16 = 0x24E0;
+pub const GOEXIT: u16 = 0x2462;
 
 /// The row of INCT.
-pub const INCTV: u16 = 0x24E4;
+pub const INCTV: u16 = 0x2466;
 
 /// The row of ADD and INC.
-pub const ADDV: u16 = 0x24E6;
+pub const ADDV: u16 = 0x2468;
 
 /// The row of DECT.
-pub const DECTV: u16 = 0x24EA;
+pub const DECTV: u16 = 0x246C;
 
 /// The row of SUB and DEC.
-pub const SUBV: u16 = 0x24EC;
+pub const SUBV: u16 = 0x246E;
 
 /// The row of ABS.
-pub const ABSV: u16 = 0x24F0;
+pub const ABSV: u16 = 0x2472;
 
 /// The row of NEG, and the tail of all that set the status.
-pub const NEGV: u16 = 0x24F4;
+pub const NEGV: u16 = 0x2476;
 
 /// Sets the status, once the result is stored.
-pub const STATB: u16 = 0x2500;
+pub const STATB: u16 = 0x2482;
+
+/// Ends a row that stored.
+pub const SHOW: u16 = 0x2486;
+
+/// The part of `SHOW` that puts the character on the screen.
+pub const SHOWN: u16 = 0x248A;
+
+/// The instruction B.
+pub const GOB: u16 = 0x24AE;
+
+/// Goes on at an address.
+pub const GOTO: u16 = 0x24B8;
+
+/// Each step of GPL begins here.
+pub const GSTEP: u16 = 0x24C2;
+
+/// The part of `GSTEP` that goes back to the code byte and reads it again.
+pub const GBACK: u16 = 0x24D6;
+
+/// The part of `GSTEP` that goes where the code byte leads.
+pub const GCODE: u16 = 0x24E8;
+
+/// The row of ST.
+pub const STV: u16 = 0x24F2;
+
+/// Stores the value of a row.
+pub const STO: u16 = 0x24F4;
 
 /// The row of AND.
-pub const ANDV: u16 = 0x2508;
+pub const ANDV: u16 = 0x24FC;
 
 /// The row of OR.
-pub const ORV: u16 = 0x250E;
+pub const ORV: u16 = 0x2502;
 
 /// The row of XOR.
-pub const XORV: u16 = 0x2512;
+pub const XORV: u16 = 0x2506;
 
 /// The row of INV.
-pub const INVV: u16 = 0x2516;
+pub const INVV: u16 = 0x250A;
 
 /// The row of CLR.
-pub const CLRV: u16 = 0x251A;
+pub const CLRV: u16 = 0x250E;
 
 /// The row of EX.
-pub const EXV: u16 = 0x251E;
+pub const EXV: u16 = 0x2512;
 
 /// Stores the old destination of EX at the source, once the source is stored.
-pub const EXB: u16 = 0x2526;
+pub const EXB: u16 = 0x251A;
 
 /// Gives the count of a shift.
-pub const COUNT: u16 = 0x252E;
+pub const COUNT: u16 = 0x2522;
 
 /// The row of SRA.
-pub const SRAV: u16 = 0x2540;
+pub const SRAV: u16 = 0x2534;
 
 /// Shifts the value of SRA by its count.
-pub const SRAB: u16 = 0x2544;
+pub const SRAB: u16 = 0x2538;
 
 /// The row of SLL.
-pub const SLLV: u16 = 0x2548;
+pub const SLLV: u16 = 0x253C;
 
 /// Shifts the value of SLL by its count.
-pub const SLLB: u16 = 0x254C;
+pub const SLLB: u16 = 0x2540;
 
 /// The row of SRL.
-pub const SRLV: u16 = 0x2550;
+pub const SRLV: u16 = 0x2544;
 
 /// Shifts the value of SRL by its count.
-pub const SRLB: u16 = 0x2554;
+pub const SRLB: u16 = 0x2548;
 
 /// The row of SRC.
-pub const SRCV: u16 = 0x2558;
+pub const SRCV: u16 = 0x254C;
 
 /// Turns the value of SRC by its count.
-pub const SRCB: u16 = 0x255C;
+pub const SRCB: u16 = 0x2550;
 
 /// Loads the operands of MUL and DIV and goes to their row.
-pub const WIDE: u16 = 0x256C;
+pub const WIDE: u16 = 0x2560;
 
 /// The part of `WIDE` behind the destination's place.
-pub const WIDDST: u16 = 0x257A;
+pub const WIDDST: u16 = 0x256E;
 
 /// The part of `WIDE` behind the destination's value.
-pub const WIDVAL: u16 = 0x2582;
+pub const WIDVAL: u16 = 0x2576;
 
 /// The row of MUL.
-pub const MULV: u16 = 0x258A;
+pub const MULV: u16 = 0x257E;
 
 /// Stores the low word of a product, once the high word is stored.
-pub const MULB: u16 = 0x25A2;
+pub const MULB: u16 = 0x2596;
 
 /// The row of DIV.
-pub const DIVV: u16 = 0x25A8;
+pub const DIVV: u16 = 0x259C;
 
 /// The part of DIV for bytes.
-pub const DIVBY: u16 = 0x25B2;
+pub const DIVBY: u16 = 0x25A6;
 
 /// The part of DIV for words.
-pub const DIVW: u16 = 0x25C4;
+pub const DIVW: u16 = 0x25B8;
 
 /// The part of DIV for words, once the second word of the destination is loaded.
-pub const DIVL: u16 = 0x25D0;
+pub const DIVL: u16 = 0x25C4;
 
 /// Takes the remainder of a DIV of words, once the quotient is stored.
-pub const DIVQ: u16 = 0x25D8;
+pub const DIVQ: u16 = 0x25CC;
 
 /// Stores the last word of DIV.
-pub const DIVS: u16 = 0x25DC;
+pub const DIVS: u16 = 0x25D0;
 
 /// Ends DIV, once all is stored: the overflow is cleared.
-pub const DIVE: u16 = 0x25E0;
+pub const DIVE: u16 = 0x25D4;
 
 /// Ends a DIV whose quotient does not fit: the overflow is set.
-pub const OVER: u16 = 0x25EC;
+pub const OVER: u16 = 0x25E0;
 
 /// The row of CH.
-pub const CHV: u16 = 0x25F8;
+pub const CHV: u16 = 0x25EC;
 
 /// The row of CHE.
-pub const CHEV: u16 = 0x25FE;
+pub const CHEV: u16 = 0x25F2;
 
 /// The row of CGT.
-pub const CGTV: u16 = 0x2604;
+pub const CGTV: u16 = 0x25F8;
 
 /// The row of CGE.
-pub const CGEV: u16 = 0x260A;
+pub const CGEV: u16 = 0x25FE;
 
 /// The row of CEQ.
-pub const CEQV: u16 = 0x2610;
+pub const CEQV: u16 = 0x2604;
 
 /// The row of CLOG.
-pub const CLOGV: u16 = 0x2616;
+pub const CLOGV: u16 = 0x260A;
 
 /// The row of CZ.
-pub const CZV: u16 = 0x261C;
+pub const CZV: u16 = 0x2610;
 
 /// The instruction H.
-pub const GOH: u16 = 0x2622;
+pub const GOH: u16 = 0x2616;
 
 /// The instruction GT.
-pub const GOGT: u16 = 0x262C;
+pub const GOGT: u16 = 0x2620;
 
 /// The instruction CARRY.
-pub const GOCARY: u16 = 0x2636;
+pub const GOCARY: u16 = 0x262A;
 
 /// The instruction OVF.
-pub const GOOVF: u16 = 0x2640;
+pub const GOOVF: u16 = 0x2634;
 
 /// Sets the condition.
-pub const CTRUE: u16 = 0x264A;
-
-/// Clears the condition.
-pub const CFALSE: u16 = 0x2656;
+pub const CTRUE: u16 = 0x263E;
 
 /// The instructions BR and BS.
-pub const BRANCH: u16 = 0x2662;
+pub const BRANCH: u16 = 0x264A;
+
+/// Clears the condition.
+pub const CFALSE: u16 = 0x265A;
 
 /// The part of BR and BS that makes the address of their target.
-pub const BTARG: u16 = 0x2674;
+pub const BTARG: u16 = 0x2666;
 
 /// Clears the condition and goes on at an address.
-pub const TAKE: u16 = 0x2688;
+pub const TAKE: u16 = 0x267A;
 
 /// The row of CASE.
-pub const CASEV: u16 = 0x2694;
+pub const CASEV: u16 = 0x2686;
 
 /// The part of CASE behind the next address.
-pub const CASEN: u16 = 0x26A0;
+pub const CASEN: u16 = 0x2692;
 
 /// Goes on in the table of CASE.
-pub const CASET: u16 = 0x26A8;
+pub const CASET: u16 = 0x269A;
 
 /// The row of PUSH.
-pub const PUSHV: u16 = 0x26AC;
+pub const PUSHV: u16 = 0x269E;
 
 /// Goes to the stop by reason 3.
-pub const FULL: u16 = 0x26CA;
+pub const FULL: u16 = 0x26BC;
 
 /// The instruction CALL.
-pub const GOCALL: u16 = 0x26CE;
+pub const GOCALL: u16 = 0x26C0;
 
 /// The part of CALL behind its target: the pointer of the stack.
-pub const CALLT: u16 = 0x26D8;
+pub const CALLT: u16 = 0x26CA;
 
 /// Tells the next address, which CALL stacks.
-pub const CALLN: u16 = 0x26E8;
+pub const CALLN: u16 = 0x26DA;
 
 /// Stores the pointer and the address of CALL.
-pub const CALLS: u16 = 0x26FE;
-
-/// Ends FETCH and a MOVE out of GROM: goes on at the address that was kept.
-pub const RESUME: u16 = 0x272C;
+pub const CALLS: u16 = 0x26F0;
 
 /// The instructions RTN and RTNC.
-pub const GORTN: u16 = 0x273A;
+pub const GORTN: u16 = 0x271E;
 
 /// The part of RTN and RTNC that takes the word off the stack.
-pub const RTNW: u16 = 0x2746;
+pub const RTNW: u16 = 0x272A;
 
 /// The row of FETCH.
-pub const FETCHV: u16 = 0x2760;
+pub const FETCHV: u16 = 0x2744;
 
 /// The part of FETCH behind the next address.
-pub const FETCHN: u16 = 0x2774;
+pub const FETCHN: u16 = 0x2758;
 
 /// Loads the stacked address of FETCH.
-pub const FETCHP: u16 = 0x277A;
+pub const FETCHP: u16 = 0x275E;
 
 /// Sets the GROM to the stacked address.
-pub const FETCHA: u16 = 0x2786;
+pub const FETCHA: u16 = 0x276A;
 
 /// Reads the byte of FETCH.
-pub const FETCHR: u16 = 0x278A;
+pub const FETCHR: u16 = 0x276E;
 
 /// Keeps the byte of FETCH.
-pub const FETCHK: u16 = 0x278E;
+pub const FETCHK: u16 = 0x2772;
 
 /// The part of FETCH behind the address that follows its byte.
-pub const FETCHB: u16 = 0x2794;
+pub const FETCHB: u16 = 0x2778;
 
 /// Stores the address that follows the byte of FETCH.
-pub const FETCHS: u16 = 0x279A;
+pub const FETCHS: u16 = 0x277E;
 
 /// Stores the byte of FETCH.
-pub const FETCHD: u16 = 0x27A0;
+pub const FETCHD: u16 = 0x2784;
 
 /// The instruction RAND.
-pub const GORAND: u16 = 0x27B2;
+pub const GORAND: u16 = 0x2796;
 
 /// The part of RAND that makes the next seed.
-pub const RANDM: u16 = 0x27BC;
+pub const RANDM: u16 = 0x27A0;
 
 /// The part of RAND behind the seed: the limit.
-pub const RANDL: u16 = 0x27D0;
+pub const RANDL: u16 = 0x27B4;
 
 /// Stops by reason 4.
-pub const LONG: u16 = 0x27E6;
+pub const LONG: u16 = 0x27CA;
 
 /// The instruction MOVE.
-pub const GOMOVE: u16 = 0x27EE;
+pub const GOMOVE: u16 = 0x27D2;
 
 /// Loads the length of MOVE.
-pub const MOVEN: u16 = 0x2802;
+pub const MOVEN: u16 = 0x27E6;
 
 /// The part of MOVE behind its length: the target.
-pub const MOVEL: u16 = 0x2806;
+pub const MOVEL: u16 = 0x27EA;
 
 /// The part of MOVE behind its target: the source.
-pub const MOVED: u16 = 0x281A;
+pub const MOVED: u16 = 0x27FE;
 
 /// Begins the copy of MOVE.
-pub const MOVEB: u16 = 0x2828;
+pub const MOVEB: u16 = 0x280C;
 
 /// The part of `MOVEB` behind the mark.
-pub const MOVEP: u16 = 0x2840;
+pub const MOVEP: u16 = 0x2824;
 
 /// Copies a byte of MOVE from the cells to the cells.
-pub const COPYCC: u16 = 0x2850;
+pub const COPYCC: u16 = 0x2834;
 
 /// Sets the video processor's address to the source of MOVE.
-pub const SETR: u16 = 0x2858;
+pub const SETR: u16 = 0x283C;
 
 /// Copies a byte of MOVE from video memory to the cells.
-pub const COPYVC: u16 = 0x2868;
+pub const COPYVC: u16 = 0x284C;
 
 /// Copies a byte of MOVE from GROM to the cells.
-pub const COPYGC: u16 = 0x2872;
+pub const COPYGC: u16 = 0x2856;
 
 /// Sets the video processor's address to the target of MOVE.
-pub const SETW: u16 = 0x287C;
+pub const SETW: u16 = 0x2860;
 
 /// The part of `SETW` that writes the address.
-pub const SETWA: u16 = 0x288C;
+pub const SETWA: u16 = 0x2870;
 
 /// Copies a byte of MOVE from the cells to video memory.
-pub const COPYCV: u16 = 0x289E;
+pub const COPYCV: u16 = 0x2882;
 
 /// Copies a byte of MOVE from GROM to video memory.
-pub const COPYGV: u16 = 0x28A8;
+pub const COPYGV: u16 = 0x288C;
 
 /// The part of `MOVEB` before bytes that LOAD and STORE copy.
-pub const COPYL: u16 = 0x28B4;
+pub const COPYL: u16 = 0x2898;
 
 /// Asks LOAD for a byte of MOVE.
-pub const COPY: u16 = 0x28B8;
+pub const COPY: u16 = 0x289C;
 
 /// Stores a byte of MOVE.
-pub const COPYS: u16 = 0x28BC;
+pub const COPYS: u16 = 0x28A0;
 
 /// Goes on to the next byte of MOVE.
-pub const COPYN: u16 = 0x28C2;
+pub const COPYN: u16 = 0x28A6;
 
 /// Ends the copy of MOVE.
-pub const COPYE: u16 = 0x28CA;
+pub const COPYE: u16 = 0x28AE;
+
+/// Ends FETCH and a MOVE out of GROM: goes on at the address that was kept.
+pub const RESUME: u16 = 0x28B8;
 
 /// The part of MOVE whose target is the registers of the video chip.
-pub const MOVER: u16 = 0x28D8;
+pub const MOVER: u16 = 0x28C6;
 
 /// The part of MOVE that tests whether all the registers are there.
-pub const MOVERC: u16 = 0x28E0;
+pub const MOVERC: u16 = 0x28CE;
 
 /// The part of MOVE whose source is in GROM.
-pub const MOVES: u16 = 0x28EE;
+pub const MOVES: u16 = 0x28DC;
 
 /// Adds the index to that source's address.
-pub const MOVEA: u16 = 0x28F6;
+pub const MOVEA: u16 = 0x28E4;
 
 /// Asks for the address behind MOVE.
-pub const MOVEX: u16 = 0x2906;
+pub const MOVEX: u16 = 0x28F4;
 
 /// Keeps that address, and sets the GROM to the source.
-pub const MOVEW: u16 = 0x290A;
+pub const MOVEW: u16 = 0x28F8;
 
 /// Turns to the bytes that follow there.
-pub const MOVEK: u16 = 0x2912;
+pub const MOVEK: u16 = 0x2900;
 
 /// Stops by reason 5.
-pub const NOREG: u16 = 0x2918;
+pub const NOREG: u16 = 0x2906;
 
 /// The instruction ALL.
-pub const GOALL: u16 = 0x2920;
+pub const GOALL: u16 = 0x290E;
 
 /// Stores a byte of ALL, or ends the step.
-pub const FILL: u16 = 0x2936;
+pub const FILL: u16 = 0x2924;
 
 /// The instruction BACK.
-pub const GOBACK: u16 = 0x2942;
+pub const GOBACK: u16 = 0x2930;

@@ -68,4 +68,4 @@ negate v = with_status_kept 5 (negation_of Word v.r.r9) (negation_flags Word v.r
 
 -- STATB: the kept status is stored.
 abbrev pub store_status : View → Exit
-store_status v = exit 2 SHOW (record v { cells = slice_set v.cells STATUS (high v.r.r12) })
+store_status v = exit 1 SHOW (record v { cells = slice_set v.cells STATUS (high v.r.r12) })

@@ -128,7 +128,7 @@ show v =
     let row = shifted SLA (shifted SRL (join (slice_index v.cells ROW) (low v.r.r7)) 8) 5 in
     let column = shifted SRL (join (slice_index v.cells COLUMN) (low v.r.r4)) 8 in
     if v.r.r13 == 0
-    then exit 3 GSTEP v
+    then exit 2 GSTEP v
     else exit 13 STORE (record v {
       r = record v.r {
         r3 = 1;

@@ -1,7 +1,7 @@
 //! The lines of MOVE, ALL and BACK.
 
 /// The last lines of the interpreter's source: MOVE, ALL and BACK.
-pub const COPY_LINES: [&str; 160] = [
+pub const COPY_LINES: [&str; 163] = [
     "* LONG: R0 becomes the reason; 2. Goes to GSTOP.",
     "LONG   LI R0,4",
     "       B @GSTOP",
@@ -103,9 +103,12 @@ pub const COPY_LINES: [&str; 160] = [
     "       DEC R12",
     "       JNE COPY",
     "COPYE  CI R5,2",
-    "       JEQ COPYR",
+    "       JEQ RESUME",
     "       B @SHOW",
-    "COPYR  B @RESUME",
+    "* RESUME: GROM goes on at R14. 3. Goes to SHOW.",
+    "RESUME MOVB R14,@GRMWA",
+    "       MOVB @R14LB,@GRMWA",
+    "       B @SHOW",
     "* MOVER: the target is the registers of the video chip from the",
     "* number on that follows. If one of them is not there, to NOREG.",
     "* At most 9. Changes R4, R7, R8. Goes to MOVES. MOVES: the",
