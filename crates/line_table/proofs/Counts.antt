@@ -4,11 +4,11 @@ use Rattle.std.proofs.Common.{ℕ}
 
 -- the lines
 abbrev pub line_count : ℕ
-line_count = 899
+line_count = 894
 
 -- the lines before the last
 abbrev pub most : ℕ
-most = 898
+most = 893
 
 -- the names
 abbrev pub name_count : ℕ

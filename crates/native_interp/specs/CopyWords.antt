@@ -197,7 +197,7 @@ resume =
 abbrev pub move_registers : List ℕ
 move_registers =
     0x04C7 ∷ 0xD1E0 ∷ 0x9800 ∷ 0x0987 ∷ 0xC107 ∷ 0xA106 ∷ 0x0284 ∷ 0x0008 ∷
-    0x1B17 ∷ 0x0208 ∷ 0x0002 ∷ []
+    0x1B16 ∷ 0x0208 ∷ 0x0002 ∷ []
 
 -- >28DC: MOVES, the source of MOVE in GROM
 --     MOVES  LI R3,2
@@ -209,22 +209,20 @@ move_grom =
 -- >28E4: MOVEA, its index
 --     MOVEA  MOV R6,R2
 --            MOV R0,R5
---            SRL R5,1
---            SLA R5,15
---            SRL R5,14
+--            ANDI R5,2
 --            INC R5
 --            BL @INDEX
 abbrev pub move_index : List ℕ
 move_index =
-    0xC086 ∷ 0xC140 ∷ 0x0915 ∷ 0x0AF5 ∷ 0x09E5 ∷ 0x0585 ∷ 0x06A0 ∷ 0x2312 ∷ []
+    0xC086 ∷ 0xC140 ∷ 0x0245 ∷ 0x0002 ∷ 0x0585 ∷ 0x06A0 ∷ 0x2312 ∷ []
 
--- >28F4: MOVEX, the address behind the instruction
+-- >28F2: MOVEX, the address behind the instruction
 --     MOVEX  BL @WHERE
 abbrev pub move_where : List ℕ
 move_where =
     0x06A0 ∷ 0x22A0 ∷ []
 
--- >28F8: MOVEW, GROM at the source
+-- >28F6: MOVEW, GROM at the source
 --     MOVEW  MOV R6,R14
 --            MOV R2,R6
 --            BL @SEEK
@@ -232,21 +230,21 @@ abbrev pub move_seek : List ℕ
 move_seek =
     0xC386 ∷ 0xC182 ∷ 0x06A0 ∷ 0x22B8 ∷ []
 
--- >2900: MOVEK, the bytes that follow there
+-- >28FE: MOVEK, the bytes that follow there
 --     MOVEK  LI R5,2
 --            JMP MOVEB
 abbrev pub move_stream : List ℕ
 move_stream =
-    0x0205 ∷ 0x0002 ∷ 0x1083 ∷ []
+    0x0205 ∷ 0x0002 ∷ 0x1084 ∷ []
 
--- >2906: NOREG, the stop by reason 5
+-- >2904: NOREG, the stop by reason 5
 --     NOREG  LI R0,5
 --            B @GSTOP
 abbrev pub register_stop : List ℕ
 register_stop =
     0x0200 ∷ 0x0005 ∷ 0x0460 ∷ 0x229C ∷ []
 
--- >290E: GOALL
+-- >290C: GOALL
 --     GOALL  MOVB @GRMRD,R9
 --            LI R4,>0040
 --            MOVB R4,@VDPWA
@@ -258,7 +256,7 @@ all =
     0xD260 ∷ 0x9800 ∷ 0x0204 ∷ 0x0040 ∷ 0xD804 ∷ 0x8C02 ∷ 0x06C4 ∷ 0xD804 ∷
     0x8C02 ∷ 0x020C ∷ 0x0300 ∷ []
 
--- >2924: FILL, a byte is filled, or the step ends
+-- >2922: FILL, a byte is filled, or the step ends
 --     FILL   MOVB R9,@VDPWD
 --            DEC R12
 --            JNE FILL
@@ -267,7 +265,7 @@ abbrev pub all_fill : List ℕ
 all_fill =
     0xD809 ∷ 0x8C00 ∷ 0x060C ∷ 0x16FC ∷ 0x0460 ∷ 0x24C2 ∷ []
 
--- >2930: GOBACK
+-- >292E: GOBACK
 --     GOBACK MOVB @GRMRD,R4
 --            MOVB R4,@VDPWA
 --            LI R4,>8700

@@ -131,8 +131,7 @@ index =
     0x1BBA ∷ 0xD1A4 ∷ 0x8300 ∷ 0xD824 ∷ 0x8301 ∷ 0x83ED ∷ 0xA086 ∷ []
 
 -- >2330: ASPACE, the space and the range of an operand
---     ASPACE SLA R5,15
---            SRL R5,15
+--     ASPACE ANDI R5,1
 --            JNE ADONE
 --     ACELLS CI R2,>C2
 --            JH BAD
@@ -143,7 +142,7 @@ index =
 --     ADONE  B *R11
 abbrev pub range : List ℕ
 range =
-    0x0AF5 ∷ 0x09F5 ∷ 0x1608 ∷ 0x0282 ∷ 0x00C2 ∷ 0x1BAE ∷ 0xC103 ∷ 0xA102 ∷
+    0x0245 ∷ 0x0001 ∷ 0x1608 ∷ 0x0282 ∷ 0x00C2 ∷ 0x1BAE ∷ 0xC103 ∷ 0xA102 ∷
     0x0284 ∷ 0x00C2 ∷ 0x1BA9 ∷ 0x045B ∷ []
 
 -- >2348: LOAD
@@ -245,8 +244,7 @@ store_register =
 
 -- >2402: ROW
 --     ROW    MOV R0,R3
---            SLA R3,15
---            SRL R3,15
+--            ANDI R3,1
 --            INC R3
 --            CLR R13
 --            BL @ADDR
@@ -262,7 +260,7 @@ store_register =
 --            LI R6,1
 abbrev pub row : List ℕ
 row =
-    0xC0C0 ∷ 0x0AF3 ∷ 0x09F3 ∷ 0x0583 ∷ 0x04CD ∷ 0x06A0 ∷ 0x22CC ∷ 0xC1C2 ∷
+    0xC0C0 ∷ 0x0243 ∷ 0x0001 ∷ 0x0583 ∷ 0x04CD ∷ 0x06A0 ∷ 0x22CC ∷ 0xC1C2 ∷
     0xC205 ∷ 0x06A0 ∷ 0x2348 ∷ 0xC246 ∷ 0x0280 ∷ 0x00A0 ∷ 0x1414 ∷ 0x0206 ∷
     0x0100 ∷ 0x0283 ∷ 0x0001 ∷ 0x1302 ∷ 0x0206 ∷ 0x0001 ∷ []
 
@@ -276,8 +274,7 @@ go_row =
 
 -- >2436: STROW
 --     STROW  MOV R0,R3
---            SLA R3,15
---            SRL R3,15
+--            ANDI R3,1
 --            INC R3
 --            CLR R13
 --            BL @ADDR
@@ -285,7 +282,7 @@ go_row =
 --            MOV R5,R8
 abbrev pub st_row : List ℕ
 st_row =
-    0xC0C0 ∷ 0x0AF3 ∷ 0x09F3 ∷ 0x0583 ∷ 0x04CD ∷ 0x06A0 ∷ 0x22CC ∷ 0xC1C2 ∷
+    0xC0C0 ∷ 0x0243 ∷ 0x0001 ∷ 0x0583 ∷ 0x04CD ∷ 0x06A0 ∷ 0x22CC ∷ 0xC1C2 ∷
     0xC205 ∷ []
 
 -- >2448: OPSTWO, the source of a row of two operands

@@ -2,13 +2,13 @@
 //! Addresses in the interpreter. Profile: where the interpreter and its workspace stand.
 
 /// How many words the interpreter has.
-pub const WORD_COUNT: usize = 1186;
+pub const WORD_COUNT: usize = 1185;
 
 /// The interpreter's workspace: the address of its register 0.
 pub const WORKSPACE: u16 = 0x83E0;
 
 /// The address behind the interpreter's last word.
-pub const BEHIND: u16 = 0x2944;
+pub const BEHIND: u16 = 0x2942;
 
 /// Where the words of the interpreter begin.
 pub const ORIGIN: u16 = 0x2000;
@@ -467,22 +467,22 @@ pub const MOVES: u16 = 0x28DC;
 pub const MOVEA: u16 = 0x28E4;
 
 /// Asks for the address behind MOVE.
-pub const MOVEX: u16 = 0x28F4;
+pub const MOVEX: u16 = 0x28F2;
 
 /// Keeps that address, and sets the GROM to the source.
-pub const MOVEW: u16 = 0x28F8;
+pub const MOVEW: u16 = 0x28F6;
 
 /// Turns to the bytes that follow there.
-pub const MOVEK: u16 = 0x2900;
+pub const MOVEK: u16 = 0x28FE;
 
 /// Stops by reason 5.
-pub const NOREG: u16 = 0x2906;
+pub const NOREG: u16 = 0x2904;
 
 /// The instruction ALL.
-pub const GOALL: u16 = 0x290E;
+pub const GOALL: u16 = 0x290C;
 
 /// Stores a byte of ALL, or ends the step.
-pub const FILL: u16 = 0x2924;
+pub const FILL: u16 = 0x2922;
 
 /// The instruction BACK.
-pub const GOBACK: u16 = 0x2930;
+pub const GOBACK: u16 = 0x292E;

@@ -120,7 +120,7 @@ pub const OPERATION_LINES: [&str; 230] = [
     "SRCW   SRC R9,0",
     "       JMP STO",
     "* WIDE: ROW for MUL and DIV. The destination has twice the",
-    "* width, and R9 is its first word. At most 129. Changes R2 to",
+    "* width, and R9 is its first word. At most 127. Changes R2 to",
     "* R9, R11, R13.",
     "WIDE   MOV R0,R3",
     "       SLA R3,15",
