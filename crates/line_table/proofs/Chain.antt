@@ -42,11 +42,11 @@ to_440 = with_block 400 40 79 12 to_400 lines_400
 to_480 : Front 480 103
 to_480 = with_block 440 40 91 12 to_440 lines_440
 
-to_520 : Front 520 109
-to_520 = with_block 480 40 103 6 to_480 lines_480
+to_520 : Front 520 110
+to_520 = with_block 480 40 103 7 to_480 lines_480
 
 to_560 : Front 560 122
-to_560 = with_block 520 40 109 13 to_520 lines_520
+to_560 = with_block 520 40 110 12 to_520 lines_520
 
 to_600 : Front 600 130
 to_600 = with_block 560 40 122 8 to_560 lines_560
@@ -72,9 +72,9 @@ to_840 = with_block 800 40 166 11 to_800 lines_800
 to_880 : Front 880 186
 to_880 = with_block 840 40 177 9 to_840 lines_840
 
-to_893 : Front 893 188
-to_893 = with_block 880 13 186 2 to_880 lines_880
+to_892 : Front 892 188
+to_892 = with_block 880 12 186 2 to_880 lines_880
 
 -- all of them
 pub to_last : Front most name_count
-to_last = to_893
+to_last = to_892

@@ -4,11 +4,11 @@ use Rattle.std.proofs.Common.{ℕ}
 
 -- the lines
 abbrev pub line_count : ℕ
-line_count = 894
+line_count = 893
 
 -- the lines before the last
 abbrev pub most : ℕ
-most = 893
+most = 892
 
 -- the names
 abbrev pub name_count : ℕ

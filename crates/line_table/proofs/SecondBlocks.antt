@@ -35,10 +35,10 @@ pub lines_440 : Block 440 40 91 12
 unfolding mnemonic form_of first_checks second_checks token_at tokens_from in_quotes operands_from fields registers directive statement_in said moved outcome
 lines_440 = refl
 
-pub lines_480 : Block 480 40 103 6
+pub lines_480 : Block 480 40 103 7
 unfolding mnemonic form_of first_checks second_checks token_at tokens_from in_quotes operands_from fields registers directive statement_in said moved outcome
 lines_480 = refl
 
-pub lines_520 : Block 520 40 109 13
+pub lines_520 : Block 520 40 110 12
 unfolding mnemonic form_of first_checks second_checks token_at tokens_from in_quotes operands_from fields registers directive statement_in said moved outcome
 lines_520 = refl

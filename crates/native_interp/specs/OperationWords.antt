@@ -38,12 +38,11 @@ abs =
 -- >2476: NEGV, with STAT, where the status is kept
 --     NEGV   NEG R9
 --     STAT   STST R12
---            SRL R12,11
---            SLA R12,11
+--            ANDI R12,>F800
 --            BL @STORE
 abbrev pub neg : List ℕ
 neg =
-    0x0509 ∷ 0x02CC ∷ 0x09BC ∷ 0x0ABC ∷ 0x06A0 ∷ 0x239E ∷ []
+    0x0509 ∷ 0x02CC ∷ 0x024C ∷ 0xF800 ∷ 0x06A0 ∷ 0x239E ∷ []
 
 -- >2482: STATB, the status, behind the result
 --     STATB  MOVB R12,@PAD+>7C

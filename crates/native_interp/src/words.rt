@@ -105,7 +105,7 @@ pub const INTERP: [u16; 1185] = [
     // ABSV
     0x0749, 0x1001,
     // NEGV, with STAT, where the status is kept
-    0x0509, 0x02CC, 0x09BC, 0x0ABC, 0x06A0, 0x239E,
+    0x0509, 0x02CC, 0x024C, 0xF800, 0x06A0, 0x239E,
     // STATB, the status, behind the result
     0xD80C, 0x837C,
     // SHOW

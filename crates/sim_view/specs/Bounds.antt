@@ -43,7 +43,7 @@ most_of_status = 46
 
 -- from the entry of a row to the end of its step
 abbrev pub most_of_alu_row : ℕ
-most_of_alu_row = 54
+most_of_alu_row = 52
 
 abbrev pub most_of_shift_row : ℕ
 most_of_shift_row = 63

@@ -2,10 +2,10 @@
 
 /// The next lines of the interpreter's source: the operations on one and two operands, with the end of a row and the
 /// step, and the tests of the status.
-pub const OPERATION_LINES: [&str; 230] = [
+pub const OPERATION_LINES: [&str; 229] = [
     "* INCT, ADD, INC, DECT, SUB, DEC, ABS, NEG: R12 keeps the status",
     "* while the result is stored. INCT, DECT double the 1 in R6. At",
-    "* most 7, then STORE. Changes R4, R6, R9, R11 to R13. STATB: the",
+    "* most 6, then STORE. Changes R4, R6, R9, R11 to R13. STATB: the",
     "* status of GPL is set. 1, then SHOW.",
     "INCTV  A R6,R6",
     "ADDV   A R6,R9",
@@ -17,8 +17,7 @@ pub const OPERATION_LINES: [&str; 230] = [
     "       JMP STAT",
     "NEGV   NEG R9",
     "STAT   STST R12",
-    "       SRL R12,11",
-    "       SLA R12,11",
+    "       ANDI R12,>F800",
     "       BL @STORE",
     "STATB  MOVB R12,@PAD+>7C",
     "* SHOW: a row that stored ends. The byte at >837D goes to the",
