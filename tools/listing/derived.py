@@ -5,8 +5,8 @@ NATIVE, TABLE = 'crates/native_interp', 'crates/line_table'
 WRITTEN = 'Written by tools/interpreter from crates/native_interp/src/source.'
 BLOCK, BLOCKS_IN_FILE = 40, 7
 ROWS = {
-    'routines': 'boot, the step, the routines, the operands of a row, the end of a row, ST, B and EXIT',
-    'operations': 'the operations on operands and the tests of the status',
+    'routines': 'boot, the stops, the routines, the operands of a row, and EXIT',
+    'operations': 'the operations on operands, the end of a row, the step, and the tests of the status',
     'flow': 'branches, the stacks and RAND',
     'copy': 'MOVE, ALL and BACK',
 }

@@ -7,11 +7,11 @@ use std::test::Fail;
 
 /// The first lines of the listing: GBOOT; then GBOOT, GSTEP, GSTOP, GEXIT and the first entries of the table by code
 /// byte.
-const FRONT: &[u8] = b"entry >2274\n>2000 2274 228C 22CE 22D0 273C 273C 27B4 22C4\n\
-      >2010 2944 24CA 26D0 2922 22C4 2624 262E 24E2\n";
+const FRONT: &[u8] = b"entry >2274\n>2000 2274 24C2 229C 229E 2720 2720 2798 2292\n\
+      >2010 2930 24AE 26C2 290E 2292 2618 2622 2462\n";
 
 /// The last line: the end of BACK.
-const END: &[u8] = b">2950 D804 8C02 0460 228C\n";
+const END: &[u8] = b">2940 24C2\n";
 
 /// Whether `interp` lists the interpreter, over a source whose first call would fail.
 fn is_listed(alloc: Global) -> Result<bool, AllocError> {

@@ -21,60 +21,60 @@ to_160 = with_block 120 40 17 2 to_120 lines_120
 to_200 : Front 200 29
 to_200 = with_block 160 40 19 10 to_160 lines_160
 
-to_240 : Front 240 38
-to_240 = with_block 200 40 29 9 to_200 lines_200
+to_240 : Front 240 40
+to_240 = with_block 200 40 29 11 to_200 lines_200
 
-to_280 : Front 280 48
-to_280 = with_block 240 40 38 10 to_240 lines_240
+to_280 : Front 280 50
+to_280 = with_block 240 40 40 10 to_240 lines_240
 
 to_320 : Front 320 58
-to_320 = with_block 280 40 48 10 to_280 lines_280
+to_320 = with_block 280 40 50 8 to_280 lines_280
 
-to_360 : Front 360 65
-to_360 = with_block 320 40 58 7 to_320 lines_320
+to_360 : Front 360 71
+to_360 = with_block 320 40 58 13 to_320 lines_320
 
-to_400 : Front 400 74
-to_400 = with_block 360 40 65 9 to_360 lines_360
+to_400 : Front 400 79
+to_400 = with_block 360 40 71 8 to_360 lines_360
 
-to_440 : Front 440 89
-to_440 = with_block 400 40 74 15 to_400 lines_400
+to_440 : Front 440 91
+to_440 = with_block 400 40 79 12 to_400 lines_400
 
-to_480 : Front 480 102
-to_480 = with_block 440 40 89 13 to_440 lines_440
+to_480 : Front 480 103
+to_480 = with_block 440 40 91 12 to_440 lines_440
 
-to_520 : Front 520 108
-to_520 = with_block 480 40 102 6 to_480 lines_480
+to_520 : Front 520 109
+to_520 = with_block 480 40 103 6 to_480 lines_480
 
-to_560 : Front 560 120
-to_560 = with_block 520 40 108 12 to_520 lines_520
+to_560 : Front 560 122
+to_560 = with_block 520 40 109 13 to_520 lines_520
 
-to_600 : Front 600 129
-to_600 = with_block 560 40 120 9 to_560 lines_560
+to_600 : Front 600 130
+to_600 = with_block 560 40 122 8 to_560 lines_560
 
-to_640 : Front 640 136
-to_640 = with_block 600 40 129 7 to_600 lines_600
+to_640 : Front 640 138
+to_640 = with_block 600 40 130 8 to_600 lines_600
 
 to_680 : Front 680 144
-to_680 = with_block 640 40 136 8 to_640 lines_640
+to_680 = with_block 640 40 138 6 to_640 lines_640
 
-to_720 : Front 720 154
-to_720 = with_block 680 40 144 10 to_680 lines_680
+to_720 : Front 720 155
+to_720 = with_block 680 40 144 11 to_680 lines_680
 
-to_760 : Front 760 159
-to_760 = with_block 720 40 154 5 to_720 lines_720
+to_760 : Front 760 161
+to_760 = with_block 720 40 155 6 to_720 lines_720
 
-to_800 : Front 800 164
-to_800 = with_block 760 40 159 5 to_760 lines_760
+to_800 : Front 800 166
+to_800 = with_block 760 40 161 5 to_760 lines_760
 
-to_840 : Front 840 175
-to_840 = with_block 800 40 164 11 to_800 lines_800
+to_840 : Front 840 177
+to_840 = with_block 800 40 166 11 to_800 lines_800
 
-to_880 : Front 880 185
-to_880 = with_block 840 40 175 10 to_840 lines_840
+to_880 : Front 880 186
+to_880 = with_block 840 40 177 9 to_840 lines_840
 
-to_904 : Front 904 189
-to_904 = with_block 880 24 185 4 to_880 lines_880
+to_893 : Front 893 188
+to_893 = with_block 880 13 186 2 to_880 lines_880
 
 -- all of them
 pub to_last : Front most name_count
-to_last = to_904
+to_last = to_893

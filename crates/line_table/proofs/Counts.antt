@@ -4,12 +4,12 @@ use Rattle.std.proofs.Common.{ℕ}
 
 -- the lines
 abbrev pub line_count : ℕ
-line_count = 905
+line_count = 894
 
 -- the lines before the last
 abbrev pub most : ℕ
-most = 904
+most = 893
 
 -- the names
 abbrev pub name_count : ℕ
-name_count = 189
+name_count = 188

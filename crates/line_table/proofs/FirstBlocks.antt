@@ -35,10 +35,10 @@ pub lines_160 : Block 160 40 19 10
 unfolding mnemonic form_of first_checks second_checks token_at tokens_from in_quotes operands_from fields registers directive statement_in said moved outcome
 lines_160 = refl
 
-pub lines_200 : Block 200 40 29 9
+pub lines_200 : Block 200 40 29 11
 unfolding mnemonic form_of first_checks second_checks token_at tokens_from in_quotes operands_from fields registers directive statement_in said moved outcome
 lines_200 = refl
 
-pub lines_240 : Block 240 40 38 10
+pub lines_240 : Block 240 40 40 10
 unfolding mnemonic form_of first_checks second_checks token_at tokens_from in_quotes operands_from fields registers directive statement_in said moved outcome
 lines_240 = refl

@@ -15,30 +15,30 @@ use Rattle.asm_defs.specs.FirstChecks.{said, moved}
 use Rattle.asm_defs.specs.SecondChecks.{outcome}
 use Rattle.line_table.proofs.Blocks.{Block}
 
-pub lines_280 : Block 280 40 48 10
+pub lines_280 : Block 280 40 50 8
 unfolding mnemonic form_of first_checks second_checks token_at tokens_from in_quotes operands_from fields registers directive statement_in said moved outcome
 lines_280 = refl
 
-pub lines_320 : Block 320 40 58 7
+pub lines_320 : Block 320 40 58 13
 unfolding mnemonic form_of first_checks second_checks token_at tokens_from in_quotes operands_from fields registers directive statement_in said moved outcome
 lines_320 = refl
 
-pub lines_360 : Block 360 40 65 9
+pub lines_360 : Block 360 40 71 8
 unfolding mnemonic form_of first_checks second_checks token_at tokens_from in_quotes operands_from fields registers directive statement_in said moved outcome
 lines_360 = refl
 
-pub lines_400 : Block 400 40 74 15
+pub lines_400 : Block 400 40 79 12
 unfolding mnemonic form_of first_checks second_checks token_at tokens_from in_quotes operands_from fields registers directive statement_in said moved outcome
 lines_400 = refl
 
-pub lines_440 : Block 440 40 89 13
+pub lines_440 : Block 440 40 91 12
 unfolding mnemonic form_of first_checks second_checks token_at tokens_from in_quotes operands_from fields registers directive statement_in said moved outcome
 lines_440 = refl
 
-pub lines_480 : Block 480 40 102 6
+pub lines_480 : Block 480 40 103 6
 unfolding mnemonic form_of first_checks second_checks token_at tokens_from in_quotes operands_from fields registers directive statement_in said moved outcome
 lines_480 = refl
 
-pub lines_520 : Block 520 40 108 12
+pub lines_520 : Block 520 40 109 13
 unfolding mnemonic form_of first_checks second_checks token_at tokens_from in_quotes operands_from fields registers directive statement_in said moved outcome
 lines_520 = refl

@@ -1,5 +1,5 @@
 -- Written by tools/interpreter from crates/native_interp/src/source.
--- The words of boot, the step, the routines, the operands of a row, the end of a row, ST, B and EXIT.
+-- The words of boot, the stops, the routines, the operands of a row, and EXIT.
 use Rattle.std.specs.Prelude.{ℕ, List, [], ◌∷◌}
 
 -- >2274: GBOOT
@@ -13,65 +13,41 @@ use Rattle.std.specs.Prelude.{ℕ, List, [], ◌∷◌}
 abbrev pub boot : List ℕ
 boot =
     0x0204 ∷ 0x9F7E ∷ 0xD804 ∷ 0x8372 ∷ 0x06C4 ∷ 0xD804 ∷ 0x8373 ∷ 0xC180 ∷
-    0x020B ∷ 0x228C ∷ 0x0460 ∷ 0x22EA ∷ []
+    0x020B ∷ 0x24C2 ∷ 0x0460 ∷ 0x22B8 ∷ []
 
--- >228C: GSTEP
---     GSTEP  MOVB @GRMRA,R1
---            MOVB @GRMRA,@R1LB
---            JNE GBACK
---            MOV R1,R4
---            SLA R4,3
---            JNE GBACK
---            AI R1,>2000
---     GBACK  DEC R1
---            MOVB R1,@GRMWA
---            MOVB @R1LB,@GRMWA
---            MOVB @GRMRD,R0
---            SRL R0,8
---     GCODE  MOV R0,R4
---            A R4,R4
---            MOV @TABLE(R4),R4
---            B *R4
-abbrev pub step : List ℕ
-step =
-    0xD060 ∷ 0x9802 ∷ 0xD820 ∷ 0x9802 ∷ 0x83E3 ∷ 0x1605 ∷ 0xC101 ∷ 0x0A34 ∷
-    0x1602 ∷ 0x0221 ∷ 0x2000 ∷ 0x0601 ∷ 0xD801 ∷ 0x9C02 ∷ 0xD820 ∷ 0x83E3 ∷
-    0x9C02 ∷ 0xD020 ∷ 0x9800 ∷ 0x0980 ∷ 0xC100 ∷ 0xA104 ∷ 0xC124 ∷ 0x2008 ∷
-    0x0454 ∷ []
-
--- >22BE: STK
+-- >228C: STK
 --     STK    LI R0,3
 --            JMP GSTOP
 abbrev pub stack_stop : List ℕ
 stack_stop =
     0x0200 ∷ 0x0003 ∷ 0x1005 ∷ []
 
--- >22C4: UNKN
+-- >2292: UNKN
 --     UNKN   LI R0,1
 --            JMP GSTOP
 abbrev pub code_stop : List ℕ
 code_stop =
     0x0200 ∷ 0x0001 ∷ 0x1002 ∷ []
 
--- >22CA: BAD
+-- >2298: BAD
 --     BAD    LI R0,2
 abbrev pub cell_stop : List ℕ
 cell_stop =
     0x0200 ∷ 0x0002 ∷ []
 
--- >22CE: GSTOP
+-- >229C: GSTOP
 --     GSTOP  JMP GSTOP
 abbrev pub stop : List ℕ
 stop =
     0x10FF ∷ []
 
--- >22D0: GEXIT
+-- >229E: GEXIT
 --     GEXIT  JMP GEXIT
 abbrev pub leave : List ℕ
 leave =
     0x10FF ∷ []
 
--- >22D2: WHERE
+-- >22A0: WHERE
 --     WHERE  MOVB @GRMRA,R6
 --            MOVB @GRMRA,@R6LB
 --            MOV R6,R4
@@ -85,7 +61,7 @@ where_next =
     0xD1A0 ∷ 0x9802 ∷ 0xD820 ∷ 0x9802 ∷ 0x83ED ∷ 0xC106 ∷ 0x0A34 ∷ 0x1602 ∷
     0x0226 ∷ 0x2000 ∷ 0x0606 ∷ 0x045B ∷ []
 
--- >22EA: SEEK
+-- >22B8: SEEK
 --     SEEK   MOVB R6,@GRMWA
 --            MOVB @R6LB,@GRMWA
 --            B *R11
@@ -93,7 +69,7 @@ abbrev pub seek : List ℕ
 seek =
     0xD806 ∷ 0x9C02 ∷ 0xD820 ∷ 0x83ED ∷ 0x9C02 ∷ 0x045B ∷ []
 
--- >22F6: FETCH
+-- >22C4: FETCH
 --     FETCH  CLR R6
 --            MOVB @GRMRD,R6
 --            B *R11
@@ -101,7 +77,7 @@ abbrev pub fetch : List ℕ
 fetch =
     0x04C6 ∷ 0xD1A0 ∷ 0x9800 ∷ 0x045B ∷ []
 
--- >22FE: ADDR
+-- >22CC: ADDR
 --     ADDR   MOVB @GRMRD,R2
 --            JLT ALONG
 --            SRL R2,8
@@ -123,7 +99,7 @@ address =
     0x045B ∷ 0x0982 ∷ 0xC142 ∷ 0x0AC2 ∷ 0x0942 ∷ 0x0282 ∷ 0x0F00 ∷ 0x1602 ∷
     0xD0A0 ∷ 0x9800 ∷ 0xD820 ∷ 0x9800 ∷ 0x83E5 ∷ []
 
--- >2328: APTR, the pointer of an operand
+-- >22F6: APTR, the pointer of an operand
 --     APTR   SRL R5,5
 --            JNC INDEX
 --            CI R2,>C0
@@ -138,7 +114,7 @@ pointer =
     0x0955 ∷ 0x170C ∷ 0x0282 ∷ 0x00C0 ∷ 0x1BCC ∷ 0x0282 ∷ 0x007C ∷ 0x13C9 ∷
     0xD122 ∷ 0x8300 ∷ 0xD822 ∷ 0x8301 ∷ 0x83E9 ∷ 0xC084 ∷ []
 
--- >2344: INDEX, the index of an operand
+-- >2312: INDEX, the index of an operand
 --     INDEX  MOV R5,R4
 --            SRL R4,2
 --            JNC ASPACE
@@ -154,9 +130,8 @@ index =
     0xC105 ∷ 0x0924 ∷ 0x170C ∷ 0xD120 ∷ 0x9800 ∷ 0x0984 ∷ 0x0284 ∷ 0x00C0 ∷
     0x1BBA ∷ 0xD1A4 ∷ 0x8300 ∷ 0xD824 ∷ 0x8301 ∷ 0x83ED ∷ 0xA086 ∷ []
 
--- >2362: ASPACE, the space and the range of an operand
---     ASPACE SLA R5,15
---            SRL R5,15
+-- >2330: ASPACE, the space and the range of an operand
+--     ASPACE ANDI R5,1
 --            JNE ADONE
 --     ACELLS CI R2,>C2
 --            JH BAD
@@ -167,10 +142,10 @@ index =
 --     ADONE  B *R11
 abbrev pub range : List ℕ
 range =
-    0x0AF5 ∷ 0x09F5 ∷ 0x1608 ∷ 0x0282 ∷ 0x00C2 ∷ 0x1BAE ∷ 0xC103 ∷ 0xA102 ∷
+    0x0245 ∷ 0x0001 ∷ 0x1608 ∷ 0x0282 ∷ 0x00C2 ∷ 0x1BAE ∷ 0xC103 ∷ 0xA102 ∷
     0x0284 ∷ 0x00C2 ∷ 0x1BA9 ∷ 0x045B ∷ []
 
--- >237A: LOAD
+-- >2348: LOAD
 --     LOAD   MOV R5,R5
 --            JNE LOTHER
 --     LCELL  CLR R6
@@ -192,7 +167,7 @@ load =
     0xD822 ∷ 0x8301 ∷ 0x83ED ∷ 0x045B ∷ 0x0285 ∷ 0x0001 ∷ 0x1B12 ∷ 0xC102 ∷
     0x0A24 ∷ 0x0924 ∷ 0xD820 ∷ 0x83E9 ∷ 0x8C02 ∷ 0xD804 ∷ 0x8C02 ∷ []
 
--- >23A8: LDATA, the bytes of video memory
+-- >2376: LDATA, the bytes of video memory
 --     LDATA  CLR R6
 --            MOVB @VDPRD,R6
 --            CI R3,1
@@ -204,7 +179,7 @@ load_video =
     0x04C6 ∷ 0xD1A0 ∷ 0x8800 ∷ 0x0283 ∷ 0x0001 ∷ 0x1303 ∷ 0xD820 ∷ 0x8800 ∷
     0x83ED ∷ 0x045B ∷ []
 
--- >23BC: STREAM
+-- >238A: STREAM
 --     STREAM CLR R6
 --            MOVB @GRMRD,R6
 --            CI R3,1
@@ -216,7 +191,7 @@ stream =
     0x04C6 ∷ 0xD1A0 ∷ 0x9800 ∷ 0x0283 ∷ 0x0001 ∷ 0x1303 ∷ 0xD820 ∷ 0x9800 ∷
     0x83ED ∷ 0x045B ∷ []
 
--- >23D0: STORE
+-- >239E: STORE
 --     STORE  MOV R8,R8
 --            JNE SOTHER
 --            MOVB R9,@PAD(R7)
@@ -245,7 +220,7 @@ store =
     0x1601 ∷ 0x070D ∷ 0x045B ∷ 0x0288 ∷ 0x0001 ∷ 0x1B13 ∷ 0xC107 ∷ 0x0A24 ∷
     0x0924 ∷ 0x0224 ∷ 0x4000 ∷ 0xD820 ∷ 0x83E9 ∷ 0x8C02 ∷ 0xD804 ∷ 0x8C02 ∷ []
 
--- >2410: SDATA, the bytes of video memory
+-- >23DE: SDATA, the bytes of video memory
 --     SDATA  MOVB R9,@VDPWD
 --            CI R3,1
 --            JEQ SDONE
@@ -256,7 +231,7 @@ store_video =
     0xD809 ∷ 0x8C00 ∷ 0x0283 ∷ 0x0001 ∷ 0x13ED ∷ 0xD820 ∷ 0x83F3 ∷ 0x8C00 ∷
     0x045B ∷ []
 
--- >2422: SREG, a register of the video processor
+-- >23F0: SREG, a register of the video processor
 --     SREG   MOVB R9,@VDPWA
 --            MOV R7,R4
 --            AI R4,>0080
@@ -267,10 +242,9 @@ store_register =
     0xD809 ∷ 0x8C02 ∷ 0xC107 ∷ 0x0224 ∷ 0x0080 ∷ 0xD820 ∷ 0x83E9 ∷ 0x8C02 ∷
     0x045B ∷ []
 
--- >2434: ROW
+-- >2402: ROW
 --     ROW    MOV R0,R3
---            SLA R3,15
---            SRL R3,15
+--            ANDI R3,1
 --            INC R3
 --            CLR R13
 --            BL @ADDR
@@ -286,11 +260,11 @@ store_register =
 --            LI R6,1
 abbrev pub row : List ℕ
 row =
-    0xC0C0 ∷ 0x0AF3 ∷ 0x09F3 ∷ 0x0583 ∷ 0x04CD ∷ 0x06A0 ∷ 0x22FE ∷ 0xC1C2 ∷
-    0xC205 ∷ 0x06A0 ∷ 0x237A ∷ 0xC246 ∷ 0x0280 ∷ 0x00A0 ∷ 0x1414 ∷ 0x0206 ∷
+    0xC0C0 ∷ 0x0243 ∷ 0x0001 ∷ 0x0583 ∷ 0x04CD ∷ 0x06A0 ∷ 0x22CC ∷ 0xC1C2 ∷
+    0xC205 ∷ 0x06A0 ∷ 0x2348 ∷ 0xC246 ∷ 0x0280 ∷ 0x00A0 ∷ 0x1414 ∷ 0x0206 ∷
     0x0100 ∷ 0x0283 ∷ 0x0001 ∷ 0x1302 ∷ 0x0206 ∷ 0x0001 ∷ []
 
--- >2460: GO
+-- >242E: GO
 --     GO     MOV R0,R4
 --            MOV @OPTAB->80(R4),R4
 --            B *R4
@@ -298,10 +272,9 @@ abbrev pub go_row : List ℕ
 go_row =
     0xC100 ∷ 0xC124 ∷ 0x2188 ∷ 0x0454 ∷ []
 
--- >2468: STROW
+-- >2436: STROW
 --     STROW  MOV R0,R3
---            SLA R3,15
---            SRL R3,15
+--            ANDI R3,1
 --            INC R3
 --            CLR R13
 --            BL @ADDR
@@ -309,10 +282,10 @@ go_row =
 --            MOV R5,R8
 abbrev pub st_row : List ℕ
 st_row =
-    0xC0C0 ∷ 0x0AF3 ∷ 0x09F3 ∷ 0x0583 ∷ 0x04CD ∷ 0x06A0 ∷ 0x22FE ∷ 0xC1C2 ∷
+    0xC0C0 ∷ 0x0243 ∷ 0x0001 ∷ 0x0583 ∷ 0x04CD ∷ 0x06A0 ∷ 0x22CC ∷ 0xC1C2 ∷
     0xC205 ∷ []
 
--- >247A: OPSTWO, the source of a row of two operands
+-- >2448: OPSTWO, the source of a row of two operands
 --     OPSTWO MOV R0,R4
 --            SRL R4,2
 --            JNC OPSRC
@@ -321,72 +294,18 @@ st_row =
 --     OPSRC  BL @ADDR
 abbrev pub source : List ℕ
 source =
-    0xC100 ∷ 0x0924 ∷ 0x1704 ∷ 0x020B ∷ 0x2460 ∷ 0x0460 ∷ 0x23BC ∷ 0x06A0 ∷
-    0x22FE ∷ []
+    0xC100 ∷ 0x0924 ∷ 0x1704 ∷ 0x020B ∷ 0x242E ∷ 0x0460 ∷ 0x238A ∷ 0x06A0 ∷
+    0x22CC ∷ []
 
--- >248C: OPVAL, the value of the source
+-- >245A: OPVAL, the value of the source
 --     OPVAL  LI R11,GO
 --            B @LOAD
 abbrev pub source_value : List ℕ
 source_value =
-    0x020B ∷ 0x2460 ∷ 0x0460 ∷ 0x237A ∷ []
+    0x020B ∷ 0x242E ∷ 0x0460 ∷ 0x2348 ∷ []
 
--- >2494: SHOW
---     SHOW   MOV R13,R13
---            JNE SHOWN
---            B @GSTEP
-abbrev pub show : List ℕ
-show =
-    0xC34D ∷ 0x1602 ∷ 0x0460 ∷ 0x228C ∷ []
-
--- >249C: SHOWN, the character on the screen
---     SHOWN  MOVB @PAD+>7E,R7
---            SRL R7,8
---            SLA R7,5
---            MOVB @PAD+>7F,R4
---            SRL R4,8
---            A R4,R7
---            MOVB @PAD+>7D,R9
---            LI R8,1
---            LI R3,1
---            LI R11,GSTEP
---            B @STORE
-abbrev pub show_character : List ℕ
-show_character =
-    0xD1E0 ∷ 0x837E ∷ 0x0987 ∷ 0x0A57 ∷ 0xD120 ∷ 0x837F ∷ 0x0984 ∷ 0xA1C4 ∷
-    0xD260 ∷ 0x837D ∷ 0x0208 ∷ 0x0001 ∷ 0x0203 ∷ 0x0001 ∷ 0x020B ∷ 0x228C ∷
-    0x0460 ∷ 0x23D0 ∷ []
-
--- >24C0: STV
---     STV    MOV R6,R9
-abbrev pub st : List ℕ
-st =
-    0xC246 ∷ []
-
--- >24C2: STO
---     STO    LI R11,SHOW
---            B @STORE
-abbrev pub store_result : List ℕ
-store_result =
-    0x020B ∷ 0x2494 ∷ 0x0460 ∷ 0x23D0 ∷ []
-
--- >24CA: GOB
---     GOB    MOVB @GRMRD,R6
---            MOVB @GRMRD,@R6LB
-abbrev pub branch : List ℕ
-branch =
-    0xD1A0 ∷ 0x9800 ∷ 0xD820 ∷ 0x9800 ∷ 0x83ED ∷ []
-
--- >24D4: GOTO
---     GOTO   MOVB R6,@GRMWA
---            MOVB @R6LB,@GRMWA
---            B @GSTEP
-abbrev pub go_to : List ℕ
-go_to =
-    0xD806 ∷ 0x9C02 ∷ 0xD820 ∷ 0x83ED ∷ 0x9C02 ∷ 0x0460 ∷ 0x228C ∷ []
-
--- >24E2: GOEXIT
+-- >2462: GOEXIT
 --     GOEXIT B @GEXIT
 abbrev pub exit : List ℕ
 exit =
-    0x0460 ∷ 0x22D0 ∷ []
+    0x0460 ∷ 0x229E ∷ []

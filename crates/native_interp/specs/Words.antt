@@ -6,7 +6,6 @@ use Rattle.native_interp.specs.declared.addresses.TheConstants.{
   TABLE,
   OPTAB,
   GBOOT,
-  GSTEP,
   STK,
   UNKN,
   BAD,
@@ -30,12 +29,6 @@ use Rattle.native_interp.specs.declared.addresses.TheConstants.{
   STROW,
   OPSTWO,
   OPVAL,
-  SHOW,
-  SHOWN,
-  STV,
-  STO,
-  GOB,
-  GOTO,
   GOEXIT,
   INCTV,
   ADDV,
@@ -44,6 +37,13 @@ use Rattle.native_interp.specs.declared.addresses.TheConstants.{
   ABSV,
   NEGV,
   STATB,
+  SHOW,
+  SHOWN,
+  GOB,
+  GOTO,
+  GSTEP,
+  STV,
+  STO,
   ANDV,
   ORV,
   XORV,
@@ -83,8 +83,8 @@ use Rattle.native_interp.specs.declared.addresses.TheConstants.{
   GOCARY,
   GOOVF,
   CTRUE,
-  CFALSE,
   BRANCH,
+  CFALSE,
   BTARG,
   TAKE,
   CASEV,
@@ -95,7 +95,6 @@ use Rattle.native_interp.specs.declared.addresses.TheConstants.{
   GOCALL,
   CALLN,
   CALLS,
-  RESUME,
   GORTN,
   FETCHV,
   FETCHN,
@@ -125,6 +124,7 @@ use Rattle.native_interp.specs.declared.addresses.TheConstants.{
   COPYS,
   COPYN,
   COPYE,
+  RESUME,
   MOVER,
   MOVES,
   MOVEA,
@@ -151,24 +151,24 @@ abbrev pub tables : List (ℕ × List ℕ)
 tables =
     (ORIGIN, table.entries) ∷ (TABLE, table.code_table) ∷ (OPTAB, table.operation_table) ∷ []
 
--- boot, the step, the routines, and the operands and the end of a row
+-- boot, the stops, the routines, the operands of a row, and EXIT
 abbrev pub routine_parts : List (ℕ × List ℕ)
 routine_parts =
-    (GBOOT, routine.boot) ∷ (GSTEP, routine.step) ∷ (STK, routine.stack_stop) ∷ (UNKN, routine.code_stop) ∷
-    (BAD, routine.cell_stop) ∷ (GSTOP, routine.stop) ∷ (GEXIT, routine.leave) ∷ (WHERE, routine.where_next) ∷
-    (SEEK, routine.seek) ∷ (FETCH, routine.fetch) ∷ (ADDR, routine.address) ∷ (APTR, routine.pointer) ∷
-    (INDEX, routine.index) ∷ (ASPACE, routine.range) ∷ (LOAD, routine.load) ∷ (LDATA, routine.load_video) ∷
-    (STREAM, routine.stream) ∷ (STORE, routine.store) ∷ (SDATA, routine.store_video) ∷
-    (SREG, routine.store_register) ∷ (ROW, routine.row) ∷ (GO, routine.go_row) ∷ (STROW, routine.st_row) ∷
-    (OPSTWO, routine.source) ∷ (OPVAL, routine.source_value) ∷ (SHOW, routine.show) ∷
-    (SHOWN, routine.show_character) ∷ (STV, routine.st) ∷ (STO, routine.store_result) ∷ (GOB, routine.branch) ∷
-    (GOTO, routine.go_to) ∷ (GOEXIT, routine.exit) ∷ []
+    (GBOOT, routine.boot) ∷ (STK, routine.stack_stop) ∷ (UNKN, routine.code_stop) ∷ (BAD, routine.cell_stop) ∷
+    (GSTOP, routine.stop) ∷ (GEXIT, routine.leave) ∷ (WHERE, routine.where_next) ∷ (SEEK, routine.seek) ∷
+    (FETCH, routine.fetch) ∷ (ADDR, routine.address) ∷ (APTR, routine.pointer) ∷ (INDEX, routine.index) ∷
+    (ASPACE, routine.range) ∷ (LOAD, routine.load) ∷ (LDATA, routine.load_video) ∷ (STREAM, routine.stream) ∷
+    (STORE, routine.store) ∷ (SDATA, routine.store_video) ∷ (SREG, routine.store_register) ∷ (ROW, routine.row) ∷
+    (GO, routine.go_row) ∷ (STROW, routine.st_row) ∷ (OPSTWO, routine.source) ∷ (OPVAL, routine.source_value) ∷
+    (GOEXIT, routine.exit) ∷ []
 
--- the operations on one and two operands, and the tests of the status
+-- the operations on one and two operands, with the end of a row and the step, and the tests of the status
 abbrev pub operation_parts : List (ℕ × List ℕ)
 operation_parts =
     (INCTV, operation.inct) ∷ (ADDV, operation.add) ∷ (DECTV, operation.dect) ∷ (SUBV, operation.sub) ∷
-    (ABSV, operation.abs) ∷ (NEGV, operation.neg) ∷ (STATB, operation.set_status) ∷ (ANDV, operation.and_ones) ∷
+    (ABSV, operation.abs) ∷ (NEGV, operation.neg) ∷ (STATB, operation.set_status) ∷ (SHOW, operation.show) ∷
+    (SHOWN, operation.show_character) ∷ (GOB, operation.branch) ∷ (GOTO, operation.go_to) ∷
+    (GSTEP, operation.step) ∷ (STV, operation.st) ∷ (STO, operation.store_result) ∷ (ANDV, operation.and_ones) ∷
     (ORV, operation.or_ones) ∷ (XORV, operation.exclusive_or) ∷ (INVV, operation.inv) ∷ (CLRV, operation.clr) ∷
     (EXV, operation.ex) ∷ (EXB, operation.ex_source) ∷ (COUNT, operation.count) ∷ (SRAV, operation.sra) ∷
     (SRAB, operation.sra_value) ∷ (SLLV, operation.sll) ∷ (SLLB, operation.sll_value) ∷ (SRLV, operation.srl) ∷
@@ -178,15 +178,14 @@ operation_parts =
     (DIVS, operation.div_store) ∷ (DIVE, operation.div_end) ∷ (OVER, operation.over) ∷ (CHV, operation.ch) ∷
     (CHEV, operation.che) ∷ (CGTV, operation.cgt) ∷ (CGEV, operation.cge) ∷ (CEQV, operation.ceq) ∷
     (CLOGV, operation.clog) ∷ (CZV, operation.cz) ∷ (GOH, operation.test_h) ∷ (GOGT, operation.test_gt) ∷
-    (GOCARY, operation.test_carry) ∷ (GOOVF, operation.test_ovf) ∷ (CTRUE, operation.condition_true) ∷
-    (CFALSE, operation.condition_false) ∷ []
+    (GOCARY, operation.test_carry) ∷ (GOOVF, operation.test_ovf) ∷ (CTRUE, operation.condition_true) ∷ []
 
 -- branches, stacks and RAND
 abbrev pub flow_parts : List (ℕ × List ℕ)
 flow_parts =
-    (BRANCH, flow.test_branch) ∷ (BTARG, flow.target) ∷ (TAKE, flow.take_branch) ∷ (CASEV, flow.case_row) ∷
-    (CASEN, flow.case_next) ∷ (CASET, flow.case_target) ∷ (PUSHV, flow.push) ∷ (FULL, flow.stack_full) ∷
-    (GOCALL, flow.call) ∷ (CALLN, flow.call_next) ∷ (CALLS, flow.call_store) ∷ (RESUME, flow.resume) ∷
+    (BRANCH, flow.test_branch) ∷ (CFALSE, flow.condition_false) ∷ (BTARG, flow.target) ∷ (TAKE, flow.take_branch) ∷
+    (CASEV, flow.case_row) ∷ (CASEN, flow.case_next) ∷ (CASET, flow.case_target) ∷ (PUSHV, flow.push) ∷
+    (FULL, flow.stack_full) ∷ (GOCALL, flow.call) ∷ (CALLN, flow.call_next) ∷ (CALLS, flow.call_store) ∷
     (GORTN, flow.rtn) ∷ (FETCHV, flow.fetch_row) ∷ (FETCHN, flow.fetch_next) ∷ (FETCHP, flow.fetch_pointer) ∷
     (FETCHA, flow.fetch_address) ∷ (FETCHR, flow.fetch_read) ∷ (FETCHK, flow.fetch_keep) ∷
     (FETCHB, flow.fetch_behind) ∷ (FETCHS, flow.fetch_stack) ∷ (FETCHD, flow.fetch_store) ∷ (GORAND, flow.rand) ∷
@@ -199,10 +198,10 @@ copy_parts =
     (MOVED, copy.move_source) ∷ (MOVEB, copy.move_begin) ∷ (COPYCC, copy.copy_cells) ∷ (SETR, copy.set_source) ∷
     (COPYVC, copy.copy_video) ∷ (COPYGC, copy.copy_grom) ∷ (SETW, copy.set_target) ∷
     (COPYCV, copy.copy_cells_to_video) ∷ (COPYGV, copy.copy_grom_to_video) ∷ (COPY, copy.copy) ∷
-    (COPYS, copy.copy_store) ∷ (COPYN, copy.copy_next) ∷ (COPYE, copy.copy_end) ∷ (MOVER, copy.move_registers) ∷
-    (MOVES, copy.move_grom) ∷ (MOVEA, copy.move_index) ∷ (MOVEX, copy.move_where) ∷ (MOVEW, copy.move_seek) ∷
-    (MOVEK, copy.move_stream) ∷ (NOREG, copy.register_stop) ∷ (GOALL, copy.all) ∷ (FILL, copy.all_fill) ∷
-    (GOBACK, copy.back) ∷ []
+    (COPYS, copy.copy_store) ∷ (COPYN, copy.copy_next) ∷ (COPYE, copy.copy_end) ∷ (RESUME, copy.resume) ∷
+    (MOVER, copy.move_registers) ∷ (MOVES, copy.move_grom) ∷ (MOVEA, copy.move_index) ∷ (MOVEX, copy.move_where) ∷
+    (MOVEW, copy.move_seek) ∷ (MOVEK, copy.move_stream) ∷ (NOREG, copy.register_stop) ∷ (GOALL, copy.all) ∷
+    (FILL, copy.all_fill) ∷ (GOBACK, copy.back) ∷ []
 
 -- every part with its address
 abbrev pub routines : List (ℕ × List ℕ)

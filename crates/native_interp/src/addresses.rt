@@ -2,13 +2,13 @@
 //! Addresses in the interpreter. Profile: where the interpreter and its workspace stand.
 
 /// How many words the interpreter has.
-pub const WORD_COUNT: usize = 1196;
+pub const WORD_COUNT: usize = 1186;
 
 /// The interpreter's workspace: the address of its register 0.
 pub const WORKSPACE: u16 = 0x83E0;
 
 /// The address behind the interpreter's last word.
-pub const BEHIND: u16 = 0x2958;
+pub const BEHIND: u16 = 0x2944;
 
 /// Where the words of the interpreter begin.
 pub const ORIGIN: u16 = 0x2000;
@@ -22,467 +22,467 @@ pub const OPTAB: u16 = 0x2208;
 /// The interpreter begins here, with the entry of the GPL program in register 0.
 pub const GBOOT: u16 = 0x2274;
 
-/// Each step of GPL begins here.
-pub const GSTEP: u16 = 0x228C;
-
-/// The part of `GSTEP` that goes back to the code byte and reads it again.
-pub const GBACK: u16 = 0x22A2;
-
-/// The part of `GSTEP` that goes where the code byte leads.
-pub const GCODE: u16 = 0x22B4;
-
 /// Stops by reason 3.
-pub const STK: u16 = 0x22BE;
+pub const STK: u16 = 0x228C;
 
 /// Stops by reason 1.
-pub const UNKN: u16 = 0x22C4;
+pub const UNKN: u16 = 0x2292;
 
 /// Stops by reason 2.
-pub const BAD: u16 = 0x22CA;
+pub const BAD: u16 = 0x2298;
 
 /// A refused program stops here, with the reason in register 0 and the address of the code byte in register 1.
-pub const GSTOP: u16 = 0x22CE;
+pub const GSTOP: u16 = 0x229C;
 
 /// A program that leaves by EXIT stops here, with the address of the code byte in register 1.
-pub const GEXIT: u16 = 0x22D0;
+pub const GEXIT: u16 = 0x229E;
 
 /// Gives the address of the next GROM byte.
-pub const WHERE: u16 = 0x22D2;
+pub const WHERE: u16 = 0x22A0;
 
 /// Sets the GROM to an address.
-pub const SEEK: u16 = 0x22EA;
+pub const SEEK: u16 = 0x22B8;
 
 /// Reads the next GROM byte.
-pub const FETCH: u16 = 0x22F6;
+pub const FETCH: u16 = 0x22C4;
 
 /// Finds the place of an operand.
-pub const ADDR: u16 = 0x22FE;
+pub const ADDR: u16 = 0x22CC;
 
 /// The part of `ADDR` behind an address in one byte.
-pub const ASHORT: u16 = 0x2308;
+pub const ASHORT: u16 = 0x22D6;
 
 /// The part of `ADDR` for an address in more than one byte.
-pub const ALONG: u16 = 0x2310;
+pub const ALONG: u16 = 0x22DE;
 
 /// The part of `ADDR` for an address of 16 bits: its high byte.
-pub const AHIGH: u16 = 0x231E;
+pub const AHIGH: u16 = 0x22EC;
 
 /// The part of `ADDR` for the low byte of an address.
-pub const ALOW: u16 = 0x2322;
+pub const ALOW: u16 = 0x22F0;
 
 /// The part of `ADDR` behind the address: the pointer.
-pub const APTR: u16 = 0x2328;
+pub const APTR: u16 = 0x22F6;
 
 /// The part of `ADDR` behind the pointer: the index.
-pub const INDEX: u16 = 0x2344;
+pub const INDEX: u16 = 0x2312;
 
 /// The part of `INDEX` that reads where the index is.
-pub const INDEXR: u16 = 0x234A;
+pub const INDEXR: u16 = 0x2318;
 
 /// The part of `INDEX` that adds the word there.
-pub const INDEXW: u16 = 0x2356;
+pub const INDEXW: u16 = 0x2324;
 
 /// The part of `ADDR` behind the index: the space and the range.
-pub const ASPACE: u16 = 0x2362;
+pub const ASPACE: u16 = 0x2330;
 
 /// Loads a value from a place.
-pub const LOAD: u16 = 0x237A;
+pub const LOAD: u16 = 0x2348;
 
 /// The part of `LOAD` for a place in the cells.
-pub const LCELL: u16 = 0x237E;
+pub const LCELL: u16 = 0x234C;
 
 /// The part of `LOAD` for a place that is not in the cells.
-pub const LOTHER: u16 = 0x2392;
+pub const LOTHER: u16 = 0x2360;
 
 /// The part of `LOAD` that sets the video processor's address.
-pub const LVSET: u16 = 0x239E;
+pub const LVSET: u16 = 0x236C;
 
 /// The part of `LOAD` that reads video memory at the address that was set.
-pub const LDATA: u16 = 0x23A8;
+pub const LDATA: u16 = 0x2376;
 
 /// Loads a value from the bytes that follow in GROM.
-pub const STREAM: u16 = 0x23BC;
+pub const STREAM: u16 = 0x238A;
 
 /// Stores a value at a place.
-pub const STORE: u16 = 0x23D0;
+pub const STORE: u16 = 0x239E;
 
 /// The part of `STORE` behind the first byte of the cells.
-pub const SCELL: u16 = 0x23E0;
+pub const SCELL: u16 = 0x23AE;
 
 /// The part of `STORE` for a place that is not in the cells.
-pub const SOTHER: u16 = 0x23F6;
+pub const SOTHER: u16 = 0x23C4;
 
 /// The part of `STORE` that sets the video processor's address.
-pub const SVSET: u16 = 0x2406;
+pub const SVSET: u16 = 0x23D4;
 
 /// The part of `STORE` that writes video memory at the address that was set.
-pub const SDATA: u16 = 0x2410;
+pub const SDATA: u16 = 0x23DE;
 
 /// The part of `STORE` that sets a register of the video processor.
-pub const SREG: u16 = 0x2422;
+pub const SREG: u16 = 0x23F0;
 
 /// Loads the operands of a row and goes to it.
-pub const ROW: u16 = 0x2434;
+pub const ROW: u16 = 0x2402;
 
 /// The part of `ROW` behind the destination's place.
-pub const OPSDST: u16 = 0x2442;
+pub const OPSDST: u16 = 0x2410;
 
 /// The part of `ROW` behind the destination's value.
-pub const OPSVAL: u16 = 0x244A;
+pub const OPSVAL: u16 = 0x2418;
 
 /// The part of `ROW` that goes to the row.
-pub const GO: u16 = 0x2460;
+pub const GO: u16 = 0x242E;
 
 /// Loads the source of ST, and goes to its row.
-pub const STROW: u16 = 0x2468;
+pub const STROW: u16 = 0x2436;
 
 /// The part of `STROW` behind the destination's place.
-pub const STDST: u16 = 0x2476;
+pub const STDST: u16 = 0x2444;
 
 /// The part of `ROW` that finds the source.
-pub const OPSTWO: u16 = 0x247A;
+pub const OPSTWO: u16 = 0x2448;
 
 /// The part of `ROW` that loads the source from its place.
-pub const OPVAL: u16 = 0x248C;
-
-/// Ends a row that stored.
-pub const SHOW: u16 = 0x2494;
-
-/// The part of `SHOW` that puts the character on the screen.
-pub const SHOWN: u16 = 0x249C;
-
-/// The row of ST.
-pub const STV: u16 = 0x24C0;
-
-/// Stores the value of a row.
-pub const STO: u16 = 0x24C2;
-
-/// The instruction B.
-pub const GOB: u16 = 0x24CA;
-
-/// Goes on at an address.
-pub const GOTO: u16 = 0x24D4;
+pub const OPVAL: u16 = 0x245A;
 
 /// The instruction EXIT.
-pub const GOEXIT: u16 = 0x24E2;
+pub const GOEXIT: u16 = 0x2462;
 
 /// The row of INCT.
-pub const INCTV: u16 = 0x24E6;
+pub const INCTV: u16 = 0x2466;
 
 /// The row of ADD and INC.
-pub const ADDV: u16 = 0x24E8;
+pub const ADDV: u16 = 0x2468;
 
 /// The row of DECT.
-pub const DECTV: u16 = 0x24EC;
+pub const DECTV: u16 = 0x246C;
 
 /// The row of SUB and DEC.
-pub const SUBV: u16 = 0x24EE;
+pub const SUBV: u16 = 0x246E;
 
 /// The row of ABS.
-pub const ABSV: u16 = 0x24F2;
+pub const ABSV: u16 = 0x2472;
 
 /// The row of NEG, and the tail of all that set the status.
-pub const NEGV: u16 = 0x24F6;
+pub const NEGV: u16 = 0x2476;
 
 /// Sets the status, once the result is stored.
-pub const STATB: u16 = 0x2502;
+pub const STATB: u16 = 0x2482;
+
+/// Ends a row that stored.
+pub const SHOW: u16 = 0x2486;
+
+/// The part of `SHOW` that puts the character on the screen.
+pub const SHOWN: u16 = 0x248A;
+
+/// The instruction B.
+pub const GOB: u16 = 0x24AE;
+
+/// Goes on at an address.
+pub const GOTO: u16 = 0x24B8;
+
+/// Each step of GPL begins here.
+pub const GSTEP: u16 = 0x24C2;
+
+/// The part of `GSTEP` that goes back to the code byte and reads it again.
+pub const GBACK: u16 = 0x24D8;
+
+/// The part of `GSTEP` that goes where the code byte leads.
+pub const GCODE: u16 = 0x24EA;
+
+/// The row of ST.
+pub const STV: u16 = 0x24F4;
+
+/// Stores the value of a row.
+pub const STO: u16 = 0x24F6;
 
 /// The row of AND.
-pub const ANDV: u16 = 0x250A;
+pub const ANDV: u16 = 0x24FE;
 
 /// The row of OR.
-pub const ORV: u16 = 0x2510;
+pub const ORV: u16 = 0x2504;
 
 /// The row of XOR.
-pub const XORV: u16 = 0x2514;
+pub const XORV: u16 = 0x2508;
 
 /// The row of INV.
-pub const INVV: u16 = 0x2518;
+pub const INVV: u16 = 0x250C;
 
 /// The row of CLR.
-pub const CLRV: u16 = 0x251C;
+pub const CLRV: u16 = 0x2510;
 
 /// The row of EX.
-pub const EXV: u16 = 0x2520;
+pub const EXV: u16 = 0x2514;
 
 /// Stores the old destination of EX at the source, once the source is stored.
-pub const EXB: u16 = 0x2528;
+pub const EXB: u16 = 0x251C;
 
 /// Gives the count of a shift.
-pub const COUNT: u16 = 0x2530;
+pub const COUNT: u16 = 0x2524;
 
 /// The row of SRA.
-pub const SRAV: u16 = 0x2542;
+pub const SRAV: u16 = 0x2536;
 
 /// Shifts the value of SRA by its count.
-pub const SRAB: u16 = 0x2546;
+pub const SRAB: u16 = 0x253A;
 
 /// The row of SLL.
-pub const SLLV: u16 = 0x254A;
+pub const SLLV: u16 = 0x253E;
 
 /// Shifts the value of SLL by its count.
-pub const SLLB: u16 = 0x254E;
+pub const SLLB: u16 = 0x2542;
 
 /// The row of SRL.
-pub const SRLV: u16 = 0x2552;
+pub const SRLV: u16 = 0x2546;
 
 /// Shifts the value of SRL by its count.
-pub const SRLB: u16 = 0x2556;
+pub const SRLB: u16 = 0x254A;
 
 /// The row of SRC.
-pub const SRCV: u16 = 0x255A;
+pub const SRCV: u16 = 0x254E;
 
 /// Turns the value of SRC by its count.
-pub const SRCB: u16 = 0x255E;
+pub const SRCB: u16 = 0x2552;
 
 /// Loads the operands of MUL and DIV and goes to their row.
-pub const WIDE: u16 = 0x256E;
+pub const WIDE: u16 = 0x2562;
 
 /// The part of `WIDE` behind the destination's place.
-pub const WIDDST: u16 = 0x257C;
+pub const WIDDST: u16 = 0x2570;
 
 /// The part of `WIDE` behind the destination's value.
-pub const WIDVAL: u16 = 0x2584;
+pub const WIDVAL: u16 = 0x2578;
 
 /// The row of MUL.
-pub const MULV: u16 = 0x258C;
+pub const MULV: u16 = 0x2580;
 
 /// Stores the low word of a product, once the high word is stored.
-pub const MULB: u16 = 0x25A4;
+pub const MULB: u16 = 0x2598;
 
 /// The row of DIV.
-pub const DIVV: u16 = 0x25AA;
+pub const DIVV: u16 = 0x259E;
 
 /// The part of DIV for bytes.
-pub const DIVBY: u16 = 0x25B4;
+pub const DIVBY: u16 = 0x25A8;
 
 /// The part of DIV for words.
-pub const DIVW: u16 = 0x25C6;
+pub const DIVW: u16 = 0x25BA;
 
 /// The part of DIV for words, once the second word of the destination is loaded.
-pub const DIVL: u16 = 0x25D2;
+pub const DIVL: u16 = 0x25C6;
 
 /// Takes the remainder of a DIV of words, once the quotient is stored.
-pub const DIVQ: u16 = 0x25DA;
+pub const DIVQ: u16 = 0x25CE;
 
 /// Stores the last word of DIV.
-pub const DIVS: u16 = 0x25DE;
+pub const DIVS: u16 = 0x25D2;
 
 /// Ends DIV, once all is stored: the overflow is cleared.
-pub const DIVE: u16 = 0x25E2;
+pub const DIVE: u16 = 0x25D6;
 
 /// Ends a DIV whose quotient does not fit: the overflow is set.
-pub const OVER: u16 = 0x25EE;
+pub const OVER: u16 = 0x25E2;
 
 /// The row of CH.
-pub const CHV: u16 = 0x25FA;
+pub const CHV: u16 = 0x25EE;
 
 /// The row of CHE.
-pub const CHEV: u16 = 0x2600;
+pub const CHEV: u16 = 0x25F4;
 
 /// The row of CGT.
-pub const CGTV: u16 = 0x2606;
+pub const CGTV: u16 = 0x25FA;
 
 /// The row of CGE.
-pub const CGEV: u16 = 0x260C;
+pub const CGEV: u16 = 0x2600;
 
 /// The row of CEQ.
-pub const CEQV: u16 = 0x2612;
+pub const CEQV: u16 = 0x2606;
 
 /// The row of CLOG.
-pub const CLOGV: u16 = 0x2618;
+pub const CLOGV: u16 = 0x260C;
 
 /// The row of CZ.
-pub const CZV: u16 = 0x261E;
+pub const CZV: u16 = 0x2612;
 
 /// The instruction H.
-pub const GOH: u16 = 0x2624;
+pub const GOH: u16 = 0x2618;
 
 /// The instruction GT.
-pub const GOGT: u16 = 0x262E;
+pub const GOGT: u16 = 0x2622;
 
 /// The instruction CARRY.
-pub const GOCARY: u16 = 0x2638;
+pub const GOCARY: u16 = 0x262C;
 
 /// The instruction OVF.
-pub const GOOVF: u16 = 0x2642;
+pub const GOOVF: u16 = 0x2636;
 
 /// Sets the condition.
-pub const CTRUE: u16 = 0x264C;
-
-/// Clears the condition.
-pub const CFALSE: u16 = 0x2658;
+pub const CTRUE: u16 = 0x2640;
 
 /// The instructions BR and BS.
-pub const BRANCH: u16 = 0x2664;
+pub const BRANCH: u16 = 0x264C;
+
+/// Clears the condition.
+pub const CFALSE: u16 = 0x265C;
 
 /// The part of BR and BS that makes the address of their target.
-pub const BTARG: u16 = 0x2676;
+pub const BTARG: u16 = 0x2668;
 
 /// Clears the condition and goes on at an address.
-pub const TAKE: u16 = 0x268A;
+pub const TAKE: u16 = 0x267C;
 
 /// The row of CASE.
-pub const CASEV: u16 = 0x2696;
+pub const CASEV: u16 = 0x2688;
 
 /// The part of CASE behind the next address.
-pub const CASEN: u16 = 0x26A2;
+pub const CASEN: u16 = 0x2694;
 
 /// Goes on in the table of CASE.
-pub const CASET: u16 = 0x26AA;
+pub const CASET: u16 = 0x269C;
 
 /// The row of PUSH.
-pub const PUSHV: u16 = 0x26AE;
+pub const PUSHV: u16 = 0x26A0;
 
 /// Goes to the stop by reason 3.
-pub const FULL: u16 = 0x26CC;
+pub const FULL: u16 = 0x26BE;
 
 /// The instruction CALL.
-pub const GOCALL: u16 = 0x26D0;
+pub const GOCALL: u16 = 0x26C2;
 
 /// The part of CALL behind its target: the pointer of the stack.
-pub const CALLT: u16 = 0x26DA;
+pub const CALLT: u16 = 0x26CC;
 
 /// Tells the next address, which CALL stacks.
-pub const CALLN: u16 = 0x26EA;
+pub const CALLN: u16 = 0x26DC;
 
 /// Stores the pointer and the address of CALL.
-pub const CALLS: u16 = 0x2700;
-
-/// Ends FETCH and a MOVE out of GROM: goes on at the address that was kept.
-pub const RESUME: u16 = 0x272E;
+pub const CALLS: u16 = 0x26F2;
 
 /// The instructions RTN and RTNC.
-pub const GORTN: u16 = 0x273C;
+pub const GORTN: u16 = 0x2720;
 
 /// The part of RTN and RTNC that takes the word off the stack.
-pub const RTNW: u16 = 0x2748;
+pub const RTNW: u16 = 0x272C;
 
 /// The row of FETCH.
-pub const FETCHV: u16 = 0x2762;
+pub const FETCHV: u16 = 0x2746;
 
 /// The part of FETCH behind the next address.
-pub const FETCHN: u16 = 0x2776;
+pub const FETCHN: u16 = 0x275A;
 
 /// Loads the stacked address of FETCH.
-pub const FETCHP: u16 = 0x277C;
+pub const FETCHP: u16 = 0x2760;
 
 /// Sets the GROM to the stacked address.
-pub const FETCHA: u16 = 0x2788;
+pub const FETCHA: u16 = 0x276C;
 
 /// Reads the byte of FETCH.
-pub const FETCHR: u16 = 0x278C;
+pub const FETCHR: u16 = 0x2770;
 
 /// Keeps the byte of FETCH.
-pub const FETCHK: u16 = 0x2790;
+pub const FETCHK: u16 = 0x2774;
 
 /// The part of FETCH behind the address that follows its byte.
-pub const FETCHB: u16 = 0x2796;
+pub const FETCHB: u16 = 0x277A;
 
 /// Stores the address that follows the byte of FETCH.
-pub const FETCHS: u16 = 0x279C;
+pub const FETCHS: u16 = 0x2780;
 
 /// Stores the byte of FETCH.
-pub const FETCHD: u16 = 0x27A2;
+pub const FETCHD: u16 = 0x2786;
 
 /// The instruction RAND.
-pub const GORAND: u16 = 0x27B4;
+pub const GORAND: u16 = 0x2798;
 
 /// The part of RAND that makes the next seed.
-pub const RANDM: u16 = 0x27BE;
+pub const RANDM: u16 = 0x27A2;
 
 /// The part of RAND behind the seed: the limit.
-pub const RANDL: u16 = 0x27D2;
+pub const RANDL: u16 = 0x27B6;
 
 /// Stops by reason 4.
-pub const LONG: u16 = 0x27E8;
+pub const LONG: u16 = 0x27CC;
 
 /// The instruction MOVE.
-pub const GOMOVE: u16 = 0x27F0;
+pub const GOMOVE: u16 = 0x27D4;
 
 /// Loads the length of MOVE.
-pub const MOVEN: u16 = 0x2804;
+pub const MOVEN: u16 = 0x27E8;
 
 /// The part of MOVE behind its length: the target.
-pub const MOVEL: u16 = 0x2808;
+pub const MOVEL: u16 = 0x27EC;
 
 /// The part of MOVE behind its target: the source.
-pub const MOVED: u16 = 0x281C;
+pub const MOVED: u16 = 0x2800;
 
 /// Begins the copy of MOVE.
-pub const MOVEB: u16 = 0x282A;
+pub const MOVEB: u16 = 0x280E;
 
 /// The part of `MOVEB` behind the mark.
-pub const MOVEP: u16 = 0x2842;
+pub const MOVEP: u16 = 0x2826;
 
 /// Copies a byte of MOVE from the cells to the cells.
-pub const COPYCC: u16 = 0x2852;
+pub const COPYCC: u16 = 0x2836;
 
 /// Sets the video processor's address to the source of MOVE.
-pub const SETR: u16 = 0x285A;
+pub const SETR: u16 = 0x283E;
 
 /// Copies a byte of MOVE from video memory to the cells.
-pub const COPYVC: u16 = 0x286A;
+pub const COPYVC: u16 = 0x284E;
 
 /// Copies a byte of MOVE from GROM to the cells.
-pub const COPYGC: u16 = 0x2874;
+pub const COPYGC: u16 = 0x2858;
 
 /// Sets the video processor's address to the target of MOVE.
-pub const SETW: u16 = 0x287E;
+pub const SETW: u16 = 0x2862;
 
 /// The part of `SETW` that writes the address.
-pub const SETWA: u16 = 0x288E;
+pub const SETWA: u16 = 0x2872;
 
 /// Copies a byte of MOVE from the cells to video memory.
-pub const COPYCV: u16 = 0x28A0;
+pub const COPYCV: u16 = 0x2884;
 
 /// Copies a byte of MOVE from GROM to video memory.
-pub const COPYGV: u16 = 0x28AA;
+pub const COPYGV: u16 = 0x288E;
 
 /// The part of `MOVEB` before bytes that LOAD and STORE copy.
-pub const COPYL: u16 = 0x28B6;
+pub const COPYL: u16 = 0x289A;
 
 /// Asks LOAD for a byte of MOVE.
-pub const COPY: u16 = 0x28BA;
+pub const COPY: u16 = 0x289E;
 
 /// Stores a byte of MOVE.
-pub const COPYS: u16 = 0x28BE;
+pub const COPYS: u16 = 0x28A2;
 
 /// Goes on to the next byte of MOVE.
-pub const COPYN: u16 = 0x28C4;
+pub const COPYN: u16 = 0x28A8;
 
 /// Ends the copy of MOVE.
-pub const COPYE: u16 = 0x28CC;
+pub const COPYE: u16 = 0x28B0;
+
+/// Ends FETCH and a MOVE out of GROM: goes on at the address that was kept.
+pub const RESUME: u16 = 0x28BA;
 
 /// The part of MOVE whose target is the registers of the video chip.
-pub const MOVER: u16 = 0x28DA;
+pub const MOVER: u16 = 0x28C8;
 
 /// The part of MOVE that tests whether all the registers are there.
-pub const MOVERC: u16 = 0x28E2;
+pub const MOVERC: u16 = 0x28D0;
 
 /// The part of MOVE whose source is in GROM.
-pub const MOVES: u16 = 0x28F0;
+pub const MOVES: u16 = 0x28DE;
 
 /// Adds the index to that source's address.
-pub const MOVEA: u16 = 0x28F8;
+pub const MOVEA: u16 = 0x28E6;
 
 /// Asks for the address behind MOVE.
-pub const MOVEX: u16 = 0x2908;
+pub const MOVEX: u16 = 0x28F4;
 
 /// Keeps that address, and sets the GROM to the source.
-pub const MOVEW: u16 = 0x290C;
+pub const MOVEW: u16 = 0x28F8;
 
 /// Turns to the bytes that follow there.
-pub const MOVEK: u16 = 0x2914;
+pub const MOVEK: u16 = 0x2900;
 
 /// Stops by reason 5.
-pub const NOREG: u16 = 0x291A;
+pub const NOREG: u16 = 0x2906;
 
 /// The instruction ALL.
-pub const GOALL: u16 = 0x2922;
+pub const GOALL: u16 = 0x290E;
 
 /// Stores a byte of ALL, or ends the step.
-pub const FILL: u16 = 0x2938;
+pub const FILL: u16 = 0x2924;
 
 /// The instruction BACK.
-pub const GOBACK: u16 = 0x2944;
+pub const GOBACK: u16 = 0x2930;

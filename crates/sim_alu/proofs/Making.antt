@@ -63,7 +63,7 @@ pub record Flagged (op : GplOperation) (s : GplState) (place : Place) (source : 
   pub number : ℕ
   pub status : ℕ
   pub to : e.to ≡ STORE
-  pub within : e.count ≤ 7
+  pub within : e.count ≤ 6
   pub storing : Storing (unchanged (gone_on s)) (row_width s) place number e.left
   pub link : e.left.r.r11 ≡ STATB
   pub keeps : e.left.r.r12 ≡ join status 0
@@ -142,7 +142,7 @@ module _ (v : View) (i : IsView v) (s : GplState) (place : Place) (source : Sour
       Plain op s place source (exit (count_in op) STO (with_result r6 r9))
   plain op r6 r9 number le e is = record { number = number; to = refl; within = le; storing = storing r6 r9 _ _ number e; is = is }
 
-  flagged : (op : GplOperation) (r6 r9 number status : ℕ) (flags : Flags) → count_in op ≤ 7 → of_register w r9 ≡ number → status_byte flags ≡ status →
+  flagged : (op : GplOperation) (r6 r9 number status : ℕ) (flags : Flags) → count_in op ≤ 6 → of_register w r9 ≡ number → status_byte flags ≡ status →
       row_result op s place source ≡ Ok (with_status status (with_value w place number c)) →
       Flagged op s place source (exit (count_in op) STORE (with_kept r6 r9 flags))
   flagged op r6 r9 number status flags le e f is = record {
@@ -157,7 +157,7 @@ module _ (v : View) (i : IsView v) (s : GplState) (place : Place) (source : Sour
   }
 
   -- sums and differences of the destination with a number in register 6
-  adds : (op : GplOperation) (r6 n : ℕ) → count_in op ≤ 7 → IsSingle → n < modulus w → r6 ≡ in_register w n →
+  adds : (op : GplOperation) (r6 n : ℕ) → count_in op ≤ 6 → IsSingle → n < modulus w → r6 ≡ in_register w n →
       row_result op s place source ≡ Ok (with_status (status_byte (sum_flags w x n)) (with_value w place (sum_of w x n) c)) →
       Flagged op s place source (exit (count_in op) STORE (with_kept r6 (sum_of Word v.r.r9 r6) (sum_flags Word v.r.r9 r6)))
   adds op r6 n le e h is =
@@ -169,7 +169,7 @@ module _ (v : View) (i : IsView v) (s : GplState) (place : Place) (source : Sour
       ∙ Numbers.sum_status w x n f h)
       result
 
-  subtracts : (op : GplOperation) (r6 n : ℕ) → count_in op ≤ 7 → IsSingle → n < modulus w → r6 ≡ in_register w n →
+  subtracts : (op : GplOperation) (r6 n : ℕ) → count_in op ≤ 6 → IsSingle → n < modulus w → r6 ≡ in_register w n →
       row_result op s place source ≡ Ok (with_status (status_byte (difference_flags w x n)) (with_value w place (difference_of w x n) c)) →
       Flagged op s place source (exit (count_in op) STORE (with_kept r6 (difference_of Word v.r.r9 r6) (difference_flags Word v.r.r9 r6)))
   subtracts op r6 n le e h is =

@@ -33,27 +33,27 @@ abbrev ends : ℕ → ℕ → View → ℕ → Answer (ℕ × View × ℕ × ℕ
 ends count result v word = Gives (count, record v { r = record v.r { r9 = result; r11 = STATB; r12 = word } }, STORE, WORKSPACE)
 
 pub add_source : (v : View) → Leads (STORE ∷ []) v ADDV (pieces.add_source v)
-add_source v = record { by = λ f q. ap (ends 6 (sum_of Word v.r.r9 v.r.r6) v) (kept_is (sum_flags Word v.r.r9 v.r.r6) f q) }
+add_source v = record { by = λ f q. ap (ends 5 (sum_of Word v.r.r9 v.r.r6) v) (kept_is (sum_flags Word v.r.r9 v.r.r6) f q) }
 
 pub subtract_source : (v : View) → Leads (STORE ∷ []) v SUBV (pieces.subtract_source v)
-subtract_source v = record { by = λ f q. ap (ends 6 (difference_of Word v.r.r9 v.r.r6) v) (kept_is (difference_flags Word v.r.r9 v.r.r6) f q) }
+subtract_source v = record { by = λ f q. ap (ends 5 (difference_of Word v.r.r9 v.r.r6) v) (kept_is (difference_flags Word v.r.r9 v.r.r6) f q) }
 
 pub make_absolute : (v : View) → Leads (STORE ∷ []) v ABSV (pieces.make_absolute v)
-make_absolute v = record { by = λ f q. ap (ends 6 (absolute_of Word v.r.r9) v) (kept_is (absolute_flags Word v.r.r9) f q) }
+make_absolute v = record { by = λ f q. ap (ends 5 (absolute_of Word v.r.r9) v) (kept_is (absolute_flags Word v.r.r9) f q) }
 
 pub negate : (v : View) → Leads (STORE ∷ []) v NEGV (pieces.negate v)
-negate v = record { by = λ f q. ap (ends 5 (negation_of Word v.r.r9) v) (kept_is (negation_flags Word v.r.r9) f q) }
+negate v = record { by = λ f q. ap (ends 4 (negation_of Word v.r.r9) v) (kept_is (negation_flags Word v.r.r9) f q) }
 
 pub add_twice : (v : View) → Leads (STORE ∷ []) v INCTV (pieces.add_twice v)
 add_twice v = record {
   by = λ f q.
       let two = sum_of Word v.r.r6 v.r.r6 in
-      ap (ends 7 (sum_of Word v.r.r9 two) (pieces.doubled v)) (kept_is (sum_flags Word v.r.r9 two) f q);
+      ap (ends 6 (sum_of Word v.r.r9 two) (pieces.doubled v)) (kept_is (sum_flags Word v.r.r9 two) f q);
 }
 
 pub subtract_twice : (v : View) → Leads (STORE ∷ []) v DECTV (pieces.subtract_twice v)
 subtract_twice v = record {
   by = λ f q.
       let two = sum_of Word v.r.r6 v.r.r6 in
-      ap (ends 7 (difference_of Word v.r.r9 two) (pieces.doubled v)) (kept_is (difference_flags Word v.r.r9 two) f q);
+      ap (ends 6 (difference_of Word v.r.r9 two) (pieces.doubled v)) (kept_is (difference_flags Word v.r.r9 two) f q);
 }

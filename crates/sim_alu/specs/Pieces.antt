@@ -42,11 +42,11 @@ with_status_kept count result flags v =
 
 -- ADD, INC: the source is added.
 abbrev pub add_source : View → Exit
-add_source v = with_status_kept 6 (sum_of Word v.r.r9 v.r.r6) (sum_flags Word v.r.r9 v.r.r6) v
+add_source v = with_status_kept 5 (sum_of Word v.r.r9 v.r.r6) (sum_flags Word v.r.r9 v.r.r6) v
 
 -- SUB, DEC: the source is subtracted.
 abbrev pub subtract_source : View → Exit
-subtract_source v = with_status_kept 6 (difference_of Word v.r.r9 v.r.r6) (difference_flags Word v.r.r9 v.r.r6) v
+subtract_source v = with_status_kept 5 (difference_of Word v.r.r9 v.r.r6) (difference_flags Word v.r.r9 v.r.r6) v
 
 -- INCT and DECT: the source is doubled first.
 abbrev pub doubled : View → View
@@ -60,12 +60,12 @@ subtract_twice v = let subtracted = subtract_source (doubled v) in record subtra
 
 -- ABS: the absolute value.
 abbrev pub make_absolute : View → Exit
-make_absolute v = with_status_kept 6 (absolute_of Word v.r.r9) (absolute_flags Word v.r.r9) v
+make_absolute v = with_status_kept 5 (absolute_of Word v.r.r9) (absolute_flags Word v.r.r9) v
 
 -- NEG: the negative.
 abbrev pub negate : View → Exit
-negate v = with_status_kept 5 (negation_of Word v.r.r9) (negation_flags Word v.r.r9) v
+negate v = with_status_kept 4 (negation_of Word v.r.r9) (negation_flags Word v.r.r9) v
 
 -- STATB: the kept status is stored.
 abbrev pub store_status : View → Exit
-store_status v = exit 2 SHOW (record v { cells = slice_set v.cells STATUS (high v.r.r12) })
+store_status v = exit 1 SHOW (record v { cells = slice_set v.cells STATUS (high v.r.r12) })

@@ -25,6 +25,10 @@ behind space = if space == 2 then RESUME else SHOW
 near_end : (space : ℕ) → space < 2 → behind space ≡ SHOW
 near_end space small = ap (λ b. if b then RESUME else SHOW) (ne_eqb space 2 (λ e. omega arith))
 
+few : (out_of_grom : Bool) → (if out_of_grom then 2 else 3) ≤ 3
+few true = omega arith
+few false = omega arith
+
 module _ {x a : MachineState} {t t1 : ℕ} (h : AtCopy x) (e : Exits x a t t1 (pieces.leave_copy (view x))) where
   abbrev v : View
   v = view x
@@ -33,7 +37,7 @@ module _ {x a : MachineState} {t t1 : ℕ} (h : AtCopy x) (e : Exits x a t t1 (p
   idle_ended = idle_again x.cpu.memory a.cpu.memory (ap (λ (u : View). u.vdp) e.shows) (ap (λ (u : View). u.grom) e.shows) h.idle
 
   led : (to : ℕ) → behind v.r.r5 ≡ to → Comes 3 x a t t1 to (λ u. u ≡ v)
-  led to is = comes e (record { within = omega arith; to_is = is; holds = refl })
+  led to is = comes e (record { within = few (v.r.r5 == 2); to_is = is; holds = refl })
 
   module _ (y : MachineState) (t2 : ℕ) where
     pub ends_memory : a.cpu.pc ≡ SHOW → EndsRow a y t1 t2 → EndsCopy x y t t2

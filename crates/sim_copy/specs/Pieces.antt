@@ -151,4 +151,4 @@ count_byte v =
 
 -- COPYE: the copy ends, with RESUME behind a source in GROM.
 abbrev pub leave_copy : View → Exit
-leave_copy v = exit 3 (if v.r.r5 == 2 then RESUME else SHOW) v
+leave_copy v = exit (if v.r.r5 == 2 then 2 else 3) (if v.r.r5 == 2 then RESUME else SHOW) v

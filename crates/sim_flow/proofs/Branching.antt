@@ -63,7 +63,7 @@ abbrev word_in : View → ℕ
 word_in v = exclusive_or_of (join (high v.r.r4) (slice_index v.cells 0x7C)) v.r.r0
 
 tells : (s : GplState) (v : View) (taken : Bool) → Dispatched s v → last_out SRL (word_in v) 6 ≡ not taken →
-    Goes (pieces.test_branch v) 6 (end_of taken) (told s taken)
+    Goes (pieces.test_branch v) 5 (end_of taken) (told s taken)
 tells s v true d e =
     let h = d.sees in
     rw e (goes_in (omega arith) (record {
@@ -98,7 +98,7 @@ module _ {s : GplState} {x a : MachineState} {t t1 : ℕ} (on : Bool) (is : oper
   code_fits : code_byte s < 256
   code_fits = subst (λ (l : List ℕ). slice_index l s.pc < 256) (ap (λ (g : GromState). g.image) d.sees.grom) ((is_view x stands.machine).grom.image.fits s.pc)
 
-  tested : Comes 6 x a t t1 (end_of taken) (told s taken)
+  tested : Comes 5 x a t t1 (end_of taken) (told s taken)
   tested =
       let bit = ap (λ (n : ℕ). last_out SRL n 6) d.code ∙ on_is (code_byte s) code_fits on is in
       let holds = ap (λ (cells : List ℕ). is_set (slice_index cells 0x7C) 0x20) d.sees.cells in
@@ -114,28 +114,28 @@ module _ {s : GplState} {x a : MachineState} {t t1 : ℕ} (on : Bool) (is : oper
       (refl, reaches 29 (bound s) run (ap is_end stands.pc) refl (omega arith), matches (finished (changed_by s c)) y run.stands run.holds)
 
   -- what holds where it was told
-  told_at : (c : Bool) → taken ≡ c → Comes 6 x a t t1 (end_of c) (told s c)
-  told_at c e = subst (λ (c : Bool). Comes 6 x a t t1 (end_of c) (told s c)) e tested
+  told_at : (c : Bool) → taken ≡ c → Comes 5 x a t t1 (end_of c) (told s c)
+  told_at c e = subst (λ (c : Bool). Comes 5 x a t t1 (end_of c) (told s c)) e tested
 
-  pub at_target : a.cpu.pc ≡ BTARG → Comes 6 x a t t1 BTARG (Dispatched s)
+  pub at_target : a.cpu.pc ≡ BTARG → Comes 5 x a t t1 BTARG (Dispatched s)
   at_target here = told_at true (taken_at taken a.cpu.pc tested.stands.pc here)
 
-  pub passed_by : (a.cpu.pc ≡ BTARG → ⊥) → Comes 6 x a t t1 CFALSE (Sees s (behind s))
+  pub passed_by : (a.cpu.pc ≡ BTARG → ⊥) → Comes 5 x a t t1 CFALSE (Sees s (behind s))
   passed_by elsewhere = told_at false (passed_at taken a.cpu.pc tested.stands.pc elsewhere)
 
   pub takes : {b y : MachineState} {t2 t3 : ℕ} → a.cpu.pc ≡ BTARG → Exits a b t1 t2 (pieces.find_target (view a)) → TakesBranch b y t2 t3 →
       Turned s most_to_dispatch x y t t3 Stepped
   takes {b = b} here e2 goes =
       let c1 = at_target here in
-      let c2 = comes_then 6 8 c1 e2 (targets s (view a) c1.holds (is_view a c1.stands.machine)) refl in
+      let c2 = comes_then 5 8 c1 e2 (targets s (view a) c1.holds (is_view a c1.stands.machine)) refl in
       let h = c2.holds.sees in
       let seen : Sees (record s { pc = target s }) (behind s) (view b) =
       record { cells = h.cells; vdp = h.vdp; registers = h.registers; held = h.held; grom = h.grom } in
       let is_true = taken_at taken a.cpu.pc tested.stands.pc here in
-      turns true is_true (comes_on 14 9 c2 (goes (record s { pc = target s }) (behind s) seen c2.holds.to) refl) (omega arith)
+      turns true is_true (comes_on 13 9 c2 (goes (record s { pc = target s }) (behind s) seen c2.holds.to) refl) (omega arith)
 
   pub passes_on : {y : MachineState} {t2 : ℕ} → (a.cpu.pc ≡ BTARG → ⊥) → Exits a y t1 t2 (compare.clear_condition (view a))
       → Turned s most_to_dispatch x y t t2 Stepped
   passes_on elsewhere e2 =
       let c1 = passed_by elsewhere in
-      turns false (passed_at taken a.cpu.pc tested.stands.pc elsewhere) (comes_then 6 3 c1 e2 (passes s (view a) c1.holds) refl) (omega arith)
+      turns false (passed_at taken a.cpu.pc tested.stands.pc elsewhere) (comes_then 5 3 c1 e2 (passes s (view a) c1.holds) refl) (omega arith)

@@ -22,7 +22,7 @@ test_branch v =
     let word = exclusive_or_of (join (high v.r.r4) (slice_index v.cells STATUS)) v.r.r0 in
     let told = shifted SRL word 6 in
     if last_out SRL word 6
-    then exit 6 CFALSE (record v { r = record v.r { r4 = join v.grom.fetched (low told) }; grom = past v.grom })
+    then exit 5 CFALSE (record v { r = record v.r { r4 = join v.grom.fetched (low told) }; grom = past v.grom })
     else exit 4 BTARG (record v { r = record v.r { r4 = told } })
 
 -- BTARG: the low five bits of the code byte and the byte that follows, in the GROM of the code byte, are the target.

@@ -6,7 +6,7 @@ use Rattle.sim_rows.specs.Prelude.{STATUS, View}
 
 -- GOTO: GROM goes on at the address in register 6.
 abbrev pub go_on : View → Exit
-go_on v = exit 3 GSTEP (record v { grom = set_to v.r.r6 v.grom })
+go_on v = exit 2 GSTEP (record v { grom = set_to v.r.r6 v.grom })
 
 -- TAKE: the condition's bit of the status is cleared.
 abbrev pub take_branch : View → Exit

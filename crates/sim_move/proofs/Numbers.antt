@@ -1,7 +1,7 @@
 -- Facts about numbers that MOVE needs.
 use Rattle.std.proofs.Common.{ℕ, ◌%◌, ◌*◌, ◌+◌, ◌/◌, ◌<◌, ◌==◌, ◌||◌, ◌≡◌, ◌≤◌, ap, arith, Bool, eqb, Err, false, if◌then◌else◌, nat_lt, not, Ok, refl}
 use Rattle.std.proofs.Common.{Result, true}
-use Rattle.std.proofs.lemmas.Bool.{eq-eqb, le-ltb, ltb-false, ltb-true, ne_eqb}
+use Rattle.std.proofs.lemmas.Bool.{agree_below_at, eq-eqb, eqb-true, le-ltb, ltb-false, ltb-true, ne_eqb}
 use Rattle.sim_rows.proofs.Common.{join, last_out, Length, Reason, shifted, SRL, within_limit}
 use Rattle.sim_move.specs.Pieces.{form_of}
 
@@ -30,7 +30,7 @@ abbrev pub form_by : ℕ → ℕ
 form_by code = 32 + 64 * (code / 2 % 2)
 
 pub form_is : (code : ℕ) → code < 256 → form_of code ≡ form_by code / 32
-form_is code h = omega arith
+form_is code h = eqb-true (form_of code) (form_by code / 32) (agree_below_at (λ c. eqb (form_of c) (form_by c / 32)) (λ _. true) 256 code refl h)
 
 pub form_fits : (code : ℕ) → form_by code < 256
 form_fits code = omega arith

@@ -1,9 +1,9 @@
 -- What the pieces of MOVE come to up to the copy: how many instructions they have, where they end, and what they change
 -- of the view, in the words of the processor. Registers, cells and ports that are not named stay.
 use Rattle.std.specs.Prelude.{ℕ, if◌then◌else◌, nat_lt}
-use Rattle.sim_rows.specs.Prelude.{ADDR, Exit, exit, GSTOP, INDEX, last_out, LOAD, MOVEA, MOVEB, MOVED, MOVEK, MOVEL}
-use Rattle.sim_rows.specs.Prelude.{MOVEN, MOVER, MOVES, MOVEW, MOVEX, past, SEEK, shifted, SLA, SRL, STREAM, sum_of}
-use Rattle.sim_rows.specs.Prelude.{View, WHERE, Word}
+use Rattle.sim_rows.specs.Prelude.{ADDR, conjunction_of, Exit, exit, GSTOP, INDEX, last_out, LOAD, MOVEA, MOVEB}
+use Rattle.sim_rows.specs.Prelude.{MOVED, MOVEK, MOVEL, MOVEN, MOVER, MOVES, MOVEW, MOVEX, past, SEEK, shifted, SRL}
+use Rattle.sim_rows.specs.Prelude.{STREAM, sum_of, View, WHERE, Word}
 
 -- GOMOVE: where the code byte is even, ADDR is asked for the operand that holds the length.
 abbrev pub ask_length : View → Exit
@@ -52,10 +52,10 @@ ask_source v = exit 2 STREAM (record v { r = record v.r { r3 = 2; r11 = MOVEA } 
 -- MOVEA: INDEX is asked for the address with its index, if the second lowest bit of the code byte says
 -- so, as a place that has no range.
 abbrev pub form_of : ℕ → ℕ
-form_of code = sum_of Word (shifted SRL (shifted SLA (shifted SRL code 1) 15) 14) 1
+form_of code = sum_of Word (conjunction_of code 2) 1
 
 abbrev pub ask_index : View → Exit
-ask_index v = exit 7 INDEX (record v { r = record v.r { r2 = v.r.r6; r5 = form_of v.r.r0; r11 = MOVEX } })
+ask_index v = exit 5 INDEX (record v { r = record v.r { r2 = v.r.r6; r5 = form_of v.r.r0; r11 = MOVEX } })
 
 -- MOVEX: WHERE is asked for the next address.
 abbrev pub ask_next : View → Exit

@@ -1,7 +1,9 @@
 -- The pieces of ADDR find the place of an operand.
 use Rattle.std.proofs.Common.{ℕ, ⊎_elim, ◌%◌, ◌*◌, ◌+◌, ◌/◌, ◌<◌, ◌==◌, ◌≡◌, ◌≤◌, ap, arith, Bool, eqb, Err, false, List}
 use Rattle.std.proofs.Common.{nat_lt, not, Ok, refl, Result, slice_index, subst, sym, true}
+use Rattle.std.proofs.lemmas.Nat.{and_mask}
 use Rattle.std.proofs.lemmas.Bool.{cases_eq, eq-eqb, eqb-true, le-leb, le-ltb, lt-leb, ltb-false, ltb-true, ne_eqb}
+use Rattle.sim_view.specs.Prelude.{conjunction_of}
 use Rattle.sim_view.proofs.Common.{APTR, ASPACE, Exit, Goes, goes_in, GSTOP, high, HoldsBytes, INDEX, index_at}
 use Rattle.sim_view.proofs.Common.{indexed, is_visible, join, last_out, next_in_grom, operand_at, pick, pointed, ranged}
 use Rattle.sim_view.proofs.Common.{Reason, shifted, SLA, space_at, SRL, sum_of, View, with_index, Word, word_in}
@@ -185,8 +187,8 @@ index_read v w base form next h a =
 
 -- ---- the range
 
-space_bit : (form : ℕ) → form < 256 → shifted SRL (shifted SLA (form / 32) 15) 15 ≡ form / 32 % 2
-space_bit form h = omega arith
+space_bit : (form : ℕ) → conjunction_of (form / 32) 1 ≡ form / 32 % 2
+space_bit form = and_mask (form / 32) 1
 
 visible_range : (bytes offset : ℕ) (far : Bool) → offset ≤ 0xC2 → bytes ≤ 16384 → nat_lt 0xC2 (sum_of Word bytes offset) ≡ far →
     is_visible bytes offset ≡ not far
@@ -215,16 +217,16 @@ range_read v w address form next h k a =
     (⊎_elim
     (λ (z : form / 32 % 2 ≡ 0).
     pick (nat_lt 0xC2 address)
-    (λ d. rw (space_bit form h, z, d, no_range v.r.r3 address d, pieces.range)
+    (λ d. rw (space_bit form, z, d, no_range v.r.r3 address d, pieces.range)
     (refl, goes_in (omega arith) (record { r2 = address; r4 = a.r4; r5 = 0; r6 = a.r6; next = next; is = refl })))
     (λ d. pick (nat_lt 0xC2 (sum_of Word v.r.r3 address))
-    (λ f. rw (space_bit form h, z, d, f, visible_range v.r.r3 address true (ltb-false 0xC2 address d) k f, pieces.range)
+    (λ f. rw (space_bit form, z, d, f, visible_range v.r.r3 address true (ltb-false 0xC2 address d) k f, pieces.range)
     (refl, goes_in (omega arith) (record { r2 = address; r4 = sum_of Word v.r.r3 address; r5 = 0; r6 = a.r6; next = next; is = refl })))
-    (λ f. rw (space_bit form h, z, d, f, visible_range v.r.r3 address false (ltb-false 0xC2 address d) k f, pieces.range)
+    (λ f. rw (space_bit form, z, d, f, visible_range v.r.r3 address false (ltb-false 0xC2 address d) k f, pieces.range)
     (goes_in (omega arith) (record { r4 = sum_of Word v.r.r3 address; r6 = a.r6; is = refl })))))
     (λ (n : form / 32 % 2 ≡ 0 → ⊥).
     let one : form / 32 % 2 ≡ 1 = two_spaces form n in
-    rw (space_bit form h, one, pieces.range)
+    rw (space_bit form, one, pieces.range)
     (goes_in (omega arith) (record { r4 = a.r4; r6 = a.r6; is = refl })))
     (cases_eq (form / 32 % 2) 0))
 

@@ -2,6 +2,7 @@
 use Rattle.std.proofs.Common.{[], ℕ, ◌+◌, ◌<◌, ◌==◌, ◌∷◌, ◌≡◌, arith, false, List, nat_lt, refl, slice_index, slice_set, subst}
 use Rattle.std.proofs.Common.{sym, true}
 use Rattle.std.proofs.lemmas.Bool.{eq-eqb, eqb-true}
+use Rattle.sim_view.specs.Prelude.{conjunction_of}
 use Rattle.sim_view.proofs.Common.{ADDR, APTR, ASPACE, Exit, FETCH, high, high-join, INDEX, IsView, join, last_out, LDATA, Leads, leads}
 use Rattle.sim_view.proofs.Common.{LOAD, low, Part, part_then, pick, plus, Rest, SDATA, SEEK, shifted, SLA, SREG, SRL, STORE, STREAM, sum_of, View}
 use Rattle.sim_view.proofs.Common.{Word, word_in}
@@ -18,7 +19,7 @@ fetch v = record { by = λ f q. refl }
 pub range : (v : View) → Leads [] v ASPACE (pieces.range v)
 range v = record {
   by = λ f q.
-      pick (shifted SRL (shifted SLA v.r.r5 15) 15 == 0)
+      pick (conjunction_of v.r.r5 1 == 0)
       (λ c. pick (nat_lt 0xC2 v.r.r2)
       (λ d. rw (c, d, not_limit 0xC2 v.r.r2 d) refl)
       (λ d. pick (nat_lt 0xC2 (sum_of Word v.r.r3 v.r.r2))

@@ -3,10 +3,10 @@
 use Rattle.std.specs.Prelude.{ℕ, ◌+◌, ◌==◌, Bool, false, if◌then◌else◌, nat_lt, slice_index}
 use Rattle.std.specs.Prelude.{slice_set, true}
 pub use Rattle.sim_view.specs.count_defs.Counts.{one_if}
-use Rattle.sim_view.specs.Prelude.{APTR, ASPACE, even, Exit, grom_address_written, grom_data_read, GromState, GSTOP}
-use Rattle.sim_view.specs.Prelude.{high, INDEX, join, last_out, LDATA, low, SDATA, shifted, SLA, SREG, SRL, STREAM}
-use Rattle.sim_view.specs.Prelude.{sum_of, vdp_address_written, vdp_data_read, vdp_data_written, VdpState}
-use Rattle.sim_view.specs.Prelude.{View, Word, word_in}
+use Rattle.sim_view.specs.Prelude.{APTR, ASPACE, conjunction_of, even, Exit, grom_address_written, grom_data_read}
+use Rattle.sim_view.specs.Prelude.{GromState, GSTOP, high, INDEX, join, last_out, LDATA, low, SDATA, shifted, SLA}
+use Rattle.sim_view.specs.Prelude.{SREG, SRL, STREAM, sum_of, vdp_address_written, vdp_data_read, vdp_data_written}
+use Rattle.sim_view.specs.Prelude.{VdpState, View, Word, word_in}
 use Rattle.sim_view.specs.native_interp.declared.addresses.TheConstants.{ASHORT}
 
 abbrev pub exit : ℕ → ℕ → View → Exit
@@ -124,9 +124,9 @@ index v =
 -- ASPACE: register 5 becomes the space; in the cells, the range must be visible.
 abbrev pub range : View → Exit
 range v =
-    let space = shifted SRL (shifted SLA v.r.r5 15) 15 in
+    let space = conjunction_of v.r.r5 1 in
     let told = record v { r = record v.r { r5 = space } } in
-    if space == 0 then cells_range 3 told else exit 4 (return_of v) told
+    if space == 0 then cells_range 2 told else exit 3 (return_of v) told
 
 -- LOAD: a value of the cells is read, or the video processor is set to its address, or the value is that of STREAM.
 abbrev pub load : View → Exit

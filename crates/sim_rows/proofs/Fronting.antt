@@ -1,8 +1,10 @@
 -- The operands of a row, piece by piece: the first operand is asked for and found.
-use Rattle.std.proofs.Common.{ℕ, ◌%◌, ◌*◌, ◌+◌, ◌<◌, ◌==◌, ◌∙◌, ◌≡◌, ap, arith, Bool, false, List, refl, Result, subst, sym, true}
+use Rattle.std.proofs.Common.{ℕ, ◌%◌, ◌*◌, ◌+◌, ◌<◌, ◌==◌, ◌∙◌, ◌≡◌, ◌≤◌, ap, arith, Bool, false, List, refl, Result, subst, sym, true}
 use Rattle.std.proofs.lemmas.Bool.{eq-eqb, eqb-true}
+use Rattle.std.proofs.lemmas.Nat.{and_mask}
 use Rattle.sim_view.proofs.Common.{comes, comes_as, comes_on, Goes, is_view, previous-next}
-use Rattle.sim_rows.specs.Prelude.{ADDR, Addressed, Asking, AtDispatch, Barred, behind_code, behind_destination, code_byte, Comes, Cpu, destination_bytes}
+use Rattle.sim_rows.specs.Prelude.{ADDR, Addressed, Asking, AtDispatch, Barred, behind_code, behind_destination, code_byte, Comes, conjunction_of, Cpu}
+use Rattle.sim_rows.specs.Prelude.{destination_bytes}
 use Rattle.sim_rows.specs.Prelude.{Dispatched, even, Exits, Finds, FindsOperand, GplState, grom_at, GromState, GSTOP, Holds, is_row, Loaded, LoadsFrom}
 use Rattle.sim_rows.specs.Prelude.{MachineState, next_at, number_of_space, operand_at, operation_in, Place, place_in, place_of, Placed, previous_in_grom}
 use Rattle.sim_rows.specs.Prelude.{Reason, return_of, ROW, row_width, Sees, size_of, Space, state_at_dispatch, state_of, StoppedBy, Vdp, VdpState, View, view}
@@ -17,8 +19,8 @@ use Rattle.sim_view.specs.Bounds.{most_of_address}
 -- ---- numbers
 
 -- the width of a code byte's operands
-pub width_is : (code : ℕ) → code < 256 → pieces.width_of_code code ≡ code % 2 + 1
-width_is code h = omega arith
+pub width_is : (code : ℕ) → pieces.width_of_code code ≡ code % 2 + 1
+width_is code = let lowest : conjunction_of code 1 ≡ code % 2 = and_mask code 1 in omega arith
 
 twice_is : (code : ℕ) → code < 256 → pieces.twice_of_code code ≡ 2 * (code % 2 + 1)
 twice_is code h = omega arith
@@ -123,21 +125,21 @@ finds_of s t bytes at x y before after h same f =
 
 -- ---- the first operand
 
-narrow_is : (s : GplState) (v : View) → v.r.r0 ≡ code_byte s → code_byte s < 256 → pieces.width_of_code v.r.r0 ≡ size_of (row_width s)
-narrow_is s v e h = ap pieces.width_of_code e ∙ width_is (code_byte s) h ∙ sym (size_is (code_byte s))
+narrow_is : (s : GplState) (v : View) → v.r.r0 ≡ code_byte s → pieces.width_of_code v.r.r0 ≡ size_of (row_width s)
+narrow_is s v e = ap pieces.width_of_code e ∙ width_is (code_byte s) ∙ sym (size_is (code_byte s))
 
 wide_is : (s : GplState) (v : View) → v.r.r0 ≡ code_byte s → code_byte s < 256 → pieces.twice_of_code v.r.r0 ≡ 2 * size_of (row_width s)
 wide_is s v e h = ap pieces.twice_of_code e ∙ twice_is (code_byte s) h ∙ ap (λ n. 2 * n) (sym (size_is (code_byte s)))
 
 -- ADDR is asked for it
-asks : (s : GplState) (v : View) (bytes link : ℕ) → Dispatched s v → bytes ≡ destination_bytes s →
-    Goes (pieces.ask_place bytes link v) 6 ADDR (Asking s (destination_bytes s) (behind_code s) link)
-asks s v bytes link d e = record {
-  within = omega arith;
+asks : (s : GplState) (v : View) (count bytes link : ℕ) → count ≤ 6 → Dispatched s v → bytes ≡ destination_bytes s →
+    Goes (pieces.ask_place count bytes link v) 6 ADDR (Asking s (destination_bytes s) (behind_code s) link)
+asks s v count bytes link within d e = record {
+  within = within;
   to_is = refl;
   holds = record {
     holds = record {
-      sees = sees_again s (behind_code s) v (pieces.ask_place bytes link v).left d.sees refl refl refl;
+      sees = sees_again s (behind_code s) v (pieces.ask_place count bytes link v).left d.sees refl refl refl;
       code = d.code;
       address = d.address;
       bytes_are = e;
@@ -157,26 +159,26 @@ module _ {x : MachineState} (at : AtDispatch is_row x) where
   abbrev Asks : MachineState → ℕ → ℕ → Type 0
   Asks y t u = Comes 6 x y t u ADDR (Asking s (destination_bytes s) (behind_code s) (behind_destination (operation_in s)))
 
-  asks_at : {y : MachineState} {t u : ℕ} (bytes link : ℕ) → bytes ≡ destination_bytes s → behind_destination (operation_in s) ≡ link →
-      Exits x y t u (pieces.ask_place bytes link (view x)) → Asks y t u
-  asks_at {y = y} {t = t} {u = u} bytes link size is e =
+  asks_at : {y : MachineState} {t u : ℕ} (count bytes link : ℕ) → count ≤ 6 → bytes ≡ destination_bytes s → behind_destination (operation_in s) ≡ link →
+      Exits x y t u (pieces.ask_place count bytes link (view x)) → Asks y t u
+  asks_at {y = y} {t = t} {u = u} count bytes link within size is e =
       subst (λ (n : ℕ). Comes 6 x y t u ADDR (Asking s (destination_bytes s) (behind_code s) n)) (sym is)
-      (comes e (asks s (view x) bytes link at.dispatched size))
+      (comes e (asks s (view x) count bytes link within at.dispatched size))
 
   module _ {y : MachineState} {t u : ℕ} where
     pub asks_stored : x.cpu.pc ≡ STROW → Exits x y t u (pieces.ask_stored (view x)) → Asks y t u
     asks_stored here e =
         let k = (storer (operation_in s) at.family (sym at.stands.pc ∙ here)).kind in
-        let n = narrow_is s (view x) at.dispatched.code fits in
+        let n = narrow_is s (view x) at.dispatched.code in
         let b = k.bytes (row_width s) in
-        asks_at (pieces.width_of_code (view x).r.r0) STDST (omega arith) k.label_is e
+        asks_at 5 (pieces.width_of_code (view x).r.r0) STDST (omega arith) (omega arith) k.label_is e
 
     pub asks_wide : x.cpu.pc ≡ WIDE → Exits x y t u (pieces.ask_wide (view x)) → Asks y t u
     asks_wide here e =
         let k = (wide (operation_in s) at.family (sym at.stands.pc ∙ here)).kind in
         let n = wide_is s (view x) at.dispatched.code fits in
         let b = k.bytes (row_width s) in
-        asks_at (pieces.twice_of_code (view x).r.r0) WIDDST (omega arith) k.label_is e
+        asks_at 6 (pieces.twice_of_code (view x).r.r0) WIDDST (omega arith) (omega arith) k.label_is e
 
   module _ (not_wide : x.cpu.pc ≡ WIDE → ⊥) (not_stored : x.cpu.pc ≡ STROW → ⊥) where
     pub narrow_here : Kind (operation_in s) ROW OPSDST 1
@@ -185,9 +187,9 @@ module _ {x : MachineState} (at : AtDispatch is_row x) where
     pub asks_first : {y : MachineState} {t u : ℕ} → Exits x y t u (pieces.ask_first (view x)) → Asks y t u
     asks_first e =
         let k = narrow_here in
-        let n = narrow_is s (view x) at.dispatched.code fits in
+        let n = narrow_is s (view x) at.dispatched.code in
         let b = k.bytes (row_width s) in
-        asks_at (pieces.width_of_code (view x).r.r0) OPSDST (omega arith) k.label_is e
+        asks_at 5 (pieces.width_of_code (view x).r.r0) OPSDST (omega arith) (omega arith) k.label_is e
 
 -- it is found, or not
 pub record Located (s : GplState) (bytes : ℕ) (place : Place) (next : ℕ) (w : View) : Type 0 where

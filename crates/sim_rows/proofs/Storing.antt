@@ -175,7 +175,7 @@ drawn v = record v {
   };
 }
 
-ends_by : (v : View) → v.r.r13 ≡ 0 → pieces.show v ≡ exit 3 GSTEP v
+ends_by : (v : View) → v.r.r13 ≡ 0 → pieces.show v ≡ exit 2 GSTEP v
 ends_by v e = let c : (v.r.r13 == 0) ≡ true = ap (λ n. n == 0) e in rw (c, pieces.show) refl
 
 draws_by : (v : View) → (v.r.r13 ≡ 0 → ⊥) → pieces.show v ≡ exit 13 STORE (drawn v)
@@ -190,8 +190,8 @@ ends_plain {x = x} {y = y} {t = t} {u = u} none_marked e c h =
     let v : View = view x in
     let none = mark_none c.shows v.r.r13 h.mark none_marked in
     let same : finished c ≡ c.state = ap (λ b. shown b c.state) none in
-    let e2 = exits_by (pieces.show v) (exit 3 GSTEP v) (ends_by v none_marked) e in
-    let run : Comes 3 x y t u GSTEP (Sees c.state c.state.pc) =
+    let e2 = exits_by (pieces.show v) (exit 2 GSTEP v) (ends_by v none_marked) e in
+    let run : Comes 2 x y t u GSTEP (Sees c.state c.state.pc) =
     comes e2 (goes_in (omega arith) (record { cells = h.cells; vdp = h.vdp; registers = h.registers; held = h.held; grom = h.grom })) in
     subst (λ (g : GplState). Comes most_of_show x y t u GSTEP (Sees g g.pc)) (sym same)
     (comes_as most_of_show (Sees c.state c.state.pc) run (omega arith) (λ w a. a))

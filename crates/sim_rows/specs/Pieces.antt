@@ -2,9 +2,9 @@
 -- instructions they have, where they end, and what they change of the view, in the words of the processor. Registers,
 -- cells and ports that are not named stay.
 use Rattle.std.specs.Prelude.{ℕ, Bool, ◌+◌, ◌-◌, ◌/◌, ◌==◌, if◌then◌else◌, nat_lt, slice_index}
-use Rattle.sim_view.specs.Prelude.{ADDR, CHARACTER, COLUMN, difference_of, even, Exit, GO, grom_address_read}
-use Rattle.sim_view.specs.Prelude.{GromState, GSTEP, INTERP, join, last_out, LOAD, low, OPTAB, OPVAL, origin}
-use Rattle.sim_view.specs.Prelude.{shifted, SHOW, SLA, SRL, STORE, STREAM, sum_of, TABLE, View, Word}
+use Rattle.sim_view.specs.Prelude.{ADDR, CHARACTER, COLUMN, conjunction_of, difference_of, even, Exit, GO}
+use Rattle.sim_view.specs.Prelude.{grom_address_read, GromState, GSTEP, INTERP, join, last_out, LOAD, low, OPTAB}
+use Rattle.sim_view.specs.Prelude.{OPVAL, origin, shifted, SHOW, SLA, SRL, STORE, STREAM, sum_of, TABLE, View, Word}
 use Rattle.sim_view.specs.grom_defs.declared.size.TheConstants.{GROM_SIZE}
 use Rattle.sim_view.specs.gpl_step_defs.declared.cells.TheConstants.{ROW}
 use Rattle.sim_operands.specs.Pieces.{exit, one_if, past, return_of, set_to}
@@ -56,23 +56,23 @@ where_next v =
     })
 
 -- ROW, STROW and WIDE: the place of the first operand is asked for, of so many bytes; nothing was stored yet.
-abbrev pub ask_place : ℕ → ℕ → View → Exit
-ask_place bytes link v = exit 6 ADDR (record v { r = record v.r { r3 = bytes; r11 = link; r13 = 0 } })
+abbrev pub ask_place : ℕ → ℕ → ℕ → View → Exit
+ask_place count bytes link v = exit count ADDR (record v { r = record v.r { r3 = bytes; r11 = link; r13 = 0 } })
 
 abbrev pub width_of_code : ℕ → ℕ
-width_of_code code = sum_of Word (shifted SRL (shifted SLA code 15) 15) 1
+width_of_code code = sum_of Word (conjunction_of code 1) 1
 
 abbrev pub twice_of_code : ℕ → ℕ
 twice_of_code code = sum_of Word (shifted SRL (shifted SLA code 15) 14) 2
 
 abbrev pub ask_first : View → Exit
-ask_first v = ask_place (width_of_code v.r.r0) OPSDST v
+ask_first v = ask_place 5 (width_of_code v.r.r0) OPSDST v
 
 abbrev pub ask_stored : View → Exit
-ask_stored v = ask_place (width_of_code v.r.r0) STDST v
+ask_stored v = ask_place 5 (width_of_code v.r.r0) STDST v
 
 abbrev pub ask_wide : View → Exit
-ask_wide v = ask_place (twice_of_code v.r.r0) WIDDST v
+ask_wide v = ask_place 6 (twice_of_code v.r.r0) WIDDST v
 
 -- OPSDST and WIDDST: the value there is asked for, and the place is kept as the destination.
 abbrev pub load_kept : ℕ → View → Exit
@@ -132,7 +132,7 @@ show v =
     let row = shifted SLA (shifted SRL (join (slice_index v.cells ROW) (low v.r.r7)) 8) 5 in
     let column = shifted SRL (join (slice_index v.cells COLUMN) (low v.r.r4)) 8 in
     if v.r.r13 == 0
-    then exit 3 GSTEP v
+    then exit 2 GSTEP v
     else exit 13 STORE (record v {
       r = record v.r {
         r3 = 1;

@@ -39,11 +39,11 @@ most_of_result = 47
 
 -- the store of a result with its status, from STORE to the next step
 abbrev pub most_of_status : ℕ
-most_of_status = 47
+most_of_status = 46
 
 -- from the entry of a row to the end of its step
 abbrev pub most_of_alu_row : ℕ
-most_of_alu_row = 54
+most_of_alu_row = 52
 
 abbrev pub most_of_shift_row : ℕ
 most_of_shift_row = 63

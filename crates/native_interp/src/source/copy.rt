@@ -1,7 +1,7 @@
 //! The lines of MOVE, ALL and BACK.
 
 /// The last lines of the interpreter's source: MOVE, ALL and BACK.
-pub const COPY_LINES: [&str; 160] = [
+pub const COPY_LINES: [&str; 161] = [
     "* LONG: R0 becomes the reason; 2. Goes to GSTOP.",
     "LONG   LI R0,4",
     "       B @GSTOP",
@@ -103,14 +103,17 @@ pub const COPY_LINES: [&str; 160] = [
     "       DEC R12",
     "       JNE COPY",
     "COPYE  CI R5,2",
-    "       JEQ COPYR",
+    "       JEQ RESUME",
     "       B @SHOW",
-    "COPYR  B @RESUME",
+    "* RESUME: GROM goes on at R14. 3. Goes to SHOW.",
+    "RESUME MOVB R14,@GRMWA",
+    "       MOVB @R14LB,@GRMWA",
+    "       B @SHOW",
     "* MOVER: the target is the registers of the video chip from the",
     "* number on that follows. If one of them is not there, to NOREG.",
     "* At most 9. Changes R4, R7, R8. Goes to MOVES. MOVES: the",
     "* source is the address that follows. 2, then STREAM. MOVEA: R2",
-    "* is that with its index, if the code has one. 7, then INDEX.",
+    "* is that with its index, if the code has one. 5, then INDEX.",
     "* MOVEX: asks where the next instruction is. 1, then WHERE.",
     "* MOVEW: R14 keeps that, and GROM goes to R2. 3, then SEEK.",
     "* MOVEK: the bytes there are the source. 2. Changes R2 to R6,",
@@ -127,9 +130,7 @@ pub const COPY_LINES: [&str; 160] = [
     "       BL @STREAM",
     "MOVEA  MOV R6,R2",
     "       MOV R0,R5",
-    "       SRL R5,1",
-    "       SLA R5,15",
-    "       SRL R5,14",
+    "       ANDI R5,2",
     "       INC R5",
     "       BL @INDEX",
     "MOVEX  BL @WHERE",
