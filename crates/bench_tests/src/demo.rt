@@ -10,15 +10,15 @@ use std::test::Fail;
 const SUMMARIES: &[(&[u8], &[u8])] = &[
     (
         b"1",
-        b"demo 1\nimage 8\nsteps 1\npad 565\nvdp 0\nexit\ncount 93\n",
+        b"demo 1\nimage 8\nsteps 1\npad 565\nvdp 0\nexit\ncount 89\n",
     ),
     (
         b"2",
-        b"demo 2\nimage 13\nsteps 2\npad 663\nvdp 0\nexit\ncount 177\n",
+        b"demo 2\nimage 13\nsteps 2\npad 663\nvdp 0\nexit\ncount 170\n",
     ),
     (
         b"500",
-        b"demo 500\nimage 2331\nsteps 750\npad 2745\nvdp 980463\nexit\ncount 102212\n",
+        b"demo 500\nimage 2331\nsteps 750\npad 2745\nvdp 980463\nexit\ncount 100087\n",
     ),
 ];
 

@@ -1,5 +1,5 @@
 -- The copy as a whole, and its end.
-use Rattle.std.proofs.Common.{ℕ, ◌*◌, ◌+◌, ◌<◌, ◌==◌, ◌∙◌, ◌≡◌, ◌≤◌, ap, arith, Bool, false, if◌then◌else◌, refl, subst, sym}
+use Rattle.std.proofs.Common.{ℕ, ◌*◌, ◌+◌, ◌<◌, ◌==◌, ◌∙◌, ◌≡◌, ◌≤◌, ap, arith, Bool, false, if◌then◌else◌, refl, subst, sym, true}
 use Rattle.std.proofs.lemmas.Bool.{ne_eqb}
 use Rattle.sim_rows.proofs.Common.{Changed, Changes, Comes, comes, comes_as, comes_on, comes_then, copied, EndsRow, Exit, Exits, From, GromState, idle_again}
 use Rattle.sim_rows.proofs.Common.{idle_grom, idle_told, idle_video, is_end, is_view, IsFetched, MachineState, MOVEB, PortsAreIdle, RESUME, SeesFinished, SHOW}
