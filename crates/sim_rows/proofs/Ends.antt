@@ -1,5 +1,5 @@
 -- What a view at one of the interpreter's ends says of its machine.
-use Rattle.std.proofs.Common.{ℕ, ◌+◌, ◌<◌, ◌∙◌, ◌≡◌, ◌≤◌, ap, arith, Bool, Err, false, is_none, List, lit<, not, Ok, refl, Result, slice_index, subst, suc}
+use Rattle.std.proofs.Common.{ℕ, ◌+◌, ◌<◌, ◌∙◌, ◌≡◌, ◌≤◌, ap, arith, Err, false, is_none, List, lit<, not, Ok, refl, Result, slice_index, subst, suc}
 use Rattle.std.proofs.Common.{sym, true, zero}
 use Rattle.sim_view.proofs.Common.{given, holds_register, previous-next, runs_then}
 use Rattle.sim_operands.proofs.Facts.{not_both}

@@ -5,7 +5,7 @@ use Rattle.sim_view.proofs.Common.{comes, comes_as, comes_then, IsView, previous
 use Rattle.sim_rows.specs.Prelude.{◌>>=◌, ADDR, behind_first, code_byte, Comes, Exit, exit, Exits, Finds, FindsOperand, GO, gone_on, GplOperand, GplSource}
 use Rattle.sim_rows.specs.Prelude.{GplState, grom_at, GromState, GSTOP, has_source, in_register, is_immediate, Kept, last_out, LOAD, LoadsBy, LoadsValue}
 use Rattle.sim_rows.specs.Prelude.{MachineState, next_at, next_of, operand_at, OPVAL, Place, place_of, Reason, row_width, second_by, second_of, Sees, shifted}
-use Rattle.sim_rows.specs.Prelude.{size_of, Source, source_at, source_of, source_read, Sourced, SRL, Stands, STREAM, streamed, value_at, View, view, Width}
+use Rattle.sim_rows.specs.Prelude.{size_of, Source, source_at, source_of, source_read, Sourced, SRL, STREAM, streamed, value_at, View, view, Width}
 use Rattle.sim_rows.specs.Prelude.{width_in, word_of, word_or_byte}
 use Rattle.sim_view.specs.gpl_defs.Reading.{value_at as value_in}
 use Rattle.sim_operands.proofs.Transfers.{streams}

@@ -1,6 +1,6 @@
 use Rattle.std.proofs.Common.{◌∙◌, ◌≡◌, arith}
 use Rattle.sim_view.proofs.Common.{off, on}
-use Rattle.sim_rows.specs.Prelude.{ROW, WIDE}
+use Rattle.sim_rows.specs.Prelude.{ROW}
 use Rattle.sim_view.specs.native_interp.declared.addresses.TheConstants.{STROW}
 use Rattle.sim_rows.proofs.Fronting
 use Rattle.sim_rows.proofs.Telling.{stands_at}

@@ -1,5 +1,4 @@
-use Rattle.std.proofs.Common.{◌≡◌, arith}
-use Rattle.sim_rows.proofs.Common.{GSTOP, off, on}
+use Rattle.sim_rows.proofs.Common.{off, on}
 use Rattle.sim_stack.proofs.Pushing
 use Rattle.sim_stack.proofs.push.run_push.Goals as goal
 

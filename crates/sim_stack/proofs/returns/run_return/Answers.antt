@@ -1,5 +1,4 @@
-use Rattle.std.proofs.Common.{◌≡◌, arith}
-use Rattle.sim_rows.proofs.Common.{GSTOP, off, on, state_at_dispatch, TAKE, view}
+use Rattle.sim_rows.proofs.Common.{off, on, state_at_dispatch, view}
 use Rattle.sim_stack.proofs.Returning
 use Rattle.sim_stack.proofs.returns.run_return.Goals as goal
 
