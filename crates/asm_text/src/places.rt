@@ -16,7 +16,10 @@ pub(crate) fn feed_place(text: &[u8], from: usize) -> usize
     requires { from ≤ length text.now }
     ensures { result ≡ feed_place text.now from }
 {
-    let mut from = from;
+    if from == text.len() || is_line_feed(text[from]) {
+        return from;
+    }
+    let mut from = from + 1;
     while text.len() - from >= 4 {
         if is_line_feed(text[from]) {
             return from;

@@ -1,14 +1,10 @@
 -- What an operation field names, by the number of its text.
 use Rattle.std.proofs.Common.{◌≡◌, ℕ, List, refl, sym, ap, ◌∙◌}
-use Rattle.std.specs.Prelude.{map, Option}
-use Rattle.gpl_source_defs.specs.declared.mnemonic.Mnemonic.{Mnemonic}
+use Rattle.std.specs.Prelude.{Option}
 use Rattle.gpl_source_defs.specs.Mnemonics.{mnemonic, mnemonics, name_of}
-use Rattle.asm_text.specs.WordKeys.{key_of, word_key, with_key}
+use Rattle.asm_text.specs.WordKeys.{word_key, with_key}
+use Rattle.gpl_lines.specs.Named.{named}
 use Rattle.asm_text.proofs.WordKeys.{AreBytes, words_found}
-
--- the instructions, each behind the number of its name
-abbrev pub named : List (ℕ × Mnemonic)
-named = map (λ thing. (key_of (name_of thing), thing)) mnemonics
 
 pub by_key : (text : List ℕ) → AreBytes text → mnemonic text ≡ with_key (word_key text) named
 unfolding mnemonic
