@@ -69,7 +69,18 @@ pub fn is_comment_line(line: &[u8]) -> bool
     ensures told { result ≡ (nat_le (length line.now) spec.longest_line && spec.is_comment line.now) }
     ensures fields { IsTrue result → spec.fields line.now ≡ Ok spec.no_fields }
 {
-    line.len() <= LONGEST_LINE && is_comment(line, word_start(line, 0))
+    line.len() <= LONGEST_LINE && is_blank_or_comment(line)
+}
+
+/// Whether a line is blank or has an asterisk in column 1. One whose last byte is no blank is not blank.
+#[tactic(auto, using(crate::proofs::Comments::told_by_last))]
+fn is_blank_or_comment(line: &[u8]) -> bool
+    ensures { result ≡ spec.is_comment line.now }
+{
+    match line {
+        [.., last] if !is_blank(*last) => is_asterisk(line[0]),
+        _ => is_comment(line, word_start(line, 0)),
+    }
 }
 
 /// Whether a line is blank or has an asterisk in column 1, by the place of its first byte that is no blank.
