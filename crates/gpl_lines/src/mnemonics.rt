@@ -55,17 +55,13 @@ const TWO_WORDS: [(u64, Mnemonic); 19] = [
     (0x01_4352_5344, Mnemonic::Two(TwoName::SRC, true)), // DSRC
 ];
 
-/// MOVE, and the instructions that lead elsewhere, each behind the number of its name.
-const ELSEWHERE: [(u64, Mnemonic); 5] = [
+/// MOVE, the instructions that lead elsewhere, and those with one operand, each behind the number of its name.
+const ONE: [(u64, Mnemonic); 17] = [
     (0x01_4556_4F4D, Mnemonic::Move), // MOVE
     (0x01_5242, Mnemonic::Branch(false)), // BR
     (0x01_5342, Mnemonic::Branch(true)), // BS
     (0x0142, Mnemonic::Jump(GoOp::B)), // B
     (0x01_4C4C_4143, Mnemonic::Jump(GoOp::CALL)), // CALL
-];
-
-/// The instructions with one operand, each behind the number of its name.
-const ONE: [(u64, Mnemonic); 12] = [
     (0x0153_4241, Mnemonic::One(OneName::ABS, false)), // ABS
     (0x0147_454E, Mnemonic::One(OneName::NEG, false)), // NEG
     (0x0156_4E49, Mnemonic::One(OneName::INV, false)), // INV
@@ -123,9 +119,6 @@ fn instruction_named(key: u64) -> Option<Mnemonic>
         return Some(found);
     }
     if let Some(found) = named_in(&TWO_WORDS, key) {
-        return Some(found);
-    }
-    if let Some(found) = named_in(&ELSEWHERE, key) {
         return Some(found);
     }
     if let Some(found) = named_in(&ONE, key) {
