@@ -1,3 +1,4 @@
+pub mod Beginnings
 pub mod Comments
 pub mod Names
 pub mod Inside
