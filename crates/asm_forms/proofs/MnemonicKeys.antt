@@ -1,20 +1,16 @@
 -- What an operation field names, by the number of its text.
 use Rattle.std.proofs.Common.{◌≡◌, ℕ, cond, List, Some, false, refl, sym, ap, subst, ◌∙◌, arith}
-use Rattle.std.specs.Prelude.{Option, ◌==◌, find, map, codes}
+use Rattle.std.specs.Prelude.{Option, ◌==◌, find, codes}
 use Rattle.std.specs.Option.{option_map}
 use Rattle.std.proofs.lemmas.Bool.Decides.{nat_tests}
 use Rattle.source_defs.specs.Names.{is_word}
 use Rattle.tms_defs.specs.Instructions.{operations}
-use Rattle.tms_defs.specs.declared.instruction.Operation.{Operation}
 use Rattle.instruction_defs.specs.Operations.{name_of, mnemonic}
 use Rattle.instruction_defs.specs.declared.mnemonic.Mnemonic.{Mnemonic}
 use Rattle.instruction_defs.specs.declared.mnemonic.Mnemonic.TheVariants.{Of, Fixed}
 use Rattle.asm_text.specs.WordKeys.{key_of, word_key, is_of_key, with_key}
+use Rattle.asm_forms.specs.Named.{named}
 use Rattle.asm_text.proofs.WordKeys.{AreBytes, word_told, words_found}
-
--- the operations, each behind the number of its name
-abbrev pub named : List (ℕ × Operation)
-named = map (λ operation. (key_of (name_of operation), operation)) operations
 
 -- what a number names
 abbrev pub named_by : Option ℕ → Option Mnemonic

@@ -1,14 +1,16 @@
 //! What an operation field names.
 
-ghost use Rattle.std.specs.Prelude.{◌≡◌};
+ghost use Rattle.std.specs.Prelude.{◌≡◌, Some};
+ghost use Rattle.asm_text.specs.WordKeys.{with_key};
+ghost use Rattle.asm_forms.specs.Named.{named};
 ghost use Rattle.instruction_defs.specs.Operations as spec;
 
 use asm_text::{named_in, word_key};
 use instruction_defs::Mnemonic;
 use tms_defs::{BareOp, ImmOp, JumpOp, OneOp, Operation, RegOp, ShiftOp, TwoOp};
 
-/// The operations, in the order of the instruction table, each behind the number of its name.
-const NAMED: [(u64, Operation); 69] = [
+/// The operations on two general operands, each behind the number of its name.
+const ON_TWO: [(u64, Operation); 12] = [
     (0x0143_5A53, Operation::Two(TwoOp::SZC, false)), // SZC
     (0x01_4243_5A53, Operation::Two(TwoOp::SZC, true)), // SZCB
     (0x0153, Operation::Two(TwoOp::S, false)), // S
@@ -21,6 +23,10 @@ const NAMED: [(u64, Operation); 69] = [
     (0x01_4256_4F4D, Operation::Two(TwoOp::MOV, true)), // MOVB
     (0x0143_4F53, Operation::Two(TwoOp::SOC, false)), // SOC
     (0x01_4243_4F53, Operation::Two(TwoOp::SOC, true)), // SOCB
+];
+
+/// The operations on a general operand and a register or a count, and the shifts, each behind the number of its name.
+const ON_REGISTER: [(u64, Operation); 12] = [
     (0x0143_4F43, Operation::Reg(RegOp::COC)), // COC
     (0x0143_5A43, Operation::Reg(RegOp::CZC)), // CZC
     (0x0152_4F58, Operation::Reg(RegOp::XOR)), // XOR
@@ -33,6 +39,10 @@ const NAMED: [(u64, Operation); 69] = [
     (0x014C_5253, Operation::Shift(ShiftOp::SRL)), // SRL
     (0x0141_4C53, Operation::Shift(ShiftOp::SLA)), // SLA
     (0x0143_5253, Operation::Shift(ShiftOp::SRC)), // SRC
+];
+
+/// The operations on one general operand, each behind the number of its name.
+const ON_ONE: [(u64, Operation); 14] = [
     (0x01_5057_4C42, Operation::One(OneOp::BLWP)), // BLWP
     (0x0142, Operation::One(OneOp::B)), // B
     (0x0158, Operation::One(OneOp::X)), // X
@@ -47,6 +57,10 @@ const NAMED: [(u64, Operation); 69] = [
     (0x01_4250_5753, Operation::One(OneOp::SWPB)), // SWPB
     (0x01_4F54_4553, Operation::One(OneOp::SETO)), // SETO
     (0x0153_4241, Operation::One(OneOp::ABS)), // ABS
+];
+
+/// The jumps, and the operations on one bit, each behind the number of its name.
+const JUMPS: [(u64, Operation); 16] = [
     (0x0150_4D4A, Operation::Jump(JumpOp::JMP)), // JMP
     (0x0154_4C4A, Operation::Jump(JumpOp::JLT)), // JLT
     (0x0145_4C4A, Operation::Jump(JumpOp::JLE)), // JLE
@@ -63,6 +77,10 @@ const NAMED: [(u64, Operation); 69] = [
     (0x014F_4253, Operation::Jump(JumpOp::SBO)), // SBO
     (0x015A_4253, Operation::Jump(JumpOp::SBZ)), // SBZ
     (0x01_4254, Operation::Jump(JumpOp::TB)), // TB
+];
+
+/// The operations with a value or none, each behind the number of its name.
+const OTHERS: [(u64, Operation); 15] = [
     (0x01_494C, Operation::Imm(ImmOp::LI)), // LI
     (0x01_4941, Operation::Imm(ImmOp::AI)), // AI
     (0x01_4944_4E41, Operation::Imm(ImmOp::ANDI)), // ANDI
@@ -104,5 +122,24 @@ pub(crate) fn mnemonic(text: &[u8]) -> Option<Mnemonic>
     if key == RT_KEY {
         return Some(Mnemonic::Fixed(RT));
     }
-    named_in(&NAMED, key).map(Mnemonic::Of)
+    operation_named(key).map(Mnemonic::Of)
+}
+
+/// The operation whose name has a number. The tables are short, so that each is searched in a few steps.
+fn operation_named(key: u64) -> Option<Operation>
+    ensures { result ≡ with_key (Some key) named }
+{
+    if let Some(found) = named_in(&ON_TWO, key) {
+        return Some(found);
+    }
+    if let Some(found) = named_in(&ON_REGISTER, key) {
+        return Some(found);
+    }
+    if let Some(found) = named_in(&ON_ONE, key) {
+        return Some(found);
+    }
+    if let Some(found) = named_in(&JUMPS, key) {
+        return Some(found);
+    }
+    named_in(&OTHERS, key)
 }

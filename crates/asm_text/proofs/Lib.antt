@@ -1,3 +1,5 @@
+pub mod Beginnings
+pub mod Comments
 pub mod Names
 pub mod Inside
 pub mod Keys

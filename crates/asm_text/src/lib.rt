@@ -43,7 +43,7 @@ pub use crate::quoted_texts::{
     between_quotes, character_count, is_quoted, quoted, quoted_characters,
 };
 pub use crate::scan::tokens;
-pub use crate::split::{fields, is_comment_line, operation_text, upper_case_name};
+pub use crate::split::{fields, is_comment_line, is_operation, upper_case_name};
 pub use crate::symbols::{DefineError, Symbols};
 pub use crate::text::{lines, part};
 pub use crate::token::{Token, TokenKind};

@@ -1,9 +1,10 @@
 //! The places in a text or a line where something begins or ends.
 
-ghost use Rattle.std.specs.Prelude.{◌≡◌, ◌≤◌, length, if◌then◌else◌, Some, None};
+ghost use Rattle.std.specs.Prelude.{◌≡◌, ◌≤◌, length, if◌then◌else◌, Some, None, false};
 ghost use Rattle.source_defs.specs.Fields as spec;
 ghost use Rattle.source_defs.specs.Fields.{in_quotes};
 ghost use Rattle.source_defs.specs.Tokens as tokens;
+ghost use Rattle.source_defs.specs.Least.{least_place};
 ghost use Rattle.source_defs.specs.Lines.{feed_place};
 
 use crate::characters::{is_blank, is_digit, is_letter_or_digit, is_line_feed, is_quote};
@@ -12,6 +13,34 @@ use crate::numbers::is_hexadecimal_digit;
 /// From a place on, the first line feed, or the text's end.
 #[tactic(auto, using(source_defs::proofs::LeastLaws::leasts))]
 pub(crate) fn feed_place(text: &[u8], from: usize) -> usize
+    requires { from ≤ length text.now }
+    ensures { result ≡ feed_place text.now from }
+{
+    if from == text.len() || is_line_feed(text[from]) {
+        return from;
+    }
+    let mut from = from + 1;
+    while text.len() - from >= 4 {
+        if is_line_feed(text[from]) {
+            return from;
+        }
+        if is_line_feed(text[from + 1]) {
+            return from + 1;
+        }
+        if is_line_feed(text[from + 2]) {
+            return from + 2;
+        }
+        if is_line_feed(text[from + 3]) {
+            return from + 3;
+        }
+        from += 4;
+    }
+    last_feed_place(text, from)
+}
+
+/// The same, byte by byte.
+#[tactic(auto, using(source_defs::proofs::LeastLaws::leasts))]
+fn last_feed_place(text: &[u8], from: usize) -> usize
     requires { from ≤ length text.now }
     ensures { result ≡ feed_place text.now from }
 {
@@ -59,8 +88,29 @@ pub(crate) fn operand_end(line: &[u8], start: usize) -> usize
     requires { start ≤ length line.now }
     ensures { result ≡ spec.operand_end line.now start }
 {
-    let mut quoted = false;
     for at in start..line.len() {
+        let byte = line[at];
+        if is_blank(byte) {
+            return at;
+        }
+        if is_quote(byte) {
+            return quoting_end(line, start, at);
+        }
+    }
+    line.len()
+}
+
+/// The same from a place on that stands outside quotes, where no end stands before it.
+#[tactic(auto, using(source_defs::proofs::LeastLaws::leasts, source_defs::proofs::Quotes::quoting))]
+fn quoting_end(line: &[u8], start: usize, from: usize) -> usize
+    requires order { start ≤ from }
+    requires within { from ≤ length line.now }
+    requires apart { in_quotes line.now start from ≡ false }
+    requires none_before { least_place (spec.ends_field line.now start) line.now from ≡ spec.operand_end line.now start }
+    ensures { result ≡ spec.operand_end line.now start }
+{
+    let mut quoted = false;
+    for at in from..line.len() {
         let byte = line[at];
         if is_blank(byte) && !quoted {
             return at;

@@ -5,13 +5,15 @@ ghost use Rattle.std.specs.Prelude.{ℕ, Some, None, Ok, length, take, map, repl
 ghost use Rattle.std.specs.Prelude.{is_some, IfOk, IfSome, if◌then◌else◌};
 ghost use Rattle.source_defs.specs.Fields as spec;
 ghost use Rattle.source_defs.specs.Characters.{upper_case};
-ghost use Rattle.source_defs.specs.Names.{all_letters_or_digits, is_name, IsUpperCaseName};
+ghost use Rattle.source_defs.specs.Names.{all_letters_or_digits, is_name, is_word, IsUpperCaseName};
+ghost use Rattle.asm_text.specs.WordKeys.{begins_apart};
 ghost use Rattle.asm_text.specs.GivenFields.{defined_fields, defined_answer, FieldsLieInside};
 
 use crate::characters::{is_asterisk, is_blank, is_letter, is_letter_or_digit, upper_case};
 use crate::line_fields::Fields;
 use crate::name::{LONGEST_NAME, Name};
 use crate::places::{operand_end, word_end, word_start};
+use crate::words::is_word;
 use source_defs::{Span, TextError};
 
 /// The most bytes that a line has.
@@ -52,15 +54,28 @@ pub fn fields(line: &[u8]) -> Result<Fields, TextError>
     }
 }
 
-/// What stands in a line behind its label field and the blanks behind that, up to a blank: the operation, where the
-/// line is no comment and has one.
-#[tactic(auto, using(source_defs::proofs::LeastLaws::least_bounds))]
-pub fn operation_text(line: &[u8]) -> &[u8]
-    ensures { result.now ≡ slice_range line.now (spec.word_start line.now (spec.word_end line.now 0))
-        (spec.word_end line.now (spec.word_start line.now (spec.word_end line.now 0))) }
+/// Whether what stands in a line behind its label field and the blanks behind that, up to a blank, is a word, but for
+/// the case of its letters: the operation, where the line is no comment and has one. The word is given in upper case.
+#[tactic(auto, using(crate::proofs::Beginnings::no_word, source_defs::proofs::LeastLaws::least_bounds))]
+pub fn is_operation(line: &[u8], word: &[u8]) -> bool
+    ensures { result ≡ is_word (slice_range line.now (spec.word_start line.now (spec.word_end line.now 0))
+        (spec.word_end line.now (spec.word_start line.now (spec.word_end line.now 0)))) word.now }
 {
     let start = word_start(line, word_end(line, 0));
-    &line[start..word_end(line, start)]
+    if begins_apart(&line[start..], word) {
+        return false;
+    }
+    is_word(&line[start..word_end(line, start)], word)
+}
+
+/// Whether a text and a word begin with different letters, whatever the case of the text's.
+fn begins_apart(text: &[u8], word: &[u8]) -> bool
+    ensures { result ≡ begins_apart text.now word.now }
+{
+    match (text, word) {
+        ([first, ..], [letter, ..]) => upper_case(*first) != *letter,
+        _ => false,
+    }
 }
 
 /// Whether a line is a comment of at most 256 bytes: blank, or with an asterisk in column 1. It has no fields then.
@@ -69,7 +84,18 @@ pub fn is_comment_line(line: &[u8]) -> bool
     ensures told { result ≡ (nat_le (length line.now) spec.longest_line && spec.is_comment line.now) }
     ensures fields { IsTrue result → spec.fields line.now ≡ Ok spec.no_fields }
 {
-    line.len() <= LONGEST_LINE && is_comment(line, word_start(line, 0))
+    line.len() <= LONGEST_LINE && is_blank_or_comment(line)
+}
+
+/// Whether a line is blank or has an asterisk in column 1. One whose last byte is no blank is not blank.
+#[tactic(auto, using(crate::proofs::Comments::told_by_last))]
+fn is_blank_or_comment(line: &[u8]) -> bool
+    ensures { result ≡ spec.is_comment line.now }
+{
+    match line {
+        [.., last] if !is_blank(*last) => is_asterisk(line[0]),
+        _ => is_comment(line, word_start(line, 0)),
+    }
 }
 
 /// Whether a line is blank or has an asterisk in column 1, by the place of its first byte that is no blank.

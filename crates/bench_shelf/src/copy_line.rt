@@ -5,7 +5,7 @@ ghost use Rattle.shelf_defs.specs.CopyLines as spec;
 ghost use Rattle.bench_shelf.specs.Asking.{defined_asked};
 
 use crate::file_name::FileName;
-use asm_text::{Name, between_quotes, fields, is_quote, is_word, operation_text, part};
+use asm_text::{Name, between_quotes, fields, is_operation, is_quote, is_word, part};
 
 /// What a line of a source asks for.
 pub(crate) enum Asked {
@@ -23,7 +23,7 @@ pub(crate) enum Asked {
 pub(crate) fn asked_by(line: &[u8]) -> Asked
     ensures { defined_asked result ≡ spec.asked line.now }
 {
-    if !is_word(operation_text(line), b"COPY") {
+    if !is_operation(line, b"COPY") {
         return Asked::Itself;
     }
     let Ok(found) = fields(line) else {

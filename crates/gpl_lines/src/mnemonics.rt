@@ -1,14 +1,16 @@
 //! The instructions by their names.
 
-ghost use Rattle.std.specs.Prelude.{◌≡◌};
+ghost use Rattle.std.specs.Prelude.{◌≡◌, Some};
+ghost use Rattle.asm_text.specs.WordKeys.{with_key};
 ghost use Rattle.gpl_source_defs.specs.Mnemonics as spec;
+ghost use Rattle.gpl_lines.specs.Named.{named};
 
 use asm_text::{named_in, word_key};
 use gpl_defs::{ByteOp, GoOp, OneName, PlainOp, TwoName};
 use gpl_source_defs::Mnemonic;
 
-/// The instructions that have a name, each behind the number of its name.
-const NAMED: [(u64, Mnemonic); 75] = [
+/// The instructions with a destination and a source, each behind the number of its name.
+const TWO: [(u64, Mnemonic); 19] = [
     (0x0144_4441, Mnemonic::Two(TwoName::ADD, false)), // ADD
     (0x0142_5553, Mnemonic::Two(TwoName::SUB, false)), // SUB
     (0x014C_554D, Mnemonic::Two(TwoName::MUL, false)), // MUL
@@ -28,6 +30,10 @@ const NAMED: [(u64, Mnemonic); 75] = [
     (0x014C_4C53, Mnemonic::Two(TwoName::SLL, false)), // SLL
     (0x014C_5253, Mnemonic::Two(TwoName::SRL, false)), // SRL
     (0x0143_5253, Mnemonic::Two(TwoName::SRC, false)), // SRC
+];
+
+/// The same on words, each behind the number of its name.
+const TWO_WORDS: [(u64, Mnemonic); 19] = [
     (0x01_4444_4144, Mnemonic::Two(TwoName::ADD, true)), // DADD
     (0x01_4255_5344, Mnemonic::Two(TwoName::SUB, true)), // DSUB
     (0x01_4C55_4D44, Mnemonic::Two(TwoName::MUL, true)), // DMUL
@@ -47,6 +53,10 @@ const NAMED: [(u64, Mnemonic); 75] = [
     (0x01_4C4C_5344, Mnemonic::Two(TwoName::SLL, true)), // DSLL
     (0x01_4C52_5344, Mnemonic::Two(TwoName::SRL, true)), // DSRL
     (0x01_4352_5344, Mnemonic::Two(TwoName::SRC, true)), // DSRC
+];
+
+/// MOVE, the instructions that lead elsewhere, and those with one operand, each behind the number of its name.
+const ONE: [(u64, Mnemonic); 17] = [
     (0x01_4556_4F4D, Mnemonic::Move), // MOVE
     (0x01_5242, Mnemonic::Branch(false)), // BR
     (0x01_5342, Mnemonic::Branch(true)), // BS
@@ -64,6 +74,10 @@ const NAMED: [(u64, Mnemonic); 75] = [
     (0x0143_4544, Mnemonic::One(OneName::DEC, false)), // DEC
     (0x01_5443_4E49, Mnemonic::One(OneName::INCT, false)), // INCT
     (0x01_5443_4544, Mnemonic::One(OneName::DECT, false)), // DECT
+];
+
+/// The same on words, each behind the number of its name.
+const ONE_WORD: [(u64, Mnemonic); 10] = [
     (0x01_5342_4144, Mnemonic::One(OneName::ABS, true)), // DABS
     (0x01_4745_4E44, Mnemonic::One(OneName::NEG, true)), // DNEG
     (0x01_564E_4944, Mnemonic::One(OneName::INV, true)), // DINV
@@ -74,6 +88,10 @@ const NAMED: [(u64, Mnemonic); 75] = [
     (0x01_4345_4444, Mnemonic::One(OneName::DEC, true)), // DDEC
     (0x0154_434E_4944, Mnemonic::One(OneName::INCT, true)), // DINCT
     (0x0154_4345_4444, Mnemonic::One(OneName::DECT, true)), // DDECT
+];
+
+/// The instructions with a byte or no operand, each behind the number of its name.
+const OTHERS: [(u64, Mnemonic); 10] = [
     (0x014E_5452, Mnemonic::Plain(PlainOp::RTN)), // RTN
     (0x01_434E_5452, Mnemonic::Plain(PlainOp::RTNC)), // RTNC
     (0x0148, Mnemonic::Plain(PlainOp::H)), // H
@@ -90,5 +108,24 @@ const NAMED: [(u64, Mnemonic); 75] = [
 pub(crate) fn mnemonic(text: &[u8]) -> Option<Mnemonic>
     ensures { result ≡ spec.mnemonic text.now }
 {
-    named_in(&NAMED, word_key(text)?)
+    instruction_named(word_key(text)?)
+}
+
+/// The instruction whose name has a number. The tables are short, so that each is searched in a few steps.
+fn instruction_named(key: u64) -> Option<Mnemonic>
+    ensures { result ≡ with_key (Some key) named }
+{
+    if let Some(found) = named_in(&TWO, key) {
+        return Some(found);
+    }
+    if let Some(found) = named_in(&TWO_WORDS, key) {
+        return Some(found);
+    }
+    if let Some(found) = named_in(&ONE, key) {
+        return Some(found);
+    }
+    if let Some(found) = named_in(&ONE_WORD, key) {
+        return Some(found);
+    }
+    named_in(&OTHERS, key)
 }

@@ -7,4 +7,4 @@ returns-in_err-word_key c = c.from_residual.ensures ∙ by_number c.args.text.no
 
 pub returns : goal.returns
 returns c =
-    c.named_in.ensures ∙ by_number c.args.text.now (Some c.in_ok-word_key.field-0) c.type_inv.text c.in_ok-word_key.ensures
+    c.instruction_named.ensures ∙ by_number c.args.text.now (Some c.in_ok-word_key.field-0) c.type_inv.text c.in_ok-word_key.ensures

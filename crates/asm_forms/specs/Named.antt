@@ -1,0 +1,10 @@
+-- The operations by the numbers of their names.
+use Rattle.std.specs.Prelude.{ℕ, List, map}
+use Rattle.tms_defs.specs.Instructions.{operations}
+use Rattle.tms_defs.specs.declared.instruction.Operation.{Operation}
+use Rattle.instruction_defs.specs.Operations.{name_of}
+use Rattle.asm_text.specs.WordKeys.{key_of}
+
+-- the operations, each behind the number of its name
+abbrev pub named : List (ℕ × Operation)
+named = map (λ operation. (key_of (name_of operation), operation)) operations
