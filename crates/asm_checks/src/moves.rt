@@ -67,6 +67,7 @@ impl Scope<'_> {
 }
 
 /// How many bytes a line says that it places.
+#[inline(always)]
 pub fn size_said(statement: &Statement<'_>) -> u32
     requires { MovesLittle statement.now }
     ensures size { result ≡ size_said (defined_statement statement.now) }

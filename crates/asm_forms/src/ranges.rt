@@ -51,6 +51,7 @@ pub(crate) fn all_ranged(
 }
 
 /// An operand of a line at a place, held against its range.
+#[inline(always)]
 fn ranged(here: &Value, operand: Operand) -> Result<Ready, FormError>
     ensures value { ready_answer result ≡ spec.ranged (defined_value here.now) (defined_operand operand) }
     ensures ready { IfOk result IsReady }

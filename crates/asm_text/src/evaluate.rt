@@ -42,6 +42,7 @@ fn text_value(quoted: &[u8]) -> Result<Value, ExprError>
 }
 
 /// The value of a term.
+#[inline(always)]
 pub(crate) fn term_value(
     token: &Token,
     line: &[u8],

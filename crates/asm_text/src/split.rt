@@ -26,6 +26,7 @@ const LONGEST_LINE: usize = 256;
 /// `LineTooLong` comes for more than 256 bytes, and only then. `BadLabel` comes where column 1 holds
 /// neither a blank nor an asterisk and what stands there up to a blank is no name, and only then.
 #[tactic(auto, using(source_defs::proofs::FieldLaws::no_comment), unfolding(source_defs::specs::Fields::fields))]
+#[inline(always)]
 pub fn fields(line: &[u8]) -> Result<Fields, TextError>
     ensures value { defined_answer result ≡ spec.fields line.now }
     ensures too_long { (result ≡ Err TextError.LineTooLong) ↔ (spec.longest_line < length line.now) }

@@ -25,6 +25,7 @@ fn same_letters(text: &[u8], word: &[u8]) -> bool
 
 /// A text of up to five characters as a number, with its letters in upper case, or `None` where it is longer. Words
 /// are compared by it as one number each.
+#[inline(always)]
 pub fn word_key(text: &[u8]) -> Option<u64>
     ensures { result ≡ keys.word_key text.now }
 {
