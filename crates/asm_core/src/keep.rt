@@ -33,6 +33,7 @@ impl AsmLines {
 
     /// Keeps the names of a line, whose label has to be new, and the line where it waits. After a failure nothing of it
     /// is kept.
+    #[inline(always)]
     pub(crate) fn keep(
         &mut self,
         waiting: Option<Pending>,
