@@ -106,7 +106,8 @@ fn quoting_end(line: &[u8], start: usize, from: usize) -> usize
     requires order { start ≤ from }
     requires within { from ≤ length line.now }
     requires apart { in_quotes line.now start from ≡ false }
-    requires none_before { least_place (spec.ends_field line.now start) line.now from ≡ spec.operand_end line.now start }
+    requires none_before { least_place (spec.ends_field line.now start) line.now from
+        ≡ spec.operand_end line.now start }
     ensures { result ≡ spec.operand_end line.now start }
 {
     let mut quoted = false;
