@@ -189,7 +189,7 @@ $ run 0
 > gpl >6000 S00 D9F R7E
 > pad
 ...
-~ \ncount 10 PC >228C WP >83E0 ST >
+~ \ncount 10 PC >24C2 WP >83E0 ST >
 
 %
 $ run 1
