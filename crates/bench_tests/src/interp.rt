@@ -11,7 +11,7 @@ const FRONT: &[u8] = b"entry >2274\n>2000 2274 24C2 229C 229E 2720 2720 2798 229
       >2010 2930 24AE 26C2 290E 2292 2618 2622 2462\n";
 
 /// The last line: the end of BACK.
-const END: &[u8] = b">2940 24C2\n";
+const END: &[u8] = b">2940 0460 24C2\n";
 
 /// Whether `interp` lists the interpreter, over a source whose first call would fail.
 fn is_listed(alloc: Global) -> Result<bool, AllocError> {
