@@ -50,6 +50,26 @@ impl Write for Narrow {
     }
 }
 
+/// A writer that is interrupted before each byte that it takes.
+#[derive(Drop)]
+struct Halting {
+    interrupted: bool,
+}
+
+impl Write for Halting {
+    fn write(&mut self, buf: &[u8]) -> io::Result<usize> {
+        self.interrupted = !self.interrupted;
+        if self.interrupted {
+            return Err(io::Error::from(ErrorKind::Interrupted));
+        }
+        Ok(buf.len().min(1))
+    }
+
+    fn flush(&mut self) -> io::Result<()> {
+        Ok(())
+    }
+}
+
 /// A source that gives one byte at each call, and has no end. It counts its calls.
 #[derive(Drop)]
 struct Endless {
@@ -189,6 +209,12 @@ fn fails_when_full(fails: bool) -> bool {
     sink.put(b"abc").is_ok() && sink.put(b"def").is_err() && sink.put(b"").is_ok()
 }
 
+/// Whether a piece is written whole where each write is interrupted first.
+fn goes_on_when_interrupted() -> bool {
+    let mut sink = StdSink::new(Halting { interrupted: false });
+    sink.put(b"abc").is_ok()
+}
+
 #[test]
 fn sinks_and_real_streams_fail_where_they_must(rt: HostRuntime) -> Result<(), Fail> {
     let mut sink = MemSink::new(rt.alloc(), 3, Vec::from_slice(rt.alloc(), &[3])?)?;
@@ -199,5 +225,6 @@ fn sinks_and_real_streams_fail_where_they_must(rt: HostRuntime) -> Result<(), Fa
     assert!(rt;
         fails_when_full(true) && fails_when_full(false) && SteadySink::new().put(b"gone").is_ok()
     );
+    assert!(rt; goes_on_when_interrupted());
     Ok(())
 }
