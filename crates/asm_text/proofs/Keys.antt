@@ -2,44 +2,66 @@
 use Rattle.std.proofs.Common.{◌≡◌, ℕ, zero, suc, ◌+◌, ◌-◌, ◌*◌, ◌<◌, ◌≤◌, true, List, [], ◌∷◌, ◌++◌, length, get_or, take, drop, set, replicate, refl, sym, ap}
 use Rattle.std.proofs.Common.{subst, ◌∙◌, arith, tests}
 use Rattle.std.specs.Prelude.{nat_eq, nat_lt, nat_le, ◌&&◌}
+use Rattle.std.specs.Int.{w64, from_be_bytes}
 use Rattle.std.specs.Ordering.{nat_cmp, is_eq, ordering_then, MatchOrdering}
 use Rattle.std.specs.declared.cmp.Ordering.{Ordering}
 use Rattle.std.specs.declared.cmp.Ordering.TheVariants.{Less, Equal, Greater}
 use Rattle.std.specs.Cmp.{ranks, nat_cmp_is, first_so, second_so, unsigned_ties}
 use Rattle.std.specs.Cmp.Lexicographic.{slice_cmp, pointwise, texts_ties}
 use Rattle.source_defs.specs.Names.{is_printed, all_printed, is_kept_name}
-use Rattle.std.proofs.lemmas.List.{drop-set-lt, drop-replicate, drop-drop}
-use Rattle.asm_text.specs.Padding.{key_behind, key_of, IsPadded}
+use Rattle.std.proofs.lemmas.List.{drop-set-lt, drop-replicate, drop-drop, get_or-set_same, length-set, length-take-le, take-set-le}
+use Rattle.asm_text.specs.Padding.{key_behind, key_of, kept_bytes, IsPadded}
 
 -- the zeros that fill a name up count as its end
-padded_behind : (key places count : ℕ) → key_behind key places (replicate count 0) ≡ key_behind key places []
+padded_behind : (key places count : ℕ) (others : List ℕ) → places ≤ count → key_behind key places (replicate count 0 ++ others) ≡ key_behind key places []
 unfolding key_behind
-padded_behind key zero count = refl
-padded_behind key (suc places) zero = refl
-padded_behind key (suc places) (suc count) =
+padded_behind key zero count others le = refl
+padded_behind key (suc places) zero others le = absurd (omega (arith, le))
+padded_behind key (suc places) (suc count) others le =
     let same : 256 * key + 0 ≡ 256 * key = omega arith in
-    ap (λ n. key_behind n places (replicate count 0)) same ∙ padded_behind (256 * key) places count
+    ap (λ n. key_behind n places (replicate count 0 ++ others)) same ∙ padded_behind (256 * key) places count others (omega (arith, le))
 
-name_behind : (key places count : ℕ) (name : List ℕ) → key_behind key places (name ++ replicate count 0) ≡ key_behind key places name
+name_behind : (key places count : ℕ) (name others : List ℕ) → places ≤ length name + count
+    → key_behind key places (name ++ (replicate count 0 ++ others)) ≡ key_behind key places name
 unfolding key_behind
-name_behind key places count [] = padded_behind key places count
-name_behind key zero count (byte ∷ name) = refl
-name_behind key (suc places) count (byte ∷ name) = name_behind (256 * key + byte) places count name
+name_behind key places count [] others le = padded_behind key places count others (omega (arith, le))
+name_behind key zero count (byte ∷ name) others le = refl
+name_behind key (suc places) count (byte ∷ name) others le = name_behind (256 * key + byte) places count name others (omega (arith, le))
 
-pub key_padded : (name : List ℕ) (count : ℕ) → key_of (name ++ replicate count 0) ≡ key_of name
-unfolding key_of
-key_padded name count = name_behind 0 6 count name
+-- the last of the zeros behind a name is written over
+last_written : (name : List ℕ) (count at n : ℕ) → at ≡ length name + count → set (name ++ replicate (suc count) 0) at n ≡ name ++ (replicate count 0 ++ (n ∷ []))
+last_written [] zero zero n is = refl
+last_written [] zero (suc at) n is = absurd (omega (arith, is))
+last_written [] (suc count) zero n is = absurd (omega (arith, is))
+last_written [] (suc count) (suc at) n is = ap (λ others. 0 ∷ others) (last_written [] count at n (omega (arith, is)))
+last_written (byte ∷ name) count zero n is = absurd (omega (arith, is))
+last_written (byte ∷ name) count (suc at) n is = ap (λ others. byte ∷ others) (last_written name count at n (omega (arith, is)))
 
--- a name with zeros behind it lies as it is kept
-pub name_lies : (bytes : List ℕ) (len key : ℕ) → is_kept_name (take len bytes) ≡ true → len ≤ 6 → length bytes ≡ 6
-    → bytes ≡ take len bytes ++ replicate (6 - len) 0 → key ≡ key_of bytes → IsPadded bytes len key
-name_lies bytes len key kept within six behind is = record {
-  six = six;
-  within = omega arith;
-  padded = behind;
-  kept = kept;
-  tied = is ∙ (ap key_of behind ∙ key_padded (take len bytes) (6 - len));
-}
+-- a name with zeros behind it, the last of which its length is written over, lies as it is kept
+pub name_lies : (bytes : List ℕ) (len : ℕ) → is_kept_name (take len bytes) ≡ true → len ≤ 6 → length bytes ≡ 8
+    → bytes ≡ take len bytes ++ replicate (8 - len) 0 → IsPadded (set bytes 7 len) len
+name_lies bytes len kept within eight behind =
+    let name = take len bytes in
+    let short : length name ≡ len = length-take-le len bytes (omega arith) in
+    let front : take len (set bytes 7 len) ≡ name = take-set-le len bytes 7 len (omega arith) in
+    let zeros : 8 - len ≡ suc (7 - len) = omega arith in
+    let at_end : 7 ≡ length name + (7 - len) = omega (arith, short) in
+    record {
+      eight = length-set bytes 7 len ∙ eight;
+      within = within;
+      lies = ap (λ b. set b 7 len) behind
+          ∙ (ap (λ n. set (name ++ replicate n 0) 7 len) zeros
+          ∙ (last_written name (7 - len) 7 len at_end
+          ∙ (ap (λ n. name ++ (replicate (7 - n) 0 ++ (n ∷ []))) (sym short) ∙ ap kept_bytes (sym front))));
+      kept = ap is_kept_name front ∙ kept;
+    }
+
+-- the last byte is the length that was written
+pub name_lies_so : (bytes : List ℕ) (len : ℕ) → is_kept_name (take len bytes) ≡ true → len ≤ 6 → length bytes ≡ 8
+    → bytes ≡ take len bytes ++ replicate (8 - len) 0 → IsPadded (set bytes 7 len) (get_or (set bytes 7 len) 7 0)
+name_lies_so bytes len kept within eight behind =
+    let last : get_or (set bytes 7 len) 7 0 ≡ len = get_or-set_same bytes 7 len 0 (omega arith) in
+    subst (IsPadded (set bytes 7 len)) (sym last) (name_lies bytes len kept within eight behind)
 
 -- a letter is written, and zeros stay behind it
 pub zeros_stay : (letters : List ℕ) (size at letter : ℕ) → drop at letters ≡ replicate (size - at) 0
@@ -53,21 +75,36 @@ zeros_stay letters size at letter behind =
     let same : drop (at + 1) letters ≡ drop 1 (drop at letters) = sym (drop-drop 1 at letters) in
     kept ∙ (same ∙ rest)
 
--- the key of six bytes
-pub key_of_six : (bytes : List ℕ) → length bytes ≡ 6
-    → key_of bytes ≡ 256 * (256 * (256 * (256 * (256 * get_or bytes 0 0 + get_or bytes 1 0) + get_or bytes 2 0) + get_or bytes 3 0) + get_or bytes 4 0) +
-    get_or bytes 5 0
-unfolding key_of key_behind
-key_of_six (a ∷ b ∷ c ∷ d ∷ e ∷ f ∷ []) six =
+-- the first seven of eight bytes as a number
+key_of_seven : (a b c d e f g h : ℕ) → key_behind 0 7 (a ∷ b ∷ c ∷ d ∷ e ∷ f ∷ g ∷ h ∷ [])
+    ≡ 256 * (256 * (256 * (256 * (256 * (256 * a + b) + c) + d) + e) + f) + g
+unfolding key_behind
+key_of_seven a b c d e f g h =
     let first : 256 * 0 + a ≡ a = omega arith in
-    ap (λ key. key_behind key 5 (b ∷ c ∷ d ∷ e ∷ f ∷ [])) first
-key_of_six [] six = absurd (omega (arith, six))
-key_of_six (a ∷ []) six = absurd (omega (arith, six))
-key_of_six (a ∷ b ∷ []) six = absurd (omega (arith, six))
-key_of_six (a ∷ b ∷ c ∷ []) six = absurd (omega (arith, six))
-key_of_six (a ∷ b ∷ c ∷ d ∷ []) six = absurd (omega (arith, six))
-key_of_six (a ∷ b ∷ c ∷ d ∷ e ∷ []) six = absurd (omega (arith, six))
-key_of_six (a ∷ b ∷ c ∷ d ∷ e ∷ f ∷ g ∷ more) six = absurd (omega (arith, six))
+    ap (λ key. key_behind key 6 (b ∷ c ∷ d ∷ e ∷ f ∷ g ∷ h ∷ [])) first
+
+key_of_eight : (bytes : List ℕ) → length bytes ≡ 8 → from_be_bytes w64 bytes ≡ 256 * key_behind 0 7 bytes + get_or bytes 7 0
+key_of_eight (a ∷ b ∷ c ∷ d ∷ e ∷ f ∷ g ∷ h ∷ []) eight = omega (arith, key_of_seven a b c d e f g h)
+key_of_eight [] eight = absurd (omega (arith, eight))
+key_of_eight (a ∷ []) eight = absurd (omega (arith, eight))
+key_of_eight (a ∷ b ∷ []) eight = absurd (omega (arith, eight))
+key_of_eight (a ∷ b ∷ c ∷ []) eight = absurd (omega (arith, eight))
+key_of_eight (a ∷ b ∷ c ∷ d ∷ []) eight = absurd (omega (arith, eight))
+key_of_eight (a ∷ b ∷ c ∷ d ∷ e ∷ []) eight = absurd (omega (arith, eight))
+key_of_eight (a ∷ b ∷ c ∷ d ∷ e ∷ f ∷ []) eight = absurd (omega (arith, eight))
+key_of_eight (a ∷ b ∷ c ∷ d ∷ e ∷ f ∷ g ∷ []) eight = absurd (omega (arith, eight))
+key_of_eight (a ∷ b ∷ c ∷ d ∷ e ∷ f ∷ g ∷ h ∷ i ∷ more) eight = absurd (omega (arith, eight))
+
+-- the bytes that are kept are the name's key
+pub key_lies : (bytes : List ℕ) → IsPadded bytes (get_or bytes 7 0) → from_be_bytes w64 bytes ≡ key_of (take (get_or bytes 7 0) bytes)
+unfolding key_of
+key_lies bytes is =
+    let len = get_or bytes 7 0 in
+    let name = take len bytes in
+    let short : length name ≡ len = length-take-le len bytes (omega (arith, is.within, is.eight)) in
+    let own : key_behind 0 7 bytes ≡ key_behind 0 7 name =
+    ap (key_behind 0 7) is.lies ∙ name_behind 0 7 (7 - length name) name (length name ∷ []) (omega (arith, short, is.within)) in
+    key_of_eight bytes is.eight ∙ (ap (λ key. 256 * key + len) own ∙ ap (λ n. 256 * key_behind 0 7 name + n) (sym short))
 
 -- each byte of a name is a digit above 0
 digit : (byte : ℕ) (name : List ℕ) → all_printed (byte ∷ name) ≡ true → (0 < byte) × (byte < 256)
@@ -126,13 +163,36 @@ printed name kept =
     let short = second_so (nat_lt 0 (length name)) (nat_le (length name) 6) front in
     (grind (arith, tests), second_so (nat_lt 0 (length name) && nat_le (length name) 6) (all_printed name) kept)
 
+-- names that compare as equal have one length
+same_length : (xs ys : List ℕ) → slice_cmp nat_cmp xs ys ≡ Equal → length xs ≡ length ys
+same_length [] [] e = refl
+same_length [] (y ∷ ys) e = cc e
+same_length (x ∷ xs) [] e = cc e
+same_length (x ∷ xs) (y ∷ ys) e = by (nat_cmp x y) e (same_length xs ys)
+  where
+    by : (r : Ordering) → ordering_then r (slice_cmp nat_cmp xs ys) ≡ Equal → (slice_cmp nat_cmp xs ys ≡ Equal → length xs ≡ length ys)
+        → suc (length xs) ≡ suc (length ys)
+    by Less e rest = cc e
+    by Equal e rest = ap suc (rest e)
+    by Greater e rest = cc e
+
 -- the comparison of two names is that of their keys
 pub keys_compare : (xs ys : List ℕ) → is_kept_name xs ≡ true → is_kept_name ys ≡ true → slice_cmp nat_cmp xs ys ≡ nat_cmp (key_of xs) (key_of ys)
 unfolding key_of
 keys_compare xs ys p q =
     let first = printed xs p in
     let second = printed ys q in
-    nat_cmp_is (key_of xs) (key_of ys) (slice_cmp nat_cmp xs ys) (compared 6 0 xs ys first.0 second.0 first.1 second.1)
+    nat_cmp_is (key_of xs) (key_of ys) (slice_cmp nat_cmp xs ys)
+    (by (slice_cmp nat_cmp xs ys) refl first.0 second.0 (compared 7 0 xs ys (omega (arith, first.0)) (omega (arith, second.0)) first.1 second.1))
+  where
+    by : (r : Ordering) → slice_cmp nat_cmp xs ys ≡ r → length xs ≤ 6 → length ys ≤ 6
+        → MatchOrdering r (key_behind 0 7 xs < key_behind 0 7 ys) (key_behind 0 7 xs ≡ key_behind 0 7 ys) (key_behind 0 7 ys < key_behind 0 7 xs)
+        → MatchOrdering r (256 * key_behind 0 7 xs + length xs < 256 * key_behind 0 7 ys + length ys)
+        (256 * key_behind 0 7 xs + length xs ≡ 256 * key_behind 0 7 ys + length ys)
+        (256 * key_behind 0 7 ys + length ys < 256 * key_behind 0 7 xs + length xs)
+    by Less e m n lt = omega (arith, lt, m, n)
+    by Equal e m n same = omega (arith, same, same_length xs ys e)
+    by Greater e m n gt = omega (arith, gt, m, n)
 
 -- two names are the same where their keys are
 pub keys_tell : (xs ys : List ℕ) → is_kept_name xs ≡ true → is_kept_name ys ≡ true → nat_eq (key_of xs) (key_of ys) ≡ pointwise nat_eq xs ys

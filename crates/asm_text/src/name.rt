@@ -16,34 +16,29 @@ use std::marker::Model;
 /// The most bytes that a name has.
 pub(crate) const LONGEST_NAME: usize = 6;
 
+/// How many bytes a name is kept in.
+pub(crate) const KEPT_BYTES: usize = 8;
+
 /// A name: one to six printed characters other than the space, from >21 to >7E.
 #[derive(Clone, Copy, Debug)]
 pub struct Name {
-    bytes: [u8; LONGEST_NAME],
-    // The bytes after these are 0.
-    len: u8,
-    // The six bytes as one number, the first highest. Names compare as their keys do.
-    key: u64,
+    // The bytes of the name, then zeros, and in the last byte how many the name has.
+    bytes: [u8; KEPT_BYTES],
 }
 
 impl Model for Name {
-    ghost use Rattle.std.specs.Prelude.{ℕ, List, ◌++◌, ◌-◌, length, take, replicate};
-    ghost use Rattle.asm_text.specs.Padding.{IsPadded, key_of, padded_again};
+    ghost use Rattle.std.specs.Prelude.{ℕ, List, take, get_or};
+    ghost use Rattle.asm_text.specs.Padding.{IsPadded, kept_bytes, padded_again};
 
     ghost Value = { List ℕ };
 
-    ghost view = { λ name. take name.len name.bytes };
+    ghost view = { λ name. take (get_or name.bytes 7 0) name.bytes };
 
-    ghost invariant = { λ name. IsPadded name.bytes name.len name.key };
+    ghost invariant = { λ name. IsPadded name.bytes (get_or name.bytes 7 0) };
 
-    ghost inverse = { λ name. record {
-      bytes = name ++ replicate (6 - length name) 0;
-      len = length name;
-      key = key_of name;
-    } };
+    ghost inverse = { λ name. record { bytes = kept_bytes name } };
 
-    ghost inverse_ok = { λ a h.
-        padded_again (λ bytes len key. record { bytes = bytes; len = len; key = key }) a.bytes a.len a.key h };
+    ghost inverse_ok = { λ a h. padded_again (λ bytes. record { bytes = bytes }) a.bytes (get_or a.bytes 7 0) h };
 }
 
 impl Name {
@@ -59,17 +54,15 @@ impl Name {
     }
 
     /// The name of so many bytes, which stand before zeros.
-    pub(crate) fn of_padded(bytes: [u8; LONGEST_NAME], len: usize) -> Name
+    pub(crate) fn of_padded(bytes: [u8; KEPT_BYTES], len: usize) -> Name
         requires within { len ≤ 6 }
-        requires padded { bytes ≡ take len bytes ++ replicate (6 - len) 0 }
+        requires padded { bytes ≡ take len bytes ++ replicate (8 - len) 0 }
         requires kept { IsTrue (is_kept_name (take len bytes)) }
         ensures { result ≡ take len bytes }
     {
-        Name {
-            bytes,
-            len: len as u8,
-            key: key_of(&bytes),
-        }
+        let mut bytes = bytes;
+        bytes[7] = len as u8;
+        Name { bytes }
     }
 
     /// The bytes of the name.
@@ -77,7 +70,17 @@ impl Name {
         ensures value { result.now ≡ self.now }
         ensures kept { IsTrue (is_kept_name self.now) }
     {
-        &self.bytes[..usize::from(self.len)]
+        &self.bytes[..usize::from(self.bytes[7])]
+    }
+
+    /// The bytes that are kept as one number, the first highest. Names compare as their keys do.
+    #[tactic(auto, using(crate::proofs::Keys::key_lies))]
+    #[inline(always)]
+    fn key(&self) -> u64
+        ensures key { result ≡ key_of self.now }
+        ensures kept { IsTrue (is_kept_name self.now) }
+    {
+        u64::from_be_bytes(self.bytes)
     }
 }
 
@@ -87,8 +90,9 @@ impl PartialEq for Name {
     ghost laws = { partial_equiv_from_equiv nat_list_eq_equiv };
 
     #[tactic(auto, using(crate::proofs::Keys::keys_tell))]
+    #[inline(always)]
     fn eq(&self, other: &Name) -> bool {
-        self.key == other.key
+        self.key() == other.key()
     }
 }
 
@@ -116,24 +120,10 @@ impl Ord for Name {
     ghost matches_eq = { texts_ties };
 
     #[tactic(auto, using(crate::proofs::Keys::keys_compare))]
+    #[inline(always)]
     fn cmp(&self, other: &Name) -> Ordering {
-        if self.key > other.key {
-            Ordering::Greater
-        } else if self.key == other.key {
-            Ordering::Equal
-        } else {
-            Ordering::Less
-        }
+        self.key().cmp(&other.key())
     }
-}
-
-/// Six bytes as one number, the first highest.
-#[tactic(auto, using(crate::proofs::Keys::key_of_six))]
-fn key_of(bytes: &[u8; LONGEST_NAME]) -> u64
-    ensures { result ≡ key_of bytes.now }
-{
-    let [first, second, third, fourth, fifth, sixth] = *bytes;
-    u64::from_be_bytes([0, 0, first, second, third, fourth, fifth, sixth])
 }
 
 /// Whether the bytes are one to six printed characters other than the space.
@@ -149,12 +139,12 @@ fn all_printed(bytes: &[u8]) -> bool
     bytes.iter().all(|&byte| is_printed(byte))
 }
 
-/// The bytes, followed by as many 0 bytes as make six.
-fn padded(bytes: &[u8]) -> [u8; LONGEST_NAME]
+/// The bytes, followed by as many 0 bytes as make eight.
+fn padded(bytes: &[u8]) -> [u8; KEPT_BYTES]
     requires { length bytes.now ≤ 6 }
-    ensures { result ≡ bytes.now ++ replicate (6 - length bytes.now) 0 }
+    ensures { result ≡ bytes.now ++ replicate (8 - length bytes.now) 0 }
 {
-    let mut padded = [0; LONGEST_NAME];
+    let mut padded = [0; KEPT_BYTES];
     padded[..bytes.len()].copy_from_slice(bytes);
     padded
 }

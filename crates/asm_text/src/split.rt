@@ -11,7 +11,7 @@ ghost use Rattle.asm_text.specs.GivenFields.{defined_fields, defined_answer, Fie
 
 use crate::characters::{is_asterisk, is_blank, is_letter, is_letter_or_digit, upper_case};
 use crate::line_fields::Fields;
-use crate::name::{LONGEST_NAME, Name};
+use crate::name::{KEPT_BYTES, LONGEST_NAME, Name};
 use crate::places::{operand_end, word_end, word_start};
 use crate::words::is_word;
 use source_defs::{Span, TextError};
@@ -145,14 +145,14 @@ pub fn upper_case_name(field: &[u8]) -> Option<Name>
 }
 
 /// The letters and digits of a label field in upper case, followed by zeros; none where another character stands there.
-fn in_upper_case(field: &[u8]) -> Option<[u8; LONGEST_NAME]>
+fn in_upper_case(field: &[u8]) -> Option<[u8; KEPT_BYTES]>
     requires { length field.now ≤ 6 }
     ensures all { is_some result ≡ all_letters_or_digits field.now }
     ensures upper { IfSome result (λ letters. take (length field.now) letters ≡ map upper_case field.now) }
     ensures padded { IfSome result (λ letters. letters
-        ≡ take (length field.now) letters ++ replicate (6 - length field.now) 0) }
+        ≡ take (length field.now) letters ++ replicate (8 - length field.now) 0) }
 {
-    let mut letters = [0; LONGEST_NAME];
+    let mut letters = [0; KEPT_BYTES];
     for (at, &byte) in field.iter().enumerate() {
         if !is_letter_or_digit(byte) {
             return None;

@@ -6,7 +6,7 @@ use Rattle.asm_text.proofs.split.in_upper_case.Goals as goal
 pub loop-at-preserved : goal.loop-at-preserved
 loop-at-preserved c = record {
   left = grind (arith, common_steps);
-  six = grind (arith, common_steps);
-  zeros = zeros_stay c.loop-at.letters 6 c.loop-at.at c.upper_case.result c.loop-at.invariant.zeros;
+  eight = grind (arith, common_steps);
+  zeros = zeros_stay c.loop-at.letters 8 c.loop-at.at c.upper_case.result c.loop-at.invariant.zeros;
   upper = grind (arith, common_steps);
 }

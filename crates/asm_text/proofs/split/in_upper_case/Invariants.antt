@@ -7,7 +7,7 @@ use Rattle.asm_text.proofs.split.in_upper_case.Given as goal
 abbrev pub invariant-loop-at : goal.invariant-loop-at
 invariant-loop-at l = record {
   left : all_letters_or_digits (drop l.at l.field) ≡ all_letters_or_digits l.field;
-  six : length l.letters ≡ 6;
-  zeros : drop l.at l.letters ≡ replicate (6 - l.at) 0;
+  eight : length l.letters ≡ 8;
+  zeros : drop l.at l.letters ≡ replicate (8 - l.at) 0;
   upper : take l.at l.letters ≡ map upper_case (take l.at l.field);
 }
