@@ -1,5 +1,6 @@
 pub mod Beginnings
 pub mod Comments
+pub mod Feeds
 pub mod Names
 pub mod Inside
 pub mod Keys

@@ -1,6 +1,8 @@
 //! The places in a text or a line where something begins or ends.
 
-ghost use Rattle.std.specs.Prelude.{◌≡◌, ◌≤◌, length, if◌then◌else◌, Some, None, false};
+ghost use Rattle.std.specs.Prelude.{◌≡◌, ◌+◌, ◌≤◌, length, map, if◌then◌else◌, Some, None, false};
+ghost use Rattle.std.specs.Simd.Lanes.{chunk, mask_l};
+ghost use Rattle.source_defs.specs.Characters.{is_line_feed};
 ghost use Rattle.source_defs.specs.Fields as spec;
 ghost use Rattle.source_defs.specs.Fields.{in_quotes};
 ghost use Rattle.source_defs.specs.Tokens as tokens;
@@ -9,6 +11,10 @@ ghost use Rattle.source_defs.specs.Lines.{feed_place};
 
 use crate::characters::{is_blank, is_digit, is_letter_or_digit, is_line_feed, is_quote};
 use crate::numbers::is_hexadecimal_digit;
+use std::simd::prelude::*;
+
+/// How many bytes are looked at together for a line feed.
+const LANES: usize = 32;
 
 /// From a place on, the first line feed, or the text's end.
 #[tactic(auto, using(source_defs::proofs::LeastLaws::leasts))]
@@ -19,23 +25,26 @@ pub(crate) fn feed_place(text: &[u8], from: usize) -> usize
     if from == text.len() || is_line_feed(text[from]) {
         return from;
     }
-    let mut from = from + 1;
-    while text.len() - from >= 4 {
-        if is_line_feed(text[from]) {
-            return from;
+    let mut from = from;
+    while text.len() - from >= LANES {
+        let feeds = feeds_from(text, from);
+        if feeds != 0 {
+            return from + feeds.trailing_zeros() as usize;
         }
-        if is_line_feed(text[from + 1]) {
-            return from + 1;
-        }
-        if is_line_feed(text[from + 2]) {
-            return from + 2;
-        }
-        if is_line_feed(text[from + 3]) {
-            return from + 3;
-        }
-        from += 4;
+        from += LANES;
     }
     last_feed_place(text, from)
+}
+
+/// The line feeds among the bytes that are looked at together: a bit for each byte, the lowest for the first.
+#[inline(always)]
+fn feeds_from(text: &[u8], from: usize) -> u64
+    requires { from + LANES ≤ length text.now }
+    ensures { result ≡ mask_l (map is_line_feed (chunk from LANES text.now)) }
+{
+    u8x32::from_slice(&text[from..])
+        .simd_eq(u8x32::splat(b'\n'))
+        .to_bitmask()
 }
 
 /// The same, byte by byte.
