@@ -122,7 +122,26 @@ impl Ord for Name {
     #[tactic(auto, using(crate::proofs::Keys::keys_compare))]
     #[inline(always)]
     fn cmp(&self, other: &Name) -> Ordering {
-        self.key().cmp(&other.key())
+        let (key, other) = (self.key(), other.key());
+        if key > other {
+            Ordering::Greater
+        } else {
+            not_above(key, other)
+        }
+    }
+}
+
+/// The order of two keys of which the first is not above the second. It is a call of its own, so that a search in a map
+/// passes over the lower names of a row by one test each.
+#[inline(never)]
+fn not_above(key: u64, other: u64) -> Ordering
+    requires { key ≤ other }
+    ensures { result ≡ nat_cmp key other }
+{
+    if key == other {
+        Ordering::Equal
+    } else {
+        Ordering::Less
     }
 }
 
