@@ -1,4 +1,5 @@
 pub mod Beginnings
+pub mod Blanks
 pub mod Comments
 pub mod Feeds
 pub mod Names

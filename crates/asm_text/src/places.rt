@@ -84,7 +84,12 @@ pub(crate) fn word_end(line: &[u8], from: usize) -> usize
     ensures within { result ≤ length line.now }
 {
     for at in from..line.len() {
-        if is_blank(line[at]) {
+        let byte = line[at];
+        // Most bytes stand above the blanks.
+        if byte > b' ' {
+            continue;
+        }
+        if is_blank(byte) {
             return at;
         }
     }
@@ -99,6 +104,10 @@ pub(crate) fn operand_end(line: &[u8], start: usize) -> usize
 {
     for at in start..line.len() {
         let byte = line[at];
+        // Most bytes stand above the blanks and the quote.
+        if byte > b'\'' {
+            continue;
+        }
         if is_blank(byte) {
             return at;
         }
