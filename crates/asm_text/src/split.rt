@@ -5,11 +5,11 @@ ghost use Rattle.std.specs.Prelude.{ℕ, Some, None, Ok, length, take, map, repl
 ghost use Rattle.std.specs.Prelude.{is_some, IfOk, IfSome, if◌then◌else◌};
 ghost use Rattle.source_defs.specs.Fields as spec;
 ghost use Rattle.source_defs.specs.Characters.{upper_case};
-ghost use Rattle.source_defs.specs.Names.{all_letters_or_digits, is_name, is_word, IsUpperCaseName};
+ghost use Rattle.source_defs.specs.Names.{all_letters_or_digits, is_letter_or_digit, is_name, is_word, IsUpperCaseName};
 ghost use Rattle.asm_text.specs.WordKeys.{begins_apart};
 ghost use Rattle.asm_text.specs.GivenFields.{defined_fields, defined_answer, FieldsLieInside};
 
-use crate::characters::{is_asterisk, is_blank, is_letter, is_letter_or_digit, upper_case};
+use crate::characters::{is_asterisk, is_blank, is_letter, upper_case};
 use crate::line_fields::Fields;
 use crate::name::{KEPT_BYTES, LONGEST_NAME, Name};
 use crate::places::{operand_end, word_end, word_start};
@@ -154,10 +154,19 @@ fn in_upper_case(field: &[u8]) -> Option<[u8; KEPT_BYTES]>
 {
     let mut letters = [0; KEPT_BYTES];
     for (at, &byte) in field.iter().enumerate() {
-        if !is_letter_or_digit(byte) {
-            return None;
-        }
-        letters[at] = upper_case(byte);
+        letters[at] = letter_or_digit(byte)?;
     }
     Some(letters)
+}
+
+/// A letter in upper case, or a digit; none for another character.
+fn letter_or_digit(byte: u8) -> Option<u8>
+    ensures known { is_some result ≡ is_letter_or_digit byte }
+    ensures upper { IfSome result (λ letter. letter ≡ upper_case byte) }
+{
+    match byte {
+        b'0'..=b'9' | b'A'..=b'Z' => Some(byte),
+        b'a'..=b'z' => Some(upper_case(byte)),
+        _ => None,
+    }
 }

@@ -7,6 +7,6 @@ pub loop-at-preserved : goal.loop-at-preserved
 loop-at-preserved c = record {
   left = grind (arith, common_steps);
   eight = grind (arith, common_steps);
-  zeros = zeros_stay c.loop-at.letters 8 c.loop-at.at c.upper_case.result c.loop-at.invariant.zeros;
+  zeros = zeros_stay c.loop-at.letters 8 c.loop-at.at _ c.loop-at.invariant.zeros;
   upper = grind (arith, common_steps);
 }
