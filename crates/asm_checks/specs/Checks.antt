@@ -48,7 +48,7 @@ ListsNames said = said.listed.items ≡ listed_in said.statement
 
 -- what the code keeps of what a line says
 pub record IsSaid (said : Said) : Type 0 where
-  pub skeleton : KeepsSkeleton said.statement said.skeleton
+  pub skeleton : KeepsSkeleton said.statement
   pub names : NamesOnly said.statement
   pub little : MovesLittle said.statement
 

@@ -1,11 +1,11 @@
 -- What the code finds in a line, as the definitions have it.
-use Rattle.std.specs.Prelude.{ℕ, List, Option, Some, None, Ok, ⊤, ◌≡◌, IsTrue}
+use Rattle.std.specs.Prelude.{Ok, ⊤, ◌≡◌, IsTrue}
 use Rattle.std.specs.Option.{option_map}
 use Rattle.source_defs.specs.Operands.{operand_texts}
 use Rattle.instruction_defs.specs.FirstChecks.{first_checks, size_of}
-use Rattle.asm_forms.specs.Skeletons.{defined_skeleton}
-use Rattle.asm_forms.specs.declared.first_checks.Skeleton.{Skeleton}
+use Rattle.asm_forms.specs.Skeletons.{defined_skeleton, IsOfField}
 use Rattle.asm_defs.specs.Statements as spec
+use Rattle.asm_checks.specs.declared.statement.InstructionLine.{InstructionLine}
 use Rattle.asm_checks.specs.declared.statement.Statement.{Statement}
 use Rattle.asm_checks.specs.declared.statement.Statement.TheVariants.{
   Nothing,
@@ -29,7 +29,7 @@ use Rattle.asm_checks.specs.declared.statement.Statement.TheVariants.{
 
 abbrev pub defined_statement : Statement → spec.Statement
 defined_statement Nothing = spec.Nothing
-defined_statement (Instruction size operation field) = spec.Instruction size operation.now field.now
+defined_statement (Instruction line) = spec.Instruction line.size line.operation.now line.field.now
 defined_statement (Aorg text) = spec.Aorg text.now
 defined_statement (Rorg text) = spec.Rorg (option_map (λ found. found.now) text)
 defined_statement (Dorg text) = spec.Dorg text.now
@@ -52,22 +52,13 @@ NamesOnly (Def field) = IsTrue (spec.all_names (operand_texts field.now))
 NamesOnly (Ref field) = IsTrue (spec.all_names (operand_texts field.now))
 NamesOnly _ = ⊤
 
--- a statement that is no instruction
-abbrev pub IsDirective : Statement → Type 0
-IsDirective (Instruction size operation field) = ⊥
-IsDirective _ = ⊤
-
 -- what the first checks of the code leave of an operation field and an operand field is what they leave of them
-pub record IsLeftOf (operation field : List ℕ) (size : ℕ) (skeleton : Skeleton) : Type 0 where
-  pub checked : first_checks operation field ≡ Ok (defined_skeleton skeleton)
-  pub sized : size_of (defined_skeleton skeleton) ≡ size
+pub record IsLeftOf (line : InstructionLine) : Type 0 where
+  pub checked : first_checks line.operation.now line.field.now ≡ Ok (defined_skeleton line.field.now line.skeleton)
+  pub sized : size_of (defined_skeleton line.field.now line.skeleton) ≡ line.size
+  pub inside : IsOfField line.field.now line.skeleton
 
--- what the first checks of the code leave of a statement, which is an instruction
-abbrev pub LeavesSkeleton : Statement → Skeleton → Type 0
-LeavesSkeleton (Instruction size operation field) skeleton = IsLeftOf operation.now field.now size skeleton
-LeavesSkeleton _ skeleton = ⊥
-
--- what the first checks leave of an instruction stands beside it, and nothing beside a directive
-abbrev pub KeepsSkeleton : Statement → Option Skeleton → Type 0
-KeepsSkeleton statement None = IsDirective statement
-KeepsSkeleton statement (Some skeleton) = LeavesSkeleton statement skeleton
+-- what the first checks leave of an instruction stands with it
+abbrev pub KeepsSkeleton : Statement → Type 0
+KeepsSkeleton (Instruction line) = IsLeftOf line
+KeepsSkeleton _ = ⊤

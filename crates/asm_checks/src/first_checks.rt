@@ -18,7 +18,6 @@ use crate::statement::{Statement, statement_in};
 use crate::titles::title_in;
 use crate::values::Scope;
 use asm_defs::{AsmCause, Location, Part};
-use asm_forms::Skeleton;
 use asm_text::{Name, Symbols, fields, is_quoted};
 use object_tags::MOST_NAMES;
 use std::alloc::{AllocError, Global};
@@ -45,10 +44,8 @@ pub struct Before<'a> {
 pub struct Said<'a> {
     /// Its label.
     pub label: Option<Name>,
-    /// What stands in them.
+    /// What stands in its fields.
     pub statement: Statement<'a>,
-    /// What the first checks leave of an instruction.
-    pub skeleton: Option<Skeleton<'a>>,
     /// The names that DEF or REF lists.
     pub listed: Vec<Name>,
 }
@@ -101,7 +98,7 @@ impl Before<'_> {
             Ok(found) => found,
             Err(error) => return Err(Failure::Refused(AsmCause::Text(error))),
         };
-        let (statement, skeleton) = statement_in(text, &found)?;
+        let statement = statement_in(text, &found)?;
         let listed = listed_names(self.alloc, &statement)?;
         if self.takes_known(found.label, &statement, listed.as_slice()) {
             return Err(Failure::Refused(AsmCause::DuplicateLabel));
@@ -109,7 +106,6 @@ impl Before<'_> {
         Ok(Said {
             label: found.label,
             statement,
-            skeleton,
             listed,
         })
     }

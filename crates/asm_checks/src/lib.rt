@@ -16,6 +16,6 @@ pub use crate::failure::{Failure, is_open};
 pub use crate::first_checks::{Before, Checked, Said, location_behind};
 pub use crate::moves::{Move, behind, size_said};
 pub use crate::second_checks::Outcome;
-pub use crate::statement::{Statement, statement_in};
+pub use crate::statement::{InstructionLine, Statement, statement_in};
 pub use crate::titles::title_in;
 pub use crate::values::Scope;

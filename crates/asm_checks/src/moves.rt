@@ -74,7 +74,7 @@ pub fn size_said(statement: &Statement<'_>) -> u32
     ensures most { result ≤ 65535 }
 {
     match statement {
-        Statement::Instruction(size, ..) => u32::from(*size),
+        Statement::Instruction(line) => u32::from(line.size),
         Statement::Data(field) => 2 * operand_count(field),
         Statement::Byte(field) => operand_count(field),
         Statement::Text(quoted) => character_count(quoted) as u32,

@@ -6,7 +6,7 @@ ghost use Rattle.asm_text.specs.GivenValues.{defined_value};
 ghost use Rattle.source_defs.specs.Operands.{operand_texts};
 ghost use Rattle.instruction_defs.specs.SecondChecks.{second_checks};
 ghost use Rattle.asm_forms.specs.Placed.{defined_word, defined_words, words_in};
-ghost use Rattle.asm_forms.specs.Skeletons.{defined_skeleton};
+ghost use Rattle.asm_forms.specs.Skeletons.{defined_skeleton, IsOfField};
 ghost use Rattle.asm_defs.specs.Locations as places;
 ghost use Rattle.asm_defs.specs.Statements as said;
 ghost use Rattle.asm_defs.specs.FirstChecks as first;
@@ -16,17 +16,17 @@ ghost use Rattle.std.specs.List.{list_all};
 ghost use Rattle.source_defs.specs.Refusals.{seen};
 ghost use Rattle.asm_text.specs.Yielded.{Yields};
 ghost use Rattle.asm_checks.specs.Answers.{Gives};
-ghost use Rattle.asm_checks.specs.Defined.{defined_statement, IsDirective, KeepsSkeleton, NamesOnly};
+ghost use Rattle.asm_checks.specs.Defined.{defined_statement, KeepsSkeleton, NamesOnly};
 ghost use Rattle.asm_checks.specs.Moves.{MovesLittle};
 ghost use Rattle.asm_checks.specs.Outcomes.{defined_outcome, byte_answer, known_answer, words_by};
 
 use crate::failure::Failure;
 use crate::moves::behind;
 use crate::names::names_in;
-use crate::statement::Statement;
+use crate::statement::{InstructionLine, Statement};
 use crate::values::{Scope, value_at};
 use asm_defs::{AsmCause, Location, Part};
-use asm_forms::{Placed, Skeleton, Word, words_of};
+use asm_forms::{Placed, Word, words_of};
 use asm_text::{ExprError, Name, Symbols, Value, operands, quoted_characters};
 use instruction_defs::FormError;
 use object_defs::Spot;
@@ -61,29 +61,10 @@ impl Outcome {
 }
 
 impl Scope<'_> {
-    /// What a line comes to, of which the first checks found what it says and left this of an instruction.
-    pub fn outcome(
-        &self,
-        statement: &Statement<'_>,
-        skeleton: &Option<Skeleton<'_>>,
-    ) -> Result<Outcome, Failure>
-        requires skeleton { KeepsSkeleton statement.now skeleton.now }
-        requires names { NamesOnly statement.now }
-        requires little { MovesLittle statement.now }
-        requires at { self.now.at.number ≤ 65536 }
-        ensures { Gives defined_outcome result
-            (spec.outcome (look_up self.now.symbols.now) self.now.at (defined_statement statement.now)) }
-    {
-        match skeleton {
-            Some(skeleton) => self.instruction_outcome(skeleton),
-            None => self.directive_outcome(statement),
-        }
-    }
-
-    /// What the line of a directive comes to.
+    /// What a line comes to, of which the first checks found what it says.
     #[tactic(auto, using(crate::proofs::Failures::expr_fails), unfolding(asm_defs::specs::SecondChecks::outcome))]
-    fn directive_outcome(&self, statement: &Statement<'_>) -> Result<Outcome, Failure>
-        requires directive { IsDirective statement.now }
+    pub fn outcome(&self, statement: &Statement<'_>) -> Result<Outcome, Failure>
+        requires skeleton { KeepsSkeleton statement.now }
         requires names { NamesOnly statement.now }
         requires little { MovesLittle statement.now }
         requires at { self.now.at.number ≤ 65536 }
@@ -91,6 +72,7 @@ impl Scope<'_> {
             (spec.outcome (look_up self.now.symbols.now) self.now.at (defined_statement statement.now)) }
     {
         match statement {
+            Statement::Instruction(line) => self.instruction_outcome(line),
             Statement::Data(field) => {
                 let words = self.data_words(field)?;
                 Ok(Outcome::Words(words))
@@ -116,14 +98,16 @@ impl Scope<'_> {
         }
     }
 
-    /// The words of an instruction, of which the first checks left this.
+    /// The words of an instruction, by what the first checks left of it.
     #[tactic(auto, using(crate::proofs::Failures::form_fails))]
-    fn instruction_outcome(&self, skeleton: &Skeleton<'_>) -> Result<Outcome, Failure>
+    fn instruction_outcome(&self, line: &InstructionLine<'_>) -> Result<Outcome, Failure>
+        requires { IsOfField line.now.field.now line.now.skeleton }
         ensures { Gives defined_outcome result
             (words_by (second_checks (look_up self.now.symbols.now) (places.value_of self.now.at)
-            (defined_skeleton skeleton.now))) }
+            (defined_skeleton line.now.field.now line.now.skeleton))) }
     {
-        let placed = words_of(self.alloc, skeleton, self.symbols, value_at(self.at))?;
+        let here = value_at(self.at);
+        let placed = words_of(self.alloc, line.field, &line.skeleton, self.symbols, here)?;
         Ok(Outcome::Instruction(placed))
     }
 

@@ -7,7 +7,7 @@ ghost use Rattle.source_defs.specs.Operands.{operand_texts};
 ghost use Rattle.asm_defs.specs.Statements as spec;
 ghost use Rattle.source_defs.specs.Refusals.{seen};
 ghost use Rattle.asm_checks.specs.Answers.{Gives};
-ghost use Rattle.asm_checks.specs.Defined.{defined_statement, IsDirective, KeepsSkeleton, NamesOnly};
+ghost use Rattle.asm_checks.specs.Defined.{defined_statement, KeepsSkeleton, NamesOnly};
 ghost use Rattle.asm_checks.specs.Moves.{MovesLittle};
 
 use crate::directives::directive;
@@ -18,13 +18,26 @@ use asm_forms::{Skeleton, size_in, skeleton_of};
 use asm_text::{Fields, OperandError, at_most_one_of, one_of, part, quoted, some_of};
 use instruction_defs::FormError;
 
+/// An instruction with its operands, and what the first checks leave of it.
+#[derive(Clone, Copy)]
+pub struct InstructionLine<'a> {
+    /// How many bytes its words take.
+    pub size: u16,
+    /// What the first checks leave of it.
+    pub skeleton: Skeleton,
+    /// The operation field.
+    pub operation: &'a [u8],
+    /// The operand field.
+    pub field: &'a [u8],
+}
+
 /// What a line says: an instruction, or a directive with its operands. A field stands for the operands in it.
 #[derive(Clone, Copy)]
 pub enum Statement<'a> {
     /// Nothing, or nothing that has an effect.
     Nothing,
-    /// An instruction by its size, its operation field and its operand field.
-    Instruction(u16, &'a [u8], &'a [u8]),
+    /// An instruction.
+    Instruction(InstructionLine<'a>),
     /// The expression of an absolute origin.
     Aorg(&'a [u8]),
     /// The expression of a relocatable origin, where it has one.
@@ -59,25 +72,21 @@ pub enum Statement<'a> {
 
 /// What a line with its fields says, and what the first checks leave of it where it is an instruction.
 #[tactic(auto, using(crate::proofs::Failures::form_fails), unfolding(asm_defs::specs::Statements::statement_in))]
-pub fn statement_in<'a>(
-    line: &'a [u8],
-    fields: &Fields,
-) -> Result<(Statement<'a>, Option<Skeleton<'a>>), Failure>
+pub fn statement_in<'a>(line: &'a [u8], fields: &Fields) -> Result<Statement<'a>, Failure>
     requires read { lines.fields line.now ≡ Ok (defined_fields fields.now) }
     requires inside { FieldsLieInside line.now fields.now }
     requires length { length line.now ≤ 256 }
-    ensures said { Gives (λ found. defined_statement found.0) result
-        (spec.statement_in line.now (defined_fields fields.now)) }
-    ensures little { IfOk result (λ found. MovesLittle found.0) }
-    ensures names { IfOk result (λ found. NamesOnly found.0) }
-    ensures skeleton { IfOk result (λ found. KeepsSkeleton found.0 found.1) }
+    ensures said { Gives defined_statement result (spec.statement_in line.now (defined_fields fields.now)) }
+    ensures little { IfOk result MovesLittle }
+    ensures names { IfOk result NamesOnly }
+    ensures skeleton { IfOk result KeepsSkeleton }
 {
     match fields.operation {
-        None => Ok((Statement::Nothing, None)),
+        None => Ok(Statement::Nothing),
         Some(operation) => {
             let field = part(line, fields.operands);
             match directive(part(line, operation)) {
-                Some(found) => Ok((directive_statement(found, field)?, None)),
+                Some(found) => Ok(directive_statement(found, field)?),
                 None => Ok(instruction_statement(part(line, operation), field)?),
             }
         }
@@ -88,17 +97,21 @@ pub fn statement_in<'a>(
 fn instruction_statement<'a>(
     operation: &'a [u8],
     field: &'a [u8],
-) -> Result<(Statement<'a>, Option<Skeleton<'a>>), FormError>
-    ensures said { seen (λ found. defined_statement found.0) result
-        ≡ spec.instruction_statement operation.now field.now }
-    ensures skeleton { IfOk result (λ found. KeepsSkeleton found.0 found.1) }
-    ensures little { IfOk result (λ found. MovesLittle found.0) }
-    ensures names { IfOk result (λ found. NamesOnly found.0) }
+) -> Result<Statement<'a>, FormError>
+    requires { length field.now ≤ 256 }
+    ensures said { seen defined_statement result ≡ spec.instruction_statement operation.now field.now }
+    ensures skeleton { IfOk result KeepsSkeleton }
+    ensures little { IfOk result MovesLittle }
+    ensures names { IfOk result NamesOnly }
 {
     let skeleton = skeleton_of(operation, field)?;
     let size = size_in(&skeleton);
-    let statement = Statement::Instruction(size, operation, field);
-    Ok((statement, Some(skeleton)))
+    Ok(Statement::Instruction(InstructionLine {
+        size,
+        skeleton,
+        operation,
+        field,
+    }))
 }
 
 /// A directive with its operands.
@@ -107,7 +120,7 @@ fn directive_statement(found: Directive, field: &[u8]) -> Result<Statement<'_>, 
     ensures said { seen defined_statement result ≡ spec.directive_statement found (operand_texts field.now) }
     ensures little { IfOk result MovesLittle }
     ensures names { IfOk result NamesOnly }
-    ensures directive { IfOk result IsDirective }
+    ensures skeleton { IfOk result KeepsSkeleton }
 {
     match found {
         Directive::Aorg => Ok(Statement::Aorg(one_of(field)?)),

@@ -1,5 +1,5 @@
 -- What is known of a line has room in its part.
-use Rattle.std.proofs.Common.{◌≡◌, ℕ, ◌+◌, ◌≤◌, true, List, [], Some, None, Ok, length, sym, ap, ◌∙◌, arith}
+use Rattle.std.proofs.Common.{◌≡◌, ℕ, ◌+◌, ◌≤◌, true, List, [], Ok, length, sym, ap, ◌∙◌, arith}
 use Rattle.std.specs.Prelude.{Option, nat_le}
 use Rattle.std.proofs.lemmas.Bool.Decides.{nat_tests}
 use Rattle.source_defs.specs.Expression.{Value}
@@ -10,8 +10,7 @@ use Rattle.asm_defs.specs.declared.content.Content.{Content}
 use Rattle.asm_defs.specs.Memory.{bytes_in, contents_by}
 use Rattle.asm_defs.specs.Growing.{size_said}
 use Rattle.asm_defs.proofs.OutcomeSizes.{IsSized, outcome_size}
-use Rattle.asm_forms.specs.declared.first_checks.Skeleton.{Skeleton}
-use Rattle.asm_checks.specs.Defined.{defined_statement, IsDirective, LeavesSkeleton, KeepsSkeleton}
+use Rattle.asm_checks.specs.Defined.{defined_statement, KeepsSkeleton}
 use Rattle.asm_checks.specs.declared.statement.Statement.{Statement}
 use Rattle.asm_checks.specs.declared.statement.Statement.TheVariants.{
   Nothing,
@@ -39,54 +38,29 @@ use Rattle.asm_core.specs.Held.{has_room, has_room_by}
 use Rattle.asm_core.specs.Assembling.{GivesBytes}
 
 -- an instruction has the size that the first checks find
-left_sized : (statement : Statement) (skeleton : Skeleton) → LeavesSkeleton statement skeleton → IsSized (defined_statement statement)
-left_sized (Instruction size operation field) skeleton is =
+pub sized : (statement : Statement) → KeepsSkeleton statement → IsSized (defined_statement statement)
+sized (Instruction line) is =
     ap (λ skeleton. skeleton >>= λ skeleton. Ok (size_of skeleton)) is.checked ∙ ap Ok is.sized
-left_sized Nothing skeleton is = absurd is
-left_sized (Aorg text) skeleton is = absurd is
-left_sized (Rorg text) skeleton is = absurd is
-left_sized (Dorg text) skeleton is = absurd is
-left_sized (Bss text) skeleton is = absurd is
-left_sized (Bes text) skeleton is = absurd is
-left_sized Even skeleton is = absurd is
-left_sized (Equ text) skeleton is = absurd is
-left_sized (Data field) skeleton is = absurd is
-left_sized (Byte field) skeleton is = absurd is
-left_sized (Text text) skeleton is = absurd is
-left_sized (Def field) skeleton is = absurd is
-left_sized (Ref field) skeleton is = absurd is
-left_sized (Idt text) skeleton is = absurd is
-left_sized (Titl text) skeleton is = absurd is
-left_sized (End text) skeleton is = absurd is
+sized Nothing is = tt
+sized (Aorg text) is = tt
+sized (Rorg text) is = tt
+sized (Dorg text) is = tt
+sized (Bss text) is = tt
+sized (Bes text) is = tt
+sized Even is = tt
+sized (Equ text) is = tt
+sized (Data field) is = tt
+sized (Byte field) is = tt
+sized (Text text) is = tt
+sized (Def field) is = tt
+sized (Ref field) is = tt
+sized (Idt text) is = tt
+sized (Titl text) is = tt
+sized (End text) is = tt
 
-directive_sized : (statement : Statement) → IsDirective statement → IsSized (defined_statement statement)
-directive_sized (Instruction size operation field) is = absurd is
-directive_sized Nothing is = tt
-directive_sized (Aorg text) is = tt
-directive_sized (Rorg text) is = tt
-directive_sized (Dorg text) is = tt
-directive_sized (Bss text) is = tt
-directive_sized (Bes text) is = tt
-directive_sized Even is = tt
-directive_sized (Equ text) is = tt
-directive_sized (Data field) is = tt
-directive_sized (Byte field) is = tt
-directive_sized (Text text) is = tt
-directive_sized (Def field) is = tt
-directive_sized (Ref field) is = tt
-directive_sized (Idt text) is = tt
-directive_sized (Titl text) is = tt
-directive_sized (End text) is = tt
-
-pub sized : (statement : Statement) (skeleton : Option Skeleton) → KeepsSkeleton statement skeleton → IsSized (defined_statement statement)
-sized statement None is = directive_sized statement is
-sized statement (Some skeleton) is = left_sized statement skeleton is
-
-pub comes_within : (look : List ℕ → Option Value) (at : Location) (statement : Statement) (skeleton : Option Skeleton) (found : Outcome)
-    → KeepsSkeleton statement skeleton → outcome look at (defined_statement statement) ≡ Ok found
-    → bytes_in found ≡ size_said (defined_statement statement)
-comes_within look at statement skeleton found is e =
-    outcome_size look at (defined_statement statement) found (sized statement skeleton is) e
+pub comes_within : (look : List ℕ → Option Value) (at : Location) (statement : Statement) (found : Outcome) → KeepsSkeleton statement
+    → outcome look at (defined_statement statement) ≡ Ok found → bytes_in found ≡ size_said (defined_statement statement)
+comes_within look at statement found is e = outcome_size look at (defined_statement statement) found (sized statement is) e
 
 pub gives : (at : Location) (found : Outcome) (given : List Content) → at.number + bytes_in found ≤ 65536 → given ≡ contents_by at [] found
     → GivesBytes at found given

@@ -62,7 +62,7 @@ impl FirstPass<'_> {
             symbols: self.symbols,
             at: self.at,
         };
-        match scope.outcome(&said.statement, &said.skeleton) {
+        match scope.outcome(&said.statement) {
             Ok(outcome) => {
                 if outcome.stands() {
                     let bytes = self.bytes_of(&outcome)?;

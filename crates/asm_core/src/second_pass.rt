@@ -39,13 +39,13 @@ impl Output {
             Ok(found) => found,
             Err(error) => return Err(Failure::Refused(AsmCause::Text(error))),
         };
-        let (statement, skeleton) = statement_in(text, &found)?;
+        let statement = statement_in(text, &found)?;
         let scope = Scope {
             alloc: self.alloc,
             symbols,
             at: pending.at,
         };
-        let outcome = scope.outcome(&statement, &skeleton)?;
+        let outcome = scope.outcome(&statement)?;
         self.fill(pending.at, &outcome)?;
         Ok(())
     }

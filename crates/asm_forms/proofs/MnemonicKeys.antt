@@ -8,7 +8,7 @@ use Rattle.tms_defs.specs.Instructions.{operations}
 use Rattle.instruction_defs.specs.Operations.{name_of, mnemonic}
 use Rattle.instruction_defs.specs.declared.mnemonic.Mnemonic.{Mnemonic}
 use Rattle.instruction_defs.specs.declared.mnemonic.Mnemonic.TheVariants.{Of, Fixed}
-use Rattle.asm_text.specs.WordKeys.{key_of, word_key, is_of_key, with_key}
+use Rattle.asm_text.specs.WordKeys.{word_key, is_of_key, with_key}
 use Rattle.asm_forms.specs.Named.{named}
 use Rattle.asm_text.proofs.WordKeys.{AreBytes, word_told, words_found}
 

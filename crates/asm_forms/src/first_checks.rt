@@ -1,28 +1,30 @@
 //! The first checks of an instruction line: its operation, the number of its operands, and their forms.
 
-ghost use Rattle.std.specs.Prelude.{◌≡◌, ◌≤◌, Ok, Err, IfOk, IfErr};
+ghost use Rattle.std.specs.Prelude.{◌≡◌, ◌≤◌, ℕ, List, length, Ok, Err, IfOk, IfErr};
+ghost use Rattle.source_defs.specs.Lines.{IsInside, part};
 ghost use Rattle.source_defs.specs.Operands.{operand_texts};
 ghost use Rattle.instruction_defs.specs.FirstChecks as spec;
-ghost use Rattle.asm_forms.specs.Forms.{defined_form, form_answer, one_of, two_of, both_forms};
+ghost use Rattle.asm_forms.specs.Forms.{form_by, form_answer, mode_answer, HasRoom, LiesIn, one_of, two_of, both_forms};
+ghost use Rattle.asm_forms.specs.Forms.{defined_form};
 ghost use Rattle.asm_forms.specs.UpToTwo.{items_of, slots_in};
-ghost use Rattle.asm_forms.specs.Skeletons.{defined_skeleton, forms_answer, skeleton_answer};
+ghost use Rattle.asm_forms.specs.Skeletons.{defined_skeleton, forms_answer, skeleton_answer, AllLieIn, IsOfField};
 
-use crate::forms::{Form, form_of};
+use crate::forms::{Form, Mode, mode_of};
 use crate::mnemonics::mnemonic;
 use crate::slots::slots_of;
 use crate::up_to_two::UpToTwo;
-use asm_text::operands;
+use asm_text::{operands, part};
 use instruction_defs::{FormError, Mnemonic, Slot};
 use source_defs::Span;
 use tms_defs::Operation;
 
-/// What the first checks leave of an instruction line. Its operands are still texts.
+/// What the first checks leave of an instruction line. Its operands are still texts of the operand field.
 #[derive(Clone, Copy)]
-pub enum Skeleton<'a> {
+pub enum Skeleton {
     /// A word that has a name of its own.
     Word(u16),
     /// An operation with the forms of its operands.
-    Instruction(Operation, UpToTwo<Form<'a>>),
+    Instruction(Operation, UpToTwo<Form>),
 }
 
 /// The first checks of an operation field and an operand field. They want no memory.
@@ -31,8 +33,10 @@ pub enum Skeleton<'a> {
 /// `UnknownOperation`, then `OperandCount`, then `BadOperand` for the first operand that is empty or has a form that
 /// its place does not allow (Editor/Assembler manual, "Assembly Language Instructions").
 #[tactic(auto, unfolding(instruction_defs::specs::FirstChecks::first_checks))]
-pub fn skeleton_of<'a>(operation: &[u8], field: &'a [u8]) -> Result<Skeleton<'a>, FormError>
-    ensures { skeleton_answer result ≡ spec.first_checks operation.now field.now }
+pub fn skeleton_of(operation: &[u8], field: &[u8]) -> Result<Skeleton, FormError>
+    requires { length field.now ≤ 65535 }
+    ensures skeleton { skeleton_answer field.now result ≡ spec.first_checks operation.now field.now }
+    ensures inside { IfOk result (IsOfField field.now) }
 {
     match mnemonic(operation) {
         Some(Mnemonic::Fixed(word)) => Ok(Skeleton::Word(word)),
@@ -46,75 +50,103 @@ pub fn skeleton_of<'a>(operation: &[u8], field: &'a [u8]) -> Result<Skeleton<'a>
 
 /// The forms of as many operands as there are slots. A field is not read where there are none.
 #[tactic(auto, using(crate::proofs::Counted::one_is_counted, crate::proofs::Counted::two_are_counted))]
-fn forms_of<'a>(slots: UpToTwo<Slot>, field: &'a [u8]) -> Result<UpToTwo<Form<'a>>, FormError>
-    ensures { forms_answer result ≡ spec.forms_of (slots_in slots) field.now }
+fn forms_of(slots: UpToTwo<Slot>, field: &[u8]) -> Result<UpToTwo<Form>, FormError>
+    requires { length field.now ≤ 65535 }
+    ensures forms { forms_answer field.now result ≡ spec.forms_of (slots_in slots) field.now }
+    ensures inside { IfOk result (AllLieIn field.now) }
 {
     match slots {
         UpToTwo::One(slot) => {
-            let text = one_operand(field)?;
-            let form = form_in(slot, text)?;
+            let span = one_operand(field)?;
+            let form = form_in(slot, field, span)?;
             Ok(UpToTwo::One(form))
         }
         UpToTwo::Two(slot, other) => {
             let (first, second) = two_operands(field)?;
-            both_forms(slot, other, first, second)
+            both_forms(slot, other, field, first, second)
         }
         UpToTwo::None => Ok(UpToTwo::None),
     }
 }
 
 /// The one operand of a field that has one.
-fn one_operand(field: &[u8]) -> Result<&[u8], FormError>
-    ensures ok { IfOk result (λ text. Ok text.now ≡ one_of (operand_texts field.now)) }
+fn one_operand(field: &[u8]) -> Result<Span, FormError>
+    ensures ok { IfOk result (λ span. Ok (part field.now span) ≡ one_of (operand_texts field.now)) }
+    ensures inside { IfOk result (IsInside field.now) }
     ensures err { IfErr result (λ cause. Err cause ≡ one_of (operand_texts field.now)) }
 {
     let mut parts = operands(field);
     let (Some(only), None) = (parts.next(), parts.next()) else {
         return Err(FormError::OperandCount);
     };
-    Ok(&field[only.start..only.end])
+    Ok(only)
 }
 
 /// The two operands of a field that has two.
-fn two_operands(field: &[u8]) -> Result<(&[u8], &[u8]), FormError>
-    ensures ok { IfOk result (λ texts. Ok (texts.0.now, texts.1.now) ≡ two_of (operand_texts field.now)) }
+fn two_operands(field: &[u8]) -> Result<(Span, Span), FormError>
+    ensures ok { IfOk result (λ spans. Ok (part field.now spans.0, part field.now spans.1)
+        ≡ two_of (operand_texts field.now)) }
+    ensures first { IfOk result (λ spans. IsInside field.now spans.0) }
+    ensures second { IfOk result (λ spans. IsInside field.now spans.1) }
     ensures err { IfErr result (λ cause. Err cause ≡ two_of (operand_texts field.now)) }
 {
     let mut parts = operands(field);
     let (Some(first), Some(second), None) = (parts.next(), parts.next(), parts.next()) else {
         return Err(FormError::OperandCount);
     };
-    Ok((
-        &field[first.start..first.end],
-        &field[second.start..second.end],
-    ))
+    Ok((first, second))
 }
 
 /// The forms of two operands in their slots.
-fn both_forms<'a>(
+fn both_forms(
     slot: Slot,
     other: Slot,
-    first: &'a [u8],
-    second: &'a [u8],
-) -> Result<UpToTwo<Form<'a>>, FormError>
-    ensures { forms_answer result ≡ both_forms slot other first.now second.now }
+    field: &[u8],
+    first: Span,
+    second: Span,
+) -> Result<UpToTwo<Form>, FormError>
+    requires short { length field.now ≤ 65535 }
+    requires first { IsInside field.now first }
+    requires second { IsInside field.now second }
+    ensures forms { forms_answer field.now result
+        ≡ both_forms slot other (part field.now first) (part field.now second) }
+    ensures inside { IfOk result (AllLieIn field.now) }
 {
-    let form = form_in(slot, first)?;
-    let next = form_in(other, second)?;
+    let form = form_in(slot, field, first)?;
+    let next = form_in(other, field, second)?;
     Ok(UpToTwo::Two(form, next))
 }
 
 /// The form of an operand in its slot.
-fn form_in(slot: Slot, text: &[u8]) -> Result<Form<'_>, FormError>
-    ensures { form_answer result ≡ spec.form_in slot text.now }
+#[inline(always)]
+fn form_in(slot: Slot, field: &[u8], span: Span) -> Result<Form, FormError>
+    requires short { length field.now ≤ 65535 }
+    requires inside { IsInside field.now span }
+    ensures form { form_answer field.now result ≡ spec.form_in slot (part field.now span) }
+    ensures inside { IfOk result (LiesIn field.now) }
+{
+    let mode = mode_in(slot, part(field, span))?;
+    Ok(Form {
+        start: span.start as u16,
+        end: span.end as u16,
+        mode,
+    })
+}
+
+/// How an operand is written in its slot.
+#[inline(always)]
+fn mode_in(slot: Slot, text: &[u8]) -> Result<Mode, FormError>
+    requires { length text.now ≤ 65535 }
+    ensures form { mode_answer text.now result ≡ spec.form_in slot text.now }
+    ensures room { IfOk result (λ mode. HasRoom mode (length text.now)) }
 {
     if text.is_empty() {
         return Err(FormError::BadOperand);
     }
     match slot {
-        Slot::General => Ok(form_of(text)),
+        Slot::General => Ok(mode_of(text)),
         _ if is_mode_sign(text[0]) => Err(FormError::BadOperand),
-        _ => Ok(Form::Plain(text)),
+        _ => Ok(Mode::Plain),
     }
 }
 
@@ -126,8 +158,8 @@ fn is_mode_sign(byte: u8) -> bool
 }
 
 /// How many bytes the words of a line take: 2, 4 or 6.
-pub fn size_in(skeleton: &Skeleton<'_>) -> u16
-    ensures { result ≡ spec.size_of (defined_skeleton skeleton.now) }
+pub fn size_in(skeleton: &Skeleton) -> u16
+    ensures { (field : List ℕ) → result ≡ spec.size_of (defined_skeleton field skeleton.now) }
 {
     match skeleton {
         Skeleton::Word(_) => 2,
@@ -138,27 +170,28 @@ pub fn size_in(skeleton: &Skeleton<'_>) -> u16
 }
 
 /// How many words follow for the operands of a line.
-fn all_following(slots: UpToTwo<Slot>, forms: &UpToTwo<Form<'_>>) -> u16
-    ensures words { result ≡ spec.all_following (slots_in slots) (items_of defined_form forms.now) }
+fn all_following(slots: UpToTwo<Slot>, forms: &UpToTwo<Form>) -> u16
+    ensures words { (field : List ℕ) →
+        result ≡ spec.all_following (slots_in slots) (items_of (defined_form field) forms.now) }
     ensures most { result ≤ 2 }
 {
     match (slots, forms) {
         (UpToTwo::One(slot), UpToTwo::One(form) | UpToTwo::Two(form, _))
-        | (UpToTwo::Two(slot, _), UpToTwo::One(form)) => following(slot, form),
+        | (UpToTwo::Two(slot, _), UpToTwo::One(form)) => following(slot, form.mode),
         (UpToTwo::Two(slot, other), UpToTwo::Two(form, next)) => {
-            following(slot, form) + following(other, next)
+            following(slot, form.mode) + following(other, next.mode)
         }
         (UpToTwo::None, _) | (_, UpToTwo::None) => 0,
     }
 }
 
 /// How many words follow for an operand.
-fn following(slot: Slot, form: &Form<'_>) -> u16
-    ensures words { result ≡ spec.following slot (defined_form form.now) }
+fn following(slot: Slot, mode: Mode) -> u16
+    ensures words { (text : List ℕ) → result ≡ spec.following slot (form_by mode text) }
     ensures most { result ≤ 1 }
 {
-    match (slot, form) {
-        (Slot::Immediate, _) | (Slot::General, Form::Symbolic(_) | Form::Indexed(..)) => 1,
+    match (slot, mode) {
+        (Slot::Immediate, _) | (Slot::General, Mode::Symbolic | Mode::Indexed(_)) => 1,
         _ => 0,
     }
 }

@@ -18,7 +18,7 @@ mod up_to_two;
 mod values;
 
 pub use first_checks::{Skeleton, size_in, skeleton_of};
-pub use forms::Form;
+pub use forms::{Form, Mode};
 pub use instruction_defs::FormError;
 pub use parse::{parse_instr, size_of, words_of};
 pub use placed::{Placed, Word};

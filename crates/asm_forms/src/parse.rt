@@ -1,6 +1,6 @@
 //! Instruction lines: their size by the first checks, and their words by the second.
 
-ghost use Rattle.std.specs.Prelude.{◌≡◌, Ok, IsSome, IsOk};
+ghost use Rattle.std.specs.Prelude.{◌≡◌, ◌≤◌, length, Ok, IfOk, IsSome, IsOk};
 ghost use Rattle.source_defs.specs.Fields as lines;
 ghost use Rattle.source_defs.specs.Symbols.{look_up};
 ghost use Rattle.asm_text.specs.GivenFields.{defined_fields};
@@ -10,7 +10,7 @@ ghost use Rattle.instruction_defs.specs.SecondChecks as second;
 ghost use Rattle.asm_forms.specs.Answers.{Gives};
 ghost use Rattle.asm_forms.specs.Lines.{operation_in, operands_in, line_words};
 ghost use Rattle.asm_forms.specs.Placed.{words_in};
-ghost use Rattle.asm_forms.specs.Skeletons.{defined_skeleton, skeleton_answer};
+ghost use Rattle.asm_forms.specs.Skeletons.{defined_skeleton, skeleton_answer, IsOfField};
 
 use crate::first_checks::{Skeleton, size_in, skeleton_of};
 use crate::placed::{Placed, in_range_words, one_word};
@@ -22,11 +22,12 @@ use std::alloc::Global;
 
 /// The second checks of a line of which the first checks left this, and its words.
 #[tactic(auto, unfolding(instruction_defs::specs::SecondChecks::second_checks))]
-fn second_checks(scope: &Scope<'_>, skeleton: &Skeleton<'_>) -> Result<Placed, FormError>
-    requires { IsNotExternal scope.now.here }
+fn second_checks(scope: &Scope<'_>, skeleton: &Skeleton) -> Result<Placed, FormError>
+    requires here { IsNotExternal scope.now.here }
+    requires inside { IsOfField scope.now.field.now skeleton.now }
     ensures { Gives words_in result
         (second.second_checks (look_up scope.now.symbols.now) (defined_value scope.now.here)
-        (defined_skeleton skeleton.now)) }
+        (defined_skeleton scope.now.field.now skeleton.now)) }
 {
     match skeleton {
         Skeleton::Word(word) => Ok(one_word(*word)),
@@ -74,25 +75,28 @@ pub fn parse_instr(
         (operands_in line.now fields.now)) }
 {
     let skeleton = line_checks(line, fields)?;
-    words_of(alloc, &skeleton, symbols, here)
+    words_of(alloc, operand_field(line, fields), &skeleton, symbols, here)
 }
 
-/// The words of an instruction line at the place `here`, of which the first checks left this.
+/// The words of an instruction line at the place `here`, of whose operand field the first checks left this.
 ///
 /// # Errors
 /// The second checks, as of `parse_instr`.
 pub fn words_of(
     alloc: Global,
-    skeleton: &Skeleton<'_>,
+    field: &[u8],
+    skeleton: &Skeleton,
     symbols: &Symbols,
     here: Value,
 ) -> Result<Placed, FormError>
-    requires { IsNotExternal here }
+    requires here { IsNotExternal here }
+    requires inside { IsOfField field.now skeleton.now }
     ensures { Gives words_in result
-        (second.second_checks (look_up symbols.now) (defined_value here) (defined_skeleton skeleton.now)) }
+        (second.second_checks (look_up symbols.now) (defined_value here) (defined_skeleton field.now skeleton.now)) }
 {
     let scope = Scope {
         alloc,
+        field,
         symbols,
         here,
     };
@@ -100,13 +104,22 @@ pub fn words_of(
 }
 
 /// The first checks of a line with an operation.
-fn line_checks<'a>(line: &'a [u8], fields: &Fields) -> Result<Skeleton<'a>, FormError>
+fn line_checks(line: &[u8], fields: &Fields) -> Result<Skeleton, FormError>
     requires read { lines.fields line.now ≡ Ok (defined_fields fields.now) }
     requires operation { IsSome fields.now.operation }
-    ensures { skeleton_answer result
+    ensures skeleton { skeleton_answer (operands_in line.now fields.now) result
         ≡ first.first_checks (operation_in line.now fields.now) (operands_in line.now fields.now) }
+    ensures inside { IfOk result (IsOfField (operands_in line.now fields.now)) }
 {
     let operation = fields.operation.unwrap();
-    let field = part(line, fields.operands);
-    skeleton_of(part(line, operation), field)
+    skeleton_of(part(line, operation), operand_field(line, fields))
+}
+
+/// The operand field of a line.
+fn operand_field<'a>(line: &'a [u8], fields: &Fields) -> &'a [u8]
+    requires { lines.fields line.now ≡ Ok (defined_fields fields.now) }
+    ensures field { result.now ≡ operands_in line.now fields.now }
+    ensures short { length result.now ≤ 256 }
+{
+    part(line, fields.operands)
 }

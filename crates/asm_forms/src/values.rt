@@ -1,17 +1,18 @@
 //! The values of the operands of a line, from the left.
 
-ghost use Rattle.std.specs.Prelude.{◌≡◌, ◌≢◌, Err, IfErr};
+ghost use Rattle.std.specs.Prelude.{◌≡◌, ◌≢◌, length, Err, IfErr};
 ghost use Rattle.source_defs.specs.Expression.{expression};
 ghost use Rattle.source_defs.specs.Symbols.{look_up};
 ghost use Rattle.asm_text.specs.GivenValues.{defined_value, IsNotExternal};
 ghost use Rattle.instruction_defs.specs.SecondChecks as spec;
 ghost use Rattle.asm_forms.specs.Answers.{Gives};
 ghost use Rattle.asm_forms.specs.Answers.{refused as refused_as};
-ghost use Rattle.asm_forms.specs.Forms.{defined_form};
+ghost use Rattle.asm_forms.specs.Forms.{defined_form, form_by, HasRoom, LiesIn};
+ghost use Rattle.asm_forms.specs.Skeletons.{AllLieIn};
 ghost use Rattle.asm_forms.specs.UpToTwo.{items_of, slots_in};
 ghost use Rattle.asm_forms.specs.Values.{defined_operand};
 
-use crate::forms::Form;
+use crate::forms::{Form, Mode, first_text, index_text, operand_text};
 use crate::up_to_two::UpToTwo;
 use asm_text::{ExprError, Symbols, Value, expression_value};
 use instruction_defs::{FormError, Slot};
@@ -40,10 +41,11 @@ pub(crate) enum Operand {
     Following(Value),
 }
 
-/// Where a line stands: the names that it sees, and its place.
+/// Where a line stands: its operand field, the names that it sees, and its place.
 #[derive(Clone, Copy)]
 pub(crate) struct Scope<'a> {
     pub(crate) alloc: Global,
+    pub(crate) field: &'a [u8],
     pub(crate) symbols: &'a Symbols,
     pub(crate) here: Value,
 }
@@ -53,12 +55,13 @@ impl Scope<'_> {
     pub(crate) fn all_valued(
         &self,
         slots: UpToTwo<Slot>,
-        forms: &UpToTwo<Form<'_>>,
+        forms: &UpToTwo<Form>,
     ) -> Result<UpToTwo<Operand>, FormError>
-        requires { IsNotExternal self.now.here }
+        requires here { IsNotExternal self.now.here }
+        requires inside { AllLieIn self.now.field.now forms.now }
         ensures { Gives (items_of defined_operand) result
             (spec.all_valued (look_up self.now.symbols.now) (defined_value self.now.here) (slots_in slots)
-            (items_of defined_form forms.now)) }
+            (items_of (defined_form self.now.field.now) forms.now)) }
     {
         match (slots, forms) {
             (UpToTwo::One(slot), UpToTwo::One(form) | UpToTwo::Two(form, _))
@@ -76,27 +79,31 @@ impl Scope<'_> {
     }
 
     /// The values of an operand in its slot.
-    fn valued(&self, slot: Slot, form: &Form<'_>) -> Result<Operand, FormError>
-        requires { IsNotExternal self.now.here }
+    fn valued(&self, slot: Slot, form: &Form) -> Result<Operand, FormError>
+        requires here { IsNotExternal self.now.here }
+        requires inside { LiesIn self.now.field.now form.now }
         ensures { Gives defined_operand result
-            (spec.valued (look_up self.now.symbols.now) (defined_value self.now.here) slot (defined_form form.now)) }
+            (spec.valued (look_up self.now.symbols.now) (defined_value self.now.here) slot
+            (defined_form self.now.field.now form.now)) }
     {
+        let mode = form.mode;
+        let text = operand_text(self.field, form);
         match slot {
-            Slot::General => self.placed(form),
+            Slot::General => self.placed(mode, text),
             Slot::Register | Slot::Count => {
-                let number = self.number_of(text_in(form))?;
+                let number = self.number_of(first_text(mode, text))?;
                 Ok(Operand::Number(number))
             }
             Slot::Displacement => {
-                let number = self.number_of(text_in(form))?;
+                let number = self.number_of(first_text(mode, text))?;
                 Ok(Operand::Bit(number))
             }
             Slot::Immediate => {
-                let value = self.value_of(text_in(form))?;
+                let value = self.value_of(first_text(mode, text))?;
                 Ok(Operand::Following(value))
             }
             Slot::Target => {
-                let value = self.value_of(text_in(form))?;
+                let value = self.value_of(first_text(mode, text))?;
                 let target = target_in(self.here, value)?;
                 Ok(Operand::To(target))
             }
@@ -104,31 +111,33 @@ impl Scope<'_> {
     }
 
     /// The values of an operand in any mode.
-    fn placed(&self, form: &Form<'_>) -> Result<Operand, FormError>
-        requires { IsNotExternal self.now.here }
+    fn placed(&self, mode: Mode, text: &[u8]) -> Result<Operand, FormError>
+        requires here { IsNotExternal self.now.here }
+        requires room { HasRoom mode (length text.now) }
         ensures { Gives defined_operand result
-            (spec.placed (look_up self.now.symbols.now) (defined_value self.now.here) (defined_form form.now)) }
+            (spec.placed (look_up self.now.symbols.now) (defined_value self.now.here) (form_by mode text.now)) }
     {
-        match form {
-            Form::Plain(text) => {
-                let register = self.number_of(text)?;
+        let first = first_text(mode, text);
+        match mode {
+            Mode::Plain => {
+                let register = self.number_of(first)?;
                 Ok(Operand::InRegister(register))
             }
-            Form::Indirect(text) => {
-                let register = self.number_of(text)?;
+            Mode::Indirect => {
+                let register = self.number_of(first)?;
                 Ok(Operand::ByRegister(register))
             }
-            Form::Increment(text) => {
-                let register = self.number_of(text)?;
+            Mode::Increment => {
+                let register = self.number_of(first)?;
                 Ok(Operand::AutoIncrement(register))
             }
-            Form::Symbolic(text) => {
-                let address = self.value_of(text)?;
+            Mode::Symbolic => {
+                let address = self.value_of(first)?;
                 Ok(Operand::AtAddress(address))
             }
-            Form::Indexed(text, index) => {
-                let address = self.value_of(text)?;
-                let register = self.number_of(index)?;
+            Mode::Indexed(place) => {
+                let address = self.value_of(first)?;
+                let register = self.number_of(index_text(place, text))?;
                 Ok(Operand::AtIndexed(address, register))
             }
         }
@@ -159,19 +168,6 @@ impl Scope<'_> {
             Ok(value) => Ok(value),
             Err(cause) => Err(refused(cause)),
         }
-    }
-}
-
-/// The text of an expression alone.
-fn text_in<'a>(form: &Form<'a>) -> &'a [u8]
-    ensures { result.now ≡ spec.text_in (defined_form form.now) }
-{
-    match form {
-        Form::Plain(text)
-        | Form::Indirect(text)
-        | Form::Increment(text)
-        | Form::Symbolic(text)
-        | Form::Indexed(text, _) => text,
     }
 }
 

@@ -5,9 +5,6 @@ use Rattle.source_defs.specs.Lines.{IsInside}
 use Rattle.source_defs.proofs.FieldPlaces.{fields_lie_inside}
 use Rattle.asm_forms.proofs.parse.line_checks.Goals as goal
 
-pub part-field-requires : goal.part-field-requires
-part-field-requires c = (fields_lie_inside _ _ c.requires.read).operands
-
 pub part-requires : goal.part-requires
 part-requires c =
     let inside : Option Span → _ = λ operation. IfSome operation (IsInside c.args.line.now) in

@@ -18,7 +18,7 @@ fill-requires c =
     omega (
       arith,
       fits_there pending.at pending.text.items (defined_statement statement) pending.room whole,
-      comes_within (look_up c.args.symbols.now) pending.at statement c.in_ok-statement.skeleton
+      comes_within (look_up c.args.symbols.now) pending.at statement
           (defined_outcome c.in_ok-outcome.outcome) c.in_ok-statement.ensures.skeleton c.in_ok-outcome.ensures,
     )
 
@@ -34,7 +34,7 @@ returns c = λ unused.
       found = defined_outcome c.in_ok-outcome.outcome;
       said = ap said_of (sym c.as_slice-text.ensures.value) ∙ said;
       comes = c.in_ok-outcome.ensures;
-      size = comes_within (look_up c.args.symbols.now) pending.at statement c.in_ok-statement.skeleton (defined_outcome c.in_ok-outcome.outcome)
+      size = comes_within (look_up c.args.symbols.now) pending.at statement (defined_outcome c.in_ok-outcome.outcome)
           c.in_ok-statement.ensures.skeleton c.in_ok-outcome.ensures;
       fills = c.in_ok-fill.ensures unused;
     }
