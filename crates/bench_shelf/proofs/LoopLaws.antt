@@ -3,20 +3,33 @@ use Rattle.std.proofs.Common.{◌≡◌, ℕ, ◌+◌, ◌*◌, ◌≤◌, List,
 use Rattle.std.specs.Prelude.{Option, IfSome}
 use Rattle.std.specs.FinMap.{empty}
 use Rattle.shelf_defs.specs.Files.{Files}
-use Rattle.shelf_defs.specs.CopyLines.{asked}
+use Rattle.shelf_defs.specs.CopyLines.{Itself, asked}
 use Rattle.shelf_defs.specs.Alone.{IsNoFile, CopiesNone}
-use Rattle.shelf_defs.specs.Copied.{Place, lines_in, copy_line, one_line}
+use Rattle.shelf_defs.specs.Copied.{Place, Copied, lines_in, copy_line, own_line, asked_line, one_line}
 use Rattle.asm_core.specs.Building.{IsOpen}
 use Rattle.bench_shelf.specs.States.{ShelfState}
 use Rattle.bench_shelf.specs.declared.copying.Copying.{Copying}
 use Rattle.bench_shelf.specs.declared.copy_error.CopyError.{CopyError}
 use Rattle.source_defs.specs.declared.text.Line.{Line as TextLine}
 use Rattle.source_defs.specs.Lines.{lines}
-use Rattle.shelf_defs.specs.Copied.{most_bytes}
+use Rattle.shelf_defs.specs.Copied.{most_bytes, most_copies}
 use Rattle.bench_shelf.specs.Leading.{Leads, LeadsAlone, IsHeld, HasRoom, Grows, count}
-use Rattle.bench_shelf.specs.Causes.{Later, ReadsOnce}
+use Rattle.bench_shelf.specs.KeptLines.{KeepsLines}
+use Rattle.bench_shelf.specs.Causes.{Later, ReadsOnce, TookNoMore}
 use Rattle.bench_shelf.proofs.CountLaws.{few_lines}
 use Rattle.bench_shelf.proofs.LeadingLaws.{leads_none, leads_then, leads_ended, leads_refused}
+
+-- a line that stands for itself leads to what it leads to as any line
+pub own_leads : (copy : Place → ℕ → List ℕ → Copied) (old new : Copying) (place : Place) (text : List ℕ) (error : Option CopyError)
+    → asked text ≡ Itself → Leads old (own_line place old.copies text) error new → Leads old (one_line copy place old.copies text) error new
+own_leads copy old new place text error own leads =
+    subst (λ request. Leads old (asked_line copy request place old.copies text) error new) (sym own) leads
+
+pub own_told : (levels : ℕ) (told : Option Files) (old new : Copying) (place : Place) (text : List ℕ) (error : Option CopyError)
+    → asked text ≡ Itself → Leads old (own_line place old.copies text) error new
+    → IfSome told (λ files. Leads old (one_line (copy_line files levels) place old.copies text) error new)
+own_told levels None old new place text error own leads = tt
+own_told levels (Some files) old new place text error own leads = own_leads (copy_line files levels) old new place text error own leads
 
 module _ (levels : ℕ) (file : Option (List ℕ)) where
   -- what the lines that are left lead to, all lines lead to
@@ -180,3 +193,32 @@ later_first a = record {
   empty = omega arith;
   largest = omega arith;
 }
+
+-- a line was taken: by itself, or as the lines of a file
+pub record TakesLine (levels : ℕ) (place : Place) (text : List ℕ) (now mid : Copying) (b c : ShelfState) : Type 0 where
+  pub leads : IfSome b.files (λ files. Leads now (one_line (copy_line files levels) place now.copies text) None mid)
+  pub alone : IsNoFile (asked text) → LeadsAlone now (one_line (copy_line empty levels) place now.copies text) None mid b c
+  pub later : Later b c
+  pub once : ReadsOnce now mid b c
+  pub grows : Grows 1 now mid
+  pub kept : KeepsLines now mid
+  pub within : TookNoMore most_bytes b c
+
+pub own_takes : (levels : ℕ) (place : Place) (text : List ℕ) (now mid : Copying) (b : ShelfState) → asked text ≡ Itself
+    → Leads now (own_line place now.copies text) None mid → Grows 1 now mid → mid.copies ≡ now.copies → now.copies ≤ most_copies → KeepsLines now mid
+    → TakesLine levels place text now mid b b
+own_takes levels place text now mid b own leads grows copies few kept = record {
+  leads = own_told levels b.files now mid place text None own leads;
+  alone = λ none. record { shelf = refl; leads = own_leads (copy_line empty levels) now mid place text None own leads };
+  later = later_first b;
+  once = record { copies = omega (arith, copies); most = omega (arith, copies, few); opens = omega (arith, copies); bytes = omega (arith, copies) };
+  grows = grows;
+  kept = kept;
+  within = omega arith;
+}
+
+pub takes_as : (levels : ℕ) (place there : Place) (text : List ℕ) (now mid same : Copying) (b c d : ShelfState) → there ≡ place → mid ≡ same → c ≡ d
+    → TakesLine levels there text now same b d → TakesLine levels place text now mid b c
+takes_as levels place there text now mid same b c d at is shelf takes =
+    subst (λ p. TakesLine levels p text now mid b c) at
+    (subst (λ m. TakesLine levels there text now m b c) (sym is) (subst (λ s. TakesLine levels there text now same b s) (sym shelf) takes))

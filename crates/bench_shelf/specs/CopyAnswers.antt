@@ -1,5 +1,5 @@
 -- What the definitions say of a source with the files that it copies, and the answers to it.
-use Rattle.std.specs.Prelude.{◌≡◌, ⊤, Result, Ok, Err}
+use Rattle.std.specs.Prelude.{◌≡◌, ⊤, ℕ, List, Option, Result, Ok, Err}
 use Rattle.shelf_defs.specs.Copied as spec
 use Rattle.shelf_defs.specs.Copied.{CopyRefusal}
 use Rattle.object_defs.specs.Modules as object
@@ -7,6 +7,9 @@ use Rattle.object_tags.specs.Seen.{defined_module}
 use Rattle.object_tags.specs.declared.parts.Module.{Module}
 use Rattle.asm_defs.specs.declared.causes.AsmCause.{AsmCause}
 use Rattle.asm_checks.specs.Answers.{Causes}
+use Rattle.asm_checks.specs.declared.failure.Failure.{Failure}
+use Rattle.asm_checks.specs.declared.failure.Failure.TheVariants.{Refused}
+use Rattle.asm_checks.specs.declared.failure.Failure.TheVariants as failure
 use Rattle.bench_shelf.specs.declared.place.Place.{Place}
 use Rattle.bench_shelf.specs.declared.copy_error.CopyCause.{CopyCause}
 use Rattle.bench_shelf.specs.declared.copy_error.CopyCause.TheVariants.{Asm, BadCopy, TooDeep, TooMany, Missing}
@@ -23,9 +26,18 @@ defined_cause TooDeep = spec.TooDeep
 defined_cause TooMany = spec.TooMany
 defined_cause (Missing name) = spec.Missing name
 
+-- the place of a line of a file, or of the source itself
+abbrev pub place_in : Option (List ℕ) → ℕ → Place
+place_in file line = record { file = file; line = line }
+
 -- the error of a line at a place
 abbrev pub refused_at : Place → CopyCause → CopyError
 refused_at place cause = At place.file place.line cause
+
+-- the error of a line at a place that the builder does not take
+abbrev pub failed_at : Place → Failure → CopyError
+failed_at place (Refused cause) = refused_at place (Asm cause)
+failed_at place failure.Memory = Memory
 
 -- a cause of the assembler that does not stand for want of memory
 abbrev pub IsOwnCause : AsmCause → Type 0

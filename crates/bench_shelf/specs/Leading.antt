@@ -6,7 +6,9 @@ use Rattle.asm_core.specs.Building.{HasTaken, IsOpen}
 use Rattle.asm_core.specs.declared.lines.AsmLines.{AsmLines}
 use Rattle.bench_shelf.specs.declared.copying.Copying.{Copying}
 use Rattle.bench_shelf.specs.declared.copy_error.CopyError.{CopyError}
-use Rattle.bench_shelf.specs.CopyAnswers.{CopyRefuses}
+use Rattle.asm_checks.specs.declared.failure.Failure.{Failure}
+use Rattle.bench_shelf.specs.declared.place.Place.{Place}
+use Rattle.bench_shelf.specs.CopyAnswers.{CopyRefuses, failed_at}
 use Rattle.bench_shelf.specs.Runs.{places_of}
 use Rattle.bench_shelf.specs.States.{ShelfState}
 
@@ -31,6 +33,11 @@ pub record GoesOn (done : List PlacedLine) (found : Copied) (new : Copying) : Ty
 abbrev pub trouble : {A : Type 0} → Result A CopyError → Option CopyError
 trouble (Ok value) = None
 trouble (Err error) = Some error
+
+-- the same of a line at a place
+abbrev pub trouble_at : {A : Type 0} → Place → Result A Failure → Option CopyError
+trouble_at place (Ok value) = None
+trouble_at place (Err failure) = Some (failed_at place failure)
 
 -- they were taken, or one of all lines is refused
 abbrev pub LeadsTo : Option CopyError → List PlacedLine → Copied → Copying → Type 0

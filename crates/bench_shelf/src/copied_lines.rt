@@ -15,10 +15,10 @@ ghost use Rattle.bench_shelf.specs.KeptLines.{KeepsLines};
 
 use crate::copied_file::read_copied;
 use crate::copy_error::{CopyCause, CopyError};
-use crate::copy_line::{Asked, asked_by};
+use crate::copy_line::{Asked, asked_by, copies_nothing};
 use crate::copying::Copying;
 use crate::file_name::FileName;
-use crate::place::Place;
+use crate::place::{Place, place_in};
 use crate::shelf::Shelf;
 use asm_text::{lines, part};
 
@@ -56,13 +56,17 @@ impl Copying {
         ensures kept { KeepsLines self.old self.new }
     {
         for line in lines(text) {
-            let place = Place {
-                file: *file,
-                line: line.number,
-            };
-            match self.copy_one(shelf, levels, place, part(text, line.span)) {
-                Ok(()) => {}
-                Err(error) => return Err(error),
+            let own = part(text, line.span);
+            if copies_nothing(own) {
+                match self.take(file, line.number, own) {
+                    Ok(()) => {}
+                    Err(failure) => return Err(place_in(file, line.number).failed(failure)),
+                }
+            } else {
+                match self.copy_asked(shelf, levels, place_in(file, line.number), own) {
+                    Ok(()) => {}
+                    Err(error) => return Err(error),
+                }
             }
             if self.builder.is_ended() {
                 return Ok(());
@@ -71,9 +75,9 @@ impl Copying {
         Ok(())
     }
 
-    /// Takes a line, or the lines of the file that it copies.
+    /// Takes a line by what it asks for: itself, or the lines of a file.
     #[cycle(copying)]
-    fn copy_one<F: Shelf>(
+    fn copy_asked<F: Shelf>(
         &mut self,
         shelf: &mut F,
         levels: u32,
@@ -96,7 +100,10 @@ impl Copying {
         ensures kept { KeepsLines self.old self.new }
     {
         match asked_by(text) {
-            Asked::Itself => self.take(place, text),
+            Asked::Itself => match self.take(&place.file, place.line, text) {
+                Ok(()) => Ok(()),
+                Err(failure) => Err(place.failed(failure)),
+            },
             Asked::File(name) => self.copy_file(shelf, levels, place, name),
             Asked::Bad => Err(place.refused(CopyCause::BadCopy)),
         }

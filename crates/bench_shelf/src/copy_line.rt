@@ -1,6 +1,6 @@
 //! Lines that copy a file.
 
-ghost use Rattle.std.specs.Prelude.{◌≡◌};
+ghost use Rattle.std.specs.Prelude.{◌≡◌, IsTrue};
 ghost use Rattle.shelf_defs.specs.CopyLines as spec;
 ghost use Rattle.bench_shelf.specs.Asking.{defined_asked};
 
@@ -17,15 +17,20 @@ pub(crate) enum Asked {
     Bad,
 }
 
+/// Whether the operation of a line is another than COPY, or it has none, so that it stands for itself.
+#[tactic(auto, using(crate::proofs::CopyWords::no_copy))]
+pub(crate) fn copies_nothing(line: &[u8]) -> bool
+    ensures { IsTrue result → spec.asked line.now ≡ spec.Itself }
+{
+    !is_operation(line, b"COPY")
+}
+
 /// What a line of a source asks for. A line with the operation COPY asks for a file. It has no label, and its operand
 /// is the name of the file in quotes.
-#[tactic(auto, using(crate::proofs::CopyWords::no_copy), unfolding(shelf_defs::specs::CopyLines::asked))]
+#[tactic(auto, unfolding(shelf_defs::specs::CopyLines::asked))]
 pub(crate) fn asked_by(line: &[u8]) -> Asked
     ensures { defined_asked result ≡ spec.asked line.now }
 {
-    if !is_operation(line, b"COPY") {
-        return Asked::Itself;
-    }
     let Ok(found) = fields(line) else {
         return Asked::Itself;
     };

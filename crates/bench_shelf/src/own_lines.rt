@@ -6,15 +6,16 @@ ghost use Rattle.shelf_defs.specs.Assembly.{texts, in_place};
 ghost use Rattle.asm_defs.specs.Modules.{module_of_lines};
 ghost use Rattle.asm_core.specs.Building.{IsOpen};
 ghost use Rattle.object_tags.specs.Seen.{defined_module};
-ghost use Rattle.bench_shelf.specs.CopyAnswers.{defined_place, GivesCopied};
-ghost use Rattle.bench_shelf.specs.Leading.{Holds, Leads, HasRoom, Grows, count, trouble};
+ghost use Rattle.bench_shelf.specs.CopyAnswers.{defined_place, failed_at, place_in, GivesCopied};
+ghost use Rattle.bench_shelf.specs.Leading.{Holds, Leads, HasRoom, Grows, count, trouble_at};
 ghost use Rattle.bench_shelf.specs.Causes.{IsOfLine};
 ghost use Rattle.bench_shelf.specs.KeptLines.{HasLines, KeepsLines, IsOfLines};
 
 use crate::copy_error::{CopyCause, CopyError};
 use crate::copying::Copying;
-use crate::place::Place;
+use crate::file_name::FileName;
 use crate::runs::{note_place, place_of};
+use asm_checks::Failure;
 use asm_core::{AsmError, AsmLines};
 use object_tags::Module;
 use std::alloc::Global;
@@ -36,28 +37,31 @@ impl Copying {
         }
     }
 
-    /// Takes a line that stands for itself.
+    /// Takes a line of a file, or of the source itself, that stands for itself, and notes its place.
     #[tactic(auto, using(crate::proofs::CountLaws::can_count))]
-    pub(crate) fn take(&mut self, place: Place, text: &[u8]) -> Result<(), CopyError>
+    pub(crate) fn take(
+        &mut self,
+        file: &Option<FileName>,
+        line: u32,
+        text: &[u8],
+    ) -> Result<(), Failure>
         requires going { IsOpen self.old.builder }
         requires room { HasRoom 1 self.old }
-        ensures leads { Leads self.old (own_line (defined_place place) self.old.copies text.now)
-            (trouble result) self.new }
+        ensures leads { Leads self.old (own_line (defined_place (place_in file.now line)) self.old.copies text.now)
+            (trouble_at (place_in file.now line) result) self.new }
         ensures grows { OnOk result (Grows 1 self.old self.new) }
         ensures copies { self.new.copies ≡ self.old.copies }
-        ensures causes { IfErr result IsOfLine }
+        ensures causes { IfErr result (λ failure. IsOfLine (failed_at (place_in file.now line) failure)) }
         ensures kept { KeepsLines self.old self.new }
     {
         match self.builder.line(text) {
             Ok(()) => {}
-            Err(AsmError::At { cause, .. }) => {
-                return Err(place.refused(CopyCause::Asm(cause)));
-            }
-            Err(AsmError::Memory) => return Err(CopyError::Memory),
+            Err(AsmError::At { cause, .. }) => return Err(Failure::Refused(cause)),
+            Err(AsmError::Memory) => return Err(Failure::Memory),
         }
-        match note_place(&mut self.runs, place) {
+        match note_place(&mut self.runs, file, line) {
             Ok(()) => Ok(()),
-            Err(_) => Err(CopyError::Memory),
+            Err(_) => Err(Failure::Memory),
         }
     }
 

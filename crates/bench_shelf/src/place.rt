@@ -1,10 +1,11 @@
 //! Where a line stands: in the source or a file that it copies, with its number there.
 
 ghost use Rattle.std.specs.Prelude.{◌≡◌};
-ghost use Rattle.bench_shelf.specs.CopyAnswers.{refused_at};
+ghost use Rattle.bench_shelf.specs.CopyAnswers.{failed_at, place_in, refused_at};
 
 use crate::copy_error::{CopyCause, CopyError};
 use crate::file_name::FileName;
+use asm_checks::Failure;
 
 /// Where a line stands.
 #[derive(Clone, Copy)]
@@ -26,4 +27,21 @@ impl Place {
             cause,
         }
     }
+
+    /// The error of a line that stands here and was not taken.
+    pub(crate) fn failed(self, failure: Failure) -> CopyError
+        ensures { result ≡ failed_at self failure }
+    {
+        match failure {
+            Failure::Refused(cause) => self.refused(CopyCause::Asm(cause)),
+            Failure::Memory => CopyError::Memory,
+        }
+    }
+}
+
+/// The place of a line of a file, or of the source itself.
+pub(crate) fn place_in(file: &Option<FileName>, line: u32) -> Place
+    ensures { result ≡ place_in file.now line }
+{
+    Place { file: *file, line }
 }

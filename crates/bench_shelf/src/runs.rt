@@ -2,7 +2,7 @@
 
 ghost use Rattle.std.specs.Prelude.{◌≡◌, ◌++◌, ◌∷◌, [], OnOk, IsTrue};
 ghost use Rattle.shelf_defs.specs.Assembly.{place_of};
-ghost use Rattle.bench_shelf.specs.CopyAnswers.{defined_place};
+ghost use Rattle.bench_shelf.specs.CopyAnswers.{defined_place, place_in};
 ghost use Rattle.bench_shelf.specs.Runs.{places_of, ComesNext};
 
 use crate::file_name::FileName;
@@ -11,13 +11,13 @@ use crate::run::Run;
 use std::alloc::AllocError;
 
 impl Run {
-    /// Whether a place comes next behind the lines.
-    fn is_next(&self, place: &Place) -> bool
-        ensures { IsTrue result → ComesNext self.now place.now }
+    /// Whether a line of a file comes next behind the lines.
+    fn is_next(&self, file: &Option<FileName>, line: u32) -> bool
+        ensures { IsTrue result → ComesNext self.now (place_in file.now line) }
     {
-        self.line.checked_add(self.count) == Some(place.line)
+        self.line.checked_add(self.count) == Some(line)
             && self.count < u32::MAX
-            && is_same(&self.file, &place.file)
+            && is_same(&self.file, file)
     }
 }
 
@@ -33,17 +33,22 @@ fn is_same(one: &Option<FileName>, other: &Option<FileName>) -> bool
 }
 
 /// Notes the place of one more line.
-pub(crate) fn note_place(runs: &mut Vec<Run>, place: Place) -> Result<(), AllocError>
-    ensures { OnOk result (places_of runs.new.items ≡ places_of runs.old.items ++ defined_place place ∷ []) }
+pub(crate) fn note_place(
+    runs: &mut Vec<Run>,
+    file: &Option<FileName>,
+    line: u32,
+) -> Result<(), AllocError>
+    ensures { OnOk result (places_of runs.new.items
+        ≡ places_of runs.old.items ++ defined_place (place_in file.now line) ∷ []) }
 {
     let count = runs.len();
-    if count > 0 && runs[count - 1].is_next(&place) {
+    if count > 0 && runs[count - 1].is_next(file, line) {
         runs[count - 1].count += 1;
         return Ok(());
     }
     runs.push(Run {
-        file: place.file,
-        line: place.line,
+        file: *file,
+        line,
         count: 1,
     })?;
     Ok(())

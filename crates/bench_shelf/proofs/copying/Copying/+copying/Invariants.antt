@@ -15,8 +15,8 @@ use Rattle.bench_shelf.proofs.copying.Copying.+copying.Given as goal
 abbrev pub decreases-copy_file : goal.decreases-copy_file
 decreases-copy_file g l = 3 * l.levels
 
-abbrev pub decreases-copy_one : goal.decreases-copy_one
-decreases-copy_one g l = 3 * l.levels + 1
+abbrev pub decreases-copy_asked : goal.decreases-copy_asked
+decreases-copy_asked g l = 3 * l.levels + 1
 
 abbrev pub decreases-copy_lines : goal.decreases-copy_lines
 decreases-copy_lines g l = 3 * l.levels + 2
