@@ -29,7 +29,8 @@ name_behind key zero count (byte ∷ name) others le = refl
 name_behind key (suc places) count (byte ∷ name) others le = name_behind (256 * key + byte) places count name others (omega (arith, le))
 
 -- the last of the zeros behind a name is written over
-last_written : (name : List ℕ) (count at n : ℕ) → at ≡ length name + count → set (name ++ replicate (suc count) 0) at n ≡ name ++ (replicate count 0 ++ (n ∷ []))
+last_written : (name : List ℕ) (count at n : ℕ) → at ≡ length name + count
+    → set (name ++ replicate (suc count) 0) at n ≡ name ++ (replicate count 0 ++ (n ∷ []))
 last_written [] zero zero n is = refl
 last_written [] zero (suc at) n is = absurd (omega (arith, is))
 last_written [] (suc count) zero n is = absurd (omega (arith, is))
@@ -38,9 +39,9 @@ last_written (byte ∷ name) count zero n is = absurd (omega (arith, is))
 last_written (byte ∷ name) count (suc at) n is = ap (λ others. byte ∷ others) (last_written name count at n (omega (arith, is)))
 
 -- a name with zeros behind it, the last of which its length is written over, lies as it is kept
-pub name_lies : (bytes : List ℕ) (len : ℕ) → is_kept_name (take len bytes) ≡ true → len ≤ 6 → length bytes ≡ 8
+length_lies : (bytes : List ℕ) (len : ℕ) → is_kept_name (take len bytes) ≡ true → len ≤ 6 → length bytes ≡ 8
     → bytes ≡ take len bytes ++ replicate (8 - len) 0 → IsPadded (set bytes 7 len) len
-name_lies bytes len kept within eight behind =
+length_lies bytes len kept within eight behind =
     let name = take len bytes in
     let short : length name ≡ len = length-take-le len bytes (omega arith) in
     let front : take len (set bytes 7 len) ≡ name = take-set-le len bytes 7 len (omega arith) in
@@ -56,12 +57,12 @@ name_lies bytes len kept within eight behind =
       kept = ap is_kept_name front ∙ kept;
     }
 
--- the last byte is the length that was written
-pub name_lies_so : (bytes : List ℕ) (len : ℕ) → is_kept_name (take len bytes) ≡ true → len ≤ 6 → length bytes ≡ 8
+-- the same with the length as the last byte has it
+pub name_lies : (bytes : List ℕ) (len : ℕ) → is_kept_name (take len bytes) ≡ true → len ≤ 6 → length bytes ≡ 8
     → bytes ≡ take len bytes ++ replicate (8 - len) 0 → IsPadded (set bytes 7 len) (get_or (set bytes 7 len) 7 0)
-name_lies_so bytes len kept within eight behind =
+name_lies bytes len kept within eight behind =
     let last : get_or (set bytes 7 len) 7 0 ≡ len = get_or-set_same bytes 7 len 0 (omega arith) in
-    subst (IsPadded (set bytes 7 len)) (sym last) (name_lies bytes len kept within eight behind)
+    subst (IsPadded (set bytes 7 len)) (sym last) (length_lies bytes len kept within eight behind)
 
 -- a letter is written, and zeros stay behind it
 pub zeros_stay : (letters : List ℕ) (size at letter : ℕ) → drop at letters ≡ replicate (size - at) 0

@@ -19,6 +19,9 @@ pub(crate) const LONGEST_NAME: usize = 6;
 /// How many bytes a name is kept in.
 pub(crate) const KEPT_BYTES: usize = 8;
 
+/// Where among them its length stands.
+const LENGTH_AT: usize = 7;
+
 /// A name: one to six printed characters other than the space, from >21 to >7E.
 #[derive(Clone, Copy, Debug)]
 pub struct Name {
@@ -61,7 +64,7 @@ impl Name {
         ensures { result ≡ take len bytes }
     {
         let mut bytes = bytes;
-        bytes[7] = len as u8;
+        bytes[LENGTH_AT] = len as u8;
         Name { bytes }
     }
 
@@ -70,7 +73,7 @@ impl Name {
         ensures value { result.now ≡ self.now }
         ensures kept { IsTrue (is_kept_name self.now) }
     {
-        &self.bytes[..usize::from(self.bytes[7])]
+        &self.bytes[..usize::from(self.bytes[LENGTH_AT])]
     }
 
     /// The bytes that are kept as one number, the first highest. Names compare as their keys do.
@@ -132,7 +135,7 @@ impl Ord for Name {
 }
 
 /// The order of two keys of which the first is not above the second. It is a call of its own, so that a search in a map
-/// passes over the lower names of a row by one test each.
+/// passes over each lower name by one test.
 #[inline(never)]
 fn not_above(key: u64, other: u64) -> Ordering
     requires { key ≤ other }
