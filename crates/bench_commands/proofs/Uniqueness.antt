@@ -19,6 +19,7 @@ use Rattle.report_defs.proofs.Fronts.{fronts_begin_reports}
 use Rattle.report_defs.proofs.ListedInputs.{listed_inputs_come_back}
 use Rattle.report_defs.proofs.ListedWords.{listed_words_come_back}
 use Rattle.word_listings.proofs.LinkLaw.{entered_listings_link}
+use Rattle.word_listings.proofs.ListingLaw.{entered_listings_come_back}
 use Rattle.reports.specs.Outputs.{Outputs, WroteReport, MissedReport}
 use Rattle.bench_commands.specs.Run.{Run, ReadsInput, Reads, ReportsOn, Reports, EndsBy}
 use Rattle.bench_commands.specs.Laws.{HasNoFault, read_of, TellsInput, Completeness, BeginAlike, OneAnswer, LawsOfRuns}
@@ -114,5 +115,6 @@ laws =
       machines = machines_match_steps;
       listed_inputs = listed_inputs_come_back;
       listed_words = listed_words_come_back;
+      entered_words = entered_listings_come_back;
       linked_words = entered_listings_link;
     }

@@ -2,6 +2,7 @@
 use Rattle.std.specs.Prelude.{◌≡◌, ◌≢◌, ℕ, if◌then◌else◌, IsTrue, List, [], Some}
 use Rattle.count_defs.specs.Counts.{Rose}
 use Rattle.bench_io.specs.Stream.{SourceState}
+use Rattle.word_listings.specs.Law.{EnteredListingsComeBack}
 use Rattle.word_listings.specs.Linking.{EnteredListingsLink}
 use Rattle.interp_build_defs.specs.Interpreter.{SourceGivesWords}
 use Rattle.interp_defs.specs.Machines.{MachinesMatchSteps}
@@ -63,7 +64,7 @@ OneAnswer =
 -- The laws of all runs. What is written before the end of a report is known begins the report. The words that the
 -- machine holds are the linked memory of the interpreter's source, and the machine after the first i turns of a program
 -- that is run matches its state after i steps, for each i up to the last. What gdis and dis list is assembled to what
--- was listed, and a listing of dis with an entry is linked to it.
+-- was listed, also with an entry behind the listing of dis, and such a listing is linked to it.
 pub record LawsOfRuns : Type 0 where
   pub one_report : OneReport
   pub fronts : FrontsBeginReports
@@ -73,4 +74,5 @@ pub record LawsOfRuns : Type 0 where
   pub machines : MachinesMatchSteps
   pub listed_inputs : ListedInputsComeBack
   pub listed_words : ListedWordsComeBack
+  pub entered_words : EnteredListingsComeBack
   pub linked_words : EnteredListingsLink
