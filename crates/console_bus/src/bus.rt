@@ -116,8 +116,8 @@ impl Bus {
         let even = at / 2 * 2;
         if even >= 0xA000 {
             Ok(word_in(&self.high_expansion, (even - 0xA000) as usize))
-        } else if even >= 0x2000 && even < 0x4000 {
-            Ok(word_in(&self.low_expansion, (even - 0x2000) as usize))
+        } else if even / 0x2000 == 1 {
+            Ok(word_in(&self.low_expansion, (even % 0x2000) as usize))
         } else {
             self.word_at(at)
         }
