@@ -40,6 +40,17 @@ pub fn word_key(text: &[u8]) -> Option<u64>
     }
 }
 
+/// The number of a name that is written letter by letter in upper case, for a row of a table.
+#[macro_export]
+macro_rules! name_key {
+    () => {
+        1
+    };
+    ($letter:literal $($others:literal)*) => {
+        $letter as u64 + 256 * $crate::name_key!($($others)*)
+    };
+}
+
 /// The number of a word by its first letter and the number of the others.
 fn behind(letter: u8, others: u64) -> u64
     requires { others < 2 ^ 48 }
