@@ -40,7 +40,7 @@ pub fn word_key(text: &[u8]) -> Option<u64>
     }
 }
 
-/// The number of a name that is written letter by letter in upper case, for a row of a table.
+/// The number of a name that is written letter by letter, in upper case.
 #[macro_export]
 macro_rules! name_key {
     () => {
@@ -48,6 +48,14 @@ macro_rules! name_key {
     };
     ($letter:literal $($others:literal)*) => {
         $letter as u64 + 256 * $crate::name_key!($($others)*)
+    };
+}
+
+/// The row of a table: what a name stands for, behind the number of the name.
+#[macro_export]
+macro_rules! keyed {
+    ($($letters:literal)* => $named:expr) => {
+        ($crate::name_key!($($letters)*), $named)
     };
 }
 
