@@ -4,7 +4,8 @@ ghost use Rattle.std.specs.Prelude.{◌≡◌, ◌≤◌, ℕ, List, length, Ok,
 ghost use Rattle.source_defs.specs.Lines.{IsInside, part};
 ghost use Rattle.source_defs.specs.Operands.{operand_texts};
 ghost use Rattle.instruction_defs.specs.FirstChecks as spec;
-ghost use Rattle.asm_forms.specs.Forms.{form_by, form_answer, mode_answer, HasRoom, LiesIn, just_one, just_two, both_forms};
+ghost use Rattle.asm_forms.specs.Forms.{form_by, form_answer, mode_answer, HasRoom, LiesIn};
+ghost use Rattle.asm_forms.specs.Forms.{just_one, just_two, both_forms};
 ghost use Rattle.asm_forms.specs.Forms.{defined_form};
 ghost use Rattle.asm_forms.specs.UpToTwo.{items_of, slots_in};
 ghost use Rattle.asm_forms.specs.Skeletons.{defined_skeleton, forms_answer, skeleton_answer, AllLieIn, IsOfField};
