@@ -52,7 +52,7 @@ NamesOnly (Def field) = IsTrue (spec.all_names (operand_texts field.now))
 NamesOnly (Ref field) = IsTrue (spec.all_names (operand_texts field.now))
 NamesOnly _ = ⊤
 
--- what the first checks of the code leave of an operation field and an operand field is what they leave of them
+-- what the code keeps of an instruction is what the first checks leave of its two fields
 pub record IsLeftOf (line : InstructionLine) : Type 0 where
   pub checked : first_checks line.operation.now line.field.now ≡ Ok (defined_skeleton line.field.now line.skeleton)
   pub sized : size_of (defined_skeleton line.field.now line.skeleton) ≡ line.size

@@ -152,7 +152,8 @@ abbrev pub is_end : Statement → Bool
 is_end (End text) = true
 is_end _ = false
 
--- the names that a line defines: its label, and the names of REF
+-- The names that a line defines: its label, and the names of REF. Editor/Assembler manual, "Symbols", "External
+-- Reference".
 abbrev pub label_entry : Option (List ℕ) → Value → List (List ℕ × Value)
 label_entry None value = []
 label_entry (Some name) value = (name, value) ∷ []
@@ -204,7 +205,8 @@ title_in text = padded 8 (characters text)
 abbrev pub is_title : List ℕ → Bool
 is_title text = is_module_name (title_in text)
 
--- a directive that cannot stand as it is
+-- Profile: a directive that cannot stand as it is: EQU without a label, IDT or TITL without a quoted text, a name of a
+-- module that is none, and a name that DEF has already.
 abbrev pub is_bad : Before → Option (List ℕ) → Statement → Bool
 is_bad before None (Equ text) = true
 is_bad before label (Idt text) = not (is_quoted text && is_title text)

@@ -134,7 +134,7 @@ behind_by at references (Words words) =
     if is_placed_in at.part then behind_words at.part references at.number words else references
 behind_by at references _ = references
 
--- The last uses behind lines. A word under DORG is no use.
+-- The last uses behind lines. Profile: a word under DORG is no use.
 abbrev pub references_of : List Reference → List Settled → List Reference
 references_of references [] = references
 references_of references (line ∷ before) = behind_by line.at (references_of references before) line.outcome

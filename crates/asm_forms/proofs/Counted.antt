@@ -8,7 +8,7 @@ use Rattle.instruction_defs.specs.declared.causes.FormError.{FormError}
 use Rattle.instruction_defs.specs.declared.slot.Slot.{Slot}
 use Rattle.instruction_defs.specs.Forms.{Form}
 use Rattle.instruction_defs.specs.FirstChecks.{form_in, forms_of, operand_forms}
-use Rattle.asm_forms.specs.Forms.{one_of, two_of, both_forms}
+use Rattle.asm_forms.specs.Forms.{just_one, just_two, both_forms}
 
 longer : (n : ℕ) → eqb (suc (suc n)) 1 ≡ false
 longer n = grind (arith, nat_tests)
@@ -17,13 +17,13 @@ longer_still : (n : ℕ) → eqb (suc (suc (suc n))) 2 ≡ false
 longer_still n = grind (arith, nat_tests)
 
 one_form : (slot : Slot) (texts : List (List ℕ))
-    → operand_forms (slot ∷ []) texts ≡ (one_of texts >>= λ text. form_in slot text >>= λ form. Ok (form ∷ []))
+    → operand_forms (slot ∷ []) texts ≡ (just_one texts >>= λ text. form_in slot text >>= λ form. Ok (form ∷ []))
 one_form slot [] = refl
 one_form slot (text ∷ []) = refl
 one_form slot (first ∷ second ∷ texts) = let no = longer (length texts) in rw no refl
 
 pub one_is_counted : (slot : Slot) (field : List ℕ)
-    → forms_of (slot ∷ []) field ≡ (one_of (operand_texts field) >>= λ text. form_in slot text >>= λ form. Ok (form ∷ []))
+    → forms_of (slot ∷ []) field ≡ (just_one (operand_texts field) >>= λ text. form_in slot text >>= λ form. Ok (form ∷ []))
 one_is_counted slot field = one_form slot (operand_texts field)
 
 both_are_formed : (first second : Result Form FormError)
@@ -35,7 +35,7 @@ both_are_formed (Err cause) second = refl
 
 two_forms : (slot other : Slot) (texts : List (List ℕ))
     → operand_forms (slot ∷ other ∷ []) texts
-    ≡ (two_of texts >>= λ pair. form_in slot pair.0 >>= λ first. form_in other pair.1 >>= λ second. Ok (first ∷ second ∷ []))
+    ≡ (just_two texts >>= λ pair. form_in slot pair.0 >>= λ first. form_in other pair.1 >>= λ second. Ok (first ∷ second ∷ []))
 two_forms slot other [] = refl
 two_forms slot other (first ∷ []) = refl
 two_forms slot other (first ∷ second ∷ []) = both_are_formed (form_in slot first) (form_in other second)
@@ -43,5 +43,5 @@ two_forms slot other (first ∷ second ∷ third ∷ texts) = let no = longer_st
 
 pub two_are_counted : (slot other : Slot) (field : List ℕ)
     → forms_of (slot ∷ other ∷ []) field
-    ≡ (two_of (operand_texts field) >>= λ pair. both_forms slot other pair.0 pair.1)
+    ≡ (just_two (operand_texts field) >>= λ pair. both_forms slot other pair.0 pair.1)
 two_are_counted slot other field = two_forms slot other (operand_texts field)

@@ -54,16 +54,16 @@ mode_answer text (Ok mode) = Ok (form_by mode text)
 mode_answer text (Err cause) = Err cause
 
 -- the one text of a list, or the two, where it has just so many
-abbrev pub one_of : List (List ℕ) → Result (List ℕ) FormError
-one_of [] = Err OperandCount
-one_of (text ∷ []) = Ok text
-one_of (first ∷ second ∷ texts) = Err OperandCount
+abbrev pub just_one : List (List ℕ) → Result (List ℕ) FormError
+just_one [] = Err OperandCount
+just_one (text ∷ []) = Ok text
+just_one (first ∷ second ∷ texts) = Err OperandCount
 
-abbrev pub two_of : List (List ℕ) → Result (List ℕ × List ℕ) FormError
-two_of [] = Err OperandCount
-two_of (first ∷ []) = Err OperandCount
-two_of (first ∷ second ∷ []) = Ok (first, second)
-two_of (first ∷ second ∷ third ∷ texts) = Err OperandCount
+abbrev pub just_two : List (List ℕ) → Result (List ℕ × List ℕ) FormError
+just_two [] = Err OperandCount
+just_two (first ∷ []) = Err OperandCount
+just_two (first ∷ second ∷ []) = Ok (first, second)
+just_two (first ∷ second ∷ third ∷ texts) = Err OperandCount
 
 -- the forms of two operands, from the left
 abbrev pub both_forms : Slot → Slot → List ℕ → List ℕ → Result (List spec.Form) FormError

@@ -4,7 +4,8 @@ ghost use Rattle.std.specs.Prelude.{◌≡◌, ◌≤◌, ℕ, List, length, Ok,
 ghost use Rattle.source_defs.specs.Lines.{IsInside, part};
 ghost use Rattle.source_defs.specs.Operands.{operand_texts};
 ghost use Rattle.instruction_defs.specs.FirstChecks as spec;
-ghost use Rattle.asm_forms.specs.Forms.{form_by, form_answer, mode_answer, HasRoom, LiesIn, one_of, two_of, both_forms};
+ghost use Rattle.asm_forms.specs.Forms.{form_by, form_answer, mode_answer, HasRoom, LiesIn};
+ghost use Rattle.asm_forms.specs.Forms.{just_one, just_two, both_forms};
 ghost use Rattle.asm_forms.specs.Forms.{defined_form};
 ghost use Rattle.asm_forms.specs.UpToTwo.{items_of, slots_in};
 ghost use Rattle.asm_forms.specs.Skeletons.{defined_skeleton, forms_answer, skeleton_answer, AllLieIn, IsOfField};
@@ -71,9 +72,9 @@ fn forms_of(slots: UpToTwo<Slot>, field: &[u8]) -> Result<UpToTwo<Form>, FormErr
 
 /// The one operand of a field that has one.
 fn one_operand(field: &[u8]) -> Result<Span, FormError>
-    ensures ok { IfOk result (λ span. Ok (part field.now span) ≡ one_of (operand_texts field.now)) }
+    ensures ok { IfOk result (λ span. Ok (part field.now span) ≡ just_one (operand_texts field.now)) }
     ensures inside { IfOk result (IsInside field.now) }
-    ensures err { IfErr result (λ cause. Err cause ≡ one_of (operand_texts field.now)) }
+    ensures err { IfErr result (λ cause. Err cause ≡ just_one (operand_texts field.now)) }
 {
     let mut parts = operands(field);
     let (Some(only), None) = (parts.next(), parts.next()) else {
@@ -85,10 +86,10 @@ fn one_operand(field: &[u8]) -> Result<Span, FormError>
 /// The two operands of a field that has two.
 fn two_operands(field: &[u8]) -> Result<(Span, Span), FormError>
     ensures ok { IfOk result (λ spans. Ok (part field.now spans.0, part field.now spans.1)
-        ≡ two_of (operand_texts field.now)) }
+        ≡ just_two (operand_texts field.now)) }
     ensures first { IfOk result (λ spans. IsInside field.now spans.0) }
     ensures second { IfOk result (λ spans. IsInside field.now spans.1) }
-    ensures err { IfErr result (λ cause. Err cause ≡ two_of (operand_texts field.now)) }
+    ensures err { IfErr result (λ cause. Err cause ≡ just_two (operand_texts field.now)) }
 {
     let mut parts = operands(field);
     let (Some(first), Some(second), None) = (parts.next(), parts.next(), parts.next()) else {

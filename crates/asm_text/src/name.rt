@@ -31,17 +31,19 @@ pub struct Name {
 
 impl Model for Name {
     ghost use Rattle.std.specs.Prelude.{ℕ, List, take, get_or};
+    ghost use Rattle.asm_text.specs.declared.name.TheConstants.{LENGTH_AT};
     ghost use Rattle.asm_text.specs.Padding.{IsPadded, kept_bytes, padded_again};
 
     ghost Value = { List ℕ };
 
-    ghost view = { λ name. take (get_or name.bytes 7 0) name.bytes };
+    ghost view = { λ name. take (get_or name.bytes LENGTH_AT 0) name.bytes };
 
-    ghost invariant = { λ name. IsPadded name.bytes (get_or name.bytes 7 0) };
+    ghost invariant = { λ name. IsPadded name.bytes (get_or name.bytes LENGTH_AT 0) };
 
     ghost inverse = { λ name. record { bytes = kept_bytes name } };
 
-    ghost inverse_ok = { λ a h. padded_again (λ bytes. record { bytes = bytes }) a.bytes (get_or a.bytes 7 0) h };
+    ghost inverse_ok = { λ a h.
+        padded_again (λ bytes. record { bytes = bytes }) a.bytes (get_or a.bytes LENGTH_AT 0) h };
 }
 
 impl Name {

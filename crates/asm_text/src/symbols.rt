@@ -95,7 +95,8 @@ impl Symbols {
         ensures { IfSome result (λ value. (here : values.Value) →
             expression (spec.look_up self.now) here text.now ≡ Ok (defined_value value)) }
     {
-        let _kept = &self.defined;
+        // The clause speaks of the names that are kept.
+        let _ = &self.defined;
         let number = register_written(text)?;
         Some(Value::Absolute(number))
     }

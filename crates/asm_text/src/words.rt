@@ -40,6 +40,25 @@ pub fn word_key(text: &[u8]) -> Option<u64>
     }
 }
 
+/// The number of a name that is written letter by letter, in upper case.
+#[macro_export]
+macro_rules! name_key {
+    () => {
+        1
+    };
+    ($letter:literal $($others:literal)*) => {
+        $letter as u64 + 256 * $crate::name_key!($($others)*)
+    };
+}
+
+/// The row of a table: what a name stands for, behind the number of the name.
+#[macro_export]
+macro_rules! keyed {
+    ($($letters:literal)* => $named:expr) => {
+        ($crate::name_key!($($letters)*), $named)
+    };
+}
+
 /// The number of a word by its first letter and the number of the others.
 fn behind(letter: u8, others: u64) -> u64
     requires { others < 2 ^ 48 }

@@ -111,7 +111,8 @@ pub(crate) fn mnemonic(text: &[u8]) -> Option<Mnemonic>
     instruction_named(word_key(text)?)
 }
 
-/// The instruction whose name has a number. The tables are short, so that each is searched in a few steps.
+/// The instruction whose name has a number. The tables are short, so that each search is compiled to tests, one a row,
+/// and no loop.
 fn instruction_named(key: u64) -> Option<Mnemonic>
     ensures { result ≡ with_key (Some key) named }
 {

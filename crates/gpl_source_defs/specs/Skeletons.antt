@@ -150,11 +150,9 @@ module _ (look : List ℕ → Option Value) (here : ℕ) where
       route ← route_in forms.to forms.from
       Ok (Move length route))
 
-  -- The operands of an instruction: how many there are, then their forms, then the addresses of those in memory, from
-  -- the left.
-  -- GPL Programmer's Guide, the statements: the destination stands first.
-  -- Profile: MOVE has its length, its target and its source; an operation without operands ignores the rest of its
-  -- line.
+  -- The operands of an instruction. GPL Programmer's Guide, the statements: the destination stands first.
+  -- Profile: how many there are is asked first, then their forms, then the addresses of those in memory, from the left.
+  -- MOVE has its length, its target and its source; an operation without operands ignores the rest of its line.
   abbrev pub skeleton : Mnemonic → List ℕ → Result Skeleton GplCause
   skeleton (named.Plain op) field = Ok (Plain op)
   skeleton (named.Byte op) field = text_of_one (operand_texts field) >>= λ text. Ok (Byte op text)

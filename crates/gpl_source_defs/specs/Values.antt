@@ -63,7 +63,7 @@ module _ (look : List ℕ → Option Value) (here : ℕ) where
     index ← index_of number
     Ok (Some index)
 
-  -- an operand in memory: its address, then its index, whose range is asked at once
+  -- An operand in memory. Profile: its address is asked first, then its index, whose range is asked at once.
   abbrev pub operand : Memory → Result GplOperand GplCause
   operand memory = do
     number ← number memory.address

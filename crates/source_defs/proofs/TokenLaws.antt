@@ -9,7 +9,7 @@ use Rattle.source_defs.specs.declared.causes.ExprError.TheVariants.{BadToken}
 use Rattle.source_defs.specs.Refusals.{◌>>=◌}
 use Rattle.source_defs.specs.Characters.{is_quote, is_digit, is_letter, upper_case}
 use Rattle.source_defs.specs.Names.{is_letter_or_digit}
-use Rattle.source_defs.specs.Numbers.{decimal_number, hexadecimal_number}
+use Rattle.source_defs.specs.Numbers.{hexadecimal_number}
 use Rattle.source_defs.specs.Fields.{in_quotes}
 use Rattle.source_defs.specs.Least.{least_place}
 use Rattle.source_defs.specs.Tokens.{Kind, Name, Here, Text, Sign, Token, token_to, number_token, digits_end, hexadecimal_end, name_end, ends_text, text_end}

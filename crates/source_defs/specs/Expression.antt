@@ -70,6 +70,7 @@ difference (Absolute a) (External name) = Err BadRelocation
 difference (Relocatable a) (External name) = Err BadRelocation
 difference (External name) b = Err BadRelocation
 
+-- Editor/Assembler manual, "Expressions": a factor is absolute.
 abbrev pub product : Value → Value → Result Value ExprError
 product (Absolute a) (Absolute b) = Ok (Absolute (to_word (a * b)))
 product (Absolute a) (Relocatable b) = Err BadRelocation
@@ -93,13 +94,14 @@ joined operator a b =
     else if operator == 0x2A then product a b
     else ratio a b
 
--- a value behind a minus sign
+-- Editor/Assembler manual, "Expressions": a value behind a minus sign is absolute.
 abbrev pub minus : Value → Result Value ExprError
 minus (Absolute number) = Ok (Absolute (negated number))
 minus (Relocatable number) = Err BadRelocation
 minus (External name) = Err BadRelocation
 
--- the characters between the quotes of a text, of which two quotes are one; whether a quote came just before
+-- Editor/Assembler manual, "Constants": the characters between the quotes of a text, of which two quotes are one;
+-- whether a quote came just before.
 abbrev pub characters_behind : Bool → List ℕ → List ℕ
 characters_behind quote [] = []
 characters_behind quote (byte ∷ bytes) =
@@ -121,7 +123,7 @@ characters_value (high ∷ low ∷ []) = Ok (Absolute (high * 256 + low))
 characters_value [] = Err BadToken
 characters_value (first ∷ second ∷ third ∷ others) = Err BadToken
 
--- the value of a name, where it has one
+-- Editor/Assembler manual, "Symbols": the value of a name, which must have one.
 abbrev pub known_value : Option Value → Result Value ExprError
 known_value (Some value) = Ok value
 known_value None = Err UnknownName
@@ -151,7 +153,7 @@ module _ (look : List ℕ → Option Value) (here : Value) (text : List ℕ) whe
   kind_value Text written = characters_value (characters written)
   kind_value (Sign operator) written = Err BadToken
 
-  -- the value of a term; a token that is none is refused where it stands
+  -- The value of a term. Profile: a token that is none is refused where it stands.
   abbrev pub term_value : Token → Result Value ExprError
   term_value token = kind_value token.kind (part text token.span)
 
@@ -173,7 +175,7 @@ module _ (look : List ℕ → Option Value) (here : Value) (text : List ℕ) whe
     total ← minus first
     value_with total others
 
-  -- the value of tokens; where there are none, a term is missing
+  -- The value of tokens. Profile: where there are none, a term is missing.
   abbrev pub value : List Token → Result Value ExprError
   value [] = Err BadToken
   value (term ∷ others) =

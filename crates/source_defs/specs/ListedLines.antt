@@ -9,11 +9,11 @@ listed text = codes "       " ++ text
 abbrev pub listing_line : List ℕ → List ℕ
 listing_line text = listed (text ++ codes "\n")
 
--- operands with a comma between
+-- Editor/Assembler manual, "Source statement format": operands with a comma between.
 abbrev pub two_texts : List ℕ → List ℕ → List ℕ
 two_texts first second = first ++ (0x2C ∷ second)
 
--- an operation, and its operands behind a blank
+-- Editor/Assembler manual, "Source statement format": an operation, and its operands behind a blank.
 abbrev pub with_operands : List ℕ → Option (List ℕ) → List ℕ
 with_operands name None = name
 with_operands name (Some operands) = name ++ (0x20 ∷ operands)

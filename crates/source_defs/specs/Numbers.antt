@@ -4,7 +4,7 @@ use Rattle.std.specs.Prelude.{fold, Option, Some, None}
 use Rattle.std.specs.List.{list_all}
 use Rattle.source_defs.specs.Characters.{is_digit, upper_case}
 
--- 0 to 9, A to F, or a to f
+-- Editor/Assembler manual, "Constants": 0 to 9 and A to F. Profile: a to f too.
 abbrev pub is_hexadecimal_digit : ℕ → Bool
 is_hexadecimal_digit byte = is_digit byte || (nat_le 0x41 (upper_case byte) && nat_le (upper_case byte) 0x46)
 
@@ -26,8 +26,7 @@ all_digits digits = list_all is_digit digits
 abbrev pub all_hexadecimal_digits : List ℕ → Bool
 all_hexadecimal_digits digits = list_all is_hexadecimal_digit digits
 
--- the number of decimal digits, where it is not above a limit
--- Profile: it may have zeros in front.
+-- The number of decimal digits, where it is not above a limit. Profile: it may have zeros in front.
 abbrev pub decimal_up_to : ℕ → List ℕ → Option ℕ
 decimal_up_to limit digits =
     let value = value_after 10 0 digits in

@@ -1,4 +1,4 @@
--- The operands of a field, by how many an operation takes.
+-- The operands of a field, by how many an operation takes. Profile: their count is asked before their forms.
 use Rattle.std.specs.Prelude.{ℕ, Bool, true, false, not, if◌then◌else◌, List, [], ◌∷◌, Option, Some, None, Result, Ok}
 use Rattle.std.specs.Prelude.{Err}
 use Rattle.std.specs.List.{list_all}

@@ -1,4 +1,4 @@
--- A text that ends in parentheses.
+-- A text that ends in parentheses, in which an index stands. Editor/Assembler manual, "Addressing Modes".
 use Rattle.std.specs.Prelude.{ℕ, ◌-◌, ◌==◌, Bool, not, ◌&&◌, nat_lt, List, length, slice_index}
 use Rattle.source_defs.specs.Least.{least_place}
 use Rattle.source_defs.specs.Fields.{in_quotes}

@@ -9,7 +9,7 @@ abbrev pub closes : Bool → List ℕ → Bool
 closes quote [] = quote
 closes quote (byte ∷ bytes) = if is_quote byte then closes (not quote) bytes else not quote && closes false bytes
 
--- a text in quotes, where two quotes inside it are one
+-- Editor/Assembler manual, "Constants": a text in quotes, where two quotes inside it are one.
 abbrev pub is_quoted : List ℕ → Bool
 is_quoted [] = false
 is_quoted (byte ∷ bytes) = is_quote byte && closes false bytes

@@ -67,8 +67,8 @@ name_end text from = end_of is_letter_or_digit text from
 abbrev pub ends_text : List ℕ → ℕ → ℕ → Bool
 ends_text text start k = not (is_quote (slice_index text k)) && not (in_quotes text start k)
 
--- A quoted text goes up to a byte outside its quotes. Two quotes inside it do not end it. Profile: where the quotes are
--- not closed it goes to the text's end.
+-- A quoted text goes up to a byte outside its quotes. Editor/Assembler manual, "Constants": two quotes inside it do not
+-- end it. Profile: where the quotes are not closed it goes to the text's end.
 abbrev pub text_end : List ℕ → ℕ → ℕ
 text_end text start = least_place (ends_text text start) text start
 
@@ -76,7 +76,7 @@ text_end text start = least_place (ends_text text start) text start
 abbrev pub token_to : Kind → ℕ → ℕ → Token
 token_to kind start end = record { kind = kind; span = record { start = start; end = end } }
 
--- digits that are no number are too large
+-- Profile: digits that are no number are too large.
 abbrev pub number_token : ℕ → ℕ → Option ℕ → Result Token ExprError
 number_token start end (Some value) = Ok (token_to (Number value) start end)
 number_token start end None = Err TooLarge
@@ -109,7 +109,7 @@ text_token text start =
     let end = text_end text start in
     if in_quotes text start end then Err BadToken else Ok (token_to Text start end)
 
--- the sign > of a hexadecimal number
+-- Editor/Assembler manual, "Constants": the sign > of a hexadecimal number.
 abbrev pub is_hexadecimal_sign : ℕ → Bool
 is_hexadecimal_sign byte = byte == 0x3E
 
@@ -121,7 +121,7 @@ is_location_sign byte = byte == 0x24
 abbrev pub is_operator : ℕ → Bool
 is_operator byte = (byte == 0x2B) || (byte == 0x2D) || (byte == 0x2A) || (byte == 0x2F)
 
--- the token that starts at a place, by its first byte
+-- The token that starts at a place, by its first byte. Profile: a byte that starts none is a bad place.
 unfoldable pub token_at : List ℕ → ℕ → Result Token ExprError
 token_at text start =
     let byte = slice_index text start in
