@@ -25,9 +25,9 @@ record Targeted (s : GplState) (w : View) : Type 0 where
 abbrev made_of : View → ℕ → ℕ → ℕ → ℕ
 made_of v byte code address =
     let w : View = record v { r = record v.r { r0 = code; r1 = address }; grom = record v.grom { fetched = byte } } in
-    (pieces.find_target w).left.r.r6
+    (pieces.read_branch_target w).left.r.r6
 
-targets : (s : GplState) (v : View) → Dispatched s v → IsView v → Goes (pieces.find_target v) 8 TAKE (Targeted s)
+targets : (s : GplState) (v : View) → Dispatched s v → IsView v → Goes (pieces.read_branch_target v) 8 TAKE (Targeted s)
 targets s v d i =
     let h = d.sees in
     let fetched : v.grom.fetched ≡ slice_index s.image (behind_code s) = ap (λ (g : GromState). g.fetched) h.grom in
@@ -123,7 +123,7 @@ module _ {s : GplState} {x a : MachineState} {t t1 : ℕ} (on : Bool) (is : oper
   pub passed_by : (a.cpu.pc ≡ BTARG → ⊥) → Comes 5 x a t t1 CFALSE (Sees s (behind s))
   passed_by elsewhere = told_at false (passed_at taken a.cpu.pc tested.stands.pc elsewhere)
 
-  pub takes : {b y : MachineState} {t2 t3 : ℕ} → a.cpu.pc ≡ BTARG → Exits a b t1 t2 (pieces.find_target (view a)) → TakesBranch b y t2 t3 →
+  pub takes : {b y : MachineState} {t2 t3 : ℕ} → a.cpu.pc ≡ BTARG → Exits a b t1 t2 (pieces.read_branch_target (view a)) → TakesBranch b y t2 t3 →
       Turned s most_to_dispatch x y t t3 Stepped
   takes {b = b} here e2 goes =
       let c1 = at_target here in

@@ -11,7 +11,7 @@ use Rattle.sim_rows.proofs.Again.{idle_told}
 use Rattle.sim_rows.proofs.Codes.{two_above}
 use Rattle.sim_rows.proofs.Ends.{idle_of}
 use Rattle.sim_rows.proofs.Places.{Lies, lies_at, place_lies}
-use Rattle.sim_rows.proofs.Fronting.{barred, finds_of, fits, Located, located, space_small}
+use Rattle.sim_rows.proofs.FirstOperand.{barred, finds_of, fits, Located, located, space_small}
 use Rattle.sim_rows.proofs.Entries.{Kind, returns_there, Storer, storer, Wide, wide}
 use Rattle.sim_rows.proofs.Operands.{LoadedFrom, Loading, loads, visible_of}
 use Rattle.sim_rows.proofs.Operands as operands

@@ -10,7 +10,7 @@ use Rattle.sim_rows.specs.Prelude.{reads_destination, return_of, row_entry, row_
 use Rattle.sim_rows.specs.Prelude.{StoresTo, unit, value_at, Vdp, View, view, Width, width_in, Word, word_of, word_or_byte}
 use Rattle.sim_operands.proofs.Facts.{not_both}
 use Rattle.sim_rows.proofs.Codes.{row_is}
-use Rattle.sim_rows.proofs.Fronting.{barred_stops, from_placed, holds_addressed, holds_again, holds_loaded, Located, place_is}
+use Rattle.sim_rows.proofs.FirstOperand.{barred_stops, from_placed, holds_addressed, holds_again, holds_loaded, Located, place_is}
 use Rattle.sim_rows.specs.Pieces as pieces
 use Rattle.sim_view.specs.native_interp.declared.addresses.TheConstants.{OPSTWO}
 use Rattle.sim_view.specs.Bounds.{most_of_address, most_of_load}

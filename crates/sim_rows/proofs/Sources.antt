@@ -11,7 +11,7 @@ use Rattle.sim_view.specs.gpl_defs.Reading.{value_at as value_in}
 use Rattle.sim_operands.proofs.Transfers.{streams}
 use Rattle.sim_rows.proofs.Again.{first_way, second_way}
 use Rattle.sim_rows.proofs.Beginning.{from, known}
-use Rattle.sim_rows.proofs.Fronting.{finds_of, holds_again, space_small, width_of_size}
+use Rattle.sim_rows.proofs.FirstOperand.{finds_of, holds_again, space_small, width_of_size}
 use Rattle.sim_rows.proofs.Operands.{bars_second, finds_second, Found, immediate_bit, Loading, loads, Operand, value_same}
 use Rattle.sim_rows.specs.sim_operands.Pieces as operands
 use Rattle.sim_rows.specs.Pieces as pieces

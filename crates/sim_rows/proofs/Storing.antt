@@ -8,7 +8,7 @@ use Rattle.sim_rows.specs.Prelude.{return_of, Sees, shifted, SHOW, shown, size_o
 use Rattle.sim_rows.specs.Prelude.{StoresValue, Storing, sum_of, unchanged, Vdp, View, view, Width, width_in, with_byte_in, with_value, Word}
 use Rattle.sim_operands.proofs.Ready.{idle_grom, idle_video}
 use Rattle.sim_rows.proofs.Again.{idle_told}
-use Rattle.sim_rows.proofs.Fronting.{place_is}
+use Rattle.sim_rows.proofs.FirstOperand.{place_is}
 use Rattle.sim_rows.proofs.Ends.{same_state}
 use Rattle.sim_rows.specs.Pieces as pieces
 use Rattle.sim_view.specs.Bounds.{most_of_show, most_of_store}

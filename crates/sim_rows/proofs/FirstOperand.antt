@@ -51,7 +51,7 @@ pub space_small : (space : Space) (number : ℕ) → number ≡ number_of_space 
 space_small Cpu number e = omega arith
 space_small Vdp number e = omega arith
 
--- ---- what the front holds
+-- ---- what holds where ADDR is asked
 
 -- a view with the same cells and ports sees the same
 pub sees_again : (s : GplState) (next : ℕ) (v w : View) → Sees s next v → w.cells ≡ v.cells → w.vdp ≡ v.vdp → w.grom ≡ v.grom → Sees s next w
