@@ -12,6 +12,7 @@ STEPS = ['GBOOT', 'GSTEP', 'UNKN']
 KINDS = {'plain': 'PlainOp', 'byte': 'ByteOp', 'go': 'GoOp', 'one': 'OneName', 'two': 'TwoName'}
 DEFINED = {'plain': ('plain', STEP), 'byte': ('with_immediate', STEP), 'go': ('jump', STEP), 'one': ('one', STEP),
            'two': ('two', ARITHMETIC)}
+ARM = re.compile(r'(?:PlainOp|ByteOp|GoOp|OneName|TwoName)::\w+|::Branch\b|::Move\b')
 MOVES = {'GromToMemory': 'from GROM', 'GromIndexedToMemory': 'from GROM with an index', 'MemoryToMemory': 'from memory',
          'GromToRegisters': 'to registers of the video processor'}
 HEAD = '''<!-- Written by tools/interpreter from the interpreter's source, the definitions and the crates of the pieces. -->
@@ -140,7 +141,10 @@ class Edit:
         self.crate = path.parts[-3] if path.parts[-2] == 'must-fail' else path.parts[-2]
         text = path.read_text()
         self.file = re.search(r'^file: (.*)$', text, re.M).group(1)
-        self.old = re.search(r'^old: (.*)$', text, re.M).group(1).strip()
+        self.old, new = (re.search(rf'^{it}: (.*)$', text, re.M).group(1).strip() for it in ('old', 'new'))
+        # An open line goes on as it did, and so do the arms at its end.
+        kept = ARM.findall(new.rpartition(',')[2]) if new.endswith('=>') else []
+        self.arms = set(ARM.findall(self.old)) - set(kept)
         source = (TOP / 'crates' / self.crate / self.file).read_text().split('\n')
         at = next((at for at, line in enumerate(source) if self.old in line), None)
         if at is None:
@@ -170,7 +174,7 @@ def edits_of(listing, found, labels, kind, name, every):
         if edit.crate == 'native_interp':
             if any(edit.old in ' '.join(f'0x{word:04X},' for word in part.words) for part in lists):
                 kept.append(edit)
-        elif (edit.crate, edit.function) in functions or re.search(rf'{arm}\b', edit.old):
+        elif (edit.crate, edit.function) in functions or arm in edit.arms:
             kept.append(edit)
     return kept
 

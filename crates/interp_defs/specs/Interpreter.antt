@@ -26,4 +26,4 @@ address_register = 1
 
 -- No more instructions than these lead to the dispatch from the beginning of a step.
 abbrev pub most_to_dispatch : ℕ
-most_to_dispatch = 29
+most_to_dispatch = 16

@@ -39,8 +39,8 @@ with_status_stored x y z q t u w p link d e f c width place number status h r12 
     let a : Comes most_of_store x y t u STATB (ChangedFrom done (view x)) =
     subst (λ (n : ℕ). Comes most_of_store x y t u n (ChangedFrom done (view x))) (ap even link)
     (store_then c width place number x y t u h d) in
-    let b = comes_then 16 1 a e (status_stored done status (view y) a.holds.changed (a.holds.keeps.r12 ∙ r12)) refl in
-    comes_on 17 29 b (f (with_status status done) b.holds) refl
+    let b = comes_then 15 1 a e (status_stored done status (view y) a.holds.changed (a.holds.keeps.r12 ∙ r12)) refl in
+    comes_on 16 28 b (f (with_status status done) b.holds) refl
 
 -- the ports stay idle
 pub status_idle : (x y z : MachineState) (t u w : ℕ) → PortsAreIdle x.cpu.memory → StoresValue x y t u → Exits y z u w (piece.store_status (view y)) →
@@ -62,12 +62,12 @@ module _ (op : GplOperation) (x y z : MachineState) (t u w : ℕ) (f : is_alu (S
   by_sto at d s place source o a operands =
       let v : View = view x in
       let c : Changes = unchanged (gone_on s) in
-      let P : Result Changes Reason → Type 0 = λ r. Comes 52 x z t w GSTEP (SeesResult r) in
+      let P : Result Changes Reason → Type 0 = λ r. Comes 50 x z t w GSTEP (SeesResult r) in
       ⊎_elim
       (λ (m : Plain op s place source (result_piece op v)).
       let a1 = comes {Q = Storing c (row_width s) place m.number} e (record { within = m.within; to_is = m.to; holds = m.storing }) in
-      let a2 = comes_on 3 47 a1 (d c (row_width s) place m.number a1.holds) refl in
-      subst P (sym m.is) (comes_as 52 (SeesFinished (with_value (row_width s) place m.number c)) a2 (omega arith) (λ q h. h)))
+      let a2 = comes_on 3 45 a1 (d c (row_width s) place m.number a1.holds) refl in
+      subst P (sym m.is) (comes_as 50 (SeesFinished (with_value (row_width s) place m.number c)) a2 (omega arith) (λ q h. h)))
       (λ (m : Flagged op s place source (result_piece op v)). let pc = e.stands.pc in let to = m.to in absurd (omega arith))
       (Making.made v (is_view x stands.machine) s place source a op f o operands)
 
@@ -75,12 +75,12 @@ module _ (op : GplOperation) (x y z : MachineState) (t u w : ℕ) (f : is_alu (S
   by_store away d s place source o a operands =
       let v : View = view x in
       let c : Changes = unchanged (gone_on s) in
-      let P : Result Changes Reason → Type 0 = λ r. Comes 52 x z t w GSTEP (SeesResult r) in
+      let P : Result Changes Reason → Type 0 = λ r. Comes 50 x z t w GSTEP (SeesResult r) in
       ⊎_elim
       (λ (m : Plain op s place source (result_piece op v)). absurd (away (e.stands.pc ∙ m.to)))
       (λ (m : Flagged op s place source (result_piece op v)).
       let a1 = comes {Q = Storing c (row_width s) place m.number} e (record { within = m.within; to_is = m.to; holds = m.storing }) in
       let r12 : (view y).r.r12 ≡ join m.status 0 = ap (λ (q : View). q.r.r12) e.shows ∙ m.keeps in
-      let a2 = comes_on 6 46 a1 (d c (row_width s) place m.number m.status a1.holds r12) refl in
-      subst P (sym m.is) (comes_as 52 (SeesFinished (with_status m.status (with_value (row_width s) place m.number c))) a2 (omega arith) (λ q h. h)))
+      let a2 = comes_on 6 44 a1 (d c (row_width s) place m.number m.status a1.holds r12) refl in
+      subst P (sym m.is) (comes_as 50 (SeesFinished (with_status m.status (with_value (row_width s) place m.number c))) a2 (omega arith) (λ q h. h)))
       (Making.made v (is_view x stands.machine) s place source a op f o operands)

@@ -110,9 +110,9 @@ module _ {x a : MachineState} {t u : ℕ} (name : PlainOp) (is : operation_seen 
       let next = finished (changed s o) in
       let c = tells 4 s (behind_code s) flag at_flag second in
       let b = bound_is s o e is in
-      turned_by x y t v 29 Stepped s (Ok next) (step_is s o e is) (
+      turned_by x y t v most_to_dispatch Stepped s (Ok next) (step_is s o e is) (
         refl,
-        reaches 29 (bound s) c (ap is_end at.stands.pc ∙ ap (λ (p : Option GplOperation). is_end (operation_entry p)) is ∙ starts o e) refl
+        reaches most_to_dispatch (bound s) c (ap is_end at.stands.pc ∙ ap (λ (p : Option GplOperation). is_end (operation_entry p)) is ∙ starts o e) refl
             (omega arith),
         matches next y c.stands c.holds,
       )

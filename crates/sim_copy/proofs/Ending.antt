@@ -43,14 +43,14 @@ module _ {x a : MachineState} {t t1 : ℕ} (h : AtCopy x) (e : Exits x a t t1 (p
     pub ends_memory : a.cpu.pc ≡ SHOW → EndsRow a y t1 t2 → EndsCopy x y t t2
     ends_memory here row c (FromPlace near k) =
         let changed : Changed c (view a) = subst (λ (u : View). Changed c u) (sym e.shows) k in
-        comes_as 35 (SeesFinished c) (comes_on 3 29 (led SHOW (near_end v.r.r5 near)) (row c changed) refl) (omega arith) (λ w q. q)
+        comes_as 34 (SeesFinished c) (comes_on 3 28 (led SHOW (near_end v.r.r5 near)) (row c changed) refl) (omega arith) (λ w q. q)
     ends_memory here row c (OutOfGrom space back next k) = absurd (let p = e.stands.pc in let r = ap behind space in omega arith)
 
     pub ends_grom : (a.cpu.pc ≡ SHOW → ⊥) → ResumesRow a y t1 t2 → EndsCopy x y t t2
     ends_grom elsewhere row c (FromPlace near k) = absurd (elsewhere (e.stands.pc ∙ near_end v.r.r5 near))
     ends_grom elsewhere row c (OutOfGrom space back next k) =
         let changed : Changed (with_pc next c) (view a) = subst (λ (u : View). Changed (with_pc next c) u) (sym e.shows) k in
-        comes_on 3 32 (led RESUME (ap behind space)) (row c next changed (ap (λ (u : View). u.r.r14) e.shows ∙ back)) refl
+        comes_on 3 31 (led RESUME (ap behind space)) (row c next changed (ap (λ (u : View). u.r.r14) e.shows ∙ back)) refl
 
 -- ---- the beginning, of two pieces
 
@@ -122,6 +122,6 @@ module _ {x a : MachineState} {t t1 : ℕ} (e : StartsCopy x a t t1) (stands : S
       let runs : is_end (pieces.start_copy (view x)).to ≡ false = ap is_end (sym e.stands.pc) ∙ runs_on a.cpu.pc (view a) at_copy.place in
       let c2 = comes_on count rest.most e rest.comes runs in
       let few : count ≤ 7 + charged a.cpu.pc = subst (λ (p : ℕ). count ≤ 7 + charged p) (sym e.stands.pc) begun.few in
-      let within : rest.most + charged a.cpu.pc ≤ 40 * bytes = subst (λ (n : ℕ). rest.most + charged a.cpu.pc ≤ 40 * n) left rest.within in
-      comes_as (40 * bytes + 42) (SeesFinished whole)
-      (comes_on (count + rest.most) 35 c2 (end whole (rest.copies c from to bytes (copying c from to bytes k) left)) refl) (omega arith) (λ w q. q)
+      let within : rest.most + charged a.cpu.pc ≤ 37 * bytes = subst (λ (n : ℕ). rest.most + charged a.cpu.pc ≤ 37 * n) left rest.within in
+      comes_as (37 * bytes + 41) (SeesFinished whole)
+      (comes_on (count + rest.most) 34 c2 (end whole (rest.copies c from to bytes (copying c from to bytes k) left)) refl) (omega arith) (λ w q. q)

@@ -101,9 +101,9 @@ loads a b t u one fetched near far =
     let place : Place = place_in v.r.r5 v.r.r2 in
     let to : Bool → Type 0 = λ c. Comes most_of_load a b t u (return_of v) (ReadFrom v (if c then FromMemory place else FromGrom (next_at v))) in
     pick (nat_lt v.r.r5 2)
-    (λ c. subst to (sym c) (comes_as 17 (ReadFrom v (FromMemory place)) (near (ltb-true v.r.r5 2 c)) (omega arith) (λ w l. value_read v w place one l)))
+    (λ c. subst to (sym c) (comes_as 15 (ReadFrom v (FromMemory place)) (near (ltb-true v.r.r5 2 c)) (omega arith) (λ w l. value_read v w place one l)))
     (λ c. let above : 1 < v.r.r5 = let le = ltb-false v.r.r5 2 c in omega arith in
-    subst to (sym c) (comes_as 17 (ReadFrom v (FromGrom (next_at v))) (far above fetched) (omega arith) (λ w l. stream_read v w one l)))
+    subst to (sym c) (comes_as 15 (ReadFrom v (FromGrom (next_at v))) (far above fetched) (omega arith) (λ w l. stream_read v w one l)))
 
 -- GROM stays idle
 pub behind_idle : (from : From) (g : GromState) → g.half_written ≡ false → (grom_behind from g).half_written ≡ false
@@ -129,7 +129,7 @@ stores a b t u one there near far =
     pick (nat_lt v.r.r8 2)
     (λ c. subst to (sym c) (subst by one (near (ltb-true v.r.r8 2 c))))
     (λ c. let above : 1 < v.r.r8 = let le = ltb-false v.r.r8 2 c in omega arith in
-    subst to (sym c) (comes_as 16 (Stored v (with_byte_to (ToRegisters v.r.r7) number (unchanged (state_of v)))) (far above (there above)) (omega arith)
+    subst to (sym c) (comes_as 15 (Stored v (with_byte_to (ToRegisters v.r.r7) number (unchanged (state_of v)))) (far above (there above)) (omega arith)
     (λ w l. l)))
 
 -- ---- the changes do not depend on where GROM stands
@@ -237,7 +237,7 @@ module _ {x a : MachineState} {t t1 : ℕ} (h : AtCopy x) (left : ByRoutines (vi
         abbrev counted_by : View → List ℕ → List ℕ → List ℕ → Bool → View
         counted_by u cells memory registers shows =
             (pieces.count_byte (record u {
-              r = record u.r { r4 = stored.holds.r4; r9 = stored.holds.r9; r13 = marked_by shows u.r.r13 };
+              r = record u.r { r4 = stored.holds.r4; r13 = marked_by shows u.r.r13 };
               cells = cells;
               vdp = record u.vdp { memory = memory; registers = registers; address = stored.holds.address; fetched = stored.holds.byte };
             })).left
@@ -259,7 +259,7 @@ module _ {x a : MachineState} {t t1 : ℕ} (h : AtCopy x) (left : ByRoutines (vi
               record {
                 r4 = stored.holds.r4;
                 r6 = join number 0;
-                r9 = stored.holds.r9;
+                r9 = join number 0;
                 r11 = COPYN;
                 address = stored.holds.address;
                 byte =
@@ -270,11 +270,11 @@ module _ {x a : MachineState} {t t1 : ℕ} (h : AtCopy x) (left : ByRoutines (vi
           pub goes : Comes most_of_byte x y t t5 y.cpu.pc (Counted v)
           goes =
               let c1 : Comes 1 x a t t1 LOAD (λ u. u ≡ asked v) = comes e (record { within = omega arith; to_is = refl; holds = refl }) in
-              let c2 = comes_on 1 17 c1 loaded refl in
-              let c3 : Comes 20 x d t t3 STORE (λ u. u ≡ (pieces.store_byte (view b)).left) =
-              comes_then 18 2 c2 e3 (record { within = omega arith; to_is = refl; holds = refl }) refl in
-              let c4 = comes_on 20 16 c3 stored refl in
-              comes_then 36 4 c4 e5 (record { within = omega arith; to_is = sym e5.stands.pc; holds = subst (Counted v) e5.shows counted }) refl
+              let c2 = comes_on 1 15 c1 loaded refl in
+              let c3 : Comes 18 x d t t3 STORE (λ u. u ≡ (pieces.store_byte (view b)).left) =
+              comes_then 16 2 c2 e3 (record { within = omega arith; to_is = refl; holds = refl }) refl in
+              let c4 = comes_on 18 15 c3 stored refl in
+              comes_then 33 4 c4 e5 (record { within = omega arith; to_is = sym e5.stands.pc; holds = subst (Counted v) e5.shows counted }) refl
 
           pub place_told : y.cpu.pc ≡ (if (view y).r.r12 == 0 then COPYE else COPY)
           place_told = e5.stands.pc ∙ ap (λ (n : ℕ). if n == 0 then COPYE else COPY) (sym (ap (λ (u : View). u.r.r12) e5.shows))

@@ -154,4 +154,4 @@ pub record CopiesRest (x y : MachineState) (before after : ℕ) : Type 0 where
 -- The step ends with what was copied.
 abbrev pub EndsCopy : MachineState → MachineState → ℕ → ℕ → Type 0
 EndsCopy x y before after =
-    (c : Changes) → Copied c (view x) → Comes 35 x y before after GSTEP (SeesFinished c)
+    (c : Changes) → Copied c (view x) → Comes 34 x y before after GSTEP (SeesFinished c)

@@ -96,7 +96,7 @@ fn end_copy<L: Ledger>(machine: &mut Machine, steps: &mut Steps<L>)
 
 /// Runs the copy of MOVE to the end of the step. Register 12 has the number of bytes, registers 2 and 5 the source, and
 /// registers 7 and 8 the target; 2 in register 5 says that the source is in GROM, and 2 in register 8 that the target
-/// is among the registers of the video processor. It takes at most 40 instructions a byte, and 42 more.
+/// is among the registers of the video processor. It takes at most 37 instructions a byte, and 41 more.
 pub fn copy_bytes<L: Ledger>(machine: &mut Machine, steps: &mut Steps<L>)
     requires stands { Stands machine.old address.MOVEB }
     requires idle { PortsAreIdle machine.old.cpu.memory }

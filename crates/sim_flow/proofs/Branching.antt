@@ -25,9 +25,9 @@ record Targeted (s : GplState) (w : View) : Type 0 where
 abbrev made_of : View → ℕ → ℕ → ℕ → ℕ
 made_of v byte code address =
     let w : View = record v { r = record v.r { r0 = code; r1 = address }; grom = record v.grom { fetched = byte } } in
-    (pieces.find_target w).left.r.r6
+    (pieces.read_branch_target w).left.r.r6
 
-targets : (s : GplState) (v : View) → Dispatched s v → IsView v → Goes (pieces.find_target v) 8 TAKE (Targeted s)
+targets : (s : GplState) (v : View) → Dispatched s v → IsView v → Goes (pieces.read_branch_target v) 8 TAKE (Targeted s)
 targets s v d i =
     let h = d.sees in
     let fetched : v.grom.fetched ≡ slice_index s.image (behind_code s) = ap (λ (g : GromState). g.fetched) h.grom in
@@ -104,14 +104,14 @@ module _ {s : GplState} {x a : MachineState} {t t1 : ℕ} (on : Bool) (is : oper
       let holds = ap (λ (cells : List ℕ). is_set (slice_index cells 0x7C) 0x20) d.sees.cells in
       comes e1 (tells s (view x) taken d (told_by (high (view x).r.r4) (slice_index (view x).cells 0x7C) (view x).r.r0 on (condition s) bit holds))
 
-  turns : {y : MachineState} {t2 most : ℕ} (c : Bool) → taken ≡ c → Comes most x y t t2 GSTEP (SeesFinished (changed_by s c)) → most ≤ 23 →
+  turns : {y : MachineState} {t2 most : ℕ} (c : Bool) → taken ≡ c → Comes most x y t t2 GSTEP (SeesFinished (changed_by s c)) → most ≤ 18 →
       Turned s most_to_dispatch x y t t2 Stepped
   turns {y = y} {t2 = t2} c e run le =
       let same : branched on (target s) (unchanged (passed s)) ≡ changed_by s c = ap (changed_by s) e in
       let step_is = step_branch s on is ∙ ap (λ (c : Changes). Ok (finished c)) same in
       let m = bound_made s (finished (changed_by s c)) (Some (Branch on)) is step_is in
-      turned_by x y t t2 29 Stepped s (Ok (finished (changed_by s c))) step_is
-      (refl, reaches 29 (bound s) run (ap is_end stands.pc) refl (omega arith), matches (finished (changed_by s c)) y run.stands run.holds)
+      turned_by x y t t2 most_to_dispatch Stepped s (Ok (finished (changed_by s c))) step_is
+      (refl, reaches most_to_dispatch (bound s) run (ap is_end stands.pc) refl (omega arith), matches (finished (changed_by s c)) y run.stands run.holds)
 
   -- what holds where it was told
   told_at : (c : Bool) → taken ≡ c → Comes 5 x a t t1 (end_of c) (told s c)
@@ -123,7 +123,7 @@ module _ {s : GplState} {x a : MachineState} {t t1 : ℕ} (on : Bool) (is : oper
   pub passed_by : (a.cpu.pc ≡ BTARG → ⊥) → Comes 5 x a t t1 CFALSE (Sees s (behind s))
   passed_by elsewhere = told_at false (passed_at taken a.cpu.pc tested.stands.pc elsewhere)
 
-  pub takes : {b y : MachineState} {t2 t3 : ℕ} → a.cpu.pc ≡ BTARG → Exits a b t1 t2 (pieces.find_target (view a)) → TakesBranch b y t2 t3 →
+  pub takes : {b y : MachineState} {t2 t3 : ℕ} → a.cpu.pc ≡ BTARG → Exits a b t1 t2 (pieces.read_branch_target (view a)) → TakesBranch b y t2 t3 →
       Turned s most_to_dispatch x y t t3 Stepped
   takes {b = b} here e2 goes =
       let c1 = at_target here in
@@ -132,7 +132,7 @@ module _ {s : GplState} {x a : MachineState} {t t1 : ℕ} (on : Bool) (is : oper
       let seen : Sees (record s { pc = target s }) (behind s) (view b) =
       record { cells = h.cells; vdp = h.vdp; registers = h.registers; held = h.held; grom = h.grom } in
       let is_true = taken_at taken a.cpu.pc tested.stands.pc here in
-      turns true is_true (comes_on 13 9 c2 (goes (record s { pc = target s }) (behind s) seen c2.holds.to) refl) (omega arith)
+      turns true is_true (comes_on 13 5 c2 (goes (record s { pc = target s }) (behind s) seen c2.holds.to) refl) (omega arith)
 
   pub passes_on : {y : MachineState} {t2 : ℕ} → (a.cpu.pc ≡ BTARG → ⊥) → Exits a y t1 t2 (compare.clear_condition (view a))
       → Turned s most_to_dispatch x y t t2 Stepped

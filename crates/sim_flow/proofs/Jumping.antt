@@ -18,8 +18,8 @@ exits {s = s} {x = x} {y = y} {t = t} {u = u} d e stands run =
     (record { cells = h.cells; vdp = h.vdp; registers = h.registers; address = d.address }) in
     let c = comes run ended in
     let b = bound_stop s Exit is in
-    turned_by x y t u 29 (Stopped Exit) s (Err Exit) is
-    (refl, reaches 29 (bound s) c (ap is_end stands.pc) refl (omega arith), leaves s y c.stands c.holds)
+    turned_by x y t u most_to_dispatch (Stopped Exit) s (Err Exit) is
+    (refl, reaches most_to_dispatch (bound s) c (ap is_end stands.pc) refl (omega arith), leaves s y c.stands c.holds)
 
 -- B
 module _ (s : GplState) (v : View) (d : Dispatched s v) where
@@ -52,8 +52,8 @@ module _ (s : GplState) (v : View) (d : Dispatched s v) where
   jumps {x = x} {y = y} {t = t} {t2 = t2} is e stands e1 goes =
       let at : Goes (exit 2 GOTO read) 2 GOTO AtTarget = record { within = omega arith; to_is = refl; holds = record { sees = seen; to = refl } } in
       let c1 = comes e1 (from pieces.read_target is (known read_is at)) in
-      let c2 = comes_on 2 6 c1 (goes next behind c1.holds.sees c1.holds.to) refl in
+      let c2 = comes_on 2 2 c1 (goes next behind c1.holds.sees c1.holds.to) refl in
       let step_is = step_jump s B e in
       let m = bound_made s next (Some (Jump B)) e step_is in
-      turned_by x y t t2 29 Stepped s (Ok next) step_is
-      (refl, reaches 29 (bound s) c2 (ap is_end stands.pc) refl (omega arith), matches next y c2.stands c2.holds)
+      turned_by x y t t2 most_to_dispatch Stepped s (Ok next) step_is
+      (refl, reaches most_to_dispatch (bound s) c2 (ap is_end stands.pc) refl (omega arith), matches next y c2.stands c2.holds)

@@ -22,8 +22,8 @@ test_branch v i = record {
       pick (last_out SRL (word_told v) 6) (λ c. rw (byte, c) refl) (λ c. rw (byte, c) refl);
 }
 
-pub find_target : (v : View) → IsView v → Leads (TAKE ∷ []) v BTARG (pieces.find_target v)
-find_target v i = record { by = λ f q. rw (byte_is v.grom.fetched i.grom.fetched) refl }
+pub read_branch_target : (v : View) → IsView v → Leads (TAKE ∷ []) v BTARG (pieces.read_branch_target v)
+read_branch_target v i = record { by = λ f q. rw (byte_is v.grom.fetched i.grom.fetched) refl }
 
 pub ask_table : (v : View) → Leads (WHERE ∷ []) v CASEV (pieces.ask_table v)
 ask_table v = record { by = λ f q. pick (v.r.r3 == 1) (λ c. rw c refl) (λ c. rw c refl) }

@@ -51,7 +51,7 @@ module _ (s : GplState) (place : Place) (source : Source) (v : View) (e : operat
   abbrev located : View
   located = located_at asked s.image (next_of s)
 
-  where_is : Goes (rows.where_next asked) 12 CASEN (λ w. w ≡ located)
+  where_is : Goes (rows.where_next asked) 8 CASEN (λ w. w ≡ located)
   where_is = where_found asked s.image (next_of s) row.holds.sees.grom fits
 
   abbrev targeted : View
@@ -87,14 +87,14 @@ module _ (s : GplState) (place : Place) (source : Source) (v : View) (e : operat
 
   selects : {x a b c d f y : MachineState} {t t1 t2 t3 t4 t5 t6 : ℕ} → view x ≡ v → Exits x a t t1 (pieces.ask_table (view x)) →
       Exits a b t1 t2 (rows.where_next (view a)) → Exits b c t2 t3 (pieces.find_branch (view b)) → Exits c d t3 t4 (operands.seek (view c)) →
-      Exits d f t4 t5 (pieces.go_to_branch (view d)) → TakesBranch f y t5 t6 → Comes 34 x y t t6 GSTEP (SeesResult (row_result (One CASE) s place source))
+      Exits d f t4 t5 (pieces.go_to_branch (view d)) → TakesBranch f y t5 t6 → Comes 25 x y t t6 GSTEP (SeesResult (row_result (One CASE) s place source))
   selects is e1 e2 e3 e4 e5 goes =
       let c1 = comes e1 (from pieces.ask_table is asks) in
-      let c2 = comes_then 4 12 c1 e2 (from rows.where_next c1.holds where_is) refl in
-      let c3 = comes_then 16 3 c2 e3 (from pieces.find_branch c2.holds (just (pieces.find_branch located) 3 SEEK (omega arith) refl)) refl in
-      let c4 = comes_then 19 4 c3 e4 (from operands.seek c3.holds (known seek_is (just (exit 3 CASET sought) 4 CASET (omega arith) refl))) refl in
-      let c5 = comes_then 23 2 c4 e5 (from pieces.go_to_branch c4.holds ends) refl in
-      comes_on 25 9 c5 (goes taken (next_of s) c5.holds.sees c5.holds.to) refl
+      let c2 = comes_then 4 8 c1 e2 (from rows.where_next c1.holds where_is) refl in
+      let c3 = comes_then 12 3 c2 e3 (from pieces.find_branch c2.holds (just (pieces.find_branch located) 3 SEEK (omega arith) refl)) refl in
+      let c4 = comes_then 15 3 c3 e4 (from operands.seek c3.holds (known seek_is (just (exit 3 CASET sought) 3 CASET (omega arith) refl))) refl in
+      let c5 = comes_then 18 2 c4 e5 (from pieces.go_to_branch c4.holds ends) refl in
+      comes_on 20 5 c5 (goes taken (next_of s) c5.holds.sees c5.holds.to) refl
 
 pub runs : {x a b c d f y : MachineState} {t t1 t2 t3 t4 t5 t6 : ℕ} → Stands x CASEV → Exits x a t t1 (pieces.ask_table (view x)) →
     Exits a b t1 t2 (rows.where_next (view a)) → Exits b c t2 t3 (pieces.find_branch (view b)) → Exits c d t3 t4 (operands.seek (view c)) →

@@ -26,8 +26,8 @@ test_branch v =
     else exit 4 BTARG (record v { r = record v.r { r4 = told } })
 
 -- BTARG: the low five bits of the code byte and the byte that follows, in the GROM of the code byte, are the target.
-abbrev pub find_target : View → Exit
-find_target v =
+abbrev pub read_branch_target : View → Exit
+read_branch_target v =
     let offset = join (high (shifted SRL (shifted SLA v.r.r0 11) 3)) v.grom.fetched in
     let base = shifted SLA (shifted SRL v.r.r1 13) 13 in
     exit 8 TAKE (record v { r = record v.r { r4 = base; r6 = sum_of Word offset base }; grom = past v.grom })

@@ -8,7 +8,7 @@ ghost use Rattle.sim_rows.specs.native_interp.declared.addresses.TheConstants as
 ghost use Rattle.sim_rows.specs.sim_view.Bounds.{most_of_case_row};
 
 use crate::pieces::{
-    ask_table, find_branch, find_target, go_to_branch, leave, read_target, test_branch,
+    ask_table, find_branch, go_to_branch, leave, read_branch_target, read_target, test_branch,
 };
 use sim_compare::clear_condition;
 use sim_jumps::{jump, take_jump};
@@ -41,7 +41,7 @@ fn run_branch<L: Ledger>(machine: &mut Machine, steps: &mut Steps<L>, _on: bool)
 {
     test_branch(machine, steps);
     if machine.pc() == BTARG {
-        find_target(machine, steps);
+        read_branch_target(machine, steps);
         take_jump(machine, steps);
     } else {
         clear_condition(machine, steps);

@@ -7,5 +7,5 @@ mod pieces;
 
 pub use family::run_flow;
 pub use pieces::{
-    ask_table, find_branch, find_target, go_to_branch, leave, read_target, test_branch,
+    ask_table, find_branch, go_to_branch, leave, read_branch_target, read_target, test_branch,
 };

@@ -34,9 +34,9 @@ pub fn test_branch<L: Ledger>(machine: &mut Machine, steps: &mut Steps<L>)
 }
 
 /// The piece of BR and BS that makes the address of their target.
-pub fn find_target<L: Ledger>(machine: &mut Machine, steps: &mut Steps<L>)
+pub fn read_branch_target<L: Ledger>(machine: &mut Machine, steps: &mut Steps<L>)
     requires { Stands machine.old address.BTARG }
-    ensures { Exits machine.old machine.new steps.old steps.new (piece.find_target (view machine.old)) }
+    ensures { Exits machine.old machine.new steps.old steps.new (piece.read_branch_target (view machine.old)) }
 {
     run_piece(machine, steps, &[TAKE]);
 }

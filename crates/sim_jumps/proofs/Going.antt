@@ -44,7 +44,7 @@ takes {x = x} e goes s next h to =
     let taken : Goes (pieces.take_branch (view x)) 3 GOTO (Taken after next) = goes_in (omega arith)
     (record { sees = record { cells = ap status_cleared h.cells; vdp = h.vdp; registers = h.registers; held = h.held; grom = h.grom }; to = to }) in
     let c = comes e taken in
-    comes_on 3 6 c (goes after next c.holds.sees c.holds.to) refl
+    comes_on 3 2 c (goes after next c.holds.sees c.holds.to) refl
 
 -- ---- RESUME
 
@@ -73,4 +73,4 @@ module _ {x a : MachineState} {t t1 : ℕ} (stands : Stands x RESUME) (e : Exits
         };
       } in
       let c1 = comes e resumed in
-      comes_on 3 29 c1 (ends c c1.holds) refl
+      comes_on 3 28 c1 (ends c c1.holds) refl

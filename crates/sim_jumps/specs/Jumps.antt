@@ -7,17 +7,17 @@ use Rattle.sim_rows.specs.Prelude.{unchanged, view, with_condition, with_pc}
 abbrev pub GoesOn : MachineState → MachineState → ℕ → ℕ → Type 0
 GoesOn x y before after =
     (s : GplState) → (next : ℕ) → Sees s next (view x) → (view x).r.r6 ≡ s.pc
-    → Comes 6 x y before after GSTEP (Sees s s.pc)
+    → Comes 2 x y before after GSTEP (Sees s s.pc)
 
 -- The same, and the condition is cleared.
 abbrev pub TakesBranch : MachineState → MachineState → ℕ → ℕ → Type 0
 TakesBranch x y before after =
     (s : GplState) → (next : ℕ) → Sees s next (view x) → (view x).r.r6 ≡ s.pc
-    → Comes 9 x y before after GSTEP (SeesFinished (with_condition false (unchanged s)))
+    → Comes 5 x y before after GSTEP (SeesFinished (with_condition false (unchanged s)))
 
 -- Changes are made, and the pc is in register 14. The row ends with them: the character
 -- goes to the screen if it is due.
 abbrev pub ResumesRow : MachineState → MachineState → ℕ → ℕ → Type 0
 ResumesRow x y before after =
     (c : Changes) → (next : ℕ) → Changed (with_pc next c) (view x) → (view x).r.r14 ≡ c.state.pc
-    → Comes 32 x y before after GSTEP (SeesFinished c)
+    → Comes 31 x y before after GSTEP (SeesFinished c)

@@ -38,5 +38,5 @@ borders {s = s} {x = x} {y = y} {t = t} {u = u} d is stands set =
     let c = comes set (border_goes s (view x) d) in
     let step_is = step_byte s BACK is in
     let b = bound_made s (next s) (Some (Byte BACK)) is step_is in
-    turned_by x y t u 29 Stepped s (Ok (next s)) step_is
-    (refl, reaches 29 (bound s) c (ap is_end stands.pc) refl (omega arith), matches (next s) y c.stands c.holds)
+    turned_by x y t u most_to_dispatch Stepped s (Ok (next s)) step_is
+    (refl, reaches most_to_dispatch (bound s) c (ap is_end stands.pc) refl (omega arith), matches (next s) y c.stands c.holds)

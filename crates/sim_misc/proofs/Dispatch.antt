@@ -69,4 +69,4 @@ module _ {x y : MachineState} {t u : ℕ} {op : GplOperation} {told : Option Gpl
 
   pub turned : {z : MachineState} {v : ℕ} → RunsRow (Two EX) most_of_exchange_row y z u v → Turned s most_to_dispatch x z t v Stepped
   turned {z = z} {v = v} r =
-      family.turned rows at is l 70 (omega arith) (subst (λ (o : GplOperation). RunsRow o most_of_exchange_row y z u v) (sym alone) r)
+      family.turned rows at is l 67 (omega arith) (subst (λ (o : GplOperation). RunsRow o most_of_exchange_row y z u v) (sym alone) r)

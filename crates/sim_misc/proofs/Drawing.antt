@@ -40,5 +40,5 @@ draws {s = s} {x = x} {y = y} {t = t} {v = v} d is stands first second =
     let c2 = comes_then 9 8 c1 second (from pieces.draw_number c1.holds (drawn_goes s (view x) d)) refl in
     let step_is = step_byte s RAND is in
     let b = bound_made s (next s) (Some (Byte RAND)) is step_is in
-    turned_by x y t v 29 Stepped s (Ok (next s)) step_is
-    (refl, reaches 29 (bound s) c2 (ap is_end stands.pc) refl (omega arith), matches (next s) y c2.stands c2.holds)
+    turned_by x y t v most_to_dispatch Stepped s (Ok (next s)) step_is
+    (refl, reaches most_to_dispatch (bound s) c2 (ap is_end stands.pc) refl (omega arith), matches (next s) y c2.stands c2.holds)

@@ -152,5 +152,5 @@ fills {s = s} {x = x} {z = z} {t = t} {u = u} stands d is made all h =
     let seen = all_seen s made (view z) all c.holds in
     let step_is = step_byte s ALL is in
     let b = bound_made s (next s) (Some (Byte ALL)) is step_is in
-    turned_by x z t u 29 Stepped s (Ok (next s)) step_is
-    (refl, reaches 29 (bound s) h (ap is_end stands.pc) (ap is_end (ap place all)) (omega arith), matches (next s) z there seen)
+    turned_by x z t u most_to_dispatch Stepped s (Ok (next s)) step_is
+    (refl, reaches most_to_dispatch (bound s) h (ap is_end stands.pc) (ap is_end (ap place all)) (omega arith), matches (next s) z there seen)

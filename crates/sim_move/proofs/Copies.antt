@@ -57,15 +57,15 @@ module _ (s : GplState) {x a : MachineState} {t t1 : ℕ} (fits : code_byte s < 
   pub no_length : a.cpu.pc ≡ GSTOP → FindsCopy s x a t t1
   no_length here = record {
     by = λ kind known.
-        let m = missing 70 s x a t t1 MOVEL (LengthTold s (length_read s).1) (length_of s (length_read s).0) (λ e. absurd (omega arith)) here one.by in
+        let m = missing 61 s x a t t1 MOVEL (LengthTold s (length_read s).1) (length_of s (length_read s).0) (λ e. absurd (omega arith)) here one.by in
         let P : Result ℕ Reason → Type 0 = λ q. Arrives most_to_copy s x a t t1 MOVEB (AtCopy kind s)
         (q >>= λ count. (target_in s count (target_read kind s).0 >>= λ found. (origin_of s found.0 (source_read kind s).0 >>= λ from. Ok (found, from)))) in
-        subst P (sym m.is) (comes_as 187 _ m.comes (omega arith) (λ w q. q));
+        subst P (sym m.is) (comes_as 160 _ m.comes (omega arith) (λ w q. q));
   }
 
   module _ (away : a.cpu.pc ≡ GSTOP → ⊥) where
-    first : Found 70 x a t t1 MOVEL (LengthTold s (length_read s).1) (length_of s (length_read s).0)
-    first = found 70 s x a t t1 MOVEL (LengthTold s (length_read s).1) (length_of s (length_read s).0) away one.by
+    first : Found 61 x a t t1 MOVEL (LengthTold s (length_read s).1) (length_of s (length_read s).0)
+    first = found 61 s x a t t1 MOVEL (LengthTold s (length_read s).1) (length_of s (length_read s).0) away one.by
 
     pub asks_target : AsksTarget a
     asks_target =
@@ -92,21 +92,21 @@ module _ (s : GplState) {x a : MachineState} {t t1 : ℕ} (fits : code_byte s < 
       pub no_target : b.cpu.pc ≡ GSTOP → FindsCopy s x b t t2
       no_target here = record {
         by = λ kind known.
-            let m = missing 57 s a b t1 t2 (source_entry kind) (TargetTold s kind (target_read kind s).1) (target_in s first.found (target_read kind s).0)
+            let m = missing 50 s a b t1 t2 (source_entry kind) (TargetTold s kind (target_read kind s).1) (target_in s first.found (target_read kind s).0)
             (at_entry kind) here
             (two.by s kind first.found fits known first.comes.holds) in
-            behind_length kind b t2 (subst (Behind kind b t2) (sym m.is) (comes_as 187 _ (comes_on 70 57 first.comes m.comes refl) (omega arith) (λ w q. q)));
+            behind_length kind b t2 (subst (Behind kind b t2) (sym m.is) (comes_as 160 _ (comes_on 61 50 first.comes m.comes refl) (omega arith) (λ w q. q)));
       }
 
       module _ (gone : b.cpu.pc ≡ GSTOP → ⊥) where
         abbrev Second : MoveKind → Type 0
-        Second kind = Found 127 x b t t2 (source_entry kind) (TargetTold s kind (target_read kind s).1) (target_in s first.found (target_read kind s).0)
+        Second kind = Found 111 x b t t2 (source_entry kind) (TargetTold s kind (target_read kind s).1) (target_in s first.found (target_read kind s).0)
 
         second : (kind : MoveKind) → operation_in s ≡ Some (Move kind) → Second kind
         second kind known =
-            let f = found 57 s a b t1 t2 (source_entry kind) (TargetTold s kind (target_read kind s).1) (target_in s first.found (target_read kind s).0) gone
+            let f = found 50 s a b t1 t2 (source_entry kind) (TargetTold s kind (target_read kind s).1) (target_in s first.found (target_read kind s).0) gone
             (two.by s kind first.found fits known first.comes.holds) in
-            record { found = f.found; is = f.is; comes = comes_on 70 57 first.comes f.comes refl }
+            record { found = f.found; is = f.is; comes = comes_on 61 50 first.comes f.comes refl }
 
         -- what is found behind the target
         behind_target : (kind : MoveKind) (f : Second kind) (y : MachineState) (u : ℕ) → Arrives most_to_copy s x y t u MOVEB (AtCopy kind s)
@@ -191,9 +191,9 @@ module _ (s : GplState) {x a : MachineState} {t t1 : ℕ} (fits : code_byte s < 
                 let to : return_of (view b) ≡ MOVEB = ap even f.comes.holds.link in
                 let g2 : Comes most_of_address b y t2 t3 MOVEB (Placed (view b) operand.1 place) =
                 subst (λ (p : ℕ). Comes most_of_address b y t2 t3 p (Placed (view b) operand.1 place)) to g in
-                comes_as 187 (AtCopy MemoryToMemory s (f.found, FromMemory place)) (comes_on 127 45 f.comes g2 refl) (omega arith) (ready place)
+                comes_as 160 (AtCopy MemoryToMemory s (f.found, FromMemory place)) (comes_on 111 38 f.comes g2 refl) (omega arith) (ready place)
             by_place (Err reason) g =
-                comes_as 187 (StoppedBy s reason) (comes_on 127 45 f.comes g refl) (omega arith)
+                comes_as 160 (StoppedBy s reason) (comes_on 111 38 f.comes g refl) (omega arith)
                 (λ w k. barred_stops s f.found.0 (target_read MemoryToMemory s).1 reason (view b) w f.comes.holds.holds k)
 
             pub from_memory : FindsCopy s x y t t3
@@ -272,31 +272,31 @@ module _ (s : GplState) {x a : MachineState} {t t1 : ℕ} (fits : code_byte s < 
 
             -- its address with the index, or a stop
             abbrev Indexed : MoveKind → Type 0
-            Indexed kind = Arrives 39 s b c t2 t3 MOVEX (SourceTold (view b) s.image (index kind).1) (indexed s (index kind).0 (address kind).0)
+            Indexed kind = Arrives 32 s b c t2 t3 MOVEX (SourceTold (view b) s.image (index kind).1) (indexed s (index kind).0 (address kind).0)
 
             indexed_at : (kind : MoveKind) (known : operation_in s ≡ Some (Move kind)) → Indexed kind
             indexed_at kind known = let f = second kind known in indexes s f.found.0 (target_read kind s).1 fits f.comes.holds.holds
 
-            to_source : (kind : MoveKind) (known : operation_in s ≡ Some (Move kind)) → Comes 127 x b t t2 MOVES
+            to_source : (kind : MoveKind) (known : operation_in s ≡ Some (Move kind)) → Comes 111 x b t t2 MOVES
                 (TargetTold s kind (target_read kind s).1 (second kind known).found)
             to_source kind known =
                 let f = second kind known in
-                subst (λ (p : ℕ). Comes 127 x b t t2 p (TargetTold s kind (target_read kind s).1 f.found)) (in_grom kind known) f.comes
+                subst (λ (p : ℕ). Comes 111 x b t t2 p (TargetTold s kind (target_read kind s).1 f.found)) (in_grom kind known) f.comes
 
             pub no_source : c.cpu.pc ≡ GSTOP → FindsCopy s x c t t3
             no_source there = record {
               by = λ kind known.
-                  let m = missing 39 s b c t2 t3 MOVEX (SourceTold (view b) s.image (index kind).1) (indexed s (index kind).0 (address kind).0)
+                  let m = missing 32 s b c t2 t3 MOVEX (SourceTold (view b) s.image (index kind).1) (indexed s (index kind).0 (address kind).0)
                   (λ e. absurd (omega arith)) there (indexed_at kind known) in
                   let P : Result ℕ Reason → Type 0 =
                   λ q. Arrives most_to_copy s x c t t3 MOVEB (AtCopy kind s) (q >>= from_address (second kind known).found) in
-                  whole kind known c t3 (subst P (sym m.is) (comes_as 187 _ (comes_on 127 39 (to_source kind known) m.comes refl) (omega arith) (λ w q. q)));
+                  whole kind known c t3 (subst P (sym m.is) (comes_as 160 _ (comes_on 111 32 (to_source kind known) m.comes refl) (omega arith) (λ w q. q)));
             }
 
             module _ (on : c.cpu.pc ≡ GSTOP → ⊥) where
               third : (kind : MoveKind) (known : operation_in s ≡ Some (Move kind)) →
-                  Found 39 b c t2 t3 MOVEX (SourceTold (view b) s.image (index kind).1) (indexed s (index kind).0 (address kind).0)
-              third kind known = found 39 s b c t2 t3 MOVEX (SourceTold (view b) s.image (index kind).1) (indexed s (index kind).0 (address kind).0) on
+                  Found 32 b c t2 t3 MOVEX (SourceTold (view b) s.image (index kind).1) (indexed s (index kind).0 (address kind).0)
+              third kind known = found 32 s b c t2 t3 MOVEX (SourceTold (view b) s.image (index kind).1) (indexed s (index kind).0 (address kind).0) on
                   (indexed_at kind known)
 
               pub stands_turning : is_move (operation_in s) ≡ true → Stands c MOVEX
@@ -316,7 +316,7 @@ module _ (s : GplState) {x a : MachineState} {t t1 : ℕ} (fits : code_byte s < 
                     let r2 : (view c).r.r2 ≡ g.found = ap (λ (u : View). u.r.r2) at in
                     let P : Result ℕ Reason → Type 0 = λ q. Arrives most_to_copy s x y t t4 MOVEB (AtCopy kind s) (q >>= from_address f.found) in
                     whole kind known y t4 (subst P (sym g.is)
-                    (comes_as 187 (AtCopy kind s (f.found, FromGrom g.found)) (comes_on 166 21 (comes_on 127 39 (to_source kind known) g.comes refl) turned
+                    (comes_as 160 (AtCopy kind s (f.found, FromGrom g.found)) (comes_on 143 17 (comes_on 111 32 (to_source kind known) g.comes refl) turned
                     refl) (omega arith)
                     (λ w k. let e = k.is in record {
                       cells = ap (λ (u : View). u.cells) e ∙ ap (λ (u : View). u.cells) at ∙ h.holds.sees.cells;

@@ -37,8 +37,8 @@ module _ (s : GplState) {x a : MachineState} {t t1 : ℕ} (stands : Stands x GOM
 
     -- a check fails
     module _ (here : a.cpu.pc ≡ GSTOP) where
-      m : Missing 187 s x a t t1 (copy_in kind s)
-      m = missing 187 s x a t t1 MOVEB (AtCopy kind s) (copy_in kind s) (λ e. absurd (omega arith)) here (finds.by kind known)
+      m : Missing 160 s x a t t1 (copy_in kind s)
+      m = missing 160 s x a t t1 MOVEB (AtCopy kind s) (copy_in kind s) (λ e. absurd (omega arith)) here (finds.by kind known)
 
       pub workspace : a.cpu.wp ≡ WORKSPACE
       workspace = m.comes.stands.wp
@@ -50,13 +50,13 @@ module _ (s : GplState) {x a : MachineState} {t t1 : ℕ} (stands : Stands x GOM
           let same : told ≡ m.reason = is m.reason m.comes.holds.reason_is in
           let P : Reason → Type 0 = λ r. Turned s most_to_dispatch x a t t1 (Stopped r) in
           subst P (sym same)
-          (turned_by x a t t1 29 (Stopped m.reason) s (Err m.reason) e
-          (refl, reaches 29 (bound s) m.comes start refl (omega arith), stops s m.reason a (no_exit s kind m.reason m.is) m.comes.stands m.comes.holds))
+          (turned_by x a t t1 most_to_dispatch (Stopped m.reason) s (Err m.reason) e
+          (refl, reaches most_to_dispatch (bound s) m.comes start refl (omega arith), stops s m.reason a (no_exit s kind m.reason m.is) m.comes.stands m.comes.holds))
 
     -- all is found
     module _ (away : a.cpu.pc ≡ GSTOP → ⊥) where
-      g : Found 187 x a t t1 MOVEB (AtCopy kind s) (copy_in kind s)
-      g = found 187 s x a t t1 MOVEB (AtCopy kind s) (copy_in kind s) away (finds.by kind known)
+      g : Found 160 x a t t1 MOVEB (AtCopy kind s) (copy_in kind s)
+      g = found 160 s x a t t1 MOVEB (AtCopy kind s) (copy_in kind s) away (finds.by kind known)
 
       to_lies : ToLies g.found.0.0 g.found.0.1
       to_lies = target_lies s g.found.0.0 (target_read kind s).0 g.found.0.1 (parts s kind g.found g.is).target
@@ -82,7 +82,7 @@ module _ (s : GplState) {x a : MachineState} {t t1 : ℕ} (stands : Stands x GOM
       turned {y = y} {t2 = t2} copies =
           let bytes = g.found.0.0 in
           let next = finished (made s kind g.found) in
-          let c = comes_on 187 (40 * bytes + 42) g.comes (copies (begun kind s) g.found.1 g.found.0.1 bytes g.comes.holds) refl in
+          let c = comes_on 160 (37 * bytes + 41) g.comes (copies (begun kind s) g.found.1 g.found.0.1 bytes g.comes.holds) refl in
           let e = step_copies s kind known g.found g.is in
           let b = bound_is s kind known g.found g.is in
-          turned_by x y t t2 29 Stepped s (Ok next) e (refl, reaches 29 (bound s) c start refl (omega arith), matches next y c.stands c.holds)
+          turned_by x y t t2 most_to_dispatch Stepped s (Ok next) e (refl, reaches most_to_dispatch (bound s) c start refl (omega arith), matches next y c.stands c.holds)

@@ -14,7 +14,7 @@ use Rattle.sim_move.specs.Pieces as pieces
 -- what is found, by whether the length is in the bytes that follow
 abbrev FindsBy : GplState → MachineState → MachineState → ℕ → ℕ → Bool → Type 0
 FindsBy s x y t u b =
-    let read = length_at b s.image (behind_code s) in Arrives 70 s x y t u MOVEL (LengthTold s read.1) (length_of s read.0)
+    let read = length_at b s.image (behind_code s) in Arrives 61 s x y t u MOVEL (LengthTold s read.1) (length_of s read.0)
 
 -- LOAD is asked for the length
 record AskedStream (s : GplState) (w : View) : Type 0 where
@@ -72,8 +72,8 @@ module _ {y z : MachineState} {u w : ℕ} (e : Exits y z u w (pieces.load_length
         l.holds ∙ ap (λ (g : GromState). by g (view z).r.r3) h.holds.sees.grom ∙ ap (by (grom_at s.image (behind_code s))) h.holds.bytes_are
         ∙ ap made (previous-next (behind_code s)) in
         let to : return_of (view z) ≡ MOVEL = ap even h.link in
-        let l2 : Comes 11 z q w k MOVEL (λ v. v ≡ streamed (view z)) = subst (λ (p : ℕ). Comes 11 z q w k p (λ v. v ≡ streamed (view z))) to l in
-        let c2 = comes_on 1 11 c l2 refl in
+        let l2 : Comes 10 z q w k MOVEL (λ v. v ≡ streamed (view z)) = subst (λ (p : ℕ). Comes 10 z q w k p (λ v. v ≡ streamed (view z))) to l in
+        let c2 = comes_on 1 10 c l2 refl in
         let n = c2.within in
         record {
           count = c2.count;
@@ -115,7 +115,7 @@ module _ {y z : MachineState} {u w : ℕ} (e : Exits y z u w (pieces.load_length
         ∙ ap (λ (n : ℕ). value_at (state_of v) Word (place_in (number_of_space place.space) n)) h.from.address
         ∙ ap (value_at (state_of v) Word) (place_is place)
         ∙ value_same (state_of v) s Word place h.holds.sees.cells h.holds.sees.vdp in
-        comes_as 18 (LengthTold s next (value_at s Word place)) (comes_on 1 17 c l2 refl) (omega arith)
+        comes_as 16 (LengthTold s next (value_at s Word place)) (comes_on 1 15 c l2 refl) (omega arith)
         (λ u a. record {
           holds = holds_loaded s 2 next number v u h.holds a;
           count_is = ap (λ (w : View). w.r.r6) a.is ∙ ap (λ (n : ℕ). in_register (width_in n) number) h.holds.bytes_are ∙ number_is;
@@ -167,7 +167,7 @@ module _ (s : GplState) {x : MachineState} {t : ℕ} (d : Dispatched s (view x))
       found_direct {q = q} {k = k} l =
           record {
             by = subst (FindsBy s x q t k) (sym direct.is_odd)
-                (comes_as 70 _ (comes_on 6 18 direct.comes (l s direct.comes.holds) refl) (omega arith) (λ w b. b));
+                (comes_as 61 _ (comes_on 6 16 direct.comes (l s direct.comes.holds) refl) (omega arith) (λ w b. b));
           }
 
     -- it is at an operand
@@ -210,8 +210,8 @@ module _ (s : GplState) {x : MachineState} {t : ℕ} (d : Dispatched s (view x))
         stopped_by there (Ok place) is g =
             let p = (located s 2 (behind_code s) operand.1 MOVEN 7 x a b t t1 t2 place refl asked.comes g).stands.pc in absurd (omega arith)
         stopped_by there (Err reason) is g =
-            let P : Result Place Reason → Type 0 = λ q. Arrives 70 s x b t t2 MOVEL (LengthTold s operand.1) (q >>= λ p. Ok (value_at s Word p)) in
-            subst P (sym is) (comes_as 70 _ (barred s 2 (behind_code s) MOVEN 7 reason x a b t t1 t2 asked.comes g) (omega arith) (λ w k. k))
+            let P : Result Place Reason → Type 0 = λ q. Arrives 61 s x b t t2 MOVEL (LengthTold s operand.1) (q >>= λ p. Ok (value_at s Word p)) in
+            subst P (sym is) (comes_as 61 _ (barred s 2 (behind_code s) MOVEN 7 reason x a b t t1 t2 asked.comes g) (omega arith) (λ w k. k))
 
         pub stopped : b.cpu.pc ≡ GSTOP → FindsLength s x b t t2
         stopped there = record { by = subst (FindsBy s x b t t2) (sym asked.is_even) (stopped_by there (place_of s 2 operand.0) refl finds) }
@@ -219,13 +219,13 @@ module _ (s : GplState) {x : MachineState} {t : ℕ} (d : Dispatched s (view x))
         record Placed : Type 0 where
           pub place : Place
           pub is_place : place_of s 2 operand.0 ≡ Ok place
-          pub comes : Comes 52 x b t t2 MOVEN (AtPlace s place operand.1)
+          pub comes : Comes 45 x b t t2 MOVEN (AtPlace s place operand.1)
 
         placed_by : (b.cpu.pc ≡ GSTOP → ⊥) → (r : Result Place Reason) → place_of s 2 operand.0 ≡ r → Finds a b t1 t2 operand.1 r → Placed
         placed_by n (Ok place) is g = record {
           place = place;
           is_place = is;
-          comes = comes_as 52 _ (located s 2 (behind_code s) operand.1 MOVEN 7 x a b t t1 t2 place refl asked.comes g) (omega arith)
+          comes = comes_as 45 _ (located s 2 (behind_code s) operand.1 MOVEN 7 x a b t t1 t2 place refl asked.comes g) (omega arith)
               (λ w h. record { holds = h.holds; from = h.from });
         }
         placed_by n (Err reason) is g = absurd (n g.stands.pc)
@@ -246,8 +246,8 @@ module _ (s : GplState) {x : MachineState} {t : ℕ} (d : Dispatched s (view x))
 
           pub found_placed : {q : MachineState} {k : ℕ} → LoadsPlaced b q t2 k → FindsLength s x q t k
           found_placed {q = q} {k = k} l =
-              let P : Result Place Reason → Type 0 = λ p. Arrives 70 s x q t k MOVEL (LengthTold s operand.1) (p >>= λ p. Ok (value_at s Word p)) in
+              let P : Result Place Reason → Type 0 = λ p. Arrives 61 s x q t k MOVEL (LengthTold s operand.1) (p >>= λ p. Ok (value_at s Word p)) in
               record {
                 by = subst (FindsBy s x q t k) (sym asked.is_even)
-                    (subst P (sym placed.is_place) (comes_on 52 18 placed.comes (l s placed.place operand.1 placed.comes.holds) refl));
+                    (subst P (sym placed.is_place) (comes_on 45 16 placed.comes (l s placed.place operand.1 placed.comes.holds) refl));
               }

@@ -17,14 +17,14 @@ not_both : (b : Bool) → b ≡ true → b ≡ false → ⊥
 not_both b e f = cc
 
 stops_with : (e : Exit) (Good : ℕ → View → Type 0) (Bad : View → Type 0) (q : Result ℕ Reason) →
-    Answers q (λ address. Goes e 12 ASPACE (Good address)) (Goes e 8 GSTOP Bad) →
+    Answers q (λ address. Goes e 10 ASPACE (Good address)) (Goes e 8 GSTOP Bad) →
     eqb e.to ASPACE ≡ false → (q ≡ Err Cell) × Goes e 8 GSTOP Bad
 stops_with e Good Bad (Ok address) a f = absurd (not_both (eqb e.to ASPACE) (eq-eqb e.to ASPACE a.to_is) f)
 stops_with e Good Bad (Err reason) a f = (ap Err a.0, a.1)
 
 goes_with : (e : Exit) (Good : ℕ → View → Type 0) (Bad : View → Type 0) (q : Result ℕ Reason) →
-    Answers q (λ address. Goes e 12 ASPACE (Good address)) (Goes e 8 GSTOP Bad) →
-    eqb e.to ASPACE ≡ true → (address : ℕ) × (q ≡ Ok address) × Goes e 12 ASPACE (Good address)
+    Answers q (λ address. Goes e 10 ASPACE (Good address)) (Goes e 8 GSTOP Bad) →
+    eqb e.to ASPACE ≡ true → (address : ℕ) × (q ≡ Ok address) × Goes e 10 ASPACE (Good address)
 goes_with e Good Bad (Ok address) a f = (address, refl, a)
 goes_with e Good Bad (Err reason) a f = absurd (let n : e.to ≡ ASPACE = eqb-true e.to ASPACE f in let m = a.1.to_is in omega arith)
 
@@ -65,11 +65,11 @@ module _ {x a b c d : MachineState} {t t1 t2 t3 t4 : ℕ} (e1 : Exits x a t t1 (
   begun_is : (pieces.ask_index streamed).left ≡ begun
   begun_is = ap at_form (form_is code small)
 
-  asks : Comes 17 x c t t3 INDEX (λ w. w ≡ begun)
+  asks : Comes 13 x c t t3 INDEX (λ w. w ≡ begun)
   asks =
       let c1 = comes e1 (just (pieces.ask_source v) 2 STREAM (omega arith) refl) in
-      let c2 = comes_then 2 8 c1 e2 (from operands.stream c1.holds (known stream_is (just (exit 6 MOVEA streamed) 8 MOVEA (omega arith) refl))) refl in
-      comes_then 10 7 c2 e3 (from pieces.ask_index c2.holds (record { within = omega arith; to_is = refl; holds = begun_is })) refl
+      let c2 = comes_then 2 6 c1 e2 (from operands.stream c1.holds (known stream_is (just (exit 6 MOVEA streamed) 6 MOVEA (omega arith) refl))) refl in
+      comes_then 8 5 c2 e3 (from pieces.ask_index c2.holds (record { within = omega arith; to_is = refl; holds = begun_is })) refl
 
   holds_begun : Holds s 2 read.1 begun
   holds_begun = record {
@@ -95,7 +95,7 @@ module _ {x a b c d : MachineState} {t t1 t2 t3 t4 : ℕ} (e1 : Exits x a t t1 (
 
   -- what is found, by whether the code byte has an index
   abbrev FoundBy : MachineState → ℕ → Bool → Type 0
-  FoundBy y u b = let found = index_by b s.image read.1 in Arrives 39 s x y t u MOVEX (SourceTold v s.image found.1) (indexed s found.0 read.0)
+  FoundBy y u b = let found = index_by b s.image read.1 in Arrives 32 s x y t u MOVEX (SourceTold v s.image found.1) (indexed s found.0 read.0)
 
   bit_is : (form / 64 % 2 == 1) ≡ (code_byte s / 2 % 2 == 1)
   bit_is = form_index code ∙ ap (λ (n : ℕ). n / 2 % 2 == 1) h.code
@@ -104,7 +104,7 @@ module _ {x a b c d : MachineState} {t t1 t2 t3 t4 : ℕ} (e1 : Exits x a t t1 (
   told_by y u f = subst (FoundBy y u) bit_is f
 
   abbrev With : MachineState → ℕ → Result ℕ Reason → Type 0
-  With y u q = Arrives 39 s x y t u MOVEX (SourceTold v s.image index.1) q
+  With y u q = Arrives 32 s x y t u MOVEX (SourceTold v s.image index.1) q
 
   at_index : {most to : ℕ} {Q : View → Type 0} → Goes (operands.index begun) most to Q → Goes (operands.index (view c)) most to Q
   at_index g = from operands.index asks.holds g
@@ -116,12 +116,12 @@ module _ {x a b c d : MachineState} {t t1 t2 t3 t4 : ℕ} (e1 : Exits x a t t1 (
   stopped f =
       let k = stops_with (operands.index begun) (λ address. Addressed begun address (form / 32) index.1) (Barred begun Cell)
       (indexed (state_of begun) index.0 read.0) index_found (sym to_index ∙ f) in
-      let c2 : Comes 39 x d t t4 GSTOP (StoppedBy s Cell) =
-      comes_as 39 _ (comes_then 17 8 asks e4 (at_index k.1) refl) (omega arith) (λ w q. barred_stops s 2 read.1 Cell begun w holds_begun q) in
+      let c2 : Comes 32 x d t t4 GSTOP (StoppedBy s Cell) =
+      comes_as 32 _ (comes_then 13 8 asks e4 (at_index k.1) refl) (omega arith) (λ w q. barred_stops s 2 read.1 Cell begun w holds_begun q) in
       told_by d t4 (subst (With d t4) (sym (sym index_cells ∙ k.0)) c2)
 
   module _ {y : MachineState} {t5 : ℕ} (e5 : Exits d y t4 t5 (operands.range (view d))) (went : eqb (operands.index (view c)).to ASPACE ≡ true) where
-    gone_on : (address : ℕ) × (indexed (state_of begun) index.0 read.0 ≡ Ok address) × Goes (operands.index begun) 12 ASPACE
+    gone_on : (address : ℕ) × (indexed (state_of begun) index.0 read.0 ≡ Ok address) × Goes (operands.index begun) 10 ASPACE
         (Addressed begun address (form / 32) index.1)
     gone_on = goes_with (operands.index begun) (λ address. Addressed begun address (form / 32) index.1) (Barred begun Cell)
         (indexed (state_of begun) index.0 read.0) index_found (sym to_index ∙ went)
@@ -129,24 +129,24 @@ module _ {x a b c d : MachineState} {t t1 t2 t3 t4 : ℕ} (e1 : Exits x a t t1 (
     abbrev address : ℕ
     address = gone_on.0
 
-    added : Comes 29 x d t t4 ASPACE (Addressed begun address (form / 32) index.1)
-    added = comes_then 17 12 asks e4 (at_index gone_on.2) refl
+    added : Comes 23 x d t t4 ASPACE (Addressed begun address (form / 32) index.1)
+    added = comes_then 13 10 asks e4 (at_index gone_on.2) refl
 
     in_video : ranged begun.r.r3 (space_of (form / 32 % 2 == 1)) address ≡ Ok (record { space = Vdp; address = address })
     in_video = ap (λ (b : Bool). ranged 2 (space_of b) address) (form_space code)
 
-    ranges : Goes (operands.range (view d)) 10 MOVEX (Placed begun index.1 (record { space = Vdp; address = address }))
+    ranges : Goes (operands.range (view d)) 9 MOVEX (Placed begun index.1 (record { space = Vdp; address = address }))
     ranges =
         let all : RangeRead begun (view d) address form index.1 (operands.range (view d)) =
         range_read begun (view d) address form index.1 (form_fits code) (omega arith) added.holds in
-        let P : Result Place Reason → Type 0 = λ q. Answers q (λ place. Goes (operands.range (view d)) 10 MOVEX (Placed begun index.1 place))
-        (Goes (operands.range (view d)) 10 GSTOP (Barred begun Cell)) in
+        let P : Result Place Reason → Type 0 = λ q. Answers q (λ place. Goes (operands.range (view d)) 9 MOVEX (Placed begun index.1 place))
+        (Goes (operands.range (view d)) 9 GSTOP (Barred begun Cell)) in
         subst P in_video all
 
     pub found : FoundBy y t5 (code_byte s / 2 % 2 == 1)
     found =
-        let c2 : Comes 39 x y t t5 MOVEX (SourceTold v s.image index.1 address) =
-        comes_as 39 _ (comes_then 29 10 added e5 ranges refl) (omega arith) (λ w q. record { r4 = q.r4; r6 = q.r6; is = q.is }) in
+        let c2 : Comes 32 x y t t5 MOVEX (SourceTold v s.image index.1 address) =
+        comes_as 32 _ (comes_then 23 9 added e5 ranges refl) (omega arith) (λ w q. record { r4 = q.r4; r6 = q.r6; is = q.is }) in
         told_by y t5 (subst (With y t5) (sym (sym index_cells ∙ gone_on.1)) c2)
 
 -- ---- GROM at the source
@@ -165,7 +165,7 @@ turns x a b c d y t t1 t2 t3 t4 t5 stands e1 e2 e3 e4 e5 image at fits grom =
     let seek_is : operands.seek kept ≡ exit 3 MOVEK sought =
     ap (λ (g : GromState). exit 3 MOVEK (record kept { grom = g })) (set_is (lost image at) v.r.r2 refl r2) in
     let c1 = comes e1 (just (pieces.ask_next v) 1 WHERE (omega arith) refl) in
-    let c2 = comes_then 1 12 c1 e2 (from rows.where_next c1.holds (where_found asked image at grom fits)) refl in
-    let c3 = comes_then 13 3 c2 e3 (from pieces.seek_source c2.holds (just (pieces.seek_source located) 3 SEEK (omega arith) refl)) refl in
-    let c4 = comes_then 16 3 c3 e4 (from operands.seek c3.holds (known seek_is (just (exit 3 MOVEK sought) 3 MOVEK (omega arith) refl))) refl in
-    comes_then 19 2 c4 e5 (from pieces.turn_to_grom c4.holds (goes_in (omega arith) (record { r4 = located.r.r4; r6 = v.r.r2; r11 = MOVEK; is = refl }))) refl
+    let c2 = comes_then 1 8 c1 e2 (from rows.where_next c1.holds (where_found asked image at grom fits)) refl in
+    let c3 = comes_then 9 3 c2 e3 (from pieces.seek_source c2.holds (just (pieces.seek_source located) 3 SEEK (omega arith) refl)) refl in
+    let c4 = comes_then 12 3 c3 e4 (from operands.seek c3.holds (known seek_is (just (exit 3 MOVEK sought) 3 MOVEK (omega arith) refl))) refl in
+    comes_then 15 2 c4 e5 (from pieces.turn_to_grom c4.holds (goes_in (omega arith) (record { r4 = located.r.r4; r6 = v.r.r2; r11 = MOVEK; is = refl }))) refl

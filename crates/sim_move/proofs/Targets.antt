@@ -69,7 +69,7 @@ module _ {x a : MachineState} {t t1 : ℕ} (stands : Stands x MOVEL) (e : Exits 
     by = λ s kind count fits known h.
         let w = at_stop here (nat_lt 0x4000 v.r.r6) e in
         let above : nat_lt 0x4000 count ≡ true = ap (nat_lt 0x4000) (sym h.count_is) ∙ w.0 in
-        let P : Bool → Type 0 = λ b. Arrives 57 s x a t t1 (source_entry kind) (TargetTold s kind (target_read kind s).1)
+        let P : Bool → Type 0 = λ b. Arrives 50 s x a t t1 (source_entry kind) (TargetTold s kind (target_read kind s).1)
         (by_limit s count (target_read kind s).0 b) in
         subst P (sym above) (comes w.1 (goes_in (omega arith)
         (stops_there s 2 (length_read s).1 Length v (record v { r = record v.r { r0 = 4 } }) h.holds refl refl refl refl)));
@@ -83,10 +83,10 @@ module _ {x a : MachineState} {t t1 : ℕ} (stands : Stands x MOVEL) (e : Exits 
     few = ltb-false 0x4000 v.r.r6 went.0
 
     within : (s : GplState) (kind : MoveKind) (y : MachineState) (u count : ℕ) → v.r.r6 ≡ count →
-        Arrives 57 s x y t u (source_entry kind) (TargetTold s kind (target_read kind s).1) (by_limit s count (target_read kind s).0 false) →
-        Arrives 57 s x y t u (source_entry kind) (TargetTold s kind (target_read kind s).1) (target_in s count (target_read kind s).0)
+        Arrives 50 s x y t u (source_entry kind) (TargetTold s kind (target_read kind s).1) (by_limit s count (target_read kind s).0 false) →
+        Arrives 50 s x y t u (source_entry kind) (TargetTold s kind (target_read kind s).1) (target_in s count (target_read kind s).0)
     within s kind y u count is r =
-        let P : Bool → Type 0 = λ b. Arrives 57 s x y t u (source_entry kind) (TargetTold s kind (target_read kind s).1)
+        let P : Bool → Type 0 = λ b. Arrives 50 s x y t u (source_entry kind) (TargetTold s kind (target_read kind s).1)
         (by_limit s count (target_read kind s).0 b) in
         subst P (sym (ap (nat_lt 0x4000) (sym is) ∙ went.0)) r
 
@@ -100,7 +100,7 @@ module _ {x a : MachineState} {t t1 : ℕ} (stands : Stands x MOVEL) (e : Exits 
 
       by_sum : (s : GplState) (count : ℕ) → LengthTold s (length_read s).1 count (view x) → (b : Bool) →
           nat_lt 8 (sum_of Word kept.grom.fetched kept.r.r6) ≡ b →
-          Arrives 57 s x y t t2 MOVES (TargetTold s GromToRegisters (target_read GromToRegisters s).1)
+          Arrives 50 s x y t t2 MOVES (TargetTold s GromToRegisters (target_read GromToRegisters s).1)
           (by_limit s count (target.Register (slice_index s.image (length_read s).1)) false)
       by_sum s count h b is =
           let number = slice_index s.image (length_read s).1 in
@@ -116,15 +116,15 @@ module _ {x a : MachineState} {t t1 : ℕ} (stands : Stands x MOVEL) (e : Exits 
           by : (b : Bool) → nat_lt 8 (sum_of Word kept.grom.fetched kept.r.r6) ≡ b → (number : ℕ) → sum_of Word kept.grom.fetched kept.r.r6 ≡ number + count →
               Comes 6 x a t t1 MOVER (λ w. w ≡ kept) → Exits a y t1 t2 (pieces.count_registers kept) → kept.grom.fetched ≡ number →
               (counted kept).grom ≡ grom_at s.image (next_in_grom (length_read s).1) →
-              Arrives 57 s x y t t2 MOVES (TargetTold s GromToRegisters (next_in_grom (length_read s).1)) (by_limit s count (target.Register number) false)
+              Arrives 50 s x y t t2 MOVES (TargetTold s GromToRegisters (next_in_grom (length_read s).1)) (by_limit s count (target.Register number) false)
           by true is number sum c1 e3 byte grom =
               let more : 8 < number + count = let l : 8 < sum_of Word kept.grom.fetched kept.r.r6 = ltb-true 8 (sum_of Word kept.grom.fetched kept.r.r6) is in
               omega arith in
               let none : nat_le (number + count) 8 ≡ false = lt-leb (number + count) 8 more in
               let stop : View = record (counted kept) { r = record (counted kept).r { r0 = 5 } } in
               let e4 : Exits a y t1 t2 (exit 9 GSTOP stop) = rw (is, pieces.count_registers) at e3 in
-              let c2 : Comes 57 x y t t2 GSTOP (StoppedBy s Register) =
-              comes_as 57 _ (comes_then 6 9 c1 e4
+              let c2 : Comes 50 x y t t2 GSTOP (StoppedBy s Register) =
+              comes_as 50 _ (comes_then 6 9 c1 e4
               (record { within = omega arith; to_is = refl; holds = stops_there s 2 (length_read s).1 Register v stop h.holds refl refl refl refl }) refl)
               (omega arith) (λ w q. q) in
               rw (none, by_limit) c2
@@ -134,8 +134,8 @@ module _ {x a : MachineState} {t t1 : ℕ} (stands : Stands x MOVEL) (e : Exits 
               let some : nat_le (number + count) 8 ≡ true = le-leb (number + count) 8 le in
               let on : View = record (counted kept) { r = record (counted kept).r { r8 = 2 } } in
               let e4 : Exits a y t1 t2 (exit 8 MOVES on) = rw (is, pieces.count_registers) at e3 in
-              let c2 : Comes 57 x y t t2 MOVES (TargetTold s GromToRegisters (next_in_grom (length_read s).1) (count, ToRegisters number)) =
-              comes_as 57 _ (comes_then 6 8 c1 e4 (record {
+              let c2 : Comes 50 x y t t2 MOVES (TargetTold s GromToRegisters (next_in_grom (length_read s).1) (count, ToRegisters number)) =
+              comes_as 50 _ (comes_then 6 8 c1 e4 (record {
                 within = omega arith;
                 to_is = refl;
                 holds = record {
@@ -169,7 +169,7 @@ module _ {x a : MachineState} {t t1 : ℕ} (stands : Stands x MOVEL) (e : Exits 
       }
         where
           by : (s : GplState) (kind : MoveKind) (count : ℕ) → LengthTold s (length_read s).1 count (view x) → to_memory kind ≡ false →
-              Arrives 57 s x y t t2 (source_entry kind) (TargetTold s kind (target_read kind s).1)
+              Arrives 50 s x y t t2 (source_entry kind) (TargetTold s kind (target_read kind s).1)
               (target_in s count (target_read kind s).0)
           by s GromToRegisters count h none =
               within s GromToRegisters y t2 count h.count_is (by_sum s count h (nat_lt 8 (sum_of Word kept.grom.fetched kept.r.r6)) refl)
@@ -215,11 +215,11 @@ module _ {x a : MachineState} {t t1 : ℕ} (stands : Stands x MOVEL) (e : Exits 
 
         stopped_by : b.cpu.pc ≡ GSTOP → (s : GplState) (kind : MoveKind) (count : ℕ) (next : ℕ) → LengthTold s (length_read s).1 count v →
             (r : Result Place Reason) → Finds a b t1 t2 (operand s).1 r →
-            Arrives 57 s x b t t2 (source_entry kind) (TargetTold s kind next) (r >>= λ p. Ok (count, ToMemory p))
+            Arrives 50 s x b t t2 (source_entry kind) (TargetTold s kind next) (r >>= λ p. Ok (count, ToMemory p))
         stopped_by there s kind count next h (Ok place) g =
             let p = ap even (asks s count h).holds.0.link in let q = g.stands.pc in absurd (omega arith)
         stopped_by there s kind count next h (Err reason) g =
-            comes_as 57 _ (barred s count (length_read s).1 MOVED 7 reason x a b t t1 t2 (comes_as 7 _ (asks s count h) (omega arith) (λ w k. k.0)) g)
+            comes_as 50 _ (barred s count (length_read s).1 MOVED 7 reason x a b t t1 t2 (comes_as 7 _ (asks s count h) (omega arith) (λ w k. k.0)) g)
             (omega arith) (λ w k. k)
 
         abbrev with_place : ℕ → Place → Result (ℕ × To) Reason
@@ -232,11 +232,11 @@ module _ {x a : MachineState} {t t1 : ℕ} (stands : Stands x MOVEL) (e : Exits 
 
         -- what is found by the target's place
         found_as : (s : GplState) (kind : MoveKind) (count : ℕ) (y : MachineState) (u : ℕ) → to_memory kind ≡ true →
-            Arrives 57 s x y t u (source_entry kind) (TargetTold s kind (operand s).1) (place_of s count (operand s).0 >>= λ p. Ok (count, ToMemory p)) →
-            Arrives 57 s x y t u (source_entry kind) (TargetTold s kind (target_read kind s).1) (by_limit s count (target_read kind s).0 false)
+            Arrives 50 s x y t u (source_entry kind) (TargetTold s kind (operand s).1) (place_of s count (operand s).0 >>= λ p. Ok (count, ToMemory p)) →
+            Arrives 50 s x y t u (source_entry kind) (TargetTold s kind (target_read kind s).1) (by_limit s count (target_read kind s).0 false)
         found_as s kind count y u m r =
-            let P : MoveTarget × ℕ → Type 0 = λ q. Arrives 57 s x y t u (source_entry kind) (TargetTold s kind q.1) (by_limit s count q.0 false) in
-            let Q : Result (ℕ × To) Reason → Type 0 = λ q. Arrives 57 s x y t u (source_entry kind) (TargetTold s kind (operand s).1) q in
+            let P : MoveTarget × ℕ → Type 0 = λ q. Arrives 50 s x y t u (source_entry kind) (TargetTold s kind q.1) (by_limit s count q.0 false) in
+            let Q : Result (ℕ × To) Reason → Type 0 = λ q. Arrives 50 s x y t u (source_entry kind) (TargetTold s kind (operand s).1) q in
             subst P (sym (of_memory kind s m)) (subst Q (sym (then_ok (place_of s count (operand s).0) count)) r)
 
         pub stopped : b.cpu.pc ≡ GSTOP → FindsTarget x b t t2
@@ -266,13 +266,13 @@ module _ {x a : MachineState} {t t1 : ℕ} (stands : Stands x MOVEL) (e : Exits 
               pub left : w.r.r12 ≡ count
 
             placed : (s : GplState) (count : ℕ) (place : Place) → LengthTold s (length_read s).1 count v → Finds a b t1 t2 (operand s).1 (Ok place) →
-                Comes 52 x b t t2 MOVED (Placed_at s count place)
+                Comes 45 x b t t2 MOVED (Placed_at s count place)
             placed s count place h g =
                 let c = asks s count h in
                 let to : return_of (view a) ≡ MOVED = ap even c.holds.0.link in
                 let g2 : Comes most_of_address a b t1 t2 MOVED (Placed (view a) (operand s).1 place) =
                 subst (λ (p : ℕ). Comes most_of_address a b t1 t2 p (Placed (view a) (operand s).1 place)) to g in
-                comes_as 52 (Placed_at s count place) (comes_on 7 45 c g2 refl) (omega arith)
+                comes_as 45 (Placed_at s count place) (comes_on 7 38 c g2 refl) (omega arith)
                 (λ w k. record {
                   holds = holds_addressed s count (length_read s).1 (operand s).1 (view a) w c.holds.0.holds k;
                   from = from_placed (operand s).1 place (view a) w k;
@@ -299,30 +299,30 @@ module _ {x a : MachineState} {t t1 : ℕ} (stands : Stands x MOVEL) (e : Exits 
               link = link;
             }
 
-            low_source : (s : GplState) (kind : MoveKind) (count : ℕ) (place : Place) (c : Comes 52 x b t t2 MOVED (Placed_at s count place)) →
+            low_source : (s : GplState) (kind : MoveKind) (count : ℕ) (place : Place) (c : Comes 45 x b t t2 MOVED (Placed_at s count place)) →
                 nat_lt (view b).r.r0 0x34 ≡ true →
-                ((w : View) → ReturnsToCopy kind w) → Comes 57 x y t t3 MOVES (TargetTold s kind (operand s).1 (count, ToMemory place))
+                ((w : View) → ReturnsToCopy kind w) → Comes 50 x y t t3 MOVES (TargetTold s kind (operand s).1 (count, ToMemory place))
             low_source s kind count place c low link =
-                comes_as 57 _ (comes_then 52 4 c (rw (low, pieces.keep_target) at e3) (record {
+                comes_as 50 _ (comes_then 45 4 c (rw (low, pieces.keep_target) at e3) (record {
                   within = omega arith;
                   to_is = refl;
                   holds = kept_in s kind count place (turned (view b)) c.holds refl refl refl refl refl refl refl refl refl refl (link (turned (view b)));
                 }) refl) (omega arith) (λ w q. q)
 
-            high_source : (s : GplState) (count : ℕ) (place : Place) (c : Comes 52 x b t t2 MOVED (Placed_at s count place)) →
+            high_source : (s : GplState) (count : ℕ) (place : Place) (c : Comes 45 x b t t2 MOVED (Placed_at s count place)) →
                 nat_lt (view b).r.r0 0x34 ≡ false →
-                Comes 57 x y t t3 ADDR (TargetTold s MemoryToMemory (operand s).1 (count, ToMemory place))
+                Comes 50 x y t t3 ADDR (TargetTold s MemoryToMemory (operand s).1 (count, ToMemory place))
             high_source s count place c high =
-                comes_then 52 5 c (rw (high, pieces.keep_target) at e3) (record {
+                comes_then 45 5 c (rw (high, pieces.keep_target) at e3) (record {
                   within = omega arith;
                   to_is = refl;
                   holds = kept_in s MemoryToMemory count place (record (turned (view b)) { r = record (turned (view b)).r { r11 = MOVEB } }) c.holds refl refl
                       refl refl refl refl refl refl refl refl refl;
                 }) refl
 
-            by_kind : (kind : MoveKind) (s : GplState) (count : ℕ) (place : Place) (c : Comes 52 x b t t2 MOVED (Placed_at s count place)) →
+            by_kind : (kind : MoveKind) (s : GplState) (count : ℕ) (place : Place) (c : Comes 45 x b t t2 MOVED (Placed_at s count place)) →
                 to_memory kind ≡ true → nat_lt (view b).r.r0 0x34 ≡ is_low kind →
-                Comes 57 x y t t3 (source_entry kind) (TargetTold s kind (operand s).1 (count, ToMemory place))
+                Comes 50 x y t t3 (source_entry kind) (TargetTold s kind (operand s).1 (count, ToMemory place))
             by_kind GromToMemory s count place c m low = low_source s GromToMemory count place c low (λ w. tt)
             by_kind GromIndexedToMemory s count place c m low = low_source s GromIndexedToMemory count place c low (λ w. tt)
             by_kind MemoryToMemory s count place c m low = high_source s count place c low
@@ -331,7 +331,7 @@ module _ {x a : MachineState} {t t1 : ℕ} (stands : Stands x MOVEL) (e : Exits 
             found_by : (s : GplState) (kind : MoveKind) (count : ℕ) → code_byte s < 256 → operation_in s ≡ Some (Move kind) → to_memory kind ≡ true →
                 LengthTold s (length_read s).1 count v →
                 (r : Result Place Reason) → Finds a b t1 t2 (operand s).1 r →
-                Arrives 57 s x y t t3 (source_entry kind) (TargetTold s kind (operand s).1) (r >>= λ p. Ok (count, ToMemory p))
+                Arrives 50 s x y t t3 (source_entry kind) (TargetTold s kind (operand s).1) (r >>= λ p. Ok (count, ToMemory p))
             found_by s kind count fits known m h (Ok place) g =
                 let c = placed s count place h g in by_kind kind s count place c m (low_is s kind count place fits known c.holds)
             found_by s kind count fits known m h (Err reason) g = absurd (gone g.stands.pc)

@@ -75,15 +75,15 @@ pub record AtPlace (s : GplState) (place : Place) (next : ℕ) (w : View) : Type
 abbrev pub LoadsFollowing : MachineState → MachineState → ℕ → ℕ → Type 0
 LoadsFollowing x y before after =
     (s : GplState) → Follows s (view x)
-    → (let count = word_at s.image (behind_code s) in Comes 18 x y before after MOVEL (LengthTold s count.1 count.0))
+    → (let count = word_at s.image (behind_code s) in Comes 16 x y before after MOVEL (LengthTold s count.1 count.0))
 
 abbrev pub LoadsPlaced : MachineState → MachineState → ℕ → ℕ → Type 0
 LoadsPlaced x y before after =
     (s : GplState) → (place : Place) → (next : ℕ) → AtPlace s place next (view x)
-    → Comes 18 x y before after MOVEL (LengthTold s next (value_at s Word place))
+    → Comes 16 x y before after MOVEL (LengthTold s next (value_at s Word place))
 
 pub record FindsLength (s : GplState) (x y : MachineState) (before after : ℕ) : Type 0 where
-  pub by : Arrives 70 s x y before after MOVEL (LengthTold s (length_read s).1) (length_of s (length_read s).0)
+  pub by : Arrives 61 s x y before after MOVEL (LengthTold s (length_read s).1) (length_of s (length_read s).0)
 
 -- Where the source begins: a source in memory at ADDR, one in GROM at MOVES.
 abbrev pub source_entry : MoveKind → ℕ
@@ -111,7 +111,7 @@ target_in s count target = do
 pub record FindsTarget (x y : MachineState) (before after : ℕ) : Type 0 where
   pub by : (s : GplState) → (kind : MoveKind) → (count : ℕ) → code_byte s < 256 → operation_in s ≡ Some (Move kind)
       → LengthTold s (length_read s).1 count (view x)
-      → Arrives 57 s x y before after (source_entry kind) (TargetTold s kind (target_read kind s).1)
+      → Arrives 50 s x y before after (source_entry kind) (TargetTold s kind (target_read kind s).1)
       (target_in s count (target_read kind s).0)
 
 -- At MOVEX a source's address in GROM, with its index, is in register 2.
@@ -128,7 +128,7 @@ IndexesSource x y before after =
     (s : GplState) → (bytes next : ℕ) → code_byte s < 256 → Holds s bytes next (view x)
     → (let address = word_at s.image next in
     let index = index_by (code_byte s / 2 % 2 == 1) s.image address.1 in
-    Arrives 39 s x y before after MOVEX (SourceTold (view x) s.image index.1) (indexed s index.0 address.0))
+    Arrives 32 s x y before after MOVEX (SourceTold (view x) s.image index.1) (indexed s index.0 address.0))
 
 -- From MOVEX on the next address is kept in register 14, and GROM gives the byte at the source next.
 pub record TurnedTo (v : View) (image : List ℕ) (at : ℕ) (w : View) : Type 0 where
@@ -144,7 +144,7 @@ abbrev pub TurnsToSource : MachineState → MachineState → ℕ → ℕ → Typ
 TurnsToSource x y before after =
     let v = view x in
     (image : List ℕ) → (at : ℕ) → at < 65536 → v.grom ≡ grom_at image at
-    → Comes 21 x y before after MOVEB (TurnedTo v image at)
+    → Comes 17 x y before after MOVEB (TurnedTo v image at)
 
 -- The length, the target and the source, each with its checks, in the order of their bytes.
 abbrev pub copy_in : MoveKind → GplState → Result ((ℕ × To) × From) Reason

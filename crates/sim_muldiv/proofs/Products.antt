@@ -61,9 +61,9 @@ module _ {x a : MachineState} {t u : ℕ} (ready : IsReady x) (byte : width_in (
       let number = value_at s Byte place * source.number in
       let c1 : Comes 7 x a t u STO (Storing c Word place number) =
       comes made (record { within = omega arith; to_is = refl; holds = storing s place source is row width }) in
-      let done = comes_on 7 47 c1 (finish c Word place number c1.holds) refl in
-      let more = comes_as 70 (SeesFinished (with_value Word place number c)) done (omega arith) (λ q h. h) in
-      subst (λ (k : Width). Comes 70 x y t w GSTEP (SeesFinished (with_double k place (value_at s k place * source.number) c))) (sym width) more
+      let done = comes_on 7 45 c1 (finish c Word place number c1.holds) refl in
+      let more = comes_as 67 (SeesFinished (with_value Word place number c)) done (omega arith) (λ q h. h) in
+      subst (λ (k : Width). Comes 67 x y t w GSTEP (SeesFinished (with_double k place (value_at s k place * source.number) c))) (sym width) more
 
 -- ---- words
 
@@ -147,7 +147,7 @@ module _ {x a : MachineState} {t u : ℕ} (ready : IsReady x) (word : width_in (
           let s1 = store_then c Word place (number / 65536) a b u u2 there stored in
           let s2 : Comes most_of_store a b u u2 MULB (ChangedFrom half (view a)) =
           subst (λ (q : ℕ). Comes most_of_store a b u u2 q (ChangedFrom half (view a))) back_is s1 in
-          let c2 = comes_on 4 16 c1 s2 refl in
+          let c2 = comes_on 4 15 c1 s2 refl in
           let m = view b in
           let ten : m.r.r10 ≡ number % 65536 = c2.holds.keeps.r10 ∙ ap (λ (q : View). q.r.r10) asked.shows ∙ ap (λ (n : ℕ). n % 65536) product in
           let at_low : Storing half Word (behind 2 place) (number % 65536) (pieces.low_product m).left = record {
@@ -156,7 +156,7 @@ module _ {x a : MachineState} {t u : ℕ} (ready : IsReady x) (word : width_in (
             to_place = record { address = ap (λ (n : ℕ). (n + 2) % 65536) (kept_7 ∙ row.to_place.address); space = kept_8 ∙ row.to_place.space };
             value = ten;
           } in
-          let c3 : Comes 23 x d t u3 STO (Storing half Word (behind 2 place) (number % 65536)) =
-          comes_then 20 3 c2 second (record { within = omega arith; to_is = refl; holds = at_low }) refl in
-          let done = comes_on 23 47 c3 (finish half Word (behind 2 place) (number % 65536) c3.holds) refl in
-          subst (λ (k : Width). Comes 70 x y t w GSTEP (SeesFinished (with_double k place (value_at s k place * source.number) c))) (sym width) done
+          let c3 : Comes 22 x d t u3 STO (Storing half Word (behind 2 place) (number % 65536)) =
+          comes_then 19 3 c2 second (record { within = omega arith; to_is = refl; holds = at_low }) refl in
+          let done = comes_on 22 45 c3 (finish half Word (behind 2 place) (number % 65536) c3.holds) refl in
+          subst (λ (k : Width). Comes 67 x y t w GSTEP (SeesFinished (with_double k place (value_at s k place * source.number) c))) (sym width) done

@@ -68,10 +68,10 @@ module _ {x a : MachineState} {t u : ℕ} (ready : MayStore x) (first : Exits x 
           let s1 = store_then c width place number a b u u2 there stored in
           let s2 : Comes most_of_store a b u u2 DIVE (ChangedFrom done (view a)) =
           subst (λ (q : ℕ). Comes most_of_store a b u u2 q (ChangedFrom done (view a))) last_back s1 in
-          let c2 = comes_on 1 16 c1 s2 refl in
-          let c3 : Comes 20 x d t u3 SHOW (Changed (with_overflow false done)) = comes_then 17 3 c2 second
+          let c2 = comes_on 1 15 c1 s2 refl in
+          let c3 : Comes 19 x d t u3 SHOW (Changed (with_overflow false done)) = comes_then 16 3 c2 second
           (record { within = omega arith; to_is = refl; holds = cleared done (view b) c2.holds.changed }) refl in
-          comes_on 20 29 c3 (ends (with_overflow false done) c3.holds) refl
+          comes_on 19 28 c3 (ends (with_overflow false done) c3.holds) refl
 
 -- ---- bytes
 
@@ -121,12 +121,12 @@ module _ {x a : MachineState} {t u : ℕ} (ready : IsReady x) (byte : width_in (
         value = value;
       } in
       let c1 : Comes 8 x a t u DIVS (Storing c Word place number) = comes first (record { within = omega arith; to_is = refl; holds = at_end }) in
-      let done = comes_on 8 49 c1 (ends c Word place number c1.holds) refl in
-      let named = subst (λ (k : Changes). Comes 57 x y t w GSTEP (SeesFinished (with_overflow false k)))
+      let done = comes_on 8 47 c1 (ends c Word place number c1.holds) refl in
+      let named = subst (λ (k : Changes). Comes 55 x y t w GSTEP (SeesFinished (with_overflow false k)))
       (one_word place (dividend / divisor) (dividend % divisor) c rest) done in
-      let more = comes_as 92 (SeesFinished (with_overflow false (with_quotient Byte place (dividend / divisor) (dividend % divisor) c))) named (omega arith)
+      let more = comes_as 87 (SeesFinished (with_overflow false (with_quotient Byte place (dividend / divisor) (dividend % divisor) c))) named (omega arith)
       (λ q h. h) in
-      subst (λ (k : Width). Comes 92 x y t w GSTEP
+      subst (λ (k : Width). Comes 87 x y t w GSTEP
       (SeesFinished (with_overflow false (with_quotient k place (double_at s k place / divisor) (double_at s k place % divisor) c)))) (sym width) more
 
 -- ---- words: loading and dividing
@@ -173,10 +173,10 @@ module _ {x a : MachineState} {t u : ℕ} (ready : IsReady x) (word : width_in (
         subst (λ (w : View). Comes most_of_load a b u u2 (return_of w) (Loaded w (value_of w (width_in w.r.r3)))) first.shows loaded in
         subst (λ (k : Width). Comes most_of_load a b u u2 DIVL (Loaded asking (value_of asking k))) word l1
 
-    pub divides_there : (y : MachineState) (u3 : ℕ) → Exits b y u2 u3 (pieces.divide_words (view b)) → Comes 25 x y t u3 STORE (Divided p)
+    pub divides_there : (y : MachineState) (u3 : ℕ) → Exits b y u2 u3 (pieces.divide_words (view b)) → Comes 23 x y t u3 STORE (Divided p)
     divides_there y u3 second =
         let c1 : Comes 5 x a t u LOAD (λ (q : View). q ≡ asking) = comes first (record { within = omega arith; to_is = refl; holds = refl }) in
-        let c2 = comes_on 5 17 c1 loaded_there refl in
+        let c2 = comes_on 5 15 c1 loaded_there refl in
         let l = c2.holds in
         let value : in_register (width_in p.r.r3) (second_in p) ≡ second_in p = ap (λ (k : Width). in_register k (second_in p)) word in
         let found : View = record asking
@@ -186,7 +186,7 @@ module _ {x a : MachineState} {t u : ℕ} (ready : IsReady x) (word : width_in (
         let is : view b ≡ found = l.is ∙ ap at value in
         let left : Divided p (pieces.divide_words found).left = record { r4 = l.r4; address = l.address; byte = l.byte; is = refl } in
         let goes : Goes (pieces.divide_words found) 3 STORE (Divided p) = record { within = omega arith; to_is = refl; holds = left } in
-        comes_then 22 3 c2 second (subst (λ (w : View). Goes (pieces.divide_words w) 3 STORE (Divided p)) (sym is) goes) refl
+        comes_then 20 3 c2 second (subst (λ (w : View). Goes (pieces.divide_words w) 3 STORE (Divided p)) (sym is) goes) refl
 
 -- ---- words: the quotient, and the remainder behind it
 
@@ -232,13 +232,13 @@ module _ {x b : MachineState} {t u : ℕ} (ready : MayStoreQuotient x) (stores :
           to_place = record { address = ap (λ (n : ℕ). (n + 2) % 65536) (kept_7 ∙ h.to_place.address); space = kept_8 ∙ h.to_place.space };
           value = k.r10;
         } in
-        let c2 : Comes 18 x d t u2 DIVS (Storing half Word (behind 2 place) o.r.r10) = comes_then 16 2 c1 second
+        let c2 : Comes 17 x d t u2 DIVS (Storing half Word (behind 2 place) o.r.r10) = comes_then 15 2 c1 second
         (record { within = omega arith; to_is = refl; holds = at_rest }) refl in
-        comes_on 18 49 c2 (ends half Word (behind 2 place) o.r.r10 c2.holds) refl
+        comes_on 17 47 c2 (ends half Word (behind 2 place) o.r.r10 c2.holds) refl
 
 -- ---- words: both
 
-module _ {x a : MachineState} {t u : ℕ} (ready : IsReady x) (word : width_in (view x).r.r3 ≡ Word) (first : Comes 25 x a t u STORE (Divided (view x))) where
+module _ {x a : MachineState} {t u : ℕ} (ready : IsReady x) (word : width_in (view x).r.r3 ≡ Word) (first : Comes 23 x a t u STORE (Divided (view x))) where
   abbrev n : View
   n = view x
 
@@ -284,11 +284,11 @@ module _ {x a : MachineState} {t u : ℕ} (ready : IsReady x) (word : width_in (
         to_place = record { address = ap (λ (k : View). k.r.r7) d.is ∙ row.to_place.address; space = ap (λ (k : View). k.r.r8) d.is ∙ row.to_place.space };
         value = ap (λ (k : View). k.r.r9) d.is ∙ q;
       } in
-      let done = comes_on 25 67 first (ends c place (dividend / divisor) there) refl in
+      let done = comes_on 23 64 first (ends c place (dividend / divisor) there) refl in
       let rest : (view a).r.r10 ≡ dividend % divisor = ap (λ (k : View). k.r.r10) d.is ∙ r in
-      let named = subst (λ (k : ℕ). Comes 92 x y t w GSTEP (SeesFinished (with_overflow false (with_quotient Word place (dividend / divisor) k c)))) rest done
+      let named = subst (λ (k : ℕ). Comes 87 x y t w GSTEP (SeesFinished (with_overflow false (with_quotient Word place (dividend / divisor) k c)))) rest done
       in
-      subst (λ (k : Width). Comes 92 x y t w GSTEP
+      subst (λ (k : Width). Comes 87 x y t w GSTEP
       (SeesFinished (with_overflow false (with_quotient k place (double_at s k place / divisor) (double_at s k place % divisor) c)))) (sym width) named
 
 -- ---- which way
@@ -396,12 +396,12 @@ module _ {x a : MachineState} {t u : ℕ} (ready : IsReady x) (stands : Stands x
 
   ends_as : (s : GplState) (place : Place) (source : Source) (y : MachineState) (w : ℕ) (has : Bool) →
       has_quotient (row_width s) (double_at s (row_width s) place) source.number ≡ has →
-      Comes 96 x y t w GSTEP (SeesFinished (by s place source.number has)) → Comes 96 x y t w GSTEP
+      Comes 91 x y t w GSTEP (SeesFinished (by s place source.number has)) → Comes 91 x y t w GSTEP
       (SeesFinished (divided (row_width s) place (double_at (gone_on s) (row_width s) place) source.number (unchanged (gone_on s))))
   ends_as s place source y w has e run =
       let width = row_width s in
-      let there = subst (λ (b : Bool). Comes 96 x y t w GSTEP (SeesFinished (by s place source.number b))) (sym e) run in
-      subst (λ (k : ℕ). Comes 96 x y t w GSTEP (SeesFinished (divided width place k source.number (unchanged (gone_on s)))))
+      let there = subst (λ (b : Bool). Comes 91 x y t w GSTEP (SeesFinished (by s place source.number b))) (sym e) run in
+      subst (λ (k : ℕ). Comes 91 x y t w GSTEP (SeesFinished (divided width place k source.number (unchanged (gone_on s)))))
       (double_same s (gone_on s) width place refl refl) there
 
   overflows : (c : Changes) (q : View) → Changed c q → c.shows ≡ false → Goes (pieces.set_overflow q) 3 GSTEP (SeesFinished (with_overflow true c))
@@ -414,14 +414,14 @@ module _ {x a : MachineState} {t u : ℕ} (ready : IsReady x) (stands : Stands x
       let c = unchanged (gone_on s) in
       let there = subst (λ (q : View). Changed c q) (sym same) (row_changed s place source z row) in
       let done = comes_then 4 3 (came OVER (goes e)) second (overflows c (view a) there refl) refl in
-      ends_as s place source y w false has (comes_as 96 (SeesFinished (with_overflow true c)) done (omega arith) (λ q h. h))
+      ends_as s place source y w false has (comes_as 91 (SeesFinished (with_overflow true c)) done (omega arith) (λ q h. h))
 
   quotient_runs : fits ≡ true → (p : ℕ) → to ≡ p → is_end p ≡ false → (y : MachineState) (w : ℕ) → Divides a y u w
       → RunsRow (Two DIV) most_of_quotient_row x y t w
   quotient_runs below p e goes y w divides s place source is row operands =
       let has = sym (fits_is s place source is row) ∙ below in
       let there = subst (λ (q : View). AtRow s place source q) (sym same) row in
-      ends_as s place source y w true has (comes_on 4 92 (came p e) (divides s place source is there operands has) goes)
+      ends_as s place source y w true has (comes_on 4 87 (came p e) (divides s place source is there operands has) goes)
 
   pub byte_quotient_runs : a.cpu.pc ≡ DIVBY → (y : MachineState) (w : ℕ) → Divides a y u w → RunsRow (Two DIV) most_of_quotient_row x y t w
   byte_quotient_runs e = quotient_runs (byte_is fits byte z (goes e)).0 DIVBY (goes e) refl

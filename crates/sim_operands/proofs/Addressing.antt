@@ -44,7 +44,7 @@ pub record AddressRead (v : View) (at : ℕ) (e : Exit) : Type 0 where
   pub address : ℕ
   pub next : ℕ
   pub form_fits : form < 256
-  pub goes : Goes e 13 APTR (Addressed v address form next)
+  pub goes : Goes e 10 APTR (Addressed v address form next)
   pub means : operand_at v.grom.image at ≡ with_index form address (index_at form v.grom.image next)
 
 high_base : (first : ℕ) → high (256 * (first % 16)) ≡ first % 16
@@ -140,7 +140,7 @@ visible_word offset false c = let l : offset ≤ 0xC0 = ltb-false 0xC0 offset c 
 abbrev pub PointerRead : View → View → ℕ → ℕ → ℕ → Exit → Type 0
 PointerRead v w address form next e =
     Answers (pointed (state_of v) (form / 16 % 2 == 1) address)
-    (λ base. Goes e 10 INDEX (Addressed v base (form / 32) next))
+    (λ base. Goes e 9 INDEX (Addressed v base (form / 32) next))
     (Goes e 7 GSTOP (Barred v Cell))
 
 pub pointer_read : (v w : View) (address form next : ℕ) → form < 256 → Addressed v address form next w →
@@ -169,7 +169,7 @@ abbrev pub IndexRead : View → View → ℕ → ℕ → ℕ → Exit → Type 0
 IndexRead v w base form next e =
     let read = index_at form v.grom.image next in
     Answers (indexed (state_of v) read.0 base)
-    (λ address. Goes e 12 ASPACE (Addressed v address (form / 32) read.1))
+    (λ address. Goes e 10 ASPACE (Addressed v address (form / 32) read.1))
     (Goes e 8 GSTOP (Barred v Cell))
 
 pub index_read : (v w : View) (base form next : ℕ) → form < 256 → Addressed v base (form / 32) next w →
@@ -204,8 +204,8 @@ no_range bytes offset c = let l : 0xC2 < offset = ltb-true 0xC2 offset c in lt-l
 abbrev pub RangeRead : View → View → ℕ → ℕ → ℕ → Exit → Type 0
 RangeRead v w address form next e =
     Answers (ranged v.r.r3 (space_at form) address)
-    (λ place. Goes e 10 (pieces.return_of v) (Placed v next place))
-    (Goes e 10 GSTOP (Barred v Cell))
+    (λ place. Goes e 9 (pieces.return_of v) (Placed v next place))
+    (Goes e 9 GSTOP (Barred v Cell))
 
 two_spaces : (form : ℕ) → (form / 32 % 2 ≡ 0 → ⊥) → form / 32 % 2 ≡ 1
 two_spaces form h = omega arith

@@ -27,7 +27,7 @@ module _ (x : MachineState) (s : ℕ) (p : ℕ) (stands : Stands x p) (idle : Po
       let held = idle_video x.cpu.memory idle in
       let is = transfers.load_sets v one held (i.r 2) in
       let first = comes e (just (pieces.load v) 9 LDATA (let c = ap (λ (d : Exit). d.count) is in omega arith) (ap (λ (d : Exit). d.to) is)) in
-      comes_then 9 8 first f (transfers.load_video v (view y) one held (i.r 2) first.holds) refl
+      comes_then 9 6 first f (transfers.load_video v (view y) one held (i.r 2) first.holds) refl
 
   pub load_stream : (y z : MachineState) (t u : ℕ) → 1 < v.r.r5 → IsFetched x.cpu.memory.grom → Exits x y s t (pieces.load v) →
       Exits y z t u (pieces.stream (view y)) → LoadsStream x z s u
@@ -36,8 +36,8 @@ module _ (x : MachineState) (s : ℕ) (p : ℕ) (stands : Stands x p) (idle : Po
       let is = transfers.goes_on v more in
       let first = comes e (just (pieces.load v) 4 STREAM (let c = ap (λ (d : Exit). d.count) is in omega arith) (ap (λ (d : Exit). d.to) is)) in
       let same : view y ≡ v = first.holds ∙ ap (λ (d : Exit). d.left) is in
-      let at : View → Type 0 = λ w. Goes (pieces.stream w) 7 (pieces.return_of v) (λ q. q ≡ streamed v) in
-      comes_then 4 7 first f (subst at (sym same) (transfers.streams v (ready x.cpu.memory idle g))) refl
+      let at : View → Type 0 = λ w. Goes (pieces.stream w) 6 (pieces.return_of v) (λ q. q ≡ streamed v) in
+      comes_then 4 6 first f (subst at (sym same) (transfers.streams v (ready x.cpu.memory idle g))) refl
 
   pub store_cells : (y : MachineState) (t : ℕ) → IsVisible v.r.r8 v.r.r7 v.r.r3 → v.r.r8 ≡ 0 → Exits x y s t (pieces.store v) → StoresValue x y s t
   store_cells y t h z e = comes e (transfers.store_cells v z h)
@@ -50,7 +50,7 @@ module _ (x : MachineState) (s : ℕ) (p : ℕ) (stands : Stands x p) (idle : Po
       let held = idle_video x.cpu.memory idle in
       let is = transfers.store_sets v one held (i.r 7) in
       let first = comes e (just (pieces.store v) 10 SDATA (let c = ap (λ (d : Exit). d.count) is in omega arith) (ap (λ (d : Exit). d.to) is)) in
-      comes_then 10 6 first f (transfers.store_video v (view y) one held (i.r 7) first.holds) refl
+      comes_then 10 5 first f (transfers.store_video v (view y) one held (i.r 7) first.holds) refl
 
   pub store_register : (y z : MachineState) (t u : ℕ) → 1 < v.r.r8 → v.r.r7 < 8 → Exits x y s t (pieces.store v) →
       Exits y z t u (pieces.store_register (view y)) → StoresRegister x z s u

@@ -41,12 +41,12 @@ module _ (x y z : MachineState) (s t u : ℕ) (stands : Stands x ADDR) (idle : P
   there_short : Comes 4 x y s t ASHORT (Addressed seen at_short.address 0 at_short.next)
   there_short = comes e at_short.goes
 
-  short_by : (q : Result Place Reason) → Answers q (λ place. Goes (pieces.short_range (view y)) 10 (pieces.return_of seen) (Placed seen at_short.next place))
-      (Goes (pieces.short_range (view y)) 10 GSTOP (Barred seen Cell)) → Finds x z s u at_short.next q
-  short_by (Ok place) g = comes_as 45 (Placed seen at_short.next place) (comes_then 4 10 there_short f g refl) (omega arith) (λ w b. b)
+  short_by : (q : Result Place Reason) → Answers q (λ place. Goes (pieces.short_range (view y)) 9 (pieces.return_of seen) (Placed seen at_short.next place))
+      (Goes (pieces.short_range (view y)) 9 GSTOP (Barred seen Cell)) → Finds x z s u at_short.next q
+  short_by (Ok place) g = comes_as 38 (Placed seen at_short.next place) (comes_then 4 9 there_short f g refl) (omega arith) (λ w b. b)
   short_by (Err reason) g =
       let P : Reason → Type 0 = λ r. Finds x z s u at_short.next (Err r) in
-      subst P (sym g.0) (comes_as 45 (Barred seen Cell) (comes_then 4 10 there_short f g.1 refl) (omega arith) (λ w b. b))
+      subst P (sym g.0) (comes_as 38 (Barred seen Cell) (comes_then 4 9 there_short f g.1 refl) (omega arith) (λ w b. b))
 
   pub short_ends : FindsOperand x z s u
   short_ends =
@@ -64,7 +64,7 @@ module _ (x : MachineState) (s : ℕ) (stands : Stands x ADDR) (idle : PortsAreI
   found = address_read v (next_at v) (ready x.cpu.memory idle is) (is_view x stands.machine).grom.image long
 
   -- after the address
-  addressed : (y : MachineState) (t : ℕ) → Exits x y s t (pieces.address v) → Comes 13 x y s t APTR
+  addressed : (y : MachineState) (t : ℕ) → Exits x y s t (pieces.address v) → Comes 10 x y s t APTR
       (Addressed v found.address found.form found.next)
   addressed y t e = comes e found.goes
 
@@ -86,13 +86,13 @@ module _ (x : MachineState) (s : ℕ) (stands : Stands x ADDR) (idle : PortsAreI
       let c = addressed y t e1 in
       let a = stops (pointed (state_of v) (found.form / 16 % 2 == 1) found.address) (pointer_read v (view y) found.address found.form found.next
       found.form_fits c.holds) (λ base. elsewhere f) in
-      whole z u (subst (split z u) (sym a.0) (comes_as 45 (Barred v Cell) (comes_then 13 7 c e a.1 refl) (omega arith) (λ w b. b)))
+      whole z u (subst (split z u) (sym a.0) (comes_as 38 (Barred v Cell) (comes_then 10 7 c e a.1 refl) (omega arith) (λ w b. b)))
 
   -- a pointer that goes on
   pub record Pointed (y : MachineState) (t : ℕ) : Type 0 where
     pub base : ℕ
     pub is_pointed : pointed (state_of v) (found.form / 16 % 2 == 1) found.address ≡ Ok base
-    pub comes : Comes 23 x y s t INDEX (Addressed v base (found.form / 32) found.next)
+    pub comes : Comes 19 x y s t INDEX (Addressed v base (found.form / 32) found.next)
 
   pub pointer_goes : (y z : MachineState) (t u : ℕ) → Exits x y s t (pieces.address v) → Exits y z t u (pieces.pointer (view y)) →
       eqb (pieces.pointer (view y)).to INDEX ≡ true → Pointed z u
@@ -100,7 +100,7 @@ module _ (x : MachineState) (s : ℕ) (stands : Stands x ADDR) (idle : PortsAreI
       let c = addressed y t e1 in
       let a = gives (pointed (state_of v) (found.form / 16 % 2 == 1) found.address) (pointer_read v (view y) found.address found.form found.next
       found.form_fits c.holds) (there INDEX f refl) in
-      record { base = a.0; is_pointed = a.1; comes = comes_then 13 10 c e a.2 refl }
+      record { base = a.0; is_pointed = a.1; comes = comes_then 10 9 c e a.2 refl }
 
   -- an index that stops
   pub index_stops : (y z : MachineState) (t u : ℕ) → Pointed y t → Exits y z t u (pieces.index (view y)) → eqb (pieces.index (view y)).to ASPACE ≡ false →
@@ -111,7 +111,7 @@ module _ (x : MachineState) (s : ℕ) (stands : Stands x ADDR) (idle : PortsAreI
       (λ address. elsewhere f) in
       let Q : Result ℕ Reason → Type 0 = λ second. Finds x z s u index.1 (second >>= λ address. ranged v.r.r3 (space_at found.form) address) in
       whole z u (subst (split z u) (sym p.is_pointed)
-      (subst Q (sym a.0) (comes_as 45 (Barred v Cell) (comes_then 23 8 p.comes e a.1 refl) (omega arith) (λ w b. b))))
+      (subst Q (sym a.0) (comes_as 38 (Barred v Cell) (comes_then 19 8 p.comes e a.1 refl) (omega arith) (λ w b. b))))
 
   -- an index that goes on
   pub record Indexed (y : MachineState) (t : ℕ) : Type 0 where
@@ -119,7 +119,7 @@ module _ (x : MachineState) (s : ℕ) (stands : Stands x ADDR) (idle : PortsAreI
     pub address : ℕ
     pub is_pointed : pointed (state_of v) (found.form / 16 % 2 == 1) found.address ≡ Ok base
     pub is_indexed : indexed (state_of v) (index_at found.form v.grom.image found.next).0 base ≡ Ok address
-    pub comes : Comes 35 x y s t ASPACE (Addressed v address (found.form / 32) (index_at found.form v.grom.image found.next).1)
+    pub comes : Comes 29 x y s t ASPACE (Addressed v address (found.form / 32) (index_at found.form v.grom.image found.next).1)
 
   pub index_goes : (y z : MachineState) (t u : ℕ) → Pointed y t → Exits y z t u (pieces.index (view y)) → eqb (pieces.index (view y)).to ASPACE ≡ true →
       Indexed z u
@@ -127,17 +127,17 @@ module _ (x : MachineState) (s : ℕ) (stands : Stands x ADDR) (idle : PortsAreI
       let index = index_at found.form v.grom.image found.next in
       let a = gives (indexed (state_of v) index.0 p.base) (index_read v (view y) p.base found.form found.next found.form_fits p.comes.holds)
       (there ASPACE f refl) in
-      record { base = p.base; address = a.0; is_pointed = p.is_pointed; is_indexed = a.1; comes = comes_then 23 12 p.comes e a.2 refl }
+      record { base = p.base; address = a.0; is_pointed = p.is_pointed; is_indexed = a.1; comes = comes_then 19 10 p.comes e a.2 refl }
 
   -- the range
   ends : (y z : MachineState) (t u : ℕ) → Indexed y t → Exits y z t u (pieces.range (view y)) → (q : Result Place Reason) →
-      Answers q (λ place. Goes (pieces.range (view y)) 10 (pieces.return_of v) (Placed v (index_at found.form v.grom.image found.next).1 place))
-      (Goes (pieces.range (view y)) 10 GSTOP (Barred v Cell)) →
+      Answers q (λ place. Goes (pieces.range (view y)) 9 (pieces.return_of v) (Placed v (index_at found.form v.grom.image found.next).1 place))
+      (Goes (pieces.range (view y)) 9 GSTOP (Barred v Cell)) →
       Finds x z s u (index_at found.form v.grom.image found.next).1 q
-  ends y z t u p e (Ok place) g = comes_then 35 10 p.comes e g refl
+  ends y z t u p e (Ok place) g = comes_then 29 9 p.comes e g refl
   ends y z t u p e (Err reason) g =
       let P : Reason → Type 0 = λ r. Finds x z s u (index_at found.form v.grom.image found.next).1 (Err r) in
-      subst P (sym g.0) (comes_then 35 10 p.comes e g.1 refl)
+      subst P (sym g.0) (comes_then 29 9 p.comes e g.1 refl)
 
   pub range_ends : (y z : MachineState) (t u : ℕ) → Indexed y t → Exits y z t u (pieces.range (view y)) → FindsOperand x z s u
   range_ends y z t u p e =

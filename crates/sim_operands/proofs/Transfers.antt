@@ -21,7 +21,7 @@ behind_is offset h = omega arith
 abbrev pub loaded_by : View → View → Type 0
 loaded_by v = Loaded v (value_at (state_of v) (width_in v.r.r3) (place_in v.r.r5 v.r.r2))
 
-pub load_cells : (v : View) → v.r.r5 ≡ 0 → IsVisible v.r.r5 v.r.r2 v.r.r3 → Goes (pieces.load v) 17 (pieces.return_of v) (loaded_by v)
+pub load_cells : (v : View) → v.r.r5 ≡ 0 → IsVisible v.r.r5 v.r.r2 v.r.r3 → Goes (pieces.load v) 15 (pieces.return_of v) (loaded_by v)
 load_cells v z h =
     pick (v.r.r3 == 1)
     (λ c. rw (z, c, pieces.load)
@@ -81,7 +81,7 @@ one_is number c = eqb-true number 1 c
 abbrev set_view : View → View
 set_view v = record v { r = record v.r { r4 = v.r.r2 % 16384 }; vdp = reading_from (v.r.r2 % 16384) v.vdp }
 
-load_video_by : (v : View) → v.r.r5 ≡ 1 → v.vdp.held ≡ None → v.r.r2 < 65536 → Goes (pieces.load_video (set_view v)) 8 (pieces.return_of v) (loaded_by v)
+load_video_by : (v : View) → v.r.r5 ≡ 1 → v.vdp.held ≡ None → v.r.r2 < 65536 → Goes (pieces.load_video (set_view v)) 6 (pieces.return_of v) (loaded_by v)
 load_video_by v o h k =
     let at = v.r.r2 % 16384 in
     let next = next_in_vdp at in
@@ -94,10 +94,10 @@ load_video_by v o h k =
 
 -- LOAD's second piece, after the first
 pub load_video : (v w : View) → (v.r.r5 == 1) ≡ true → v.vdp.held ≡ None → v.r.r2 < 65536 → w ≡ (pieces.load v).left →
-    Goes (pieces.load_video w) 8 (pieces.return_of v) (loaded_by v)
+    Goes (pieces.load_video w) 6 (pieces.return_of v) (loaded_by v)
 load_video v w c h k e =
     let is : w ≡ set_view v = e ∙ ap (λ (x : Exit). x.left) (load_sets v c h k) in
-    subst (λ (u : View). Goes (pieces.load_video u) 8 (pieces.return_of v) (loaded_by v)) (sym is) (load_video_by v (one_is v.r.r5 c) h k)
+    subst (λ (u : View). Goes (pieces.load_video u) 6 (pieces.return_of v) (loaded_by v)) (sym is) (load_video_by v (one_is v.r.r5 c) h k)
 
 -- ---- the bytes that follow
 
@@ -107,9 +107,9 @@ goes_on v c =
     let n : (v.r.r5 == 1) ≡ false = ne_eqb v.r.r5 1 (λ e. omega arith) in
     rw (n, c, pieces.load) refl
 
-pub streams : (v : View) → v.grom ≡ grom_at v.grom.image (next_at v) → Goes (pieces.stream v) 7 (pieces.return_of v) (λ w. w ≡ streamed v)
+pub streams : (v : View) → v.grom ≡ grom_at v.grom.image (next_at v) → Goes (pieces.stream v) 6 (pieces.return_of v) (λ w. w ≡ streamed v)
 streams v e =
-    let at : GromState → Type 0 = λ g. Goes (pieces.stream (record v { grom = g })) 7 (pieces.return_of v) (λ w. w ≡ streamed v) in
+    let at : GromState → Type 0 = λ g. Goes (pieces.stream (record v { grom = g })) 6 (pieces.return_of v) (λ w. w ≡ streamed v) in
     subst at (sym e)
     (pick (v.r.r3 == 1)
     (λ c. rw (c, pieces.stream) (record { within = omega arith; to_is = refl; holds = refl }))
@@ -130,30 +130,30 @@ next_cell : (n : ℕ) (is : Bool) → (n == 0x7C) ≡ is → (n + 1 == 0x7D) ≡
 next_cell n true c = let e : n ≡ 0x7C = eqb-true n 0x7C c in rw e refl
 next_cell n false c = ne_eqb (n + 1) 0x7D (λ e. let f : n ≡ 0x7C = omega arith in absurd (not_both (n == 0x7C) (eq-eqb n 0x7C f) c))
 
-store_byte : (v : View) → v.r.r8 ≡ 0 → (v.r.r3 == 1) ≡ true → Goes (pieces.store_byte v) 16 (pieces.return_of v) (stored_by v)
+store_byte : (v : View) → v.r.r8 ≡ 0 → (v.r.r3 == 1) ≡ true → Goes (pieces.store_byte v) 15 (pieces.return_of v) (stored_by v)
 store_byte v z c =
     pick (v.r.r7 == 0x7D)
     (λ d. rw (z, c, d, pieces.store_byte)
-    (goes_in (omega arith) (record { r4 = v.r.r4; r9 = v.r.r9; address = v.vdp.address; byte = v.vdp.fetched; is = refl })))
+    (goes_in (omega arith) (record { r4 = v.r.r4; address = v.vdp.address; byte = v.vdp.fetched; is = refl })))
     (λ d. rw (z, c, d, pieces.store_byte)
-    (goes_in (omega arith) (record { r4 = v.r.r4; r9 = v.r.r9; address = v.vdp.address; byte = v.vdp.fetched; is = refl })))
+    (goes_in (omega arith) (record { r4 = v.r.r4; address = v.vdp.address; byte = v.vdp.fetched; is = refl })))
 
-store_word : (v : View) → v.r.r8 ≡ 0 → (v.r.r3 == 1) ≡ false → v.r.r7 + 1 < 194 → Goes (pieces.store_word v) 16 (pieces.return_of v) (stored_by v)
+store_word : (v : View) → v.r.r8 ≡ 0 → (v.r.r3 == 1) ≡ false → v.r.r7 + 1 < 194 → Goes (pieces.store_word v) 15 (pieces.return_of v) (stored_by v)
 store_word v z c h =
     let b = behind_is v.r.r7 h in
     pick (v.r.r7 == 0x7D)
     (λ d. let e = apart v.r.r7 d in
     rw (z, c, b, d, e, next_cell v.r.r7 false e, pieces.store_word)
-    (goes_in (omega arith) (record { r4 = v.r.r4; r9 = v.r.r9; address = v.vdp.address; byte = v.vdp.fetched; is = refl })))
+    (goes_in (omega arith) (record { r4 = v.r.r4; address = v.vdp.address; byte = v.vdp.fetched; is = refl })))
     (λ d. pick (v.r.r7 == 0x7C)
     (λ e. rw (z, c, b, d, e, next_cell v.r.r7 true e, pieces.store_word)
-    (goes_in (omega arith) (record { r4 = v.r.r4; r9 = v.r.r9; address = v.vdp.address; byte = v.vdp.fetched; is = refl })))
+    (goes_in (omega arith) (record { r4 = v.r.r4; address = v.vdp.address; byte = v.vdp.fetched; is = refl })))
     (λ e. rw (z, c, b, d, e, next_cell v.r.r7 false e, pieces.store_word)
-    (goes_in (omega arith) (record { r4 = v.r.r4; r9 = v.r.r9; address = v.vdp.address; byte = v.vdp.fetched; is = refl }))))
+    (goes_in (omega arith) (record { r4 = v.r.r4; address = v.vdp.address; byte = v.vdp.fetched; is = refl }))))
 
-pub store_cells : (v : View) → v.r.r8 ≡ 0 → IsVisible v.r.r8 v.r.r7 v.r.r3 → Goes (pieces.store v) 16 (pieces.return_of v) (stored_by v)
+pub store_cells : (v : View) → v.r.r8 ≡ 0 → IsVisible v.r.r8 v.r.r7 v.r.r3 → Goes (pieces.store v) 15 (pieces.return_of v) (stored_by v)
 store_cells v z h =
-    let at : Exit → Type 0 = λ e. Goes e 16 (pieces.return_of v) (stored_by v) in
+    let at : Exit → Type 0 = λ e. Goes e 15 (pieces.return_of v) (stored_by v) in
     pick (v.r.r3 == 1)
     (λ c. let is : pieces.store v ≡ pieces.store_byte v = rw (z, c, pieces.store) refl in subst at (sym is) (store_byte v z c))
     (λ c. let is : pieces.store v ≡ pieces.store_word v = rw (z, c, pieces.store) refl in subst at (sym is)
@@ -179,21 +179,21 @@ store_sets v c h k =
     let set : VdpState → Exit = λ d. pieces.exit 10 SDATA (record v { r = record v.r { r4 = v.r.r7 % 16384 + 0x4000 }; vdp = d }) in
     rw (c, pieces.store) (ap at a ∙ ap set (set_for_writing v.vdp (v.r.r7 % 16384) h (omega arith)))
 
-store_video_by : (v : View) → v.r.r8 ≡ 1 → v.vdp.held ≡ None → v.r.r7 < 65536 → Goes (pieces.store_video (written_view v)) 6 (pieces.return_of v) (stored_by v)
+store_video_by : (v : View) → v.r.r8 ≡ 1 → v.vdp.held ≡ None → v.r.r7 < 65536 → Goes (pieces.store_video (written_view v)) 5 (pieces.return_of v) (stored_by v)
 store_video_by v o h k =
     let at = v.r.r7 % 16384 in
     pick (v.r.r3 == 1)
     (λ c. rw (o, c, pieces.store_video)
-    (goes_in (omega arith) (record { r4 = at + 0x4000; r9 = v.r.r9; address = next_in_vdp at; byte = high v.r.r9; is = rw h refl })))
+    (goes_in (omega arith) (record { r4 = at + 0x4000; address = next_in_vdp at; byte = high v.r.r9; is = rw h refl })))
     (λ c. rw (o, c, pieces.store_video)
     (goes_in (omega arith)
-    (record { r4 = at + 0x4000; r9 = v.r.r9; address = next_in_vdp (next_in_vdp at); byte = low v.r.r9; is = rw (h, next_address v.r.r7 k) refl })))
+    (record { r4 = at + 0x4000; address = next_in_vdp (next_in_vdp at); byte = low v.r.r9; is = rw (h, next_address v.r.r7 k) refl })))
 
 pub store_video : (v w : View) → (v.r.r8 == 1) ≡ true → v.vdp.held ≡ None → v.r.r7 < 65536 → w ≡ (pieces.store v).left →
-    Goes (pieces.store_video w) 6 (pieces.return_of v) (stored_by v)
+    Goes (pieces.store_video w) 5 (pieces.return_of v) (stored_by v)
 store_video v w c h k e =
     let is : w ≡ written_view v = e ∙ ap (λ (x : Exit). x.left) (store_sets v c h k) in
-    subst (λ (u : View). Goes (pieces.store_video u) 6 (pieces.return_of v) (stored_by v)) (sym is) (store_video_by v (one_is v.r.r8 c) h k)
+    subst (λ (u : View). Goes (pieces.store_video u) 5 (pieces.return_of v) (stored_by v)) (sym is) (store_video_by v (one_is v.r.r8 c) h k)
 
 -- ---- STORE: a register of the video processor
 
@@ -214,7 +214,6 @@ pub store_register : (v : View) → v.vdp.held ≡ None → v.r.r7 < 8 → Goes 
 store_register v h k =
     goes_in (omega arith) (record {
       r4 = sum_of Word v.r.r7 0x80;
-      r9 = v.r.r9;
       address = v.vdp.address;
       byte = v.vdp.fetched;
       is = rw (h, register_kind v.r.r7 k, register_is v.r.r7 k) refl;

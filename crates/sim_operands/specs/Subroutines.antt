@@ -67,7 +67,7 @@ pub record Barred (v : View) (reason : Reason) (w : View) : Type 0 where
     grom = grom_at v.grom.image next;
   }
 
--- The place is found, or the reason is told at GSTOP, within 45 instructions.
+-- The place is found, or the reason is told at GSTOP, within as many instructions as ADDR may take.
 abbrev pub Finds : MachineState → MachineState → ℕ → ℕ → ℕ → Result Place Reason → Type 0
 Finds x y before after next (Ok place) =
     Comes most_of_address x y before after (return_of (view x)) (Placed (view x) next place)
@@ -121,15 +121,14 @@ LoadsStream x y before after =
 abbrev pub marked_by : Bool → ℕ → ℕ
 marked_by shows mark = if shows then 0xFFFF else mark
 
--- Changes of cells and video memory are made; registers 4 and 9, and the address of the video processor with the byte
--- there, may have changed.
+-- Changes of cells and video memory are made; register 4, and the address of the video processor with the byte there,
+-- may have changed.
 pub record Stored (v : View) (c : Changes) (w : View) : Type 0 where
   pub r4 : ℕ
-  pub r9 : ℕ
   pub address : ℕ
   pub byte : ℕ
   pub is : w ≡ record v {
-    r = record v.r { r4 = r4; r9 = r9; r13 = marked_by c.shows v.r.r13 };
+    r = record v.r { r4 = r4; r13 = marked_by c.shows v.r.r13 };
     cells = c.state.cells;
     vdp = record v.vdp { memory = c.state.vdp; registers = c.state.registers; address = address; fetched = byte };
   }

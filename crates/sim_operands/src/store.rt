@@ -39,8 +39,8 @@ pub fn store_register<L: Ledger>(machine: &mut Machine, steps: &mut Steps<L>)
 
 /// Runs STORE: the value in register 9, of the width in register 3, is stored at the place in registers 7 and 8, its
 /// high byte first. Where register 8 is above 1 its high byte goes to the register of the video processor whose number
-/// is in register 7. It takes at most 16 instructions, marks a store at the character's cell in register 13, may change
-/// registers 4 and 9 and the address of the video processor too, and comes to the address in register 11.
+/// is in register 7. It takes at most 15 instructions, marks a store at the character's cell in register 13, may change
+/// register 4 and the address of the video processor too, and comes to the address in register 11.
 pub fn run_store<L: Ledger>(machine: &mut Machine, steps: &mut Steps<L>)
     requires stands { Stands machine.old address.STORE }
     requires idle { PortsAreIdle machine.old.cpu.memory }

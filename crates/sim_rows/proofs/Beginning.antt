@@ -59,13 +59,13 @@ abbrev pub located_at : View → List ℕ → ℕ → View
 located_at v image at = record v { r = record v.r { r4 = shifted SLA (next_in_grom at) 3; r6 = at }; grom = lost image at }
 
 pub where_found : (v : View) (image : List ℕ) (at : ℕ) → v.grom ≡ grom_at image at → at < 65536 →
-    Goes (pieces.where_next v) 12 (return_of v) (λ w. w ≡ located_at v image at)
+    Goes (pieces.where_next v) 8 (return_of v) (λ w. w ≡ located_at v image at)
 where_found v image at e fits =
     let by : GromState → Exit = λ g. pieces.where_next (record v { grom = g }) in
     let to : ℕ → Exit = λ n. exit (7 + one_if (pieces.at_first (next_in_grom at))) (return_of v)
     (record (located_at v image at) { r = record (located_at v image at).r { r6 = n } }) in
     known (ap by e ∙ ap to (back_is at fits))
-    (just (to at) 12 (return_of v) (let one = one_at_most (pieces.at_first (next_in_grom at)) in omega arith) refl)
+    (just (to at) 8 (return_of v) (let one = one_at_most (pieces.at_first (next_in_grom at)) in omega arith) refl)
 
 module _ (s : GplState) (v : View) (sees : Sees s s.pc v) (fits : s.pc < 65536) (byte : slice_index s.image s.pc < 256) where
   abbrev code : ℕ

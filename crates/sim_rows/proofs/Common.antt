@@ -12,8 +12,8 @@ pub use Rattle.sim_rows.proofs.Beginning.{back_is, from, just, known, located_at
 pub use Rattle.sim_rows.proofs.Codes.{if_true, one_below, two_above}
 pub use Rattle.sim_rows.proofs.Ends.{fetched_of, idle_of, leaves, matches, reaches, same_state, state_at, stops, turned_by, turned_from}
 pub use Rattle.sim_rows.proofs.Facts.{not_above}
-pub use Rattle.sim_rows.proofs.Fronting.{barred, barred_stops, finds_of, from_placed, holds_addressed, holds_again, holds_loaded, located, place_is, sees_again}
-pub use Rattle.sim_rows.proofs.Fronting.{space_small}
+pub use Rattle.sim_rows.proofs.FirstOperand.{barred, barred_stops, finds_of, from_placed, holds_addressed, holds_again, holds_loaded, located, place_is, sees_again}
+pub use Rattle.sim_rows.proofs.FirstOperand.{space_small}
 pub use Rattle.sim_rows.proofs.Operands.{value_same, visible_of}
 pub use Rattle.sim_rows.proofs.Places.{Lies, lies_at, place_lies}
 pub use Rattle.sim_rows.proofs.Rowing.{both, destination_visible, row_changed}

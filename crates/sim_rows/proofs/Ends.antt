@@ -124,7 +124,7 @@ reaches {x = x} {y = y} led bound c start end fits =
 
 -- the beginning of a step before a turn from its dispatch
 pub reaches_from : {x y z : MachineState} {before middle after to bound : ℕ} {Q : View → Type 0} → Comes most_to_dispatch x y before middle to Q →
-    Reaches 29 bound y z middle after → is_end to ≡ false → Reaches 0 bound x z before after
+    Reaches most_to_dispatch bound y z middle after → is_end to ≡ false → Reaches 0 bound x z before after
 reaches_from {x = x} {y = y} {z = z} c r start =
     let w = c.within in
     let a = c.counted in
@@ -140,7 +140,7 @@ reaches_from {x = x} {y = y} {z = z} c r start =
 
 from_by : {x y : MachineState} {before middle to : ℕ} {Q : View → Type 0} (z : MachineState) (after : ℕ) (s : GplState) (r : Result GplState Reason)
     (turn : Turn) → Comes most_to_dispatch x y before middle to Q → is_end to ≡ false →
-    TurnedBy r s 29 y z middle after turn → TurnedBy r s 0 x z before after turn
+    TurnedBy r s most_to_dispatch y z middle after turn → TurnedBy r s 0 x z before after turn
 from_by z after s (Ok next) turn c e t = (t.0, reaches_from c t.1 e, t.2)
 from_by z after s (Err reason) turn c e t = (t.0, reaches_from c t.1 e, t.2)
 

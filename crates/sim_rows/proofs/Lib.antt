@@ -9,7 +9,7 @@ pub mod Steps
 pub mod Ends
 pub mod Places
 pub mod Entries
-pub mod Fronting
+pub mod FirstOperand
 pub mod Operands
 pub mod Sources
 pub mod Matched

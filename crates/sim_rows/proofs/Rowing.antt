@@ -171,8 +171,8 @@ module _ (s : GplState) (x : MachineState) (t : ℕ) (fits : code_byte s < 256) 
       let is : step s ≡ Err Cell = step_row s op.0 fits op.1 (subst (λ (o : Option GplOperation). is_row o ≡ true) op.1 row)
       ∙ ap (λ (r : Result (Place × Source) Reason). r >>= row_after s op.0) (e ∙ ap Err cell) in
       let b = bound_stop s Cell is in
-      turned_by x y t u 29 (Stopped Cell) s (Err Cell) is
-      (refl, reaches 29 (bound s) run start refl (omega arith), stops s Cell y (λ e. cc) run.stands run.holds)
+      turned_by x y t u most_to_dispatch (Stopped Cell) s (Err Cell) is
+      (refl, reaches most_to_dispatch (bound s) run start refl (omega arith), stops s Cell y (λ e. cc) run.stands run.holds)
 
   pub stopped_row : (y : MachineState) (u : ℕ) (told : Option GplOperation) → told ≡ None → StartsRow s x y t u told (operands_of s) →
       Turned s most_to_dispatch x y t u (Stopped Cell)
@@ -194,8 +194,8 @@ module _ (s : GplState) (x : MachineState) (t : ℕ) (fits : code_byte s < 256) 
   made y u most place source op e is le (Ok c) f run =
       let step_is = step_of place source op e is (Ok c) f in
       let b = bound_row s (finished c) op e (subst (λ (o : Option GplOperation). is_row o ≡ true) e row) step_is in
-      turned_by x y t u 29 Stepped s (Ok (finished c)) step_is
-      (refl, reaches 29 (bound s) run start refl (omega arith), matches (finished c) y run.stands run.holds)
+      turned_by x y t u most_to_dispatch Stepped s (Ok (finished c)) step_is
+      (refl, reaches most_to_dispatch (bound s) run start refl (omega arith), matches (finished c) y run.stands run.holds)
   made y u most place source op e is le (Err reason) f run = absurd (run.holds)
 
   -- a row that may stop, by what was made of the operands
@@ -208,25 +208,25 @@ module _ (s : GplState) (x : MachineState) (t : ℕ) (fits : code_byte s < 256) 
   turned_as y u most place source op turn e is le (Err reason) f other run =
       let step_is = step_of place source op e is (Err reason) f in
       let b = bound_stop s reason step_is in
-      turned_by x y t u 29 turn s (Err reason) step_is
-      (run.0, reaches 29 (bound s) run.1 start refl (omega arith), stops s reason y (other reason refl) run.1.stands run.1.holds)
+      turned_by x y t u most_to_dispatch turn s (Err reason) step_is
+      (run.0, reaches most_to_dispatch (bound s) run.1 start refl (omega arith), stops s reason y (other reason refl) run.1.stands run.1.holds)
 
   ends_as : (op : GplOperation) (y z : MachineState) (u v most : ℕ) (place : Place) (source : Source) (turn : Turn) →
       Comes most_to_row x y t u (row_entry (Some op)) (AtRow s place source) →
-      is_end (row_entry (Some op)) ≡ false → (r : Result Changes Reason) → TurnsBy most s y z u v turn r → TurnsBy (151 + most) s x z t v turn r
-  ends_as op y z u v most place source turn c entry (Ok d) h = (h.0, comes_on 151 most c h.1 entry)
-  ends_as op y z u v most place source turn c entry (Err reason) h = (h.0, comes_on 151 most c h.1 entry)
+      is_end (row_entry (Some op)) ≡ false → (r : Result Changes Reason) → TurnsBy most s y z u v turn r → TurnsBy (127 + most) s x z t v turn r
+  ends_as op y z u v most place source turn c entry (Ok d) h = (h.0, comes_on 127 most c h.1 entry)
+  ends_as op y z u v most place source turn c entry (Err reason) h = (h.0, comes_on 127 most c h.1 entry)
 
   pub turned_or_stopped : (op : GplOperation) (y z : MachineState) (u v most : ℕ) (turn : Turn) (b : Started op y u) → is_end (row_entry (Some op)) ≡ false →
       ((reason : Reason) → row_result op s b.place b.source ≡ Err reason → reason ≡ Exit → ⊥) → TurnsRow op most y z u v turn → most ≤ 220 →
       Turned s most_to_dispatch x z t v turn
   turned_or_stopped op y z u v most turn b entry other r le =
-      turned_as z v (151 + most) b.place b.source op turn b.is_operation b.is_both (omega arith) (row_result op s b.place b.source) refl other
+      turned_as z v (127 + most) b.place b.source op turn b.is_operation b.is_both (omega arith) (row_result op s b.place b.source) refl other
       (ends_as op y z u v most b.place b.source turn b.comes entry (row_result op s b.place b.source)
       (r s b.place b.source b.is_operation b.comes.holds b.is_both))
 
   pub turned_row : (op : GplOperation) (y z : MachineState) (u v most : ℕ) (b : Started op y u) → is_end (row_entry (Some op)) ≡ false →
       RunsRow op most y z u v → most ≤ 260 → Turned s most_to_dispatch x z t v Stepped
   turned_row op y z u v most b entry r le =
-      made z v (151 + most) b.place b.source op b.is_operation b.is_both (omega arith) (row_result op s b.place b.source) refl
-      (comes_on 151 most b.comes (r s b.place b.source b.is_operation b.comes.holds b.is_both) entry)
+      made z v (127 + most) b.place b.source op b.is_operation b.is_both (omega arith) (row_result op s b.place b.source) refl
+      (comes_on 127 most b.comes (r s b.place b.source b.is_operation b.comes.holds b.is_both) entry)

@@ -11,7 +11,7 @@ use Rattle.sim_view.specs.gpl_defs.Reading.{value_at as value_in}
 use Rattle.sim_operands.proofs.Transfers.{streams}
 use Rattle.sim_rows.proofs.Again.{first_way, second_way}
 use Rattle.sim_rows.proofs.Beginning.{from, known}
-use Rattle.sim_rows.proofs.Fronting.{finds_of, holds_again, space_small, width_of_size}
+use Rattle.sim_rows.proofs.FirstOperand.{finds_of, holds_again, space_small, width_of_size}
 use Rattle.sim_rows.proofs.Operands.{bars_second, finds_second, Found, immediate_bit, Loading, loads, Operand, value_same}
 use Rattle.sim_rows.specs.sim_operands.Pieces as operands
 use Rattle.sim_rows.specs.Pieces as pieces
@@ -64,10 +64,10 @@ module _ {x a : MachineState} {t t1 : ℕ} (e : Exits x a t t1 (pieces.ask_secon
 
     -- it is there
     loaded : {y : MachineState} {u : ℕ} (source : Source) (b : Bool) → is_immediate s ≡ b → second_of s ≡ Ok source →
-        Comes 68 x y t u GO (Sourced s place source (read_by b).1) → LoadsBy s place x y t u true (second_of s)
+        Comes 59 x y t u GO (Sourced s place source (read_by b).1) → LoadsBy s place x y t u true (second_of s)
     loaded {y = y} {u = u} source b bit second c =
         subst (λ (r : Result Source Reason). LoadsBy s place x y t u true r) (sym second)
-        (refl, subst (λ (n : ℕ). Comes 68 x y t u GO (Sourced s place source n)) (sym (next_is b bit)) c)
+        (refl, subst (λ (n : ℕ). Comes 59 x y t u GO (Sourced s place source n)) (sym (next_is b bit)) c)
 
     -- ---- an immediate source
 
@@ -78,11 +78,11 @@ module _ {x a : MachineState} {t t1 : ℕ} (e : Exits x a t t1 (pieces.ask_secon
       abbrev read : ℕ × ℕ
       read = value_in (word_of s) s.image next
 
-      streamed_is : Comes 12 x b t t2 GO (λ w. w ≡ streamed set)
+      streamed_is : Comes 11 x b t t2 GO (λ w. w ≡ streamed set)
       streamed_is =
           let by : GromState → Exit = λ g. operands.stream (record (told GO) { grom = g }) in
           let c : Comes 5 x a t t1 STREAM (λ w. w ≡ told GO) = comes (streaming here).1 (record { within = omega arith; to_is = refl; holds = refl }) in
-          comes_then 5 7 c e2 (from operands.stream c.holds (known (ap by k.holds.sees.grom)
+          comes_then 5 6 c e2 (from operands.stream c.holds (known (ap by k.holds.sees.grom)
           (streams set (ap (grom_at s.image) (sym (previous-next next)))))) refl
 
       read_is : value_in (not (v.r.r3 == 1)) s.image (next_at set) ≡ read
@@ -94,7 +94,7 @@ module _ {x a : MachineState} {t t1 : ℕ} (e : Exits x a t t1 (pieces.ask_secon
       immediate =
           let bit = sym bit_is ∙ (streaming here).0 in
           loaded (record { number = read.0; place = None }) true bit (second_is true bit)
-          (comes_as 68 _ streamed_is (omega arith) (λ w is. subst (Sourced s place (record { number = read.0; place = None }) read.1) (sym is) (record {
+          (comes_as 59 _ streamed_is (omega arith) (λ w is. subst (Sourced s place (record { number = read.0; place = None }) read.1) (sym is) (record {
             holds = record {
               sees = record {
                 cells = k.holds.sees.cells;
@@ -162,7 +162,7 @@ module _ {x a : MachineState} {t t1 : ℕ} (e : Exits x a t t1 (pieces.ask_secon
         pub record SourceAt : Type 0 where
           pub source : Place
           pub is_place : source_place ≡ Ok source
-          pub comes : Comes 49 x b t t2 OPVAL (Found s place source operand.1)
+          pub comes : Comes 42 x b t t2 OPVAL (Found s place source operand.1)
 
         module _ (elsewhere : b.cpu.pc ≡ GSTOP → ⊥) where
           found : SourceAt
@@ -173,10 +173,10 @@ module _ {x a : MachineState} {t t1 : ℕ} (e : Exits x a t t1 (pieces.ask_secon
               by (Err reason) is g = absurd (elsewhere g.stands.pc)
 
           module _ {c d : MachineState} {t3 t4 : ℕ} (e3 : Exits b c t2 t3 (pieces.load_second (view b))) (l : (view c).r.r5 < 2 → LoadsValue c d t3 t4) where
-            loading : Comes 51 x c t t3 LOAD (Loading s (size_of (row_width s)) found.source place operand.1 GO)
+            loading : Comes 44 x c t t3 LOAD (Loading s (size_of (row_width s)) found.source place operand.1 GO)
             loading =
                 let h = found.comes.holds in
-                comes_then 49 2 found.comes e3 (record {
+                comes_then 42 2 found.comes e3 (record {
                   within = omega arith;
                   to_is = refl;
                   holds = record {
@@ -193,10 +193,10 @@ module _ {x a : MachineState} {t t1 : ℕ} (e : Exits x a t t1 (pieces.ask_secon
                 let h = found.comes.holds in
                 let width : width_in (size_of (row_width s)) ≡ row_width s = width_of_size (word_of s) in
                 let nine : (view c).r.r9 ≡ (view b).r.r9 = ap (λ (w : View). w.r.r9) e3.shows in
-                let run = loads s (size_of (row_width s)) found.source place operand.1 GO 51 x c d t t3 t4 refl loading
+                let run = loads s (size_of (row_width s)) found.source place operand.1 GO 44 x c d t t3 t4 refl loading
                 (l (space_small found.source.space (view c).r.r5 loading.holds.from.space)) in
                 loaded (made_at found.source) false (sym bit_is ∙ (asking away).0)
-                (second_place ∙ ap (λ (r : Result Place Reason). r >>= λ p. Ok (made_at p)) found.is_place) (comes_as 68 _ run (omega arith) (λ w q. record {
+                (second_place ∙ ap (λ (r : Result Place Reason). r >>= λ p. Ok (made_at p)) found.is_place) (comes_as 59 _ run (omega arith) (λ w q. record {
                   holds = q.holds;
                   to_place = q.to_place;
                   destination = λ reads. q.before ∙ nine ∙ h.kept.destination reads;

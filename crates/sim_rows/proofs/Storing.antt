@@ -8,7 +8,7 @@ use Rattle.sim_rows.specs.Prelude.{return_of, Sees, shifted, SHOW, shown, size_o
 use Rattle.sim_rows.specs.Prelude.{StoresValue, Storing, sum_of, unchanged, Vdp, View, view, Width, width_in, with_byte_in, with_value, Word}
 use Rattle.sim_operands.proofs.Ready.{idle_grom, idle_video}
 use Rattle.sim_rows.proofs.Again.{idle_told}
-use Rattle.sim_rows.proofs.Fronting.{place_is}
+use Rattle.sim_rows.proofs.FirstOperand.{place_is}
 use Rattle.sim_rows.proofs.Ends.{same_state}
 use Rattle.sim_rows.specs.Pieces as pieces
 use Rattle.sim_view.specs.Bounds.{most_of_show, most_of_store}
@@ -109,7 +109,7 @@ store_then c width place number x y t u h l =
     (changes_are c width place number v h) l in
     let splits = value_splits width place number c in
     let keeps = value_keeps width place number c in
-    comes_as 16 (ChangedFrom both v) l1 (omega arith) (λ w a. subst (ChangedFrom both v) (sym a.is) (record {
+    comes_as 15 (ChangedFrom both v) l1 (omega arith) (λ w a. subst (ChangedFrom both v) (sym a.is) (record {
       changed = record {
         cells = ap (λ (s : GplState). s.cells) (sym splits.0);
         vdp = ap (λ (s : GplState). s.vdp) (sym splits.0);
@@ -240,7 +240,7 @@ ends_drawn {x = x} {y = y} {z = z} {t = t} {u = u} {w = w} i some e store c h =
     let final : GplState = shown true c.state in
     let same : finished c ≡ final = ap (λ b. shown b c.state) one in
     subst (λ (g : GplState). Comes most_of_show x z t w GSTEP (Sees g g.pc)) (sym same)
-    (comes_as most_of_show (Sees final final.pc) (comes_on 13 16 c1 s2 refl) (omega arith) (λ q b. record {
+    (comes_as most_of_show (Sees final final.pc) (comes_on 13 15 c1 s2 refl) (omega arith) (λ q b. record {
       cells = ap (λ (u : View). u.cells) b.is ∙ h.cells;
       vdp = ap (λ (u : View). u.vdp.memory) b.is ∙ memory;
       registers = ap (λ (u : View). u.vdp.registers) b.is ∙ h.registers;
@@ -262,5 +262,5 @@ finishes {x = x} {a = a} {b = b} {t = t} {t1 = t1} {t2 = t2} e l r c width place
     let to : return_of (view a) ≡ SHOW = ap (λ (w : View). even w.r.r11) c1.holds in
     let s2 : Comes most_of_store a b t1 t2 SHOW (ChangedFrom (with_value width place number c) (view a)) =
     subst (λ (p : ℕ). Comes most_of_store a b t1 t2 p (ChangedFrom (with_value width place number c) (view a))) to s1 in
-    let c2 = comes_on 2 16 c1 s2 refl in
-    comes_on 18 29 c2 (r (with_value width place number c) c2.holds.changed) refl
+    let c2 = comes_on 2 15 c1 s2 refl in
+    comes_on 17 28 c2 (r (with_value width place number c) c2.holds.changed) refl

@@ -23,7 +23,7 @@ module _ (s : GplState) (x b : MachineState) (t u : ℕ) where
     where
       by : (r : Result Place Reason) → LoadsDestination s x b t u false r → Loads s x b t u false r (second_of s)
       by (Ok place) l = absurd (not_both false l.0 refl)
-      by (Err reason) l = (refl, comes_as 129 _ l.1 (omega arith) (λ v a. a))
+      by (Err reason) l = (refl, comes_as 107 _ l.1 (omega arith) (λ v a. a))
 
   -- it was kept
   pub record Begun : Type 0 where
@@ -51,12 +51,12 @@ module _ (s : GplState) (x b : MachineState) (t u : ℕ) where
         by false has c =
             let next : next_of s ≡ behind_first s = ap (λ (n : Bool). if n then (source_read s).1 else behind_first s) has in
             loads b u true (subst (λ (r : Result Source Reason). Loads s x b t u true (Ok k.place) r) (sym (ap (λ (n : Bool). second_by n s) has))
-            (refl, subst (λ (n : ℕ). Comes 146 x b t u GO (Sourced s k.place unit n)) (sym next) (comes_as 146 _ c (omega arith) (λ v a. a))))
+            (refl, subst (λ (n : ℕ). Comes 124 x b t u GO (Sourced s k.place unit n)) (sym next) (comes_as 124 _ c (omega arith) (λ v a. a))))
 
     -- one of two
     pub record TwoOperands : Type 0 where
       pub has : has_source s ≡ true
-      pub comes : Comes 78 x b t u OPSTWO (Kept s k.place (behind_first s))
+      pub comes : Comes 65 x b t u OPSTWO (Kept s k.place (behind_first s))
 
     pub two : b.cpu.pc ≡ OPSTWO → TwoOperands
     two here = by (has_source s) refl k.keeps
@@ -70,8 +70,8 @@ module _ (s : GplState) (x b : MachineState) (t u : ℕ) where
     loaded o y v went l = loads y v went (by (second_of s) l)
       where
         by : (r : Result Source Reason) → LoadsBy s k.place b y u v went r → Loads s x y t v went (Ok k.place) r
-        by (Ok source) l = (l.0, comes_on 78 68 o.comes l.1 refl)
-        by (Err reason) l = (l.0, comes_as 129 _ (comes_on 78 49 o.comes l.1 refl) (omega arith) (λ v a. a))
+        by (Ok source) l = (l.0, comes_on 65 59 o.comes l.1 refl)
+        by (Err reason) l = (l.0, comes_as 107 _ (comes_on 65 42 o.comes l.1 refl) (omega arith) (λ v a. a))
 
 module _ (s : GplState) (x y : MachineState) (t u : ℕ) where
   -- an operand is not visible
@@ -86,7 +86,7 @@ module _ (s : GplState) (x y : MachineState) (t u : ℕ) where
   pub record Ready : Type 0 where
     pub operands : Place × Source
     pub are : operands_of s ≡ Ok operands
-    pub comes : Comes 146 x y t u GO (AtRow s operands.0 operands.1)
+    pub comes : Comes 124 x y t u GO (AtRow s operands.0 operands.1)
 
   pub ready : LoadsOperands s x y t u true (operands_of s) → Ready
   ready l = by (operands_of s) refl l
@@ -99,4 +99,4 @@ module _ (s : GplState) (x y : MachineState) (t u : ℕ) where
       Exits y z u v (pieces.go_to_row (view y)) → told ≡ operation_in s → StartsRow s x z t v told (operands_of s)
   starts k z v told fits row e is =
       subst (λ (r : Result (Place × Source) Reason). StartsRow s x z t v told r) (sym k.are)
-      (is, comes_as 151 _ (goes_to_row s k.operands.0 k.operands.1 (next_of s) 146 fits row k.comes e) (omega arith) (λ v a. a))
+      (is, comes_as 127 _ (goes_to_row s k.operands.0 k.operands.1 (next_of s) 124 fits row k.comes e) (omega arith) (λ v a. a))

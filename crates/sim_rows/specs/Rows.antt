@@ -139,22 +139,22 @@ AtRow s place source w = Sourced s place source (next_of s) w
 
 -- The destination is found and kept, or the program stops. A row of one operand goes on at GO.
 abbrev pub KeepsDestination : GplState → Place → MachineState → MachineState → ℕ → ℕ → Bool → Type 0
-KeepsDestination s place x y before after true = Comes 78 x y before after OPSTWO (Kept s place (behind_first s))
+KeepsDestination s place x y before after true = Comes 65 x y before after OPSTWO (Kept s place (behind_first s))
 KeepsDestination s place x y before after false =
-    Comes 78 x y before after GO (Sourced s place unit (behind_first s))
+    Comes 69 x y before after GO (Sourced s place unit (behind_first s))
 
 abbrev pub LoadsDestination : GplState → MachineState → MachineState → ℕ → ℕ → Bool → Result Place Reason → Type 0
 LoadsDestination s x y before after went (Ok place) =
     IsTrue went × KeepsDestination s place x y before after (has_source s)
 LoadsDestination s x y before after went (Err reason) =
-    IsFalse went × Comes 51 x y before after GSTOP (StoppedBy s reason)
+    IsFalse went × Comes 44 x y before after GSTOP (StoppedBy s reason)
 
 -- From OPSTWO the value of the source is loaded, or the program stops.
 abbrev pub LoadsBy : GplState → Place → MachineState → MachineState → ℕ → ℕ → Bool → Result Source Reason → Type 0
 LoadsBy s place x y before after went (Ok source) =
-    IsTrue went × Comes 68 x y before after GO (Sourced s place source (next_of s))
+    IsTrue went × Comes 59 x y before after GO (Sourced s place source (next_of s))
 LoadsBy s place x y before after went (Err reason) =
-    IsFalse went × Comes 49 x y before after GSTOP (StoppedBy s reason)
+    IsFalse went × Comes 42 x y before after GSTOP (StoppedBy s reason)
 
 abbrev pub LoadsSource : MachineState → MachineState → ℕ → ℕ → Bool → Type 0
 LoadsSource x y before after went =
@@ -165,9 +165,9 @@ LoadsSource x y before after went =
 abbrev pub LoadsOperands : GplState → MachineState → MachineState → ℕ → ℕ → Bool
     → Result (Place × Source) Reason → Type 0
 LoadsOperands s x y before after went (Ok operands) =
-    IsTrue went × Comes 146 x y before after GO (AtRow s operands.0 operands.1)
+    IsTrue went × Comes 124 x y before after GO (AtRow s operands.0 operands.1)
 LoadsOperands s x y before after went (Err reason) =
-    IsFalse went × Comes 129 x y before after GSTOP (StoppedBy s reason)
+    IsFalse went × Comes 107 x y before after GSTOP (StoppedBy s reason)
 
 -- A machine at the entry of the row of an operation, which is one of a family: the operands are loaded, the ports are
 -- idle, and a value may be stored at the destination.

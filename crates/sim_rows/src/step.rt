@@ -28,7 +28,7 @@ pub fn dispatch<L: Ledger>(machine: &mut Machine, steps: &mut Steps<L>)
 }
 
 /// From the beginning of a step to its dispatch: registers 0 and 1 hold the code byte and its address, GROM has gone on
-/// by one, and the machine is where the first table leads. It takes at most 29 instructions.
+/// by one, and the machine is where the first table leads. It takes at most 16 instructions.
 pub fn begin_step<L: Ledger>(machine: &mut Machine, steps: &mut Steps<L>)
     requires { IsMatching machine.old }
     ensures { let s = shown_by machine.old.cpu.memory in

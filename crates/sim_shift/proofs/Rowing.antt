@@ -87,15 +87,15 @@ module _ (op : ShiftOp) {x y z : MachineState} {t u w : ℕ} (e1 : Exits x y t u
 
     finished_row : (q : MachineState) (k : ℕ) (most : ℕ) (p : MachineState) (j : ℕ) → most ≤ 16 → Comes most x p t j STO (StoringRow op s place source) →
         StoresResult p q j k →
-        Comes 63 x q t k GSTEP (SeesResult (row_result (Two (name_of op)) s place source))
+        Comes 61 x q t k GSTEP (SeesResult (row_result (Two (name_of op)) s place source))
     finished_row q k most p j le c f =
         let width = row_width s in
-        let d = comes_on most 47 c (f (unchanged (gone_on s)) width place (number_of_row op s place source) c.holds) refl in
-        subst (λ (c : Changes). Comes 63 x q t k GSTEP (SeesFinished c)) (sym (two_is op width place (value_at s width place) source (unchanged (gone_on s))))
-        (comes_as 63 _ d (omega arith) (λ v b. b))
+        let d = comes_on most 45 c (f (unchanged (gone_on s)) width place (number_of_row op s place source) c.holds) refl in
+        subst (λ (c : Changes). Comes 61 x q t k GSTEP (SeesFinished c)) (sym (two_is op width place (value_at s width place) source (unchanged (gone_on s))))
+        (comes_as 61 _ d (omega arith) (λ v b. b))
 
     pub runs_none : (q : MachineState) (k : ℕ) → not (eqb (pieces.take_count (view y)).to STO) ≡ false → StoresResult z q w k →
-        Comes 63 x q t k GSTEP (SeesResult (row_result (Two (name_of op)) s place source))
+        Comes 61 x q t k GSTEP (SeesResult (row_result (Two (name_of op)) s place source))
     runs_none q k e f =
         let zero : count_of source.number ≡ 0 = sym tells.count ∙ ap (λ (v : View). v.r.r0) (told_is (view y)) ∙ no_count e in
         let c = comes_then 1 8 asks e2 (record
@@ -104,7 +104,7 @@ module _ (op : ShiftOp) {x y z : MachineState} {t u w : ℕ} (e1 : Exits x y t u
 
     pub runs_some : (p q : MachineState) (j k : ℕ) → not (eqb (pieces.take_count (view y)).to STO) ≡ true → Exits z p w j (pieces.shifts op (view z)) →
         StoresResult p q j k →
-        Comes 63 x q t k GSTEP (SeesResult (row_result (Two (name_of op)) s place source))
+        Comes 61 x q t k GSTEP (SeesResult (row_result (Two (name_of op)) s place source))
     runs_some p q j k e e3 f =
         let c : Comes 9 x z t w (shift_entry op) (λ v. v ≡ (pieces.take_count (view y)).left) =
         comes_then 1 8 asks e2 (record { within = counts_few (view y); to_is = goes_to e; holds = refl }) refl in

@@ -180,7 +180,7 @@ module _ (s : GplState) {x a : MachineState} {t t1 : ℕ} (stands : Stands x GOC
         turned y t4 ends =
             let room : on_stack 2 (top_in s) ≡ Ok (top_in s) = with_room 0xC0 2 (top_in s) refl (ap (nat_lt 0xC0) (sym offset_top) ∙ went.0) in
             let is = step_by s (Ok (top_in s)) family room in
-            let run = comes_on 26 29 ending (ends after ending.holds) refl in
+            let run = comes_on 26 28 ending (ends after ending.holds) refl in
             let b = bound_call s (finished after) family is in
-            turned_by x y t t4 29 Stepped s (Ok (finished after)) is
-            (refl, reaches 29 (bound s) run start refl (omega arith), matches (finished after) y run.stands run.holds)
+            turned_by x y t t4 most_to_dispatch Stepped s (Ok (finished after)) is
+            (refl, reaches most_to_dispatch (bound s) run start refl (omega arith), matches (finished after) y run.stands run.holds)

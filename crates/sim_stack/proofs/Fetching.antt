@@ -30,7 +30,7 @@ module _ {x a : MachineState} {t t1 : ℕ} (e : Exits x a t t1 (pieces.ask_stack
       let near : v.r.r2 + 2 ≤ 0xC2 = visible refl in
       let number : value_at (state_of asked) Word (place_in 0 v.r.r2) ≡ word_in v.cells v.r.r2 = stacked_is (state_of asked) v.r.r2 v.r.r2 refl (omega arith) in
       let c : Comes 4 x a t t1 LOAD (λ w. w ≡ asked) = comes e (record { within = omega arith; to_is = refl; holds = refl }) in
-      subst (λ (n : ℕ). Comes 21 x y t t2 FETCHA (Loaded asked n)) number (comes_on 4 17 c l refl)
+      subst (λ (n : ℕ). Comes 19 x y t t2 FETCHA (Loaded asked n)) number (comes_on 4 15 c l refl)
 
 -- ---- the byte there
 
@@ -49,10 +49,10 @@ fetches x a b c d y t t1 t2 t3 t4 t5 stands e1 e2 e3 e4 e5 image next grom =
     let bid : View = (pieces.ask_byte sought).left in
     let read : View = (operands.fetch bid).left in
     let c1 = comes e1 (just (pieces.seek_stacked v) 1 SEEK (omega arith) refl) in
-    let c2 = comes_then 1 4 c1 e2 (from operands.seek c1.holds (known seek_is (just (exit 3 FETCHR sought) 4 FETCHR (omega arith) refl))) refl in
-    let c3 = comes_then 5 1 c2 e3 (from pieces.ask_byte c2.holds (just (pieces.ask_byte sought) 1 FETCH (omega arith) refl)) refl in
-    let c4 = comes_then 6 3 c3 e4 (from operands.fetch c3.holds (just (operands.fetch bid) 3 FETCHK (omega arith) refl)) refl in
-    comes_then 9 2 c4 e5 (from pieces.keep_byte c4.holds (just (pieces.keep_byte read) 2 WHERE (omega arith) refl)) refl
+    let c2 = comes_then 1 3 c1 e2 (from operands.seek c1.holds (known seek_is (just (exit 3 FETCHR sought) 3 FETCHR (omega arith) refl))) refl in
+    let c3 = comes_then 4 1 c2 e3 (from pieces.ask_byte c2.holds (just (pieces.ask_byte sought) 1 FETCH (omega arith) refl)) refl in
+    let c4 = comes_then 5 3 c3 e4 (from operands.fetch c3.holds (just (operands.fetch bid) 3 FETCHK (omega arith) refl)) refl in
+    comes_then 8 2 c4 e5 (from pieces.keep_byte c4.holds (just (pieces.keep_byte read) 2 WHERE (omega arith) refl)) refl
 
 -- ---- from FETCHS on
 
@@ -119,8 +119,8 @@ module _ {x a : MachineState} {t t1 : ℕ} (e1 : Exits x a t t1 (pieces.store_st
             };
             value = ap high (k.r12 ∙ ap (λ (v : View). v.r.r12) e1.shows ∙ h.byte_is) ∙ byte_back byte;
           }) in
-          let c3 : Comes 24 x c t t3 STORE (λ v. v ≡ (pieces.store_fetched (view b)).left) =
-          comes_then 18 6 (comes_on 2 16 c1 c2 refl) e2 (record { within = omega arith; to_is = refl; holds = refl }) refl in
+          let c3 : Comes 23 x c t t3 STORE (λ v. v ≡ (pieces.store_fetched (view b)).left) =
+          comes_then 17 6 (comes_on 2 15 c1 c2 refl) e2 (record { within = omega arith; to_is = refl; holds = refl }) refl in
           let c4 : Comes most_of_store c d t3 t4 RESUME (ChangedFrom (with_value Byte place byte between) (view c)) =
           subst (λ (n : ℕ). Comes most_of_store c d t3 t4 n (ChangedFrom (with_value Byte place byte between) (view c))) (ap return_of e2.shows)
           (store_then between Byte place byte c d t3 t4 storing2 stored2) in
@@ -133,4 +133,4 @@ module _ {x a : MachineState} {t t1 : ℕ} (e1 : Exits x a t t1 (pieces.store_st
           ∙ ap (λ (v : View). v.r.r14) e1.shows
           ∙ h.back
           ∙ sym (value_keeps Byte place byte stacked).1 in
-          comes_as 76 _ (comes_on 40 32 (comes_on 24 16 c3 c4 refl) (resumes after next changed back) refl) (omega arith) (λ w q. q)
+          comes_as 69 _ (comes_on 38 31 (comes_on 23 15 c3 c4 refl) (resumes after next changed back) refl) (omega arith) (λ w q. q)

@@ -59,9 +59,9 @@ module _ {x a : MachineState} {t u : ℕ} (stands : Stands x PUSHV) (e : Exits x
       let h = at.holds in
       let full : on_stack 1 (top_in s) ≡ Err Stack = no_room 0xC1 1 (top_in s) refl (ap (nat_lt 0xC1) (sym (offset_top s h.sees.cells)) ∙ k.0) in
       let result : row_result (One PUSH) s place source ≡ Err Stack = ap (by_push s (value_at s (row_width s) place)) full in
-      let c : Comes 160 x a t u GSTOP (StoppedBy s Stack) = comes k.1 (goes_in (omega arith)
+      let c : Comes 131 x a t u GSTOP (StoppedBy s Stack) = comes k.1 (goes_in (omega arith)
       (record { ended = record { cells = h.sees.cells; vdp = h.sees.vdp; registers = h.sees.registers; address = h.address }; reason_is = refl })) in
-      subst (λ (r : Result Changes Reason). TurnsBy 160 s x a t u (Stopped Stack) r) (sym result) (refl, c)
+      subst (λ (r : Result Changes Reason). TurnsBy 131 s x a t u (Stopped Stack) r) (sym result) (refl, c)
 
   module _ (elsewhere : a.cpu.pc ≡ GSTOP → ⊥) where
     went : (nat_lt 0xC1 offset ≡ false) × Exits x a t u (exit 10 STO placed)
@@ -100,7 +100,7 @@ module _ {x a : MachineState} {t u : ℕ} (stands : Stands x PUSHV) (e : Exits x
           value = value;
         }) in
         let c1 : Comes 10 x a t u STO (λ v. v ≡ placed) = comes went.1 (record { within = omega arith; to_is = refl; holds = refl }) in
-        let c2 : Comes 57 x y t w GSTEP (SeesFinished (with_cell top byte before)) = comes_on 10 47 c1 (stores before Byte (cells_at top) byte storing) refl in
-        let c3 : Comes 160 x y t w GSTEP (SeesFinished (with_cell top byte before)) =
-        comes_as 160 (SeesFinished (with_cell top byte before)) c2 (omega arith) (λ v q. q) in
-        subst (λ (r : Result Changes Reason). TurnsBy 160 s x y t w Stepped r) (sym result) (refl, c3)
+        let c2 : Comes 55 x y t w GSTEP (SeesFinished (with_cell top byte before)) = comes_on 10 45 c1 (stores before Byte (cells_at top) byte storing) refl in
+        let c3 : Comes 131 x y t w GSTEP (SeesFinished (with_cell top byte before)) =
+        comes_as 131 (SeesFinished (with_cell top byte before)) c2 (omega arith) (λ v q. q) in
+        subst (λ (r : Result Changes Reason). TurnsBy 131 s x y t w Stepped r) (sym result) (refl, c3)

@@ -147,28 +147,28 @@ module _ (s : GplState) {x a : MachineState} {t u : ℕ} (stands : Stands x GORT
     went : (nat_lt 0xC0 offset ≡ false) × Exits x a t u gone
     went = second_way GSTOP x a t u (nat_lt 0xC0 offset) barred gone e refl elsewhere
 
-    turned : (b : Bool) → (v.r.r0 == 0) ≡ b → Comes 19 x y t w GSTEP (SeesFinished (if b then with_condition false back else back)) →
+    turned : (b : Bool) → (v.r.r0 == 0) ≡ b → Comes 15 x y t w GSTEP (SeesFinished (if b then with_condition false back else back)) →
         Turned s most_to_dispatch x y t w Stepped
     turned b zero run =
         let fits = code_fits s (behind_code s) v (is_view x stands.machine) d.sees in
         let room : on_stack 2 (top_in s) ≡ Ok (top_in s) = with_room 0xC0 2 (top_in s) refl (ap (nat_lt 0xC0) (sym offset_top) ∙ went.0) in
         let is = step_back s (operation_in s) family refl fits room in
         let next = finished (returned_by (code_byte s) (before s) (top_in s)) in
-        let c : Comes 19 x y t w GSTEP (SeesFinished (returned_by (code_byte s) (before s) (top_in s))) =
-        subst (λ (b : Bool). Comes 19 x y t w GSTEP (SeesFinished (if b then with_condition false back else back)))
+        let c : Comes 15 x y t w GSTEP (SeesFinished (returned_by (code_byte s) (before s) (top_in s))) =
+        subst (λ (b : Bool). Comes 15 x y t w GSTEP (SeesFinished (if b then with_condition false back else back)))
         (sym zero ∙ ap (λ (n : ℕ). n == 0) d.code) run in
         let b = bound_back s next (operation_in s) family refl is in
-        turned_by x y t w 29 Stepped s (Ok next) is (refl, reaches 29 (bound s) c start refl (omega arith), matches next y c.stands c.holds)
+        turned_by x y t w most_to_dispatch Stepped s (Ok next) is (refl, reaches most_to_dispatch (bound s) c start refl (omega arith), matches next y c.stands c.holds)
 
     pub turned_rtn : a.cpu.pc ≡ TAKE → TakesBranch a y u w → Turned s most_to_dispatch x y t w Stepped
     turned_rtn here ends =
         let k = first_way TAKE x a t u (v.r.r0 == 0) (exit 10 TAKE taken) (exit 11 GOTO taken) went.1 (λ q. absurd (omega arith)) here in
         let c : Comes 10 x a t u TAKE (Taken back.state (behind_code s)) = comes k.1 (record { within = omega arith; to_is = refl; holds = takes }) in
-        turned true k.0 (comes_on 10 9 c (ends back.state (behind_code s) c.holds.sees c.holds.to) refl)
+        turned true k.0 (comes_on 10 5 c (ends back.state (behind_code s) c.holds.sees c.holds.to) refl)
 
     pub turned_rtnc : (a.cpu.pc ≡ TAKE → ⊥) → GoesOn a y u w → Turned s most_to_dispatch x y t w Stepped
     turned_rtnc away ends =
         let k = second_way TAKE x a t u (v.r.r0 == 0) (exit 10 TAKE taken) (exit 11 GOTO taken) went.1 refl away in
         let c : Comes 11 x a t u GOTO (Taken back.state (behind_code s)) = comes k.1 (record { within = omega arith; to_is = refl; holds = takes }) in
-        turned false k.0 (comes_as 19 (SeesFinished back) (comes_on 11 6 c (ends back.state (behind_code s) c.holds.sees c.holds.to) refl) (omega arith)
+        turned false k.0 (comes_as 15 (SeesFinished back) (comes_on 11 2 c (ends back.state (behind_code s) c.holds.sees c.holds.to) refl) (omega arith)
         (λ w q. q))

@@ -74,4 +74,4 @@ pub stop_turned : (s : GplState) (x a : MachineState) (t u most : ℕ) → is_en
     Turned s most_to_dispatch x a t u (Stopped Stack)
 stop_turned s x a t u most start is c le =
     let b = bound_stop s Stack is in
-    turned_by x a t u 29 (Stopped Stack) s (Err Stack) is (refl, reaches 29 (bound s) c start refl (omega arith), stops s Stack a (λ e. cc) c.stands c.holds)
+    turned_by x a t u most_to_dispatch (Stopped Stack) s (Err Stack) is (refl, reaches most_to_dispatch (bound s) c start refl (omega arith), stops s Stack a (λ e. cc) c.stands c.holds)

@@ -55,7 +55,7 @@ module _ {x y : MachineState} {t u : ℕ} {op : GplOperation} {told : Option Gpl
   pub turned : (z : MachineState) (v : ℕ) (turn : Turn) → TurnsRow op most_of_stack_row y z u v turn
       → Turned (state_at_dispatch (view x)) most_to_dispatch x z t v turn
   turned z v turn r =
-      family.turned_or rows at is l 160 z v turn
+      family.turned_or rows at is l 131 z v turn
       (λ reason e f. never_leaves (row_result op (state_at_dispatch (view x)) (family.begun rows at is l).place (family.begun rows at is l).source) reason
       (row_alone op (family.family rows at is l) (state_at_dispatch (view x)) (family.begun rows at is l).place (family.begun rows at is l).source) e f)
       (omega arith) r

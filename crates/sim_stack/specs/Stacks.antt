@@ -39,12 +39,12 @@ pub record SetAside (v : View) (image : List ℕ) (at : ℕ) (w : View) : Type 0
 abbrev pub Locates : MachineState → MachineState → ℕ → ℕ → Type 0
 Locates x y before after =
     (image : List ℕ) → (at : ℕ) → at < 65536 → (view x).grom ≡ grom_at image at
-    → Comes 18 x y before after FETCHS (Located (view x) image at)
+    → Comes 13 x y before after FETCHS (Located (view x) image at)
 
 abbrev pub SetsAside : MachineState → MachineState → ℕ → ℕ → Type 0
 SetsAside x y before after =
     (image : List ℕ) → (at : ℕ) → at < 65536 → (view x).grom ≡ grom_at image at
-    → Comes 18 x y before after FETCHP (SetAside (view x) image at)
+    → Comes 13 x y before after FETCHP (SetAside (view x) image at)
 
 -- CALL
 
@@ -57,7 +57,7 @@ gone_to s top target = with_pc target (with_word top s.pc (with_cell RETURN_STAC
 abbrev pub LoadsStacked : MachineState → MachineState → ℕ → ℕ → Type 0
 LoadsStacked x y before after =
     let v = view x in
-    Comes 21 x y before after FETCHA (Loaded (ask_stacked v).left (word_in v.cells v.r.r2))
+    Comes 19 x y before after FETCHA (Loaded (ask_stacked v).left (word_in v.cells v.r.r2))
 
 -- From FETCHA the byte of GROM at the address in register 6 comes into register 12.
 abbrev pub fetched_at : View → List ℕ → ℕ → View
@@ -69,7 +69,7 @@ abbrev pub FetchesStacked : MachineState → MachineState → ℕ → ℕ → Ty
 FetchesStacked x y before after =
     let v = view x in
     (image : List ℕ) → (next : ℕ) → v.grom ≡ grom_at image next
-    → Comes 11 x y before after WHERE (λ w. w ≡ fetched_at v image v.r.r6)
+    → Comes 10 x y before after WHERE (λ w. w ≡ fetched_at v image v.r.r6)
 
 -- At FETCHS: the top of the stack in register 7, the address to store there in register 9, the byte in register 12, its
 -- place in registers 10 and 15, and where GROM goes on in register 14.
@@ -86,4 +86,4 @@ pub record Fetching (s : GplState) (place : Place) (top number byte next : ℕ) 
 abbrev pub EndsFetch : MachineState → MachineState → ℕ → ℕ → Type 0
 EndsFetch x y before after =
     (s : GplState) → (place : Place) → (top number byte next : ℕ) → Fetching s place top number byte next (view x)
-    → Comes 76 x y before after GSTEP (SeesFinished (with_byte place byte (with_word top number (unchanged s))))
+    → Comes 69 x y before after GSTEP (SeesFinished (with_byte place byte (with_word top number (unchanged s))))

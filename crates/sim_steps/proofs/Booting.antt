@@ -21,14 +21,14 @@ module _ (x a y : MachineState) (t u v : ℕ) (stands : Stands x GBOOT) (held : 
   abbrev booting : View
   booting = (pieces.boot (view x)).left
 
-  sought : Goes (operands.seek booting) 4 GSTEP (Sees (booted (view x)) (booted (view x)).pc)
+  sought : Goes (operands.seek booting) 3 GSTEP (Sees (booted (view x)) (booted (view x)).pc)
   sought =
       goes_in (omega arith) (record { cells = refl; vdp = refl; registers = refl; held = held; grom = set_is (view x).grom (view x).r.r0 idle fits })
 
-  pub begins : Exits x a t u (pieces.boot (view x)) → Exits a y u v (operands.seek (view a)) → Begins (booted (view x)) 11 x y t v
+  pub begins : Exits x a t u (pieces.boot (view x)) → Exits a y u v (operands.seek (view a)) → Begins (booted (view x)) 10 x y t v
   begins e1 e2 =
       let c1 = comes e1 (just (pieces.boot (view x)) 7 SEEK (omega arith) refl) in
-      let c = comes_then 7 4 c1 e2 (from operands.seek c1.holds sought) refl in
+      let c = comes_then 7 3 c1 e2 (from operands.seek c1.holds sought) refl in
       record {
         count = c.count;
         within = c.within;

@@ -13,5 +13,5 @@ module _ (s : GplState) (x y : MachineState) (t u : ℕ) (d : Dispatched s (view
       goes_in (omega arith) (record { ended = record { cells = h.cells; vdp = h.vdp; registers = h.registers; address = d.address }; reason_is = refl }) in
       let c = comes run ended in
       let b = bound_stop s Opcode is in
-      turned_by x y t u 29 (Stopped Opcode) s (Err Opcode) is
-      (refl, reaches 29 (bound s) c (ap is_end stands.pc) refl (omega arith), stops s Opcode y (λ e. cc) c.stands c.holds)
+      turned_by x y t u most_to_dispatch (Stopped Opcode) s (Err Opcode) is
+      (refl, reaches most_to_dispatch (bound s) c (ap is_end stands.pc) refl (omega arith), stops s Opcode y (λ e. cc) c.stands c.holds)

@@ -20,11 +20,11 @@ pub fn boot<L: Ledger>(machine: &mut Machine, steps: &mut Steps<L>)
 }
 
 /// From boot to the first step: the machine matches the state in which a program begins whose entry is in register 0,
-/// with empty stacks. It takes at most 11 instructions.
+/// with empty stacks. It takes at most 10 instructions.
 pub fn start_program<L: Ledger>(machine: &mut Machine, steps: &mut Steps<L>)
     requires stands { Stands machine.old address.GBOOT }
     requires idle { PortsAreIdle machine.old.cpu.memory }
-    ensures { Begins (booted (view machine.old)) 11 machine.old machine.new steps.old steps.new }
+    ensures { Begins (booted (view machine.old)) 10 machine.old machine.new steps.old steps.new }
 {
     boot(machine, steps);
     seek_address(machine, steps);

@@ -2,13 +2,13 @@ use Rattle.sim_rows.proofs.Common.{off, on}
 use Rattle.sim_flow.proofs.Branching
 use Rattle.sim_flow.proofs.family.run_branch.Goals as goal
 
-pub find_target-requires : goal.find_target-requires
-find_target-requires g c =
+pub read_branch_target-requires : goal.read_branch_target-requires
+read_branch_target-requires g c =
     (Branching.at_target c.args._on c.requires.is c.requires.stands c.requires.dispatched c.test_branch.ensures
     (on c.pc.ensures.value c.if-pc-eq-BTARG.true)).stands
 
 pub take_jump-requires : goal.take_jump-requires
-take_jump-requires g c = c.find_target.ensures.stands
+take_jump-requires g c = c.read_branch_target.ensures.stands
 
 pub clear_condition-requires : goal.clear_condition-requires
 clear_condition-requires g c =
@@ -18,7 +18,7 @@ clear_condition-requires g c =
 pub returns-then-pc-eq-BTARG : goal.returns-then-pc-eq-BTARG
 returns-then-pc-eq-BTARG g c =
     Branching.takes c.args._on c.requires.is c.requires.stands c.requires.dispatched c.test_branch.ensures
-    (on c.pc.ensures.value c.if-pc-eq-BTARG.true) c.find_target.ensures c.take_jump.ensures
+    (on c.pc.ensures.value c.if-pc-eq-BTARG.true) c.read_branch_target.ensures c.take_jump.ensures
 
 pub returns-else-pc-eq-BTARG : goal.returns-else-pc-eq-BTARG
 returns-else-pc-eq-BTARG g c =

@@ -18,6 +18,6 @@ run_case-requires g c =
 pub returns : goal.returns
 returns g c =
     let at = entry rows c.requires c.in-Some.is c.start_row.ensures in
-    turned rows c.requires c.in-Some.is c.start_row.ensures 34 (omega arith)
+    turned rows c.requires c.in-Some.is c.start_row.ensures 25 (omega arith)
     (subst (λ (op : GplOperation). RunsRow op most_of_case_row c.start_row.new.machine c.run_case.new.machine c.start_row.new.steps c.run_case.new.steps)
     (sym (case_alone _ at.family)) c.run_case.ensures)

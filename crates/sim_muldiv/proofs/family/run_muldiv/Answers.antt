@@ -20,4 +20,4 @@ run_row-requires-clause-ready g c =
     ready_at (state_at_dispatch (view c.args.machine.now)) b.place b.source c.start_row.new.machine c.requires.family b.is_both b.comes.holds
 
 pub returns : goal.returns
-returns g c = turned rows c.requires c.in-Some.is c.start_row.ensures 96 (omega arith) c.run_row.ensures
+returns g c = turned rows c.requires c.in-Some.is c.start_row.ensures 91 (omega arith) c.run_row.ensures

@@ -6,7 +6,7 @@ pub returns-in-MUL : goal.returns-in-MUL
 returns-in-MUL g c =
     subst (λ (name : TwoName). RunsRow (Two name) most_of_quotient_row c.args.machine.now c.run_product.new.machine c.args.steps.now c.run_product.new.steps)
     (sym c.in-MUL.is)
-    (λ s place source e row operands. comes_as 96 (SeesResult (row_result (Two MUL) s place source)) (c.run_product.ensures s place source e row operands)
+    (λ s place source e row operands. comes_as 91 (SeesResult (row_result (Two MUL) s place source)) (c.run_product.ensures s place source e row operands)
     (omega arith) (λ q h. h))
 
 pub returns-in-DIV : goal.returns-in-DIV

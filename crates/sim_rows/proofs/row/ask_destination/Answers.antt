@@ -2,7 +2,7 @@ use Rattle.std.proofs.Common.{◌∙◌, ◌≡◌, arith}
 use Rattle.sim_view.proofs.Common.{off, on}
 use Rattle.sim_rows.specs.Prelude.{ROW}
 use Rattle.sim_view.specs.native_interp.declared.addresses.TheConstants.{STROW}
-use Rattle.sim_rows.proofs.Fronting
+use Rattle.sim_rows.proofs.FirstOperand
 use Rattle.sim_rows.proofs.Telling.{stands_at}
 use Rattle.sim_rows.proofs.row.ask_destination.Goals.{After-pc-else-pc-eq-WIDE}
 use Rattle.sim_rows.proofs.row.ask_destination.Goals as goal
@@ -11,19 +11,19 @@ pub ask_first-requires : goal.ask_first-requires
 ask_first-requires g c =
     let x = c.args.machine.now in
     let not_stored : x.cpu.pc ≡ STROW → ⊥ = λ here. let a = c.pc-else-pc-eq-WIDE.ensures.value in let b = c.if-pc-eq-STROW.false in absurd (omega arith) in
-    stands_at ROW x (c.requires.stands.pc ∙ (Fronting.narrow_here c.requires (off c.pc.ensures.value c.if-pc-eq-WIDE.false) not_stored).starts)
+    stands_at ROW x (c.requires.stands.pc ∙ (FirstOperand.narrow_here c.requires (off c.pc.ensures.value c.if-pc-eq-WIDE.false) not_stored).starts)
     c.requires.stands
 
 pub returns-then-pc-eq-WIDE : goal.returns-then-pc-eq-WIDE
-returns-then-pc-eq-WIDE g c = Fronting.asks_wide c.requires (on c.pc.ensures.value c.if-pc-eq-WIDE.true) c.ask_wide.ensures
+returns-then-pc-eq-WIDE g c = FirstOperand.asks_wide c.requires (on c.pc.ensures.value c.if-pc-eq-WIDE.true) c.ask_wide.ensures
 
 pub returns-then-pc-eq-STROW : goal.returns-then-pc-eq-STROW
 returns-then-pc-eq-STROW g c =
     let here : c.args.machine.now.cpu.pc ≡ STROW = let a = c.pc-else-pc-eq-WIDE.ensures.value in let b = c.if-pc-eq-STROW.true in omega arith in
-    Fronting.asks_stored c.requires here c.ask_stored.ensures
+    FirstOperand.asks_stored c.requires here c.ask_stored.ensures
 
 pub returns-else-pc-eq-STROW : goal.returns-else-pc-eq-STROW
 returns-else-pc-eq-STROW g c =
     let x = c.args.machine.now in
     let not_stored : x.cpu.pc ≡ STROW → ⊥ = λ here. let a = c.pc-else-pc-eq-WIDE.ensures.value in let b = c.if-pc-eq-STROW.false in absurd (omega arith) in
-    Fronting.asks_first c.requires (off c.pc.ensures.value c.if-pc-eq-WIDE.false) not_stored c.ask_first.ensures
+    FirstOperand.asks_first c.requires (off c.pc.ensures.value c.if-pc-eq-WIDE.false) not_stored c.ask_first.ensures

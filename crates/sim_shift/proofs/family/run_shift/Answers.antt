@@ -13,4 +13,4 @@ pub run_row-requires : goal.run_row-requires
 run_row-requires g c = entry rows c.requires c.in-Some.is c.start_row.ensures
 
 pub returns : goal.returns
-returns g c = turned rows c.requires c.in-Some.is c.start_row.ensures 63 (omega arith) c.run_row.ensures
+returns g c = turned rows c.requires c.in-Some.is c.start_row.ensures 61 (omega arith) c.run_row.ensures

@@ -51,7 +51,7 @@ pub space_small : (space : Space) (number : ℕ) → number ≡ number_of_space 
 space_small Cpu number e = omega arith
 space_small Vdp number e = omega arith
 
--- ---- what the front holds
+-- ---- what holds where ADDR is asked
 
 -- a view with the same cells and ports sees the same
 pub sees_again : (s : GplState) (next : ℕ) (v w : View) → Sees s next v → w.cells ≡ v.cells → w.vdp ≡ v.vdp → w.grom ≡ v.grom → Sees s next w
@@ -206,7 +206,7 @@ located s bytes at next to most x y z t u w place even_to c d =
     let e : return_of (view y) ≡ to = link_is s bytes at to (view y) even_to c.holds in
     let d2 : Comes most_of_address y z u w to (Placed (view y) next place) =
     subst (λ (p : ℕ). Comes most_of_address y z u w p (Placed (view y) next place)) e d in
-    comes_as (most + most_of_address) (Located s bytes place next) (comes_on most 45 c d2 refl) (omega arith)
+    comes_as (most + most_of_address) (Located s bytes place next) (comes_on most 38 c d2 refl) (omega arith)
     (λ v a. record { holds = holds_addressed s bytes at next (view y) v c.holds.holds a; from = from_placed next place (view y) v a })
 
 pub barred : (s : GplState) (bytes at to most : ℕ) (reason : Reason) (x y z : MachineState) (t u w : ℕ) → Comes most x y t u ADDR (Asking s bytes at to) →
@@ -214,4 +214,4 @@ pub barred : (s : GplState) (bytes at to most : ℕ) (reason : Reason) (x y z : 
     Comes (most + most_of_address) x z t w GSTOP (StoppedBy s reason)
 barred s bytes at to most reason x y z t u w c d =
     comes_as (most + most_of_address) (StoppedBy s reason)
-    (comes_on most 45 c d refl) (omega arith) (λ v a. barred_stops s bytes at reason (view y) v c.holds.holds a)
+    (comes_on most 38 c d refl) (omega arith) (λ v a. barred_stops s bytes at reason (view y) v c.holds.holds a)
