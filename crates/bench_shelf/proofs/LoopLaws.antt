@@ -11,7 +11,8 @@ use Rattle.bench_shelf.specs.States.{ShelfState}
 use Rattle.bench_shelf.specs.declared.copying.Copying.{Copying}
 use Rattle.bench_shelf.specs.declared.copy_error.CopyError.{CopyError}
 use Rattle.source_defs.specs.declared.text.Line.{Line as TextLine}
-use Rattle.source_defs.specs.Lines.{lines}
+use Rattle.source_defs.specs.Lines.{lines, part}
+use Rattle.source_defs.proofs.LaidLaws.{texts_of}
 use Rattle.shelf_defs.specs.Copied.{most_bytes, most_copies}
 use Rattle.bench_shelf.specs.Leading.{Leads, LeadsAlone, IsHeld, HasRoom, Grows, count}
 use Rattle.bench_shelf.specs.KeptLines.{KeepsLines}
@@ -39,8 +40,8 @@ module _ (levels : ℕ) (file : Option (List ℕ)) where
       → Leads old (lines_in (copy_line files levels) file old.copies all) error last
 
   -- the place of a line
-  abbrev pub place_in : ℕ → Place
-  place_in number = record { file = file; line = number }
+  abbrev pub line_place : ℕ → Place
+  line_place number = record { file = file; line = number }
 
   abbrev pub Told : Option Files → (Files → Type 0) → Type 0
   Told told holds = IfSome told holds
@@ -58,7 +59,7 @@ module _ (levels : ℕ) (file : Option (List ℕ)) where
 
   module _ (old now mid : Copying) (all rest left : List (ℕ × List ℕ)) (number : ℕ) (text : List ℕ) (first : left ≡ (number, text) ∷ rest) where
     abbrev OneLeads : Option CopyError → Files → Type 0
-    OneLeads error files = Leads now (one_line (copy_line files levels) (place_in number) now.copies text) error mid
+    OneLeads error files = Leads now (one_line (copy_line files levels) (line_place number) now.copies text) error mid
 
     from_first : (files : Files) → Follows old all now left files → Follows old all now ((number, text) ∷ rest) files
     from_first files follows = subst (λ lines. Follows old all now lines files) first follows
@@ -69,7 +70,7 @@ module _ (levels : ℕ) (file : Option (List ℕ)) where
     follows_more (Some files) then same going follows leads =
         let one : OneLeads None files = subst (λ found. IfSome found (OneLeads None)) same leads in
         λ error last more. from_first files follows error last
-        (leads_then now mid last (one_line (copy_line files levels) (place_in number) now.copies text)
+        (leads_then now mid last (one_line (copy_line files levels) (line_place number) now.copies text)
         (λ copies. lines_in (copy_line files levels) file copies rest) error going one more)
 
     pub follows_end : (told then : Option Files) → then ≡ told → (IsOpen mid.builder → ⊥) → IfSome told (Follows old all now left)
@@ -78,7 +79,7 @@ module _ (levels : ℕ) (file : Option (List ℕ)) where
     follows_end (Some files) then same closed follows leads =
         let one : OneLeads None files = subst (λ found. IfSome found (OneLeads None)) same leads in
         from_first files follows None mid
-        (leads_ended now mid (one_line (copy_line files levels) (place_in number) now.copies text)
+        (leads_ended now mid (one_line (copy_line files levels) (line_place number) now.copies text)
         (λ copies. lines_in (copy_line files levels) file copies rest) closed one)
 
     pub follows_refused : (told then : Option Files) (error : CopyError) → then ≡ told → IfSome told (Follows old all now left)
@@ -87,8 +88,13 @@ module _ (levels : ℕ) (file : Option (List ℕ)) where
     follows_refused (Some files) then error same follows leads =
         let one : OneLeads (Some error) files = subst (λ found. IfSome found (OneLeads (Some error))) same leads in
         from_first files follows (Some error) mid
-        (leads_refused now mid mid (one_line (copy_line files levels) (place_in number) now.copies text)
+        (leads_refused now mid mid (one_line (copy_line files levels) (line_place number) now.copies text)
         (λ copies. lines_in (copy_line files levels) file copies rest) error one)
+
+-- the text of the first of some lines, and those of the others
+pub first_text : (text : List ℕ) (left rest : List TextLine) (line : TextLine) (own : List ℕ) → left ≡ line ∷ rest → own ≡ part text line.span
+    → texts_of text left ≡ (line.number, own) ∷ texts_of text rest
+first_text text left rest line own steps is = ap (texts_of text) steps ∙ ap (λ found. (line.number, found) ∷ texts_of text rest) (sym is)
 
 -- what lines without COPY lead to: none is left that asks for a file, and the shelf is as it was
 pub record FollowsAlone (levels : ℕ) (file : Option (List ℕ)) (old : Copying) (all : List (ℕ × List ℕ)) (now : Copying)
@@ -109,7 +115,7 @@ module _ (levels : ℕ) (file : Option (List ℕ)) (old now mid : Copying) (all 
   none_first = subst CopiesNone first alone.none
 
   abbrev OneAlone : Option CopyError → Type 0
-  OneAlone error = IsNoFile (asked text) → LeadsAlone now (one_line (copy_line empty levels) (place_in levels file number) now.copies text) error mid b c
+  OneAlone error = IsNoFile (asked text) → LeadsAlone now (one_line (copy_line empty levels) (line_place levels file number) now.copies text) error mid b c
 
   pub alone_more : IsOpen mid.builder → OneAlone None → FollowsAlone levels file old all mid rest a c
   alone_more going one =

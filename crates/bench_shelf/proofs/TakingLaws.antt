@@ -16,7 +16,7 @@ use Rattle.asm_defs.specs.FirstChecks.{check, checked, known_of, line_of}
 use Rattle.asm_defs.proofs.CheckLaws.{bound, checked_said}
 use Rattle.shelf_defs.specs.CopyLines.{says_end, ends_source}
 use Rattle.shelf_defs.specs.Copied as spec
-use Rattle.shelf_defs.specs.Copied.{Place, PlacedLine, CopyRefusal, Ending, Open, Ended, Copied, own_line, prepend}
+use Rattle.shelf_defs.specs.Copied.{Place, PlacedLine, Ending, Open, Ended, own_line, prepend}
 use Rattle.shelf_defs.specs.Assembly.{texts, places, place_of, in_place, unless_refused, laid_copied}
 use Rattle.asm_checks.specs.Answers.{Causes}
 use Rattle.asm_core.specs.Building.{HasTaken, IsOpen}

@@ -11,7 +11,7 @@ use Rattle.source_defs.specs.OperandLists.{one_of}
 use Rattle.source_defs.specs.Expression.{Value, Absolute, absolute, expression}
 use Rattle.source_defs.specs.Symbols.{Names, look_up}
 use Rattle.source_defs.specs.Growing as expressions
-use Rattle.source_defs.specs.Growing.{Grows, is_closed}
+use Rattle.source_defs.specs.Growing.{Grows}
 use Rattle.source_defs.proofs.GrowingLaws.{Stays, stays_same, stays_then, expression_stays}
 use Rattle.gpl_defs.specs.declared.instruction.TwoName.{TwoName}
 use Rattle.gpl_defs.specs.declared.instruction.MoveLength.{MoveLength}
@@ -26,11 +26,11 @@ use Rattle.gpl_source_defs.specs.Mnemonics.{mnemonic}
 use Rattle.gpl_source_defs.specs.Forms.{Memory, Form, InMemory, InGrom, Register, Alone, takes_two, takes_move}
 use Rattle.gpl_source_defs.specs.Values.{as_expr, number, numbers, index_value, operand}
 use Rattle.gpl_source_defs.specs.Skeletons.{Source, At, Immediate, Route, Within, ToMemory, ToRegisters, Skeleton, Plain, Jump, Branch, One, Two, Move, as_operand}
-use Rattle.gpl_source_defs.specs.Skeletons.{one_form, two_forms, move_forms, text_of_one, where_taken, operand_in, source_in, route_in, two_skeleton}
+use Rattle.gpl_source_defs.specs.Skeletons.{one_form, two_forms, move_forms, where_taken, operand_in, source_in, route_in, two_skeleton}
 use Rattle.gpl_source_defs.specs.Skeletons.{move_skeleton, skeleton}
 use Rattle.gpl_source_defs.specs.Skeletons as skeletons
 use Rattle.gpl_source_defs.specs.Statements.{Statement, Nothing, Instruction, Grom, Aorg, Equ, Bss, Data, Text, End, number_of_one, directive_statement}
-use Rattle.gpl_source_defs.specs.Statements.{instruction_statement, statement_by, operation_statement, statement_at}
+use Rattle.gpl_source_defs.specs.Statements.{instruction_statement, statement_by, statement_at}
 use Rattle.gpl_source_defs.specs.Statements as statements
 use Rattle.gpl_source_defs.specs.Locations.{address_of}
 use Rattle.gpl_source_defs.specs.FirstChecks.{as_text, said}

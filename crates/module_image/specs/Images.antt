@@ -1,5 +1,5 @@
 -- What the code keeps of the bytes that lines place.
-use Rattle.std.specs.Prelude.{◌≡◌, ℕ, Bool, IsTrue, false, List, ◌∷◌, length, Option, None, Result, if◌then◌else◌}
+use Rattle.std.specs.Prelude.{◌≡◌, ℕ, Bool, IsTrue, false, List, ◌∷◌, Option, None, Result, if◌then◌else◌}
 use Rattle.source_defs.specs.Refusals.{seen}
 use Rattle.object_defs.specs.Modules.{Reference}
 use Rattle.asm_defs.specs.declared.causes.AsmCause.{AsmCause}

@@ -1,5 +1,5 @@
 -- What a written module reads as.
-use Rattle.std.specs.Prelude.{◌≡◌, ◌<◌, true, [], ◌∷◌, IfSome, Ok, IsTrue}
+use Rattle.std.specs.Prelude.{◌≡◌, ◌<◌, [], ◌∷◌, IfSome, Ok, IsTrue}
 use Rattle.std.specs.List.{AllByRecursion}
 use Rattle.source_defs.specs.Names.{is_kept_name}
 use Rattle.object_defs.specs.declared.spot.Spot.{Spot}

@@ -5,7 +5,6 @@ use Rattle.std.specs.Prelude.{
   ℕ,
   ◌+◌,
   ◌*◌,
-  ◌/◌,
   ◌%◌,
   ◌==◌,
   Bool,

@@ -63,7 +63,8 @@ module _ (text : List ℕ) (at : ℕ) (lt : at < length text) where
       number_goes (digits_end text at) _ token (past_first _ (ap not is)) (least_place-le _ text at (omega arith)) e
 
   hexadecimal_goes : (b : Bool) (token : Token) → eqb (hexadecimal_end text (at + 1)) (at + 1) ≡ b
-      → cond b (Err BadToken) (number_token at (hexadecimal_end text (at + 1)) (hexadecimal_number (slice_range text (at + 1) (hexadecimal_end text (at + 1))))) ≡ Ok token
+      → cond b (Err BadToken)
+      (number_token at (hexadecimal_end text (at + 1)) (hexadecimal_number (slice_range text (at + 1) (hexadecimal_end text (at + 1))))) ≡ Ok token
       → Goes token
   hexadecimal_goes true token same e = (cc e)
   hexadecimal_goes false token same e =

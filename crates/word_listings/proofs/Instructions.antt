@@ -30,7 +30,7 @@ use Rattle.instruction_defs.specs.Operands.{following_words, words_of, slots_of,
 use Rattle.instruction_defs.specs.FirstChecks.{Skeleton, Instruction, first_checks, forms_of, all_following, size_of}
 use Rattle.instruction_defs.specs.SecondChecks as second
 use Rattle.instruction_defs.specs.SecondChecks.{Ready, Located, Counted, Displaced, Followed, all_valued, all_ranged, second_checks, displaced}
-use Rattle.instruction_defs.specs.SecondChecks.{instruction_of, following_in}
+use Rattle.instruction_defs.specs.SecondChecks.{instruction_of}
 use Rattle.tms_defs.specs.Words.{plus}
 use Rattle.tms_defs.specs.forms.Jump.{jump_target}
 use Rattle.instruction_defs.specs.Printed.{operand_text, register_text, number_text, signed_text, target_text, operands_text}

@@ -1,5 +1,5 @@
-use Rattle.std.proofs.Common.{◌≡◌, Bool, true, false, List, ◌∷◌, [], ◌++◌, Some, None, rules, sym, ap, ◌∙◌, append_assoc, refl}
-use Rattle.std.specs.Prelude.{Option, map, if◌then◌else◌}
+use Rattle.std.proofs.Common.{◌≡◌, Bool, true, false, ◌∷◌, [], ◌++◌, Some, None, rules, sym, ap, ◌∙◌, append_assoc}
+use Rattle.std.specs.Prelude.{map, if◌then◌else◌}
 use Rattle.source_defs.specs.Characters.{upper_case}
 use Rattle.source_defs.specs.Names.{is_name}
 use Rattle.source_defs.specs.Lines.{part}

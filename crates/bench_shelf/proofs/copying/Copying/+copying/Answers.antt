@@ -1,22 +1,22 @@
-use Rattle.std.proofs.Common.{◌≡◌, ◌<◌, ◌∷◌, Some, refl, sym, ap, ◌∙◌, subst, arith}
+use Rattle.std.proofs.Common.{◌≡◌, ℕ, ◌<◌, ◌∷◌, Some, refl, sym, ap, ◌∙◌, subst, arith}
 use Rattle.std.specs.Prelude.{IfSome}
 use Rattle.source_defs.specs.Lines.{LinesLieInside}
 use Rattle.source_defs.specs.Layout.{line_texts}
 use Rattle.source_defs.proofs.LaidLaws.{texts_of}
-use Rattle.bench_shelf.proofs.LoopLaws.{TakesLine, own_leads, own_told, own_takes, takes_as, place_in, Follows, all_taken, follows_first, alone_first, alone_more, alone_end, alone_refused, alone_taken, later_first, follows_more, follows_end, follows_refused, later_then, counts_first, counts_more, counts_grow, once_first}
+use Rattle.bench_shelf.proofs.LoopLaws.{first_text, TakesLine, own_leads, own_told, own_takes, takes_as, line_place, Follows, all_taken, follows_first, alone_first, alone_more, alone_end, alone_refused, alone_taken, later_first, follows_more, follows_end, follows_refused, later_then, counts_first, counts_more, counts_grow, once_first}
 use Rattle.bench_shelf.proofs.CountLaws.{once_then}
 use Rattle.bench_shelf.proofs.SinceLaws.{causes_since, each_since}
 use Rattle.bench_shelf.proofs.Keeping.{within_then}
 use Rattle.std.specs.FinMap.{empty}
-use Rattle.shelf_defs.specs.CopyLines.{asked}
+use Rattle.shelf_defs.specs.CopyLines.{asked, Itself}
 use Rattle.shelf_defs.specs.Alone.{IsNoFile}
 use Rattle.shelf_defs.specs.Copied.{copy_line, most_bytes, one_line, own_line}
 use Rattle.bench_shelf.specs.Leading.{Leads, LeadsAlone}
-use Rattle.bench_shelf.specs.CopyAnswers.{defined_place, failed_at}
-use Rattle.bench_shelf.specs.CopyAnswers.{place_in as kept_in}
+use Rattle.bench_shelf.specs.CopyAnswers.{defined_place, failed_at, place_in}
 use Rattle.bench_shelf.proofs.FileLaws.{told_many, told_not_read, told_read}
 use Rattle.bench_shelf.proofs.copying.Copying.+copying.Goals as goal
-use Rattle.bench_shelf.proofs.copying.Copying.+copying.Goals.{copy_lines-then-copies_nothing+in-Ok, copy_lines-else-copies_nothing+in-Ok-copy_asked}
+use Rattle.bench_shelf.proofs.copying.Copying.+copying.Given.{Over}
+use Rattle.bench_shelf.proofs.copying.Copying.+copying.Goals.{copy_lines-After-is_ended, copy_lines-After-failed, copy_lines-then-copies_nothing+in-Ok, copy_lines-else-copies_nothing+in-Ok-copy_asked}
 
 pub copy_file-returns-then-self-ge-MOST_COPIES-clause-leads : goal.copy_file-returns-then-self-ge-MOST_COPIES-clause-leads
 copy_file-returns-then-self-ge-MOST_COPIES-clause-leads g t c =
@@ -43,8 +43,7 @@ copy_lines-returns-in-Err-copy_asked-clause-leads g t c =
     let text = c.args.text.now in
     let line = c.in-Some.line in
     let next = c.next.new.self in
-    let first : texts_of text c.loop-line.line-iterator ≡ (line.number, c.part-own.result.now) ∷ texts_of text next =
-    ap (texts_of text) c.in-Some.ensures.steps ∙ ap (λ found. (line.number, found) ∷ texts_of text next) (sym c.part-own.ensures) in
+    let first = first_text text _ next line c.part-own.result.now c.in-Some.ensures.steps c.part-own.ensures in
     follows_refused c.args.levels c.args.file.now c.args.self.now c.loop-line.self c.copy_asked.new.self (line_texts text) (texts_of text next) _
     line.number c.part-own.result.now first _ _ c.in-Err-copy_asked.error i.3.files i.7
     (subst (λ at. IfSome (g.F.Shelf.shelf c.loop-line.shelf).files (λ files. Leads c.loop-line.self
@@ -102,8 +101,7 @@ copy_lines-returns-in-Err-copy_asked-clause-alone g t c alone =
     let text = c.args.text.now in
     let line = c.in-Some.line in
     let next = c.next.new.self in
-    let first : texts_of text c.loop-line.line-iterator ≡ (line.number, c.part-own.result.now) ∷ texts_of text next =
-    ap (texts_of text) c.in-Some.ensures.steps ∙ ap (λ found. (line.number, found) ∷ texts_of text next) (sym c.part-own.ensures) in
+    let first = first_text text _ next line c.part-own.result.now c.in-Some.ensures.steps c.part-own.ensures in
     alone_refused c.args.levels c.args.file.now c.args.self.now c.loop-line.self c.copy_asked.new.self (line_texts text) (texts_of text next) _
     line.number c.part-own.result.now first _ _ _ (i.10 alone) c.in-Err-copy_asked.error
     (subst (λ at. IsNoFile (asked c.part-own.result.now) → LeadsAlone c.loop-line.self
@@ -117,20 +115,17 @@ copy_lines-returns-clause-alone g t c alone =
     alone_taken c.args.levels c.args.file.now c.args.self.now c.loop-line.self (line_texts text) (texts_of text c.loop-line.line-iterator) _ _
     (ap (texts_of text) c.in-None.ensures.steps.0) i.2 (i.10 alone)
 
-pub copy_lines-returns-then-is_ended-clause-leads : goal.copy_lines-returns-then-is_ended-clause-leads
-copy_lines-returns-then-is_ended-clause-leads g t c =
+-- a line was taken on either way
+taken_line : (g : Over) (t : ℕ) (c : copy_lines-After-is_ended g t)
+    → TakesLine c.args.levels (line_place c.args.levels c.args.file.now c.in-Some.line.number) c.part-own.result.now c.loop-line.self c.if-copies_nothing.self
+    (g.F.Shelf.shelf c.loop-line.shelf) (g.F.Shelf.shelf c.if-copies_nothing.shelf)
+taken_line g t c =
     let i = c.loop-line.invariant in
     let state = g.F.Shelf.shelf in
-    let text = c.args.text.now in
-    let line = c.in-Some.line in
-    let next = c.next.new.self in
-    let first : texts_of text c.loop-line.line-iterator ≡ (line.number, c.part-own.result.now) ∷ texts_of text next =
-    ap (texts_of text) c.in-Some.ensures.steps ∙ ap (λ found. (line.number, found) ∷ texts_of text next) (sym c.part-own.ensures) in
-    let place = place_in c.args.levels c.args.file.now line.number in
+    let place = line_place c.args.levels c.args.file.now c.in-Some.line.number in
     let own = c.part-own.result.now in
     let now = c.loop-line.self in
     let mid = c.if-copies_nothing.self in
-    let taken : TakesLine c.args.levels place own now mid (state c.loop-line.shelf) (state c.if-copies_nothing.shelf) =
     elim c.if-copies_nothing.branch [
       | copy_lines-then-copies_nothing+in-Ok w ↦
           takes_as c.args.levels place place own now mid w.take.new.self _ _ _ refl w.self-is (ap state w.shelf-is)
@@ -147,103 +142,47 @@ copy_lines-returns-then-is_ended-clause-leads g t c =
             kept = w.copy_asked.ensures.kept;
             within = w.in-Ok-copy_asked.ensures.within;
           })
-    ] in
+    ]
+
+pub copy_lines-returns-then-is_ended-clause-leads : goal.copy_lines-returns-then-is_ended-clause-leads
+copy_lines-returns-then-is_ended-clause-leads g t c =
+    let i = c.loop-line.invariant in
+    let text = c.args.text.now in
+    let line = c.in-Some.line in
+    let next = c.next.new.self in
+    let first = first_text text _ next line c.part-own.result.now c.in-Some.ensures.steps c.part-own.ensures in
+    let own = c.part-own.result.now in
+    let now = c.loop-line.self in
+    let mid = c.if-copies_nothing.self in
+    let taken = taken_line g t (goal.at.copy_lines-returns-then-is_ended-clause-leads g t c).After-is_ended in
     follows_end c.args.levels c.args.file.now c.args.self.now now mid (line_texts text) (texts_of text next) _ line.number own first _ _ i.3.files
     (λ going. (cc (c.is_ended.ensures.open.1 going, c.if-is_ended.true))) i.7 taken.leads
 
 pub copy_lines-returns-then-is_ended-clause-once : goal.copy_lines-returns-then-is_ended-clause-once
 copy_lines-returns-then-is_ended-clause-once g t c =
     let i = c.loop-line.invariant in
-    let state = g.F.Shelf.shelf in
     let text = c.args.text.now in
-    let line = c.in-Some.line in
-    let next = c.next.new.self in
-    let place = place_in c.args.levels c.args.file.now line.number in
-    let own = c.part-own.result.now in
-    let now = c.loop-line.self in
-    let mid = c.if-copies_nothing.self in
-    let taken : TakesLine c.args.levels place own now mid (state c.loop-line.shelf) (state c.if-copies_nothing.shelf) =
-    elim c.if-copies_nothing.branch [
-      | copy_lines-then-copies_nothing+in-Ok w ↦
-          takes_as c.args.levels place place own now mid w.take.new.self _ _ _ refl w.self-is (ap state w.shelf-is)
-          (own_takes c.args.levels place own now w.take.new.self _ (w.if-copies_nothing.ensures refl) w.in-Ok.ensures.leads w.in-Ok.ensures.grows
-          w.take.ensures.copies i.4.most w.take.ensures.kept)
-      | copy_lines-else-copies_nothing+in-Ok-copy_asked w ↦
-          takes_as c.args.levels place _ own now mid w.copy_asked.new.self _ _ _ (ap defined_place w.place_in-else-copies_nothing.ensures) w.self-is
-          (ap state w.shelf-is) (record {
-            leads = w.in-Ok-copy_asked.ensures.leads;
-            alone = w.in-Ok-copy_asked.ensures.alone;
-            later = w.copy_asked.ensures.later;
-            once = w.copy_asked.ensures.once;
-            grows = w.in-Ok-copy_asked.ensures.grows;
-            kept = w.copy_asked.ensures.kept;
-            within = w.in-Ok-copy_asked.ensures.within;
-          })
-    ] in
+    let taken = taken_line g t (goal.at.copy_lines-returns-then-is_ended-clause-once g t c).After-is_ended in
     once_then _ _ _ _ _ _ i.4 taken.once
 
 pub copy_lines-returns-then-is_ended-clause-grows : goal.copy_lines-returns-then-is_ended-clause-grows
 copy_lines-returns-then-is_ended-clause-grows g t c =
     let i = c.loop-line.invariant in
-    let state = g.F.Shelf.shelf in
     let text = c.args.text.now in
-    let line = c.in-Some.line in
-    let next = c.next.new.self in
-    let place = place_in c.args.levels c.args.file.now line.number in
-    let own = c.part-own.result.now in
-    let now = c.loop-line.self in
-    let mid = c.if-copies_nothing.self in
-    let taken : TakesLine c.args.levels place own now mid (state c.loop-line.shelf) (state c.if-copies_nothing.shelf) =
-    elim c.if-copies_nothing.branch [
-      | copy_lines-then-copies_nothing+in-Ok w ↦
-          takes_as c.args.levels place place own now mid w.take.new.self _ _ _ refl w.self-is (ap state w.shelf-is)
-          (own_takes c.args.levels place own now w.take.new.self _ (w.if-copies_nothing.ensures refl) w.in-Ok.ensures.leads w.in-Ok.ensures.grows
-          w.take.ensures.copies i.4.most w.take.ensures.kept)
-      | copy_lines-else-copies_nothing+in-Ok-copy_asked w ↦
-          takes_as c.args.levels place _ own now mid w.copy_asked.new.self _ _ _ (ap defined_place w.place_in-else-copies_nothing.ensures) w.self-is
-          (ap state w.shelf-is) (record {
-            leads = w.in-Ok-copy_asked.ensures.leads;
-            alone = w.in-Ok-copy_asked.ensures.alone;
-            later = w.copy_asked.ensures.later;
-            once = w.copy_asked.ensures.once;
-            grows = w.in-Ok-copy_asked.ensures.grows;
-            kept = w.copy_asked.ensures.kept;
-            within = w.in-Ok-copy_asked.ensures.within;
-          })
-    ] in
+    let taken = taken_line g t (goal.at.copy_lines-returns-then-is_ended-clause-grows g t c).After-is_ended in
     counts_grow _ _ _ _ _ _ (counts_more _ _ _ _ _ _ _ i.5 c.in-Some.ensures.steps taken.grows) (once_then _ _ _ _ _ _ i.4 taken.once)
 
 pub copy_lines-returns-then-is_ended-clause-alone : goal.copy_lines-returns-then-is_ended-clause-alone
 copy_lines-returns-then-is_ended-clause-alone g t c alone =
     let i = c.loop-line.invariant in
-    let state = g.F.Shelf.shelf in
     let text = c.args.text.now in
     let line = c.in-Some.line in
     let next = c.next.new.self in
-    let first : texts_of text c.loop-line.line-iterator ≡ (line.number, c.part-own.result.now) ∷ texts_of text next =
-    ap (texts_of text) c.in-Some.ensures.steps ∙ ap (λ found. (line.number, found) ∷ texts_of text next) (sym c.part-own.ensures) in
-    let place = place_in c.args.levels c.args.file.now line.number in
+    let first = first_text text _ next line c.part-own.result.now c.in-Some.ensures.steps c.part-own.ensures in
     let own = c.part-own.result.now in
     let now = c.loop-line.self in
     let mid = c.if-copies_nothing.self in
-    let taken : TakesLine c.args.levels place own now mid (state c.loop-line.shelf) (state c.if-copies_nothing.shelf) =
-    elim c.if-copies_nothing.branch [
-      | copy_lines-then-copies_nothing+in-Ok w ↦
-          takes_as c.args.levels place place own now mid w.take.new.self _ _ _ refl w.self-is (ap state w.shelf-is)
-          (own_takes c.args.levels place own now w.take.new.self _ (w.if-copies_nothing.ensures refl) w.in-Ok.ensures.leads w.in-Ok.ensures.grows
-          w.take.ensures.copies i.4.most w.take.ensures.kept)
-      | copy_lines-else-copies_nothing+in-Ok-copy_asked w ↦
-          takes_as c.args.levels place _ own now mid w.copy_asked.new.self _ _ _ (ap defined_place w.place_in-else-copies_nothing.ensures) w.self-is
-          (ap state w.shelf-is) (record {
-            leads = w.in-Ok-copy_asked.ensures.leads;
-            alone = w.in-Ok-copy_asked.ensures.alone;
-            later = w.copy_asked.ensures.later;
-            once = w.copy_asked.ensures.once;
-            grows = w.in-Ok-copy_asked.ensures.grows;
-            kept = w.copy_asked.ensures.kept;
-            within = w.in-Ok-copy_asked.ensures.within;
-          })
-    ] in
+    let taken = taken_line g t (goal.at.copy_lines-returns-then-is_ended-clause-alone g t c).After-is_ended in
     alone_end c.args.levels c.args.file.now c.args.self.now now mid (line_texts text) (texts_of text next) _ line.number own first _ _ _ (i.10 alone)
     (λ going. (cc (c.is_ended.ensures.open.1 going, c.if-is_ended.true))) taken.alone
 
@@ -254,30 +193,11 @@ copy_lines-loop-line-preserved g t c =
     let text = c.args.text.now in
     let line = c.in-Some.line in
     let next = c.next.new.self in
-    let first : texts_of text c.loop-line.line-iterator ≡ (line.number, c.part-own.result.now) ∷ texts_of text next =
-    ap (texts_of text) c.in-Some.ensures.steps ∙ ap (λ found. (line.number, found) ∷ texts_of text next) (sym c.part-own.ensures) in
-    let place = place_in c.args.levels c.args.file.now line.number in
+    let first = first_text text _ next line c.part-own.result.now c.in-Some.ensures.steps c.part-own.ensures in
     let own = c.part-own.result.now in
     let now = c.loop-line.self in
     let mid = c.if-copies_nothing.self in
-    let taken : TakesLine c.args.levels place own now mid (state c.loop-line.shelf) (state c.if-copies_nothing.shelf) =
-    elim c.if-copies_nothing.branch [
-      | copy_lines-then-copies_nothing+in-Ok w ↦
-          takes_as c.args.levels place place own now mid w.take.new.self _ _ _ refl w.self-is (ap state w.shelf-is)
-          (own_takes c.args.levels place own now w.take.new.self _ (w.if-copies_nothing.ensures refl) w.in-Ok.ensures.leads w.in-Ok.ensures.grows
-          w.take.ensures.copies i.4.most w.take.ensures.kept)
-      | copy_lines-else-copies_nothing+in-Ok-copy_asked w ↦
-          takes_as c.args.levels place _ own now mid w.copy_asked.new.self _ _ _ (ap defined_place w.place_in-else-copies_nothing.ensures) w.self-is
-          (ap state w.shelf-is) (record {
-            leads = w.in-Ok-copy_asked.ensures.leads;
-            alone = w.in-Ok-copy_asked.ensures.alone;
-            later = w.copy_asked.ensures.later;
-            once = w.copy_asked.ensures.once;
-            grows = w.in-Ok-copy_asked.ensures.grows;
-            kept = w.copy_asked.ensures.kept;
-            within = w.in-Ok-copy_asked.ensures.within;
-          })
-    ] in
+    let taken = taken_line g t (goal.at.copy_lines-loop-line-preserved g t c).After-is_ended in
     let inside : LinesLieInside text (line ∷ next) = subst (LinesLieInside text) c.in-Some.ensures.steps i.6 in
     let going = c.is_ended.ensures.open.0 c.if-is_ended.false in (
       tt,
@@ -294,46 +214,43 @@ copy_lines-loop-line-preserved g t c =
           taken.alone,
     )
 
+-- a line that stands for itself was refused
+refused_line : (g : Over) (t : ℕ) (c : copy_lines-After-failed g t)
+    → (asked c.part-own.result.now ≡ Itself)
+    × Leads c.loop-line.self (own_line (line_place c.args.levels c.args.file.now c.in-Some.line.number) c.loop-line.self.copies c.part-own.result.now)
+    (Some c.failed.result) c.take.new.self
+refused_line g t c =
+    let now = c.loop-line.self in
+    let place = line_place c.args.levels c.args.file.now c.in-Some.line.number in
+    let is : failed_at (place_in c.args.file.now c.in-Some.line.number) c.in-Err.failure ≡ c.failed.result =
+    sym (c.failed.ensures ∙ ap (λ at. failed_at at c.in-Err.failure) c.place_in.ensures) in (
+      c.if-copies_nothing.ensures refl,
+      subst (λ error. Leads now (own_line place now.copies c.part-own.result.now) (Some error) c.take.new.self) is c.in-Err.ensures.leads,
+    )
+
 pub copy_lines-returns-in-Err-clause-leads : goal.copy_lines-returns-in-Err-clause-leads
 copy_lines-returns-in-Err-clause-leads g t c =
     let i = c.loop-line.invariant in
-    let state = g.F.Shelf.shelf in
     let text = c.args.text.now in
     let line = c.in-Some.line in
     let next = c.next.new.self in
-    let first : texts_of text c.loop-line.line-iterator ≡ (line.number, c.part-own.result.now) ∷ texts_of text next =
-    ap (texts_of text) c.in-Some.ensures.steps ∙ ap (λ found. (line.number, found) ∷ texts_of text next) (sym c.part-own.ensures) in
-    let place = place_in c.args.levels c.args.file.now line.number in
     let own = c.part-own.result.now in
-    let now = c.loop-line.self in
-    let mid = c.take.new.self in
-    let error = c.failed.result in
-    let is : failed_at (kept_in c.args.file.now line.number) c.in-Err.failure ≡ error =
-    sym (c.failed.ensures ∙ ap (λ at. failed_at at c.in-Err.failure) c.place_in.ensures) in
-    let leads : Leads now (own_line place now.copies own) (Some error) mid =
-    subst (λ error. Leads now (own_line place now.copies own) (Some error) mid) is c.in-Err.ensures.leads in
-    let asks = c.if-copies_nothing.ensures refl in
-    follows_refused c.args.levels c.args.file.now c.args.self.now now mid (line_texts text) (texts_of text next) _ line.number own first _ _ error i.3.files i.7
-    (own_told c.args.levels _ now mid place own (Some error) asks leads)
+    let first = first_text text _ next line own c.in-Some.ensures.steps c.part-own.ensures in
+    let refused = refused_line g t (goal.at.copy_lines-returns-in-Err-clause-leads g t c).After-failed in
+    follows_refused c.args.levels c.args.file.now c.args.self.now c.loop-line.self c.take.new.self (line_texts text) (texts_of text next) _ line.number own first
+    _ _ c.failed.result i.3.files i.7 (own_told c.args.levels _ c.loop-line.self c.take.new.self _ own (Some c.failed.result) refused.0 refused.1)
 
 pub copy_lines-returns-in-Err-clause-alone : goal.copy_lines-returns-in-Err-clause-alone
 copy_lines-returns-in-Err-clause-alone g t c alone =
     let i = c.loop-line.invariant in
-    let state = g.F.Shelf.shelf in
     let text = c.args.text.now in
     let line = c.in-Some.line in
     let next = c.next.new.self in
-    let first : texts_of text c.loop-line.line-iterator ≡ (line.number, c.part-own.result.now) ∷ texts_of text next =
-    ap (texts_of text) c.in-Some.ensures.steps ∙ ap (λ found. (line.number, found) ∷ texts_of text next) (sym c.part-own.ensures) in
-    let place = place_in c.args.levels c.args.file.now line.number in
     let own = c.part-own.result.now in
-    let now = c.loop-line.self in
-    let mid = c.take.new.self in
-    let error = c.failed.result in
-    let is : failed_at (kept_in c.args.file.now line.number) c.in-Err.failure ≡ error =
-    sym (c.failed.ensures ∙ ap (λ at. failed_at at c.in-Err.failure) c.place_in.ensures) in
-    let leads : Leads now (own_line place now.copies own) (Some error) mid =
-    subst (λ error. Leads now (own_line place now.copies own) (Some error) mid) is c.in-Err.ensures.leads in
-    let asks = c.if-copies_nothing.ensures refl in
-    alone_refused c.args.levels c.args.file.now c.args.self.now now mid (line_texts text) (texts_of text next) _ line.number own first _ _ _ (i.10 alone) error
-    (λ none. record { shelf = refl; leads = own_leads (copy_line empty c.args.levels) now mid place own (Some error) asks leads })
+    let first = first_text text _ next line own c.in-Some.ensures.steps c.part-own.ensures in
+    let refused = refused_line g t (goal.at.copy_lines-returns-in-Err-clause-alone g t c).After-failed in
+    alone_refused c.args.levels c.args.file.now c.args.self.now c.loop-line.self c.take.new.self (line_texts text) (texts_of text next) _ line.number own first
+    _ _ _ (i.10 alone) c.failed.result (λ none. record {
+      shelf = refl;
+      leads = own_leads (copy_line empty c.args.levels) c.loop-line.self c.take.new.self _ own (Some c.failed.result) refused.0 refused.1;
+    })
