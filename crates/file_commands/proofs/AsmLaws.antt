@@ -29,7 +29,7 @@ use Rattle.file_report_defs.specs.Reports.{copy_report}
 use Rattle.reports.specs.declared.unreported.Unreported.{Unreported}
 use Rattle.reports.specs.Answers.{Reported, error_answer}
 use Rattle.file_commands.specs.Copying.{copy_refusal}
-use Rattle.file_commands.specs.Reported.{CopyCauses, CopyReported, FailureCauses}
+use Rattle.file_commands.specs.Reported.{CopyCauses, CopyReported, CopyFails}
 
 module _ (before after : ShelfState) (source : List ℕ) where
   told_module : (told : Option Files) (found : Module)
@@ -85,7 +85,7 @@ module _ (before after : ShelfState) (source : List ℕ) where
       → (CopiesNone (line_texts source) → (after ≡ before) × CopyRefuses error (module_of_files empty source))
       → ShelfCauses error before after
       → error_answer unreported ≡ seen (λ refusal. copy_report (Err refusal)) (copy_refusal error)
-      → Reported (CopyReported before after source) (FailureCauses most_bytes before after) (error_answer unreported)
+      → Reported (CopyReported before after source) (CopyFails before after) (error_answer unreported)
   error_reported (At file line cause) unreported gives alone causes is = rw is (record {
     answer = Err (copied.At (record { file = file; line = line }) (defined_cause cause));
     told = told_line before.files file line cause gives;

@@ -109,7 +109,7 @@ stops_by before after front rest names name texts (error.Missing other) all open
 stops_by before after front rest names name texts error.TooLarge all opens so_far is =
     (name, record { front = front; rest = rest; are = all; opens = opens; read = read_ok before.files front texts so_far })
 stops_by before after front rest names name texts error.Fault all opens so_far is =
-    omega (arith, opens, ap length all, length-append front (name ∷ rest))
+    (name, record { front = front; rest = rest; are = all; opens = opens; read = read_ok before.files front texts so_far })
 stops_by before after front rest names name texts error.Memory all opens so_far is =
     omega (arith, opens, ap length all, length-append front (name ∷ rest))
 

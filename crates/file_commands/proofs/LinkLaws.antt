@@ -20,7 +20,7 @@ use Rattle.file_commands.specs.Modules.{ReportsRefused}
 use Rattle.reports.specs.declared.unreported.Unreported.{Unreported}
 use Rattle.reports.specs.Answers.{WantsMemory, Reported, error_answer}
 use Rattle.file_commands.specs.Reading.{defined_texts, Refuses, ErrorCauses, StopsBy, refusal_of}
-use Rattle.file_commands.specs.Reported.{LinkReported, FailureCauses}
+use Rattle.file_commands.specs.Reported.{LinkReported, LinkFails}
 
 names_seen : (texts : List FileText) → map (λ text. text.0) (defined_texts texts) ≡ map (λ text. text.name) texts
 names_seen [] = refl
@@ -37,7 +37,7 @@ module _ (before after : ShelfState) (names : List (List ℕ)) where
       → map (λ text. text.name) texts ≡ names → TookNoMore largest_input before after
       → after.opens ≡ raised before.opens (length names)
       → linked ≡ texts → Reported (λ report. report ≡ files_report (linked_texts (defined_texts linked))) WantsMemory answer
-      → Reported (LinkReported before after names) (FailureCauses largest_input before after) answer
+      → Reported (LinkReported before after names) (LinkFails names before after) answer
   texts_reported texts linked (Ok report) gives named within opens same is = record {
     texts = Ok (defined_texts texts);
     told = told_texts before.files names (Ok (defined_texts texts)) gives;
@@ -50,7 +50,7 @@ module _ (before after : ShelfState) (names : List (List ℕ)) where
       → IfSome before.files (λ files. Refuses error (read_files files names)) → ErrorCauses error before after
       → StopsBy names error before after
       → error_answer unreported ≡ seen (λ refusal. files_report (Err refusal)) (refusal_of error)
-      → Reported (LinkReported before after names) (FailureCauses largest_input before after) (error_answer unreported)
+      → Reported (LinkReported before after names) (LinkFails names before after) (error_answer unreported)
   error_reported (Missing name) unreported gives causes stops is = rw is (record {
     texts = Err (spec.Missing name);
     told = told_texts before.files names (Err (spec.Missing name)) gives;
@@ -63,7 +63,7 @@ module _ (before after : ShelfState) (names : List (List ℕ)) where
     causes = (causes, stops.0, stops.1);
     is = refl;
   })
-  error_reported Fault unreported gives causes stops is = rw is causes
+  error_reported Fault unreported gives causes stops is = rw is (causes.0, causes.1, stops.0, stops.1)
   error_reported Memory unreported gives causes stops is = rw is causes
 
 -- ---- what is reported of files that were read

@@ -57,7 +57,7 @@ pub record StopsAt (names : List (List ℕ)) (name : List ℕ) (before after : S
 abbrev pub StopsBy : List (List ℕ) → ReadingError → ShelfState → ShelfState → Type 0
 StopsBy names (Missing name) before after = StopsAt names name before after
 StopsBy names TooLarge before after = (name : List ℕ) × StopsAt names name before after
-StopsBy names Fault before after = after.opens ≤ raised before.opens (length names)
+StopsBy names Fault before after = (name : List ℕ) × StopsAt names name before after
 StopsBy names Memory before after = after.opens ≤ raised before.opens (length names)
 
 -- the refusal of the definitions; a shelf that failed and want of memory have none

@@ -25,13 +25,13 @@ use Rattle.file_report_defs.specs.LinkedFiles.{read_files, linked_texts}
 use Rattle.file_report_defs.specs.Reports.{copy_report, files_report}
 use Rattle.file_commands.specs.Reading.{StopsAt}
 
--- Why nothing is reported: the shelf failed, which it has counted. Want of memory tells nothing. Of no file more bytes
--- were taken than it may have.
-abbrev pub FailureCauses : ℕ → ShelfState → ShelfState → Status → Type 0
-FailureCauses limit before after status.ReadFault =
-    Rose before.source.faults after.source.faults × TookNoMore limit before after
-FailureCauses limit before after status.Memory = TookNoMore limit before after
-FailureCauses limit before after other = ⊥
+-- Why nothing is reported of a source: the shelf failed, which it has counted. Want of memory tells nothing. Of no file
+-- more bytes were taken than it may have.
+abbrev pub CopyFails : ShelfState → ShelfState → Status → Type 0
+CopyFails before after status.ReadFault =
+    Rose before.source.faults after.source.faults × TookNoMore most_bytes before after
+CopyFails before after status.Memory = TookNoMore most_bytes before after
+CopyFails before after other = ⊥
 
 -- A name that is missing was counted, and a file is too large exactly where more bytes of one were taken than it may
 -- have. No line is refused because memory was wanting.
@@ -74,3 +74,11 @@ pub record LinkReported (before after : ShelfState) (names : List (List ℕ)) (r
   pub told : IfSome before.files (λ files. texts ≡ read_files files names)
   pub causes : ReadCauses names texts before after
   pub is : report ≡ files_report (texts >>= linked_texts)
+
+-- Why nothing is reported of files that are linked: likewise, and no file is asked for behind the one that failed.
+abbrev pub LinkFails : List (List ℕ) → ShelfState → ShelfState → Status → Type 0
+LinkFails names before after status.ReadFault =
+    Rose before.source.faults after.source.faults × TookNoMore largest_input before after
+    × (name : List ℕ) × StopsAt names name before after
+LinkFails names before after status.Memory = TookNoMore largest_input before after
+LinkFails names before after other = ⊥

@@ -11,7 +11,7 @@ ghost use Rattle.bench_shelf.specs.KeptLines.{IsOfLines};
 ghost use Rattle.report_defs.specs.Report.{largest_input};
 ghost use Rattle.file_report_defs.specs.Reports.{copy_report};
 ghost use Rattle.file_commands.specs.Copying.{copy_refusal};
-ghost use Rattle.file_commands.specs.Reported.{CopyReported, FailureCauses};
+ghost use Rattle.file_commands.specs.Reported.{CopyReported, CopyFails};
 ghost use Rattle.reports.specs.Answers.{answer, Reported, error_answer};
 
 use crate::causes::copy_line;
@@ -35,7 +35,7 @@ use std::alloc::{AllocError, Global};
 pub fn asm_files<F: Shelf>(alloc: Global, shelf: &mut F, text: &[u8]) -> Result<Report, Unreported>
     requires { length text.now ≤ largest_input }
     ensures report { Reported (CopyReported (F.shelf shelf.old) (F.shelf shelf.new) text.now)
-        (FailureCauses most_bytes (F.shelf shelf.old) (F.shelf shelf.new)) (answer result) }
+        (CopyFails (F.shelf shelf.old) (F.shelf shelf.new)) (answer result) }
     ensures opens { (F.shelf shelf.new).opens ≤ raised (F.shelf shelf.old).opens most_copies }
     ensures taken { (F.shelf shelf.new).source.taken
         ≤ raised (F.shelf shelf.old).source.taken ((most_bytes + 1) * most_copies) }

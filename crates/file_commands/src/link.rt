@@ -9,7 +9,7 @@ ghost use Rattle.file_report_defs.specs.Words.{most_files};
 ghost use Rattle.file_report_defs.specs.LinkedFiles.{linked_texts};
 ghost use Rattle.file_report_defs.specs.Reports.{files_report};
 ghost use Rattle.file_commands.specs.Reading.{defined_texts, refusal_of};
-ghost use Rattle.file_commands.specs.Reported.{LinkReported, FailureCauses};
+ghost use Rattle.file_commands.specs.Reported.{LinkReported, LinkFails};
 ghost use Rattle.reports.specs.Answers.{answer, WantsMemory, Reported, error_answer};
 
 use crate::causes::missing_line;
@@ -27,8 +27,8 @@ use std::alloc::Global;
 /// All files are read first, in their order, each of at most 1,048,576 bytes; then their texts are read in that order;
 /// then the modules of all are linked. It is the report of the defined linked memory where the shelf tells its files.
 /// Also where it tells none, a file is reported as too large exactly where more than 1,048,576 bytes of one were taken.
-/// In all no more bytes are taken than one more than these, for each of 16 files. Each file is asked for once, and none
-/// behind one that is missing or too large.
+/// In all no more bytes are taken than one more than these, for each of the files. Each file is asked for once, and none
+/// behind one that is missing or too large, or at which the shelf failed.
 ///
 /// # Errors
 /// `Refused` and `Fault` tell which file is missing or has a bad place, that one is too large, and why the modules
@@ -41,10 +41,10 @@ pub fn link_files<F: Shelf>(
 ) -> Result<Report, Unreported>
     requires { length names.now ≤ most_files }
     ensures report { Reported (LinkReported (F.shelf shelf.old) (F.shelf shelf.new) names.now)
-        (FailureCauses largest_input (F.shelf shelf.old) (F.shelf shelf.new)) (answer result) }
+        (LinkFails names.now (F.shelf shelf.old) (F.shelf shelf.new)) (answer result) }
     ensures opens { (F.shelf shelf.new).opens ≤ raised (F.shelf shelf.old).opens (length names.now) }
     ensures taken { (F.shelf shelf.new).source.taken
-        ≤ raised (F.shelf shelf.old).source.taken ((largest_input + 1) * most_files) }
+        ≤ raised (F.shelf shelf.old).source.taken ((largest_input + 1) * length names.now) }
     ensures later { Later (F.shelf shelf.old) (F.shelf shelf.new) }
 {
     match read_files(alloc, shelf, names) {

@@ -5,6 +5,8 @@ use Rattle.std.specs.Prelude.{IfSome, MatchBool, nat_lt}
 use Rattle.source_defs.specs.Refusals.{◌>>=◌}
 use Rattle.shelf_defs.specs.Files.{Files}
 use Rattle.shelf_defs.specs.Assembly.{module_of_files}
+use Rattle.watch_defs.proofs.FirstHits.{hits_are_first}
+use Rattle.watch_defs.proofs.Changes.{ranges_hold_by_their_bytes}
 use Rattle.report_defs.specs.declared.command.Command.{Command}
 use Rattle.report_defs.specs.declared.fault.Fault.TheVariants.{TooLarge}
 use Rattle.report_defs.specs.declared.status.Status.{Status}
@@ -60,7 +62,7 @@ on_files (Watch limit items) run input files report told (source, reading, same,
 no_failure : (command : FileCommand) (run : FileRun) → ReadFailedWith command run → HasNoFaultWith run → ⊥
 no_failure AsmFiles run (inl failed) none = none.input failed.0
 no_failure AsmFiles run (inr failed) none = none.shelf failed.2
-no_failure (LinkFiles names) run failed none = none.shelf failed
+no_failure (LinkFiles names) run failed none = none.shelf failed.0
 no_failure (Watch limit items) run failed none = none.input failed
 
 over : (command : FileCommand) (run : FileRun) (end : Status) → EndsOver command run end → HasNoFaultWith run
@@ -148,5 +150,7 @@ laws =
       completeness = completeness;
       one_answer = one_answer;
       listed_words = listed_words_come_back_with;
+      first_hits = hits_are_first;
+      ranges = ranges_hold_by_their_bytes;
       plain = bench.laws;
     }

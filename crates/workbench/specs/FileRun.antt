@@ -12,11 +12,12 @@ use Rattle.report_defs.specs.declared.fault.Fault.TheVariants.{TooLarge}
 use Rattle.report_defs.specs.Report.{Report, Faulty, OnInput, largest_input}
 use Rattle.file_report_defs.specs.Words.{FileCommand, AsmFiles, LinkFiles, Watch}
 use Rattle.file_report_defs.specs.Words.{ProgramCommand, OverFiles, Plain}
-use Rattle.file_report_defs.specs.Words.{most_files, program_command, program_usage}
+use Rattle.file_report_defs.specs.Words.{program_command, program_usage}
 use Rattle.file_report_defs.specs.Whole.{WatchReport}
 use Rattle.shelf_defs.specs.Copied.{most_bytes, most_copies}
 use Rattle.bench_shelf.specs.States.{ShelfState}
 use Rattle.bench_shelf.specs.Causes.{TookNoMore}
+use Rattle.file_commands.specs.Reading.{StopsAt}
 use Rattle.file_commands.specs.Reported.{CopyReported, LinkReported}
 use Rattle.reports.specs.Outputs.{Outputs, EndsWith}
 use Rattle.reports.specs.Answers.{EndsByLine}
@@ -58,10 +59,16 @@ pub record TookWithin (before after : SourceState) : Type 0 where
   pub one : empty ≤ 1
   pub took : Took before after bytes empty
 
+-- the shelf is as it was, unless the input was taken whole before
+abbrev pub ReadsFirst : FileRun → Type 0
+ReadsFirst run =
+    (run.shelf' ≡ run.shelf) ⊎ ((source : List ℕ) × ReadWhole largest_input run.input run.input' source)
+
 -- What a run that wrote nothing leaves of the input and of the shelf. Of no file more bytes were taken than it may
--- have: else the file is told as too large.
+-- have: else the file is told as too large. `asm` opens none before it has taken the input whole.
 abbrev pub Leaves : FileCommand → FileRun → Type 0
-Leaves AsmFiles run = TookWithin run.input run.input' × TookNoMore most_bytes run.shelf run.shelf'
+Leaves AsmFiles run =
+    TookWithin run.input run.input' × TookNoMore most_bytes run.shelf run.shelf' × ReadsFirst run
 Leaves (LinkFiles names) run = (run.input' ≡ run.input) × TookNoMore largest_input run.shelf run.shelf'
 Leaves (Watch limit items) run = TookWithin run.input run.input' × (run.shelf' ≡ run.shelf)
 
@@ -71,13 +78,14 @@ pub record WroteNothingWith (command : FileCommand) (run : FileRun) : Type 0 whe
   pub err : run.outputs.err' ≡ run.outputs.err
 
 -- A call failed of what the command reads: of the input, and then no file was opened; or of the shelf, which `asm` asks
--- for files when the input was taken whole.
+-- for files when the input was taken whole. `link` asks for no file behind the one at which the shelf failed.
 abbrev pub ReadFailedWith : FileCommand → FileRun → Type 0
 ReadFailedWith AsmFiles run =
     (Rose run.input.faults run.input'.faults × (run.shelf' ≡ run.shelf))
     ⊎ ((source : List ℕ) × ReadWhole largest_input run.input run.input' source
     × Rose run.shelf.source.faults run.shelf'.source.faults)
-ReadFailedWith (LinkFiles names) run = Rose run.shelf.source.faults run.shelf'.source.faults
+ReadFailedWith (LinkFiles names) run =
+    Rose run.shelf.source.faults run.shelf'.source.faults × (name : List ℕ) × StopsAt names name run.shelf run.shelf'
 ReadFailedWith (Watch limit items) run = Rose run.input.faults run.input'.faults
 
 -- the run ended by the writing of its report, whole or up to where an output failed
@@ -125,6 +133,6 @@ TakesOfShelf (Some (OverFiles AsmFiles)) before after =
     × (after.source.taken ≤ raised before.source.taken ((most_bytes + 1) * most_copies))
 TakesOfShelf (Some (OverFiles (LinkFiles names))) before after =
     (after.opens ≤ raised before.opens (length names))
-    × (after.source.taken ≤ raised before.source.taken ((largest_input + 1) * most_files))
+    × (after.source.taken ≤ raised before.source.taken ((largest_input + 1) * length names))
 TakesOfShelf (Some (OverFiles (Watch limit items))) before after = after ≡ before
 TakesOfShelf (Some (Plain command)) before after = after ≡ before

@@ -2,6 +2,8 @@
 use Rattle.std.specs.Prelude.{◌≡◌, ◌≢◌, ℕ, List, Some}
 use Rattle.count_defs.specs.Counts.{Rose}
 use Rattle.shelf_defs.specs.Files.{Files}
+use Rattle.watch_defs.specs.Laws.{HitsAreFirst}
+use Rattle.watch_defs.specs.RangeLaw.{RangesHoldByTheirBytes}
 use Rattle.report_defs.specs.declared.status.Status.{Status}
 use Rattle.report_defs.specs.declared.status.Status.TheVariants.{Memory}
 use Rattle.file_report_defs.specs.Words.{AsmFiles, LinkFiles, Watch, ProgramCommand, OverFiles, Plain, program_command}
@@ -54,11 +56,14 @@ OneAnswerWith =
     → EndsFileRun words first one → EndsFileRun words second other → one ≢ Memory → other ≢ Memory
     → one ≡ other
 
--- the laws of all runs with files, and those of runs without; and that what dis lists is assembled to what was listed,
--- whatever files there are
+-- The laws of all runs with files, and those of runs without; that what dis lists is assembled to what was listed,
+-- whatever files there are; and that what is found of watched items is the first step at which one holds, a range by its
+-- bytes.
 pub record LawsOfFileRuns : Type 0 where
   pub one_report : OneReportWith
   pub completeness : CompletenessWith
   pub one_answer : OneAnswerWith
   pub listed_words : ListedWordsComeBackWith
+  pub first_hits : HitsAreFirst
+  pub ranges : RangesHoldByTheirBytes
   pub plain : LawsOfRuns

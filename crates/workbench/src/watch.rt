@@ -1,4 +1,4 @@
-//! `watch`: a GPL program that is run up to the first step that changes a watched place.
+//! `watch`: a GPL program that is run up to the first step at which a watched item holds.
 
 ghost use Rattle.std.specs.Prelude.{◌≤◌, length};
 ghost use Rattle.report_defs.specs.Report.{largest_input};
