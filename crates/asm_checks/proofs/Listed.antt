@@ -2,28 +2,16 @@
 use Rattle.std.proofs.Common.{◌≡◌, ℕ, List, [], ◌∷◌, ◌++◌, Ok, Err, refl, sym, ap, append_assoc}
 use Rattle.std.specs.Prelude.{Option, Result}
 use Rattle.source_defs.specs.declared.causes.ExprError.{ExprError}
-use Rattle.source_defs.specs.declared.causes.ExprError.TheVariants as expr
 use Rattle.source_defs.specs.Refusals.{after, ◌>>=◌}
 use Rattle.source_defs.specs.Expression.{Value}
 use Rattle.asm_defs.specs.declared.location.Location.{Location}
 use Rattle.asm_defs.specs.Locations.{behind}
 use Rattle.asm_defs.specs.SecondChecks.{word_in, data_values, absolute_in, byte_values}
-use Rattle.asm_text.specs.Yielded.{Yields}
 
 pub after_more : {A E : Type 0} (front : List A) (item : A) (others : Result (List A) E)
     → after front (others >>= λ items. Ok (item ∷ items)) ≡ after (front ++ item ∷ []) others
 after_more front item (Ok items) = ap Ok (sym (append_assoc front (item ∷ []) items))
 after_more front item (Err error) = refl
-
--- an error of one value is one of the whole
-pub yields_error : {A B C D : Type 0} (see : A → B) (see' : C → D) (error : ExprError) (defined : Result B ExprError) (whole : Result D ExprError)
-    → Yields see (Err error) defined → ((cause : ExprError) → defined ≡ Err cause → whole ≡ Err cause) → Yields see' (Err error) whole
-yields_error see see' expr.BadToken defined whole e goes = goes expr.BadToken e
-yields_error see see' expr.UnknownName defined whole e goes = goes expr.UnknownName e
-yields_error see see' expr.BadRelocation defined whole e goes = goes expr.BadRelocation e
-yields_error see see' expr.TooLarge defined whole e goes = goes expr.TooLarge e
-yields_error see see' expr.DivideByZero defined whole e goes = goes expr.DivideByZero e
-yields_error see see' expr.Memory defined whole e goes = tt
 
 module _ (look : List ℕ → Option Value) (at : Location) where
   pub byte_more : (front : List ℕ) (text : List ℕ) (texts : List (List ℕ)) (number : ℕ) → absolute_in look at text ≡ Ok number

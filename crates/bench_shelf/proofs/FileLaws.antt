@@ -55,10 +55,6 @@ too_many (suc levels) files place copies name some few =
     let more : nat_le most_copies copies ≡ true = grind (arith, nat_tests, few) in
     copy_many (nat_le most_copies copies) files levels place copies name refl more
 
-pub too_deep : (levels : ℕ) (files : Files) (place : spec.Place) (copies : ℕ) (name : List ℕ) → levels ≡ 0
-    → copy_line files levels place copies name ≡ refused copies (spec.At place spec.TooDeep)
-too_deep levels files place copies name is = ap (λ n. copy_line files n place copies name) is
-
 -- its file was not read
 module _ (old last : Copying) (files : Files) (levels : ℕ) (place : Place) (name : List ℕ) where
   abbrev found_by : Option (List ℕ) → Copied

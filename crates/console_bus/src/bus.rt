@@ -12,6 +12,7 @@ ghost use Rattle.console_defs.specs.Memory.{word_read_in, word_read};
 ghost use Rattle.console_defs.specs.Memory.{word_written_in, word_written, two_bytes_read, two_bytes_written};
 ghost use Rattle.console_defs.specs.Memory.{word_placed, cell_set};
 
+use crate::expansion::Expansion;
 use byte_lists::{holds_bytes, zeros};
 use byteorder::{BigEndian, ByteOrder};
 use grom_counter::Grom;
@@ -107,20 +108,34 @@ impl Bus {
         }
     }
 
-    /// The word that holds an address, as `word_at` gives it. It is for the words of instructions, and tells the
-    /// expansion memory first, where programs stand.
+    /// The word that holds an address, as `word_at` gives it. It is for the words of instructions, which stand in the
+    /// expansion memory: its two parts are told before all else, and first the one that is named. Which one that is has
+    /// no effect but on the time.
     #[inline(always)]
-    pub fn code_at(&self, at: u16) -> Result<u16, PortStop>
+    pub fn code_at(&self, at: u16, first: Expansion) -> Result<u16, PortStop>
         ensures word { answer_of result ≡ word_read self.now at }
     {
         let even = at / 2 * 2;
-        if even >= 0xA000 {
+        let is_low = even / 0x2000 == 1;
+        if first == Expansion::Low && is_low {
+            Ok(self.low_word(even))
+        } else if even >= 0xA000 {
             Ok(word_in(&self.high_expansion, (even - 0xA000) as usize))
-        } else if even / 0x2000 == 1 {
-            Ok(word_in(&self.low_expansion, (even % 0x2000) as usize))
+        } else if is_low {
+            Ok(self.low_word(even))
         } else {
             self.word_at(at)
         }
+    }
+
+    /// The word at an even address of the low expansion memory.
+    #[inline(always)]
+    fn low_word(&self, at: u16) -> u16
+        requires even { even at ≡ at }
+        requires low { at / 8192 ≡ 1 }
+        ensures { result ≡ word_in self.now.low_expansion (at - 8192) }
+    {
+        word_in(&self.low_expansion, (at % 0x2000) as usize)
     }
 
     /// Writes the word that holds an address: the lowest address bit is ignored (TMS9900 data manual, "Registers and

@@ -2,6 +2,8 @@
 #![tactic(auto)]
 
 mod bus;
+mod expansion;
 
 pub use bus::{Bus, is_port};
+pub use expansion::Expansion;
 pub use tms_defs::PortStop;

@@ -15,7 +15,7 @@ use Rattle.gpl_defs.specs.declared.instruction.Space.{Space}
 use Rattle.gpl_defs.specs.declared.instruction.Space.TheVariants.{Cpu, Vdp}
 use Rattle.gpl_step_defs.specs.declared.cells.TheConstants.{VISIBLE_CELLS, STATUS}
 use Rattle.gpl_step_defs.specs.State.{GplState, IsState}
-use Rattle.gpl_step_defs.specs.Place.{Place, byte_in, byte_at, behind, value_at, double_at}
+use Rattle.gpl_step_defs.specs.Place.{Place, byte_in, byte_at, behind, value_at}
 use Rattle.gpl_step_defs.specs.Changes.{Changes, with_pc, with_cell, with_video, with_register, with_byte_in, with_byte, with_value, with_double, status_of}
 use Rattle.gpl_step_defs.specs.Changes.{with_status, status_byte, with_flags, with_bit, with_condition, with_overflow}
 
@@ -66,13 +66,6 @@ byte_fits s p h = by p.space
 pub value_fits : (s : GplState) (width : Width) (p : Place) → IsState s → value_at s width p < modulus width
 value_fits s Byte p h = byte_fits s p h
 value_fits s Word p h = join-fits (byte_at s p) (byte_at s (behind 1 p)) (byte_fits s p h) (byte_fits s (behind 1 p) h)
-
-pub double_fits : (s : GplState) (width : Width) (p : Place) → IsState s → double_at s width p < modulus width * modulus width
-double_fits s Byte p h = value_fits s Word p h
-double_fits s Word p h =
-    let more = value_fits s Word p h in
-    let less = value_fits s Word (behind 2 p) h in
-    omega (arith, more, less)
 
 pub with_value_keeps : (width : Width) (p : Place) (number : ℕ) (c : Changes) → number < modulus width → Kept c → Kept (with_value width p number c)
 with_value_keeps Byte p number c lt h = with_byte_keeps p number c lt h

@@ -25,10 +25,9 @@ use Rattle.gpl_defs.specs.declared.instruction.GplRead.{GplRead}
 use Rattle.gpl_defs.specs.declared.instruction.GplRead.TheVariants.{Instr, Refused}
 use Rattle.gpl_defs.specs.Valid.{has_words}
 use Rattle.gpl_defs.specs.Codes.{operation_at}
-use Rattle.gpl_defs.specs.Reading.{word_at, address_at, index_by, index_at, with_index, with_address, operand_from, operand_at, source_at, length_at, target_at}
-use Rattle.gpl_defs.specs.Reading.{from_at, move_at, instr_at, read_by, reading}
+use Rattle.gpl_defs.specs.Reading.{word_at, address_at, index_by, index_at, with_address, operand_at, source_at, length_at, target_at}
+use Rattle.gpl_defs.specs.Reading.{from_at, instr_at, read_by, reading}
 use Rattle.gpl_defs.proofs.CodeLaws.{row_fits, rows_fit}
-use Rattle.gpl_step_defs.specs.declared.reason.Reason.{Reason}
 use Rattle.gpl_step_defs.specs.State.{GplState, IsState, zeros, start}
 use Rattle.gpl_step_defs.specs.declared.cells.TheConstants.{VISIBLE_CELLS, VALUE_STACK, RETURN_STACK}
 use Rattle.gpl_step_defs.specs.Laws.{StepsKeepStates}

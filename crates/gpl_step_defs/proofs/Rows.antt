@@ -1,9 +1,7 @@
 -- Worked rows: instructions by their bytes, from address 0 on unless another is named, from the start of a program.
-use Rattle.std.proofs.Common.{◌≡◌, ℕ, zero, suc, List, [], ◌∷◌, ◌++◌, length, drop, refl}
+use Rattle.std.proofs.Common.{◌≡◌, ℕ, List, [], ◌∷◌, ◌++◌, length, drop, refl}
 use Rattle.std.specs.Prelude.{map, slice_index, Result, Ok, Err}
 use Rattle.source_defs.specs.Refusals.{◌>>=◌}
-use Rattle.gpl_defs.specs.declared.instruction.GplRead.{GplRead}
-use Rattle.gpl_defs.specs.declared.instruction.GplRead.TheVariants.{Instr, Refused}
 use Rattle.gpl_defs.specs.Reading.{operand_at, reading}
 use Rattle.gpl_step_defs.specs.declared.reason.Reason.{Reason}
 use Rattle.gpl_step_defs.specs.declared.reason.Reason.TheVariants.{Exit, Opcode, Cell, Stack, Length, Register}

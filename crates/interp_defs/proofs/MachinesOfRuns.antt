@@ -9,7 +9,7 @@ use Rattle.console_defs.proofs.RunLaws.{steps-add}
 use Rattle.gpl_step_defs.specs.declared.reason.Reason.{Reason}
 use Rattle.gpl_step_defs.specs.State.{GplState, start}
 use Rattle.gpl_step_defs.specs.Run as gpl
-use Rattle.gpl_step_defs.specs.Run.{GplRun, one_more, run, turns, with_stop, bound}
+use Rattle.gpl_step_defs.specs.Run.{GplRun, one_more, run, turns, with_stop}
 use Rattle.gpl_step_defs.specs.Step.{step}
 use Rattle.gpl_step_defs.proofs.RunLaws.{runs_are_steps}
 use Rattle.interp_defs.specs.Match.{Matches}

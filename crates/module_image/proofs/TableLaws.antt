@@ -39,13 +39,6 @@ count_more f g q (suc d) from (suc n) e lt unset here others =
     let rest = count_more f g q d (from + 1) n (omega (arith, e)) (omega (arith, lt)) unset here others in
     omega (arith, first, rest)
 
-pub any_step : (f : ℕ → Bool) (from n m : ℕ) → n ≡ suc m → any_from f from n ≡ (f from || any_from f (from + 1) m)
-any_step f from n m e = ap (any_from f from) e
-
-pub any_here : (f : ℕ → Bool) (from n : ℕ) → 0 < n → f from ≡ true → any_from f from n ≡ true
-any_here f from zero lt here = absurd (omega (arith, lt))
-any_here f from (suc n) lt here = ap (λ b. b || any_from f (from + 1) n) here
-
 pub any_later : (f : ℕ → Bool) (from n m : ℕ) → n ≡ suc m → f from ≡ false → any_from f from n ≡ any_from f (from + 1) m
 any_later f from n m e unset = ap (any_from f from) e ∙ ap (λ b. b || any_from f (from + 1) m) unset
 

@@ -5,10 +5,6 @@ use Rattle.std.specs.Prelude.{◌&&◌, if◌then◌else◌}
 use Rattle.source_defs.specs.Characters.{is_blank}
 use Rattle.object_defs.specs.Fields.{all_blank, without_blanks}
 
-and_true : (b : Bool) → (b && true) ≡ b
-and_true true = refl
-and_true false = refl
-
 and_false : (b : Bool) → (b && false) ≡ false
 and_false true = refl
 and_false false = refl

@@ -19,10 +19,6 @@ use Rattle.report_defs.specs.Report.{ReportsProgram, ShowsSteps, EnteredReport, 
 use Rattle.report_defs.specs.Laws.{Begins, FrontsBeginReports}
 use Rattle.report_defs.proofs.OneReport.{one_bytes}
 
--- what begins a report begins an equal one
-begins_same : (front first report : Report) → report ≡ first → Begins front first → Begins front report
-begins_same front first report same begins = subst (λ r. Begins front r) (sym same) begins
-
 -- the lines of the steps begin those of the trace
 begins_trace : (limit : ℕ) (image : Image) (entry : ℕ) (front report : Report) → ShowsSteps limit image entry front
     → ReportsProgram trace_lines limit image entry report → Begins front report

@@ -8,7 +8,7 @@ use Rattle.report_defs.specs.declared.status.Status.TheVariants as status
 use Rattle.report_defs.specs.declared.fault.Fault.{Fault}
 use Rattle.report_defs.specs.declared.fault.Fault.TheVariants.{Usage, TooLarge, PastEnd, NoEntry}
 
--- Words that are no command of `bench` are answered by how it is called, which names no files and no `watch`.
+-- Profile: words that are no command of `bench` are answered by how it is called, which names no files and no `watch`.
 unfoldable pub usage_line : List ℕ
 usage_line = codes "usage: ti_bench asm|link|dis ADDR|exec N|gasm|gdis ADDR|interp|run N|trace N|demo K\n"
 

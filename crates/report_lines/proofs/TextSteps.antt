@@ -3,7 +3,7 @@ use Rattle.std.proofs.Common.{◌≡◌, ℕ, zero, suc, ◌+◌, ◌<◌, ◌�
 use Rattle.std.proofs.Common.{append_assoc, append-nil, length-drop, arith}
 use Rattle.bench_io.specs.Stream.{SinkState}
 use Rattle.bench_io.specs.Written.{Wrote, Missed}
-use Rattle.bench_io.proofs.Writing.{wrote_none, wrote_more, missed_more, missed_early}
+use Rattle.bench_io.proofs.Writing.{wrote_more, missed_more, missed_early}
 use Rattle.source_defs.specs.Characters.{is_line_feed}
 use Rattle.report_defs.specs.TextLines.{in_front, text_lines, first_line}
 
@@ -73,9 +73,6 @@ pub record Put (text rest : List ℕ) (before after : SinkState) : Type 0 where
   pub lines : List (List ℕ)
   pub wrote : Wrote before after lines
   pub left : text_lines text ≡ lines ++ text_lines rest
-
-pub put_none : (text : List ℕ) (state : SinkState) → Put text text state state
-put_none text state = record { lines = []; wrote = wrote_none state; left = refl }
 
 pub put_more : (text rest : List ℕ) (a b c : SinkState) → 0 < length rest → Put text rest a b → Wrote b c (first_line rest ∷ []) → Put text (drop (length (first_line rest)) rest) a c
 put_more text rest a b c some put wrote = record {

@@ -8,7 +8,6 @@ use Rattle.sim_view.proofs.Common.{APTR, ASPACE, Exit, Goes, goes_in, GSTOP, hig
 use Rattle.sim_view.proofs.Common.{indexed, is_visible, join, last_out, next_in_grom, operand_at, pick, pointed, ranged}
 use Rattle.sim_view.proofs.Common.{Reason, shifted, SLA, space_at, SRL, sum_of, View, with_index, Word, word_in}
 use Rattle.sim_view.specs.gpl_step_defs.declared.reason.Reason.TheVariants.{Cell}
-use Rattle.sim_operands.specs.Pieces.{past}
 use Rattle.sim_operands.proofs.Facts.{not_both}
 use Rattle.sim_operands.specs.Subroutines.{Addressed, Barred, grom_at, Placed, state_of}
 use Rattle.sim_operands.specs.Pieces as pieces

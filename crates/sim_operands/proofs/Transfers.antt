@@ -6,7 +6,7 @@ use Rattle.sim_view.proofs.Common.{Byte, Exit, Goes, goes_in, GromState, high, j
 use Rattle.sim_view.proofs.Common.{PairKind, pick, plus, ReadSetup, RegisterWrite, SDATA, shifted, SLA, SREG, SRL, STREAM, sum_of, unchanged}
 use Rattle.sim_view.proofs.Common.{value_at, VdpState, View, with_register, with_value, Word}
 use Rattle.sim_view.proofs.Common.{WriteSetup}
-use Rattle.sim_operands.specs.Pieces.{past, past_video, set_video_to}
+use Rattle.sim_operands.specs.Pieces.{set_video_to}
 use Rattle.sim_operands.specs.Values.{IsVisible, of_register, width_in}
 use Rattle.sim_operands.specs.Subroutines.{grom_at, Loaded, next_at, place_in, state_of, Stored, streamed}
 use Rattle.sim_operands.proofs.Facts.{not_both, second_fits}

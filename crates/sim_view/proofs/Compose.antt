@@ -40,10 +40,6 @@ pub record Goes (e : Exit) (most to : ℕ) (Holds : View → Type 0) : Type 0 wh
 pub goes_in : {P : View → Type 0} {n most to : ℕ} {w : View} → n ≤ most → P w → Goes (record { count = n; to = to; left = w }) most to P
 goes_in within holds = record { within = within; to_is = refl; holds = holds }
 
-pub goes_as : {e : Exit} {most to : ℕ} {Q : View → Type 0} (more : ℕ) (R : View → Type 0) → Goes e most to Q → most ≤ more → ((v : View) → Q v → R v) →
-    Goes e more to R
-goes_as {e = e} more R g le f = let w = g.within in record { within = omega arith; to_is = g.to_is; holds = f e.left g.holds }
-
 pub comes : {x y : MachineState} {before after most to : ℕ} {e : Exit} {Q : View → Type 0} → Exits x y before after e → Goes e most to Q →
     Comes most x y before after to Q
 comes {y = y} {e = e} {Q = Q} x g = record {

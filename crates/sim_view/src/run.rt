@@ -9,7 +9,7 @@ ghost use Rattle.sim_view.specs.Running as spec;
 
 use native_interp::{GEXIT, GSTEP, GSTOP};
 use std::sync::ledger::Ledger;
-use tms_step::{Machine, StepEnd, Steps};
+use tms_step::{Expansion, Machine, StepEnd, Steps};
 
 /// The most instructions that a piece has.
 pub const PIECE: u64 = 16;
@@ -47,7 +47,7 @@ fn step_is_last<L: Ledger>(machine: &mut Machine, steps: &mut Steps<L>, ends: &[
     ensures last { let stepped = machine_step machine.old in result ≡ spec.is_last ends.now stepped.0 stepped.1.cpu.pc }
     ensures count { steps.new ≡ steps.old + executed_by (machine_step machine.old).0 }
 {
-    match machine.step() {
+    match machine.step_from(Expansion::Low) {
         StepEnd::Done(word) => {
             steps.tick();
             ends_piece(ends, word, machine.pc())

@@ -1,6 +1,6 @@
 -- A byte of a port may be read before a destination is derived or after it: words neither see nor change a port.
-use Rattle.std.proofs.Common.{◌≡◌, ℕ, true, false, refl, sym, ap, ◌∙◌}
-use Rattle.std.specs.Prelude.{eqb, if◌then◌else◌, ◌==◌}
+use Rattle.std.proofs.Common.{◌≡◌, ℕ, true, refl, sym, ap, ◌∙◌}
+use Rattle.std.specs.Prelude.{if◌then◌else◌, ◌==◌}
 use Rattle.tms_defs.specs.Words.{even, plus}
 use Rattle.tms_defs.specs.Flags.{Width, Byte, size_of}
 use Rattle.tms_defs.specs.Accesses.{Answer, Gives, AtPort, NoInstruction, ◌>>=◌}

@@ -8,7 +8,7 @@ ghost use Rattle.tms_defs.specs.Operand.{word_at, with_word, register_in, regist
 ghost use Rattle.tms_step.specs.Stops.{left_by};
 ghost use Rattle.tms_step.specs.Undo.{SameButPc};
 
-use console_bus::Bus;
+use console_bus::{Bus, Expansion};
 use std::marker::Model;
 use tms_defs::{PortStop, Status};
 
@@ -93,7 +93,17 @@ impl Cpu {
         ensures same { SameButPc self.old self.new }
         ensures stopped { OnErr result (self.new ≡ self.old) }
     {
-        let word = self.bus.code_at(self.pc)?;
+        self.code_word(Expansion::High)
+    }
+
+    /// The same, where the given part of the expansion memory is told first (see `Bus::code_at`).
+    #[inline(always)]
+    pub(crate) fn code_word(&mut self, first: Expansion) -> Result<u16, PortStop>
+        ensures value { left_by result (λ word. (word, self.new)) ≡ next_word Memory console self.old }
+        ensures same { SameButPc self.old self.new }
+        ensures stopped { OnErr result (self.new ≡ self.old) }
+    {
+        let word = self.bus.code_at(self.pc, first)?;
         self.pc = self.pc.wrapping_add(2);
         Ok(word)
     }

@@ -20,6 +20,7 @@ mod stored;
 mod two;
 mod writes;
 
+pub use console_bus::Expansion;
 pub use console_defs::RunEnd;
 pub use machine::Machine;
 pub use steps::Steps;

@@ -12,7 +12,7 @@ ghost use Rattle.console_defs.specs.Causes.{refused_at, refusal, MeetsPort};
 
 use crate::cpu::{Cpu, even};
 use crate::status::status_at;
-use console_bus::Bus;
+use console_bus::{Bus, Expansion};
 use std::marker::Model;
 use tms_defs::StepEnd;
 
@@ -71,7 +71,19 @@ impl Machine {
         ensures port { MeetsPort result }
         ensures stopped { WhereStopped result (self.new ≡ self.old) }
     {
-        let end = self.cpu.step();
+        self.step_from(Expansion::High)
+    }
+
+    /// The same step, which takes the least time where the instruction stands in the given part of the expansion
+    /// memory.
+    #[inline(always)]
+    pub fn step_from(&mut self, part: Expansion) -> StepEnd
+        ensures step { (result, self.new) ≡ machine_step self.old }
+        ensures refused { refused_at result ≡ refusal self.old.cpu }
+        ensures port { MeetsPort result }
+        ensures stopped { WhereStopped result (self.new ≡ self.old) }
+    {
+        let end = self.cpu.step(part);
         if let StepEnd::Done(_) = end {
             self.count = self.count.saturating_add(1);
         }

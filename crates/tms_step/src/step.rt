@@ -13,19 +13,20 @@ ghost use Rattle.tms_step.specs.Stops.{left_by};
 ghost use Rattle.tms_step.specs.Undo.{SameButPc};
 
 use crate::cpu::Cpu;
+use console_bus::Expansion;
 use tms_defs::{BareOp, Instr, JumpOp, OneOp, PortStop, RegOp, StepEnd};
 use tms_words::decode;
 
 impl Cpu {
     /// One step: the instruction at the program counter is read and executed. Where it executes no instruction, nothing
-    /// has changed.
+    /// has changed. The word is looked for first in the given part of the expansion memory.
     #[inline(always)]
-    pub(crate) fn step(&mut self) -> StepEnd
+    pub(crate) fn step(&mut self, first: Expansion) -> StepEnd
         ensures step { (result, self.new) ≡ step Memory console self.old }
         ensures stopped { WhereStopped result (self.new ≡ self.old) }
     {
         let start = self.pc;
-        let word = match self.next_word() {
+        let word = match self.code_word(first) {
             Ok(word) => word,
             Err(stop) => return StepEnd::Port(stop.0),
         };

@@ -72,7 +72,8 @@ fn two_at(word: u16) -> TwoOp
         4 => TwoOp::C,
         5 => TwoOp::A,
         6 => TwoOp::MOV,
-        _ => TwoOp::SOC,
+        7 => TwoOp::SOC,
+        _ => unreachable!(),
     }
 }
 
@@ -89,7 +90,8 @@ fn reg_at(word: u16) -> RegOp
         0x0C => RegOp::LDCR,
         0x0D => RegOp::STCR,
         0x0E => RegOp::MPY,
-        _ => RegOp::DIV,
+        0x0F => RegOp::DIV,
+        _ => unreachable!(),
     }
 }
 
@@ -115,7 +117,8 @@ fn jump_at(word: u16) -> JumpOp
         0x1C => JumpOp::JOP,
         0x1D => JumpOp::SBO,
         0x1E => JumpOp::SBZ,
-        _ => JumpOp::TB,
+        0x1F => JumpOp::TB,
+        _ => unreachable!(),
     }
 }
 
@@ -128,7 +131,8 @@ fn shift_at(word: u16) -> ShiftOp
         0x08 => ShiftOp::SRA,
         0x09 => ShiftOp::SRL,
         0x0A => ShiftOp::SLA,
-        _ => ShiftOp::SRC,
+        0x0B => ShiftOp::SRC,
+        _ => unreachable!(),
     }
 }
 
@@ -151,7 +155,8 @@ fn one_at(word: u16) -> OneOp
         0x1A => OneOp::BL,
         0x1B => OneOp::SWPB,
         0x1C => OneOp::SETO,
-        _ => OneOp::ABS,
+        0x1D => OneOp::ABS,
+        _ => unreachable!(),
     }
 }
 

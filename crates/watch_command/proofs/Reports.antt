@@ -1,13 +1,10 @@
 -- Reports of programs whose items were watched.
 use Rattle.std.proofs.Common.{◌≡◌, ℕ, List, ◌∷◌, ◌++◌, Option, None, ap, ap₂, ◌∙◌, subst}
-use Rattle.console_defs.specs.Grom.{GromState}
 use Rattle.console_defs.specs.Memory.{IsMemory}
 use Rattle.console_defs.specs.Machine.{MachineState, IsMachine}
-use Rattle.gpl_defs.specs.Image.{Image, AreBytesOf}
 use Rattle.gpl_step_defs.specs.declared.reason.Reason.{Reason}
 use Rattle.gpl_step_defs.specs.State.{GplState, start}
 use Rattle.gpl_step_defs.specs.Run.{GplRun, run}
-use Rattle.interp_defs.specs.Boot.{IsBoot}
 use Rattle.interp_defs.specs.Match.{shown_by}
 use Rattle.interp_defs.specs.Programs.{EndsAs, RunsSteps, most_of_boot}
 use Rattle.sim_steps.specs.Running.{RunsTurns}
@@ -22,11 +19,8 @@ use Rattle.gpl_watch.specs.Watches.{Watches}
 use Rattle.report_defs.specs.declared.status.Status.TheVariants.{Done}
 use Rattle.report_defs.specs.Program.{state_lines, stop_lines, program_status}
 use Rattle.report_defs.specs.Report.{Whole}
-use Rattle.file_report_defs.specs.Watching.{ReportsWatch, hit_line, no_hit_line, steps_to, watch_report}
-use Rattle.reports.specs.declared.watched.Watched.{Watched}
-use Rattle.reports.specs.declared.report.Report.TheVariants as made
+use Rattle.file_report_defs.specs.Watching.{hit_line, no_hit_line, steps_to, watch_report}
 use Rattle.reports.specs.Watched.{watched_status, watched_lines}
-use Rattle.reports.specs.Made.{defined_report}
 use Rattle.watch_command.specs.Ran.{WatchesProgram}
 
 -- The report that is made is that of the run up to what was found.
@@ -99,23 +93,3 @@ module _ (new : MachineState) (machine : IsMachine new) (is_new : IsNew new) (fi
         memory = memory;
         report = same_report limit s t memory found ended runs.ends;
       }
-
--- What is made of a machine on which the interpreter begins with an image and its entry is the report of its program.
-pub reports_watch : (limit : ℕ) (items : List Item) (image : Image) (entry : ℕ) (bytes : List ℕ) (new : MachineState)
-    (watched : Watched) → AreBytesOf image bytes → IsBoot bytes entry new
-    → WatchesProgram (image_of new) (entry_of new) limit items watched
-    → ReportsWatch limit items image entry (defined_report (made.Watched watched))
-reports_watch limit items image entry bytes new watched of_image boots w =
-    let of_bytes : image_of new ≡ bytes = ap (λ (g : GromState). g.image) boots.grom in
-    let entered = subst (λ (e : ℕ). WatchesProgram (image_of new) e limit items watched) boots.scratchpad.word w in
-    let begun : WatchesProgram bytes entry limit items watched =
-    subst (λ (i : List ℕ). WatchesProgram i entry limit items watched) of_bytes entered in
-    record {
-      bytes = bytes;
-      of_image = of_image;
-      left = watched.session.machine;
-      found = watched.found;
-      is_found = begun.found;
-      runs = begun.runs;
-      is = begun.report;
-    }

@@ -1,6 +1,6 @@
 -- The items that words say.
 use Rattle.std.proofs.Common.{◌≡◌, List, [], ◌∷◌, ◌++◌, Option, Some, None}
-use Rattle.std.proofs.Common.{refl, sym, ap, ◌∙◌, append_assoc, append-nil}
+use Rattle.std.proofs.Common.{refl, sym, ap, ◌∙◌, append_assoc}
 use Rattle.std.specs.Prelude.{ℕ, option_map, option_and_then}
 use Rattle.watch_defs.specs.declared.item.Item.{Item}
 use Rattle.file_report_defs.specs.Words.{item_word, item_words}
@@ -19,10 +19,6 @@ behind : (items : List Item) (item : Item) (others : Option (List Item))
 behind items item None = refl
 behind items item (Some rest) = ap Some (sym (append_assoc items (item ∷ []) rest))
 
-pub said_first : (item : Item) (words : List (List ℕ))
-    → Said (item ∷ []) words (option_map (λ items. item ∷ items) (item_words words))
-said_first item words = refl
-
 module _ (items : List Item) (word : List ℕ) (left : List (List ℕ)) (all : Option (List Item))
     (said : Said items (word ∷ left) all) where
   pub said_more : (item : Item) → Some item ≡ item_word word → Said (items ++ item ∷ []) left all
@@ -30,6 +26,3 @@ module _ (items : List Item) (word : List ℕ) (left : List (List ℕ)) (all : O
 
   pub said_none : None ≡ item_word word → None ≡ all
   said_none is = ap (by_word items (item_words left)) is ∙ sym said
-
-pub said_all : (items : List Item) (all : Option (List Item)) → Said items [] all → Some items ≡ all
-said_all items all said = sym (said ∙ ap Some (append-nil items))

@@ -58,12 +58,6 @@ is_read word found lt e = record {
 abbrev follows : Bool → ℕ
 follows b = if b then 1 else 0
 
-one_follows : (place : Place) (b : Bool) (rest : List ℕ) → follows b ≤ length rest
-    → following_in (Located place (if b then Some (Absolute (slice_index rest 0)) else None)) ≡ map Absolute (take (follows b) rest)
-one_follows place false rest le = refl
-one_follows place true [] le = absurd (omega (arith, le))
-one_follows place true (word ∷ rest) le = refl
-
 two_follow : (src dst : Place) (a b : Bool) (word : ℕ) (rest : List ℕ) → follows a + follows b ≤ length rest
     → following_in (Located src (if a then Some (Absolute (slice_index (word ∷ rest) 1)) else None))
     ++ (following_in (Located dst (if b then Some (Absolute (slice_index (word ∷ rest) (1 + follows a))) else None)) ++ [])

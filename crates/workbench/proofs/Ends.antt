@@ -1,12 +1,9 @@
 -- How a run with files ends.
-use Rattle.std.proofs.Common.{◌≡◌, ℕ, List, length, Option, Some, None, Bool, true, false, refl, sym, subst, inl, inr, arith}
+use Rattle.std.proofs.Common.{◌≡◌, ℕ, List, length, Option, Some, None, Bool, true, false, sym, subst, arith}
 use Rattle.std.specs.Prelude.{nat_lt, MatchBool, Result, Ok, Err}
 use Rattle.std.proofs.lemmas.Bool.Decides.{nat_tests}
-use Rattle.count_defs.specs.Counts.{Rose}
 use Rattle.bench_io.specs.Stream.{SourceState}
-use Rattle.bench_io.specs.ReadAll.{ReadWhole, GaveUp}
-use Rattle.bench_io.specs.declared.whole.ReadError.{ReadError}
-use Rattle.bench_io.specs.declared.whole.ReadError.TheVariants as error
+use Rattle.bench_io.specs.ReadAll.{ReadWhole}
 use Rattle.report_defs.specs.declared.fault.Fault.TheVariants.{TooLarge, NoEntry}
 use Rattle.report_defs.specs.declared.status.Status.{Status}
 use Rattle.report_defs.specs.declared.status.Status.TheVariants as status
@@ -34,15 +31,12 @@ use Rattle.watch_defs.specs.declared.item.Item.{Item}
 use Rattle.report_defs.specs.Report.{Report, Faulty, Rejected, EnteredReport, ProgramReport, status_of, largest_input}
 use Rattle.file_report_defs.specs.Watching.{ReportsWatch, watch_report}
 use Rattle.file_report_defs.specs.Words.{FileCommand, AsmFiles, LinkFiles, Watch, ProgramCommand, program_command}
-use Rattle.shelf_defs.specs.Copied.{most_bytes}
-use Rattle.bench_shelf.specs.States.{ShelfState}
-use Rattle.bench_shelf.specs.Causes.{TookNoMore}
 use Rattle.file_report_defs.specs.Whole.{WatchReport}
-use Rattle.file_commands.specs.Reported.{CopyReported, LinkReported, CopyFails, LinkFails}
+use Rattle.file_commands.specs.Reported.{CopyReported}
 use Rattle.reports.specs.Outputs.{EndsWith}
 use Rattle.bench_commands.specs.Run.{ReadsInput}
 use Rattle.bench_commands.proofs.Ends.{reads_whole}
-use Rattle.reports.specs.Answers.{Ends, WantsMemory, Reported, read_answer}
+use Rattle.reports.specs.Answers.{Ends, WantsMemory, Reported}
 use Rattle.workbench.specs.FileRun.{FileRun, ReportsWith, TookWithin, EndsOver, EndsSaid, EndsFileRun}
 use Rattle.workbench.specs.Answered.{FailsWith, AnswersWith}
 
@@ -145,77 +139,8 @@ module _ (before after : SourceState) (bytes : List ℕ) (whole : ReadWhole larg
   whole_within =
       record { bytes = bytes; within = whole.within; empty = 1; one = omega arith; took = whole.took }
 
--- an input of which too many bytes were taken
-reads_too_much : (before after : SourceState) → GaveUp error.TooLarge largest_input before after
-    → (bytes : List ℕ) × ReadsInput before after bytes × (nat_lt largest_input (length bytes) ≡ true)
-reads_too_much before after (bytes, long, took, most) =
-    let above : nat_lt largest_input (length bytes) ≡ true = grind (arith, nat_tests) in (
-      bytes,
-      record { took = rw above took; within = omega arith; whole = λ le. absurd (omega arith) },
-      above,
-    )
-
--- an input that failed
-failed_within : (before after : SourceState) → GaveUp error.Fault largest_input before after
-    → TookWithin before after × Rose before.faults after.faults
-failed_within before after (bytes, within, took, rose) =
-    (record { bytes = bytes; within = within; empty = 1; one = omega arith; took = took }, rose)
-
--- an input for which memory was wanting
-wanting_within : (before after : SourceState) → GaveUp error.Memory largest_input before after
-    → TookWithin before after
-wanting_within before after (bytes, within, took) =
-    record { bytes = bytes; within = within; empty = 0; one = omega arith; took = took }
-
-took_none : (limit : ℕ) (before after : ShelfState) → after ≡ before → TookNoMore limit before after
-took_none limit before after same = subst (TookNoMore limit before) (sym same) (omega arith)
-
--- what `asm` answers to an input that was not taken whole
-pub asm_unread : (run : FileRun) (e : ReadError) → GaveUp e largest_input run.input run.input' → run.shelf' ≡ run.shelf
-    → AnswersWith AsmFiles run (read_answer e)
-asm_unread run error.TooLarge gave same =
-    let read = reads_too_much run.input run.input' gave in (read.0, read.1, rw read.2 (refl, same))
-asm_unread run error.Fault gave same =
-    let failed = failed_within run.input run.input' gave in (
-      (failed.0, took_none most_bytes run.shelf run.shelf' same, inl same),
-      inl (failed.1, same),
-    )
-asm_unread run error.Memory gave same =
-    (wanting_within run.input run.input' gave, took_none most_bytes run.shelf run.shelf' same, inl same)
-
--- what `link` answers to files, which takes nothing of the input
-pub link_answered : (run : FileRun) (names : List (List ℕ)) (answer : Result Report Status) → run.input' ≡ run.input
-    → Reported (LinkReported run.shelf run.shelf' names) (LinkFails names run.shelf run.shelf') answer
-    → AnswersWith (LinkFiles names) run answer
-link_answered run names (Ok report) same reported = (same, reported)
-link_answered run names (Err status.Done) same fails = absurd fails
-link_answered run names (Err status.Refused) same fails = absurd fails
-link_answered run names (Err status.Usage) same fails = absurd fails
-link_answered run names (Err status.ReadFault) same (rose, within, name, stops) = ((same, within), (rose, name, stops))
-link_answered run names (Err status.WriteFault) same fails = absurd fails
-link_answered run names (Err status.Memory) same within = (same, within)
-link_answered run names (Err status.Stopped) same fails = absurd fails
-
 -- what is answered to a source that was taken whole
 module _ (run : FileRun) (source : List ℕ) (whole : ReadWhole largest_input run.input run.input' source) where
-  pub asm_answered : (answer : Result Report Status)
-      → Reported (CopyReported run.shelf run.shelf' source) (CopyFails run.shelf run.shelf') answer
-      → AnswersWith AsmFiles run answer
-  asm_answered (Ok report) reported = (
-    source,
-    whole_reads run.input run.input' source whole,
-    rw (is_small run.input run.input' source whole) reported,
-  )
-  asm_answered (Err status.Done) fails = absurd fails
-  asm_answered (Err status.Refused) fails = absurd fails
-  asm_answered (Err status.Usage) fails = absurd fails
-  asm_answered (Err status.ReadFault) (rose, within) =
-      ((whole_within run.input run.input' source whole, within, inr (source, whole)), inr (source, whole, rose))
-  asm_answered (Err status.WriteFault) fails = absurd fails
-  asm_answered (Err status.Memory) within =
-      (whole_within run.input run.input' source whole, within, inr (source, whole))
-  asm_answered (Err status.Stopped) fails = absurd fails
-
   watch_reported : (limit : ℕ) (items : List Item) (report : Report) → run.shelf' ≡ run.shelf
       → WatchReport limit items source report → ReportsWith (Watch limit items) run report
   watch_reported limit items report same reported = (

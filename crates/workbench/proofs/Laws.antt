@@ -22,7 +22,7 @@ use Rattle.file_report_defs.proofs.ListedFiles.{listed_words_come_back_with}
 use Rattle.file_commands.specs.Reported.{CopyReported}
 use Rattle.bench_commands.specs.Run as plain
 use Rattle.reports.specs.Outputs.{WroteReport}
-use Rattle.bench_commands.specs.Run.{ReadsInput, EndsBy}
+use Rattle.bench_commands.specs.Run.{EndsBy}
 use Rattle.bench_commands.specs.Laws as plain_laws
 use Rattle.bench_commands.specs.Laws.{TellsInput}
 use Rattle.bench_commands.proofs.Uniqueness as bench

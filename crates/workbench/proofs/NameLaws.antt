@@ -5,7 +5,7 @@ use Rattle.std.specs.Prelude.{◌&&◌, nat_le, if◌then◌else◌}
 use Rattle.std.proofs.lemmas.Bool.Decides.{nat_tests}
 use Rattle.std.specs.List.{list_all}
 use Rattle.shelf_defs.specs.Files.{is_file_name}
-use Rattle.file_report_defs.specs.Words.{LinkFiles, are_file_names, link_command, input_command, program_command}
+use Rattle.file_report_defs.specs.Words.{are_file_names, input_command, program_command}
 
 abbrev pub texts : List (Vec ℕ Global) → List (List ℕ)
 texts words = map (λ (word : Vec ℕ Global). word.items) words
@@ -19,13 +19,6 @@ named word name is = by (is_file_name word) refl is
         → (is_file_name word ≡ true) × (name ≡ word)
     by true test is = (test, cc is)
     by false test is = absurd (cc is)
-
-pub not_named : (word : List ℕ) → None ≡ (if is_file_name word then Some word else None) → is_file_name word ≡ false
-not_named word is = by (is_file_name word) refl is
-  where
-    by : (test : Bool) → is_file_name word ≡ test → None ≡ (if test then Some word else None) → is_file_name word ≡ false
-    by true test is = absurd (cc is)
-    by false test is = test
 
 -- words of which those before the next are names
 module _ (all names : List (List ℕ)) (left rest : List (Vec ℕ Global)) (word : Vec ℕ Global) (next : left ≡ word ∷ rest) where
@@ -42,20 +35,6 @@ module _ (all names : List (List ℕ)) (left rest : List (Vec ℕ Global)) (word
 texts_length : (words : List (Vec ℕ Global)) → length (texts words) ≡ length words
 texts_length [] = refl
 texts_length (word ∷ words) = ap suc (texts_length words)
-
--- what words say, by whether each is a name
-pub says_names : (all names : List (List ℕ)) → length all ≤ 16 → names ≡ all → list_all is_file_name all ≡ true
-    → Some (LinkFiles names) ≡ link_command all
-says_names all names few is each =
-    let within : nat_le (length all) 16 ≡ true = grind (arith, nat_tests) in
-    rw (within, each) (ap (λ n. Some (LinkFiles n)) is)
-
-pub says_none : (all : List (List ℕ)) → list_all is_file_name all ≡ false → None ≡ link_command all
-says_none all each = rw each (by (nat_le (length all) 16))
-  where
-    by : (few : Bool) → None ≡ (if few && false then Some (LinkFiles all) else None)
-    by true = refl
-    by false = refl
 
 pub many_names : (first : List ℕ) (words : List (Vec ℕ Global)) → 16 ≤ length words → are_file_names (first ∷ texts words) ≡ false
 many_names first words many =

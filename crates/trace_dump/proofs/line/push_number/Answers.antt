@@ -1,6 +1,4 @@
-use Rattle.std.proofs.Common.{◌≡◌, ◌≤◌, ◌+◌, ◌-◌, ◌++◌, length, replicate, ap, ◌∙◌, append_assoc, arith}
-use Rattle.std.specs.Fmt.{decimal}
-use Rattle.arrayvec.specs.ArrayString.{array_string_len}
+use Rattle.std.proofs.Common.{◌≡◌, ◌+◌, ◌-◌, ◌++◌, length, replicate, ap, ◌∙◌, append_assoc, arith}
 use Rattle.report_defs.specs.Trace.{number_text}
 use Rattle.trace_dump.proofs.Decimals.{six_digits}
 use Rattle.trace_dump.proofs.Numbers.{blank_more, no_blank}

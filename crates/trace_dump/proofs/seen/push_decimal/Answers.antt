@@ -1,4 +1,4 @@
-use Rattle.std.proofs.Common.{◌≤◌, length, arith}
+use Rattle.std.proofs.Common.{arith}
 use Rattle.trace_dump.proofs.Decimals.{five_digits, three_digits}
 use Rattle.trace_dump.proofs.seen.push_decimal.Goals as goal
 

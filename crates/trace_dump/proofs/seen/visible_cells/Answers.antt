@@ -1,4 +1,4 @@
-use Rattle.std.proofs.Common.{sym, ◌∙◌, length-take, arith}
+use Rattle.std.proofs.Common.{length-take, arith}
 use Rattle.trace_dump.proofs.seen.visible_cells.Goals as goal
 
 pub slice_bounds-result-end : goal.slice_bounds-result-end

@@ -5,7 +5,7 @@ use Rattle.tms_defs.specs.Step.{step}
 use Rattle.console_defs.specs.Causes.{refused_at, refusal, MeetsPort}
 use Rattle.tms_defs.specs.declared.step_end.StepEnd.{StepEnd}
 use Rattle.console_defs.proofs.RefusalLaws.{step_refused, step_meets_port}
-use Rattle.tms_step.proofs.machine.Machine.step.Goals as goal
+use Rattle.tms_step.proofs.machine.Machine.step_from.Goals as goal
 
 refused_by : (x left : Cpu Memory) (end : StepEnd) → (end, left) ≡ step Memory console x → refused_at end ≡ refusal x
 refused_by x left end is = ap (λ (stepped : StepEnd × Cpu Memory). refused_at stepped.0) is ∙ step_refused x
