@@ -1,6 +1,6 @@
 -- The lines of a listing are let through, each at its place.
 use Rattle.std.proofs.Common.{◌≡◌, ℕ, ◌+◌, ◌%◌, ◌<◌, ◌≤◌, Bool, true, false, List, [], ◌∷◌, ◌++◌}
-use Rattle.std.proofs.Common.{length, length-append, refl, subst, ◌⊎◌, inl, inr, Ok, Option, Some, None, lit≤, arith}
+use Rattle.std.proofs.Common.{length, length-append, refl, subst, ◌⊎◌, inl, inr, Ok, Option, Some, None, lit≤, arith, rules}
 use Rattle.std.specs.Prelude.{◌==◌, codes, IsTrue, nat_lt, nat_le}
 use Rattle.std.specs.List.{list_all}
 use Rattle.std.proofs.lemmas.Bool.Decides.{nat_tests}
@@ -50,18 +50,7 @@ use Rattle.grom_defs.specs.declared.size.TheConstants.{GROM_SIZE}
 -- ---- operands stand in a line
 
 plain_letters : Alphabet plain_byte
-plain_letters = record {
-  digits = refl;
-  sign = refl;
-  at_sign = refl;
-  star = refl;
-  video = refl;
-  opens = refl;
-  closes
-      = refl;
-  grom = refl;
-  register = refl;
-}
+plain_letters = search rules
 
 operands_plain : (found : GplInstr) (at : ℕ) → list_all plain_byte (field_of (operands_text found at)) ≡ true
 operands_plain (instr.Plain op) at = refl
@@ -90,14 +79,9 @@ operand_short operand = by operand.space operand.indirect
     by : (space : Space) (indirect : Bool) →
         length (prefix space indirect ++ rest_of (shown_address operand.space operand.indirect operand.address)
         operand.index) ≤ 15
-    by Cpu false = let n = rest_short (shown_address operand.space operand.indirect operand.address) operand.index in
-        omega arith
-    by Cpu true = let n = rest_short (shown_address operand.space operand.indirect operand.address) operand.index in
-        omega arith
-    by Vdp false = let n = rest_short (shown_address operand.space operand.indirect operand.address) operand.index in
-        omega arith
-    by Vdp true = let n = rest_short (shown_address operand.space operand.indirect operand.address) operand.index in
-        omega arith
+    by Cpu false = omega (arith, rest_short (shown_address operand.space operand.indirect operand.address) operand.index)
+    by Vdp false = omega (arith, rest_short (shown_address operand.space operand.indirect operand.address) operand.index)
+    by _ _ = omega (arith, rest_short (shown_address operand.space operand.indirect operand.address) operand.index)
 
 word_short : (n : ℕ) → length (marked_word n) ≤ 15
 unfolding word_digits
@@ -148,15 +132,10 @@ operands_short (instr.Move counted to source) at =
 operands_some : (found : GplInstr) (at : ℕ) →
     (operands_text found at ≡ None) ⊎ (0 < length (field_of (operands_text found at)))
 operands_some (instr.Plain op) at = inl refl
-operands_some (instr.Byte op value) at = inr (omega arith)
-operands_some (instr.Jump op to) at = inr (omega arith)
-operands_some (instr.Branch on offset) at = inr (omega arith)
 operands_some (instr.One op word operand) at = inr (operand_some operand)
-operands_some (instr.Two op word dst src) at =
-    inr (let s = length-append (operand_text dst) (0x2C ∷ source_text word src) in omega arith)
-operands_some (instr.Move counted to source) at =
-    inr (let s = length-append (length_text counted) (0x2C ∷ two_texts (target_text to) (from_text source)) in omega
-    arith)
+operands_some (instr.Two op word dst src) at = inr (omega (arith, length-append (operand_text dst) (0x2C ∷ source_text word src)))
+operands_some (instr.Move counted to source) at = inr (omega (arith, length-append (length_text counted) (0x2C ∷ two_texts (target_text to) (from_text source))))
+operands_some _ at = inr (omega arith)
 
 instr_fit : (found : GplInstr) (at : ℕ) → IsTrue (is_valid found) →
     Fit (name_of (mnemonic_of found)) (field_of (operands_text found at))

@@ -90,9 +90,8 @@ form_by : (space : Space) (indirect : Bool) (a : ℕ) (index : Option ℕ) →
     ≡ InMemory (record { space = space; indirect = indirect; address = marked_word a; index = index_written index })
 unfolding form_of
 form_by Cpu false a index = rw (address_back a index, index_back a index) refl
-form_by Cpu true a index = rw (address_back a index, index_back a index) refl
 form_by Vdp false a index = rw (address_back a index, index_back a index) refl
-form_by Vdp true a index = rw (address_back a index, index_back a index) refl
+form_by _ _ a index = rw (address_back a index, index_back a index) refl
 
 pub operand_form : (operand : GplOperand) → form_of (operand_text operand) ≡ InMemory (memory_of operand)
 unfolding operand_text

@@ -83,15 +83,11 @@ move_size count (target.Register number) (from.GromIndexed address index) valid 
 
 pub size_back : (found : GplInstr) (at : ℕ) → IsTrue (is_valid found) → size_of (left_of found at) ≡ length
     (bytes_of found)
-size_back (instr.Plain op) at valid = refl
-size_back (instr.Byte op value) at valid = refl
-size_back (instr.Jump op to) at valid = refl
-size_back (instr.Branch on offset) at valid = refl
-size_back (instr.One op word operand) at valid = refl
 size_back (instr.Two op word dst src) at valid = two_size op word dst src
 size_back (instr.Move counted to source) at valid =
     move_size counted to source valid
     ∙ (ap (λ n. suc (n + length (ends to source))) (length_size counted) ∙ sym (move_rest counted to source))
+size_back _ at valid = refl
 
 -- ---- the second checks
 

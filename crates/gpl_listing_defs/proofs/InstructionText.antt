@@ -158,16 +158,12 @@ module _ (look : List ℕ → Option Value) (here : ℕ) where
 
   move_allowed : (length : MoveLength) (to : MoveTarget) (source : MoveSource) → IsTrue (is_valid_move to source) →
       takes_move (length_form length) (target_form to) (from_form source) ≡ true
-  move_allowed (count.At n) (target.At to) (from.At place) valid = refl
-  move_allowed (count.At n) (target.At to) (from.Grom address) valid = refl
-  move_allowed (count.At n) (target.At to) (from.GromIndexed address index) valid = refl
-  move_allowed (count.Immediate n) (target.At to) (from.At place) valid = refl
-  move_allowed (count.Immediate n) (target.At to) (from.Grom address) valid = refl
-  move_allowed (count.Immediate n) (target.At to) (from.GromIndexed address index) valid = refl
-  move_allowed (count.At n) (target.Register number) (from.Grom address) valid = refl
-  move_allowed (count.Immediate n) (target.Register number) (from.Grom address) valid = refl
   move_allowed length (target.Register number) (from.At place) valid = absurd (cc)
   move_allowed length (target.Register number) (from.GromIndexed address index) valid = absurd (cc)
+  move_allowed (count.At n) (target.At to) (from.At place) valid = refl
+  move_allowed (count.At n) (target.Register number) (from.Grom address) valid = refl
+  move_allowed (count.Immediate n) (target.At to) (from.At place) valid = refl
+  move_allowed _ _ _ valid = refl
 
   two_back : (op : TwoName) (word : Bool) (dst : GplOperand) (src : GplSource) → IsTrue (is_valid_source op word src) →
       OperandFits dst → SourceFits word src →

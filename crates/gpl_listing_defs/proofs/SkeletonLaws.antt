@@ -1,6 +1,6 @@
 -- The texts of operands, and their values.
 use Rattle.std.proofs.Common.{◌≡◌, ℕ, ◌+◌, ◌-◌, ◌<◌, Bool, true, false}
-use Rattle.std.proofs.Common.{List, [], ◌∷◌, ◌++◌, length, refl, Ok, Option, Some, None, arith}
+use Rattle.std.proofs.Common.{List, [], ◌∷◌, ◌++◌, length, refl, Ok, Option, Some, None, arith, rules}
 use Rattle.std.specs.Prelude.{nat_le}
 use Rattle.std.specs.List.{list_all}
 use Rattle.std.proofs.lemmas.Bool.Decides.{nat_tests}
@@ -122,18 +122,7 @@ from_all p a (from.Grom address) = rw (a.grom, a.at_sign) (word_passes p address
 from_all p a (from.GromIndexed address index) = rw (a.grom, a.at_sign) (rest_all p a address (Some index))
 
 pub whole_letters : Alphabet whole
-whole_letters = record {
-  digits = refl;
-  sign = refl;
-  at_sign = refl;
-  star = refl;
-  video = refl;
-  opens = refl;
-  closes
-      = refl;
-  grom = refl;
-  register = refl;
-}
+whole_letters = search rules
 
 -- the texts are not empty
 pub operand_some : (operand : GplOperand) → 0 < length (operand_text operand)
@@ -144,9 +133,8 @@ operand_some operand = by operand.space operand.indirect
         0 < length (prefix space indirect ++ rest_of (shown_address operand.space operand.indirect operand.address)
         operand.index)
     by Cpu false = omega arith
-    by Cpu true = omega arith
     by Vdp false = omega arith
-    by Vdp true = omega arith
+    by _ _ = omega arith
 
 -- ---- values
 

@@ -13,9 +13,7 @@ use Rattle.source_defs.specs.declared.causes.ExprError.{ExprError}
 use Rattle.asm_defs.specs.declared.causes.AsmCause.{AsmCause}
 use Rattle.asm_defs.specs.declared.causes.AsmCause.TheVariants.{Overflow, BadDirective}
 use Rattle.asm_defs.specs.declared.location.Location.{Location}
-use Rattle.asm_defs.specs.Statements.{Statement, Nothing, Instruction, Aorg, Rorg, Dorg, Bss, Bes, Even, Equ, Data}
-use Rattle.asm_defs.specs.Statements.{Byte, Text, Def, Ref, Idt, Titl, End}
-use Rattle.asm_defs.specs.Statements.{as_text, statement_in}
+use Rattle.asm_defs.specs.Statements.{as_text, Aorg, Data, End, Equ, Instruction, Nothing, Statement, statement_in}
 use Rattle.asm_defs.specs.Locations.{value_of}
 use Rattle.asm_defs.specs.FirstChecks.{Before, Said, Checked, Move, any_known, label_in, is_taken, refs_in}
 use Rattle.asm_defs.specs.FirstChecks.{said, moved, move, as_expr}
@@ -61,17 +59,7 @@ module _ (known : Names) (at : Location) (reached : ℕ) where
   move_same (Equ text) found free e = by_known text _ found e
   move_same (Data texts) found free e = e
   move_same (End text) found free e = e
-  move_same (Rorg text) found free e = cc free
-  move_same (Dorg text) found free e = cc free
-  move_same (Bss text) found free e = cc free
-  move_same (Bes text) found free e = cc free
-  move_same Even found free e = cc free
-  move_same (Byte texts) found free e = cc free
-  move_same (Text text) found free e = cc free
-  move_same (Def names) found free e = cc free
-  move_same (Ref names) found free e = cc free
-  move_same (Idt text) found free e = cc free
-  move_same (Titl text) found free e = cc free
+  move_same _ found free e = cc free
 
   module _ (defs refs : List (List ℕ)) where
     abbrev there : Before
@@ -86,28 +74,13 @@ module _ (known : Names) (at : Location) (reached : ℕ) where
     lets_same : (label : Option (List ℕ)) (statement : Statement) (move : Move) → is_free statement ≡ true
         → lets there (record { label = label; statement = statement }) move ≡ lets (nothing_before at) (record { label = label; statement = statement }) move
     lets_same None Nothing move free = refl
-    lets_same (Some name) Nothing move free = refl
-    lets_same None (Instruction size operation field) move free = refl
-    lets_same (Some name) (Instruction size operation field) move free = refl
-    lets_same None (Aorg text) move free = refl
-    lets_same (Some name) (Aorg text) move free = refl
-    lets_same None (Equ text) move free = refl
-    lets_same (Some name) (Equ text) move free = refl
-    lets_same None (Data texts) move free = refl
-    lets_same (Some name) (Data texts) move free = refl
-    lets_same None (End text) move free = refl
-    lets_same (Some name) (End text) move free = refl
-    lets_same label (Rorg text) move free = cc free
-    lets_same label (Dorg text) move free = cc free
-    lets_same label (Bss text) move free = cc free
-    lets_same label (Bes text) move free = cc free
-    lets_same label Even move free = cc free
-    lets_same label (Byte texts) move free = cc free
-    lets_same label (Text text) move free = cc free
-    lets_same label (Def names) move free = cc free
-    lets_same label (Ref names) move free = cc free
-    lets_same label (Idt text) move free = cc free
-    lets_same label (Titl text) move free = cc free
+    lets_same _ Nothing move free = refl
+    lets_same _ (Instruction size operation field) move free = refl
+    lets_same _ (Aorg text) move free = refl
+    lets_same _ (Equ text) move free = refl
+    lets_same _ (Data texts) move free = refl
+    lets_same _ (End text) move free = refl
+    lets_same label _ move free = cc free
 
     as_expr_same : (line : Said) (found : Move) → is_free line.statement ≡ true → as_expr (move empty at 0 line.statement) ≡ Ok found
         → as_expr (move known at reached line.statement) ≡ Ok found
@@ -133,17 +106,7 @@ module _ (known : Names) (at : Location) (reached : ℕ) where
     free_refs label (Equ text) free = refl
     free_refs label (Data texts) free = refl
     free_refs label (End text) free = refl
-    free_refs label (Rorg text) free = cc free
-    free_refs label (Dorg text) free = cc free
-    free_refs label (Bss text) free = cc free
-    free_refs label (Bes text) free = cc free
-    free_refs label Even free = cc free
-    free_refs label (Byte texts) free = cc free
-    free_refs label (Text text) free = cc free
-    free_refs label (Def names) free = cc free
-    free_refs label (Ref names) free = cc free
-    free_refs label (Idt text) free = cc free
-    free_refs label (Titl text) free = cc free
+    free_refs label _ free = cc free
 
     pub said_same : (text : List ℕ) (there_fields : Fields) (statement : Statement) → as_text (fields text) ≡ Ok there_fields
         → statement_in text there_fields ≡ Ok statement → is_free statement ≡ true → any_known known (label_in there_fields.label) ≡ false

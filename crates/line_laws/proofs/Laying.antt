@@ -12,7 +12,6 @@ use Rattle.source_defs.specs.Layout.{numbered, laid_behind, with_names, has_ende
 use Rattle.asm_defs.specs.declared.causes.AsmCause.{AsmCause}
 use Rattle.asm_defs.specs.declared.location.Location.{Location}
 use Rattle.asm_defs.specs.Statements.{Statement, as_text, statement_in, Nothing, Instruction, Aorg, Equ, Data}
-use Rattle.asm_defs.specs.Statements.{Rorg, Dorg, Bss, Bes, Even, Byte, Text, Def, Ref, Idt, Titl, End}
 use Rattle.asm_defs.specs.Locations.{Line, behind, location}
 use Rattle.asm_defs.specs.FirstChecks.{Checked, Said, any_known, label_in, moved, checked, check, known_of}
 use Rattle.asm_defs.specs.FirstChecks.{line_of, location_behind, names, refs, defs, refs_in, defs_in, is_end}
@@ -150,18 +149,7 @@ plain_free (Instruction size operation field) plain = record { free = refl; refs
 plain_free (Aorg text) plain = record { free = refl; refs = refl; defs = refl; going_on = refl }
 plain_free (Equ text) plain = record { free = refl; refs = refl; defs = refl; going_on = refl }
 plain_free (Data texts) plain = record { free = refl; refs = refl; defs = refl; going_on = refl }
-plain_free (End text) plain = cc plain
-plain_free (Rorg text) plain = cc plain
-plain_free (Dorg text) plain = cc plain
-plain_free (Bss text) plain = cc plain
-plain_free (Bes text) plain = cc plain
-plain_free Even plain = cc plain
-plain_free (Byte texts) plain = cc plain
-plain_free (Text text) plain = cc plain
-plain_free (Def names) plain = cc plain
-plain_free (Ref names) plain = cc plain
-plain_free (Idt text) plain = cc plain
-plain_free (Titl text) plain = cc plain
+plain_free _ plain = cc plain
 
 -- the lines as they are laid behind others
 abbrev pub laid_list : List Line → ℕ → List KnownLine → List Line

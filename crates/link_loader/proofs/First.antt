@@ -1,8 +1,9 @@
 -- The first item of a list, one by one.
-use Rattle.std.proofs.Common.{◌≡◌, ℕ, ◌+◌, ◌<◌, Bool, true, false, length, take, drop, get_or, List, refl, sym, ◌∙◌, Some, None}
+use Rattle.std.proofs.Common.{◌≡◌, ℕ, ◌+◌, ◌<◌, Bool, false, length, take, drop, get_or, List, refl, sym, ◌∙◌, Some, None}
 use Rattle.std.specs.Prelude.{if◌then◌else◌}
 use Rattle.std.proofs.lemmas.List.{take_more, drop_more}
 use Rattle.link_defs.specs.First.{first_behind}
+use Rattle.link_loader.proofs.Words.{pick}
 
 module _ {X : Type 0} (test : List X → X → Bool) (items : List X) (i : ℕ) (d : X) (lt : i < length items) where
   -- one item more
@@ -15,8 +16,4 @@ module _ {X : Type 0} (test : List X → X → Bool) (items : List X) (i : ℕ) 
 
   -- where none is picked, the test does not pick the item
   pub not_picked : first_behind test (take i items) (drop i items) ≡ None → test (take i items) (get_or items i d) ≡ false
-  not_picked none = by (test (take i items) (get_or items i d)) refl
-    where
-      by : (b : Bool) → test (take i items) (get_or items i d) ≡ b → b ≡ false
-      by false e = refl
-      by true e = let some = rw e at (sym behind_step ∙ none) in cc
+  not_picked none = pick (test (take i items) (get_or items i d)) (λ e. let some = rw e at (sym behind_step ∙ none) in cc) (λ e. e)

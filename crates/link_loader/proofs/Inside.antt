@@ -1,25 +1,19 @@
 -- Words stand where they may be loaded.
-use Rattle.std.proofs.Common.{◌≡◌, ℕ, Bool, true, false, cond, List, [], ◌∷◌, ◌++◌, refl, ap, ◌∙◌, subst, Option, Some, None}
-use Rattle.std.specs.Prelude.{not, IsSome, if◌then◌else◌}
+use Rattle.std.proofs.Common.{◌≡◌, ℕ, true, List, [], ◌∷◌, ◌++◌, refl, subst, Option, Some, None}
+use Rattle.std.specs.Prelude.{IsSome}
 use Rattle.std.specs.Ordering.{nat_cmp, eq_by_cmp}
 use Rattle.std.specs.FinMap.{find}
 use Rattle.link_defs.specs.First.{first, first_behind}
 use Rattle.link_defs.specs.LinkedMemory.{is_loadable, is_outside}
 use Rattle.link_loader.specs.Tables.{replaced}
-use Rattle.link_loader.proofs.Filled.{tied}
+use Rattle.link_loader.proofs.Words.{pick, tied}
 
 found_inside : (at : ℕ) (before words : List (ℕ × ℕ)) → first_behind is_outside before words ≡ None → IsSome (find nat_cmp at words) → is_loadable at ≡ true
 found_inside at before [] none found = absurd cc
-found_inside at before (word ∷ words) none found = by (is_loadable word.0) (eq_by_cmp nat_cmp at word.0) refl refl none found (λ rest. found_inside at (before ++ word ∷ []) words rest)
-  where
-    by : (may same : Bool) → is_loadable word.0 ≡ may → eq_by_cmp nat_cmp at word.0 ≡ same
-        → (if not may then Some word else first_behind is_outside (before ++ word ∷ []) words) ≡ None
-        → IsSome (cond same (Some word.1) (find nat_cmp at words))
-        → (first_behind is_outside (before ++ word ∷ []) words ≡ None → IsSome (find nat_cmp at words) → is_loadable at ≡ true)
-        → is_loadable at ≡ true
-    by false same p q none found rest = absurd cc
-    by true true p q none found rest = ap is_loadable (tied at word.0 q) ∙ p
-    by true false p q none found rest = rest none found
+found_inside at before (word ∷ words) none found =
+    pick (is_loadable word.0)
+    (λ p. pick (eq_by_cmp nat_cmp at word.0) (λ q. rw (tied at word.0 q) p) (λ q. found_inside at (before ++ word ∷ []) words (rw p at none) (rw q at found)))
+    (λ p. let some = rw p at none in absurd cc)
 
 some_before : (word other : Option ℕ) → IsSome (replaced word other) → IsSome word
 some_before None other some = absurd cc

@@ -1,6 +1,6 @@
 -- The names of DEFs, one by one.
-use Rattle.std.proofs.Common.{◌≡◌, ℕ, ◌+◌, ◌<◌, cond, length, take, get_or, List, [], ◌∷◌, ◌++◌, sym, ap, ◌∙◌, Some, None}
-use Rattle.std.specs.Ordering.{nat_cmp, eq_by_cmp}
+use Rattle.std.proofs.Common.{◌≡◌, ℕ, ◌+◌, ◌<◌, length, take, get_or, List, refl, sym, Some, None}
+use Rattle.std.specs.Ordering.{nat_cmp}
 use Rattle.std.specs.Cmp.{eq_by_cmp_equiv}
 use Rattle.std.specs.Cmp.Lexicographic.{slice_cmp, nat_list_cmp_total}
 use Rattle.std.specs.BTreeMap.{BTreeMap}
@@ -16,8 +16,4 @@ pub name_kept : (old new : BTreeMap (List ℕ) ℕ) (defs : List (List ℕ × �
     → tree.Updates (slice_cmp nat_cmp) old new definition.0 (Some definition.1)
     → KeepsNames new (take (i + 1) defs)
 name_kept old new defs i d definition lt is kept none updates name =
-    updates.0 name
-    ∙ (ap (cond (eq_by_cmp (slice_cmp nat_cmp) definition.0 name) (Some definition.1)) (kept name)
-    ∙ (ap (λ b. cond b (Some definition.1) (value_in (take i defs) name)) ((eq_by_cmp_equiv nat_list_cmp_total).symm definition.0 name)
-    ∙ (sym (find-append (slice_cmp nat_cmp) nat_list_cmp_total (take i defs) definition.0 definition.1 name none)
-    ∙ ap (λ found. value_in found name) (ap (λ x. take i defs ++ x ∷ []) is ∙ sym (take_more defs i d lt)))))
+    rw (take_more defs i d lt, sym is, find-append (slice_cmp nat_cmp) nat_list_cmp_total (take i defs) definition.0 definition.1 name none, updates.0 name, kept name, (eq_by_cmp_equiv nat_list_cmp_total).symm definition.0 name) refl

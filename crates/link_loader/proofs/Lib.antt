@@ -4,7 +4,6 @@ pub mod Words
 pub mod Refusals
 pub mod Uses
 pub mod Pairs
-pub mod Steps
 pub mod Filled
 pub mod Shown
 pub mod Inside

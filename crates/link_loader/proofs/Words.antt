@@ -1,11 +1,10 @@
 -- Words by their addresses.
-use Rattle.std.proofs.Common.{◌≡◌, ℕ, zero, suc, ◌+◌, ◌<◌, Bool, true, false, cond, length, take, get_or, List, replicate, refl, sym, ap, ◌∙◌, arith, Option}
+use Rattle.std.proofs.Common.{◌≡◌, ℕ, zero, suc, ◌+◌, ◌<◌, Bool, true, false, length, take, get_or, List, replicate, refl, sym, ◌∙◌, arith, Option}
 use Rattle.std.proofs.Common.{Some, None}
-use Rattle.std.specs.Prelude.{◌==◌, nat_lt, is_some, if◌then◌else◌}
+use Rattle.std.specs.Prelude.{◌==◌, is_some, if◌then◌else◌}
 use Rattle.std.proofs.lemmas.Bool.Decides.{nat_tests}
 use Rattle.std.specs.Ordering.{nat_cmp, eq_by_cmp}
 use Rattle.std.specs.Cmp.{nat_cmp_total}
-use Rattle.std.specs.FinMap.{find}
 use Rattle.std.specs.FinMap.Entries.{find-append}
 use Rattle.std.proofs.lemmas.List.{take_more}
 use Rattle.link_loader.specs.declared.table.Table.{Table}
@@ -18,15 +17,21 @@ none_anywhere zero at = refl
 none_anywhere (suc count) zero = refl
 none_anywhere (suc count) (suc at) = none_anywhere count at
 
+-- a case of a test, and of an option
+pub pick : {P : Type 0} (b : Bool) → (b ≡ true → P) → (b ≡ false → P) → P
+pick true t f = t refl
+pick false t f = f refl
+
+pub pick_option : {A P : Type 0} (found : Option A) → (found ≡ None → P) → ((item : A) → found ≡ Some item → P) → P
+pick_option None none some = none refl
+pick_option (Some item) none some = some item refl
+
 -- addresses tie where they are equal
 pub ties : (a b : ℕ) → eq_by_cmp nat_cmp a b ≡ (a == b)
-ties a b = by (nat_lt a b) (a == b) refl refl
-  where
-    by : (below same : Bool) → nat_lt a b ≡ below → (a == b) ≡ same → eq_by_cmp nat_cmp a b ≡ (a == b)
-    by true true p q = absurd (grind (arith, nat_tests))
-    by true false p q = rw (p, q) refl
-    by false true p q = rw (p, q) refl
-    by false false p q = rw (p, q) refl
+ties a b = grind (arith, nat_tests)
+
+pub tied : (a b : ℕ) → eq_by_cmp nat_cmp a b ≡ true → a ≡ b
+tied a b e = grind (arith, nat_tests)
 
 -- no word where none is found
 pub none_found : (found : Option ℕ) → is_some found ≡ false → found ≡ None
@@ -39,8 +44,5 @@ pub word_loaded : (old new : Table) (words : List (ℕ × ℕ)) (i : ℕ) (d : �
     → ((q : ℕ) → cell new q ≡ (if q == (get_or words i d).0 then Some (get_or words i d).1 else cell old q))
     → HoldsWords new (take (i + 1) words)
 word_loaded old new words i d lt holds none put at =
-    put at
-    ∙ (rw (holds at) refl
-    ∙ (ap (λ b. cond b (Some (get_or words i d).1) (find nat_cmp at (take i words))) (sym (ties at (get_or words i d).0))
-    ∙ (sym (find-append nat_cmp nat_cmp_total (take i words) (get_or words i d).0 (get_or words i d).1 at (sym (holds (get_or words i d).0) ∙ none))
-    ∙ ap (find nat_cmp at) (sym (take_more words i d lt)))))
+    let key = (get_or words i d).0 in
+    rw (put at, holds at, take_more words i d lt, find-append nat_cmp nat_cmp_total (take i words) key (get_or words i d).1 at (sym (holds key) ∙ none), ties at key) refl

@@ -1,7 +1,9 @@
 -- Facts about numbers that the comparisons need.
 use Rattle.std.proofs.Common.{ℕ, ℤ, ◌*◌, ◌+◌, ◌<◌, ◌==◌, ◌^◌, ◌||◌, ◌∙◌, ◌≡◌, ◌≤◌, ap, arith, bit_and, Bool, eqb, false, int_le, int_lt, lit<, nat_le, nat_lt}
-use Rattle.std.proofs.Common.{negsuc, not, pos, refl, sym, true}
-use Rattle.std.proofs.lemmas.Bool.{agree_below, agree_below_at, eq-eqb, eqb-true, le-leb, le-ltb, lt-leb, lt-ltb, ltb-false, ltb-true, ne_eqb}
+use Rattle.std.proofs.Common.{◌-ℤ◌, if◌then◌else◌, negsuc, not, pos, refl, sym, true}
+use Rattle.std.proofs.lemmas.Int.{ints}
+use Rattle.std.proofs.lemmas.Bool.Decides.{nat_tests}
+use Rattle.std.proofs.lemmas.Bool.{eq-eqb, eqb-true, le-leb, le-ltb, lt-leb, lt-ltb, ltb-false, ltb-true, ne_eqb}
 use Rattle.std.proofs.lemmas.Nat.{and_block, and_comm}
 use Rattle.sim_rows.proofs.Common.{Byte, in_register, is_set, join, last_out, modulus, signed, SLA, Width, Word}
 
@@ -75,17 +77,21 @@ ones_in_register Byte x y =
     times n = omega arith
 ones_in_register Word x y = ap (λ n. n == 0) (and_comm y x)
 
--- signed numbers, over all pairs of bytes
-abbrev bytes_in_order : ℕ → ℕ → Bool
-bytes_in_order x y = int_lt (signed Word (join x 0)) (signed Word (join y 0))
-
-abbrev orders_agree : ℕ → Bool
-orders_agree x = agree_below (bytes_in_order x) (λ y. int_lt (signed Byte x) (signed Byte y)) 256
-
+-- signed numbers
 pub order_in_register : (width : Width) (x y : ℕ) → x < modulus width → y < modulus width →
     int_lt (signed Word (in_register width x)) (signed Word (in_register width y)) ≡ int_lt (signed width x) (signed width y)
 order_in_register Byte x y h k =
-    agree_below_at (bytes_in_order x) (λ y. int_lt (signed Byte x) (signed Byte y)) 256 y (agree_below_at orders_agree (λ _. true) 256 x refl h) k
+    let first : nat_lt (join x 0) 32768 ≡ nat_lt x 128 = grind (arith, nat_tests) in
+    let second : nat_lt (join y 0) 32768 ≡ nat_lt y 128 = grind (arith, nat_tests) in
+    rw (first, second) (by (nat_lt x 128) refl (nat_lt y 128) refl)
+  where
+    by : (a : Bool) → nat_lt x 128 ≡ a → (b : Bool) → nat_lt y 128 ≡ b →
+        int_lt (if a then pos (join x 0) else pos (join x 0) -ℤ pos 65536) (if b then pos (join y 0) else pos (join y 0) -ℤ pos 65536)
+        ≡ int_lt (if a then pos x else pos x -ℤ pos 256) (if b then pos y else pos y -ℤ pos 256)
+    by true p true q = grind (arith, ints, nat_tests)
+    by true p false q = grind (arith, ints, nat_tests)
+    by false p true q = grind (arith, ints, nat_tests)
+    by false p false q = grind (arith, ints, nat_tests)
 order_in_register Word x y h k = refl
 
 pub at_most_signed : (a b : ℤ) → not (int_lt a b) ≡ int_le b a
