@@ -1,0 +1,55 @@
+"""The command line of a script: its words, its help, its errors and its status."""
+import argparse
+import os
+import pathlib
+import signal
+import sys
+
+from lib.repository import TOP
+
+FAILED, USAGE, UNREADABLE = 1, 2, 3
+
+
+class Stopped(Exception):
+    """A script cannot go on: the line for standard error, and the status that it ends with."""
+
+    def __init__(self, text, status=FAILED):
+        super().__init__(text)
+        self.text, self.status = text, status
+
+
+def name():
+    """The script as it was called: `tools/screen` in the repository, `ti_bench-screen` if it is installed."""
+    script = pathlib.Path(sys.argv[0])
+    real = script.resolve()
+    return str(real.relative_to(TOP)) if script.name == real.name and TOP in real.parents else script.name
+
+
+def parser(document, **more):
+    """A parser of the words, whose help is the script's own text; words that do not fit end it with status 2."""
+    return argparse.ArgumentParser(prog=name(), description=document, add_help=True, allow_abbrev=False,
+                                   formatter_class=argparse.RawDescriptionHelpFormatter, **more)
+
+
+def run(main):
+    """Ends the process with the status that `main` returns, 0 for None. A reader of its output that has gone ends it
+    quietly, as it ends other programs; text that the locale cannot show is written as escapes."""
+    for stream in (sys.stdout, sys.stderr):
+        stream.reconfigure(errors='backslashreplace')
+    try:
+        status = main()
+        sys.stdout.flush()
+    except Stopped as stopped:
+        status = report(stopped)
+    except BrokenPipeError:
+        os.dup2(os.open(os.devnull, os.O_WRONLY), sys.stdout.fileno())
+        status = 128 + signal.SIGPIPE
+    except KeyboardInterrupt:
+        status = 128 + signal.SIGINT
+    sys.exit(status)
+
+
+def report(stopped):
+    """Writes what stopped a script; its status."""
+    print(f'{name()}: {stopped.text}', file=sys.stderr)
+    return stopped.status
