@@ -1,4 +1,6 @@
 """Tests of tools/lib."""
+import contextlib
+import io
 import pathlib
 import tempfile
 import unittest
@@ -35,12 +37,14 @@ class Crates(unittest.TestCase):
         self.assertEqual(repository.crates_below(['high'], found), ['low', 'middle', 'high'])
 
     def test_a_file_is_written_once_and_only_named_by_a_check(self):
-        path = self.top / 'made'
-        self.assertEqual(generated.settle({path: 'é\n'}, check=True), 1)
-        self.assertFalse(path.exists())
-        self.assertEqual(generated.settle({path: 'é\n'}, check=False), 0)
-        self.assertEqual(path.read_bytes(), b'\xc3\xa9\n')
-        self.assertEqual(generated.settle({path: 'é\n'}, check=True), 0)
+        path, said = self.top / 'made', io.StringIO()
+        with contextlib.redirect_stdout(said), contextlib.redirect_stderr(said):
+            self.assertEqual(generated.settle({path: 'é\n'}, check=True), 1)
+            self.assertFalse(path.exists())
+            self.assertEqual(generated.settle({path: 'é\n'}, check=False), 0)
+            self.assertEqual(path.read_bytes(), b'\xc3\xa9\n')
+            self.assertEqual(generated.settle({path: 'é\n'}, check=True), 0)
+        self.assertEqual(said.getvalue().count(str(path)), 2)
 
 
 class Programs(unittest.TestCase):

@@ -31,6 +31,19 @@ def parser(document, **more):
                                    formatter_class=argparse.RawDescriptionHelpFormatter, **more)
 
 
+def input_text():
+    """Standard input as text, each byte a character."""
+    return sys.stdin.buffer.read().decode('latin-1')
+
+
+def write_bytes(path, data):
+    """Makes a file of bytes."""
+    try:
+        pathlib.Path(path).write_bytes(data)
+    except OSError as error:
+        raise Stopped(f'{path}: {error.strerror}', UNREADABLE) from None
+
+
 def run(main):
     """Ends the process with the status that `main` returns, 0 for None. A reader of its output that has gone ends it
     quietly, as it ends other programs; text that the locale cannot show is written as escapes."""

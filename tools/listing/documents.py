@@ -1,6 +1,7 @@
 """The columns of docs/INTERPRETER.md that follow from the listing, and docs/OPERATIONS.md."""
+from lib.repository import TOP, read_text
+
 from . import operations, pieces
-from .source import TOP
 
 PAGE = 'docs/INTERPRETER.md'
 MEMORY = [
@@ -72,7 +73,7 @@ def piece_rows(old, found):
 
 def files(listing):
     found = pieces.functions(listing)
-    page = (TOP / PAGE).read_text()
+    page = read_text(TOP / PAGE)
     page = table(page, '| Address | Part | Words |', lambda old: memory_rows(listing))
     page = table(page, '| Piece | Address | Most | Paths | Ends | Function |', lambda old: piece_rows(old, found))
     return {PAGE: page, 'docs/OPERATIONS.md': operations.page(listing, found)}

@@ -1,7 +1,8 @@
 """The edits that turn a line of the interpreter's words, which move with the words."""
 import re
 
-from .source import TOP
+from lib.repository import TOP, read_text
+
 
 WORDS = 'crates/native_interp/src/words.rt'
 NUMBER = re.compile(r'0x[0-9A-F]{4}|\b\d{3,}\b')
@@ -48,11 +49,11 @@ def moved_pair(path, old, new, before, after):
 
 def files(text):
     """Each edit that turns a line of the words, by its path, as it is over these words."""
-    before, after = places((TOP / WORDS).read_text()), places(text)
+    before, after = places(read_text(TOP / WORDS)), places(text)
     found = {}
     for folder in ('crates/native_interp/must-fail', 'more-edits/native_interp'):
         for path in sorted((TOP / folder).glob('*.edit')):
-            lines = path.read_text().split('\n')
+            lines = read_text(path).split('\n')
             if lines[0] != 'file: src/words.rt':
                 continue
             for at in range(1, len(lines) - 1, 2):

@@ -1,7 +1,8 @@
 """docs/OPERATIONS.md: each operation of GPL with all that stands of it, at one place."""
 import re
 
-from .source import TOP
+from lib.repository import TOP, read_text
+
 
 STEP, ARITHMETIC = (f'crates/gpl_step_defs/specs/{it}.antt' for it in ('Step', 'Arithmetic'))
 ROUTINES = ['WHERE', 'SEEK', 'FETCH', 'ADDR', 'ASHORT', 'APTR', 'INDEX', 'ASPACE', 'LOAD', 'LDATA', 'STREAM', 'STORE', 'SDATA',
@@ -30,7 +31,7 @@ in brackets is a routine that returns there. A code that is odd means words wher
 
 def operations():
     """The operations of the table of codes: their kind, their name, their first code and how many there are."""
-    text = (TOP / 'crates/gpl_defs/specs/Codes.antt').read_text()
+    text = read_text(TOP / 'crates/gpl_defs/specs/Codes.antt')
     found = []
     for kind, name, code, count in re.findall(r'^(\w+)_row (\w+) = row (0x\w+) (\d+)', text, re.M):
         if kind == 'branch':
@@ -47,7 +48,7 @@ def bytes_of(code, count):
 
 def equation(path, start):
     """The equation of a definition that begins so, in one line."""
-    lines = (TOP / path).read_text().split('\n')
+    lines = read_text(TOP / path).split('\n')
     at = next(at for at, line in enumerate(lines) if line.startswith(start))
     text = lines[at]
     while at + 1 < len(lines) and lines[at + 1].startswith('    '):
@@ -59,7 +60,7 @@ def equation(path, start):
 def home(word):
     """The file of the step's definitions that defines a word."""
     for path in sorted((TOP / 'crates/gpl_step_defs/specs').glob('*.antt')):
-        if re.search(rf'^(?:abbrev pub |unfoldable pub |pub |abbrev ){word} :', path.read_text(), re.M):
+        if re.search(rf'^(?:abbrev pub |unfoldable pub |pub |abbrev ){word} :', read_text(path), re.M):
             return str(path.relative_to(TOP))
     return None
 
@@ -129,7 +130,7 @@ def words_table(found, labels):
 def family(crate):
     """The function of a family's crate that runs an operation from its dispatch, and the test of the family."""
     path = TOP / f'crates/{crate}/src/family.rt'
-    runs = re.findall(r'^pub fn (run_\w+)<[^{]*\{ AtDispatch (?:family\.)?(is_\w+)', path.read_text(), re.M)
+    runs = re.findall(r'^pub fn (run_\w+)<[^{]*\{ AtDispatch (?:family\.)?(is_\w+)', read_text(path), re.M)
     return *runs[-1], str(path.relative_to(TOP))
 
 
@@ -139,13 +140,13 @@ class Edit:
     def __init__(self, path):
         self.path = path
         self.crate = path.parts[-3] if path.parts[-2] == 'must-fail' else path.parts[-2]
-        text = path.read_text()
+        text = read_text(path)
         self.file = re.search(r'^file: (.*)$', text, re.M).group(1)
         self.old, new = (re.search(rf'^{it}: (.*)$', text, re.M).group(1).strip() for it in ('old', 'new'))
         # An open line goes on as it did, and so do the arms at its end.
         kept = ARM.findall(new.rpartition(',')[2]) if new.endswith('=>') else []
         self.arms = set(ARM.findall(self.old)) - set(kept)
-        source = (TOP / 'crates' / self.crate / self.file).read_text().split('\n')
+        source = read_text(TOP / 'crates' / self.crate / self.file).split('\n')
         at = next((at for at, line in enumerate(source) if self.old in line), None)
         if at is None:
             raise SystemExit(f'tools/interpreter: {path} turns a line that is not there')

@@ -1,8 +1,9 @@
 """The pieces of the interpreter: the functions that run one, and the ways through the words of each."""
 import re
 
+from lib.repository import TOP, read_text
+
 from .assembler import value
-from .source import TOP
 
 ENDS = ['GSTEP', 'GSTOP', 'GEXIT']
 TABLES = {'GSTEP': 'the entry of TABLE', 'GO': 'the entry of OPTAB'}
@@ -73,7 +74,7 @@ def functions(listing):
     """All pieces, by their label."""
     found = {}
     for path in sorted((TOP / 'crates').glob('sim_*/src/*.rt')):
-        text = path.read_text()
+        text = read_text(path)
         for part in re.split(r'(?=^(?:pub )?fn )', text, flags=re.M)[1:]:
             run = re.search(r'run_piece\(machine, steps, &\[(.*?)\]\)', part)
             if not run or path.name == 'run.rt':

@@ -1,7 +1,8 @@
 """What the program prints of the interpreter's words, where documents, examples and tests show it."""
 import re
 
-from .source import TOP
+from lib.repository import TOP, read_text
+
 
 EXAMPLE = 'examples/interp/expected'
 PARTS = ['docs/REPORTS.md', 'crates/bench_tests/src/interp.rt', 'examples/interp/README.md']
@@ -33,5 +34,5 @@ def files(listing):
     found = rows(listing)
     texts = {EXAMPLE: f'entry >{listing.names["GBOOT"]:04X}\n' + ''.join(f'{row}\n' for row in found.values())}
     for path in PARTS:
-        texts[path] = part((TOP / path).read_text(), listing, found)
+        texts[path] = part(read_text(TOP / path), listing, found)
     return texts

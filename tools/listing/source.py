@@ -1,10 +1,10 @@
 """The interpreter's listing, as it stands in the source of native_interp, and its parts by name."""
-import pathlib
 import re
+
+from lib.repository import TOP, read_text
 
 from .assembler import Line, assembled
 
-TOP = pathlib.Path(__file__).resolve().parent.parent.parent
 FOLDER = TOP / 'crates/native_interp/src/source'
 GROUPS = ['routines', 'operations', 'flow', 'copy']
 
@@ -40,13 +40,13 @@ class Listing:
 
     def __init__(self):
         self.lines = [Line(text, group) for group in GROUPS
-                      for text in re.findall(r'^    "(.*)",$', (FOLDER / f'{group}.rt').read_text(), re.M)]
+                      for text in re.findall(r'^    "(.*)",$', read_text(FOLDER / f'{group}.rt'), re.M)]
         self.names = assembled(self.lines)
         self.words = [word for line in self.lines for word in line.words]
         self.origin = next(line.place for line in self.lines if line.words)
         self.behind = self.origin + 2 * len(self.words)
         self.groups = []
-        for text in (TOP / 'tools/listing/parts.txt').read_text().split('\n'):
+        for text in read_text(TOP / 'tools/listing/parts.txt').split('\n'):
             if text.startswith('['):
                 self.groups.append(Group(text))
             elif text and not text.startswith('#'):

@@ -1,0 +1,58 @@
+"""Tests of tools/archive."""
+import unittest
+
+from calling import Calling
+
+IMAGE = bytes.fromhex('AA 00 BE 00 05 0B')
+MAIN = b' REF TABLE\nS DATA TABLE\n END S\n'
+
+
+class Archive(Calling):
+    def rows(self, *words, **environment):
+        ended = self.call('archive', *words, self.folder, **environment)
+        return ended.returncode, ended.stdout.decode().splitlines()
+
+    def test_each_kind_of_file_has_its_result(self):
+        self.file('image.Bin', IMAGE)
+        self.file('source.gpl', b'S ST @>8300,5\n EXIT\n END S\n')
+        self.file('alone.a', b'S JMP $\n END S\n')
+        self.file('main.asm', MAIN)
+        self.file('bad.gpl', b' FOO\n')
+        self.file('README', b'')
+        status, rows = self.rows()
+        self.assertEqual(status, 0)
+        self.assertEqual(rows, ['alone.a     linked     entry >A000', 'bad.gpl     refused    line 1: unknown operation',
+                                'image.Bin   same       6 bytes', 'main.asm    assembled  unresolved TABLE',
+                                'source.gpl  same       4 bytes',
+                                '5 files: 2 same, 1 linked, 1 assembled, 1 refused, 0 different; passed over: 1'])
+
+    def test_a_file_that_another_source_copies_is_no_refused_source(self):
+        self.file('main.a', b' COPY "part.a"\n END\n')
+        self.file('part.a', b' DATA MISSNG\n')
+        _, rows = self.rows()
+        self.assertIn('part.a  copied     by main.a', rows)
+
+    def test_folders_in_folders_are_taken_by_r_alone(self):
+        self.file('deep down/image.bin', IMAGE)
+        self.assertEqual(self.rows()[1], ['0 files: 0 same, 0 different'])
+        self.assertEqual(self.rows('-r')[1][0], 'deep down/image.bin  same       6 bytes')
+
+    def test_tab_separated_lines_have_a_head_and_no_sum(self):
+        self.file('image.bin', IMAGE)
+        self.assertEqual(self.rows('--tsv')[1], ['name\tresult\tmore', 'image.bin\tsame\t6 bytes'])
+
+    def test_names_are_shown_in_any_locale(self):
+        self.file('pr\u00fcfung.bin', IMAGE)
+        self.assertEqual(self.rows(LC_ALL='C')[0], 0)
+        self.assertEqual(self.rows(LC_ALL='POSIX', PYTHONUTF8='0', PYTHONCOERCECLOCALE='0')[0], 0)
+
+    def test_a_wrong_program_makes_files_different_and_the_status_1(self):
+        liar = self.file('liar', b'#!/bin/sh\necho " END"\n')
+        liar.chmod(0o755)
+        self.file('images/image.bin', IMAGE)
+        ended = self.call('archive', '--program', liar, 'images')
+        self.assertEqual((ended.returncode, ended.stdout.splitlines()[0]), (1, b'image.bin  different  6 bytes'))
+
+
+if __name__ == '__main__':
+    unittest.main()

@@ -1,0 +1,94 @@
+"""Tests of tools/screen, over dumps that are made here."""
+import struct
+import unittest
+import zlib
+
+from calling import Calling
+
+
+def rows(data, origin):
+    """A part of a dump: a row of sixteen bytes a line, and `*` for those like the one before."""
+    last, folded = None, False
+    for at in range(0, len(data), 16):
+        row = data[at:at + 16]
+        if row != last:
+            yield f'>{origin + at:04X} ' + ' '.join(f'{byte:02X}' for byte in row)
+        elif not folded:
+            yield '*'
+        folded, last = row == last, row
+
+
+def report(video, registers):
+    """A report that shows this video memory."""
+    shown = ' '.join(f'{byte:02X}' for byte in registers)
+    lines = ['exit at >6000', 'pad', *rows(bytes(256), 0x8300), 'vdp', *rows(video, 0), f'regs {shown}', 'grom >0000']
+    return '\n'.join(lines).encode() + b'\n'
+
+
+def colours_of(picture):
+    """The colours of the points of a PNG file, by lines."""
+    chunks, at = {}, 8
+    while at < len(picture):
+        length, = struct.unpack('>I', picture[at:at + 4])
+        kind, data = picture[at + 4:at + 8], picture[at + 8:at + 8 + length]
+        assert struct.pack('>I', zlib.crc32(kind + data)) == picture[at + 8 + length:at + 12 + length]
+        chunks[kind] = data
+        at += 12 + length
+    width, height = struct.unpack('>II', chunks[b'IHDR'][:8])
+    lines, palette = zlib.decompress(chunks[b'IDAT']), chunks[b'PLTE']
+    return [[tuple(palette[3 * point:3 * point + 3]) for point in lines[line * (width + 1) + 1:][:width]]
+            for line in range(height)]
+
+
+class Screen(Calling):
+    def setUp(self):
+        super().setUp()
+        self.video = bytearray(0x4000)
+        self.registers = [0, 0xE0, 1, 0x20, 1, 0, 0, 0x07]
+
+    def test_rows_are_those_of_the_table_that_register_2_places(self):
+        self.video[0x400 + 32:0x400 + 37] = b'HELLO'
+        self.video[0x400 + 64] = 0x80
+        ended = self.call('screen', given=report(self.video, self.registers))
+        lines = ended.stdout.decode().splitlines()
+        self.assertEqual((len(lines), lines[1], lines[2]), (24, 'HELLO' + 27 * '.', 32 * '.'))
+
+    def test_text_mode_has_rows_of_40(self):
+        self.registers[1] = 0xF0
+        self.video[0x400 + 40:0x400 + 80] = bytes(range(0x30, 0x58))
+        ended = self.call('screen', given=report(self.video, self.registers))
+        self.assertEqual(ended.stdout.splitlines()[1], bytes(range(0x30, 0x58)))
+
+    def test_a_picture_has_the_pattern_the_colours_and_the_backdrop(self):
+        self.video[0x400] = 0x41
+        self.video[0x800 + 8 * 0x41] = 0b10000001
+        self.video[0x800 + 8] = 0
+        self.video[0x800 + 0x41 // 8] = 0x60
+        ended = self.call('screen', '-p', given=report(self.video, self.registers))
+        lines = colours_of(ended.stdout)
+        red, cyan = (212, 82, 77), (66, 235, 245)
+        self.assertEqual((len(lines), len(lines[0])), (192, 256))
+        self.assertEqual(lines[0][:8], [red, *[cyan] * 6, red])
+        self.assertEqual(lines[1][:8], [cyan] * 8)
+
+    def test_a_picture_that_is_off_is_all_backdrop(self):
+        self.registers[1] = 0xA0
+        self.call('screen', '-o', 'off.png', given=report(bytes([0xFF]) * 0x4000, self.registers))
+        lines = colours_of((self.folder / 'off.png').read_bytes())
+        self.assertEqual({point for line in lines for point in line}, {(66, 235, 245)})
+
+    def test_other_modes_have_no_picture(self):
+        for register, byte, text in ((1, 0xF0, 'text mode'), (1, 0xE8, 'multicolor mode'), (0, 2, 'graphics mode II')):
+            registers = [*self.registers]
+            registers[register] = byte
+            ended = self.call('screen', '-p', given=report(self.video, registers))
+            self.assertEqual((ended.returncode, ended.stdout), (1, b''))
+            self.assertIn(f'{text} is not drawn', ended.stderr.decode())
+
+    def test_without_a_dump_the_status_is_1(self):
+        ended = self.call('screen', given=b'line 1: unknown operation\n')
+        self.assertEqual((ended.returncode, ended.stderr), (1, b'tools/screen: no dump\n'))
+
+
+if __name__ == '__main__':
+    unittest.main()

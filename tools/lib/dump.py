@@ -1,0 +1,53 @@
+"""What a report of ti_bench shows of the console: the dump that `run`, `trace`, `watch` and `exec` write last, and the
+words that `link` and `interp` list."""
+import re
+
+ROW = re.compile(r'>([0-9A-F]{4})((?: [0-9A-F]{2}){16})')
+WORDS = re.compile(r'>([0-9A-F]{4})((?: [0-9A-F]{4}){1,8})')
+SIZES = {'pad': 256, 'vdp': 16384}
+ORIGINS = {'pad': 0x8300, 'vdp': 0}
+
+
+class Dump:
+    """The scratchpad from >8300 on, the video memory and the registers of the video processor, as bytes."""
+
+    def __init__(self, pad, vdp, registers):
+        self.pad, self.vdp, self.registers = pad, vdp, registers
+
+
+def memory(rows, part):
+    """The bytes of a part of the dump. A row `*` means rows like the one before, up to the address of the next row or
+    to the end of the part."""
+    held, last = bytearray(), b''
+    for row in rows:
+        shown = ROW.fullmatch(row)
+        if shown:
+            gap = int(shown[1], 16) - ORIGINS[part] - len(held)
+            held += last * (gap // 16)
+            last = bytes.fromhex(shown[2])
+            held += last
+    return bytes(held + last * ((SIZES[part] - len(held)) // 16))
+
+
+def dump(text):
+    """The last dump of a report, or None if it has none."""
+    lines = text.splitlines()
+    heads = [number for number, line in enumerate(lines) if line.startswith('regs ')]
+    if not heads or 'vdp' not in lines or 'pad' not in lines:
+        return None
+    end = heads[-1]
+    middle = max(number for number in range(end) if lines[number] == 'vdp')
+    begin = max(number for number in range(middle) if lines[number] == 'pad')
+    return Dump(memory(lines[begin + 1:middle], 'pad'), memory(lines[middle + 1:end], 'vdp'),
+                bytes.fromhex(lines[end].partition(' ')[2]))
+
+
+def words(text):
+    """The words that a report of linked memory lists, by their addresses."""
+    found = {}
+    for line in text.splitlines():
+        row = WORDS.fullmatch(line)
+        if row:
+            at = int(row[1], 16)
+            found.update((at + 2 * number, int(word, 16)) for number, word in enumerate(row[2].split()))
+    return found
