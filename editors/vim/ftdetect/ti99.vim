@@ -1,0 +1,7 @@
+" GPL sources and assembler sources by the ends of their names. Other programs have sources and archives that end in .a,
+" .asm, .src or .obj: g:ti99asm_endings lists those that are assembler sources of the TI-99/4A here.
+autocmd BufNewFile,BufRead *.gpl setfiletype ti99gpl
+autocmd BufNewFile,BufRead *.a99 setfiletype ti99asm
+for s:ending in get(g:, 'ti99asm_endings', [])
+  execute 'autocmd BufNewFile,BufRead *.' . s:ending 'set filetype=ti99asm'
+endfor
