@@ -17,7 +17,7 @@ endif
 let s:script = fnamemodify(resolve(expand('<sfile>:p')), ':h:h:h:h') . '/tools/assemble'
 let s:script = get(g:, 'ti_bench_assemble', executable(s:script) ? s:script : 'ti_bench-assemble')
 let s:kind = get({'ti99gpl': ' --gpl', 'ti99asm': ' --asm'}, &filetype, '')
-let s:words = escape(shellescape(s:script), '%#!') . s:kind . ' -o /dev/null $* %:S'
+let s:words = escape(shellescape(s:script), '%#!') . s:kind . ' -o /dev/null $* -- %:S'
 execute 'CompilerSet makeprg=' . escape(s:words, " \t|\"\\")
 CompilerSet errorformat=%-G\ \ \ \ %.%#,%I%f:%l:\ note:\ %m,%E%f:%l:\ %m
 
