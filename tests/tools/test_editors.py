@@ -15,7 +15,7 @@ from lib.repository import read_text
 LANGUAGES = {'ti99gpl': ('gasm', names.gpl()), 'ti99asm': ('asm', names.assembler())}
 VSCODE = TOP / 'editors/vscode'
 
-# Lines of both languages, and what is told apart in them.
+# Lines of both languages, and the parts that each has.
 LINES = {
     'ti99gpl': [
         ('* A comment', 'comment:* A comment'),
@@ -129,7 +129,7 @@ class Names(unittest.TestCase):
             for word in words - set(itertools.chain(*listed)):
                 self.assertTrue(unknown(command, word), word)
 
-    def test_a_word_that_stands_alone_makes_the_rest_of_its_line_a_comment(self):
+    def test_after_a_bare_name_the_rest_of_a_line_is_a_comment(self):
         for command, listed in LANGUAGES.values():
             for word in listed.bare_operations + listed.bare_directives:
                 self.assertEqual(program().run(command, given=f" {word} it's\n".encode()).status, 0, word)
@@ -151,7 +151,7 @@ class Files(Calling):
             self.assertEqual((VSCODE / listed['path']).name, f'{listed["language"]}.tmLanguage.json')
             self.assertEqual(grammar['scopeName'], listed['scopeName'])
 
-    def test_the_grammars_tell_the_parts_of_lines(self):
+    def test_the_grammars_find_the_parts_of_lines(self):
         for language, lines in LINES.items():
             grammar = Grammar(language)
             for line, wanted in lines:
@@ -170,8 +170,8 @@ class Files(Calling):
 def has_vim():
     if not shutil.which('vim'):
         return False
-    told = subprocess.run(['vim', '--version'], capture_output=True).stdout
-    return all(it in told for it in (b'+syntax', b'+eval', b'+quickfix'))
+    version = subprocess.run(['vim', '--version'], capture_output=True).stdout
+    return all(it in version for it in (b'+syntax', b'+eval', b'+quickfix'))
 
 
 @unittest.skipUnless(has_vim(), 'no Vim with +syntax, +eval and +quickfix')

@@ -57,9 +57,9 @@ def comma_note(found, cause):
     """Of commas beside a blank, and of operands that are empty."""
     bare, rest = QUOTED.sub("''", found.operands), found.rest.strip(' \t')
     if bare.endswith(',') and rest:
-        return 'a blank ends the operands; no blank stands after a comma'
+        return 'a blank ends the operands; write none after a comma'
     if cause == 'operand count' and bare and rest.startswith(','):
-        return 'a blank ends the operands; no blank stands before a comma'
+        return 'a blank ends the operands; write none before a comma'
     if bare and '' in bare.split(','):
         return 'an operand is empty'
     return None
@@ -71,7 +71,7 @@ def token_note(found):
         return "a quote is open at the end of the line; a ' in a text is written twice"
     bare = QUOTED.sub("''", found.operands)
     if '"' in bare:
-        return "texts and characters stand between two ', not between two \""
+        return "a text or a character is written between two ', not between two \""
     if found.operation.upper() in TEXTS:
         return None
     name, number = LONG_NAME.search(bare), ZERO_X.search(bare)
