@@ -3,7 +3,8 @@ import os
 import subprocess
 import unittest
 
-from calling import TOOLS, Calling
+from calling import TOOLS, TOP, Calling
+from lib import notes
 
 ACCEPTED = b' ST @>8300,5\n EXIT\n'
 IMAGE = bytes.fromhex('BE 00 05 0B')
@@ -16,7 +17,8 @@ NOTES = [
     ('a', b'LONGNAME NOP', 'bad label', 'a name has at most six letters and digits, and LONGNAME has 8'),
     ('a', b'A_B NOP', 'bad label', 'a name has letters and digits alone, and no _'),
     ('a', b'1AB NOP', 'bad label', 'a name begins with a letter'),
-    ('gpl', b'DATA 1,2', 'unknown operation', 'what begins in column 1 is a label, so the operation of this line is 1,2'),
+    ('gpl', b'DATA 1,2', 'unknown operation',
+     'what begins in column 1 is a label, so the operation of this line is 1,2'),
     ('a', b'MOV R1,R2', 'unknown operation',
      'what begins in column 1 is a label, so the operation of this line is R1,R2'),
     ('gpl', b' ST @>8300, 5', 'bad operand', 'a blank ends the operands; write none after a comma'),
@@ -38,9 +40,10 @@ NOTES = [
 ]
 # Lines that are refused, and whose text does not say for certain why.
 NO_NOTES = [
-    ('gpl', b' ST COUNT,5'), ('gpl', b' BYTE 256'), ('a', b'A MOVV R1,R2'), ('a', b'LOOP ST@X'), ('a', b' TEXT COUNTER'),
-    ('a', b' JMP COUNT'), ('a', b' LI 16,>12345678'), ('gpl', b" DATA 'A_B',1,'LONGNAME','\"'"), ('gpl', b' EQU 1'),
-    ('a', b'LABEL COPY "MY_LONGNAME.SRC"'),
+    ('gpl', b' ST COUNT,5'), ('gpl', b' BYTE 256'), ('a', b'A MOVV R1,R2'), ('a', b'LOOP ST@X'),
+    ('a', b' TEXT COUNTER'), ('a', b' CLR R1,R2 ,x'), ('a', b' CLR R1,COUNTER'), ('gpl', b' DCLR COUNTER'),
+    ('a', b' IDT COUNTER'), ('a', b' JMP COUNT'), ('a', b' LI 16,>12345678'),
+    ('gpl', b" DATA 'A_B',1,'LONGNAME','\"'"), ('gpl', b' EQU 1'), ('a', b'LABEL COPY "MY_LONGNAME.SRC"'),
 ]
 
 
@@ -122,7 +125,8 @@ class Refused(Calling):
         self.assertEqual(self.refusal('b.a', b' COPY "A.SRC"\n'), (1, b'b.a: too large\n'))
 
     def test_a_run_that_ends_otherwise(self):
-        for exits, status, reason in (('exit 3', 3, b'a file that it copies cannot be read'), ('exit 5', 5, b'out of memory'),
+        for exits, status, reason in (('exit 3', 3, b'a file that it copies cannot be read'),
+                                      ('exit 5', 5, b'out of memory'),
                                       ('exit 9', 9, b'the program ended with status 9'),
                                       ('kill -TERM $$', 143, b'the program ended with status -15')):
             self.file('program', b'#!/bin/sh\ncat >/dev/null\n' + exits.encode()).chmod(0o755)
@@ -137,6 +141,14 @@ class Refused(Calling):
                 wanted = [place + cause.encode(), place + b'note: ' + note.encode(), b'']
                 lines = text.split(b'\n')
                 self.assertEqual((status, lines[:1] + lines[2:]), (1, wanted))
+
+    def test_no_line_that_is_accepted_would_have_a_note(self):
+        causes = ('bad label', 'unknown operation', 'operand count', 'bad operand', 'bad token', 'bad directive')
+        for words in (TOP / 'examples').glob('*/words'):
+            if words.read_text().split()[0] in ('asm', 'gasm', 'run', 'trace', 'watch'):
+                for line in (words.parent / 'input').read_text(encoding='latin-1').splitlines():
+                    found = [] if line[:1] == '*' or ' COPY ' in line else [notes.note(line, cause) for cause in causes]
+                    self.assertFalse(any(found), line)
 
     def test_no_note_without_certainty(self):
         for ending, source in NO_NOTES:

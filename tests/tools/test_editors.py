@@ -21,7 +21,8 @@ LINES = {
         ('* A comment', 'comment:* A comment'),
         ('', ''),
         ("START  ST   @COUNT,5  it's all", "label:START operation:ST prefix:@ name:COUNT number:5 comment:it's all"),
-        ('start\tdst\tV*>83aB(@R3),\'A\'', "label:start operation:dst prefix:V* number:>83aB prefix:@ register:R3 text:'A'"),
+        ("start\tdst\tV*>83aB(@R3),'A'",
+         "label:start operation:dst prefix:V* number:>83aB prefix:@ register:R3 text:'A'"),
         (' MOVE 8+2,R@0,G@REGS', 'operation:MOVE number:8 operator:+ number:2 prefix:R@ number:0 prefix:G@ name:REGS'),
         (' B $-R15', 'operation:B here:$ operator:- register:R15'),
         (" EXIT 'a comment, @X", "operation:EXIT comment:'a comment, @X"),
@@ -205,7 +206,8 @@ class Vim(Calling):
         self.file('sub/a b.gpl', b' RTN\nLABEL: RTN\n')
         self.file('sub/B.SRC', b' RT\n FOO\n')
         self.file('sub/c.asm', b' COPY "B.SRC"\n')
-        listed = "for it in getqflist()\ncall add(out, join([bufname(it.bufnr), it.lnum, it.type, it.text], '|'))\nendfor"
+        listed = ("for it in getqflist()\n"
+                  "call add(out, join([bufname(it.bufnr), it.lnum, it.type, it.text], '|'))\nendfor")
         found = self.vim(f'edit sub/a\\ b.gpl\nsilent make!\n{listed}\nedit sub/c.asm\nsilent make!\n{listed}')
         self.assertEqual(found, ['sub/a b.gpl|2|E|bad label', 'sub/a b.gpl|2|I|a label has no colon',
                                  'sub/B.SRC|2|E|unknown operation'])

@@ -11,7 +11,6 @@ UNDERSCORE = re.compile(r'(?<![0-9A-Za-z_])[A-Za-z_]\w*_\w*|[A-Za-z]\w*_', re.A)
 ZERO_X = re.compile(r'(?<![0-9A-Za-z>])0[xX]([0-9A-Fa-f]+)')
 OPERAND = re.compile(r"[-0-9@*>'$].*|[VGRvgr]@.*|[Vv]\*.*|[Rr](?:1[0-5]|[0-9]),.*", re.S)
 NAME = re.compile(r'[A-Za-z][0-9A-Za-z]{0,5}')
-TEXTS = ('TEXT', 'IDT', 'TITL')
 LINE_MAXIMUM = 256
 
 ALPHANUMERIC = 'a name has letters and digits alone, and no _'
@@ -50,7 +49,9 @@ def operation_note(found):
 
 
 def copy_note(found):
-    return 'COPY takes the name of a file beside the source, and no path' if re.search(r'[/\\]', found.operands) else None
+    if re.search(r'[/\\]', found.operands):
+        return 'COPY takes the name of a file beside the source, and no path'
+    return None
 
 
 def comma_note(found, cause):
@@ -58,22 +59,25 @@ def comma_note(found, cause):
     bare, rest = QUOTED.sub("''", found.operands), found.rest.strip(' \t')
     if bare.endswith(',') and rest:
         return 'a blank ends the operands; write none after a comma'
-    if cause == 'operand count' and bare and rest.startswith(','):
+    if cause == 'operand count' and bare and ',' not in bare and rest.startswith(','):
         return 'a blank ends the operands; write none before a comma'
     if bare and '' in bare.split(','):
         return 'an operand is empty'
     return None
 
 
-def token_note(found):
-    """Of what no operand has outside its quotes."""
+def quote_note(found):
+    """Of quotes that are open, or of another kind."""
     if found.operands.count("'") % 2:
         return "a quote is open at the end of the line; a ' in a text is written twice"
-    bare = QUOTED.sub("''", found.operands)
-    if '"' in bare:
+    if '"' in QUOTED.sub("''", found.operands):
         return "a text or a character is written between two ', not between two \""
-    if found.operation.upper() in TEXTS:
-        return None
+    return None
+
+
+def token_note(found):
+    """Of names and numbers that are none."""
+    bare = QUOTED.sub("''", found.operands)
     name, number = LONG_NAME.search(bare), ZERO_X.search(bare)
     if number:
         return f'a hexadecimal number begins with >, as >{number[1].upper()}'
@@ -82,7 +86,10 @@ def token_note(found):
     return ALPHANUMERIC if UNDERSCORE.search(bare) else None
 
 
-def order_note(found):
+def form_note(found):
+    """Of operands whose form their operation does not take."""
+    if found.operation.upper() in ('DEF', 'REF'):
+        return token_note(found)
     operands = QUOTED.sub("''", found.operands).split(',')
     if found.operation.upper() == 'MOVE' and len(operands) == 3 and operands[1].upper().startswith('G@'):
         return 'MOVE takes length, target and source, in this order, and G@ is no target'
@@ -107,7 +114,8 @@ def note(line, cause):
     if cause == 'bad relocation':
         return register_note(found)
     if cause == 'bad directive':
-        return copy_note(found) if found.operation.upper() == 'COPY' else token_note(found)
+        return copy_note(found) if found.operation.upper() == 'COPY' else quote_note(found)
     if cause in ('operand count', 'bad operand', 'bad token'):
-        return comma_note(found, cause) or token_note(found) or order_note(found)
+        last = {'bad token': token_note, 'bad operand': form_note}.get(cause, lambda found: None)
+        return comma_note(found, cause) or quote_note(found) or last(found)
     return None
