@@ -10,8 +10,8 @@ ACCEPTED = b' ST @>8300,5\n EXIT\n'
 IMAGE = bytes.fromhex('BE 00 05 0B')
 # The end of a source's name, its last line, the cause and the note.
 NOTES = [
-    ('gpl', b'\xef\xbb\xbf* x', 'bad label', 'the file begins with a byte order mark; save it without one'),
-    ('gpl', b'\xff\xfe*\0', 'bad label', 'the file is UTF-16; save it as plain text'),
+    ('gpl', b'\xef\xbb\xbf* x', 'bad label', 'the line begins with a byte order mark; save the file without one'),
+    ('gpl', b'\xff\xfe*\0', 'bad label', 'the line begins with the mark of UTF-16; save the file as plain text'),
     ('gpl', b'; x', 'bad label', 'a comment line begins with *'),
     ('a', b'LOOP: NOP', 'bad label', 'a label has no colon'),
     ('a', b'LONGNAME NOP', 'bad label', 'a name has at most six letters and digits, and LONGNAME has 8'),

@@ -7,7 +7,7 @@ Fields = collections.namedtuple('Fields', 'label operation operands rest')
 FIELDS = re.compile(r"([^ \t]*)[ \t]*([^ \t]*)[ \t]*((?:[^ \t']|'[^']*(?:'|\Z))*)(.*)", re.S)
 QUOTED = re.compile(r"'[^']*(?:'|\Z)")
 LONG_NAME = re.compile(r'(?<![0-9A-Za-z>])[A-Za-z][0-9A-Za-z]{6,}')
-UNDERSCORE = re.compile(r'(?<![0-9A-Za-z_])[A-Za-z_]\w*_\w*|[A-Za-z]\w*_', re.A)
+UNDERSCORE = re.compile(r'\b(?=[A-Za-z_])\w*_\w*', re.A)
 ZERO_X = re.compile(r'(?<![0-9A-Za-z>])0[xX]([0-9A-Fa-f]+)')
 OPERAND = re.compile(r"[-0-9@*>'$].*|[VGRvgr]@.*|[Vv]\*.*|[Rr](?:1[0-5]|[0-9]),.*", re.S)
 NAME = re.compile(r'[A-Za-z][0-9A-Za-z]{0,5}')
@@ -28,9 +28,9 @@ def too_long(name):
 def label_note(found):
     label = found.label
     if label.startswith('\xef\xbb\xbf'):
-        return 'the file begins with a byte order mark; save it without one'
+        return 'the line begins with a byte order mark; save the file without one'
     if label.startswith('\xff\xfe'):
-        return 'the file is UTF-16; save it as plain text'
+        return 'the line begins with the mark of UTF-16; save the file as plain text'
     if label.startswith(';'):
         return 'a comment line begins with *'
     if label.endswith(':') and NAME.fullmatch(label[:-1]):
