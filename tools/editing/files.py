@@ -7,7 +7,10 @@ from lib.repository import TOP, read_text
 
 TEMPLATES = TOP / 'tools/editing'
 MARK = re.compile(r'\{\{(\w+)\}\}')
-LABEL = r'(?:([A-Z][0-9A-Z]{0,5})(?![^ \t])|([^ \t*][^ \t]*))?'
+# The fields of a line in a grammar: a good or a bad label, one of the names or a bad operation, and operands.
+FIELDS = {'label': r'(?:([A-Z][0-9A-Z]{0,5})(?![^ \t])|([^ \t*][^ \t]*))?',
+          'word': r'(?:({{operations}})(?![^ \t])|({{directives}})(?![^ \t])|([^ \t]+))',
+          'operands': r"(?:[^ \t']|'[^']*(?:'|$))+"}
 # The settings that differ by language, beside its names. The prefixes are those of operands.
 LANGUAGES = {
     'ti99gpl': {'title': 'GPL of the TI-99/4A', 'ending': 'gpl', 'prefix': r'(?:[VGR]?@|V?\*)',
@@ -30,7 +33,8 @@ def vim(language, names):
 def grammar(language, names):
     """A TextMate grammar; a rule of the template that would list no name is left out."""
     lists = {field: '|'.join(found) for field, found in names._asdict().items()}
-    values = {**LANGUAGES[language], **lists, 'language': language, 'label': LABEL}
+    fields = {field: MARK.sub(lambda mark: lists[mark[1]], pattern) for field, pattern in FIELDS.items()}
+    values = {**LANGUAGES[language], **lists, **fields, 'language': language}
 
     def filled(it):
         if isinstance(it, dict):
