@@ -63,7 +63,7 @@ class Accepted(Calling):
         self.assertEqual(self.call('assemble', '--asm', 'a.txt').returncode, 1)
         ended = self.call('assemble', 'a.txt')
         self.assertEqual(ended.returncode, 2)
-        self.assertIn(b'a.txt: the name ends as that of no source; give --gpl or --asm', ended.stderr)
+        self.assertIn(b'a.txt: no source has a name with this ending; give --gpl or --asm', ended.stderr)
 
     def test_a_file_is_replaced_as_a_whole_and_keeps_its_permissions_and_links(self):
         self.file('a.gpl', ACCEPTED)

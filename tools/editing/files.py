@@ -11,7 +11,7 @@ MARK = re.compile(r'\{\{(\w+)\}\}')
 FIELDS = {'label': r'(?:([A-Z][0-9A-Z]{0,5})(?![^ \t])|([^ \t*][^ \t]*))?',
           'word': r'(?:({{operations}})(?![^ \t])|({{directives}})(?![^ \t])|([^ \t]+))',
           'operands': r"(?:[^ \t']|'[^']*(?:'|$))+"}
-# The settings that differ by language, beside its names. The prefixes are those of operands.
+# The settings that differ by language, beside its names; the prefixes belong to operands.
 LANGUAGES = {
     'ti99gpl': {'title': 'GPL of the TI-99/4A', 'ending': 'gpl', 'prefix': r'(?:[VGR]?@|V?\*)',
                 'vim_prefix': r'\%([VGR]\=@\|V\=\*\)'},
