@@ -21,8 +21,8 @@ class Stopped(Exception):
 def name():
     """The script as it was called: `tools/screen` in the repository, `ti_bench-screen` if it is installed."""
     script = pathlib.Path(sys.argv[0])
-    real = script.resolve()
-    return str(real.relative_to(TOP)) if script.name == real.name and TOP in real.parents else script.name
+    place = script.parent.resolve() / script.name
+    return str(place.relative_to(TOP)) if TOP in place.parents else script.name
 
 
 def parser(document, **more):
