@@ -35,7 +35,7 @@ class Program:
         return next((value for found, value in self.dynamic if found == tag), 0)
 
     def place(self, address):
-        """Where an address stands in the file."""
+        """The place of an address in the file."""
         return next(place + address - first for kind, place, first, length in self.segments
                     if kind == LOAD and first <= address < first + length)
 

@@ -19,7 +19,7 @@ def parents(path):
 
 
 class Installation:
-    """What stands below a folder by its list: lines of a kind, the checksum of a file or the target of a link, and a
+    """What was put below a folder, by its list: lines of a kind, the checksum of a file or the target of a link, and a
     path from the folder on. While files are replaced a path has two lines, and either may be true of it."""
 
     def __init__(self, prefix):
@@ -34,7 +34,7 @@ class Installation:
                 self.entries.setdefault(path, []).append((kind, mark))
 
     def parsed(self, line):
-        """The parts of a line of the list. Only a folder may stand above the folder of the installation."""
+        """The parts of a line of the list. Only a folder may be outside of the installation."""
         parts = line.split('\t')
         if len(parts) != 3 or parts[0] not in (FILE, LINK, FOLDER):
             raise Stopped(f'{self.list} is no list of an installation', UNREADABLE)
@@ -96,7 +96,7 @@ class Installation:
                           + '\n  '.join(conflicts))
         marks = self.marks(files)
         self.make_folders([LIST, *files])
-        # first with what stood here, so that the next call knows all files if this one is stopped
+        # with the old marks too, so that the next call knows all files if this one is stopped
         self.write_list(self.entries, marks)
         for path, file in files.items():
             self.write(path, file)

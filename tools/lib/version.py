@@ -22,7 +22,7 @@ def git(*words, top=TOP):
 
 def version(top=TOP):
     """The text of the file VERSION, which all that is handed out has; in the repository the newest number of
-    CHANGELOG.md, and if changes since then stand above it, the commit too."""
+    CHANGELOG.md, and if it lists changes after that, the commit too."""
     if (top / 'VERSION').is_file():
         return read_text(top / 'VERSION').strip()
     headings = re.findall(r'^## (\S+)', read_text(top / 'CHANGELOG.md'), re.M)
