@@ -1,4 +1,4 @@
-"""Tests of ./ti_bench in a repository: tools/launcher, tools/built and tools/version, with an rt that proves nothing."""
+"""Tests of ./ti_bench in a repository (tools/launcher, tools/built, tools/version), with an rt that proves nothing."""
 import os
 import pty
 import re

@@ -64,7 +64,8 @@ class Installation:
 
     def target(self, path, link):
         """What a link holds: the way from its folder, wherever that really is."""
-        return os.path.relpath(os.path.realpath(self.prefix / link.target), os.path.realpath((self.prefix / path).parent))
+        folder = os.path.realpath((self.prefix / path).parent)
+        return os.path.relpath(os.path.realpath(self.prefix / link.target), folder)
 
     def marks(self, files):
         """Kind, and checksum or target, of files and links that are to be put here."""
