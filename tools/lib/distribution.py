@@ -15,6 +15,7 @@ from lib.version import version
 # the scripts of tools/ that users call as ti_bench-NAME, each with the folders of tools/ that it needs beside lib
 TOOLS = {
     'archive': [],
+    'assemble': [],
     'raw': [],
     'screen': [],
 }
