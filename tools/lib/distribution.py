@@ -21,8 +21,8 @@ TOOLS = {
 }
 # the scripts that an installation has beside them
 SCRIPTS = ['install', 'launcher']
-# files and folders; the second ones only if they are there
-DOCUMENTS, MORE = ['CHANGELOG.md', 'CONTRIBUTING.md', 'LICENSE', 'README.md', 'docs', 'examples'], ['editors']
+# other files and folders
+OTHERS = ['CHANGELOG.md', 'CONTRIBUTING.md', 'LICENSE', 'README.md', 'docs', 'editors', 'examples']
 MANUAL = 'man/ti_bench.1'
 
 
@@ -33,7 +33,7 @@ class File(typing.NamedTuple):
 
 
 class Link(typing.NamedTuple):
-    """A symbolic link, by the path that it leads to, from the same folder as its own path."""
+    """A symbolic link, by the path that it leads to, which begins where its own path begins."""
     target: str
 
 
@@ -63,8 +63,7 @@ def kit(top=TOP):
 def files(program, top=TOP):
     """All files that are handed out, by their paths, with the program at the top."""
     folders = ['lib', *(folder for needed in TOOLS.values() for folder in needed)]
-    named = [*(f'tools/{name}' for name in [*SCRIPTS, *TOOLS, *folders]), *DOCUMENTS, MANUAL,
-             *(name for name in MORE if (top / name).exists())]
+    named = [*(f'tools/{name}' for name in [*SCRIPTS, *TOOLS, *folders]), *OTHERS, MANUAL]
     paths = {path for name in named for path in below(top, pathlib.Path(name))}
     found = {path: File((top / path).read_bytes(), os.access(top / path, os.X_OK)) for path in paths}
     found['ti_bench'] = File(pathlib.Path(program).read_bytes(), True)

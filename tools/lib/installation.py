@@ -7,15 +7,10 @@ import tempfile
 
 from lib.command import UNREADABLE, Stopped
 from lib.distribution import Link
-from lib.repository import read_text, write_text
+from lib.repository import write_text
 
 LIST = 'lib/ti_bench/installed'
 FILE, LINK, FOLDER = 'file', 'link', 'folder'
-
-
-def parents(path):
-    """The folders above a path, the nearest first."""
-    return list(path.parents)
 
 
 class Installation:
@@ -26,7 +21,8 @@ class Installation:
         self.prefix = pathlib.Path(os.path.abspath(prefix))
         self.list = self.prefix / LIST
         self.entries, self.folders = {}, []
-        for line in read_text(self.list).splitlines() if self.list.is_file() else []:
+        text = self.list.read_bytes().decode('utf-8', 'replace') if self.list.is_file() else ''
+        for line in text.split('\n')[:-1]:
             kind, mark, path = self.parsed(line)
             if kind == FOLDER:
                 self.folders.append(path)
@@ -57,7 +53,7 @@ class Installation:
 
     def in_the_way(self, path):
         """What is at a path, or at a folder above it, and was not put there; None if nothing is."""
-        for folder in parents(self.prefix / path):
+        for folder in (self.prefix / path).parents:
             if os.path.lexists(folder) and not folder.is_dir():
                 return folder
         return self.prefix / path if self.found(path) and not self.own(path) else None
@@ -81,7 +77,7 @@ class Installation:
 
     def make_folders(self, paths):
         """Makes the folders above paths, and keeps which ones were made."""
-        missing = {folder for path in paths for folder in parents(self.prefix / path) if not folder.exists()}
+        missing = {folder for path in paths for folder in (self.prefix / path).parents if not folder.exists()}
         for folder in sorted(missing):
             folder.mkdir(0o755)
             folder.chmod(0o755)
@@ -102,6 +98,7 @@ class Installation:
         for path, file in files.items():
             self.write(path, file)
         left = self.take({path for path in self.entries if path not in files})
+        self.take_folders()
         self.entries = marks
         self.folders = [folder for folder in self.folders if (self.prefix / folder).is_dir()]
         self.write_list(marks)
@@ -120,8 +117,7 @@ class Installation:
             made.replace(place)
 
     def take(self, paths):
-        """Removes files and links that are as they were put here, and the folders made for them that are empty then;
-        the paths of those that are left."""
+        """Removes files and links that are as they were put here; the paths of those that are left."""
         left = []
         for path in sorted(paths):
             if self.own(path):
@@ -129,14 +125,14 @@ class Installation:
                 self.take_compiled(self.prefix / path)
             elif self.found(path):
                 left.append(path)
-        for folder in sorted(self.folders, key=lambda folder: -len(parents(self.place_of(folder)))):
-            with contextlib.suppress(OSError):
-                self.place_of(folder).rmdir()
         return left
 
-    def place_of(self, folder):
-        """The path of a folder of the list."""
-        return pathlib.Path(os.path.normpath(self.prefix / folder))
+    def take_folders(self):
+        """Removes the folders that were made here, those that are empty."""
+        places = [pathlib.Path(os.path.normpath(self.prefix / folder)) for folder in self.folders]
+        for place in sorted(places, key=lambda place: -len(place.parents)):
+            with contextlib.suppress(OSError):
+                place.rmdir()
 
     def take_compiled(self, path):
         """Removes what Python keeps of a module."""
@@ -152,5 +148,7 @@ class Installation:
         """Removes the installation; the paths of files that were changed, which are left."""
         if not self.list.is_file():
             raise Stopped(f'nothing was installed in {self.prefix}')
+        left = self.take(self.entries)
         self.list.unlink()
-        return self.take(self.entries)
+        self.take_folders()
+        return left
