@@ -1,9 +1,9 @@
 """Tests of ./ti_bench in a repository (tools/launcher, tools/built, tools/version), with an rt that proves nothing."""
 import os
+import pathlib
 import pty
 import re
 import shutil
-import signal
 import subprocess
 import time
 
@@ -116,8 +116,27 @@ class Built(Repository):
         self.assertRegex(self.ti_bench('--version').stdout, r'\.modified\n$')
 
 
-class OnATerminal(Repository):
-    def test_it_shows_how_far_it_is_and_is_stopped_as_a_whole(self):
+class Stopped(Repository):
+    def assert_ended(self):
+        """The build ends in time, and the next one goes on."""
+        building = pathlib.Path('/proc', self.calls.read_text().strip())
+        for _ in range(50):
+            if not building.exists():
+                break
+            time.sleep(0.1)
+        self.assertFalse(building.exists())
+        self.assertEqual(self.ti_bench('demo').stdout, 'built demo\n')
+
+    def test_a_signal_to_the_command_alone_stops_the_build(self):
+        running = subprocess.Popen([self.top / 'ti_bench', 'demo'], cwd=self.folder, stderr=subprocess.DEVNULL,
+                                   env=self.environment(SECONDS_LONG='60'))
+        while not self.calls.exists() or not self.calls.read_text():
+            time.sleep(0.1)
+        running.terminate()
+        self.assertEqual(running.wait(), 70)
+        self.assert_ended()
+
+    def test_on_a_terminal_it_shows_how_far_it_is_and_ctrl_c_stops_it(self):
         child, terminal = pty.fork()
         if not child:
             os.chdir(self.folder)
@@ -127,12 +146,5 @@ class OnATerminal(Repository):
         while not re.search(rb'1 of 2 crates proved, [^\r]* left', seen):
             seen += os.read(terminal, 1000)
         os.write(terminal, b'\x03')
-        ended = os.waitstatus_to_exitcode(os.waitpid(child, 0)[1])
-        self.assertIn(ended, (-signal.SIGINT, 70, 128 + signal.SIGINT))
-        building = int(self.calls.read_text())
-        for _ in range(50):
-            if not os.path.exists(f'/proc/{building}'):
-                break
-            time.sleep(0.1)
-        self.assertFalse(os.path.exists(f'/proc/{building}'))
-        self.assertEqual(self.ti_bench('demo').stdout, 'built demo\n')
+        self.assertEqual(os.waitstatus_to_exitcode(os.waitpid(child, 0)[1]), 70)
+        self.assert_ended()
