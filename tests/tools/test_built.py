@@ -105,6 +105,12 @@ class Built(Repository):
         self.assertEqual(self.ti_bench('--help').stdout, self.ti_bench('-h').stdout)
         self.assertEqual(self.builds(), 0)
 
+    def test_an_output_that_is_full_is_said(self):
+        self.file(self.top / 'CHANGELOG.md', b'## 1.2\n')
+        with open('/dev/full', 'wb') as full:
+            ended = subprocess.run([self.top / 'tools/version'], stdout=full, stderr=subprocess.PIPE)
+        self.assertEqual((ended.returncode, ended.stderr), (3, b'tools/version: No space left on device\n'))
+
     def test_a_version_after_a_number_has_the_commit(self):
         self.file(self.top / 'CHANGELOG.md', b'# Changes\n\n## Unreleased\n\n## 1.2\n')
         self.file(self.top / '.gitignore', b'__pycache__/\n')
