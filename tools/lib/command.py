@@ -63,7 +63,7 @@ def run(main):
         if error.filename is None:
             drop_output()
         named = '' if error.filename is None else f'{error.filename}: '
-        status = report(Stopped(named + error.strerror, UNREADABLE))
+        status = report(Stopped(f'{named}{error.strerror or error}', UNREADABLE))
     except KeyboardInterrupt:
         status = 128 + signal.SIGINT
     sys.exit(status)
