@@ -1,0 +1,83 @@
+"""What is doubtful in a labelled source, in lines for a person: what might be an address, and what might be code."""
+import itertools
+
+MOST = 20            # lines of each kind
+LEAST = 4            # instructions that might be code
+
+
+def found(addresses, listing, rows, odd):
+    """The lines of all doubts. `odd` has the addresses that a run executed and that are not listed as instructions."""
+    unsure = sorted(addresses.descent.unsure.items())
+    kinds = [[f'>{at:04X}: executed, but not listed as an instruction' for at in odd],
+             [f'>{at:04X}: it is not known how many bytes >{target:04X} takes after this call' for at, target in unsure],
+             _values(addresses), _words(rows), _code(addresses, listing, rows)]
+    return [line for lines in kinds for line in _few(lines)]
+
+
+def _few(lines):
+    return lines if len(lines) <= MOST else [*lines[:MOST - 1], f'and {len(lines) - MOST + 1} more of this kind']
+
+
+def _values(addresses):
+    """The values in instructions, each once."""
+    places = {}
+    for at, references in sorted(addresses.of.items()):
+        for it in references.doubtful:
+            places.setdefault(it.address, []).append(at)
+    return [f'>{found_at[0]:04X}: >{value:04X} might be an address'
+            + (f', and in {len(found_at) - 1} more instructions' if len(found_at) > 1 else '')
+            for value, found_at in places.items()]
+
+
+def _words(rows):
+    """The words of data that might be addresses, those of adjacent rows together."""
+    marked = [(row.address, row.address + row.length) for row in rows if row.note.endswith('?') and row.is_data]
+    return [f'>{low:04X}-{high - 1:04X}: words that might be addresses' for low, high in _joined(marked)]
+
+
+def _joined(ranges):
+    """Ranges, those that follow each other as one."""
+    found = []
+    for low, high in ranges:
+        if found and found[-1][1] == low:
+            low = found.pop()[0]
+        found.append((low, high))
+    return found
+
+
+def _code(addresses, listing, rows):
+    """Where bytes that are not reached are listed as instructions up to one that ends a path."""
+    runs = [it for it in _unreached(addresses, rows) if it[1] - it[0] >= LEAST]
+    listing.learn(low for low, _ in runs if low not in listing.known)
+    lines = []
+    for low, high in runs:
+        end = _end_of_code(addresses, listing.known, low, high)
+        if end:
+            lines.append(f'>{low:04X}-{end - 1:04X}: might be code')
+    return lines
+
+
+def _unreached(addresses, rows):
+    """The ranges of bytes of which nothing is known, from each label on."""
+    known = {at for low, high in addresses.wishes.data + addresses.wishes.tables for at in range(low, high)}
+    known |= {at + more for at, count in addresses.descent.taken.items() for more in range(count)}
+    found = []
+    for row in rows:
+        is_plain = row.is_data and row.length and not row.forms[0].startswith('TEXT')
+        if is_plain and row.address not in addresses.words and row.address not in known:
+            found += [[]] if row.label or not found else []
+            found[-1].append((row.address, row.address + row.length))
+    return [it for ranges in found for it in _joined(ranges)]
+
+
+def _end_of_code(addresses, known, at, end):
+    """Where instructions end that begin at an address, or None if they do not look like a part of a program."""
+    language, count = addresses.language, 0
+    while at < end and at in known and known[at].is_code and at % len(language.filler) == 0:
+        line = known[at]
+        if not all(addresses.image.held[it.address] for it in line.leads):
+            return None
+        at, count = at + line.length, count + 1
+        if line.operation in language.ends:
+            return at if count >= LEAST and at <= end else None
+    return None

@@ -1,0 +1,69 @@
+"""Bytes at addresses, in one segment or in several."""
+import re
+
+MEMORY = 0x10000
+
+
+class Image:
+    """The bytes of a memory of 65,536, and which of them are held."""
+
+    def __init__(self, segments):
+        self.memory, self.held = bytearray(MEMORY), bytearray(MEMORY + 4)
+        self.segments = []
+        for start, data in segments:
+            self.memory[start:start + len(data)] = data
+            self.held[start:start + len(data)] = b'\1' * len(data)
+            self.segments.append((start, start + len(data)))
+        self.size = sum(end - start for start, end in self.segments)
+
+    def holds(self, address, length=1):
+        """Whether all bytes from an address on are held."""
+        return self.held.find(0, address, address + length) < 0
+
+    def end(self, address):
+        """Where the segment of an address ends."""
+        return next(end for start, end in self.segments if start <= address < end)
+
+    def bytes(self, start, end):
+        return bytes(self.memory[start:end])
+
+    def word(self, address):
+        return self.memory[address] << 8 | self.memory[address + 1]
+
+    def first_difference(self, other):
+        """The lowest held address at which another image has another byte, or none."""
+        for start, end in self.segments:
+            if self.bytes(start, end) != other.bytes(start, end):
+                return next(at for at in range(start, end) if self.memory[at] != other.memory[at])
+        return None
+
+
+def of_link(report):
+    """The entry, the names with their values, and the image of what `link` lists."""
+    lines = report.decode('latin-1').split('\n')[:-1]
+    entry = int(lines[0][len('entry >'):], 16)
+    names, segments = [], []
+    for line in lines[1:]:
+        row = re.fullmatch(r'>([0-9A-F]{4})((?: [0-9A-F]{4})+)', line)
+        if row is None:
+            name, _, value = line.rpartition(' >')
+            names.append((name, int(value, 16)))
+            continue
+        start, data = int(row[1], 16), bytes.fromhex(row[2])
+        if segments and segments[-1][0] + len(segments[-1][1]) == start:
+            segments[-1] = (segments[-1][0], segments[-1][1] + data)
+        else:
+            segments.append((start, data))
+    return entry, names, Image(segments)
+
+
+def words_of(text):
+    """The words of a module's object text, in the order in which they stand."""
+    found = bytearray()
+    for number, line in enumerate(text.decode('latin-1').split('\n')):
+        at = len('00000') + 8 if number == 0 else 0
+        while line[at:at + 1] in ('A', 'B', 'C', '9'):
+            if line[at] in 'BC':
+                found += bytes.fromhex(line[at + 1:at + 5])
+            at += 5
+    return bytes(found)

@@ -1,0 +1,143 @@
+"""A labelled source of an image or of an object, from its listing to the check."""
+import dataclasses
+
+from . import doubts
+from .addresses import Addresses
+from .calls import LIMIT, Rejected, report
+from .check import Wanted, checked
+from .descent import Descent
+from .header import Headers
+from .image import MEMORY, Image, of_link
+from .language import GPL, TMS
+from .linked import linked, moved, without
+from .listing import Listing
+from .names import Named
+from .source import Source
+
+HEAD = '* {} bytes from >{:04X} on, labelled by ti_bench-label. The comment of a line has the address of its bytes.'
+
+
+@dataclasses.dataclass
+class Wishes:
+    """What a caller says of an image. A range is its first address and the one after its last."""
+    entries: list = dataclasses.field(default_factory=list)       # addresses where code begins
+    code: list = dataclasses.field(default_factory=list)          # ranges of instructions
+    data: list = dataclasses.field(default_factory=list)          # ranges of data
+    pointers: list = dataclasses.field(default_factory=list)      # ranges in which words and values are addresses
+    tables: list = dataclasses.field(default_factory=list)        # ranges in which words are addresses of code
+    covered: list = dataclasses.field(default_factory=list)       # addresses that a run executed
+    names: list = dataclasses.field(default_factory=list)         # texts of names, each with the name of its file
+    moved: set = None                                             # the words of an object that move, if that is known
+
+
+@dataclasses.dataclass
+class Labelled:
+    """A source, what is doubtful in it, and a line about it."""
+    text: bytes
+    doubts: list
+    summary: str
+
+
+def labelled(program, lister, at, data, wishes):
+    """The labelled source of bytes at an address, for `gdis` or `dis`, or of object text, for `link`."""
+    language = GPL if lister == 'gdis' else TMS
+    if lister == 'link':
+        return _of_object(program, data, wishes)
+    if at + len(data) > MEMORY:
+        raise Rejected('past the end of memory')
+    if not data:
+        return Labelled(report(program, lister, f'{at:04X}'), [], '0 bytes')
+    labelling = Labelling(program, language, Image([(at, data)]), wishes)
+    entry = next((it for it in labelling.entries if labelling.image.holds(it)), None)
+    return labelling.made([], entry) or _flat(Wanted(program, language, labelling.image, entry))
+
+
+def comes_back(program, data, at=0x6000, lister='gdis'):
+    """What to say of an image: `labelled and the same`, or why not."""
+    try:
+        made = labelled(program, lister, at, data, Wishes())
+    except Rejected as rejected:
+        return str(rejected)
+    return 'labelled and the same' if made.summary != FLAT else FLAT
+
+
+FLAT = 'no labels: the listing as it is, and the same'
+
+
+def _of_object(program, text, wishes):
+    listed = linked(program, text)
+    entry, defined, image = of_link(listed[0])
+    if not image.segments:
+        raise Rejected('an object without words')
+    wishes = dataclasses.replace(wishes, entries=[entry, *wishes.entries],
+                                 moved=moved(listed[1], image) if len(listed) > 1 else None)
+    labelling = Labelling(program, TMS, image, wishes)
+    names = labelling.named.define(defined)[:256]
+    head = [f'       DEF  {",".join(names[i:i + 16])}' for i in range(0, len(names), 16)]
+    listed = [without(it, names) for it in listed]
+    for count in range(len(listed), 0, -1):
+        made = labelling.made(head, entry, listed[:count])
+        if made:
+            return made
+    raise Rejected('no source was found of which the program makes the same words')
+
+
+def _flat(wanted):
+    """The listing as it is, if no labelled source passed the check."""
+    flat = wanted.flat()
+    if len(flat) > LIMIT or wanted.made(flat) != wanted.report:
+        raise Rejected('no source was found of which the program makes the same bytes')
+    return Labelled(flat, [], FLAT)
+
+
+class Labelling:
+    """The way from an image to its source."""
+
+    def __init__(self, program, language, image, wishes):
+        self.program, self.language, self.image = program, language, image
+        self.named = Named(program, language)
+        for name, text in wishes.names:
+            self.named.read(name, text)
+        self.headers = Headers(image, len(language.filler))
+        given = [*wishes.entries, *(low for low, _ in wishes.code)]
+        self.guessed = [] if given or self.headers.entries or wishes.covered else [image.segments[0][0]]
+        self.entries = [*given, *self.guessed, *self.headers.entries, *wishes.covered]
+        self.wishes = dataclasses.replace(wishes, entries=given + self.guessed,
+                                          pointers=wishes.pointers + wishes.tables)
+        self.listing = Listing(program, language, image)
+
+    def made(self, head, entry, listed=None):
+        """The labelled source, or None if it does not pass the check."""
+        descent, odd = self._descent()
+        addresses = Addresses(self.image, self.language, descent, self.headers, self.named, self.wishes)
+        head = [HEAD.format(self.image.size, self.image.segments[0][0]), *head]
+        source = Source(addresses, self.named, head, entry, listed is not None and len(listed) > 1)
+        text, lowered = checked(source, Wanted(self.program, self.language, self.image, entry, listed))
+        if text is None:
+            return None
+        return Labelled(text, doubts.found(addresses, self.listing, source.rows, odd),
+                        self._summary(addresses, source, lowered))
+
+    def _descent(self):
+        """What is code, and what was executed and is not listed as an instruction."""
+        wishes = self.wishes
+        closed = {at for low, high in wishes.data + wishes.tables for at in range(low, high)}
+        closed |= {it for at in self.headers.words for it in (at, at + 1)}
+        descent = Descent(self.listing, self.image, self.language, closed)
+        odd = descent.executed(wishes.covered)
+        for low, high in wishes.code:
+            descent.sweep(low, high)
+        tabled = [self.image.word(at) for low, high in wishes.tables for at in range(low, high - 1, 2)
+                  if self.image.holds(at, 2)]
+        descent.follow([*wishes.covered, *self.entries, *tabled])
+        return descent, odd
+
+    def _summary(self, addresses, source, lowered):
+        code = sum(line.length for line in addresses.descent.code.values())
+        labels = sum(self.image.held[it.address] for found in addresses.of.values() for it in found.sure)
+        parts = [f'{self.image.size} bytes, {code} of them code', f'{len(addresses.labels.made)} labels',
+                 f'{labels + len(addresses.words)} addresses by labels']
+        parts += [f'no entry, taken from >{self.guessed[0]:04X} on'] if self.guessed else []
+        parts += [f'{lowered} times a line was left as it is listed or as bytes'] if lowered else []
+        parts += ['addresses left out for size'] if source.comments else []
+        return '; '.join([*parts, 'the same bytes'])

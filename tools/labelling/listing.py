@@ -1,0 +1,78 @@
+"""The line that the program lists at an address, for any address of an image."""
+import bisect
+import itertools
+
+from lib.command import UNREADABLE, Stopped
+
+from .calls import report
+from .measure import Measure
+
+WINDOW, APART = 64, 0x1000      # bytes that are listed from an address on, and a distance at which a new call is cheaper
+BLANKS = b'\n       '
+
+
+def texts_of(listed):
+    """The lines of a listing that stand for bytes, without their blanks."""
+    lines = listed[len(BLANKS) - 1:-1].decode('latin-1').split(BLANKS.decode())
+    return [line for line in lines if not line.startswith(('GROM', 'AORG', 'END'))]
+
+
+def grouped(windows, gap):
+    """The windows in groups, in each of which the next one begins a gap or more after the last, and not far from it."""
+    groups, open_ = [], []
+    for window in windows:
+        open_ = [group for group in open_ if window[0] - group[-1][1] < APART]
+        for group in open_:
+            if gap <= window[0] - group[-1][1]:
+                group.append(window)
+                break
+        else:
+            groups.append([window])
+            open_.append(groups[-1])
+    return groups
+
+
+class Listing:
+    """What is known of an image's lines: `known` has them by their addresses.
+
+    The lines of the whole image are listed at first. They begin one after the other, so an address between two of them
+    has a line of its own that is not among them. Such addresses are asked together: the program lists an image in which
+    all but some bytes from each of them on is filled with bytes that begin no instruction.
+    """
+
+    def __init__(self, program, language, image):
+        self.program, self.language, self.image = program, language, image
+        self.measure = Measure(program, language)
+        self.known = {}
+        for start, end in image.segments:
+            self._learn(start, end, [(start, end)])
+
+    def learn(self, addresses):
+        """Makes the lines at these addresses known, and some after them."""
+        self.learn_ranges((at, at) for at in sorted(addresses))
+
+    def learn_ranges(self, ranges):
+        """Makes the lines known that stand one after the other from the beginning of each range on."""
+        windows = [(low, min(high + WINDOW, self.image.end(low))) for low, high in ranges]
+        for group in grouped(windows, self.language.longest):
+            self._learn(group[0][0], group[-1][1], group)
+
+    def _learn(self, start, end, windows):
+        filler = self.language.filler
+        masked = bytearray(filler * ((end - start) // len(filler) + 1))[:end - start]
+        for low, high in windows:
+            masked[low - start:high - start] = self.image.bytes(low, high)
+        texts = texts_of(report(self.program, self.language.lister, f'{start:04X}', given=bytes(masked)))
+        self.measure.learn(texts)
+        lines = [self.measure.lines[text] for text in texts]
+        places = list(itertools.accumulate((line.length for line in lines), initial=start))
+        if places[-1] != end:
+            raise Stopped('the lines of a listing are not as long as its bytes', UNREADABLE)
+        for low, high in windows:
+            self._keep(lines, places, low, high)
+
+    def _keep(self, lines, places, low, high):
+        """Takes the lines that begin in a window, and not so near to its end that what follows it might matter."""
+        last = high if high == self.image.end(low) else high - self.language.longest
+        for i in range(bisect.bisect_left(places, low), bisect.bisect_left(places, last, 0, len(lines))):
+            self.known.setdefault(places[i], lines[i])

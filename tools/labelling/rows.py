@@ -1,0 +1,168 @@
+"""The rows of a labelled source: a line each, in the forms in which it may be written."""
+from .addresses import GROM
+from .data import byte_row, rows, word_row
+from .image import MEMORY
+
+KEPT, LEAST = 8, 16        # bytes of a fill that are written as others are, and how many more it has to have
+FILL = 16                  # bytes in a row of a fill
+RELOCATABLE = 0xA000       # where `link` places the first relocatable code
+
+
+class Row:
+    """A line at an address, with its bytes, if it has any, and its forms: by labels, as it is listed, as bytes.
+
+    `note` is what its comment says after the address, `uses` are the names in its first form with their values, and a
+    row of data is no instruction.
+    """
+    __slots__ = 'address', 'length', 'label', 'forms', 'note', 'uses', 'is_data', 'is_head', 'is_whole'
+
+    def __init__(self, address, length, label, forms, note='', uses=(), is_data=True, is_head=False):
+        self.address, self.length, self.label, self.forms = address, length, label, forms
+        self.note, self.uses, self.is_data, self.is_head = note, uses, is_data, is_head
+        self.is_whole = not length
+
+    def lower(self, image, has_words):
+        """Takes the next form, if there is one."""
+        if len(self.forms) == 1 and not self.is_whole:
+            part = image.bytes(self.address, self.address + self.length)
+            plain = [word_row(part)] if has_words and self.length % 2 == self.address % 2 == 0 else []
+            self.forms += [it for it in [*plain, byte_row(part)] if it != self.forms[0]]
+            self.is_whole = True
+        if len(self.forms) == 1:
+            return False
+        del self.forms[0]
+        self.uses = ()
+        return True
+
+
+def replaced(text, changes):
+    """The text with other words at the places of references."""
+    for reference, word in sorted(changes, key=lambda it: it[0].start, reverse=True):
+        text = text[:reference.start] + word + text[reference.end:]
+    return text
+
+
+class Rows:
+    """The rows of an image, in the order of their addresses."""
+
+    def __init__(self, addresses, named, is_relocatable):
+        self.addresses, self.labels = addresses, addresses.labels
+        self.image, self.descent, self.headers = addresses.image, addresses.descent, addresses.headers
+        self.cells, self.is_relocatable = named.cells, is_relocatable
+        self.language, self.is_gpl = addresses.language, addresses.language.lister == 'gdis'
+        self.rows, self.case = [], None
+        self.name_places = {at: end for start, end in self.headers.names for at in range(start, end)}
+        cuts = self._cuts()
+        for start, end in self.image.segments:
+            at = start
+            while at < end:
+                if at == start or self.is_gpl and at % GROM == 0:
+                    self._directives(at)
+                cut = cuts.find(1, at + 1, end)
+                at = self._row(at, end if cut < 0 else cut)
+
+    def _cuts(self):
+        """A 1 at each address at which a row has to begin."""
+        cuts = bytearray(MEMORY + 16)
+        for at, line in self.descent.code.items():
+            cuts[at] = cuts[at + line.length] = 1
+        places = [*self.addresses.words, *(at + 2 for at in self.addresses.words), *self.labels.made]
+        places += [it for name in self.headers.names for it in name]
+        places += [it for at, count in self.descent.taken.items() for it in (at, at + count)]
+        places += range(0, MEMORY, GROM) if self.is_gpl else []
+        for at in places:
+            cuts[at] = 1
+        return cuts
+
+    def _directives(self, at):
+        texts = [f'GROM >{at & 0xE000:04X}', f'AORG >{at & 0x1FFF:04X}'] if self.is_gpl else [f'AORG >{at:04X}']
+        if self.is_relocatable and at >= RELOCATABLE:
+            texts = [f'RORG >{at - RELOCATABLE:04X}']
+        self.rows += [Row(at, 0, '', [text]) for text in texts]
+
+    def _row(self, at, cut):
+        """Adds the rows from an address on: an instruction, a word or the data up to the next cut; returns the address
+        after them."""
+        label = self.labels.made.get(at, '')
+        if at in self.descent.code:
+            return self._instruction(at, label, self.descent.code[at])
+        self.case = None
+        if at in self.addresses.words:
+            value = self.image.word(at)
+            name = self.labels.name(value) if value or value in self.labels.made else None
+            self._data(at, label, self.image.bytes(at, at + 2),
+                       f'DATA {self.labels.written(value) if name else f">{value:04X}"}', '', [name] if name else [])
+            return at + 2
+        fill = self._fill(at, cut)
+        if fill:
+            self._bytes(at, fill, label)
+            (self._leave_out if self.image.memory[fill] == 0 else self._anchored)(fill, cut)
+        else:
+            self._bytes(at, cut, label)
+        return cut
+
+    def _fill(self, at, cut):
+        """Where zeros, or bytes >FF, begin that fill the rest of a GROM or of the image, but for a few; else None."""
+        if not self.is_gpl or cut % GROM and cut != self.image.end(at):
+            return None
+        part = self.image.bytes(at, cut)
+        count = max(len(part) - len(part.rstrip(byte)) for byte in (b'\0', b'\xFF'))
+        return cut - count + KEPT if count >= KEPT + LEAST else None
+
+    def _leave_out(self, start, end):
+        """Zeros need not be written: `gasm` gives 0 if no line writes. The program can grow into them."""
+        self.rows.append(Row(start, 0, '', [f'* >00 up to >{end - 1:04X}, which no line writes']))
+        if end == self.image.end(start):
+            self.rows.append(Row(start, 0, '', [f'AORG >{end - 1 & 0x1FFF:04X}']))
+            self.rows.append(Row(end - 1, 1, '', ['BYTE >00']))
+
+    def _anchored(self, start, end):
+        """Other bytes have to be written. They stay in their places, and what is in the way of the program goes."""
+        self.rows.append(Row(start, 0, '', [f'* >FF up to >{end - 1:04X}: if the program grows, drop the first of these '
+                                            'lines']))
+        for at in range(start, end, FILL):
+            part = self.image.bytes(at, min(at + FILL, end))
+            self.rows.append(Row(at, 0, '', [f'AORG >{at & 0x1FFF:04X}']))
+            self.rows.append(Row(at, len(part), '', [byte_row(part)]))
+
+    def _bytes(self, at, cut, label):
+        for part, text in rows(at, self.image.bytes(at, cut), not self.is_gpl, at in self.name_places):
+            self._data(at, label, part, text, self._doubtful_words(text))
+            at, label = at + len(part), ''
+
+    def _doubtful_words(self, text):
+        """The words of a row that might be addresses."""
+        if not text.startswith('DATA ') or self.addresses.wishes.moved is not None:
+            return ''
+        return ''.join(f' {word}?' for word in text[5:].split(',') if self.image.holds(int(word[1:], 16)))
+
+    def _data(self, at, label, part, text, note='', uses=()):
+        note = f' after a call{note}' if at in self.descent.taken else note
+        note = f' {self.headers.words[at]}' if at in self.headers.words else note
+        self.rows.append(Row(at, len(part), label, [text], note, uses))
+
+    def _instruction(self, at, label, line):
+        changes, note = [], self._case(line.operation)
+        uses = []
+        found = self.addresses.of.get(at)
+        if found:
+            for it in found.sure:
+                uses.append(self.labels.name(it.address))
+                changes.append((it, self.labels.written(it.address)))
+            note += ''.join(f' >{it.address:04X}?' for it in found.doubtful)
+        if self.cells:
+            taken = {it.start for it, _ in changes}
+            changes += [(it, self.cells[prefix.replace('*', '@'), it.address])
+                        for prefix, it in self.language.cells_of(line.text)
+                        if (prefix.replace('*', '@'), it.address) in self.cells and it.start not in taken]
+        forms = [replaced(line.text, changes), line.text] if changes else [line.text]
+        note += ' takes bytes?' if at in self.descent.unsure else ''
+        is_head = self.labels.kinds.get(at) in ('entry', 'call')
+        self.rows.append(Row(at, line.length, label, forms, note, uses, False, is_head))
+        return at + line.length
+
+    def _case(self, operation):
+        """Counts the branches of a table that stands after CASE."""
+        self.case = (self.case + 1 if self.case is not None and operation in ('BR', 'BS')
+                     else -1 if operation in ('CASE', 'DCASE') else None)
+        return '' if self.case in (None, -1) else f' case {self.case}'
