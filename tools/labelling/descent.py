@@ -33,14 +33,27 @@ class Descent:
         """Takes the instructions that stand one after the other in a range, and what they lead to."""
         starts = [start for start, _ in self.image.segments if low < start < high]
         low = low if self.image.holds(low) else min(starts, default=high)
-        if low >= high:
+        low += low % self.step
+        if low >= high or not self.image.holds(low):
             return
         self.listing.learn_ranges([(low, min(high, self.image.end(low)))])
-        at = low
+        at, targets = low, []
         while at < high:
             if self.owner[at] < 0 and self._is_place(at):
-                self.follow([at])
+                targets += self._path(at)
             at = at + self.code[at].length if at in self.code else at + self.step
+        self.follow(targets)
+
+    def _path(self, at):
+        """Takes the instructions from an address on up to one that the program does not pass; returns their targets."""
+        targets, open_ = [], {at}
+        while open_:
+            self._learn(open_)
+            missing = set()
+            for it in sorted(open_):
+                targets += self._walk(it, missing)
+            open_ = missing
+        return targets
 
     def follow(self, entries):
         """Takes what is reached from these addresses."""

@@ -47,7 +47,8 @@ def _joined(ranges):
 
 def _code(addresses, listing, rows):
     """Where bytes that are not reached are listed as instructions up to one that ends a path."""
-    runs = [it for it in _unreached(addresses, rows) if it[1] - it[0] >= LEAST]
+    step = len(addresses.language.filler)
+    runs = [(low, high) for low, high in _unreached(addresses, rows) if high - low >= LEAST and low % step == 0]
     listing.learn(low for low, _ in runs if low not in listing.known)
     lines = []
     for low, high in runs:
@@ -73,7 +74,7 @@ def _unreached(addresses, rows):
 def _end_of_code(addresses, known, at, end):
     """Where instructions end that begin at an address, or None if they do not look like a part of a program."""
     language, count = addresses.language, 0
-    while at < end and at in known and known[at].is_code and at % len(language.filler) == 0:
+    while at < end and at in known and known[at].is_code:
         line = known[at]
         if not all(addresses.image.held[it.address] for it in line.leads):
             return None

@@ -32,6 +32,7 @@ class Language:
     filler: bytes        # bytes that begin no instruction; an instruction begins at a multiple of their number
     nothing: str         # the operation of bytes that are no instruction
     near: frozenset      # operations whose target has to lie near their own place
+    reach: int           # how far from there a target may be in a source
     ends: frozenset      # operations after which the program does not go on
     targets: dict        # operations whose operand is where the program goes, and the kind of the address
     data: re.Pattern     # a place in the image
@@ -62,14 +63,14 @@ JUMPS = 'JMP JEQ JGT JH JHE JL JLE JLT JNC JNE JNO JOC JOP'.split()
 
 GPL = Language(
     lister='gdis', assembler='gasm', longest=13, filler=b'\x0F', nothing='BYTE',
-    near=frozenset(['BR', 'BS']), ends=frozenset(['RTN', 'RTNC', 'EXIT', 'B']),
+    near=frozenset(['BR', 'BS']), reach=0x2000, ends=frozenset(['RTN', 'RTNC', 'EXIT', 'B']),
     targets={'B': 'branch', 'BR': 'branch', 'BS': 'branch', 'CALL': 'call'},
     data=re.compile(f'G@{NUMBER}'), value=re.compile(f',{NUMBER}$'),
     cells=re.compile(rf'(V@|(?<![VG])@|\*){NUMBER}'))
 
 TMS = Language(
     lister='dis', assembler='asm', longest=6, filler=b'\0\0', nothing='DATA',
-    near=frozenset(JUMPS), ends=frozenset(['JMP', 'B', 'RTWP']),
+    near=frozenset(JUMPS), reach=0x100, ends=frozenset(['JMP', 'B', 'RTWP']),
     targets={**dict.fromkeys(JUMPS, 'branch'), 'B': 'branch', 'BL': 'call', 'BLWP': 'vector'},
     data=re.compile(f'@{NUMBER}'), value=re.compile(rf'^(?:(?:LI|AI|CI) R\d+,|LWPI ){NUMBER}$'),
     cells=re.compile(f'(@){NUMBER}'))

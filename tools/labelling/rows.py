@@ -142,24 +142,31 @@ class Rows:
         self.rows.append(Row(at, len(part), label, [text], note, uses))
 
     def _instruction(self, at, label, line):
-        changes, note = [], self._case(line.operation)
-        uses = []
+        """Adds the row of an instruction; returns the address after it."""
+        changes, uses, note = [], [], self._case(line.operation)
         found = self.addresses.of.get(at)
         if found:
             for it in found.sure:
                 uses.append(self.labels.name(it.address))
                 changes.append((it, self.labels.written(it.address)))
-            note += ''.join(f' >{it.address:04X}?' for it in found.doubtful)
+            note += ''.join([f' >{it.address:04X}?' for it in found.doubtful])
         if self.cells:
-            taken = {it.start for it, _ in changes}
-            changes += [(it, self.cells[prefix.replace('*', '@'), it.address])
-                        for prefix, it in self.language.cells_of(line.text)
-                        if (prefix.replace('*', '@'), it.address) in self.cells and it.start not in taken]
+            changes += self._cells(line.text, {it.start for it, _ in changes})
         forms = [replaced(line.text, changes), line.text] if changes else [line.text]
         note += ' takes bytes?' if at in self.descent.unsure else ''
+        if line.operation in self.language.near and abs(line.leads[0].address - at - 2) > self.language.reach:
+            # No source has a jump around an end of memory.
+            forms, uses = [word_row(self.image.bytes(at, at + line.length))], []
+            note = f' {line.text}'
         is_head = self.labels.kinds.get(at) in ('entry', 'call')
         self.rows.append(Row(at, line.length, label, forms, note, uses, False, is_head))
         return at + line.length
+
+    def _cells(self, text, taken):
+        """The changes of a line for the names of cells, but at places that are taken."""
+        found = [(it, self.cells.get((prefix.replace('*', '@'), it.address)))
+                 for prefix, it in self.language.cells_of(text)]
+        return [(it, name) for it, name in found if name and it.start not in taken]
 
     def _case(self, operation):
         """Counts the branches of a table that stands after CASE."""

@@ -13,7 +13,8 @@ class Source:
         self.image, self.labels, self.named = addresses.image, addresses.labels, named
         self.language, self.head, self.entry = addresses.language, head, entry
         self.rows = Rows(addresses, named, is_relocatable).rows
-        self.comments, self.row_of_line, self.cache = WHOLE, [], {}
+        self.comments = FEW if len(self.rows) * (COMMENT + len(' * >6000')) > LIMIT else WHOLE
+        self.row_of_line, self.cache = [], {}
 
     def equates(self):
         """The names of what is outside of the image."""
