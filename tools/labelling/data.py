@@ -1,26 +1,19 @@
 """The rows of data: texts, words and bytes, each with its bytes and its text."""
+import re
+
 LEAST, WIDE, BYTES, WORDS = 4, 32, 8, 4
-PRINTED = range(0x20, 0x7F)
+PRINTED = re.compile(rb'[\x20-\x7E]{%d,}' % LEAST)
 
 
 def is_text(run):
-    """Whether printed characters are read as a text: four at least, most of them letters, digits and blanks."""
-    letters = sum(chr(byte).isalnum() or byte == 0x20 for byte in run)
-    return len(run) >= LEAST and 4 * letters >= 3 * len(run) and len(set(run)) > 2 and any(
-        chr(byte).isalpha() for byte in run)
+    """Whether printed characters are read as a text: most of them are letters, digits and blanks."""
+    letters = len(re.sub(rb'[^A-Za-z0-9 ]', b'', run))
+    return 4 * letters >= 3 * len(run) and len(set(run)) > 2 and re.search(b'[A-Za-z]', run)
 
 
 def texts(data):
     """The places of the texts in data."""
-    found, start = [], None
-    for at, byte in enumerate([*data, 0]):
-        if byte in PRINTED:
-            start = at if start is None else start
-        elif start is not None:
-            if is_text(data[start:at]):
-                found.append((start, at))
-            start = None
-    return found
+    return [found.span() for found in PRINTED.finditer(data) if is_text(found[0])]
 
 
 def text_row(run):
@@ -49,12 +42,12 @@ def plain_rows(address, data, has_words):
             *cut(data[last:], BYTES, byte_row)]
 
 
-def rows(address, data, has_words, is_name=False):
-    """The rows of data at an address."""
-    if is_name:
-        return cut(data, WIDE, text_row)
+def rows(address, data, has_words, marks):
+    """The rows of data at an address; `marks` has a 1 for each byte of a text, and 0 for others."""
     found, at = [], 0
-    for start, end in [*texts(data), (len(data), len(data))]:
-        found += plain_rows(address + at, data[at:start], has_words) + cut(data[start:end], WIDE, text_row)
-        at = end
+    while at < len(data):
+        end = marks.find(1 - marks[at], at)
+        part = data[at:end if end >= 0 else len(data)]
+        found += cut(part, WIDE, text_row) if marks[at] else plain_rows(address + at, part, has_words)
+        at += len(part)
     return found

@@ -99,11 +99,11 @@ class Labelling:
         for name, text in wishes.names:
             self.named.read(name, text)
         self.headers = Headers(image, len(language.filler))
-        given = [*wishes.entries, *(low for low, _ in wishes.code)]
-        self.guessed = [] if given or self.headers.entries or wishes.covered else [image.segments[0][0]]
-        self.entries = [*given, *self.guessed, *self.headers.entries, *wishes.covered]
-        self.wishes = dataclasses.replace(wishes, entries=given + self.guessed,
+        is_given = wishes.entries or wishes.code or self.headers.entries or wishes.covered
+        self.guessed = [] if is_given else [image.segments[0][0]]
+        self.wishes = dataclasses.replace(wishes, entries=wishes.entries + self.guessed,
                                           pointers=wishes.pointers + wishes.tables)
+        self.entries = [*self.wishes.entries, *self.headers.entries, *wishes.covered]
         self.listing = Listing(program, language, image)
 
     def made(self, head, entry, listed=None):
@@ -129,7 +129,7 @@ class Labelling:
             descent.sweep(low, high)
         tabled = [self.image.word(at) for low, high in wishes.tables for at in range(low, high - 1, 2)
                   if self.image.holds(at, 2)]
-        descent.follow([*wishes.covered, *self.entries, *tabled])
+        descent.follow([*self.entries, *tabled])
         return descent, odd
 
     def _summary(self, addresses, source, lowered):

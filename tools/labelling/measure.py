@@ -1,7 +1,7 @@
 """How many bytes a line makes: the assembler says so, by the distance of labels around it."""
 from lib.command import UNREADABLE, Stopped
 
-from .calls import report
+from .calls import Rejected, report
 from .image import words_of
 from .language import Line
 
@@ -32,13 +32,18 @@ class Measure:
         asked, lengths = list(dict.fromkeys(new.values())), {}
         for i in range(0, len(asked), BATCH):
             part = asked[i:i + BATCH]
-            made = report(self.program, self.language.assembler, given=source(self.language, part))
-            if self.language.assembler == 'asm':
-                made = words_of(made)
-            if len(made) < len(part):
-                raise Stopped('the program does not say how long its lines are', UNREADABLE)
-            lengths.update(zip(part, made))
+            lengths.update(zip(part, self._lengths(part)))
         self.lines.update((text, Line(self.language, text, lengths[it])) for text, it in new.items())
+
+    def _lengths(self, texts):
+        try:
+            made = report(self.program, self.language.assembler, given=source(self.language, texts))
+        except Rejected as rejected:
+            raise Stopped(f'the program rejects its own listing: {rejected}', UNREADABLE) from None
+        made = made if self.language.assembler == 'gasm' else words_of(made)
+        if len(made) < len(texts):
+            raise Stopped('the program does not say how long its lines are', UNREADABLE)
+        return made
 
     def _asked(self, text):
         operation = text.partition(' ')[0]

@@ -1,6 +1,6 @@
 """The rows of a labelled source: a line each, in the forms in which it may be written."""
 from .addresses import GROM
-from .data import byte_row, rows, word_row
+from .data import byte_row, rows, texts, word_row
 from .image import MEMORY
 
 KEPT, LEAST = 8, 16        # bytes of a fill that are written as others are, and how many more it has to have
@@ -51,8 +51,7 @@ class Rows:
         self.cells, self.is_relocatable = named.cells, is_relocatable
         self.language, self.is_gpl = addresses.language, addresses.language.lister == 'gdis'
         self.rows, self.case = [], None
-        self.name_places = {at: end for start, end in self.headers.names for at in range(start, end)}
-        cuts = self._cuts()
+        self.texts, cuts = self._texts(), self._cuts()
         for start, end in self.image.segments:
             at = start
             while at < end:
@@ -73,6 +72,15 @@ class Rows:
         for at in places:
             cuts[at] = 1
         return cuts
+
+    def _texts(self):
+        """A 1 at each address of a byte of a text: names of a header, and texts in what is no code and no address."""
+        data, marks = bytearray(self.image.memory), bytearray(MEMORY)
+        owner = self.addresses.owner
+        data[:] = bytes([byte if owner[at] < 0 else 0 for at, byte in enumerate(data)])
+        for start, end in texts(data) + self.headers.names:
+            marks[start:end] = b'\1' * (end - start)
+        return marks
 
     def _directives(self, at):
         texts = [f'GROM >{at & 0xE000:04X}', f'AORG >{at & 0x1FFF:04X}'] if self.is_gpl else [f'AORG >{at:04X}']
@@ -126,7 +134,7 @@ class Rows:
             self.rows.append(Row(at, len(part), '', [byte_row(part)]))
 
     def _bytes(self, at, cut, label):
-        for part, text in rows(at, self.image.bytes(at, cut), not self.is_gpl, at in self.name_places):
+        for part, text in rows(at, self.image.bytes(at, cut), not self.is_gpl, self.texts[at:cut]):
             self._data(at, label, part, text, self._doubtful_words(text))
             at, label = at + len(part), ''
 
