@@ -110,3 +110,20 @@ def large():
     yield Case('gdis', 0, bytes([0x0C, 0x06, 0x00, 0x01]) * 16384, Wishes())
     yield Case('dis', 0, bytes(it for _ in range(32768) for it in (0x13, rng.randrange(256))), Wishes())
     yield Case('dis', 0, b'\x06\xA0\x80\x00' * 16384, Wishes())
+
+
+def objects(seed, count):
+    """Sources of modules, absolute and relocatable, with names, gaps and all kinds of addresses."""
+    rng = random.Random(seed)
+    for _ in range(count):
+        size = rng.randint(1, 60)
+        name = lambda: f'L{rng.randrange(size)}'
+        lines = [f'       DEF  {",".join(sorted({name() for _ in range(rng.randint(1, 4))}))}']
+        lines += ['       AORG >A000'] if rng.random() < 0.3 else ['       RORG'] if rng.random() < 0.8 else []
+        for i in range(size):
+            line = rng.choice(['LI   R{0},{1}', 'DATA {1},{2}', 'B    @{1}', 'BL   @{1}', 'MOV  @{1}(R{0}),@{3}', 'RT',
+                               'DATA {2}', "TEXT 'SOME WORDS'", 'BSS  4', 'A    *R11+,R3', 'BLWP @{1}', 'CI   R{0},{2}',
+                               'BYTE {0}', 'MOVB *R{0}+,@>8300', 'JMP  $'])
+            lines.append(f'L{i:<5} ' + line.format(rng.randrange(1, 10), name(), rng.randrange(65536), name()))
+        lines += [f'       AORG >{rng.randrange(0x2000, 0x3F00) & 0xFFFE:04X}', '       DATA L0,>A000'] * (rng.random() < 0.3)
+        yield '\n'.join([*lines, f'       END  {name()}', '']).encode()

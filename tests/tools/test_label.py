@@ -180,7 +180,7 @@ class Doubts(Labelling):
     def test_bytes_that_might_be_code_are_listed(self):
         data = self.image(b' EXIT\n ST @>8300,1\n INC @>8300\n CZ @>8301\n ALL 32\n RTN\n BYTE >FF,>FF\n')
         _, said = self.label('gdis', '6000', given=data)
-        self.assertEqual(said[0], '>6001-600A: might be code')
+        self.assertEqual(said[0], '>6001: might be code')
 
     def test_a_subroutine_that_may_take_more_or_less_is_listed(self):
         data = self.image(b'L CALL S\n BYTE 1\n EXIT\nS FETCH @>8300\n CZ @>8300\n BR S\n RTN\n')
@@ -270,6 +270,16 @@ class Images(Labelling):
         for number, case in enumerate(label_images.images(62, 300, 600)):
             with self.subTest(number=number, case=case):
                 self.assertEqual(self.tried(case), '')
+
+    def test_objects_by_a_seed(self):
+        for number, source in enumerate(label_images.objects(62, 60)):
+            text = self.program.run('asm', given=source).out
+            with self.subTest(number=number, source=source):
+                try:
+                    made = labelled(self.program, 'link', None, text, Wishes()).text
+                    self.assertEqual(label_checks.fault_of_object(self.program, self.folder, text, made), '')
+                except Rejected as rejected:
+                    self.assertEqual(str(rejected), self.program.run('link', given=text).fault)
 
     def test_all_of_memory(self):
         for data in (bytes([0x0C, 0x06, 0x00, 0x01]) * 16384, b"'" * 32768 + bytes(32768)):

@@ -1,6 +1,8 @@
 """Which numbers of an image are addresses of it, and which only might be."""
 import collections
+import re
 
+from .language import NUMBER, Reference
 from .names import Labels
 
 GROM = 0x2000
@@ -30,23 +32,30 @@ class Addresses:
     def _of_instructions(self):
         found = {}
         for at, line in self.descent.code.items():
-            held = [it for it in line.references if self.image.held[it.address] or it.address in self.named_places]
-            if held:
-                sure = [it for it in held if self._is_sure(at, line, it.kind)]
-                found[at] = Sorted(sure, [it for it in held if it not in sure])
+            if self.wishes.moved is None:
+                sure, doubtful = self._guessed(at, line)
+            else:
+                sure, doubtful = self._moving(at, line), []
+            if sure or doubtful:
+                found[at] = Sorted(sure, doubtful)
         return found
 
-    def _is_sure(self, at, line, kind):
-        """Whether a number of an instruction is taken as an address.
+    def _guessed(self, at, line):
+        """The numbers of an instruction that are taken as addresses of the image, and those that only might be."""
+        held = [it for it in line.references if self.image.places[it.address] or it.address in self.named_places]
+        if held and self.wished and not self.wished.isdisjoint(range(at, at + line.length)):
+            return held, []
+        return [it for it in held if it.kind != 'value'], [it for it in held if it.kind == 'value']
 
-        A jump always names one. If an object says which of its words move, no other number is one.
-        """
-        places = range(at, at + line.length)
-        if line.operation in self.language.near or not self.wished.isdisjoint(places):
-            return True
-        if self.wishes.moved is not None:
-            return not self.wishes.moved.isdisjoint(places)
-        return kind != 'value'
+    def _moving(self, at, line):
+        """The numbers of an instruction that are places in the code of an object: the target of a jump, and those that
+        move, each of which is a word of its own after the first."""
+        if line.operation in self.language.near:
+            return list(line.references)
+        kinds = {it.start: it.kind for it in line.references}
+        numbers = [Reference(*it.span(), int(it[0][1:], 16), kinds.get(it.start(), 'value'))
+                   for it in re.finditer(NUMBER, line.text)]
+        return [it for i, it in enumerate(numbers) if at + 2 + 2 * i in self.wishes.moved]
 
     def _words(self):
         """The words of data that are addresses. They become one row each."""
@@ -65,14 +74,14 @@ class Addresses:
     def _want(self):
         for at, references in self.of.items():
             for it in references.sure:
-                if self.image.held[it.address]:
+                if self.image.places[it.address]:
                     self.labels.want(it.address, it.kind if it.kind in KINDS else self._kind(it.address))
         for at in self.words:
             value = self.image.word(at)
-            if self.image.holds(value):
+            if self.image.places[value]:
                 self.labels.want(value, self._kind(value))
         for at in [*self.headers.entries, *self.wishes.entries]:
-            if self.image.holds(at):
+            if self.image.places[at]:
                 self.labels.want(at, 'entry')
 
     def _kind(self, address):

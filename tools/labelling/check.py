@@ -4,7 +4,7 @@ import re
 from .calls import LIMIT, Rejected, report
 from .data import word_row
 from .image import Image, of_link, words_of
-from .linked import linked
+from .linked import links
 from .places import misplaced
 
 TRIES, SINGLE = 64, 8      # how often rows are lowered, and how often a number of rows before it doubles
@@ -48,7 +48,8 @@ class Wanted:
         made = report(self.program, self.language.assembler, given=source)
         if not self.listed:
             return made
-        return linked(self.program, made)[:len(self.listed)]
+        alone = report(self.program, 'link', given=made)
+        return [alone, *links(self.program, made, [['GAP', 'OBJECT']] * (len(self.listed) - 1))]
 
     def first_difference(self, made):
         """The address of the first byte that is not the image's, or None if it is not known."""

@@ -12,9 +12,10 @@ class Descent:
     instruction that it belongs to, or -1, `taken` how many bytes after a call its subroutine takes, by their address,
     and `unsure` the calls for which that is not certain."""
 
-    def __init__(self, listing, image, language, closed):
-        """`closed` has the addresses that are data."""
-        self.listing, self.image, self.language, self.closed = listing, image, language, closed
+    def __init__(self, listing, image, language, closed, moved):
+        """`closed` has the addresses that are data, `moved` the words of an object that move, which begin nothing."""
+        self.listing, self.image, self.language = listing, image, language
+        self.closed, self.moved = closed, moved
         self.code, self.taken, self.unsure, self.walked = {}, {}, {}, set()
         self.owner = array.array('l', [-1]) * (MEMORY + 16)
         self.step = len(language.filler)
@@ -120,7 +121,7 @@ class Descent:
     def _is_free(self, at, line):
         """Whether an instruction stands here, and none of its bytes is data or another's."""
         places = range(at, at + line.length)
-        return line.is_code and max(self.owner[at:at + line.length]) < 0 and self.closed.isdisjoint(places)
+        return line.is_code and at not in self.moved and max(self.owner[at:at + line.length]) < 0 and self.closed.isdisjoint(places)
 
     def _claim(self, at, line):
         if at not in self.code:

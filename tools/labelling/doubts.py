@@ -5,12 +5,13 @@ MOST = 20            # lines of each kind
 LEAST = 4            # instructions that might be code
 
 
-def found(addresses, listing, rows, odd):
-    """The lines of all doubts. `odd` has the addresses that a run executed and that are not listed as instructions."""
+def found(addresses, known, rows, odd):
+    """The lines of all doubts. `known` has lines of the listing by their addresses, and `odd` the addresses that a run
+    executed and that are not listed as instructions."""
     unsure = sorted(addresses.descent.unsure.items())
     kinds = [[f'>{at:04X}: executed, but not listed as an instruction' for at in odd],
              [f'>{at:04X}: it is not known how many bytes >{target:04X} takes after this call' for at, target in unsure],
-             _values(addresses), _words(rows), _code(addresses, listing, rows)]
+             _values(addresses), _words(rows), _code(addresses, known, rows)]
     return [line for lines in kinds for line in _few(lines)]
 
 
@@ -45,17 +46,11 @@ def _joined(ranges):
     return found
 
 
-def _code(addresses, listing, rows):
-    """Where bytes that are not reached are listed as instructions up to one that ends a path."""
-    step = len(addresses.language.filler)
-    runs = [(low, high) for low, high in _unreached(addresses, rows) if high - low >= LEAST and low % step == 0]
-    listing.learn(low for low, _ in runs if low not in listing.known)
-    lines = []
-    for low, high in runs:
-        end = _end_of_code(addresses, listing.known, low, high)
-        if end:
-            lines.append(f'>{low:04X}-{end - 1:04X}: might be code')
-    return lines
+def _code(addresses, known, rows):
+    """The first places in bytes that are not reached from which they are listed as instructions up to one that ends a
+    path."""
+    places = [_code_in(addresses, known, low, high) for low, high in _unreached(addresses, rows)]
+    return [f'>{at:04X}: might be code' for at in places if at is not None]
 
 
 def _unreached(addresses, rows):
@@ -64,21 +59,25 @@ def _unreached(addresses, rows):
     known |= {at + more for at, count in addresses.descent.taken.items() for more in range(count)}
     found = []
     for row in rows:
-        is_plain = row.is_data and row.length and not row.forms[0].startswith('TEXT')
+        is_plain = row.is_data and row.forms[0].startswith(('BYTE', 'DATA'))
         if is_plain and row.address not in addresses.words and row.address not in known:
             found += [[]] if row.label or not found else []
             found[-1].append((row.address, row.address + row.length))
     return [it for ranges in found for it in _joined(ranges)]
 
 
-def _end_of_code(addresses, known, at, end):
-    """Where instructions end that begin at an address, or None if they do not look like a part of a program."""
-    language, count = addresses.language, 0
-    while at < end and at in known and known[at].is_code:
-        line = known[at]
-        if not all(addresses.image.held[it.address] for it in line.leads):
-            return None
-        at, count = at + line.length, count + 1
-        if line.operation in language.ends:
-            return at if count >= LEAST and at <= end else None
+def _code_in(addresses, known, low, high):
+    """Where instructions begin that look like a part of a program, or None."""
+    language, at, count = addresses.language, low, 0
+    while at < high:
+        line = known.get(at)
+        if line and line.is_code and all(addresses.image.held[it.address] for it in line.leads):
+            low, count = low if count else at, count + 1
+            if line.operation in language.ends:
+                if count >= LEAST and at + line.length <= high:
+                    return low
+                count = 0
+        else:
+            count = 0
+        at += line.length if line else 1
     return None

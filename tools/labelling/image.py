@@ -5,16 +5,23 @@ MEMORY = 0x10000
 
 
 class Image:
-    """The bytes of a memory of 65,536, and which of them are held."""
+    """The bytes of a memory of 65,536, and which of them are held.
 
-    def __init__(self, segments):
+    `places` has a 1 for each address of the image: of those that are held, and of the gaps after segments, which hold
+    nothing. `moving` are the segments of relocatable code, by where they start.
+    """
+
+    def __init__(self, segments, gaps=(), moving=()):
         self.memory, self.held = bytearray(MEMORY), bytearray(MEMORY + 4)
-        self.segments = []
+        self.segments, self.gaps, self.moving = [], dict(gaps), moving
         for start, data in segments:
             self.memory[start:start + len(data)] = data
             self.held[start:start + len(data)] = b'\1' * len(data)
             self.segments.append((start, start + len(data)))
         self.size = sum(end - start for start, end in self.segments)
+        self.places = bytearray(self.held)
+        for start, end in gaps:
+            self.places[start:end + 1] = b'\1' * (end + 1 - start)
 
     def holds(self, address, length=1):
         """Whether all bytes from an address on are held."""

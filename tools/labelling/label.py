@@ -7,14 +7,15 @@ from .calls import LIMIT, Rejected, report
 from .check import Wanted, checked
 from .descent import Descent
 from .header import Headers
-from .image import MEMORY, Image, of_link
+from .image import MEMORY, Image
 from .language import GPL, TMS
-from .linked import linked, moved, without
+from .linked import Linked, without
 from .listing import Listing
 from .names import Named
 from .source import Source
 
 HEAD = '* {} bytes from >{:04X} on, labelled by ti_bench-label. The comment of a line has the address of its bytes.'
+FLAT = 'no labels: the listing as it is; the same bytes'
 
 
 @dataclasses.dataclass
@@ -61,22 +62,17 @@ def comes_back(program, data, at=0x6000, lister='gdis'):
     return 'labelled and the same' if made.summary != FLAT else FLAT
 
 
-FLAT = 'no labels: the listing as it is, and the same'
-
-
 def _of_object(program, text, wishes):
-    listed = linked(program, text)
-    entry, defined, image = of_link(listed[0])
-    if not image.segments:
+    found = Linked(program, text)
+    if not found.image.segments:
         raise Rejected('an object without words')
-    wishes = dataclasses.replace(wishes, entries=[entry, *wishes.entries],
-                                 moved=moved(listed[1], image) if len(listed) > 1 else None)
-    labelling = Labelling(program, TMS, image, wishes)
-    names = labelling.named.define(defined)[:256]
+    wishes = dataclasses.replace(wishes, entries=[found.entry, *wishes.entries], moved=found.moved)
+    labelling = Labelling(program, TMS, found.image, wishes)
+    names = labelling.named.define(found.names, found.fixed)[:256]
     head = [f'       DEF  {",".join(names[i:i + 16])}' for i in range(0, len(names), 16)]
-    listed = [without(it, names) for it in listed]
+    listed = [without(it, names) for it in found.listed]
     for count in range(len(listed), 0, -1):
-        made = labelling.made(head, entry, listed[:count])
+        made = labelling.made(head, found.entry, listed[:count])
         if made:
             return made
     raise Rejected('no source was found of which the program makes the same words')
@@ -115,7 +111,7 @@ class Labelling:
         text, lowered = checked(source, Wanted(self.program, self.language, self.image, entry, listed))
         if text is None:
             return None
-        return Labelled(text, doubts.found(addresses, self.listing, source.rows, odd),
+        return Labelled(text, doubts.found(addresses, self.listing.known, source.rows, odd),
                         self._summary(addresses, source, lowered))
 
     def _descent(self):
@@ -123,7 +119,7 @@ class Labelling:
         wishes = self.wishes
         closed = {at for low, high in wishes.data + wishes.tables for at in range(low, high)}
         closed |= {it for at in self.headers.words for it in (at, at + 1)}
-        descent = Descent(self.listing, self.image, self.language, closed)
+        descent = Descent(self.listing, self.image, self.language, closed, wishes.moved or ())
         odd = descent.executed(wishes.covered)
         for low, high in wishes.code:
             descent.sweep(low, high)

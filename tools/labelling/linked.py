@@ -1,32 +1,66 @@
-"""Objects: their linked memory, and which of their words move with their code."""
+"""Objects: their linked memory, and which of it moves with their code.
+
+All of it comes from what `link` lists of an object: alone, after a module that leaves some bytes free, and before one of
+a single word, which is placed where the object's code ends.
+"""
 import pathlib
 import tempfile
 
 from .calls import Rejected, report
-from .image import of_link
+from .image import Image, of_link
 
 APART = 0x100
+MODULES = {'GAP': f' BSS {APART}\n', 'LAST': ' DATA 0\n'}
 
 
-def linked(program, text):
-    """What `link` lists of an object: alone, and if it has room there, after a module that leaves some bytes free."""
-    found = [report(program, 'link', given=text)]
-    try:
-        with tempfile.TemporaryDirectory() as folder:
-            gap = report(program, 'asm', given=f' BSS {APART}\n END\n'.encode())
-            pathlib.Path(folder, 'GAP.OBJ').write_bytes(gap)
-            pathlib.Path(folder, 'OBJECT.OBJ').write_bytes(text)
-            found.append(report(program, 'link', 'GAP.OBJ', 'OBJECT.OBJ', folder=folder))
-    except Rejected:
-        pass
+def links(program, text, orders):
+    """What `link` lists of an object, OBJECT, and other modules in each of some orders; None if it is rejected."""
+    found = []
+    with tempfile.TemporaryDirectory() as folder:
+        pathlib.Path(folder, 'OBJECT').write_bytes(text)
+        for name, source in MODULES.items():
+            pathlib.Path(folder, name).write_bytes(report(program, 'asm', given=source.encode()))
+        for order in orders:
+            try:
+                found.append(report(program, 'link', *order, folder=folder))
+            except Rejected:
+                found.append(None)
     return found
 
 
-def moved(listed, image):
-    """The addresses of the words that are places in relocatable code: those that grew with its place."""
-    later = of_link(listed)[2]
-    return {at for start, end in image.segments for at in range(start, end, 2)
-            if later.holds(at + APART, 2) and later.word(at + APART) == (image.word(at) + APART) & 0xFFFF}
+class Linked:
+    """An object as it is linked: `listed` has the reports by which it is known, one if its code does not move.
+
+    `moved` has the addresses of the words that are places in its code, and is None if nothing moves; `fixed` are the
+    names that do not move.
+    """
+
+    def __init__(self, program, text):
+        alone = report(program, 'link', given=text)
+        apart, before = links(program, text, [['GAP', 'OBJECT'], ['OBJECT', 'LAST']])
+        self.listed = [alone] if apart in (None, alone) else [alone, apart]
+        self.entry, self.names, self.image = of_link(alone)
+        self.moved, self.fixed = None, set()
+        if len(self.listed) > 1:
+            _, later_names, later = of_link(apart)
+            self.fixed = {name for name, at in self.names if (name, at) in later_names}
+            code = [(start, end) for start, end in self.image.segments if later.holds(start + APART)]
+            self.moved = {at for start, end in self.image.segments for at in range(start, end, 2)
+                          if self._moves(later, at, APART * ((start, end) in code))}
+            self._find_gaps(code, of_link(before)[2] if before else self.image)
+
+    def _moves(self, later, at, apart):
+        """Whether the word at an address is a place in relocatable code."""
+        return later.holds(at + apart, 2) and later.word(at + apart) == (self.image.word(at) + APART) & 0xFFFF
+
+    def _find_gaps(self, code, before):
+        """Tells the image which addresses of the object's code hold no word: what BSS leaves free, between two segments
+        of code and at its end, where the next module begins."""
+        last = [end - 2 for _, end in before.segments if not self.image.holds(end - 2)]
+        ends = [start for start, _ in code[1:]] + last[:1]
+        segments = [(start, self.image.bytes(start, end)) for start, end in self.image.segments]
+        gaps = [(end, following) for (_, end), following in zip(code, ends)]
+        self.image = Image(segments, gaps, [start for start, _ in code])
 
 
 def without(listed, kept):

@@ -18,7 +18,7 @@ class Named:
 
     def __init__(self, program, language):
         self.program, self.language = program, language
-        self.places, self.cells, self.used = [], {}, set()
+        self.places, self.cells, self.used, self.fixed = [], {}, set(), set()
 
     def read(self, name, text):
         """Takes the lines of a file. The assembler says which names it takes."""
@@ -38,8 +38,9 @@ class Named:
             number, fault = first
             raise Rejected(f'{name} line {new[number][0]}: {new[number][1]}: {fault}')
 
-    def define(self, names):
-        """Takes names of an object, and returns those that a source may have."""
+    def define(self, names, fixed):
+        """Takes names of an object, and returns those that a source may have. The `fixed` ones are plain numbers."""
+        self.fixed = fixed
         names = [(name, at) for name, at in names if name == name.upper() and re.fullmatch('[A-Z][A-Z0-9]*', name)]
         while found := self._first_fault([name for name, _ in names]):
             del names[found[0]]
@@ -97,10 +98,11 @@ class Labels:
     def settle(self):
         """Makes the names. Those of a file come before one that is made."""
         for address, name in self.named.places:
-            self.exact.setdefault(address, name)
-            if not self.image.holds(address):
+            if name in self.named.fixed or not self.image.places[address]:
                 self.outside.append((name, address))
+                self.exact.setdefault(address, name) if not self.image.places[address] else None
                 continue
+            self.exact.setdefault(address, name)
             place = self.place(address)
             self.kinds.setdefault(place, 'data')
             if place == address and place not in self.made:

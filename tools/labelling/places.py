@@ -32,7 +32,7 @@ def _gpl(source):
     """For each GROM its rows, a source, and where in its bytes their table begins."""
     for grom in range(8):
         rows = [row for row in source.rows if row.address // GROM == grom]
-        placed = [row for row in rows if row.length]
+        placed = [row for row in rows if not row.is_directive]
         if placed:
             names = _names(source, placed)
             uses = {it for row in rows for it in row.uses if it[1] // GROM != grom or not source.image.holds(it[1])}
@@ -47,7 +47,7 @@ def _gpl(source):
 
 def _machine(source):
     """The rows in batches, each with a source whose only bytes are their table."""
-    placed = [row for row in source.rows if row.length]
+    placed = [row for row in source.rows if not row.is_directive]
     for i in range(0, len(placed), BATCH):
         part = placed[i:i + BATCH]
         names = _names(source, part)
@@ -65,9 +65,9 @@ def _lines(source, rows, names):
     is_gpl = source.language.lister == 'gdis'
     lines = []
     for row in rows:
-        if not row.length and not is_gpl:
+        if row.is_directive and not is_gpl:
             lines.append(f' DORG >{row.address:04X}')
-        elif not row.length:
+        elif row.is_directive:
             lines.append(row.forms[0] if row.forms[0].startswith('*') else f' {row.forms[0]}')
         elif row.label:
             before, after = source.labels.lines(row.address)

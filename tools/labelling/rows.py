@@ -12,14 +12,14 @@ class Row:
     """A line at an address, with its bytes, if it has any, and its forms: by labels, as it is listed, as bytes.
 
     `note` is what its comment says after the address, `uses` are the names in its first form with their values, and a
-    row of data is no instruction.
+    row of data is no instruction. A directive says where the next rows stand, and has no length.
     """
-    __slots__ = 'address', 'length', 'label', 'forms', 'note', 'uses', 'is_data', 'is_head', 'is_whole'
+    __slots__ = 'address', 'length', 'label', 'forms', 'note', 'uses', 'is_data', 'is_head', 'is_whole', 'is_directive'
 
     def __init__(self, address, length, label, forms, note='', uses=(), is_data=True, is_head=False):
         self.address, self.length, self.label, self.forms = address, length, label, forms
         self.note, self.uses, self.is_data, self.is_head = note, uses, is_data, is_head
-        self.is_whole = not length
+        self.is_whole = self.is_directive = False
 
     def lower(self, image, has_words):
         """Takes the next form, if there is one."""
@@ -33,6 +33,12 @@ class Row:
         del self.forms[0]
         self.uses = ()
         return True
+
+
+def directive(address, text):
+    row = Row(address, 0, '', [text])
+    row.is_whole = row.is_directive = True
+    return row
 
 
 def replaced(text, changes):
@@ -52,13 +58,17 @@ class Rows:
         self.language, self.is_gpl = addresses.language, addresses.language.lister == 'gdis'
         self.rows, self.case = [], None
         self.texts, cuts = self._texts(), self._cuts()
+        place = None
         for start, end in self.image.segments:
             at = start
+            if place != start:
+                self._directives(at)
             while at < end:
-                if at == start or self.is_gpl and at % GROM == 0:
+                if at != start and self.is_gpl and at % GROM == 0:
                     self._directives(at)
                 cut = cuts.find(1, at + 1, end)
                 at = self._row(at, end if cut < 0 else cut)
+            place = end if end not in self.image.gaps else self._gap(end, self.image.gaps[end], cuts)
 
     def _cuts(self):
         """A 1 at each address at which a row has to begin."""
@@ -84,9 +94,25 @@ class Rows:
 
     def _directives(self, at):
         texts = [f'GROM >{at & 0xE000:04X}', f'AORG >{at & 0x1FFF:04X}'] if self.is_gpl else [f'AORG >{at:04X}']
-        if self.is_relocatable and at >= RELOCATABLE:
+        if self.is_relocatable and at in self.image.moving:
             texts = [f'RORG >{at - RELOCATABLE:04X}']
-        self.rows += [Row(at, 0, '', [text]) for text in texts]
+        self.rows += [directive(at, text) for text in texts]
+
+    def _gap(self, at, end, cuts):
+        """Adds rows that leave bytes free, and a label at their end; returns the address there."""
+        while at < end:
+            cut = cuts.find(1, at + 1, end)
+            cut = end if cut < 0 else cut
+            self._free(at, cut)
+            at = cut
+        if not self.image.held[end] and end in self.labels.made:
+            self._free(end, end)
+        return end
+
+    def _free(self, at, cut):
+        row = Row(at, cut - at, self.labels.made.get(at, ''), [f'BSS  {cut - at}'])
+        row.is_whole = True
+        self.rows.append(row)
 
     def _row(self, at, cut):
         """Adds the rows from an address on: an instruction, a word or the data up to the next cut; returns the address
@@ -119,18 +145,17 @@ class Rows:
 
     def _leave_out(self, start, end):
         """Zeros need not be written: `gasm` gives 0 if no line writes. The program can grow into them."""
-        self.rows.append(Row(start, 0, '', [f'* >00 up to >{end - 1:04X}, which no line writes']))
+        self.rows.append(directive(start, f'* >00 up to >{end - 1:04X}, which no line writes'))
         if end == self.image.end(start):
-            self.rows.append(Row(start, 0, '', [f'AORG >{end - 1 & 0x1FFF:04X}']))
+            self.rows.append(directive(start, f'AORG >{end - 1 & 0x1FFF:04X}'))
             self.rows.append(Row(end - 1, 1, '', ['BYTE >00']))
 
     def _anchored(self, start, end):
         """Other bytes have to be written. They stay in their places, and what is in the way of the program goes."""
-        self.rows.append(Row(start, 0, '', [f'* >FF up to >{end - 1:04X}: if the program grows, drop the first of these '
-                                            'lines']))
+        self.rows.append(directive(start, f'* >FF up to >{end - 1:04X}: if the program grows, drop the first of these lines'))
         for at in range(start, end, FILL):
             part = self.image.bytes(at, min(at + FILL, end))
-            self.rows.append(Row(at, 0, '', [f'AORG >{at & 0x1FFF:04X}']))
+            self.rows.append(directive(at, f'AORG >{at & 0x1FFF:04X}'))
             self.rows.append(Row(at, len(part), '', [byte_row(part)]))
 
     def _bytes(self, at, cut, label):

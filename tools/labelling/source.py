@@ -64,6 +64,6 @@ class Source:
             return f'{row.label} {form}'
         operation, _, operands = form.partition(' ')
         line = f'{row.label:<6} {operation:<4} {operands}' if operands else f'{row.label:<6} {operation}'
-        if not row.length or self.comments == FEW and not row.label and not row.note:
+        if row.is_directive or self.comments == FEW and not row.label and not row.note:
             return line
         return f'{line:<{COMMENT}} * >{row.address:04X}{row.note}'
