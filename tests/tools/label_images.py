@@ -123,7 +123,7 @@ def objects(seed, count):
         for i in range(size):
             line = rng.choice(['LI   R{0},{1}', 'DATA {1},{2}', 'B    @{1}', 'BL   @{1}', 'MOV  @{1}(R{0}),@{3}', 'RT',
                                'DATA {2}', "TEXT 'SOME WORDS'", 'BSS  4', 'A    *R11+,R3', 'BLWP @{1}', 'CI   R{0},{2}',
-                               'BYTE {0}', 'MOVB *R{0}+,@>8300', 'JMP  $'])
+                               'BYTE {0}', 'MOVB *R{0}+,@>8300', 'JMP  $', 'MOV  @{1}-2(R{0}),@{3}+6', 'ORI  R{0},{1}'])
             lines.append(f'L{i:<5} ' + line.format(rng.randrange(1, 10), name(), rng.randrange(65536), name()))
         lines += [f'       AORG >{rng.randrange(0x2000, 0x3F00) & 0xFFFE:04X}', '       DATA L0,>A000'] * (rng.random() < 0.3)
         yield '\n'.join([*lines, f'       END  {name()}', '']).encode()

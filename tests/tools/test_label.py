@@ -88,7 +88,7 @@ class CommandLine(Labelling):
     def test_a_cartridge_is_labelled_from_its_header(self):
         lines, said = self.label('gdis', '6000', given=self.image(HELLO))
         self.assertEqual(lines, LABELLED.splitlines())
-        self.assertEqual(said, ['46 bytes, 19 of them code; 4 labels; 8 addresses by labels; the same bytes'])
+        self.assertEqual(said, ['46 bytes, 19 of them code; 4 labels; 4 addresses by labels; the same bytes'])
 
     def test_wrong_words_have_status_2(self):
         for words in ([], ['gdis'], ['gdis', '600'], ['dis', '6001'], ['link', '6000'], ['asm', '6000'],

@@ -62,8 +62,9 @@ class Addresses:
         vectors = {it.address + more for line in self.descent.code.values()
                    for it in line.leads if it.kind == 'vector' for more in (0, 2)}
         wished = {at for low, high in self.wishes.pointers for at in range(low, high - 1, 2)}
+        places = self.headers.words.keys() | wished | vectors if self.wishes.moved is None else self.wishes.moved
         found = set()
-        for at in sorted(self.headers.words.keys() | wished | vectors | (self.wishes.moved or set())):
+        for at in sorted(places):
             is_free = self.image.holds(at, 2) and self.owner[at] < 0 and self.owner[at + 1] < 0
             is_torn = at % 2 if self.language.lister == 'dis' else at % GROM == GROM - 1
             if is_free and not is_torn:
@@ -74,8 +75,7 @@ class Addresses:
     def _want(self):
         for at, references in self.of.items():
             for it in references.sure:
-                if self.image.places[it.address]:
-                    self.labels.want(it.address, it.kind if it.kind in KINDS else self._kind(it.address))
+                self.labels.want(it.address, it.kind if it.kind in KINDS else self._kind(it.address))
         for at in self.words:
             value = self.image.word(at)
             if self.image.places[value]:

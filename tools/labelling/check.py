@@ -3,11 +3,11 @@ import re
 
 from .calls import LIMIT, Rejected, report
 from .data import word_row
-from .image import Image, of_link, words_of
+from .image import MEMORY, Image, of_link, words_of
 from .linked import links
 from .places import misplaced
 
-TRIES, SINGLE = 64, 8      # how often rows are lowered, and how often a number of rows before it doubles
+TRIES, SINGLE = 64, 8      # how often rows are lowered, and after how many times their number doubles
 
 
 class Wanted:
@@ -56,7 +56,7 @@ class Wanted:
         if self.listed:
             return self.image.first_difference(of_link(made[0])[2])
         bytes_ = made if self.language.assembler == 'gasm' else words_of(made)
-        return self.image.first_difference(Image([(self.start, bytes_[:0x10000 - self.start])]))
+        return self.image.first_difference(Image([(self.start, bytes_[:MEMORY - self.start])]))
 
 
 def checked(source, wanted):

@@ -32,13 +32,9 @@ class Descent:
 
     def sweep(self, low, high):
         """Takes the instructions that stand one after the other in a range, and what they lead to."""
-        starts = [start for start, _ in self.image.segments if low < start < high]
-        low = low if self.image.holds(low) else min(starts, default=high)
-        low += low % self.step
-        if low >= high or not self.image.holds(low):
-            return
-        self.listing.learn_ranges([(low, min(high, self.image.end(low)))])
-        at, targets = low, []
+        at, targets = low + low % self.step, []
+        parts = [(max(at, start), min(high, end)) for start, end in self.image.segments]
+        self.listing.learn_ranges([part for part in parts if part[0] < part[1]])
         while at < high:
             if self.owner[at] < 0 and self._is_place(at):
                 targets += self._path(at)
@@ -97,7 +93,7 @@ class Descent:
             if line.operation in self.language.ends or number == UNSURE:
                 break
             at += line.length
-            if number:
+            if number and self.image.holds(at, number):
                 self.taken[at] = number
             at += number
         return [it for it in targets if it is not None and self._is_place(it) and it not in self.walked]

@@ -2,30 +2,31 @@
 import re
 
 MEMORY = 0x10000
+RELOCATABLE = 0xA000       # where `link` places the first relocatable code
 
 
 class Image:
     """The bytes of a memory of 65,536, and which of them are held.
 
-    `places` has a 1 for each address of the image: of those that are held, and of the gaps after segments, which hold
-    nothing. `moving` are the segments of relocatable code, by where they start.
+    `places` has a 1 for each address of the image: of those that are held, and of gaps before and after them, which
+    hold nothing. `moving` are the places at which relocatable code starts, also after a gap.
     """
 
     def __init__(self, segments, gaps=(), moving=()):
-        self.memory, self.held = bytearray(MEMORY), bytearray(MEMORY + 4)
+        self.memory, self.held = bytearray(MEMORY), bytearray(MEMORY)
         self.segments, self.gaps, self.moving = [], dict(gaps), moving
         for start, data in segments:
             self.memory[start:start + len(data)] = data
             self.held[start:start + len(data)] = b'\1' * len(data)
             self.segments.append((start, start + len(data)))
         self.size = sum(end - start for start, end in self.segments)
-        self.places = bytearray(self.held)
+        self.places = bytearray(self.held) + b'\0'
         for start, end in gaps:
             self.places[start:end + 1] = b'\1' * (end + 1 - start)
 
     def holds(self, address, length=1):
         """Whether all bytes from an address on are held."""
-        return self.held.find(0, address, address + length) < 0
+        return address + length <= MEMORY and self.held.find(0, address, address + length) < 0
 
     def end(self, address):
         """Where the segment of an address ends."""

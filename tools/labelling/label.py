@@ -130,9 +130,8 @@ class Labelling:
 
     def _summary(self, addresses, source, lowered):
         code = sum(line.length for line in addresses.descent.code.values())
-        labels = sum(self.image.held[it.address] for found in addresses.of.values() for it in found.sure)
         parts = [f'{self.image.size} bytes, {code} of them code', f'{len(addresses.labels.made)} labels',
-                 f'{labels + len(addresses.words)} addresses by labels']
+                 f'{sum(len(row.uses) for row in source.rows)} addresses by labels']
         parts += [f'no entry, taken from >{self.guessed[0]:04X} on'] if self.guessed else []
         parts += [f'{lowered} times a line was left as it is listed or as bytes'] if lowered else []
         parts += ['addresses left out for size'] if source.comments else []

@@ -7,7 +7,7 @@ import pathlib
 import tempfile
 
 from .calls import Rejected, report
-from .image import Image, of_link
+from .image import RELOCATABLE, Image, of_link
 
 APART = 0x100
 MODULES = {'GAP': f' BSS {APART}\n', 'LAST': ' DATA 0\n'}
@@ -59,8 +59,9 @@ class Linked:
         last = [end - 2 for _, end in before.segments if not self.image.holds(end - 2)]
         ends = [start for start, _ in code[1:]] + last[:1]
         segments = [(start, self.image.bytes(start, end)) for start, end in self.image.segments]
-        gaps = [(end, following) for (_, end), following in zip(code, ends)]
-        self.image = Image(segments, gaps, [start for start, _ in code])
+        gaps = [(RELOCATABLE, start) for start, _ in code[:1] if start != RELOCATABLE]
+        gaps += [(end, following) for (_, end), following in zip(code, ends)]
+        self.image = Image(segments, gaps, [RELOCATABLE] + [start for start, _ in code])
 
 
 def without(listed, kept):

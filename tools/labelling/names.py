@@ -23,7 +23,7 @@ class Named:
     def read(self, name, text):
         """Takes the lines of a file. The assembler says which names it takes."""
         new = []
-        for number, line in enumerate(text.splitlines(), 1):
+        for number, line in enumerate(text.split('\n'), 1):
             line = line.partition('*')[0].strip()
             found = re.fullmatch(r'(V?@)?>([0-9A-Fa-f]{4})\s+(\S+)', line)
             if line and found is None:
@@ -52,7 +52,7 @@ class Named:
         """The number of the first name that the assembler does not take, and why; or None."""
         lines = ''.join(f'{name} EQU 1\n' for name in names)
         try:
-            report(self.program, self.language.assembler, given=lines.encode('latin-1'))
+            report(self.program, self.language.assembler, given=lines.encode('latin-1', 'replace'))
         except Rejected as rejected:
             found = re.fullmatch(r'line (\d+): (.*)', str(rejected))
             if not found:
@@ -80,6 +80,7 @@ class Labels:
     def __init__(self, named, owner, image):
         """`owner` has for each byte inside of an instruction or a word the address of its first byte, else -1."""
         self.named, self.owner, self.image = named, owner, image
+        self.anchor = image.moving[0] if image.moving else None
         self.kinds, self.made, self.more, self.exact, self.outside = {}, {}, {}, {}, []
 
     def place(self, address):
@@ -88,12 +89,19 @@ class Labels:
         return address if owner < 0 else owner
 
     def want(self, address, kind):
-        """An address is spoken of: it gets a label, or the instruction or word that it lies in does."""
+        """An address is spoken of: it gets a label, or the instruction or word that it lies in does, or, if it is outside
+        of an object but moves with its code, the beginning of the code."""
+        address = self._anchored(address)
+        if address is None:
+            return
         place = self.place(address)
         kind = kind if place == address else 'data'
         before = self.kinds.get(place)
         if before is None or ORDER[kind] < ORDER[before]:
             self.kinds[place] = kind
+
+    def _anchored(self, address):
+        return address if self.image.places[address] else self.anchor
 
     def settle(self):
         """Makes the names. Those of a file come before one that is made."""
@@ -123,13 +131,14 @@ class Labels:
 
     def name(self, address):
         """The name that an address is written by, with its value; or None if it has none."""
-        if address in self.exact:
+        anchored = self._anchored(address)
+        if address in self.exact and anchored in (address, None):
             return self.exact[address], address
-        place = self.place(address)
+        place = self.place(address if anchored is None else anchored)
         return (self.made[place], place) if place in self.made else None
 
     def written(self, address):
         """An address by its name, or None."""
         name = self.name(address)
         apart = name and address - name[1]
-        return f'{name[0]}+{apart}' if apart else name and name[0]
+        return f'{name[0]}{apart:+}' if apart else name and name[0]

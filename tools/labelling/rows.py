@@ -1,11 +1,10 @@
 """The rows of a labelled source: a line each, in the forms in which it may be written."""
 from .addresses import GROM
 from .data import byte_row, rows, texts, word_row
-from .image import MEMORY
+from .image import MEMORY, RELOCATABLE
 
 KEPT, LEAST = 8, 16        # bytes of a fill that are written as others are, and how many more it has to have
 FILL = 16                  # bytes in a row of a fill
-RELOCATABLE = 0xA000       # where `link` places the first relocatable code
 
 
 class Row:
@@ -60,15 +59,21 @@ class Rows:
         self.texts, cuts = self._texts(), self._cuts()
         place = None
         for start, end in self.image.segments:
-            at = start
-            if place != start:
+            place = self._segment(place, start, end, cuts)
+
+    def _segment(self, place, start, end, cuts):
+        """Adds the rows of a segment and of the gap after it, the last rows having led to a place; returns where they
+        lead to."""
+        first = RELOCATABLE if self.image.gaps.get(RELOCATABLE) == start else start
+        if place != first:
+            self._directives(first)
+        at = self._gap(first, start, cuts)
+        while at < end:
+            if at != start and self.is_gpl and at % GROM == 0:
                 self._directives(at)
-            while at < end:
-                if at != start and self.is_gpl and at % GROM == 0:
-                    self._directives(at)
-                cut = cuts.find(1, at + 1, end)
-                at = self._row(at, end if cut < 0 else cut)
-            place = end if end not in self.image.gaps else self._gap(end, self.image.gaps[end], cuts)
+            cut = cuts.find(1, at + 1, end)
+            at = self._row(at, end if cut < 0 else cut)
+        return self._gap(end, self.image.gaps.get(end, end), cuts)
 
     def _cuts(self):
         """A 1 at each address at which a row has to begin."""
@@ -99,13 +104,13 @@ class Rows:
         self.rows += [directive(at, text) for text in texts]
 
     def _gap(self, at, end, cuts):
-        """Adds rows that leave bytes free, and a label at their end; returns the address there."""
+        """Adds rows that leave bytes free, and a label at the end of the code; returns the address after them."""
         while at < end:
             cut = cuts.find(1, at + 1, end)
             cut = end if cut < 0 else cut
             self._free(at, cut)
             at = cut
-        if not self.image.held[end] and end in self.labels.made:
+        if end in self.labels.made and not self.image.holds(end):
             self._free(end, end)
         return end
 

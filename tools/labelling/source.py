@@ -46,9 +46,12 @@ class Source:
             before, after = self.labels.lines(row.address) if row.label else ((), ())
             lines += [*before, self._line(row), *after]
             self.row_of_line += [None] * len(before) + [row] + [None] * len(after)
-        entry = self.entry is not None and (self.labels.written(self.entry) or f'>{self.entry:04X}')
-        lines.append(f'       END {entry}' if entry else '       END')
+        lines.append('       END' if self.entry is None else f'       END {self._entry()}')
         return '\n'.join([*lines, '']).encode('ascii')
+
+    def _entry(self):
+        name = self.labels.written(self.entry) if self.image.places[self.entry] else None
+        return name or f'>{self.entry:04X}'
 
     def _line(self, row):
         line = self.cache.get(id(row))

@@ -45,8 +45,9 @@ class Taken:
 
 
 class Walk:
-    """The ways through one subroutine. What is taken on a way is a state: a dictionary of the numbers taken, by the
-    register that holds the return address (0 in GPL)."""
+    """The ways through one subroutine. A state of a way has the number that is taken on it by each register that holds
+    the return address; GPL has one, by whatever number. `returns` are the numbers at returns, and `left` those at which
+    a way leaves what is known."""
 
     def __init__(self, taken, target, kind):
         self.taken, self.target, self.kind = taken, target, kind
