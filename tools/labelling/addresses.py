@@ -78,7 +78,7 @@ class Addresses:
                 self.labels.want(it.address, it.kind if it.kind in KINDS else self._kind(it.address))
         for at in self.words:
             value = self.image.word(at)
-            if self.image.places[value]:
+            if value or at not in self.headers.words:      # 0 ends a list
                 self.labels.want(value, self._kind(value))
         for at in [*self.headers.entries, *self.wishes.entries]:
             if self.image.places[at]:

@@ -128,7 +128,7 @@ class Rows:
         self.case = None
         if at in self.addresses.words:
             value = self.image.word(at)
-            name = self.labels.name(value) if value or value in self.labels.made else None
+            name = self.labels.name(value) if value or at not in self.headers.words else None
             self._data(at, label, self.image.bytes(at, at + 2),
                        f'DATA {self.labels.written(value) if name else f">{value:04X}"}', '', [name] if name else [])
             return at + 2
