@@ -71,10 +71,9 @@ def fault_of_comments(program, case, lines):
         end = None if data is None else at + len(data)
     code = [row for row in rows if bytes_of(row[0], row[1], names) is None]
     for operation, operands, at, _ in random.Random(1).sample(code, min(SAMPLE, len(code))):
-        listed = program.run(case.lister, f'{at:04X}', given=case.data[at - case.at:][:32]).out.decode('ascii').splitlines()
-        is_line = re.escape(f'{operation} {plain(operands, names)}'.strip()) == re.escape(
-            next(line for line in listed if line.split()[0] not in ('GROM', 'AORG')).strip())
-        if not is_line:
+        listed = program.run(case.lister, f'{at:04X}', given=case.data[at - case.at:][:32]).out.decode('ascii')
+        first = next(line for line in listed.splitlines() if line.split()[0] not in ('GROM', 'AORG'))
+        if first.strip() != f'{operation} {plain(operands, names)}'.strip():
             return f'another instruction at >{at:04X}'
     return ''
 

@@ -89,7 +89,8 @@ def edges():
         yield Case(lister, 0x6000, b'\xAA\1\1\0' + b'\0\0\x60\x06\0\0\0\0', Wishes())
         yield Case(lister, 0x6000, b'\xAA\1\1\0' + b'\x60\x04\x60\x05\x60\x06\x60\x07' + bytes(10), Wishes())
         yield Case(lister, 0x6000, b'\xAA' * 64, Wishes(entries=[0x6001, 0x5FFF, 0xFFFF]))
-        yield Case(lister, 0x6000, b'AB' * 30, Wishes(names=[('names', ''.join(f'>6000 {it}00000\n' for it in 'ABCDEF'))]))
+        names = ''.join(f'>6000 {it}00000\n' for it in 'ABCDEF')
+        yield Case(lister, 0x6000, b'AB' * 30, Wishes(names=[('names', names)]))
 
 
 def large():
@@ -105,7 +106,8 @@ def large():
         yield Case(lister, 0, b'\xAA' * 65536, Wishes())
         yield Case(lister, 0, b'\x10\x00' * 32768, Wishes())
         yield Case(lister, 0, of_codes(rng, lister, 0, 65536), Wishes(code=[(0, 65536)]))
-    yield Case('gdis', 0, bytes(it for _ in range(32768) for it in (0x40 + rng.randrange(32), rng.randrange(256))), Wishes())
+    branches = [0x4000 + rng.randrange(0x2000) for _ in range(32768)]
+    yield Case('gdis', 0, b''.join(it.to_bytes(2, 'big') for it in branches), Wishes())
     yield Case('gdis', 0, bytes([0x05, 0x00, 0x01]) * 21845, Wishes(entries=[1, 2]))
     yield Case('gdis', 0, bytes([0x0C, 0x06, 0x00, 0x01]) * 16384, Wishes())
     yield Case('dis', 0, bytes(it for _ in range(32768) for it in (0x13, rng.randrange(256))), Wishes())
@@ -125,5 +127,6 @@ def objects(seed, count):
                                'DATA {2}', "TEXT 'SOME WORDS'", 'BSS  4', 'A    *R11+,R3', 'BLWP @{1}', 'CI   R{0},{2}',
                                'BYTE {0}', 'MOVB *R{0}+,@>8300', 'JMP  $', 'MOV  @{1}-2(R{0}),@{3}+6', 'ORI  R{0},{1}'])
             lines.append(f'L{i:<5} ' + line.format(rng.randrange(1, 10), name(), rng.randrange(65536), name()))
-        lines += [f'       AORG >{rng.randrange(0x2000, 0x3F00) & 0xFFFE:04X}', '       DATA L0,>A000'] * (rng.random() < 0.3)
+        if rng.random() < 0.3:
+            lines += [f'       AORG >{rng.randrange(0x2000, 0x3F00) & 0xFFFE:04X}', '       DATA L0,>A000']
         yield '\n'.join([*lines, f'       END  {name()}', '']).encode()

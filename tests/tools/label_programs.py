@@ -1,4 +1,4 @@
-"""A generated GPL program over several GROMs: subroutines with tables of branches, loops, texts and bytes after calls."""
+"""A generated GPL program over several GROMs: subroutines with tables of branches, loops, and bytes after calls."""
 import random
 
 WORDS = 'PLAYER SCORE LEVEL PRESS ANY KEY TO BEGIN GAME OVER HIGH READY LIVES TIME BONUS'.split()
@@ -33,12 +33,14 @@ class Part:
         self.lines.append(f'C{self.name}  INC  {self.cell()}')
 
     def loop(self):
-        self.lines += [f'       ST   @>8360,{self.rng.randint(2, 5)}', f'A{self.name}  INCT V@>{0x400 + self.number:04X}',
+        self.lines += [f'       ST   @>8360,{self.rng.randint(2, 5)}',
+                       f'A{self.name}  INCT V@>{0x400 + self.number:04X}',
                        '       DEC  @>8360', '       CZ   @>8360', f'       BR   A{self.name}']
 
     def call(self):
         if self.number + 1 < self.count:
-            self.lines.append(f'       CALL F{self.rng.randrange(self.number + 1, min(self.count, self.number + 12)):03}')
+            target = self.rng.randrange(self.number + 1, min(self.count, self.number + 12))
+            self.lines.append(f'       CALL F{target:03}')
 
     def bytes(self):
         self.lines += [f'       CALL {self.taker}', f'       BYTE {self.rng.randrange(256)}']

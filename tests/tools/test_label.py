@@ -113,7 +113,8 @@ class CommandLine(Labelling):
         (installed / 'tools').symlink_to(TOP / 'tools')
         (self.folder / 'ti_bench-label').symlink_to(installed / 'tools/label')
         names = self.file('names of cells', b'* caf\xe9\n@>8302 COUNT\n')
-        ended = self.call(self.folder / 'ti_bench-label', '--names', names, 'gdis', '6000', given=self.image(HELLO), LC_ALL='C')
+        script = self.folder / 'ti_bench-label'
+        ended = self.call(script, '--names', names, 'gdis', '6000', given=self.image(HELLO), LC_ALL='C')
         self.assertEqual(ended.returncode, 0)
         self.assertIn(b'DEC  @COUNT', ended.stdout)
         self.assertTrue(ended.stderr.startswith(b'ti_bench-label: 46 bytes'), ended.stderr)
@@ -121,10 +122,12 @@ class CommandLine(Labelling):
 
 class Wished(Labelling):
     def test_names_of_a_file_are_used(self):
-        self.file('names', b'>601B begin\n@>8302 COUNT  * turns\nV@>0166 SCREEN\n>6016 WORD\n>6018 MIDDLE\n>6016 ALSO\n')
+        self.file('names', b'>601B begin\n@>8302 COUNT  * turns\nV@>0166 SCREEN\n'
+                           b'>6016 WORD\n>6018 MIDDLE\n>6016 ALSO\n')
         lines, _ = self.label('--names', 'names', 'gdis', '6000', given=self.image(HELLO))
         text = '\n'.join(lines)
-        for line in ('COUNT  EQU >8302', 'SCREEN EQU >0166', 'BEGIN  ALL  >20', 'MIDDLE TEXT \'LLO\'', 'ALSO\nWORD   TEXT'):
+        for line in ('COUNT  EQU >8302', 'SCREEN EQU >0166', 'BEGIN  ALL  >20', "MIDDLE TEXT 'LLO'",
+                     "ALSO\nWORD   TEXT 'HE'"):
             self.assertIn(line, text)
         self.assertIn('MOVE >0005,V@SCREEN,G@WORD', text)
         self.assertEqual(lines[-1], '       END BEGIN')
@@ -322,7 +325,8 @@ class Lies(Labelling):
     def test_no_answer_that_is_wrong_leads_to_a_wrong_source(self):
         rng = random.Random(1)
         cases = [Case('gdis', 0x6000, self.image(HELLO), Wishes()),
-                 Case('dis', 0x2000, self.words(b' AORG >2000\nL LI R1,>2008\n MOV *R1+,R2\n JMP L\n DATA 1,2\n'), Wishes())]
+                 Case('dis', 0x2000, self.words(b' AORG >2000\nL LI R1,>2008\n MOV *R1+,R2\n JMP L\n DATA 1\n'),
+                      Wishes())]
         changes = [lambda run: run._replace(status=1, out=b'', err=b'line 4: overlap\n'),
                    lambda run: run._replace(out=run.out[:-1]), lambda run: run._replace(out=b'')]
         changes += [flipped(rng.random(), rng.choice([1, 2, 4])) for _ in range(12)]

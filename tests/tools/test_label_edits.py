@@ -54,7 +54,7 @@ TABLE  DATA 10,20,30,40
 
 
 def outcome(found, lister, source):
-    """How a run of a source ended: its first line without the address, cells, and the video memory and its registers."""
+    """How a run of a source ended: its first line without the address, cells, and in GPL the video memory."""
     if lister == 'gdis':
         run = found.run('run', '20000', given=source)
     else:
@@ -79,7 +79,8 @@ class Edits(unittest.TestCase):
         return self.program.run('gasm', given=source).out
 
     def edited(self, lister, at, data, wishes, least, drop=()):
-        """Inserts an instruction at each place of the labelled source, in which the lines of `drop` are left out then."""
+        """Inserts an instruction at each place of the labelled source, from which the lines of `drop` are then dropped.
+        """
         made = labelled(self.program, lister, at, data, wishes)
         lines = made.text.splitlines()
         wanted = outcome(self.program, lister, made.text)

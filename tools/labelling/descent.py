@@ -116,8 +116,9 @@ class Descent:
 
     def _is_free(self, at, line):
         """Whether an instruction stands here, and none of its bytes is data or another's."""
-        places = range(at, at + line.length)
-        return line.is_code and at not in self.moved and max(self.owner[at:at + line.length]) < 0 and self.closed.isdisjoint(places)
+        end = at + line.length
+        is_open = line.is_code and at not in self.moved and self.closed.isdisjoint(range(at, end))
+        return is_open and max(self.owner[at:end]) < 0
 
     def _claim(self, at, line):
         if at not in self.code:

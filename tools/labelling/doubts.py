@@ -8,9 +8,9 @@ LEAST = 4            # instructions that might be code
 def found(addresses, known, rows, odd):
     """The lines of all doubts. `known` has lines of the listing by their addresses, and `odd` the addresses that a run
     executed and that are not listed as instructions."""
-    unsure = sorted(addresses.descent.unsure.items())
+    calls = sorted(addresses.descent.unsure.items())
     kinds = [[f'>{at:04X}: executed, but not listed as an instruction' for at in odd],
-             [f'>{at:04X}: it is not known how many bytes >{target:04X} takes after this call' for at, target in unsure],
+             [f'>{at:04X}: it is not known how many bytes >{target:04X} takes after this call' for at, target in calls],
              _values(addresses), _words(rows), _code(addresses, known, rows)]
     return [line for lines in kinds for line in _few(lines)]
 

@@ -1,5 +1,8 @@
-"""The header of a cartridge: >AA at the first address of a block of 8,192 bytes, and after it the addresses of lists. An
-entry of a list is the address of the next one, the entry point, and a name after its length."""
+"""The header of a cartridge: >AA at the first address of a block of 8,192 bytes, and then the addresses of lists.
+
+An entry of a list is the address of the next one, the entry point, and a name after its length. All lists are read so:
+a list of another form would cost a good listing, and never a byte.
+"""
 BLOCK, MARK, LONGEST_NAME = 0x2000, 0xAA, 32
 LISTS = {4: 'power-up', 6: 'programs', 8: 'devices', 10: 'subprograms'}
 

@@ -1,7 +1,7 @@
 """Objects: their linked memory, and which of it moves with their code.
 
-All of it comes from what `link` lists of an object: alone, after a module that leaves some bytes free, and before one of
-a single word, which is placed where the object's code ends.
+All of it comes from what `link` lists of an object: alone, after a module that leaves some bytes free, and before one
+of a single word, which is placed where the object's code ends.
 """
 import pathlib
 import tempfile

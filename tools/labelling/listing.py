@@ -7,7 +7,8 @@ from lib.command import UNREADABLE, Stopped
 from .calls import report
 from .measure import Measure
 
-WINDOW, APART = 64, 0x1000      # bytes that are listed from an address on, and a distance at which a new call is cheaper
+WINDOW = 64          # bytes that are listed from an address on
+APART = 0x1000       # a distance of two addresses at which a call of its own costs less than the bytes between them
 BLANKS = b'\n       '
 
 

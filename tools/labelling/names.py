@@ -89,8 +89,10 @@ class Labels:
         return address if owner < 0 else owner
 
     def want(self, address, kind):
-        """An address is spoken of: it gets a label, or the instruction or word that it lies in does, or, if it is outside
-        of an object but moves with its code, the beginning of the code."""
+        """An address is spoken of: it gets a label, or the instruction or word that it lies in does.
+
+        If it is outside of an object that can be moved, the beginning of the object's code gets it.
+        """
         address = self._anchored(address)
         if address is None:
             return

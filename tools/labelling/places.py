@@ -2,8 +2,8 @@
 these labels that the source leaves room for.
 
 A GPL source is asked GROM by GROM: its rows are assembled with a table in two other GROMs, and the labels of all other
-rows are made equal to what their comments say. Machine code is assembled under DORG, which gives its labels their values
-and places nothing, and only the table is placed.
+rows are made equal to what their comments say. Machine code is assembled under DORG, which gives its labels their
+values and places nothing, and only the table is placed.
 """
 import re
 import string

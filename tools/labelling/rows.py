@@ -157,7 +157,8 @@ class Rows:
 
     def _anchored(self, start, end):
         """Other bytes have to be written. They stay in their places, and what is in the way of the program goes."""
-        self.rows.append(directive(start, f'* >FF up to >{end - 1:04X}: if the program grows, drop the first of these lines'))
+        said = f'* >FF up to >{end - 1:04X}. If the program grows, drop lines from here on.'
+        self.rows.append(directive(start, said))
         for at in range(start, end, FILL):
             part = self.image.bytes(at, min(at + FILL, end))
             self.rows.append(directive(at, f'AORG >{at & 0x1FFF:04X}'))

@@ -1,8 +1,8 @@
 """How many bytes a subroutine takes that stand after its call: in GPL those that it takes by FETCH, in machine code
 those over which it moves its return address.
 
-All ways through a subroutine are followed up to its returns, each with what was taken on it. The number is certain if no
-two ways come to one line with different numbers, and all returns have one number. Nested calls take their own bytes.
+All ways through a subroutine are followed up to its returns, each with what was taken on it. The number is certain if
+no two ways come to one line with different numbers, and all returns have one number. Nested calls take their own bytes.
 """
 import re
 
@@ -78,7 +78,7 @@ class Walk:
         return None if is_missing or self.needed else self._settled()
 
     def _is_new(self, at, state):
-        """Whether a line is met first in a state. A register counts no more if it holds the address on some ways only."""
+        """Whether a line is met in a new state. A register that holds the address on some ways only counts no more."""
         before = self.states.get(at)
         if before is None:
             self.states[at] = state
