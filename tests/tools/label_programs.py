@@ -56,7 +56,7 @@ class Part:
 
 
 def program(seed, count, groms):
-    """A source of so many subroutines, in so many GROMs from >6000 on, each of which has zeros at its end."""
+    """A source of `count` subroutines in `groms` GROMs from >6000 on, each of which has zeros at its end."""
     rng = random.Random(seed)
     lines = ['       GROM >6000', '       BYTE >AA,1,1,0', '       DATA 0,MENU,0,0', 'MENU   DATA 0,START',
              '       BYTE 9', "       TEXT 'GENERATED'", 'START  DCLR @>8300', '       ALL  >20',

@@ -69,7 +69,7 @@ class Labelling(Calling):
         return b''.join(found[at].to_bytes(2, 'big') for at in sorted(found))
 
     def label(self, *words, given, status=0):
-        """The lines of the source, and those of standard error without the script's name."""
+        """The lines of the source, and the lines of standard error without the script's name."""
         ended = self.call('label', *words, given=given)
         self.assertEqual(ended.returncode, status, ended.stderr)
         said = [line.partition(': ')[2] for line in ended.stderr.decode().splitlines()]

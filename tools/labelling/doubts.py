@@ -1,6 +1,4 @@
 """What is doubtful in a labelled source, in lines for a person: what might be an address, and what might be code."""
-import itertools
-
 MOST = 20            # lines of each kind
 LEAST = 4            # instructions that might be code
 
@@ -31,13 +29,13 @@ def _values(addresses):
 
 
 def _words(rows):
-    """The words of data that might be addresses, those of adjacent rows together."""
+    """The words of data that might be addresses, in adjacent rows together."""
     marked = [(row.address, row.address + row.length) for row in rows if row.note.endswith('?') and row.is_data]
     return [f'>{low:04X}-{high - 1:04X}: words that might be addresses' for low, high in _joined(marked)]
 
 
 def _joined(ranges):
-    """Ranges, those that follow each other as one."""
+    """Ranges, with those as one that follow each other."""
     found = []
     for low, high in ranges:
         if found and found[-1][1] == low:

@@ -12,8 +12,8 @@ TARGET = re.compile(rf'\w+ @?{NUMBER}')
 
 
 class Line:
-    """A line of a listing without its blanks, with the length of its bytes, its addresses from the left, and those of
-    them that lead somewhere."""
+    """A line of a listing without its blanks, with the length of its bytes and its addresses from the left; `leads` are
+    the ones that lead somewhere."""
     __slots__ = 'text', 'length', 'operation', 'is_code', 'references', 'leads'
 
     def __init__(self, language, text, length):

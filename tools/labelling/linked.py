@@ -44,7 +44,8 @@ class Linked:
         if len(self.listed) > 1:
             _, later_names, later = of_link(apart)
             self.fixed = {name for name, at in self.names if (name, at) in later_names}
-            code = [(start, end) for start, end in self.image.segments if later.holds(start + APART)]
+            code = [(start, end) for start, end in self.image.segments
+                    if start >= RELOCATABLE and (start + APART, end + APART) in later.segments]
             self.moved = {at for start, end in self.image.segments for at in range(start, end, 2)
                           if self._moves(later, at, APART * ((start, end) in code))}
             self._find_gaps(code, of_link(before)[2] if before else self.image)
@@ -54,8 +55,8 @@ class Linked:
         return later.holds(at + apart, 2) and later.word(at + apart) == (self.image.word(at) + APART) & 0xFFFF
 
     def _find_gaps(self, code, before):
-        """Tells the image which addresses of the object's code hold no word: what BSS leaves free, between two segments
-        of code and at its end, where the next module begins."""
+        """Finds what BSS leaves free: before the first word of the code, between two, and up to its end, where the next
+        module begins."""
         last = [end - 2 for _, end in before.segments if not self.image.holds(end - 2)]
         ends = [start for start, _ in code[1:]] + last[:1]
         segments = [(start, self.image.bytes(start, end)) for start, end in self.image.segments]

@@ -1,15 +1,16 @@
-"""Names: those of a file, and those that are made of addresses."""
+"""Names: from a file, and made of addresses."""
 import re
+import string
 
 from .calls import Rejected, report
 
 PREFIXES = {'entry': 'P', 'call': 'S', 'branch': 'L', 'vector': 'V', 'data': 'D'}
 ORDER = {kind: number for number, kind in enumerate(PREFIXES)}
-LETTERS = 'QXYZABCDEFGHIJKLMNOPTUW'
+LETTERS = string.ascii_uppercase      # prefixes where a name is taken
 
 
 class Named:
-    """The names of files: lines with an address and a name, as `>6023 START`, `@>8302 COUNT` or `V@>0166 SCREEN`.
+    """The names in files: lines with an address and a name, as `>6023 START`, `@>8302 COUNT` or `V@>0166 SCREEN`.
 
     An address after @ is one of the processor's memory, and one after V@ one of video memory; they are made equal to
     their names before the source begins. An address alone is one of the image, or of what is outside of it. What
@@ -106,13 +107,14 @@ class Labels:
         return address if self.image.places[address] else self.anchor
 
     def settle(self):
-        """Makes the names. Those of a file come before one that is made."""
+        """Makes the names. A name from a file comes before one that is made."""
         for address, name in self.named.places:
-            if name in self.named.fixed or not self.image.places[address]:
+            is_fixed = name in self.named.fixed
+            if not is_fixed or not self.image.places[address]:
+                self.exact.setdefault(address, name)
+            if is_fixed or not self.image.places[address]:
                 self.outside.append((name, address))
-                self.exact.setdefault(address, name) if not self.image.places[address] else None
                 continue
-            self.exact.setdefault(address, name)
             place = self.place(address)
             self.kinds.setdefault(place, 'data')
             if place == address and place not in self.made:
@@ -121,7 +123,7 @@ class Labels:
                 self.more.setdefault(place, []).append((name, address - place))
         used = set(self.named.used)
         for address in sorted(self.kinds.keys() - self.made.keys()):
-            prefixes = (PREFIXES[self.kinds[address]], *LETTERS, *(f'{letter}X' for letter in LETTERS))
+            prefixes = [PREFIXES[self.kinds[address]], *LETTERS, *(f'{letter}X' for letter in LETTERS)]
             self.made[address] = next(it for prefix in prefixes if (it := f'{prefix}{address:04X}') not in used)
             used.add(self.made[address])
 

@@ -129,13 +129,13 @@ class Rows:
         if at in self.addresses.words:
             value = self.image.word(at)
             name = self.labels.name(value) if value or at not in self.headers.words else None
-            self._data(at, label, self.image.bytes(at, at + 2),
-                       f'DATA {self.labels.written(value) if name else f">{value:04X}"}', '', [name] if name else [])
+            word = self.labels.written(value) if name else f'>{value:04X}'
+            self._data(at, label, self.image.bytes(at, at + 2), f'DATA {word}', uses=[name] if name else [])
             return at + 2
         fill = self._fill(at, cut)
         if fill:
             self._bytes(at, fill, label)
-            (self._leave_out if self.image.memory[fill] == 0 else self._anchored)(fill, cut)
+            (self._leave_out if self.image.memory[fill] == 0 else self._keep)(fill, cut)
         else:
             self._bytes(at, cut, label)
         return cut
@@ -155,8 +155,8 @@ class Rows:
             self.rows.append(directive(start, f'AORG >{end - 1 & 0x1FFF:04X}'))
             self.rows.append(Row(end - 1, 1, '', ['BYTE >00']))
 
-    def _anchored(self, start, end):
-        """Other bytes have to be written. They stay in their places, and what is in the way of the program goes."""
+    def _keep(self, start, end):
+        """Bytes >FF have to be written. Each line of them has its place, so it can be dropped if the program grows."""
         said = f'* >FF up to >{end - 1:04X}. If the program grows, drop lines from here on.'
         self.rows.append(directive(start, said))
         for at in range(start, end, FILL):

@@ -3,7 +3,7 @@ from .calls import LIMIT
 from .rows import Rows
 
 COMMENT = 39          # the columns before a comment
-WHOLE, FEW, NONE = range(3)      # which comments a source has: those of all rows, of rows with labels, or none
+WHOLE, FEW, NONE = range(3)      # which rows have a comment: all, the ones with a label or a note, none
 
 
 class Source:
