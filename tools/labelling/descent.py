@@ -33,8 +33,9 @@ class Descent:
     def sweep(self, low, high):
         """Takes the instructions that stand one after the other in a range, and what they lead to."""
         at, targets = low + low % self.step, []
-        parts = [(max(at, start), min(high, end)) for start, end in self.image.segments]
-        self.listing.learn_ranges([part for part in parts if part[0] < part[1]])
+        for start, end in self.image.segments:
+            if max(at, start) < min(high, end):
+                self.listing.learn_range(max(at, start), min(high, end))
         while at < high:
             if self.owner[at] < 0 and self._is_place(at):
                 targets += self._path(at)

@@ -18,18 +18,14 @@ def texts_of(listed):
     return [line for line in lines if not line.startswith(('GROM', 'AORG', 'END'))]
 
 
-def grouped(windows, gap):
-    """The windows in groups, in each of which the next one begins a gap or more after the last, and not far from it."""
-    groups, open_ = [], []
+def grouped(windows):
+    """The windows in groups, in each of which the next one begins not far from the last."""
+    groups = []
     for window in windows:
-        open_ = [group for group in open_ if window[0] - group[-1][1] < APART]
-        for group in open_:
-            if gap <= window[0] - group[-1][1]:
-                group.append(window)
-                break
+        if groups and window[0] - groups[-1][-1][1] < APART:
+            groups[-1].append(window)
         else:
             groups.append([window])
-            open_.append(groups[-1])
     return groups
 
 
@@ -50,13 +46,21 @@ class Listing:
 
     def learn(self, addresses):
         """Makes the lines at these addresses known, and some after them."""
-        self.learn_ranges((at, at) for at in sorted(addresses))
+        waiting = sorted(addresses)
+        while waiting:
+            windows = []
+            for at in waiting:
+                if not windows or at - windows[-1][1] >= self.language.longest:
+                    windows.append((at, min(at + WINDOW, self.image.end(at))))
+            for group in grouped(windows):
+                self._learn(group[0][0], group[-1][1], group)
+            asked = {low for low, _ in windows}
+            waiting = [at for at in waiting if at not in self.known and at not in asked]
 
-    def learn_ranges(self, ranges):
-        """Makes the lines known that stand one after the other from the beginning of each range on."""
-        windows = [(low, min(high + WINDOW, self.image.end(low))) for low, high in ranges]
-        for group in grouped(windows, self.language.longest):
-            self._learn(group[0][0], group[-1][1], group)
+    def learn_range(self, low, high):
+        """Makes the lines known that stand one after the other in a range."""
+        end = min(high + WINDOW, self.image.end(low))
+        self._learn(low, end, [(low, end)])
 
     def _learn(self, start, end, windows):
         filler = self.language.filler
