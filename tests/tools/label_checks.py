@@ -19,15 +19,15 @@ def fault(program, case, text):
     return fault_of_comments(program, case, text.decode('ascii').splitlines())
 
 
-def fault_of_object(program, folder, object_, text):
-    """What is wrong with the source of an object, or nothing: alone and after another module it has to be linked to the
-    same memory, with the same names."""
+def fault_of_object(program, folder, object_, text, is_moved=True):
+    """What is wrong with the source of an object, or nothing: alone and, if it can be moved, after another module it has
+    to be linked to the same memory, with the same names."""
     made = program.run('asm', given=text)
     if made.status:
         return made.fault
     for name, data in (('OLD', object_), ('NEW', made.out), ('GAP', program.run('asm', given=b' BSS 130\n').out)):
         (folder / name).write_bytes(data)
-    for before in ([], ['GAP']):
+    for before in [[], ['GAP']][:1 + is_moved]:
         old, new = (program.run('link', *before, name, folder=folder) for name in ('OLD', 'NEW'))
         if old != new:
             return f'linked otherwise {before}: {new.out[:300]}'

@@ -1,8 +1,11 @@
 """Bytes at addresses, in one segment or in several."""
 import re
 
+from lib.command import UNREADABLE, Stopped
+
 MEMORY = 0x10000
 RELOCATABLE = 0xA000       # where `link` places the first relocatable code
+GROUP = re.compile('([9ABC])([0-9A-F]{4})')      # of an object text: a load address or a word
 
 
 class Image:
@@ -49,20 +52,21 @@ class Image:
 def of_link(report):
     """The entry, the names with their values, and the image of what `link` lists."""
     lines = report.decode('latin-1').split('\n')[:-1]
-    entry = int(lines[0][len('entry >'):], 16)
     names, segments = [], []
-    for line in lines[1:]:
+    for line in lines:
         row = re.fullmatch(r'>([0-9A-F]{4})((?: [0-9A-F]{4})+)', line)
-        if row is None:
-            name, _, value = line.rpartition(' >')
-            names.append((name, int(value, 16)))
-            continue
-        start, data = int(row[1], 16), bytes.fromhex(row[2])
-        if segments and segments[-1][0] + len(segments[-1][1]) == start:
-            segments[-1] = (segments[-1][0], segments[-1][1] + data)
+        name = re.fullmatch('(.+) >([0-9A-F]{4})', line)
+        if name:
+            names.append((name[1], int(name[2], 16)))
+        elif row is None:
+            raise Stopped(f'link lists {line}', UNREADABLE)
+        elif segments and segments[-1][0] + len(segments[-1][1]) == int(row[1], 16):
+            segments[-1] = (segments[-1][0], segments[-1][1] + bytes.fromhex(row[2]))
         else:
-            segments.append((start, data))
-    return entry, names, Image(segments)
+            segments.append((int(row[1], 16), bytes.fromhex(row[2])))
+    if not names or sum(len(data) for _, data in segments) > MEMORY:
+        raise Stopped('link lists no entry, or too much', UNREADABLE)
+    return names[0][1], names[1:], Image(segments)
 
 
 def words_of(text):
@@ -70,8 +74,8 @@ def words_of(text):
     found = bytearray()
     for number, line in enumerate(text.decode('latin-1').split('\n')):
         at = len('00000') + 8 if number == 0 else 0
-        while line[at:at + 1] in ('A', 'B', 'C', '9'):
-            if line[at] in 'BC':
-                found += bytes.fromhex(line[at + 1:at + 5])
-            at += 5
+        while group := GROUP.match(line, at):
+            if group[1] in 'BC':
+                found += bytes.fromhex(group[2])
+            at = group.end()
     return bytes(found)

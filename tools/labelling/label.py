@@ -4,12 +4,12 @@ import dataclasses
 from . import doubts
 from .addresses import Addresses
 from .calls import LIMIT, Rejected, report
-from .check import Wanted, checked
+from .check import OfImage, OfObject, checked
 from .descent import Descent
 from .header import Headers
 from .image import MEMORY, Image
 from .language import GPL, TMS
-from .linked import Linked, without
+from .linked import Linked
 from .listing import Listing
 from .names import Named
 from .source import Source
@@ -50,7 +50,8 @@ def labelled(program, lister, at, data, wishes):
         return Labelled(report(program, lister, f'{at:04X}'), [], '0 bytes')
     labelling = Labelling(program, language, Image([(at, data)]), wishes)
     entry = next((it for it in labelling.entries if labelling.image.holds(it)), None)
-    return labelling.made([], entry) or _flat(Wanted(program, language, labelling.image, entry))
+    wanted = OfImage(program, language, labelling.image, entry)
+    return labelling.made([], entry, wanted) or _flat(wanted)
 
 
 def comes_back(program, data, at=0x6000, lister='gdis'):
@@ -70,10 +71,11 @@ def _of_object(program, text, wishes):
     labelling = Labelling(program, TMS, found.image, wishes)
     names = labelling.named.define(found.names, found.fixed)[:256]
     head = [f'       DEF  {",".join(names[i:i + 16])}' for i in range(0, len(names), 16)]
-    listed = [without(it, names) for it in found.listed]
-    for count in range(len(listed), 0, -1):
-        made = labelling.made(head, found.entry, listed[:count])
+    for is_relocatable in [True, False] if found.moved is not None else [False]:
+        wanted = OfObject(program, text, names, found.image, is_relocatable)
+        made = labelling.made(head, found.entry, wanted, is_relocatable)
         if made:
+            made.summary += '; its code can be moved' if is_relocatable else '; its code stays at its addresses'
             return made
     raise Rejected('no source was found of which the program makes the same words')
 
@@ -81,7 +83,7 @@ def _of_object(program, text, wishes):
 def _flat(wanted):
     """The listing as it is, if no labelled source passed the check."""
     flat = wanted.flat()
-    if len(flat) > LIMIT or wanted.made(flat) != wanted.report:
+    if len(flat) > LIMIT or wanted.made(flat) != wanted.wanted:
         raise Rejected('no source was found of which the program makes the same bytes')
     return Labelled(flat, [], FLAT)
 
@@ -102,13 +104,13 @@ class Labelling:
         self.entries = [*self.wishes.entries, *self.headers.entries, *wishes.covered]
         self.listing = Listing(program, language, image)
 
-    def made(self, head, entry, listed=None):
-        """The labelled source, or None if it does not pass the check."""
+    def made(self, head, entry, wanted, is_relocatable=False):
+        """The labelled source, with more lines at its head, or None if it does not pass the check."""
         descent, odd = self._descent()
         addresses = Addresses(self.image, self.language, descent, self.headers, self.named, self.wishes)
         head = [HEAD.format(self.image.size, self.image.segments[0][0]), *head]
-        source = Source(addresses, self.named, head, entry, listed is not None and len(listed) > 1)
-        text, lowered = checked(source, Wanted(self.program, self.language, self.image, entry, listed))
+        source = Source(addresses, self.named, head, entry, is_relocatable)
+        text, lowered = checked(source, wanted)
         if text is None:
             return None
         return Labelled(text, doubts.found(addresses, self.listing.known, source.rows, odd),

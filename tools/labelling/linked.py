@@ -29,19 +29,15 @@ def links(program, text, orders):
 
 
 class Linked:
-    """An object as it is linked: `listed` has the reports by which it is known, one if its code does not move.
-
-    `moved` has the addresses of the words that are places in its code, and is None if nothing moves; `fixed` are the
-    names that do not move.
-    """
+    """An object as it is linked: its entry, its names and its image. `moved` has the addresses of the words that are
+    places in its code, and is None if nothing moves; `fixed` are the names that do not move."""
 
     def __init__(self, program, text):
         alone = report(program, 'link', given=text)
         apart, before = links(program, text, [['GAP', 'OBJECT'], ['OBJECT', 'LAST']])
-        self.listed = [alone] if apart in (None, alone) else [alone, apart]
         self.entry, self.names, self.image = of_link(alone)
         self.moved, self.fixed = None, set()
-        if len(self.listed) > 1:
+        if apart not in (None, alone):
             _, later_names, later = of_link(apart)
             self.fixed = {name for name, at in self.names if (name, at) in later_names}
             code = [(start, end) for start, end in self.image.segments

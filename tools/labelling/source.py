@@ -47,7 +47,7 @@ class Source:
             lines += [*before, self._line(row), *after]
             self.row_of_line += [None] * len(before) + [row] + [None] * len(after)
         lines.append('       END' if self.entry is None else f'       END {self._entry()}')
-        return '\n'.join([*lines, '']).encode('ascii')
+        return '\n'.join([*lines, '']).encode('latin-1')
 
     def _entry(self):
         name = self.labels.written(self.entry) if self.image.places[self.entry] else None
