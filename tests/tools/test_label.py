@@ -259,6 +259,20 @@ E MOVB *R14+,R1
             '       DEF  A,B', '       RORG >0000', '*', 'A      LI   R1,B', '       B    @A', 'B      DATA A',
             '       DATA >A000', '       END A'])
 
+    def test_free_places_of_an_object_are_kept(self):
+        source = b' DEF B,C\nA MOV @B,@C-2\n B @A\nB BSS 6\n DATA C+8\nC BSS 2\n END A\n'
+        lines, said = self.label('link', given=self.program.run('asm', given=source).out)
+        self.assertEqual([line[:38].rstrip() for line in lines[1:]], [
+            '       DEF  B,C', '       RORG >0000', '*', 'PA000  MOV  @B,@DA010', '       B    @PA000',
+            'B      BSS  6', 'DA010  DATA PA000+26', 'C      BSS  2', '       END PA000'])
+        self.assertIn('its code can be moved', said[-1])
+
+    def test_names_that_no_source_can_have_are_left_out(self):
+        text = b'00004        A0000B1000B10FF50000A-B   50002B     20000F\n:\n'
+        lines, said = self.label('link', given=text)
+        self.assertEqual(lines[1], '       DEF  B')
+        self.assertEqual(said[0], 'the name A-B is left out: no source can have it')
+
     def test_jumps_around_an_end_of_memory_are_words(self):
         lines, _ = self.label('dis', 'FFFC', given=b'\x13\x01\x10\xFF')
         self.assertIn('JEQ >0000', lines[2] + lines[3])

@@ -44,17 +44,17 @@ class OfImage:
 
 
 class OfObject:
-    """What has to come of the source of an object: what `link` lists of it, with the names that are kept, alone and, if
-    it is to be moved, after another module too. It is linked anew for that."""
+    """What has to come of the source of an object: what `link` lists of it, but for the names that are left out, alone
+    and, if it is to be moved, after another module too. It is linked anew for that."""
 
-    def __init__(self, program, text, names, image, is_relocatable):
-        self.program, self.names, self.image, self.is_relocatable = program, names, image, is_relocatable
+    def __init__(self, program, text, left_out, image, is_relocatable):
+        self.program, self.left_out, self.image, self.is_relocatable = program, left_out, image, is_relocatable
         self.wanted = self._linked(text)
 
     def _linked(self, text):
         listed = [report(self.program, 'link', given=text)]
         listed += links(self.program, text, [['GAP', 'OBJECT']] if self.is_relocatable else [])
-        return [it and without(it, self.names) for it in listed]
+        return [it and without(it, self.left_out) for it in listed]
 
     def made(self, source):
         return self._linked(report(self.program, 'asm', given=source))

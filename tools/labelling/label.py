@@ -70,11 +70,13 @@ def _of_object(program, text, wishes):
     wishes = dataclasses.replace(wishes, entries=[found.entry, *wishes.entries], moved=found.moved)
     labelling = Labelling(program, TMS, found.image, wishes)
     names = labelling.named.define(found.names, found.fixed)[:256]
+    left_out = [name for name, _ in found.names if name not in names]
     head = [f'       DEF  {",".join(names[i:i + 16])}' for i in range(0, len(names), 16)]
     for is_relocatable in [True, False] if found.moved is not None else [False]:
-        wanted = OfObject(program, text, names, found.image, is_relocatable)
+        wanted = OfObject(program, text, left_out, found.image, is_relocatable)
         made = labelling.made(head, found.entry, wanted, is_relocatable)
         if made:
+            made.doubts[:0] = [f'the name {name} is left out: no source can have it' for name in left_out]
             made.summary += '; its code can be moved' if is_relocatable else '; its code stays at its addresses'
             return made
     raise Rejected('no source was found of which the program makes the same words')

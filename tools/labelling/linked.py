@@ -61,8 +61,8 @@ class Linked:
         self.image = Image(segments, gaps, [RELOCATABLE] + [start for start, _ in code])
 
 
-def without(listed, kept):
-    """What `link` lists, without the names that are not kept."""
-    names = {name.encode() for name in kept}
-    return b''.join(line for line in listed.splitlines(keepends=True) if line.startswith((b'>', b'entry >'))
-                    or line.rpartition(b' >')[0] in names)
+def without(listed, names):
+    """What `link` lists, without some names."""
+    names = {name.encode('latin-1') for name in names}
+    return b''.join(line for i, line in enumerate(listed.splitlines(keepends=True))
+                    if i == 0 or line.rpartition(b' >')[0] not in names)

@@ -115,7 +115,7 @@ class Rows:
         return end
 
     def _free(self, at, cut):
-        row = Row(at, cut - at, self.labels.made.get(at, ''), [f'BSS  {cut - at}'])
+        row = Row(at, cut - at, self.labels.made.get(at, ''), [f'BSS {cut - at}'])
         row.is_whole = True
         self.rows.append(row)
 
@@ -193,7 +193,8 @@ class Rows:
             changes += self._cells(line.text, {it.start for it, _ in changes})
         forms = [replaced(line.text, changes), line.text] if changes else [line.text]
         note += ' takes bytes?' if at in self.descent.unsure else ''
-        if line.operation in self.language.near and abs(line.leads[0].address - at - 2) > self.language.reach:
+        is_near = line.operation in self.language.near and line.leads
+        if is_near and abs(line.leads[0].address - at - 2) > self.language.reach:
             # No source has a jump around an end of memory.
             forms, uses = [word_row(self.image.bytes(at, at + line.length))], []
             note = f' {line.text}'
