@@ -20,8 +20,8 @@ def fault(program, case, text):
 
 
 def fault_of_object(program, folder, object_, text, is_moved=True):
-    """What is wrong with the source of an object, or nothing: alone and, if it can be moved, after another module it has
-    to be linked to the same memory, with the same names."""
+    """What is wrong with the source of an object, or nothing: alone and, if it can be moved, after another module, it
+    has to be linked to the same memory, with the same names."""
     made = program.run('asm', given=text)
     if made.status:
         return made.fault

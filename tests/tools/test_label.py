@@ -259,6 +259,12 @@ E MOVB *R14+,R1
             '       DEF  A,B', '       RORG >0000', '*', 'A      LI   R1,B', '       B    @A', 'B      DATA A',
             '       DATA >A000', '       END A'])
 
+    def test_a_name_of_a_file_that_an_object_has_is_rejected(self):
+        self.file('names', b'>A002 A\n')
+        text = self.program.run('asm', given=b' DEF A\nA B @A\n END A\n').out
+        said = self.label('--names', 'names', 'link', given=text, status=1)[1]
+        self.assertEqual(said, ['names line 1: A: stands twice'])
+
     def test_free_places_of_an_object_are_kept(self):
         source = b' DEF B,C\nA MOV @B,@C-2\n B @A\nB BSS 6\n DATA C+8\nC BSS 2\n END A\n'
         lines, said = self.label('link', given=self.program.run('asm', given=source).out)

@@ -68,8 +68,8 @@ def _of_object(program, text, wishes):
     if not found.image.segments:
         raise Rejected('an object without words')
     wishes = dataclasses.replace(wishes, entries=[found.entry, *wishes.entries], moved=found.moved)
-    labelling = Labelling(program, TMS, found.image, wishes)
-    names = labelling.named.define(found.names, found.fixed)[:256]
+    labelling = Labelling(program, TMS, found.image, wishes, found)
+    names = labelling.defined[:256]
     left_out = [name for name, _ in found.names if name not in names]
     head = [f'       DEF  {",".join(names[i:i + 16])}' for i in range(0, len(names), 16)]
     for is_relocatable in [True, False] if found.moved is not None else [False]:
@@ -93,9 +93,10 @@ def _flat(wanted):
 class Labelling:
     """The way from an image to its source."""
 
-    def __init__(self, program, language, image, wishes):
+    def __init__(self, program, language, image, wishes, linked=None):
         self.program, self.language, self.image = program, language, image
         self.named = Named(program, language)
+        self.defined = self.named.define(linked.names, linked.fixed) if linked else []
         for name, text in wishes.names:
             self.named.read(name, text)
         self.headers = Headers(image, len(language.filler))

@@ -56,7 +56,7 @@ class Named:
             report(self.program, self.language.assembler, given=lines.encode('latin-1', 'replace'))
         except Rejected as rejected:
             found = re.fullmatch(r'line (\d+): (.*)', str(rejected))
-            if not found:
+            if not found or int(found[1]) > len(names):
                 raise
             return int(found[1]) - 1, found[2]
         return None

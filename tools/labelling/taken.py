@@ -45,9 +45,9 @@ class Taken:
 
 
 class Walk:
-    """The ways through one subroutine. A state of a way has the number that is taken on it by each register that holds
-    the return address; GPL has one, by whatever number. `returns` are the numbers at returns, and `left` those at which
-    a way leaves what is known."""
+    """The ways through one subroutine. The state of a way has the number that was taken on it, for each register that
+    holds the return address; in GPL there is one. `returns` has the numbers at returns, and `left` the ones at which a
+    way leaves what is known."""
 
     def __init__(self, taken, target, kind):
         self.taken, self.target, self.kind = taken, target, kind
