@@ -39,7 +39,13 @@ class Archive(Calling):
 
     def test_tab_separated_lines_have_a_head_and_no_sum(self):
         self.file('image.bin', IMAGE)
-        self.assertEqual(self.rows('--tsv')[1], ['name\tresult\tmore', 'image.bin\tsame\t6 bytes'])
+        self.assertEqual(self.rows('--tsv')[1], ['name\tresult\tmore\tlabel', 'image.bin\tsame\t6 bytes\t'])
+
+    def test_images_are_labelled_too_if_that_is_asked_for(self):
+        self.file('image.bin', IMAGE)
+        self.file('alone.a', b'S JMP $\n END S\n')
+        self.assertEqual(self.rows('--label')[1][:2], ['alone.a    linked     entry >A000',
+                                                       'image.bin  same       6 bytes      labelled and the same'])
 
     def test_names_are_shown_in_any_locale(self):
         self.file('pr\u00fcfung.bin', IMAGE)

@@ -14,8 +14,9 @@ from lib.version import version
 
 # the scripts of tools/ that users call as ti_bench-NAME, each with the folders of tools/ that it needs beside lib
 TOOLS = {
-    'archive': [],
+    'archive': ['labelling'],
     'assemble': [],
+    'label': ['labelling'],
     'raw': [],
     'screen': [],
 }
@@ -23,7 +24,7 @@ TOOLS = {
 SCRIPTS = ['install', 'launcher']
 # other files and folders
 OTHERS = ['CHANGELOG.md', 'CONTRIBUTING.md', 'LICENSE', 'README.md', 'docs', 'editors', 'examples']
-MANUAL = 'man/ti_bench.1'
+MANUALS = 'man'
 
 
 class File(typing.NamedTuple):
@@ -62,8 +63,8 @@ def kit(top=TOP):
 
 def files(program, top=TOP):
     """All files that are handed out, by their paths, with the program at the top."""
-    folders = ['lib', *(folder for needed in TOOLS.values() for folder in needed)]
-    named = [*(f'tools/{name}' for name in [*SCRIPTS, *TOOLS, *folders]), *OTHERS, MANUAL]
+    folders = ['lib', *sorted({folder for needed in TOOLS.values() for folder in needed})]
+    named = [*(f'tools/{name}' for name in [*SCRIPTS, *TOOLS, *folders]), *OTHERS, MANUALS]
     paths = {path for name in named for path in below(top, pathlib.Path(name))}
     found = {path: File((top / path).read_bytes(), os.access(top / path, os.X_OK)) for path in paths}
     found['ti_bench'] = File(pathlib.Path(program).read_bytes(), True)
@@ -78,8 +79,8 @@ def installed(found, name='ti_bench'):
     commands = {'ti_bench': 'launcher', **{f'ti_bench-{tool}': tool for tool in TOOLS}}
     placed = {f'bin/{command}': Link(f'lib/ti_bench/tools/{script}') for command, script in commands.items()}
     for path, file in found.items():
-        if path == MANUAL:
-            placed['share/man/man1/ti_bench.1'] = file
+        if path.startswith(f'{MANUALS}/'):
+            placed[f'share/man/man1/{pathlib.PurePath(path).name}'] = file
         elif path in ('ti_bench', 'VERSION') or path.startswith(('tools/', 'editors/')):
             placed[f'lib/ti_bench/{path}'] = file
         else:

@@ -1,0 +1,18 @@
+"""What the program answers, over bytes."""
+from lib.command import FAILED, UNREADABLE, Stopped
+
+LIMIT = 1048576      # bytes of an input
+
+
+class Rejected(Exception):
+    """An input that the program rejects, with its fault line; or one that is rejected here."""
+
+
+def report(program, *words, given=b'', folder=None):
+    """What the program writes for the words and the input, in a folder."""
+    run = program.run(*words, given=given, folder=folder)
+    if run.status == FAILED:
+        raise Rejected(run.fault)
+    if run.status:
+        raise Stopped(f'{program.path} {" ".join(words)}: status {run.status} {run.fault}'.rstrip(), UNREADABLE)
+    return run.out

@@ -1,0 +1,81 @@
+"""What is doubtful in a labelled source, in lines for a person: what might be an address, and what might be code."""
+MOST = 20            # lines of each kind
+LEAST = 4            # instructions that might be code
+
+
+def found(addresses, known, rows, odd):
+    """The lines of all doubts. `known` has lines of the listing by their addresses, and `odd` the addresses that a run
+    executed and that are not listed as instructions."""
+    calls = sorted(addresses.descent.unsure.items())
+    kinds = [[f'>{at:04X}: executed, but not listed as an instruction' for at in odd],
+             [f'>{at:04X}: it is not known how many bytes >{target:04X} takes after this call' for at, target in calls],
+             _values(addresses), _words(rows), _code(addresses, known, rows)]
+    return [line for lines in kinds for line in _few(lines)]
+
+
+def _few(lines):
+    return lines if len(lines) <= MOST else [*lines[:MOST - 1], f'and {len(lines) - MOST + 1} more of this kind']
+
+
+def _values(addresses):
+    """The values in instructions, each once."""
+    places = {}
+    for at, references in sorted(addresses.of.items()):
+        for it in references.doubtful:
+            places.setdefault(it.address, []).append(at)
+    return [f'>{found_at[0]:04X}: >{value:04X} might be an address'
+            + (f', and in {len(found_at) - 1} more instructions' if len(found_at) > 1 else '')
+            for value, found_at in places.items()]
+
+
+def _words(rows):
+    """The words of data that might be addresses, in adjacent rows together."""
+    marked = [(row.address, row.address + row.length) for row in rows if row.note.endswith('?') and row.is_data]
+    return [f'>{low:04X}-{high - 1:04X}: words that might be addresses' for low, high in _joined(marked)]
+
+
+def _joined(ranges):
+    """Ranges, with those as one that follow each other."""
+    found = []
+    for low, high in ranges:
+        if found and found[-1][1] == low:
+            low = found.pop()[0]
+        found.append((low, high))
+    return found
+
+
+def _code(addresses, known, rows):
+    """The first places in bytes that are not reached from which they are listed as instructions up to one that ends a
+    path."""
+    places = [_code_in(addresses, known, low, high) for low, high in _unreached(addresses, rows)]
+    return [f'>{at:04X}: might be code' for at in places if at is not None]
+
+
+def _unreached(addresses, rows):
+    """The ranges of bytes of which nothing is known, from each label on."""
+    known = {at for low, high in addresses.wishes.data + addresses.wishes.tables for at in range(low, high)}
+    known |= {at + more for at, count in addresses.descent.taken.items() for more in range(count)}
+    found = []
+    for row in rows:
+        is_plain = row.is_data and row.forms[0].startswith(('BYTE', 'DATA'))
+        if is_plain and row.address not in addresses.words and row.address not in known:
+            found += [[]] if row.label or not found else []
+            found[-1].append((row.address, row.address + row.length))
+    return [it for ranges in found for it in _joined(ranges)]
+
+
+def _code_in(addresses, known, low, high):
+    """Where instructions begin that look like a part of a program, or None."""
+    language, at, count = addresses.language, low, 0
+    while at < high:
+        line = known.get(at)
+        if line and line.is_code and all(addresses.image.held[it.address] for it in line.leads):
+            low, count = low if count else at, count + 1
+            if line.operation in language.ends:
+                if count >= LEAST and at + line.length <= high:
+                    return low
+                count = 0
+        else:
+            count = 0
+        at += line.length if line else 1
+    return None
