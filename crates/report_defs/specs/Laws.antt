@@ -1,5 +1,5 @@
 -- What holds of all reports.
-use Rattle.std.specs.Prelude.{◌≡◌, ℕ, ◌+◌, ◌%◌, ◌≤◌, ◌<◌, List, ◌++◌, length, None, Ok}
+use Rattle.std.specs.Prelude.{◌≡◌, ℕ, ◌+◌, ◌*◌, ◌%◌, ◌≤◌, ◌<◌, List, ◌++◌, length, None, Ok}
 use Rattle.std.specs.List.{concat}
 use Rattle.std.specs.FinMap.{empty}
 use Rattle.tms_defs.specs.Bytes.{HoldsBytes}
@@ -8,11 +8,12 @@ use Rattle.gpl_defs.specs.Image.{placed}
 use Rattle.gpl_source_defs.specs.Programs.{program_of_source}
 use Rattle.word_listings.specs.Law.{listed_module}
 use Rattle.report_defs.specs.declared.command.Command.{Command}
-use Rattle.report_defs.specs.declared.command.Command.TheVariants.{Asm, Dis}
+use Rattle.report_defs.specs.declared.command.Command.TheVariants.{Asm, Gasm, Dis, Gdis}
 use Rattle.report_defs.specs.declared.status.Status.{Status}
 use Rattle.report_defs.specs.declared.status.Status.TheVariants.{Done}
 use Rattle.report_defs.specs.GromListing.{image_listing}
-use Rattle.report_defs.specs.Report.{Report, Whole, Faulty, Rejected, asm_report, ReportOn, FrontOn}
+use Rattle.report_defs.specs.Report.{Report, Whole, Faulty, Rejected, asm_report, one_piece, largest_input, ReportOn}
+use Rattle.report_defs.specs.Report.{FrontOn}
 
 -- the law, which is proved: there is at most one report on each command and input
 abbrev pub OneReport : Type 0
@@ -45,6 +46,17 @@ ListedInputsComeBack =
     (at : ℕ) (input : List ℕ) → HoldsBytes (length input) input → at < 65536 → at + length input ≤ 65536
     → program_of_source (listed_text at input)
     ≡ Ok (record { image = placed empty at input; entry = None; names = predefined })
+
+-- The law, which is proved: what gdis writes of an input has at most 16 bytes for each byte of it, and 299 more; and the
+-- report of gasm on it is that input, if what is written is no larger than an input may be. So it is for each input of up
+-- to 65,517 bytes.
+abbrev pub ListedBytesComeBack : Type 0
+ListedBytesComeBack =
+    (at : ℕ) (input : List ℕ) (pieces : List (List ℕ))
+    → HoldsBytes (length input) input → at < 65536
+    → ReportOn (Gdis at) input (Whole Done pieces)
+    → (length (concat pieces) ≤ 16 * length input + 299)
+    × (length (concat pieces) ≤ largest_input → ReportOn Gasm (concat pieces) (Whole Done (one_piece input)))
 
 -- The law, which is proved: the report of asm on what dis writes of an input is the object text of the module that has
 -- its words at their addresses and nothing else; or the refusal of the first of its jumps that wraps around the ends of
