@@ -17,7 +17,9 @@ use Rattle.line_table.proofs.Joined.{source_gives_words}
 use Rattle.report_defs.proofs.OneReport.{one_report}
 use Rattle.report_defs.proofs.Fronts.{fronts_begin_reports}
 use Rattle.report_defs.proofs.ListedInputs.{listed_inputs_come_back}
+use Rattle.report_defs.proofs.ListedBytes.{listed_bytes_come_back}
 use Rattle.report_defs.proofs.ListedWords.{listed_words_come_back}
+use Rattle.report_defs.proofs.EnteredWords.{entered_words_come_back, entered_words_link}
 use Rattle.word_listings.proofs.LinkLaw.{entered_listings_link}
 use Rattle.word_listings.proofs.ListingLaw.{entered_listings_come_back}
 use Rattle.reports.specs.Outputs.{Outputs, WroteReport, MissedReport}
@@ -113,8 +115,11 @@ laws =
       one_answer = one_answer;
       interpreter = source_gives_words;
       machines = machines_match_steps;
-      listed_inputs = listed_inputs_come_back;
+      listed_bytes = listed_bytes_come_back;
       listed_words = listed_words_come_back;
-      entered_words = entered_listings_come_back;
-      linked_words = entered_listings_link;
+      entered_words = entered_words_come_back;
+      linked_words = entered_words_link;
+      listed_images = listed_inputs_come_back;
+      entered_modules = entered_listings_come_back;
+      linked_modules = entered_listings_link;
     }

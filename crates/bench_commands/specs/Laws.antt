@@ -11,7 +11,8 @@ use Rattle.report_defs.specs.declared.status.Status.{Status}
 use Rattle.report_defs.specs.declared.status.Status.TheVariants.{Memory}
 use Rattle.report_defs.specs.Commands.{reads}
 use Rattle.report_defs.specs.Report.{Report, status_of, ReportOn}
-use Rattle.report_defs.specs.Laws.{OneReport, FrontsBeginReports, ListedInputsComeBack, ListedWordsComeBack}
+use Rattle.report_defs.specs.Laws.{OneReport, FrontsBeginReports, ListedInputsComeBack, ListedBytesComeBack}
+use Rattle.report_defs.specs.Laws.{ListedWordsComeBack, EnteredWordsComeBack, EnteredWordsLink}
 use Rattle.reports.specs.Outputs.{Outputs, WroteReport}
 use Rattle.bench_commands.specs.Run.{Run, EndsBy}
 
@@ -64,7 +65,8 @@ OneAnswer =
 -- The laws of all runs. What is written before the end of a report is known begins the report. The words that the
 -- machine holds are the linked memory of the interpreter's source, and the machine after the first i turns of a program
 -- that is run matches its state after i steps, for each i up to the last. What gdis and dis list is assembled to what
--- was listed, also with an entry behind the listing of dis, and such a listing is linked to it.
+-- was listed, also with an entry behind END of a listing of dis, and such a listing is linked to it: as reports, and as
+-- the images and modules of sources, which have no limit of size.
 pub record LawsOfRuns : Type 0 where
   pub one_report : OneReport
   pub fronts : FrontsBeginReports
@@ -72,7 +74,10 @@ pub record LawsOfRuns : Type 0 where
   pub one_answer : OneAnswer
   pub interpreter : SourceGivesWords
   pub machines : MachinesMatchSteps
-  pub listed_inputs : ListedInputsComeBack
+  pub listed_bytes : ListedBytesComeBack
   pub listed_words : ListedWordsComeBack
-  pub entered_words : EnteredListingsComeBack
-  pub linked_words : EnteredListingsLink
+  pub entered_words : EnteredWordsComeBack
+  pub linked_words : EnteredWordsLink
+  pub listed_images : ListedInputsComeBack
+  pub entered_modules : EnteredListingsComeBack
+  pub linked_modules : EnteredListingsLink

@@ -3,4 +3,5 @@ pub mod GromBytes
 pub mod ListedInputs
 pub mod ListedBytes
 pub mod ListedWords
+pub mod EnteredWords
 pub mod Fronts
