@@ -1,5 +1,5 @@
 -- How a run with files ends.
-use Rattle.std.proofs.Common.{◌≡◌, ℕ, List, length, Option, Some, None, Bool, true, false, sym, subst, arith}
+use Rattle.std.proofs.Common.{◌≡◌, ℕ, List, length, Option, Some, None, Bool, true, false, inr, sym, subst, arith}
 use Rattle.std.specs.Prelude.{nat_lt, MatchBool, Result, Ok, Err}
 use Rattle.std.proofs.lemmas.Bool.Decides.{nat_tests}
 use Rattle.bench_io.specs.Stream.{SourceState}
@@ -32,7 +32,7 @@ use Rattle.report_defs.specs.Report.{Report, Faulty, Rejected, EnteredReport, Pr
 use Rattle.file_report_defs.specs.Watching.{ReportsWatch, watch_report}
 use Rattle.file_report_defs.specs.Words.{FileCommand, AsmFiles, LinkFiles, Watch, ProgramCommand, program_command}
 use Rattle.file_report_defs.specs.Whole.{WatchReport}
-use Rattle.file_commands.specs.Reported.{CopyReported}
+use Rattle.file_commands.specs.Reported.{CopyReported, CopyFails}
 use Rattle.reports.specs.Outputs.{EndsWith}
 use Rattle.bench_commands.specs.Run.{ReadsInput}
 use Rattle.bench_commands.proofs.Ends.{reads_whole}
@@ -149,6 +149,22 @@ module _ (run : FileRun) (source : List ℕ) (whole : ReadWhole largest_input ru
     same,
     rw (is_small run.input run.input' source whole) reported,
   )
+
+  pub asm_answered : (answer : Result Report Status)
+      → Reported (CopyReported run.shelf run.shelf' source) (CopyFails run.shelf run.shelf' source) answer → AnswersWith AsmFiles run answer
+  asm_answered (Ok report) reported =
+      (source, whole_reads run.input run.input' source whole, rw (is_small run.input run.input' source whole) reported)
+  asm_answered (Err status.Done) fails = absurd fails
+  asm_answered (Err status.Refused) fails = absurd fails
+  asm_answered (Err status.Usage) fails = absurd fails
+  asm_answered (Err status.ReadFault) (questions, dialogue, failed) = (
+    (whole_within run.input run.input' source whole, failed.within, inr (source, whole, questions, dialogue)),
+    inr (source, whole, questions, dialogue, failed),
+  )
+  asm_answered (Err status.WriteFault) fails = absurd fails
+  asm_answered (Err status.Memory) (questions, dialogue, within) =
+      (whole_within run.input run.input' source whole, within, inr (source, whole, questions, dialogue))
+  asm_answered (Err status.Stopped) fails = absurd fails
 
   pub watch_answered : (limit : ℕ) (items : List Item) (answer : Result Report Status) → run.shelf' ≡ run.shelf
       → Reported (WatchReport limit items source) WantsMemory answer → AnswersWith (Watch limit items) run answer

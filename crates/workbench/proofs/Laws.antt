@@ -1,9 +1,9 @@
 -- What holds of all runs with files.
 use Rattle.std.proofs.Common.{◌≡◌, ◌≢◌, ℕ, List, length, Option, Some, None, Bool, true, false, refl, sym, ap, ◌∙◌}
 use Rattle.std.proofs.Common.{subst, inl, inr}
-use Rattle.std.specs.Prelude.{IfSome, MatchBool, nat_lt}
+use Rattle.std.specs.Prelude.{MatchBool, nat_lt}
 use Rattle.source_defs.specs.Refusals.{◌>>=◌}
-use Rattle.shelf_defs.specs.Files.{Files}
+use Rattle.shelf_defs.specs.Files.{Files, of_files}
 use Rattle.shelf_defs.specs.Assembly.{module_of_files}
 use Rattle.watch_defs.proofs.FirstHits.{hits_are_first}
 use Rattle.watch_defs.proofs.Changes.{ranges_hold_by_their_bytes}
@@ -19,7 +19,9 @@ use Rattle.file_report_defs.specs.Words.{program_command}
 use Rattle.file_report_defs.specs.Whole.{AsmReport, WatchReport, ReportOver, ReportWith}
 use Rattle.file_report_defs.proofs.OneReport.{one_report_with}
 use Rattle.file_report_defs.proofs.ListedFiles.{listed_words_come_back_with}
+use Rattle.bench_shelf.proofs.FilesLaws.{module_of_shown}
 use Rattle.file_commands.specs.Reported.{CopyReported}
+use Rattle.file_commands.proofs.AskedLaws.{files_agree}
 use Rattle.bench_commands.specs.Run as plain
 use Rattle.reports.specs.Outputs.{WroteReport}
 use Rattle.bench_commands.specs.Run.{EndsBy}
@@ -41,8 +43,8 @@ asm_on_input run source report files told on = by (nat_lt largest_input (length 
         → MatchBool large (report ≡ Faulty TooLarge) (AsmReport files source report)
     by true on = on.0
     by false on =
-        let P : Option Files → Type 0 = λ f. IfSome f (λ files. on.answer ≡ module_of_files files source) in
-        let is : on.answer ≡ module_of_files files source = subst P told on.told in
+        let is : on.answer ≡ module_of_files files source =
+        module_of_shown run.shelf run.shelf' source (Some files) on.questions on.answer told on.dialogue on.gives in
         on.is ∙ ap copy_report is
 
 on_files : (command : FileCommand) (run : FileRun) (input : List ℕ) (files : Files) (report : Report)
@@ -51,8 +53,8 @@ on_files AsmFiles run input files report told (source, reading, on) =
     on_all (AsmReport files) run.input run.input' source input report told.0 reading
     (asm_on_input run source report files told.1 on)
 on_files (LinkFiles names) run input files report told (same, linked) =
-    let P : Option Files → Type 0 = λ f. IfSome f (λ files. linked.texts ≡ read_files files names) in
-    let is : linked.texts ≡ read_files files names = subst P told linked.told in
+    let agree = files_agree run.shelf run.shelf' names linked.questions linked.dialogue files told in
+    let is : linked.texts ≡ read_files files names = linked.gives (of_files files) agree in
     linked.is ∙ ap (λ texts. files_report (texts >>= linked_texts)) is
 on_files (Watch limit items) run input files report told (source, reading, same, on) =
     on_all (WatchReport limit items) run.input run.input' source input report told reading on
@@ -61,8 +63,8 @@ on_files (Watch limit items) run input files report told (source, reading, same,
 
 no_failure : (command : FileCommand) (run : FileRun) → ReadFailedWith command run → HasNoFaultWith run → ⊥
 no_failure AsmFiles run (inl failed) none = none.input failed.0
-no_failure AsmFiles run (inr failed) none = none.shelf failed.2
-no_failure (LinkFiles names) run failed none = none.shelf failed.0
+no_failure AsmFiles run (inr (source, whole, questions, dialogue, failed)) none = none.shelf failed.rose
+no_failure (LinkFiles names) run (questions, dialogue, failed) none = none.shelf failed.rose
 no_failure (Watch limit items) run failed none = none.input failed
 
 over : (command : FileCommand) (run : FileRun) (end : Status) → EndsOver command run end → HasNoFaultWith run

@@ -17,8 +17,10 @@ use Rattle.file_report_defs.specs.Whole.{WatchReport}
 use Rattle.shelf_defs.specs.Copied.{most_bytes, most_copies}
 use Rattle.bench_shelf.specs.States.{ShelfState}
 use Rattle.bench_shelf.specs.Causes.{TookNoMore}
-use Rattle.file_commands.specs.Reading.{StopsAt}
-use Rattle.file_commands.specs.Reported.{CopyReported, LinkReported}
+use Rattle.shelf_defs.specs.Questions.{Question}
+use Rattle.bench_shelf.specs.Dialogue.{CopyDialogue}
+use Rattle.file_commands.specs.Reading.{LinkDialogue}
+use Rattle.file_commands.specs.Reported.{Failed, CopyReported, LinkReported}
 use Rattle.reports.specs.Outputs.{Outputs, EndsWith}
 use Rattle.reports.specs.Answers.{EndsByLine}
 use Rattle.bench_commands.specs.Run.{Run, ReadsInput, EndsBy}
@@ -59,17 +61,22 @@ pub record TookWithin (before after : SourceState) : Type 0 where
   pub one : empty ≤ 1
   pub took : Took before after bytes empty
 
--- the shelf is as it was, unless the input was taken whole before
+-- The shelf is as it was, unless the input was taken whole before. Then it was asked for the files that the source
+-- copies, each as the next after the answers before.
 abbrev pub ReadsFirst : FileRun → Type 0
 ReadsFirst run =
-    (run.shelf' ≡ run.shelf) ⊎ ((source : List ℕ) × ReadWhole largest_input run.input run.input' source)
+    (run.shelf' ≡ run.shelf)
+    ⊎ ((source : List ℕ) × ReadWhole largest_input run.input run.input' source
+    × (questions : List Question) × CopyDialogue run.shelf run.shelf' source questions)
 
 -- What a run that wrote nothing leaves of the input and of the shelf. Of no file more bytes were taken than it may
--- have: else the file is told as too large. `asm` opens none before it has taken the input whole.
+-- have: else it is reported as too large. `asm` opens none before it has taken the input whole.
 abbrev pub Leaves : FileCommand → FileRun → Type 0
 Leaves AsmFiles run =
     TookWithin run.input run.input' × TookNoMore most_bytes run.shelf run.shelf' × ReadsFirst run
-Leaves (LinkFiles names) run = (run.input' ≡ run.input) × TookNoMore largest_input run.shelf run.shelf'
+Leaves (LinkFiles names) run =
+    (run.input' ≡ run.input) × TookNoMore largest_input run.shelf run.shelf'
+    × (questions : List Question) × LinkDialogue run.shelf run.shelf' names questions
 Leaves (Watch limit items) run = TookWithin run.input run.input' × (run.shelf' ≡ run.shelf)
 
 pub record WroteNothingWith (command : FileCommand) (run : FileRun) : Type 0 where
@@ -78,14 +85,16 @@ pub record WroteNothingWith (command : FileCommand) (run : FileRun) : Type 0 whe
   pub err : run.outputs.err' ≡ run.outputs.err
 
 -- A call failed of what the command reads: of the input, and then no file was opened; or of the shelf, which `asm` asks
--- for files when the input was taken whole. `link` asks for no file behind the one at which the shelf failed.
+-- for files after the input was taken whole, at the file that was asked for last.
 abbrev pub ReadFailedWith : FileCommand → FileRun → Type 0
 ReadFailedWith AsmFiles run =
     (Rose run.input.faults run.input'.faults × (run.shelf' ≡ run.shelf))
     ⊎ ((source : List ℕ) × ReadWhole largest_input run.input run.input' source
-    × Rose run.shelf.source.faults run.shelf'.source.faults)
+    × (questions : List Question) × CopyDialogue run.shelf run.shelf' source questions
+    × Failed most_bytes run.shelf run.shelf' questions)
 ReadFailedWith (LinkFiles names) run =
-    Rose run.shelf.source.faults run.shelf'.source.faults × (name : List ℕ) × StopsAt names name run.shelf run.shelf'
+    (questions : List Question) × LinkDialogue run.shelf run.shelf' names questions
+    × Failed largest_input run.shelf run.shelf' questions
 ReadFailedWith (Watch limit items) run = Rose run.input.faults run.input'.faults
 
 -- the run ended by the writing of its report, whole or up to where an output failed
@@ -125,7 +134,7 @@ EndsFileRun words run end = EndsSaid (program_command words) run end
 
 -- What is taken of a shelf at most, whatever the status: for each COPY line that may be followed, and for each file of
 -- `link`, one file is asked for, and one byte more is taken than it may have. Each other command, and words that are no
--- command, leave the shelf as it was, also the count of files that were asked for.
+-- command, leave the shelf as it was, also the count of files that were asked for. It follows from how a run ends.
 abbrev pub TakesOfShelf : Option ProgramCommand → ShelfState → ShelfState → Type 0
 TakesOfShelf None before after = after ≡ before
 TakesOfShelf (Some (OverFiles AsmFiles)) before after =

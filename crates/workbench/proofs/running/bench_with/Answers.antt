@@ -4,6 +4,7 @@ use Rattle.reports.specs.Answers.{answer}
 use Rattle.workbench.specs.Asked.{defined_over}
 use Rattle.workbench.specs.FileRun.{FileRun}
 use Rattle.workbench.proofs.Ends.{ends_as, ends_over}
+use Rattle.workbench.proofs.Taking.{takes_of_shelf}
 use Rattle.workbench.proofs.running.bench_with.Goals as goal
 
 pub returns-in-Some-OverFiles-clause-ends : goal.returns-in-Some-OverFiles-clause-ends
@@ -22,6 +23,10 @@ returns-in-Some-OverFiles-clause-ends g c =
     let said = rw c.in-Some-OverFiles.field-0-is at c.in-Some-OverFiles.ensures.command in
     ends_as c.args.words.now (Some (OverFiles command)) run c.finish.result said
     (ends_over command run (answer c.report_over.result) c.finish.result (c.report_over.ensures.answers run.outputs) c.finish.ensures)
+
+pub returns-in-Some-OverFiles-clause-shelf : goal.returns-in-Some-OverFiles-clause-shelf
+returns-in-Some-OverFiles-clause-shelf g c =
+    takes_of_shelf c.args.words.now _ c.finish.result (returns-in-Some-OverFiles-clause-ends g c)
 
 pub returns-in-Some-Plain-clause-ends : goal.returns-in-Some-Plain-clause-ends
 returns-in-Some-Plain-clause-ends g c =
