@@ -50,7 +50,7 @@ on_all Accepted before after bytes input report told reading on = left after.lef
         by rest is all (nat_lt largest_input (length bytes)) refl on
 
 -- the report of a command on what it took is the report on what was shown
-shown : (command : Command) (before after : SourceState) (input : List ℕ) (report : Report) → Shows command before input
+pub shown : (command : Command) (before after : SourceState) (input : List ℕ) (report : Report) → Shows command before input
     → Reports command before after report → ReportOn command input report
 shown command before after input report shows (bytes, reading, on) = by (reads command) shows reading
   where
