@@ -17,7 +17,7 @@ use Rattle.reports.specs.Outputs.{Outputs, MissedReport, EndsWith}
 use Rattle.reports.specs.Answers.{Ends, read_answer}
 use Rattle.reports.specs.Run.{Run, EndsBy, WroteNothing}
 use Rattle.reports.proofs.Runs as runs
-use Rattle.bench_commands.specs.Bench.{ReadsInput, Reads, TakesWhole, TookWithin, Reports, Begins, Leaves, bench_program}
+use Rattle.bench_commands.specs.Bench.{ReadsInput, Reads, TakesWhole, Reports, Begins, Leaves, bench_program}
 use Rattle.bench_commands.proofs.NoUsage.{no_usage}
 
 -- an input that was taken whole

@@ -1,5 +1,5 @@
 -- How a run with files ends.
-use Rattle.std.proofs.Common.{◌≡◌, ℕ, List, length, Option, Some, None, Bool, true, false, refl, sym, ap, subst, inl, inr, arith}
+use Rattle.std.proofs.Common.{◌≡◌, ℕ, List, length, Some, Bool, true, false, refl, sym, subst, inl, inr, arith}
 use Rattle.std.specs.Prelude.{nat_lt, MatchBool, Result, Ok, Err}
 use Rattle.std.proofs.lemmas.Bool.Decides.{nat_tests}
 use Rattle.bench_io.specs.Stream.{SourceState}
@@ -29,15 +29,14 @@ use Rattle.file_report_defs.specs.Words.{FileCommand, AsmFiles, LinkFiles, Watch
 use Rattle.report_defs.specs.Report.{Report, Faulty, ProgramReport, largest_input}
 use Rattle.bench_shelf.specs.States.{ShelfState}
 use Rattle.file_commands.specs.Reported.{CopyReported, CopyFails}
-use Rattle.reports.specs.Outputs.{Outputs, EndsWith}
+use Rattle.reports.specs.Outputs.{Outputs}
 use Rattle.reports.specs.Answers.{Ends, WantsMemory, Reported}
 use Rattle.reports.specs.Run.{Run, EndsSaid}
 use Rattle.reports.proofs.Runs.{by_report}
 use Rattle.reports.proofs.NoUsage.{IsNoUsage, same_no_usage, program_no_usage, large_no_usage, source_no_usage}
 use Rattle.bench_commands.specs.Bench.{TookWithin, bench_program}
 use Rattle.bench_commands.proofs.Ends.{reads_whole}
-use Rattle.bench_commands.proofs.NoUsage as bench
-use Rattle.workbench.specs.FileProgram.{Reading, AsmOn, Reports, file_program}
+use Rattle.workbench.specs.FileProgram.{Reading, Reports, file_program}
 use Rattle.workbench.specs.Answered.{FailsWith, AnswersWith}
 
 -- ---- no report has the status of words that say no command
