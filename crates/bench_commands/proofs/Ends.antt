@@ -1,7 +1,7 @@
--- How a run ends by its report.
-use Rattle.std.proofs.Common.{◌≡◌, List, length, Option, Some, None, Bool, true, false, [], refl, sym, ap, subst, inl, inr, arith, rules}
-use Rattle.std.proofs.Common.{ℕ, ◌≤◌}
-use Rattle.std.specs.Prelude.{nat_lt, unwrap_or}
+-- How a run of a command of `bench` ends.
+use Rattle.std.proofs.Common.{◌≡◌, List, length, Bool, true, false, [], refl, sym, subst, inl, inr, arith, rules}
+use Rattle.std.proofs.Common.{ℕ, ◌≤◌, Some, None}
+use Rattle.std.specs.Prelude.{nat_lt, IsTrue}
 use Rattle.std.proofs.lemmas.Bool.Decides.{nat_tests}
 use Rattle.bench_io.specs.Stream.{SourceState}
 use Rattle.bench_io.specs.ReadAll.{Took, GaveUp}
@@ -15,21 +15,10 @@ use Rattle.report_defs.specs.Commands.{reads}
 use Rattle.report_defs.specs.Report as spec
 use Rattle.reports.specs.Outputs.{Outputs, MissedReport, EndsWith}
 use Rattle.reports.specs.Answers.{Ends, read_answer}
-use Rattle.bench_commands.specs.Run.{Run, ReadsInput, Reads, TakesWhole, ReportsOn, Reports, BeginsOn, EndsBy, LeavesInput, WroteNothing}
-
--- a run ends as the writing of its report
-pub by_report : (run : Run) (report : spec.Report) (s : Status) → Reports run report → EndsWith run.outputs report s → EndsBy run s
-by_report run report status.Done reports ends = (report, reports, ends)
-by_report run report status.Refused reports ends = (report, reports, ends)
-by_report run report status.Usage reports ends = (report, reports, ends)
-by_report run report status.ReadFault reports ends = absurd ends
-by_report run report status.WriteFault reports ends = inl (report, reports, ends)
-by_report run report status.Memory reports ends = absurd ends
-by_report run report status.Stopped reports ends = (report, reports, ends)
-
--- a run whose output failed at a front of its report
-pub by_front : (run : Run) (front : spec.Report) → BeginsOn run.said run front → MissedReport run.outputs front → EndsBy run status.WriteFault
-by_front run front begins missed = inr (front, begins, missed)
+use Rattle.reports.specs.Run.{Run, EndsBy, WroteNothing}
+use Rattle.reports.proofs.Runs as runs
+use Rattle.bench_commands.specs.Bench.{ReadsInput, Reads, TakesWhole, Reports, Begins, Leaves, bench_program}
+use Rattle.bench_commands.proofs.NoUsage.{no_usage}
 
 -- an input that was taken whole
 pub reads_whole : (reading : Bool) (before after : SourceState) (bytes : List ℕ) → TakesWhole reading before after bytes → Reads reading before after bytes
@@ -43,63 +32,71 @@ pub takes_within : (reading : Bool) (before after : SourceState) (bytes : List �
 takes_within true before after bytes whole = whole.within
 takes_within false before after bytes nothing = rw nothing.1 (omega arith)
 
--- an input that is too large
-pub reads_too_much : (run : Run) (command : Command) → reads command ≡ true → GaveUp error.TooLarge spec.largest_input run.input run.input' → ReportsOn (Some command) run (spec.Faulty fault.TooLarge)
-reads_too_much run command reading (bytes, long, took, most) =
-    let above : nat_lt spec.largest_input (length bytes) ≡ true = grind (arith, nat_tests) in
-    let input : ReadsInput run.input run.input' bytes = record { took = rw above took; within = omega arith; whole = λ le. absurd (omega arith) } in
-    (bytes, rw reading input, rw above refl)
-
--- words that are no command
-pub reports_usage : (run : Run) → None ≡ run.said → run.input' ≡ run.input → Reports run (spec.Faulty fault.Usage)
-reports_usage run is same =
-    let P : Option Command → Type 0 = λ found. ReportsOn found run (spec.Faulty fault.Usage) in
-    subst P is (refl, same)
-
 took_nothing : (input : SourceState) → Took input input [] 0
 took_nothing input = search rules
 
 -- the run of a command
 module _ (command : Command) (input input' : SourceState) (o : Outputs) where
-  abbrev pub run_of : Run
-  run_of = record { said = Some command; input = input; input' = input'; outputs = o }
+  abbrev pub run_of : Run Command SourceState
+  run_of = record { said = Some command; before = input; after = input'; outputs = o }
 
-  same_reads : (other : Command) → Some command ≡ Some other → reads command ≡ reads other
-  same_reads other same = ap (λ (found : Option Command). reads (unwrap_or found command)) same
+  -- it ends as the writing of its report
+  pub by_report : (report : spec.Report) (end : Status) → Reports command input input' report → EndsWith o report end
+      → EndsBy bench_program run_of end
+  by_report report end (bytes, reading, on) ends =
+      runs.by_report bench_program command run_of report end (bytes, reading, on) (no_usage command bytes report on) ends
 
-  -- nothing was written, and no more was taken of the input than an input may have
-  wrote_none : (bytes : List ℕ) (empty : ℕ) → reads command ≡ true → length bytes ≤ spec.largest_input → empty ≤ 1
-      → Took input input' bytes empty → o.out' ≡ o.out → o.err' ≡ o.err → WroteNothing run_of
-  wrote_none bytes empty reading within one took out err =
-      let unread : LeavesInput run_of = λ other said unread. absurd (let same = same_reads other said in cc) in
-      record { command = refl; bytes = bytes; within = within; empty = empty; one = one; took = took; unread = unread; out = out; err = err }
+  -- or its output failed at a front of it
+  pub by_front : (front : spec.Report) → Begins command input input' front → MissedReport o front
+      → EndsBy bench_program run_of status.WriteFault
+  by_front front begins missed = inr (front, begins, missed)
+
+  -- an input that is too large
+  reads_too_much : IsTrue (reads command) → GaveUp error.TooLarge spec.largest_input input input'
+      → Reports command input input' (spec.Faulty fault.TooLarge)
+  reads_too_much reading (bytes, long, took, most) =
+      let above : nat_lt spec.largest_input (length bytes) ≡ true = grind (arith, nat_tests) in
+      let reads_it : ReadsInput input input' bytes = record { took = rw above took; within = omega arith; whole = λ le. absurd (omega arith) } in
+      (bytes, rw reading reads_it, rw above refl)
+
+  -- what was taken of an input that is read
+  leaves : (bytes : List ℕ) (empty : ℕ) → IsTrue (reads command) → length bytes ≤ spec.largest_input → empty ≤ 1
+      → Took input input' bytes empty → Leaves command input input'
+  leaves bytes empty reading within one took =
+      (record { bytes = bytes; within = within; empty = empty; one = one; took = took }, λ unread. absurd cc)
+
+  wrote_none : Leaves command input input' → o.out' ≡ o.out → o.err' ≡ o.err → WroteNothing bench_program command run_of
+  wrote_none leaves out err = record { leaves = leaves; out = out; err = err }
 
   -- or it was taken whole
-  pub wrote_nothing : (bytes : List ℕ) → TakesWhole (reads command) input input' bytes → o.out' ≡ o.out → o.err' ≡ o.err → WroteNothing run_of
-  wrote_nothing bytes takes out err = by (reads command) refl takes
+  pub wrote_nothing : (bytes : List ℕ) → TakesWhole (reads command) input input' bytes → o.out' ≡ o.out → o.err' ≡ o.err
+      → WroteNothing bench_program command run_of
+  wrote_nothing bytes takes out err = wrote_none (by (reads command) refl takes) out err
     where
-      by : (reading : Bool) → reads command ≡ reading → TakesWhole reading input input' bytes → WroteNothing run_of
-      by true reading whole = wrote_none bytes 1 reading whole.within (omega arith) whole.took out err
+      by : (reading : Bool) → reads command ≡ reading → TakesWhole reading input input' bytes → Leaves command input input'
+      by true reading whole = leaves bytes 1 reading whole.within (omega arith) whole.took
       by false reading nothing =
           let took : Took input input' [] 0 = subst (λ (after : SourceState). Took input after [] 0) (sym nothing.0) (took_nothing input) in
-          record {
-            command = refl;
-            bytes = [];
-            within = omega arith;
-            empty = 0;
-            one = omega arith;
-            took = took;
-            unread = λ other said unread. nothing.0;
-            out = out;
-            err = err;
-          }
+          (record { bytes = []; within = omega arith; empty = 0; one = omega arith; took = took }, λ unread. nothing.0)
 
   -- the input was not read
-  pub by_unread : (unread : ReadError) (s : Status) → reads command ≡ true → GaveUp unread spec.largest_input input input'
-      → Ends o (read_answer unread) s → EndsBy run_of s
-  by_unread error.TooLarge s reading gave ends = by_report run_of (spec.Faulty fault.TooLarge) s (reads_too_much run_of command reading gave) ends
-  by_unread error.Fault s reading (bytes, within, took, rose) (is, out, err) =
-      subst (EndsBy run_of) (sym is)
-      (wrote_none bytes 1 reading within (omega arith) took out err, record { command = command; said = refl; reading = reading; rose = rose })
-  by_unread error.Memory s reading (bytes, within, took) (is, out, err) =
-      subst (EndsBy run_of) (sym is) (wrote_none bytes 0 reading within (omega arith) took out err)
+  pub by_unread : (unread : ReadError) (end : Status) → IsTrue (reads command) → GaveUp unread spec.largest_input input input'
+      → Ends o (read_answer unread) end → EndsBy bench_program run_of end
+  by_unread error.TooLarge end reading gave ends = by_report (spec.Faulty fault.TooLarge) end (reads_too_much reading gave) ends
+  by_unread error.Fault end reading (bytes, within, took, rose) (is, out, err) =
+      subst (EndsBy bench_program run_of) (sym is)
+      (wrote_none (leaves bytes 1 reading within (omega arith) took) out err, (reading, rose))
+  by_unread error.Memory end reading (bytes, within, took) (is, out, err) =
+      subst (EndsBy bench_program run_of) (sym is)
+      (wrote_none (leaves bytes 0 reading within (omega arith) took) out err)
+
+-- words that say no command
+pub by_usage : (input : SourceState) (o : Outputs) (end : Status) → EndsWith o (spec.Faulty fault.Usage) end
+    → EndsBy bench_program (record { said = None; before = input; after = input; outputs = o }) end
+by_usage input o status.Done ends = absurd (let is = ends.0 in cc)
+by_usage input o status.Refused ends = absurd (let is = ends.0 in cc)
+by_usage input o status.Usage (is, (wrote, out)) = record { unread = refl; out = out; line = inl (refl, wrote) }
+by_usage input o status.ReadFault ends = absurd ends
+by_usage input o status.WriteFault (missed, out) = record { unread = refl; out = out; line = inr (refl, missed) }
+by_usage input o status.Memory ends = absurd ends
+by_usage input o status.Stopped ends = absurd (let is = ends.0 in cc)

@@ -1,6 +1,7 @@
+pub mod NoUsage
 pub mod Ends
 pub mod Programs
-pub mod Uniqueness
+pub mod Laws
 pub mod Loading
 pub mod Tracing
 pub mod Steadily

@@ -32,7 +32,8 @@ use Rattle.bench_commands.specs.declared.prepared.Prepared.TheVariants as prepar
 use Rattle.reports.specs.Made.{defined_report}
 use Rattle.reports.specs.Outputs.{Outputs, EndsWith}
 use Rattle.reports.specs.Answers.{Ends, WantsMemory, Reported}
-use Rattle.bench_commands.specs.Run.{Run, Reads, TakesWhole, EndsBy}
+use Rattle.reports.specs.Run.{Run, EndsBy}
+use Rattle.bench_commands.specs.Bench.{Reads, TakesWhole, bench_program}
 use Rattle.bench_commands.specs.Loaded.{LoadsEntered}
 use Rattle.bench_commands.specs.Traced.{Started, TracesSource, TracesWhole, EndsTrace, Prepares, Finishes}
 use Rattle.bench_commands.proofs.Ends.{run_of, by_report, by_front, reads_whole, takes_within, wrote_nothing}
@@ -102,7 +103,7 @@ on_accepted command input report within accepted =
 
 -- a run ends as what its command made
 module _ (command : Command) (input input' : SourceState) (o : Outputs) (bytes : List ℕ) (takes : TakesWhole (reads command) input input' bytes) where
-  abbrev whole_run : Run
+  abbrev whole_run : Run Command SourceState
   whole_run = run_of command input input' o
 
   reading : Reads (reads command) input input' bytes
@@ -112,12 +113,12 @@ module _ (command : Command) (input input' : SourceState) (o : Outputs) (bytes :
   within = takes_within (reads command) input input' bytes takes
 
   pub by_answer : (answer : Result spec.Report Status) (st : Status) → Reported (spec.AcceptedReport command bytes) WantsMemory answer
-      → Ends o answer st → EndsBy whole_run st
-  by_answer (Ok report) st accepted ends = by_report whole_run report st (bytes, reading, on_accepted command bytes report within accepted) ends
-  by_answer (Err own) st memory (is, out, err) = subst (EndsBy whole_run) (sym (is ∙ memory)) (wrote_nothing command input input' o bytes takes out err)
+      → Ends o answer st → EndsBy bench_program whole_run st
+  by_answer (Ok report) st accepted ends = by_report command input input' o report st (bytes, reading, on_accepted command bytes report within accepted) ends
+  by_answer (Err own) st memory (is, out, err) = subst (EndsBy bench_program whole_run) (sym (is ∙ memory)) (wrote_nothing command input input' o bytes takes out err)
 
   by_trace : (trace : Trace) (st : Status) → command ≡ asked.Trace trace.limit → TracesSource bytes trace
-      → Finishes o (prepared.Trace trace) st → EndsBy whole_run st
+      → Finishes o (prepared.Trace trace) st → EndsBy bench_program whole_run st
   by_trace trace st is t (inl w) =
       let report = whole_from bytes trace t (seen trace.session) w.left in
       let accepted = whole_reported bytes trace t o st w in
@@ -125,9 +126,9 @@ module _ (command : Command) (input input' : SourceState) (o : Outputs) (bytes :
   by_trace trace st is t (inr b) =
       let front = front_from bytes trace t (seen trace.session) in
       let on : spec.FrontOn command bytes front = subst (λ (k : Command). spec.FrontOn k bytes front) (sym is) (front_reported bytes trace t within) in
-      subst (EndsBy whole_run) (sym b.is) (by_front whole_run front (bytes, reading, on) (b.missed, b.silent))
+      subst (EndsBy bench_program whole_run) (sym b.is) (by_front command input input' o front (bytes, reading, on) (b.missed, b.silent))
 
-  pub by_prepared : (p : Prepared) (st : Status) → Prepares command bytes (Ok p) → Finishes o p st → EndsBy whole_run st
+  pub by_prepared : (p : Prepared) (st : Status) → Prepares command bytes (Ok p) → Finishes o p st → EndsBy bench_program whole_run st
   by_prepared (prepared.Report report) st accepted ends = by_answer (Ok (defined_report report)) st accepted ends
   by_prepared (prepared.Trace trace) st on ends = by_trace trace st on.0 on.1 ends
 

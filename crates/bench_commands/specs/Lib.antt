@@ -1,5 +1,5 @@
 pub mod LinkedInput
-pub mod Run
+pub mod Bench
 pub mod Ran
 pub mod Loaded
 pub mod Traced

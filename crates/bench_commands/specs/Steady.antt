@@ -1,14 +1,18 @@
 -- The program over an input and outputs that never fail.
-use Rattle.std.specs.Prelude.{◌≡◌, ◌⊎◌, ℕ, List, Option, Some, None}
+use Rattle.std.specs.Prelude.{◌≡◌, ◌⊎◌, ℕ, if◌then◌else◌, List, [], Option, Some, None}
 use Rattle.bench_io.specs.Stream.{SourceState, SinkState, opened_once}
 use Rattle.bench_io.specs.Memory.{Supply}
 use Rattle.report_defs.specs.declared.command.Command.{Command}
 use Rattle.report_defs.specs.declared.status.Status.{Status}
 use Rattle.report_defs.specs.declared.status.Status.TheVariants.{Usage, Memory}
-use Rattle.report_defs.specs.Commands.{command_of}
+use Rattle.report_defs.specs.Commands.{command_of, reads}
 use Rattle.report_defs.specs.Report.{Report, status_of, ReportOn}
-use Rattle.bench_commands.specs.Run.{EndsBy}
-use Rattle.bench_commands.specs.Laws.{read_of}
+use Rattle.reports.specs.Run.{EndsBy}
+use Rattle.bench_commands.specs.Bench.{bench_program}
+
+-- the bytes that a command reports on, of an input of these bytes
+abbrev pub read_of : Command → List ℕ → List ℕ
+read_of command input = if reads command then input else []
 
 -- The status of the report on all bytes of the input, of which there is one.
 abbrev pub HasReportStatus : Command → List ℕ → Status → Type 0
@@ -33,9 +37,9 @@ steady_sink puts = record { held = None; puts = puts; faults = 0 }
 pub record EndsSteadily (words : List (List ℕ)) (input input' : Supply) (status : Status) : Type 0 where
   pub out : ℕ
   pub err : ℕ
-  pub ends : EndsBy (record {
+  pub ends : EndsBy bench_program (record {
     said = command_of words;
-    input = steady_source input;
-    input' = steady_source input';
+    before = steady_source input;
+    after = steady_source input';
     outputs = record { out = steady_sink 0; out' = steady_sink out; err = steady_sink 0; err' = steady_sink err };
   }) status

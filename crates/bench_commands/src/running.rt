@@ -2,8 +2,9 @@
 
 ghost use Rattle.std.specs.Prelude.{Some};
 ghost use Rattle.report_defs.specs.Commands.{command_of, KeepsLimit};
+ghost use Rattle.reports.specs.Run.{EndsBy};
+ghost use Rattle.bench_commands.specs.Bench.{bench_program};
 ghost use Rattle.bench_commands.specs.Laws.{LawsOfRuns};
-ghost use Rattle.bench_commands.specs.Run.{EndsBy};
 
 use crate::commands::prepare;
 use crate::input::take_input;
@@ -23,7 +24,7 @@ use std::alloc::Global;
 /// the machine holds are the linked memory of the interpreter's source, and that for each i up to the last step of a
 /// program that is run the machine after the first i turns matches its state after i steps; and that what `gdis` and
 /// `dis` list is assembled to what was listed.
-#[tactic(auto, using(crate::proofs::Uniqueness::laws))]
+#[tactic(auto, using(crate::proofs::Laws::laws))]
 pub fn bench<S: Source, O: Sink, E: Sink>(
     alloc: Global,
     words: &Words,
@@ -32,10 +33,10 @@ pub fn bench<S: Source, O: Sink, E: Sink>(
     err: &mut E,
 ) -> Status
     ensures laws { LawsOfRuns }
-    ensures ends { EndsBy (record {
+    ensures ends { EndsBy bench_program (record {
       said = command_of words.now;
-      input = S.state input.old;
-      input' = S.state input.new;
+      before = S.state input.old;
+      after = S.state input.new;
       outputs = record {
         out = O.state out.old;
         out' = O.state out.new;
@@ -59,10 +60,10 @@ pub fn run_command<S: Source, O: Sink, E: Sink>(
     err: &mut E,
 ) -> Status
     requires { KeepsLimit command }
-    ensures { EndsBy (record {
+    ensures { EndsBy bench_program (record {
       said = Some command;
-      input = S.state input.old;
-      input' = S.state input.new;
+      before = S.state input.old;
+      after = S.state input.new;
       outputs = record {
         out = O.state out.old;
         out' = O.state out.new;

@@ -72,7 +72,7 @@ unfolding word_digits
 rest_short n None = lit≤ tt
 rest_short n (Some i) = lit≤ tt
 
-operand_short : (operand : GplOperand) → length (operand_text operand) ≤ 15
+pub operand_short : (operand : GplOperand) → length (operand_text operand) ≤ 15
 unfolding operand_text
 operand_short operand = by operand.space operand.indirect
   where
@@ -83,29 +83,29 @@ operand_short operand = by operand.space operand.indirect
     by Vdp false = omega (arith, rest_short (shown_address operand.space operand.indirect operand.address) operand.index)
     by _ _ = omega (arith, rest_short (shown_address operand.space operand.indirect operand.address) operand.index)
 
-word_short : (n : ℕ) → length (marked_word n) ≤ 15
+pub word_short : (n : ℕ) → length (marked_word n) ≤ 15
 unfolding word_digits
 word_short n = lit≤ tt
 
-byte_short : (n : ℕ) → length (marked_byte n) ≤ 15
+pub byte_short : (n : ℕ) → length (marked_byte n) ≤ 15
 unfolding byte_digits
 byte_short n = lit≤ tt
 
-source_short : (word : Bool) (src : GplSource) → length (source_text word src) ≤ 15
+pub source_short : (word : Bool) (src : GplSource) → length (source_text word src) ≤ 15
 source_short word (source.At operand) = operand_short operand
 source_short true (source.Immediate value) = word_short value
 source_short false (source.Immediate value) = byte_short value
 
-length_short : (counted : MoveLength) → length (length_text counted) ≤ 15
+pub length_short : (counted : MoveLength) → length (length_text counted) ≤ 15
 length_short (count.At operand) = operand_short operand
 length_short (count.Immediate number) = word_short number
 
-target_short : (to : MoveTarget) → length (target_text to) ≤ 15
+pub target_short : (to : MoveTarget) → length (target_text to) ≤ 15
 unfolding byte_digits
 target_short (target.At operand) = operand_short operand
 target_short (target.Register number) = lit≤ tt
 
-from_short : (source : MoveSource) → length (from_text source) ≤ 15
+pub from_short : (source : MoveSource) → length (from_text source) ≤ 15
 unfolding word_digits
 from_short (from.At operand) = operand_short operand
 from_short (from.Grom address) = lit≤ tt

@@ -10,3 +10,4 @@ pub mod PlacingLaws
 pub mod StateLaws
 pub mod EntryLaws
 pub mod ListingLaw
+pub mod LengthLaws

@@ -1,5 +1,5 @@
 -- What is listed is assembled again.
-use Rattle.std.specs.Prelude.{◌≡◌, ℕ, ◌<◌, ◌≤◌, List, slice_range, None, Ok}
+use Rattle.std.specs.Prelude.{◌≡◌, ℕ, ◌+◌, ◌-◌, ◌*◌, ◌<◌, ◌≤◌, List, length, slice_range, None, Ok}
 use Rattle.std.specs.List.{concat}
 use Rattle.std.specs.FinMap.{empty}
 use Rattle.tms_defs.specs.Bytes.{HoldsBytes}
@@ -15,3 +15,10 @@ ListingsComeBack =
     (image : List ℕ) (low high : ℕ) → HoldsBytes 65536 image → low < 65536 → low ≤ high → high ≤ 65536 →
     program_of_source (concat (grom_listing image low high))
     ≡ Ok (record { image = placed empty low (slice_range image low high); entry = None; names = predefined })
+
+-- The law, which is proved: a listing has at most 16 bytes for each byte that it lists, and 299 more. So has one of BYTE
+-- alone over all eight GROMs.
+abbrev pub ListingsAreShort : Type 0
+ListingsAreShort =
+    (image : List ℕ) (low high : ℕ) → HoldsBytes 65536 image → low ≤ high → high ≤ 65536 →
+    length (concat (grom_listing image low high)) ≤ 16 * (high - low) + 299

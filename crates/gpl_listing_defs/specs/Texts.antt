@@ -2,7 +2,7 @@
 --
 -- Profile: values and addresses are hexadecimal words, and bytes have two digits; BR and BS name their target's
 -- address.
-use Rattle.std.specs.Prelude.{ℕ, ◌+◌, ◌*◌, ◌/◌, ◌%◌, Bool, true, false, List, [], ◌++◌, codes}
+use Rattle.std.specs.Prelude.{ℕ, ◌+◌, ◌%◌, Bool, true, false, List, [], ◌++◌, codes}
 use Rattle.std.specs.Prelude.{Option, Some, None}
 use Rattle.source_defs.specs.Digits.{marked_word, marked_byte}
 use Rattle.source_defs.specs.ListedLines.{two_texts, with_operands}

@@ -1,5 +1,7 @@
 pub mod OneReport
 pub mod GromBytes
 pub mod ListedInputs
+pub mod ListedBytes
 pub mod ListedWords
+pub mod EnteredWords
 pub mod Fronts

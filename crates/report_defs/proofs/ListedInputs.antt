@@ -38,12 +38,12 @@ low_kept (byte ∷ bytes) image at within some below =
 low_first : (at byte : ℕ) → at < 65536 → low_of (insert empty at byte) ≡ at
 low_first at byte lt = low_of-insert empty at byte lt ∙ rw high_of-empty refl
 
-low_placed : (byte : ℕ) (bytes : List ℕ) (at : ℕ) → at + length (byte ∷ bytes) ≤ 65536 → low_of (placed empty at (byte ∷ bytes)) ≡ at
+pub low_placed : (byte : ℕ) (bytes : List ℕ) (at : ℕ) → at + length (byte ∷ bytes) ≤ 65536 → low_of (placed empty at (byte ∷ bytes)) ≡ at
 low_placed byte bytes at within =
     let first = low_first at byte (omega arith) in
     low_kept bytes (insert empty at byte) (at + 1) (omega arith) (omega (arith, high_of-insert empty at byte)) (omega (arith, first)) ∙ first
 
-high_all : (byte : ℕ) (bytes : List ℕ) (at : ℕ) → high_of (placed empty at (byte ∷ bytes)) ≡ at + length (byte ∷ bytes)
+pub high_all : (byte : ℕ) (bytes : List ℕ) (at : ℕ) → high_of (placed empty at (byte ∷ bytes)) ≡ at + length (byte ∷ bytes)
 high_all byte bytes at = high_placed bytes empty at byte ∙ omega (arith, high_of-empty)
 
 -- The bytes themselves.
@@ -68,7 +68,7 @@ byte_here image at byte =
     get-insert nat_cmp_total image at byte at ∙ rw (ties_self at) refl in
     ap (λ found. unwrap_or found 0) found
 
-bytes_placed : (bytes : List ℕ) (image : Image) (at : ℕ) → map (byte_at (placed image at bytes)) (range_with_len at (length bytes)) ≡ bytes
+pub bytes_placed : (bytes : List ℕ) (image : Image) (at : ℕ) → map (byte_at (placed image at bytes)) (range_with_len at (length bytes)) ≡ bytes
 bytes_placed [] image at = refl
 bytes_placed (byte ∷ bytes) image at =
     let first = byte_before bytes (insert image at byte) (at + 1) at (omega arith) ∙ byte_here image at byte in
@@ -90,12 +90,12 @@ insert_fits image at byte lt fits k = rw (get-insert nat_cmp_total image at byte
     by true = lt
     by false = fits k
 
-placed_fit : (bytes : List ℕ) (image : Image) (at : ℕ) → ((k : ℕ) → get_or bytes k 0 < 256) → ((k : ℕ) → byte_at image k < 256) → (k : ℕ) → byte_at (placed image at bytes) k < 256
+pub placed_fit : (bytes : List ℕ) (image : Image) (at : ℕ) → ((k : ℕ) → get_or bytes k 0 < 256) → ((k : ℕ) → byte_at image k < 256) → (k : ℕ) → byte_at (placed image at bytes) k < 256
 placed_fit [] image at each fits = fits
 placed_fit (byte ∷ bytes) image at each fits =
     placed_fit bytes (insert image at byte) (at + 1) (λ k. each (suc k)) (insert_fits image at byte (each zero) fits)
 
-empty_fits : (k : ℕ) → byte_at empty k < 256
+pub empty_fits : (k : ℕ) → byte_at empty k < 256
 empty_fits k = rw (get-empty nat_cmp k) (omega arith)
 
 past_end : (bytes : List ℕ) (k : ℕ) → length bytes ≤ k → get_or bytes k 0 ≡ 0
@@ -103,7 +103,7 @@ past_end [] k le = refl
 past_end (byte ∷ bytes) zero le = absurd (omega arith)
 past_end (byte ∷ bytes) (suc k) le = past_end bytes k (omega arith)
 
-all_fit : (image : Image) → ((k : ℕ) → byte_at image k < 256) → HoldsBytes 65536 (grom_bytes image)
+pub all_fit : (image : Image) → ((k : ℕ) → byte_at image k < 256) → HoldsBytes 65536 (grom_bytes image)
 all_fit image fits =
     let bytes = bytes_of_image image in
     record { size = bytes.size; fits = λ k. by k (nat_lt k 65536) refl }

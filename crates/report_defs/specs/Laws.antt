@@ -1,18 +1,27 @@
 -- What holds of all reports.
-use Rattle.std.specs.Prelude.{◌≡◌, ℕ, ◌+◌, ◌%◌, ◌≤◌, ◌<◌, List, ◌++◌, length, None, Ok}
+use Rattle.std.specs.Prelude.{◌≡◌, ℕ, ◌+◌, ◌*◌, ◌%◌, ◌≤◌, ◌<◌, List, ◌++◌, length, Some, None}
+use Rattle.std.specs.Prelude.{Result, Ok}
 use Rattle.std.specs.List.{concat}
 use Rattle.std.specs.FinMap.{empty}
 use Rattle.tms_defs.specs.Bytes.{HoldsBytes}
 use Rattle.source_defs.specs.Symbols.{predefined}
 use Rattle.gpl_defs.specs.Image.{placed}
 use Rattle.gpl_source_defs.specs.Programs.{program_of_source}
-use Rattle.word_listings.specs.Law.{listed_module}
+use Rattle.link_defs.specs.Causes.{LinkCause}
+use Rattle.link_defs.specs.LinkedMemory.{LinkedMemory}
+use Rattle.word_listings.specs.Modules.{padded_words}
+use Rattle.word_listings.specs.Law.{StandEven, listed_module, entered_listing}
+use Rattle.word_listings.specs.Linking.{first_outside, GivesWords}
 use Rattle.report_defs.specs.declared.command.Command.{Command}
-use Rattle.report_defs.specs.declared.command.Command.TheVariants.{Asm, Dis}
+use Rattle.report_defs.specs.declared.command.Command.TheVariants.{Asm, Gasm, Dis, Gdis, Link}
 use Rattle.report_defs.specs.declared.status.Status.{Status}
 use Rattle.report_defs.specs.declared.status.Status.TheVariants.{Done}
 use Rattle.report_defs.specs.GromListing.{image_listing}
-use Rattle.report_defs.specs.Report.{Report, Whole, Faulty, Rejected, asm_report, ReportOn, FrontOn}
+use Rattle.report_defs.specs.ObjectFaults.{link_line}
+use Rattle.report_defs.specs.ObjectInput.{told}
+use Rattle.report_defs.specs.Report.{Report, Whole, Faulty, Rejected, asm_report, link_report, one_piece}
+use Rattle.report_defs.specs.Report.{largest_input, ReportOn}
+use Rattle.report_defs.specs.Report.{FrontOn}
 
 -- the law, which is proved: there is at most one report on each command and input
 abbrev pub OneReport : Type 0
@@ -46,6 +55,17 @@ ListedInputsComeBack =
     → program_of_source (listed_text at input)
     ≡ Ok (record { image = placed empty at input; entry = None; names = predefined })
 
+-- The law, which is proved: what gdis writes of an input has at most 16 bytes for each byte of it, and 299 more; and the
+-- report of gasm on it is that input, if what is written is no larger than an input may be. So it is for each input of up
+-- to 65,517 bytes.
+abbrev pub ListedBytesComeBack : Type 0
+ListedBytesComeBack =
+    (at : ℕ) (input : List ℕ) (pieces : List (List ℕ))
+    → HoldsBytes (length input) input → at < 65536
+    → ReportOn (Gdis at) input (Whole Done pieces)
+    → (length (concat pieces) ≤ 16 * length input + 299)
+    × (length (concat pieces) ≤ largest_input → ReportOn Gasm (concat pieces) (Whole Done (one_piece input)))
+
 -- The law, which is proved: the report of asm on what dis writes of an input is the object text of the module that has
 -- its words at their addresses and nothing else; or the refusal of the first of its jumps that wraps around the ends of
 -- memory. So what dis writes is never too large.
@@ -55,3 +75,22 @@ ListedWordsComeBack =
     → HoldsBytes (length input) input → at % 2 ≡ 0 → at < 65536
     → ReportOn (Dis at) input (Whole Done pieces)
     → ReportOn Asm (concat pieces) (asm_report (listed_module at input None))
+
+-- The law, which is proved: where an entry is written behind END of what dis writes of an input, the report of asm is
+-- the object text of the same module with that entry; or the same refusal.
+abbrev pub EnteredWordsComeBack : Type 0
+EnteredWordsComeBack =
+    (at : ℕ) (input : List ℕ) (entry : ℕ) → StandEven at input → entry < 65536
+    → ReportOn Asm (concat (entered_listing at input entry)) (asm_report (listed_module at input (Some entry)))
+
+-- The law, which is proved: where that is object text, no larger than an input may be, the report of link on it is the
+-- listing of the words of the input at their addresses and of nothing else, with that entry; or the refusal of the first
+-- address at which nothing is loaded, exactly where there is one.
+abbrev pub EnteredWordsLink : Type 0
+EnteredWordsLink =
+    (at : ℕ) (input : List ℕ) (entry : ℕ) (pieces : List (List ℕ)) → StandEven at input → entry < 65536
+    → ReportOn Asm (concat (entered_listing at input entry)) (Whole Done pieces)
+    → length (concat pieces) ≤ largest_input
+    → (answer : Result LinkedMemory LinkCause)
+    × GivesWords at (padded_words input) entry (first_outside at (padded_words input)) answer
+    × ReportOn Link (concat pieces) (link_report (told link_line answer))

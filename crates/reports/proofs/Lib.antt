@@ -1,2 +1,4 @@
 pub mod Listings
 pub mod Answers
+pub mod Runs
+pub mod NoUsage

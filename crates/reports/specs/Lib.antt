@@ -2,3 +2,5 @@ pub mod Outputs
 pub mod Watched
 pub mod Made
 pub mod Answers
+pub mod Run
+pub mod RunLaws

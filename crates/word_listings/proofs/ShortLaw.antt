@@ -6,7 +6,7 @@ use Rattle.source_defs.specs.Digits.{marked_word, word_digits, byte_digits}
 use Rattle.source_defs.specs.ListedLines.{listing_line}
 use Rattle.instruction_defs.specs.Printed.{printed}
 use Rattle.word_listings.specs.Listing.{memory_listing, words_in, lines_from, odd_byte_lines}
-use Rattle.word_listings.specs.Law.{WordListingsAreShort}
+use Rattle.word_listings.specs.Law.{entered_listing, WordListingsAreShort}
 use Rattle.word_listings.proofs.Instructions.{AreWords}
 use Rattle.word_listings.proofs.LineBacks.{words_back}
 use Rattle.word_listings.proofs.ListingLaw.{are_words, words_fit}
@@ -61,3 +61,23 @@ word_listings_are_short at bytes stands =
     let rest = concat_both (lines_from at 0 (words_in bytes)) (odd_byte_lines bytes ++ listing_line (codes "END") ∷ []) in
     let all = length-append (listing_line (codes "AORG " ++ marked_word at)) (concat (lines_from at 0 (words_in bytes) ++ (odd_byte_lines bytes ++ listing_line (codes "END") ∷ []))) in
     omega (arith, words, odd, first, last, rest, all)
+
+-- an entry behind END has six bytes
+pub entered_size : (at : ℕ) (bytes : List ℕ) (entry : ℕ) →
+    length (concat (entered_listing at bytes entry)) ≡ length (concat (memory_listing at bytes)) + 6
+unfolding memory_listing word_digits
+entered_size at bytes entry =
+    let size : (end : List ℕ) → length (concat (lines_from at 0 (words_in bytes) ++ (odd_byte_lines bytes ++ end ∷ [])))
+    ≡ length (concat (lines_from at 0 (words_in bytes))) + (length (concat (odd_byte_lines bytes)) + length end) =
+    λ end. (let last = concat_both (odd_byte_lines bytes) (end ∷ []) in
+    let rest = concat_both (lines_from at 0 (words_in bytes)) (odd_byte_lines bytes ++ end ∷ []) in
+    let one = length-append end [] in
+    omega (arith, last, rest, one)) in
+    let plain = size (listing_line (codes "END")) in
+    let entered = size (listing_line (codes "END " ++ marked_word entry)) in
+    let first = listing_line (codes "AORG " ++ marked_word at) in
+    let all = length-append first
+    (concat (lines_from at 0 (words_in bytes) ++ (odd_byte_lines bytes ++ listing_line (codes "END") ∷ []))) in
+    let whole = length-append first (concat
+    (lines_from at 0 (words_in bytes) ++ (odd_byte_lines bytes ++ listing_line (codes "END " ++ marked_word entry) ∷ []))) in
+    omega (arith, plain, entered, all, whole)

@@ -1,5 +1,5 @@
 -- What is taken of a shelf at most, by how a run ends.
-use Rattle.std.proofs.Common.{◌≡◌, ℕ, List, length, Option, Some, None, Bool, true, false, ap, inl, inr, arith}
+use Rattle.std.proofs.Common.{◌≡◌, length, Option, Some, None, Bool, true, false, ap, inl, inr, arith}
 use Rattle.std.specs.Prelude.{MatchBool, nat_lt}
 use Rattle.shelf_defs.specs.Copied.{most_bytes, most_copies}
 use Rattle.bench_shelf.specs.States.{ShelfState}
@@ -8,49 +8,60 @@ use Rattle.report_defs.specs.declared.fault.Fault.TheVariants.{TooLarge}
 use Rattle.report_defs.specs.declared.status.Status.{Status}
 use Rattle.report_defs.specs.declared.status.Status.TheVariants as status
 use Rattle.report_defs.specs.Report.{Report, Faulty, largest_input}
-use Rattle.file_report_defs.specs.Words.{FileCommand, AsmFiles, LinkFiles, Watch, ProgramCommand, OverFiles, Plain, program_command}
+use Rattle.file_report_defs.specs.Words.{AsmFiles, LinkFiles, Watch, ProgramCommand, OverFiles, Plain}
 use Rattle.file_commands.specs.Reported.{CopyReported}
-use Rattle.workbench.specs.FileRun.{FileRun, ReportsWith, Leaves, EndsOver, EndsSaid, EndsFileRun, TakesOfShelf}
+use Rattle.reports.specs.Run.{Run, EndsSaid, EndsBy}
+use Rattle.workbench.specs.FileProgram.{Reading, Reports, Begins, Leaves, file_program, TakesOfShelf}
 
-abbrev Takes : FileCommand → FileRun → Type 0
-Takes command run = TakesOfShelf (Some (OverFiles command)) run.shelf run.shelf'
+abbrev Takes : ProgramCommand → Reading → Reading → Type 0
+Takes command before after = TakesOfShelf (Some command) before.shelf after.shelf
 
-none_taken : (run : FileRun) → run.shelf' ≡ run.shelf → Takes AsmFiles run
-none_taken run same =
+none_taken : (before after : ShelfState) → after ≡ before → TakesOfShelf (Some (OverFiles AsmFiles)) before after
+none_taken before after same =
     let opens = ap (λ (s : ShelfState). s.opens) same in
     let taken = ap (λ (s : ShelfState). s.source.taken) same in
     (omega (arith, opens), omega (arith, taken))
 
-takes_reporting : (command : FileCommand) (run : FileRun) (report : Report) → ReportsWith command run report → Takes command run
-takes_reporting AsmFiles run report (source, reads, on) = by (nat_lt largest_input (length source)) on
+reporting : (command : ProgramCommand) (before after : Reading) (report : Report) → Reports command before after report
+    → Takes command before after
+reporting (OverFiles AsmFiles) before after report (source, reads, on) = by (nat_lt largest_input (length source)) on
   where
     by : (large : Bool)
-        → MatchBool large ((report ≡ Faulty TooLarge) × (run.shelf' ≡ run.shelf)) (CopyReported run.shelf run.shelf' source report) → Takes AsmFiles run
-    by true on = none_taken run on.1
-    by false on = dialogue_takes most_bytes most_copies _ run.shelf run.shelf' on.questions on.dialogue
-takes_reporting (LinkFiles names) run report (same, on) = dialogue_takes largest_input (length names) _ run.shelf run.shelf' on.questions on.dialogue
-takes_reporting (Watch limit items) run report (source, reads, same, on) = same
+        → MatchBool large ((report ≡ Faulty TooLarge) × (after.shelf ≡ before.shelf)) (CopyReported before.shelf after.shelf source report)
+        → Takes (OverFiles AsmFiles) before after
+    by true on = none_taken before.shelf after.shelf on.1
+    by false on = dialogue_takes most_bytes most_copies _ before.shelf after.shelf on.questions on.dialogue
+reporting (OverFiles (LinkFiles names)) before after report (same, on) =
+    dialogue_takes largest_input (length names) _ before.shelf after.shelf on.questions on.dialogue
+reporting (OverFiles (Watch limit items)) before after report (source, reads, same, on) = same
+reporting (Plain command) before after report (on, same) = same
 
-takes_leaving : (command : FileCommand) (run : FileRun) → Leaves command run → Takes command run
-takes_leaving AsmFiles run (input, within, inl same) = none_taken run same
-takes_leaving AsmFiles run (input, within, inr (source, whole, questions, dialogue)) = dialogue_takes most_bytes most_copies _ run.shelf run.shelf' questions dialogue
-takes_leaving (LinkFiles names) run (input, within, questions, dialogue) = dialogue_takes largest_input (length names) _ run.shelf run.shelf' questions dialogue
-takes_leaving (Watch limit items) run (input, same) = same
+beginning : (command : ProgramCommand) (before after : Reading) (front : Report) → Begins command before after front
+    → Takes command before after
+beginning (OverFiles command) before after front on = absurd on
+beginning (Plain command) before after front (on, same) = same
 
-takes_over : (command : FileCommand) (run : FileRun) (end : Status) → EndsOver command run end → Takes command run
-takes_over command run status.Done (report, is, wrote) = takes_reporting command run report is
-takes_over command run status.Refused (report, is, wrote) = takes_reporting command run report is
-takes_over command run status.Usage ends = absurd ends
-takes_over command run status.ReadFault (nothing, failed) = takes_leaving command run nothing.leaves
-takes_over command run status.WriteFault (report, is, wrote) = takes_reporting command run report is
-takes_over command run status.Memory nothing = takes_leaving command run nothing.leaves
-takes_over command run status.Stopped (report, is, wrote) = takes_reporting command run report is
+leaving : (command : ProgramCommand) (before after : Reading) → Leaves command before after → Takes command before after
+leaving (OverFiles AsmFiles) before after (input, within, inl same) = none_taken before.shelf after.shelf same
+leaving (OverFiles AsmFiles) before after (input, within, inr (source, whole, questions, dialogue)) =
+    dialogue_takes most_bytes most_copies _ before.shelf after.shelf questions dialogue
+leaving (OverFiles (LinkFiles names)) before after (input, within, questions, dialogue) =
+    dialogue_takes largest_input (length names) _ before.shelf after.shelf questions dialogue
+leaving (OverFiles (Watch limit items)) before after (input, same) = same
+leaving (Plain command) before after (input, same) = same
 
-takes_said : (said : Option ProgramCommand) (run : FileRun) (end : Status) → EndsSaid said run end → TakesOfShelf said run.shelf run.shelf'
-takes_said None run end (leaves, line) = leaves.shelf
-takes_said (Some (OverFiles command)) run end ends = takes_over command run end ends
-takes_said (Some (Plain command)) run end (ends, same) = same
+takes_said : (said : Option ProgramCommand) (run : Run ProgramCommand Reading) (end : Status)
+    → EndsSaid file_program said run end → TakesOfShelf said run.before.shelf run.after.shelf
+takes_said None run end ends = ap (λ (r : Reading). r.shelf) ends.unread
+takes_said (Some command) run status.Done (report, is, wrote) = reporting command run.before run.after report is
+takes_said (Some command) run status.Refused (report, is, wrote) = reporting command run.before run.after report is
+takes_said (Some command) run status.Usage ends = absurd ends
+takes_said (Some command) run status.ReadFault (nothing, failed) = leaving command run.before run.after nothing.leaves
+takes_said (Some command) run status.WriteFault (inl (report, is, wrote)) = reporting command run.before run.after report is
+takes_said (Some command) run status.WriteFault (inr (front, is, missed)) = beginning command run.before run.after front is
+takes_said (Some command) run status.Memory nothing = leaving command run.before run.after nothing.leaves
+takes_said (Some command) run status.Stopped (report, is, wrote) = reporting command run.before run.after report is
 
-pub takes_of_shelf : (words : List (List ℕ)) (run : FileRun) (end : Status) → EndsFileRun words run end
-    → TakesOfShelf (program_command words) run.shelf run.shelf'
-takes_of_shelf words run end ends = takes_said (program_command words) run end ends
+pub takes_of_shelf : (run : Run ProgramCommand Reading) (end : Status) → EndsBy file_program run end
+    → TakesOfShelf run.said run.before.shelf run.after.shelf
+takes_of_shelf run end ends = takes_said run.said run end ends

@@ -3,7 +3,6 @@
 ghost use Rattle.bench_shelf.specs.Causes.{Later};
 ghost use Rattle.file_report_defs.specs.Words.{AsmFiles};
 ghost use Rattle.reports.specs.Answers.{answer};
-ghost use Rattle.reports.specs.Outputs.{Outputs};
 ghost use Rattle.workbench.specs.Answered.{AnswersWith};
 
 use bench_io::{Source, read_all};
@@ -20,13 +19,9 @@ pub(crate) fn asm<S: Source, F: Shelf>(
     input: &mut S,
     shelf: &mut F,
 ) -> Result<Report, Unreported>
-    ensures answers { (outputs : Outputs) → AnswersWith AsmFiles (record {
-      input = S.state input.old;
-      input' = S.state input.new;
-      shelf = F.shelf shelf.old;
-      shelf' = F.shelf shelf.new;
-      outputs = outputs;
-    }) (answer result) }
+    ensures answers { AnswersWith AsmFiles
+        (record { input = S.state input.old; shelf = F.shelf shelf.old })
+        (record { input = S.state input.new; shelf = F.shelf shelf.new }) (answer result) }
     ensures later { Later (F.shelf shelf.old) (F.shelf shelf.new) }
 {
     let source = read_all(alloc, input, LARGEST_INPUT)?;

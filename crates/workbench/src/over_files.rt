@@ -2,7 +2,6 @@
 
 ghost use Rattle.bench_shelf.specs.Causes.{Later};
 ghost use Rattle.reports.specs.Answers.{answer};
-ghost use Rattle.reports.specs.Outputs.{Outputs};
 ghost use Rattle.workbench.specs.Answered.{AnswersWith};
 ghost use Rattle.workbench.specs.Asked.{defined_over};
 
@@ -22,13 +21,9 @@ pub(crate) fn report_over<S: Source, F: Shelf>(
     input: &mut S,
     shelf: &mut F,
 ) -> Result<Report, Unreported>
-    ensures answers { (outputs : Outputs) → AnswersWith (defined_over command.now) (record {
-      input = S.state input.old;
-      input' = S.state input.new;
-      shelf = F.shelf shelf.old;
-      shelf' = F.shelf shelf.new;
-      outputs = outputs;
-    }) (answer result) }
+    ensures answers { AnswersWith (defined_over command.now)
+        (record { input = S.state input.old; shelf = F.shelf shelf.old })
+        (record { input = S.state input.new; shelf = F.shelf shelf.new }) (answer result) }
     ensures later { Later (F.shelf shelf.old) (F.shelf shelf.new) }
 {
     match command {

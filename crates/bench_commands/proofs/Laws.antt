@@ -1,0 +1,80 @@
+-- What holds of all runs of `bench`.
+use Rattle.std.proofs.Common.{◌≡◌, ℕ, ◌≤◌, List, [], ◌++◌, length, Option, Some, None, Bool, true, false, refl, sym, ap, ◌∙◌, subst, append-nil}
+use Rattle.std.proofs.Common.{length-append, arith}
+use Rattle.std.specs.Prelude.{MatchBool, nat_lt}
+use Rattle.std.specs.Option.{option_map}
+use Rattle.std.proofs.lemmas.Bool.Decides.{nat_tests}
+use Rattle.bench_io.specs.Stream.{SourceState, IsAtEnd}
+use Rattle.report_defs.specs.declared.command.Command.{Command}
+use Rattle.report_defs.specs.declared.fault.Fault.TheVariants.{TooLarge}
+use Rattle.report_defs.specs.Commands.{reads}
+use Rattle.report_defs.specs.Report.{Report, Faulty, largest_input, AcceptedReport, OnInput, ReportOn}
+use Rattle.interp_defs.proofs.MachinesOfRuns.{machines_match_steps}
+use Rattle.line_table.proofs.Joined.{source_gives_words}
+use Rattle.report_defs.proofs.OneReport.{one_report}
+use Rattle.report_defs.proofs.Fronts.{fronts_begin_reports}
+use Rattle.report_defs.proofs.ListedInputs.{listed_inputs_come_back}
+use Rattle.report_defs.proofs.ListedBytes.{listed_bytes_come_back}
+use Rattle.report_defs.proofs.ListedWords.{listed_words_come_back}
+use Rattle.report_defs.proofs.EnteredWords.{entered_words_come_back, entered_words_link}
+use Rattle.word_listings.proofs.LinkLaw.{entered_listings_link}
+use Rattle.word_listings.proofs.ListingLaw.{entered_listings_come_back}
+use Rattle.reports.proofs.Runs.{IsProgram, laws_of}
+use Rattle.bench_commands.specs.Bench.{ReadsInput, Reads, Reports, Shows, bench_program}
+use Rattle.bench_commands.specs.Laws.{LawsOfRuns}
+
+-- a report on bytes that were taken is one on all bytes of the input
+pub on_all : (Accepted : List ℕ → Report → Type 0) (before after : SourceState) (bytes input : List ℕ) (report : Report) → before.left ≡ Some input → ReadsInput before after bytes
+    → OnInput Accepted bytes report → OnInput Accepted input report
+on_all Accepted before after bytes input report told reading on = left after.left refl
+  where
+    by : (rest : List ℕ) → after.left ≡ Some rest → input ≡ bytes ++ rest → (large : Bool) → nat_lt largest_input (length bytes) ≡ large → MatchBool large (report ≡ Faulty TooLarge) (Accepted bytes report) → OnInput Accepted input report
+    by rest is all true large found =
+        let above : nat_lt largest_input (length input) ≡ true = rw all (rw length-append (grind (arith, nat_tests))) in
+        rw above found
+    by rest is all false small found =
+        let within : length bytes ≤ largest_input = grind (arith, nat_tests) in
+        let P : Option (List ℕ) → Type 0 = λ l. IsAtEnd l in
+        let none : rest ≡ [] = subst P is (reading.whole within) in
+        let same : input ≡ bytes = all ∙ ap (λ r. bytes ++ r) none ∙ append-nil bytes in
+        let Q : List ℕ → Type 0 = λ i. OnInput Accepted i report in
+        subst Q (sym same) on
+
+    left : (l : Option (List ℕ)) → after.left ≡ l → OnInput Accepted input report
+    left None is =
+        let e : Some input ≡ None = sym told ∙ (reading.took.told ∙ ap (option_map (λ rest. bytes ++ rest)) is) in
+        absurd (cc)
+    left (Some rest) is =
+        let e : Some input ≡ Some (bytes ++ rest) = sym told ∙ (reading.took.told ∙ ap (option_map (λ rest. bytes ++ rest)) is) in
+        let all : input ≡ bytes ++ rest = cc in
+        by rest is all (nat_lt largest_input (length bytes)) refl on
+
+-- the report of a command on what it took is the report on what was shown
+pub shown : (command : Command) (before after : SourceState) (input : List ℕ) (report : Report) → Shows command before input
+    → Reports command before after report → ReportOn command input report
+shown command before after input report shows (bytes, reading, on) = by (reads command) shows reading
+  where
+    by : (read : Bool) → MatchBool read (before.left ≡ Some input) (input ≡ []) → Reads read before after bytes
+        → ReportOn command input report
+    by true shows reading = on_all (AcceptedReport command) before after bytes input report shows reading on
+    by false none (same, nothing) = subst (λ b. ReportOn command b report) (nothing ∙ sym none) on
+
+pub is_program : IsProgram bench_program
+is_program =
+    record { one_report = one_report; shown = shown; fails = λ command before after failed. failed.1 }
+
+pub laws : LawsOfRuns
+laws =
+    record {
+      runs = laws_of bench_program is_program;
+      fronts = fronts_begin_reports;
+      interpreter = source_gives_words;
+      machines = machines_match_steps;
+      listed_bytes = listed_bytes_come_back;
+      listed_words = listed_words_come_back;
+      entered_words = entered_words_come_back;
+      linked_words = entered_words_link;
+      listed_images = listed_inputs_come_back;
+      entered_modules = entered_listings_come_back;
+      linked_modules = entered_listings_link;
+    }

@@ -1,0 +1,230 @@
+-- How long a listing is.
+use Rattle.std.proofs.Common.{◌≡◌, ℕ, zero, suc, ◌+◌, ◌-◌, ◌*◌, ◌/◌, ◌%◌, ◌<◌, ◌≤◌, Bool, true, false, not, ◌&&◌, List, [], ◌∷◌, ◌++◌}
+use Rattle.std.proofs.Common.{length, length-append, refl, subst, min, arith}
+use Rattle.std.specs.Prelude.{◌==◌, codes, IsTrue, nat_le, map, slice_index, if◌then◌else◌}
+use Rattle.std.specs.List.{concat}
+use Rattle.std.proofs.lemmas.Bool.Decides.{nat_tests}
+use Rattle.tms_defs.specs.Bytes.{HoldsBytes}
+use Rattle.source_defs.specs.Digits.{marked_word, marked_byte, word_digits, byte_digits}
+use Rattle.source_defs.specs.ListedLines.{listing_line, two_texts}
+use Rattle.grom_defs.specs.Addresses.{in_grom_of}
+use Rattle.grom_defs.specs.declared.size.TheConstants.{GROM_SIZE}
+use Rattle.gpl_defs.specs.declared.instruction.GplOperand.{GplOperand}
+use Rattle.gpl_defs.specs.declared.instruction.GplSource.{GplSource}
+use Rattle.gpl_defs.specs.declared.instruction.GplSource.TheVariants as source
+use Rattle.gpl_defs.specs.declared.instruction.MoveLength.{MoveLength}
+use Rattle.gpl_defs.specs.declared.instruction.MoveLength.TheVariants as count
+use Rattle.gpl_defs.specs.declared.instruction.MoveTarget.{MoveTarget}
+use Rattle.gpl_defs.specs.declared.instruction.MoveTarget.TheVariants as target
+use Rattle.gpl_defs.specs.declared.instruction.MoveSource.{MoveSource}
+use Rattle.gpl_defs.specs.declared.instruction.MoveSource.TheVariants as from
+use Rattle.gpl_defs.specs.declared.instruction.GplInstr.{GplInstr}
+use Rattle.gpl_defs.specs.declared.instruction.GplInstr.TheVariants as instr
+use Rattle.gpl_defs.specs.declared.instruction.GplRead.{GplRead}
+use Rattle.gpl_defs.specs.declared.instruction.GplRead.TheVariants.{Instr, Refused}
+use Rattle.gpl_defs.specs.Bytes.{bytes_of, operand_bytes, source_bytes, length_bytes, target_bytes, from_bytes}
+use Rattle.gpl_defs.specs.Bytes.{fits_one_byte, fits_twelve_bits, in_one_byte, in_twelve_bits, in_sixteen_bits}
+use Rattle.gpl_defs.specs.Valid.{is_valid}
+use Rattle.gpl_defs.specs.Reading.{reading, stand, IsReadAt, ReadsInstr}
+use Rattle.gpl_defs.proofs.MeaningLaws.{reading_means}
+use Rattle.gpl_source_defs.specs.Mnemonics.{name_of}
+use Rattle.listed_lines.proofs.Scans.{and_left, and_right}
+use Rattle.gpl_listing_defs.specs.Texts.{operand_text, source_text, length_text, target_text, from_text}
+use Rattle.gpl_listing_defs.specs.Texts.{mnemonic_of, instr_text}
+use Rattle.gpl_listing_defs.specs.Listing.{boundary, Listed, byte_listed, instr_listed, is_whole, listed_by, listed_at}
+use Rattle.gpl_listing_defs.specs.Listing.{origin_texts, origin_texts_at, texts_from, grom_texts, grom_listing}
+use Rattle.gpl_listing_defs.specs.Law.{ListingsAreShort}
+use Rattle.gpl_listing_defs.proofs.EntryLaws.{word_short, byte_short, operand_short, source_short}
+use Rattle.gpl_listing_defs.proofs.EntryLaws.{length_short, target_short, from_short}
+use Rattle.gpl_listing_defs.proofs.NameLaws.{instr_names}
+
+-- ---- an instruction has at least a byte for its code and one for each operand
+
+operand_size : (operand : GplOperand) → 0 < length (operand_bytes operand)
+operand_size operand = by (fits_one_byte operand) (fits_twelve_bits operand)
+  where
+    by : (one twelve : Bool) →
+        0 < length (if one then in_one_byte operand else if twelve then in_twelve_bits operand else in_sixteen_bits operand)
+    by true twelve = omega arith
+    by false true = omega arith
+    by false false = omega arith
+
+source_size : (word : Bool) (src : GplSource) → 0 < length (source_bytes word src)
+source_size word (source.At operand) = operand_size operand
+source_size true (source.Immediate value) = omega arith
+source_size false (source.Immediate value) = omega arith
+
+length_size : (counted : MoveLength) → 0 < length (length_bytes counted)
+length_size (count.At operand) = operand_size operand
+length_size (count.Immediate number) = omega arith
+
+target_size : (to : MoveTarget) → 0 < length (target_bytes to)
+target_size (target.At operand) = operand_size operand
+target_size (target.Register number) = omega arith
+
+from_size : (place : MoveSource) → 0 < length (from_bytes place)
+from_size (from.At operand) = operand_size operand
+from_size (from.Grom address) = omega arith
+from_size (from.GromIndexed address index) = omega arith
+
+-- the text of an instruction has at most 16 bytes for each of its own, the blanks before it and the line feed included
+instr_short : (found : GplInstr) (at : ℕ) → IsTrue (is_valid found) →
+    length (instr_text found at) + 8 ≤ 16 * length (bytes_of found)
+unfolding instr_text
+instr_short (instr.Plain op) at valid = let n = (instr_names (instr.Plain op) valid).short in omega arith
+instr_short (instr.Byte op value) at valid =
+    let n = (instr_names (instr.Byte op value) valid).short in
+    let v = byte_short value in
+    let s = length-append (name_of (mnemonic_of (instr.Byte op value))) (0x20 ∷ marked_byte value) in
+    omega arith
+instr_short (instr.Jump op to) at valid =
+    let n = (instr_names (instr.Jump op to) valid).short in
+    let v = word_short to in
+    let s = length-append (name_of (mnemonic_of (instr.Jump op to))) (0x20 ∷ marked_word to) in
+    omega arith
+instr_short (instr.Branch on offset) at valid =
+    let n = (instr_names (instr.Branch on offset) valid).short in
+    let v = word_short (in_grom_of at offset) in
+    let s = length-append (name_of (mnemonic_of (instr.Branch on offset))) (0x20 ∷ marked_word (in_grom_of at offset)) in
+    omega arith
+instr_short (instr.One op word operand) at valid =
+    let n = (instr_names (instr.One op word operand) valid).short in
+    let v = operand_short operand in
+    let b = operand_size operand in
+    let s = length-append (name_of (mnemonic_of (instr.One op word operand))) (0x20 ∷ operand_text operand) in
+    omega arith
+instr_short (instr.Two op word dst src) at valid =
+    let n = (instr_names (instr.Two op word dst src) valid).short in
+    let v = operand_short dst in
+    let w = source_short word src in
+    let b = operand_size dst in
+    let c = source_size word src in
+    let s = length-append (name_of (mnemonic_of (instr.Two op word dst src)))
+    (0x20 ∷ two_texts (operand_text dst) (source_text word src)) in
+    let t = length-append (operand_text dst) (0x2C ∷ source_text word src) in
+    let u = length-append (operand_bytes dst) (source_bytes word src) in
+    omega arith
+instr_short (instr.Move counted to place) at valid =
+    let n = (instr_names (instr.Move counted to place) valid).short in
+    let v = length_short counted in
+    let w = target_short to in
+    let x = from_short place in
+    let b = length_size counted in
+    let c = target_size to in
+    let d = from_size place in
+    let s = length-append (name_of (mnemonic_of (instr.Move counted to place)))
+    (0x20 ∷ two_texts (length_text counted) (two_texts (target_text to) (from_text place))) in
+    let t = length-append (length_text counted) (0x2C ∷ two_texts (target_text to) (from_text place)) in
+    let u = length-append (target_text to) (0x2C ∷ from_text place) in
+    let y = length-append (length_bytes counted) (target_bytes to ++ from_bytes place) in
+    let z = length-append (target_bytes to) (from_bytes place) in
+    omega arith
+
+-- ---- the length of lines
+
+-- each has seven blanks before its text and a line feed after it
+abbrev lines_size : List (List ℕ) → ℕ
+lines_size [] = 0
+lines_size (text ∷ texts) = length text + 8 + lines_size texts
+
+lines_length : (texts : List (List ℕ)) → length (concat (map listing_line texts)) ≡ lines_size texts
+lines_length [] = refl
+lines_length (text ∷ texts) =
+    let a = length-append text (codes "\n") in
+    let b = length-append (listing_line text) (concat (map listing_line texts)) in
+    let c = lines_length texts in
+    omega arith
+
+lines_both : (some others : List (List ℕ)) → lines_size (some ++ others) ≡ lines_size some + lines_size others
+lines_both [] others = omega arith
+lines_both (text ∷ some) others = omega (arith, lines_both some others)
+
+origin_size : (at : ℕ) → lines_size (origin_texts at) ≡ 36
+unfolding word_digits
+origin_size at = refl
+
+module _ (image : List ℕ) (low high : ℕ) (bytes : (k : ℕ) → slice_index image k < 256) where
+  -- a line goes on, not past the end, and is short
+  record Fits (at : ℕ) (line : Listed) : Type 0 where
+    some : 0 < line.size
+    within : at + line.size ≤ high
+    short : length line.text + 8 ≤ 16 * line.size
+
+  fits : (at : ℕ) → at < high → Fits at (listed_at image at high)
+  unfolding listed_at byte_digits
+  fits at before_end = by (reading image at) refl
+    where
+      by_test : (found : GplInstr) (next : ℕ) → reading image at ≡ Instr found next → (test : Bool) →
+          is_whole image at high found ≡ test →
+          Fits at (if test then instr_listed found at else byte_listed image at)
+      by_test found next read true e =
+          let R : GplRead → Type 0 = λ read. IsReadAt image at read in
+          let means : ReadsInstr image at found next = subst R read (reading_means image at bytes) in
+          let ends : nat_le (at + length (bytes_of found)) (min high (boundary at)) ≡ true = and_right
+          (stand image (bytes_of found) at) _ e in
+          let inside : at + length (bytes_of found) ≤ min high (boundary at) = grind (arith, nat_tests) in
+          record { some = omega arith; within = omega arith; short = instr_short found at means.means.is_kind.valid }
+      by_test found next read false e = record { some = omega arith; within = omega arith; short = omega arith }
+
+      by : (read : GplRead) → reading image at ≡ read → Fits at (listed_by image at high read)
+      by (Instr found next) e = by_test found next e (is_whole image at high found) refl
+      by (Refused code) e = record { some = omega arith; within = omega arith; short = omega arith }
+
+  -- GROM and AORG are said again at most once for each GROM that begins
+  origin_few : (at : ℕ) → lines_size (origin_texts_at low at) + 36 * ((at + 8191) / 8192) ≤ 36 * ((at + 8192) / 8192)
+  origin_few at = by ((at % GROM_SIZE == 0) && not (at == low)) refl
+    where
+      by : (test : Bool) → ((at % GROM_SIZE == 0) && not (at == low)) ≡ test →
+          lines_size (if test then origin_texts at else []) + 36 * ((at + 8191) / 8192) ≤ 36 * ((at + 8192) / 8192)
+      by true e =
+          let whole : (at % GROM_SIZE == 0) ≡ true = and_left _ (not (at == low)) e in
+          let even : at % 8192 ≡ 0 = grind (arith, nat_tests) in
+          rw (origin_size at) (omega arith)
+      by false e = omega arith
+
+  from_short_of : (left at belonging : ℕ) → at + left ≡ high → belonging ≤ left →
+      lines_size (texts_from image low high at belonging left) + 16 * belonging + 36 * ((at + 8191) / 8192)
+      ≤ 16 * left + 36 * ((high + 8191) / 8192)
+  from_short_of zero at zero ends le = omega arith
+  from_short_of zero at (suc belonging) ends le = absurd (omega arith)
+  from_short_of (suc left) at (suc belonging) ends le =
+      let rest = from_short_of left (at + 1) belonging (omega arith) (omega arith) in
+      omega arith
+  from_short_of (suc left) at zero ends le =
+      let line = fits at (omega arith) in
+      let some = line.some in
+      let within = line.within in
+      let short = line.short in
+      let rest = from_short_of left (at + 1) ((listed_at image at high).size - 1) (omega arith) (omega arith) in
+      let origin = origin_few at in
+      let both = lines_both (origin_texts_at low at)
+      ((listed_at image at high).text ∷ texts_from image low high (at + 1) ((listed_at image at high).size - 1) left) in
+      omega arith
+
+-- the first address is said by the first two lines alone
+first_step : (image : List ℕ) (low high left : ℕ) → HoldsBytes 65536 image → low + left ≡ high → high ≤ 65536 →
+    lines_size (texts_from image low high low 0 left) ≤ 16 * left + 252
+first_step image low high zero holds ends le = omega arith
+first_step image low high (suc left) holds ends le =
+    let line = fits image low high holds.fits low (omega arith) in
+    let some = line.some in
+    let within = line.within in
+    let short = line.short in
+    let rest = from_short_of image low high holds.fits left (low + 1) ((listed_at image low high).size - 1) (omega arith)
+    (omega arith) in
+    let none : origin_texts_at low low ≡ [] = at_first (low % GROM_SIZE == 0) in
+    rw none (omega arith)
+  where
+    at_first : (test : Bool) → (if test && not (low == low) then origin_texts low else []) ≡ []
+    at_first true = let same : (low == low) ≡ true = grind (arith, nat_tests) in rw same refl
+    at_first false = refl
+
+pub listings_are_short : ListingsAreShort
+unfolding grom_listing word_digits
+listings_are_short image low high holds order within =
+    let size = lines_length (grom_texts image low high) in
+    let first = first_step image low high (high - low) holds (omega arith) within in
+    let a = lines_both (origin_texts low) (texts_from image low high low 0 (high - low) ++ codes "END" ∷ []) in
+    let b = lines_both (texts_from image low high low 0 (high - low)) (codes "END" ∷ []) in
+    let c = origin_size low in
+    omega arith
