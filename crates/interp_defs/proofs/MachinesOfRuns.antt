@@ -13,6 +13,7 @@ use Rattle.gpl_step_defs.specs.Run.{GplRun, one_more, run, turns, with_stop}
 use Rattle.gpl_step_defs.specs.Step.{step}
 use Rattle.gpl_step_defs.proofs.RunLaws.{runs_are_steps}
 use Rattle.interp_defs.specs.Match.{Matches}
+use Rattle.interp_defs.specs.Turns.{Boots}
 use Rattle.interp_defs.specs.Programs.{AreTurns, EndsAs}
 use Rattle.interp_defs.specs.Machines.{TurnsWithin, MachinesMatchSteps}
 
@@ -180,7 +181,8 @@ machines_match_steps image entry limit left p =
     record {
       machine = w.machine;
       instructions = λ i. p.boot + w.made i;
-      boots = omega (arith, w.none, p.within);
+      first = subst (λ n. Boots n p.new (w.machine 0)) (omega (arith, w.none)) (subst (λ m. Boots p.boot p.new m) (sym w.first) p.boots);
+      within = omega (arith, w.none, p.within);
       leads = λ i within. led_on p.boot (w.made i) (p.boot + w.made i) p.new p.first (w.machine i) p.boots.leads (leads s (turns limit s) p.count p.first left w i within) refl;
       states = λ i within. (let r = runs_are_steps i s in subst (λ n. gpl.steps n s ≡ Ok (run i s).last) (run_made limit s i within).0 r.steps);
       matches = matched s limit p.boot p.count p.new p.first left w (run limit s).stop refl p.runs.ends;

@@ -6,7 +6,7 @@ use Rattle.gpl_step_defs.specs.State.{GplState, start}
 use Rattle.gpl_step_defs.specs.Run as gpl
 use Rattle.gpl_step_defs.specs.Run.{run, turns, bound}
 use Rattle.interp_defs.specs.Match.{Matches}
-use Rattle.interp_defs.specs.Turns.{IsTurn}
+use Rattle.interp_defs.specs.Turns.{Boots, IsTurn}
 use Rattle.interp_defs.specs.Programs.{EndsAs, RunsProgram, most_of_boot}
 
 -- From one machine a turn of the interpreter leads to another. It has at most as many instructions as the bound of the
@@ -18,14 +18,15 @@ pub record TurnsWithin (s : GplState) (before after : ℕ) (x y : MachineState) 
   pub adds : after ≡ before + turn
 
 -- The machine after the first i turns, for each i up to the last turn of a run of up to so many steps from a state.
--- As many instructions of the processor as are counted lead to it from the machine on which the interpreter begins,
--- at most 400 to the first. It matches the GPL state after i steps, and the turn from there has at most as many
+-- As many instructions of the processor as are counted lead to it from the machine on which the interpreter begins; the
+-- first is at GSTEP for the first time, after at most 400. It matches the GPL state after i steps, and the turn from there has at most as many
 -- instructions as the bound of that step. Behind the last turn it matches the last state, or is halted with it and
 -- the reason.
 pub record MachinesOf (s : GplState) (limit : ℕ) (new left : MachineState) : Type 0 where
   pub machine : ℕ → MachineState
   pub instructions : ℕ → ℕ
-  pub boots : instructions 0 ≤ most_of_boot
+  pub first : Boots (instructions 0) new (machine 0)
+  pub within : instructions 0 ≤ most_of_boot
   pub leads : (i : ℕ) → i ≤ turns limit s → steps (instructions i) new ≡ Gives (machine i)
   pub states : (i : ℕ) → i ≤ (run limit s).done → gpl.steps i s ≡ Ok (run i s).last
   pub matches : (i : ℕ) → i ≤ (run limit s).done → Matches (run i s).last (machine i)
